@@ -1,0 +1,11 @@
+use Rattle.std.proofs.Common.{sym, ap, ◌∙◌}
+use Rattle.journal_core.specs.Views.{BatchView}
+use Rattle.journal_core.specs.declared.reply.Reply.{Reply}
+use Rattle.journal_core.specs.declared.reply.Reply.TheVariants.{Edits}
+use Rattle.journal_core.proofs.ServingLaws.{edits_served}
+use Rattle.journal_core.proofs.node_state.NodeState.read.Goals as goal
+
+pub returns-clause-reply : goal.returns-clause-reply
+returns-clause-reply c =
+    edits_served c.args.self.now c.args.from c.in-Some.segment.now c.in-Some.count c.in-Some.ensures
+    ∙ sym (ap (λ (b : BatchView). let r : Reply = Edits b in r) (rw (c.new.ensures, c.in_ok-bodies.ensures, c.min-most.ensures)))

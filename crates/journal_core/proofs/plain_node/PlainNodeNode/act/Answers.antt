@@ -1,0 +1,23 @@
+use Rattle.std.proofs.Common.{◌≡◌, ◌≢◌, inl, subst}
+use Rattle.journal_core.specs.declared.node_state.NodeState.{NodeState}
+use Rattle.journal_core.specs.declared.reply.Reply.TheVariants.{Refused}
+use Rattle.journal_core.specs.declared.refusal.Refusal.TheVariants.{OutOfMemory, DiskFault, BadFile}
+use Rattle.journal_core.specs.Step.{node_step}
+use Rattle.journal_core.specs.Answers.{IsAnswer}
+use Rattle.journal_core.proofs.StepLaws.{step_not}
+use Rattle.journal_core.proofs.plain_node.PlainNodeNode.act.Goals as goal
+
+pub returns-clause-sound : goal.returns-clause-sound
+returns-clause-sound c = step_not c.self.inside.state c.step.new.self c.args.request.now c.step.result DiskFault (λ h. h) (λ e. cc) c.step.ensures.step
+
+pub returns-clause-step : goal.returns-clause-step
+returns-clause-step c =
+    let P : NodeState → Type 0 = λ s. IsAnswer s c.args.request.now c.step.result c.step.new.self in
+    let no_fault = step_not c.self.inside.state c.step.new.self c.args.request.now c.step.result DiskFault (λ h. h) (λ e. cc) c.step.ensures.step in
+    subst P c.self.view_is
+    (record {
+      step = λ m f. c.step.ensures.step m;
+      memory = λ m. inl (c.step.ensures.memory m);
+      fault = λ f. absurd (no_fault f);
+      whole = step_not c.self.inside.state c.step.new.self c.args.request.now c.step.result BadFile (λ h. h) (λ e. cc) c.step.ensures.step;
+    })

@@ -1,0 +1,19 @@
+use Rattle.std.proofs.Common.{rules, ◌≡◌, Bool, List, not, filter, sym, ap, ◌∙◌}
+use Rattle.std.proofs.lemmas.Fn.{filter_same}
+use Rattle.journal_core.specs.declared.segment.Segment.{Segment}
+use Rattle.journal_core.specs.Segments.{newest, AreSound}
+use Rattle.journal_core.specs.Places.{is_old, without}
+use Rattle.journal_core.proofs.PurgeLaws.{without-filter, filter_sound}
+use Rattle.journal_core.proofs.segment_list.SegmentList.remove_old.Goals as goal
+
+pub invariant_of-self : goal.invariant_of-self
+invariant_of-self c =
+    let test : Segment → Bool = λ g. not (is_old c.args.opened c.newest-newest.result c.args.committed c.args.min g) in
+    let kept : c.retain.new.self.items ≡ filter test c.self.inside.items.items = filter_same _ test _ (λ x b f k. search rules) _ _ c.retain.ensures.filtered in
+    rw kept (filter_sound test _ c.self.invariant)
+
+pub returns : goal.returns
+returns c =
+    let test : Segment → Bool = λ g. not (is_old c.args.opened c.newest-newest.result c.args.committed c.args.min g) in
+    let kept : c.retain.new.self.items ≡ filter test c.self.inside.items.items = filter_same _ test _ (λ x b f k. search rules) _ _ c.retain.ensures.filtered in
+    rw (kept, ← c.newest-newest.ensures, ← c.self.view_is) (without-filter (is_old c.args.opened c.newest-newest.result c.args.committed c.args.min) c.self.inside.items.items c.self.invariant)

@@ -1,0 +1,12 @@
+use Rattle.std.proofs.Common.{◌≤◌, ◌-◌, take, drop, length}
+use Rattle.journal_core.specs.Segments.{AreAbove}
+use Rattle.journal_core.specs.Places.{AreBelow, IsGap}
+use Rattle.journal_core.proofs.PlaceLaws.{IsBetween}
+use Rattle.journal_core.proofs.segment_list.search.Given as goal
+
+-- the starts before `low` are below, and those from `high` on above
+abbrev pub invariant-loop-low : goal.invariant-loop-low
+invariant-loop-low l = IsBetween l.start l.low l.high l.items
+
+abbrev pub decreases-loop-low : goal.decreases-loop-low
+decreases-loop-low l = l.high - l.low

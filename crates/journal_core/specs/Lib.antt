@@ -1,0 +1,11 @@
+pub mod Views
+pub mod Segments
+pub mod Limits
+pub mod Effects
+pub mod Reads
+pub mod Step
+pub mod Places
+pub mod Answers
+pub mod Texts
+pub mod Examples
+pub mod Appends

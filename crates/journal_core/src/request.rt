@@ -1,0 +1,91 @@
+// What a node is asked.
+ghost use Rattle.std.specs.Prelude.{◌≡◌};
+ghost use Rattle.journal_core.specs.Limits.{head_of};
+ghost use Rattle.journal_core.specs.Step.{closes_segment};
+
+use crate::batch::Batch;
+use crate::head::Head;
+
+/// A request to a node. Every start, first txid and `from` is at least 1.
+#[derive(Drop)]
+pub enum Request {
+    /// What is promised?
+    State,
+    /// Promise this epoch (`newEpoch`).
+    NewEpoch {
+        epoch: u64,
+    },
+    /// Begin a segment (`startLogSegment`).
+    Start {
+        head: Head,
+        start: u64,
+    },
+    /// Store a batch in the open segment (`journal`).
+    Journal {
+        head: Head,
+        start: u64,
+        batch: Batch,
+    },
+    /// Make a segment that ends at `end` final (`finalizeLogSegment`).
+    Finalize {
+        head: Head,
+        start: u64,
+        end: u64,
+    },
+    /// Tell the state of a segment (`prepareRecovery`).
+    Prepare {
+        head: Head,
+        start: u64,
+    },
+    /// Give edits of a segment under recovery from `from` on.
+    Fetch {
+        head: Head,
+        start: u64,
+        from: u64,
+    },
+    /// Take these edits as the segment that starts at the batch's first txid (`acceptRecovery`).
+    Accept {
+        head: Head,
+        batch: Batch,
+    },
+    /// Remove the segments that end below `min`.
+    Purge {
+        head: Head,
+        min: u64,
+    },
+    /// Give served edits from `from` on.
+    Read {
+        from: u64,
+    },
+    /// List the segments.
+    Manifest,
+}
+
+impl Request {
+    /// Who asks, in a request with a head.
+    pub fn head(&self) -> Option<Head>
+        ensures { result ≡ head_of self.now }
+    {
+        match self {
+            Request::Start { head, .. }
+            | Request::Journal { head, .. }
+            | Request::Finalize { head, .. }
+            | Request::Prepare { head, .. }
+            | Request::Fetch { head, .. }
+            | Request::Accept { head, .. }
+            | Request::Purge { head, .. } => Some(*head),
+            Request::State | Request::NewEpoch { .. } | Request::Read { .. } | Request::Manifest =>
+                None,
+        }
+    }
+
+    /// It closes the open segment at the front.
+    pub fn closes_segment(&self) -> bool
+        ensures { result ≡ closes_segment self.now }
+    {
+        match self {
+            Request::Prepare { .. } | Request::Fetch { .. } | Request::Accept { .. } => true,
+            _ => false,
+        }
+    }
+}

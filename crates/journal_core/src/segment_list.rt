@@ -1,0 +1,192 @@
+// The segments of a node.
+ghost use Rattle.std.specs.Prelude.{◌≡◌, ◌++◌, [], List, length, not, filter, Option, Some, None, IfOk, IfErr, OnOk, OnErr, IfSome};
+ghost use Rattle.std.specs.Option.{option_copied};
+ghost use Rattle.journal_core.specs.Segments.{find_segment, put_segment, newest, AreSound, AreRising, IsWithin};
+ghost use Rattle.journal_core.specs.Effects.{appended, finalized};
+ghost use Rattle.journal_core.specs.Places.{IsAt, IsGap, is_old, without};
+
+use crate::OutOfMemory;
+use crate::body_list::BodyList;
+use crate::segment::Segment;
+use std::alloc::Global;
+use std::marker::Model;
+
+/// Segments by rising start, none ending above 2^62.
+#[derive(Drop)]
+pub struct SegmentList {
+    items: Vec<Segment>,
+}
+
+impl Model for SegmentList {
+    ghost use Rattle.std.specs.Prelude.{List};
+    ghost use Rattle.journal_core.specs.declared.segment.Segment.{Segment};
+    ghost use Rattle.journal_core.specs.Segments.{AreSound};
+
+    ghost Value = { List Segment };
+
+    ghost view = { λ l. l.items.items };
+
+    ghost invariant = { λ l. AreSound l.items.items };
+}
+
+/// The place of the segment with that start, or where it would stand.
+#[tactic(auto, using(crate::proofs::PlaceLaws::sides))]
+fn search(items: &[Segment], start: u64) -> Result<usize, usize>
+    requires { AreRising items.now }
+    ensures found { IfOk result (λ place. IsAt start place items.now) }
+    ensures gap { IfErr result (λ place. IsGap start place items.now) }
+{
+    let mut low = 0;
+    let mut high = items.len();
+    while low < high {
+        let middle = low + (high - low) / 2;
+        let here = items[middle].start;
+        if here == start {
+            return Ok(middle);
+        }
+        if here < start {
+            low = middle + 1;
+        } else {
+            high = middle;
+        }
+    }
+    Err(low)
+}
+
+/// The same, with the last segment tried first: requests mostly speak of it.
+#[tactic(auto, using(crate::proofs::PlaceLaws::sides))]
+fn place_in(items: &[Segment], start: u64) -> Result<usize, usize>
+    requires { AreRising items.now }
+    ensures found { IfOk result (λ place. IsAt start place items.now) }
+    ensures gap { IfErr result (λ place. IsGap start place items.now) }
+{
+    let count = items.len();
+    if count == 0 {
+        return Err(0);
+    }
+    let last = items[count - 1].start;
+    if last == start {
+        return Ok(count - 1);
+    }
+    if last < start {
+        return Err(count);
+    }
+    search(items, start)
+}
+
+impl SegmentList {
+    /// No segments.
+    pub fn new(alloc: Global) -> SegmentList
+        ensures { result ≡ [] }
+    {
+        SegmentList {
+            items: Vec::new(alloc),
+        }
+    }
+
+    /// The segments.
+    pub fn as_slice(&self) -> &[Segment]
+        ensures segments { result.now ≡ self.now }
+        ensures sound { AreSound self.now }
+    {
+        self.items.as_slice()
+    }
+
+    /// The segment with that start, by binary search.
+    #[tactic(auto, using(crate::proofs::PlaceLaws::places))]
+    pub fn find(&self, start: u64) -> Option<&Segment>
+        ensures found { option_copied result ≡ find_segment start self.now }
+        ensures within { IfSome result (λ segment. IsWithin segment.now) }
+    {
+        match place_in(&self.items, start) {
+            Ok(place) => Some(&self.items[place]),
+            Err(_) => None,
+        }
+    }
+
+    /// The greatest start of a segment that holds an edit.
+    #[tactic(auto, using(crate::proofs::PlaceLaws::newests))]
+    pub fn newest(&self) -> Option<u64>
+        ensures { result ≡ newest self.now }
+    {
+        let mut place = self.items.len();
+        while place > 0 {
+            place -= 1;
+            let segment = &self.items[place];
+            if segment.has_edit() {
+                return Some(segment.start);
+            }
+        }
+        None
+    }
+
+    /// Puts a segment in place of the one with its start. An `Err` leaves all as it was.
+    #[tactic(auto, using(crate::proofs::PlaceLaws::places))]
+    pub fn put(&mut self, segment: Segment) -> Result<(), OutOfMemory>
+        requires { IsWithin segment }
+        ensures ok { OnOk result (self.new ≡ put_segment segment self.old) }
+        ensures err { OnErr result (self.new ≡ self.old) }
+    {
+        match place_in(&self.items, segment.start) {
+            Ok(place) => self.items[place] = segment,
+            Err(place) => self.items.insert(place, segment)?,
+        }
+        Ok(())
+    }
+
+    /// Adds bodies at the end of the segment with that start; their bytes are shared. An `Err`
+    /// leaves all as it was.
+    #[tactic(auto, using(crate::proofs::PlaceLaws::places))]
+    pub fn append(&mut self, start: u64, bodies: &BodyList) -> Result<(), OutOfMemory>
+        requires { IfSome (find_segment start self.old) (λ segment. IsWithin (record segment { bodies = segment.bodies ++ bodies.now })) }
+        ensures ok { OnOk result (self.new ≡ appended bodies.now (find_segment start self.old) self.old) }
+        ensures err { OnErr result (self.new ≡ self.old) }
+    {
+        if let Ok(place) = place_in(&self.items, start) {
+            self.items[place].bodies.append_shared(bodies)?;
+        }
+        Ok(())
+    }
+
+    /// Makes the segment with that start final.
+    #[tactic(auto, using(crate::proofs::PlaceLaws::places))]
+    pub fn make_final(&mut self, start: u64)
+        ensures { self.new ≡ finalized (find_segment start self.old) self.old }
+    {
+        if let Ok(place) = place_in(&self.items, start) {
+            let segment = &mut self.items[place];
+            segment.is_final = true;
+            segment.accepted = false;
+        }
+    }
+
+    /// Removes what isn't open, isn't the newest that holds an edit, and ends below `min` and at
+    /// most at `committed`. For an empty segment its start stands in place of its end.
+    #[tactic(auto, using(crate::proofs::PurgeLaws::purges))]
+    pub fn remove_old(&mut self, opened: Option<u64>, committed: u64, min: u64)
+        ensures { self.new ≡ without (filter (is_old opened (newest self.old) committed min) self.old) self.old }
+    {
+        let newest = self.newest();
+        self.items
+            .retain(|segment| !is_old(segment, opened, newest, committed, min));
+    }
+}
+
+/// A purge may remove the segment.
+fn is_old(
+    segment: &Segment,
+    opened: Option<u64>,
+    newest: Option<u64>,
+    committed: u64,
+    min: u64,
+) -> bool
+    ensures { result ≡ is_old opened newest committed min segment.now }
+{
+    if opened == Some(segment.start) {
+        return false;
+    }
+    if segment.has_edit() && newest == Some(segment.start) {
+        return false;
+    }
+    segment.lies_below(min) && segment.lies_up_to(committed)
+}

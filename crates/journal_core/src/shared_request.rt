@@ -1,0 +1,50 @@
+// A request that several lists hold.
+ghost use Rattle.std.specs.Prelude.{◌≡◌, IfOk};
+ghost use Rattle.std.specs.Arc.{arc_value};
+
+use crate::OutOfMemory;
+use crate::request::Request;
+use std::alloc::Global;
+use std::marker::Model;
+use std::sync::Arc;
+
+/// A request that can be held several times without a copy: a round sends one request to many nodes,
+/// and each history and record lists it. Contracts see it as the request.
+#[derive(Drop)]
+pub struct SharedRequest {
+    request: Arc<Request, Global>,
+}
+
+impl Model for SharedRequest {
+    ghost use Rattle.journal_core.specs.declared.request.Request.{Request};
+    ghost use Rattle.std.specs.Arc.{arc_value};
+
+    ghost Value = { Request };
+
+    ghost view = { λ s. arc_value s.request };
+}
+
+impl SharedRequest {
+    /// That request, from now on shared.
+    pub fn new(alloc: Global, request: Request) -> Result<SharedRequest, OutOfMemory>
+        ensures { IfOk result (λ s. s ≡ request) }
+    {
+        let request = Arc::new(alloc, request)?;
+        Ok(SharedRequest { request })
+    }
+
+    /// The request.
+    pub fn get(&self) -> &Request
+        ensures { result.now ≡ self.now }
+    {
+        &*self.request
+    }
+
+    /// The same request once more, without a copy.
+    pub fn share(&self) -> Result<SharedRequest, OutOfMemory>
+        ensures { IfOk result (λ s. s ≡ self.now) }
+    {
+        let request = Arc::try_clone(&self.request)?;
+        Ok(SharedRequest { request })
+    }
+}

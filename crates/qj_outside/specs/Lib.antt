@@ -1,0 +1,7 @@
+pub mod Examples
+pub mod Faults
+pub mod Memory
+pub mod Outcome
+pub mod Plan
+pub mod Standard
+pub mod Whole

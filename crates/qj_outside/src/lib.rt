@@ -1,0 +1,27 @@
+//! What a program reads from and writes to. Each source and sink counts its faults.
+#![tactic(auto)]
+
+mod ends;
+mod examples;
+mod fault_plan;
+mod mem_sink;
+mod mem_source;
+mod no_fault;
+mod reading;
+mod standard;
+#[cfg(test)]
+mod tests;
+mod writing;
+
+pub use ends::{Failed, Sink, Source};
+pub use examples::{calls_fail_where_listed, counts_stand_still, full_sinks_fail};
+pub use mem_sink::MemSink;
+pub use mem_source::MemSource;
+pub use no_fault::{NoFaultSink, NoFaultSource};
+pub use reading::{Input, read_all};
+pub use standard::{StdSink, StdSource};
+use std::alloc::AllocError;
+pub use writing::write_all;
+
+/// Want of memory.
+pub type OutOfMemory = AllocError;

@@ -1,0 +1,39 @@
+use Rattle.std.proofs.Common.{◌≡◌, ◌∙◌, ◌<◌, sym, subst, length, arith}
+use Rattle.std.proofs.lemmas.Bool.Decides.{nat_tests}
+use Rattle.std.proofs.lemmas.List.{nil_from_length}
+use Rattle.script_text.specs.Views.{ReadingView}
+use Rattle.script_text.specs.Reading.{IsBehind}
+use Rattle.script_text.proofs.ReadLaws.{behind_start, behind_more, behind_open, behind_broken, behind_nothing, behind_all}
+use Rattle.script_text.proofs.reader.read_lines.Goals as goal
+
+pub loop-rest-init : goal.loop-rest-init
+loop-rest-init c =
+    let P : ReadingView → Type 0 = λ r. IsBehind c.args.bytes.now 0 r c.args.bytes.now in
+    subst P (sym c.nothing-reading.ensures) (behind_start c.args.bytes.now)
+
+pub returns-in_default-clause-fault : goal.returns-in_default-clause-fault
+returns-in_default-clause-fault c =
+    let some : 0 < length c.loop-rest.rest.now = grind (arith, nat_tests) in
+    behind_open c.args.bytes.now c.loop-rest.count c.loop-rest.reading c.loop-rest.rest.now c.loop-rest.invariant c.in_default.ensures.none some
+
+pub returns-in-Some-2-clause-fault : goal.returns-in-Some-2-clause-fault
+returns-in-Some-2-clause-fault c =
+    behind_broken c.args.bytes.now c.loop-rest.count c.loop-rest.reading c.loop-rest.rest.now c.in-Some.line.now c.in-Some.others.now c.in-Some-2.rule
+    c.loop-rest.invariant c.in-Some.ensures.spelled c.in-Some.ensures.first (rw c.in-Some-2.is at c.in_ok-rule.ensures.broken)
+
+pub loop-rest-preserved : goal.loop-rest-preserved
+loop-rest-preserved c =
+    behind_more c.args.bytes.now c.loop-rest.count c.loop-rest.reading c.loop-rest.rest.now c.in-Some.line.now c.in-Some.others.now c.take_line.new.self
+    c.loop-rest.invariant c.in-Some.ensures.spelled c.in-Some.ensures.first c.in-Some.ensures.shorter (rw c.in_default-2.is at c.in_ok-rule.ensures.taken)
+
+pub returns-in-Some-script-clause-script : goal.returns-in-Some-script-clause-script
+returns-in-Some-script-clause-script c =
+    let none : length c.loop-rest.rest.now ≡ 0 = grind (arith, nat_tests) in
+    behind_all c.args.bytes.now c.loop-rest.count c.loop-rest.reading c.loop-rest.rest.now c.in-Some-script.script
+    c.loop-rest.invariant (nil_from_length c.loop-rest.rest.now none) c.in-Some-script.ensures.0 c.in-Some-script.ensures.1
+
+pub returns-clause-fault : goal.returns-clause-fault
+returns-clause-fault c =
+    let none : length c.loop-rest.rest.now ≡ 0 = grind (arith, nat_tests) in
+    behind_nothing c.args.bytes.now c.loop-rest.count c.loop-rest.reading c.loop-rest.rest.now
+    c.loop-rest.invariant (nil_from_length c.loop-rest.rest.now none) c.in-None.ensures

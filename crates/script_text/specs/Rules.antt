@@ -1,0 +1,98 @@
+-- The rules of scripts, each a test of a line, in the order in which they are tried; and the first line that breaks one.
+use Rattle.std.specs.Prelude.{ℕ, ◌+◌, List, [], ◌∷◌, Bool, true, false, not, Option, Some, None, ◌==◌, ◌||◌, nat_le, if◌then◌else◌, length, is_none}
+use Rattle.std.specs.List.{list_all, list_any, find, range_with_len}
+use Rattle.std.specs.Str.{bytes_eq}
+use Rattle.script_text.specs.declared.kind.Kind.{Kind}
+use Rattle.script_text.specs.declared.kind.Kind.TheVariants as kind
+use Rattle.script_text.specs.Views.{SaidView}
+use Rattle.script_text.specs.Lines.{Line, Ended, Open, lines_of, is_line}
+use Rattle.script_text.specs.Words.{words_of, is_empty, first_word, word_at, is_name, actor_of, is_body}
+use Rattle.script_text.specs.Grammar.{keyword, first_line, nothing_said, said_by, comes_again, is_silent}
+
+-- the number of nodes that a first line tells
+unfoldable pub nodes_of : List ℕ → Option ℕ
+nodes_of line = find (λ nodes. bytes_eq line (first_line nodes)) (range_with_len 1 15)
+
+-- the kind of line that a first word begins
+unfoldable pub kind_of : List ℕ → Option Kind
+kind_of word =
+    if bytes_eq word (keyword kind.Writer) then Some kind.Writer
+    else if bytes_eq word (keyword kind.Takeover) then Some kind.Takeover
+    else if bytes_eq word (keyword kind.Log) then Some kind.Log
+    else None
+
+-- ## Rule 3: the number of words, none of them empty
+abbrev pub has_length : Kind → ℕ → Bool
+has_length kind.Writer n = n == 2
+has_length kind.Takeover n = n == 2
+has_length kind.Log n = nat_le 3 n
+
+abbrev pub bad_spacing : Kind → List (List ℕ) → Bool
+bad_spacing k words = list_any is_empty words || not (has_length k (length words))
+
+-- ## Rule 4: the name in a declaration
+abbrev pub bad_name : Kind → List (List ℕ) → Bool
+bad_name kind.Writer words = not (is_name (word_at words 1))
+bad_name _ words = false
+
+-- ## Rule 5: an actor that was declared before
+abbrev pub bad_actor : SaidView → Kind → List (List ℕ) → Bool
+bad_actor said kind.Writer words = false
+bad_actor said _ words = is_none (actor_of said.names (word_at words 1))
+
+-- ## Rule 8: the bodies
+abbrev pub bad_body : Kind → List (List ℕ) → Bool
+bad_body kind.Log (word ∷ name ∷ bodies) = not (list_all is_body bodies)
+bad_body _ words = false
+
+-- ## The rules in order
+-- behind the first line that says something; 2 is the first word's rule
+unfoldable pub rule_in : SaidView → Option Kind → List (List ℕ) → Option ℕ
+rule_in said None words = Some 2
+rule_in said (Some k) words =
+    if comes_again said k then Some 2
+    else if bad_spacing k words then Some 3
+    else if bad_name k words then Some 4
+    else if bad_actor said k words then Some 5
+    else if bad_body k words then Some 8
+    else None
+
+-- the rule that a line breaks which says something; 1 is the rule of the first such line
+unfoldable pub rule_said : Option SaidView → List ℕ → Option ℕ
+rule_said None line = if is_none (nodes_of line) then Some 1 else None
+rule_said (Some said) line = rule_in said (kind_of (first_word (words_of line))) (words_of line)
+
+-- the rule that a line breaks; 10 is the rule of all lines
+unfoldable pub rule_of : Option SaidView → List ℕ → Option ℕ
+rule_of said line = if not (is_line line) then Some 10 else if is_silent line then None else rule_said said line
+
+-- ## What the lines said after one more that breaks no rule
+abbrev pub said_in : SaidView → Option Kind → List (List ℕ) → SaidView
+said_in said None words = said
+said_in said (Some k) words = said_by said k words
+
+abbrev pub said_next : Option SaidView → List ℕ → SaidView
+said_next None line = nothing_said
+said_next (Some said) line = said_in said (kind_of (first_word (words_of line))) (words_of line)
+
+unfoldable pub said_behind : Option SaidView → List ℕ → Option SaidView
+said_behind said line = if is_silent line then said else Some (said_next said line)
+
+-- ## The first line that breaks a rule, and the rule
+abbrev pub or_later : ℕ → Option ℕ → Option (ℕ × ℕ) → Option (ℕ × ℕ)
+or_later number (Some rule) later = Some (number, rule)
+or_later number None later = later
+
+-- where no line says anything, the first breaks rule 1
+abbrev pub fault_at_end : Option SaidView → Option (ℕ × ℕ)
+fault_at_end None = Some (1, 1)
+fault_at_end (Some said) = None
+
+unfoldable pub first_fault : ℕ → Option SaidView → List Line → Option (ℕ × ℕ)
+first_fault number said [] = fault_at_end said
+first_fault number said (Ended line ∷ lines) = or_later number (rule_of said line) (first_fault (number + 1) (said_behind said line) lines)
+first_fault number said (Open line ∷ lines) = Some (number, 10)
+
+-- the first line that breaks a rule, from 1, and the rule
+unfoldable pub fault_of : List ℕ → Option (ℕ × ℕ)
+fault_of bytes = first_fault 1 None (lines_of bytes)

@@ -1,0 +1,58 @@
+// Texts, line by line.
+ghost use Rattle.std.specs.Prelude.{◌≡◌, ◌+◌, ◌++◌, ◌∷◌, ◌<◌, IfSome, IfNone, length};
+ghost use Rattle.std.specs.List.{list_all};
+ghost use Rattle.script_text.specs.Lines.{Lacks, is_line, is_plain};
+ghost use Rattle.script_text.specs.Grammar.{is_silent};
+
+/// The most bytes of a line, its LF not counted.
+pub const LONGEST_LINE: usize = 16_384;
+
+/// What stands before the first such byte, and what follows it.
+#[tactic(auto, using(crate::proofs::LineLaws::lacks_more))]
+pub fn split_byte(text: &[u8], byte: u8) -> Option<(&[u8], &[u8])>
+    ensures spelled { IfSome result (λ p. text.now ≡ p.0.now ++ byte ∷ p.1.now) }
+    ensures first { IfSome result (λ p. Lacks byte p.0.now) }
+    ensures shorter { IfSome result (λ p. length p.0.now + length p.1.now < length text.now) }
+    ensures none { IfNone result (Lacks byte text.now) }
+{
+    for (end, b) in text.iter().enumerate() {
+        if *b == byte {
+            return Some((&text[..end], &text[end + 1..]));
+        }
+    }
+    None
+}
+
+/// The first line, without its LF, and what follows it.
+pub fn split_line(text: &[u8]) -> Option<(&[u8], &[u8])>
+    ensures spelled { IfSome result (λ p. text.now ≡ p.0.now ++ 10 ∷ p.1.now) }
+    ensures first { IfSome result (λ p. Lacks 10 p.0.now) }
+    ensures shorter { IfSome result (λ p. length p.1.now < length text.now) }
+    ensures none { IfNone result (Lacks 10 text.now) }
+{
+    split_byte(text, b'\n')
+}
+
+fn are_plain(line: &[u8]) -> bool
+    ensures { result ≡ list_all is_plain line.now }
+{
+    line.iter().all(|b| 32 <= *b && *b <= 126)
+}
+
+/// The bytes that a line may have.
+#[tactic(auto, unfolding(crate::specs::Lines::is_line))]
+pub fn is_line(line: &[u8]) -> bool
+    ensures { result ≡ is_line line.now }
+{
+    are_plain(line) && line.len() <= LONGEST_LINE
+}
+
+/// An empty line or a comment, which says nothing.
+pub fn is_silent(line: &[u8]) -> bool
+    ensures { result ≡ is_silent line.now }
+{
+    match line {
+        [] => true,
+        [first, ..] => *first == b'#',
+    }
+}

@@ -1,0 +1,59 @@
+// Scripts are read.
+ghost use Rattle.std.specs.Prelude.{◌≡◌, Some, IfOk};
+ghost use Rattle.script_text.specs.Views.{ScriptView};
+ghost use Rattle.script_text.specs.Grammar.{IsScriptText};
+ghost use Rattle.script_text.specs.Rules.{fault_of};
+ghost use Rattle.script_text.specs.Reading.{IfScript, IfBadScript, Reads};
+
+use crate::answer::ReadScript;
+use crate::lines::split_line;
+use crate::reading::Reading;
+use crate::rules::{FIRST_LINE, LINE_BYTES};
+use journal_core::OutOfMemory;
+use std::alloc::Global;
+
+/// All lines, or those up to the first that breaks a rule.
+fn read_lines(alloc: Global, bytes: &[u8]) -> Result<ReadScript, OutOfMemory>
+    ensures script { IfOk result (λ r. IfScript r (λ s. IsScriptText bytes.now s)) }
+    ensures fault { IfOk result (λ r. IfBadScript r (λ line rule. fault_of bytes.now ≡ Some (line, rule))) }
+{
+    let mut reading = Reading::nothing(alloc);
+    let mut scratch = Vec::new(alloc);
+    let mut count: u64 = 0;
+    let mut rest = bytes;
+    while !rest.is_empty() {
+        let Some((line, others)) = split_line(rest) else {
+            return Ok(ReadScript::BadScript {
+                line: count + 1,
+                rule: LINE_BYTES,
+            });
+        };
+        if let Some(rule) = reading.take_line(alloc, line, &mut scratch)? {
+            return Ok(ReadScript::BadScript {
+                line: count + 1,
+                rule,
+            });
+        }
+        count += 1;
+        rest = others;
+    }
+    match reading.script() {
+        Some(script) => Ok(ReadScript::Script(script)),
+        None => Ok(ReadScript::BadScript {
+            line: 1,
+            rule: FIRST_LINE,
+        }),
+    }
+}
+
+/// The script that the bytes are, exactly where they are in the grammar; else the first line that
+/// breaks a rule, from 1, and the rule.
+pub fn read_script(alloc: Global, bytes: &[u8]) -> ReadScript
+    ensures script { IfScript result (λ s. IsScriptText bytes.now s) }
+    ensures fault { IfBadScript result (λ line rule. fault_of bytes.now ≡ Some (line, rule)) }
+{
+    match read_lines(alloc, bytes) {
+        Ok(read) => read,
+        Err(_) => ReadScript::OutOfMemory,
+    }
+}

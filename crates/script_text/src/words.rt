@@ -1,0 +1,177 @@
+// The words of a line.
+ghost use Rattle.std.specs.Prelude.{◌≡◌, ◌≢◌, ◌+◌, ◌&&◌, ◌++◌, ◌∷◌, [], ◌<◌, ◌≤◌, ◌-◌, true, false, Some, None, OnOk, IfOk, IfSome, MatchOption, IsTrue, length, map};
+ghost use Rattle.std.specs.List.{list_all, list_any, AllByRecursion};
+ghost use Rattle.script_text.specs.Words.{words_of, first_word, is_name, is_name_byte, is_letter, is_word_of_name, hex_digit, hex_byte, hex_text, is_hex_digit, is_hex, is_body, IsByte, IsBody};
+ghost use Rattle.script_text.specs.Reading.{word_count};
+
+use crate::lines::split_byte;
+use journal_core::{BodyList, Bytes, OutOfMemory};
+use std::alloc::Global;
+
+/// The most digits of a body.
+const LONGEST_BODY_TEXT: usize = 8_192;
+
+/// The first word, and what follows the space behind it; `None` where there is no space.
+#[tactic(auto, using(crate::proofs::WordLaws::splits))]
+pub fn split_word(text: &[u8]) -> Option<(&[u8], &[u8])>
+    ensures words { MatchOption result (words_of text.now ≡ text.now ∷ []) (λ p. words_of text.now ≡ p.0.now ∷ words_of p.1.now) }
+    ensures shorter { IfSome result (λ p. length p.0.now + length p.1.now < length text.now) }
+{
+    split_byte(text, b' ')
+}
+
+/// The first run of bytes that aren't spaces.
+pub fn first_word(line: &[u8]) -> &[u8]
+    ensures { result.now ≡ first_word (words_of line.now) }
+{
+    let mut rest = line;
+    while let Some((word, others)) = split_word(rest) {
+        if !word.is_empty() {
+            return word;
+        }
+        rest = others;
+    }
+    rest
+}
+
+/// How many words there are, if none of them is empty.
+pub fn count_words(line: &[u8]) -> Option<usize>
+    ensures { result ≡ word_count (words_of line.now) }
+{
+    let mut count = 0;
+    let mut rest = line;
+    while let Some((word, others)) = split_word(rest) {
+        if word.is_empty() {
+            return None;
+        }
+        count += 1;
+        rest = others;
+    }
+    if rest.is_empty() {
+        None
+    } else {
+        Some(count + 1)
+    }
+}
+
+fn is_letter(b: u8) -> bool
+    ensures { result ≡ is_letter b }
+{
+    97 <= b && b <= 122
+}
+
+fn is_name_byte(b: u8) -> bool
+    ensures { result ≡ is_name_byte b }
+{
+    is_letter(b) || (48 <= b && b <= 57)
+}
+
+fn are_name_bytes(bytes: &[u8]) -> bool
+    ensures { result ≡ list_all is_name_byte bytes.now }
+{
+    bytes.iter().all(|b| is_name_byte(*b))
+}
+
+fn is_word_of_name(word: &[u8]) -> bool
+    ensures { result ≡ is_word_of_name word.now }
+{
+    match word {
+        [first, others @ ..] => { is_letter(*first) && are_name_bytes(others) && others.len() < 16 }
+        [] => false,
+    }
+}
+
+/// A name that may be declared: a letter and up to 15 more letters and digits, and not the operator's.
+#[tactic(auto, unfolding(crate::specs::Words::is_name))]
+pub fn is_name(word: &[u8]) -> bool
+    ensures { result ≡ is_name word.now }
+{
+    is_word_of_name(word) && word != b"ops".as_slice()
+}
+
+/// The number that a digit stands for.
+fn nibble(digit: u8) -> Option<u8>
+    ensures { MatchOption result (is_hex_digit digit ≡ false) (λ n. (is_hex_digit digit ≡ true) × (n < 16) × (hex_digit n ≡ digit)) }
+{
+    match digit {
+        b'0'..=b'9' => Some(digit - b'0'),
+        b'a'..=b'f' => Some(digit - 87),
+        _ => None,
+    }
+}
+
+/// The byte that two digits stand for.
+fn hex_byte(high: u8, low: u8) -> Option<u8>
+    ensures { MatchOption result ((is_hex_digit high && is_hex_digit low) ≡ false) (λ b. ((is_hex_digit high && is_hex_digit low) ≡ true) × (hex_byte b ≡ high ∷ low ∷ [])) }
+{
+    Some(nibble(high)? * 16 + nibble(low)?)
+}
+
+/// The bytes that the digits stand for go to the end of `out`, if the digits are pairs of hexadecimal
+/// digits.
+#[tactic(auto, using(crate::proofs::WordLaws::hex_steps))]
+fn decode_hex(word: &[u8], out: &mut Vec<u8>) -> Result<bool, OutOfMemory>
+    requires { out.old.items ≡ [] }
+    ensures digits { IfOk result (λ ok. ok ≡ is_hex word.now) }
+    ensures bytes { IfOk result (λ ok. IsTrue ok → (hex_text out.new.items ≡ word.now) × AllByRecursion IsByte out.new.items) }
+{
+    let mut rest = word;
+    while let [high, low, others @ ..] = rest {
+        let Some(byte) = hex_byte(*high, *low) else {
+            return Ok(false);
+        };
+        out.push(byte)?;
+        rest = others;
+    }
+    Ok(rest.is_empty())
+}
+
+/// The body that a word is; `scratch` is room for its bytes.
+fn read_body(
+    alloc: Global,
+    word: &[u8],
+    scratch: &mut Vec<u8>,
+) -> Result<Option<Bytes>, OutOfMemory>
+    ensures { IfOk result (λ o. MatchOption o (is_body word.now ≡ false) (λ body. (is_body word.now ≡ true) × (hex_text body ≡ word.now) × IsBody body)) }
+{
+    if word.is_empty() {
+        return Ok(None);
+    }
+    if word.len() > LONGEST_BODY_TEXT {
+        return Ok(None);
+    }
+    scratch.clear();
+    if !decode_hex(word, scratch)? {
+        return Ok(None);
+    }
+    match Bytes::copy_of(alloc, scratch.as_slice())? {
+        Some(body) => Ok(Some(body)),
+        None => Ok(None),
+    }
+}
+
+/// The bodies of a log line, if each word is one.
+#[tactic(auto, using(crate::proofs::WordLaws::body_steps))]
+pub fn read_bodies(
+    alloc: Global,
+    text: &[u8],
+    scratch: &mut Vec<u8>,
+) -> Result<Option<BodyList>, OutOfMemory>
+    ensures { IfOk result (λ o. MatchOption o (list_all is_body (words_of text.now) ≡ false)
+        (λ bodies. (list_all is_body (words_of text.now) ≡ true) × (map hex_text bodies ≡ words_of text.now) × AllByRecursion IsBody bodies)) }
+{
+    let mut bodies = BodyList::new(alloc);
+    let mut rest = text;
+    while let Some((word, others)) = split_word(rest) {
+        let Some(body) = read_body(alloc, word, scratch)? else {
+            return Ok(None);
+        };
+        bodies.push(body)?;
+        rest = others;
+    }
+    let Some(body) = read_body(alloc, rest, scratch)? else {
+        return Ok(None);
+    };
+    bodies.push(body)?;
+    Ok(Some(bodies))
+}
