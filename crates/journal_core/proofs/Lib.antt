@@ -6,3 +6,10 @@ pub mod TableLaws
 pub mod ServingLaws
 pub mod StepLaws
 pub mod PrintLaws
+pub mod StopLaws
+pub mod BudgetLaws
+pub mod CutLaws
+pub mod NodeLaws
+pub mod LedLaws
+pub mod WordLaws
+pub mod ReadLaws

@@ -1,12 +1,13 @@
 -- Laws of purges.
-use Rattle.std.proofs.Common.{ℕ, ◌≡◌, ◌<◌, ◌≤◌, List, [], ◌∷◌, Bool, true, false, cond, not, refl, sym, ap, ◌∙◌, arith, filter, map, ◌==◌}
+use Rattle.std.proofs.Common.{ℕ, ◌≡◌, ◌<◌, ◌≤◌, List, [], ◌∷◌, Bool, true, false, cond, not, refl, sym, ap, ◌∙◌, arith, filter, map, ◌==◌, ◌≢◌, ◌+◌, ◌-◌, ◌&&◌, length, take, drop, get_or, min, nat_lt, zero, suc, Option, Some, None, subst}
 use Rattle.std.proofs.lemmas.Bool.Decides.{nat_tests}
+use Rattle.std.proofs.lemmas.List.{drop_more, drop_all}
 use Rattle.std.proofs.lemmas.Fn.{filter_same}
 use Rattle.journal_core.specs.declared.segment.Segment.{Segment}
 use Rattle.journal_core.specs.declared.node_state.NodeState.{NodeState}
 use Rattle.journal_core.specs.Effects.{Effect, Remove, after_effects}
 use Rattle.journal_core.specs.Segments.{remove_segment, AreAbove, AreRising, IsWithin, AreWithin, AreSound}
-use Rattle.journal_core.specs.Places.{without}
+use Rattle.journal_core.specs.Places.{without, start_of_place, lies_before}
 
 -- the effects of a purge, one by one
 pub removed_each : (olds : List Segment) (s : NodeState) → after_effects s (map (λ (g : Segment). Remove g.start) olds) ≡ record s { segments = without olds s.segments }
@@ -66,3 +67,95 @@ pub without-filter : (p : Segment → Bool) (gs : List Segment) → AreSound gs 
 without-filter p gs s = sym (without_is p gs s.rising)
 
 pub ruleset purges = (without-filter, filter_sound)
+
+-- ## The first ones of those that may go
+-- so many were counted, and the rest tells how many more there are and which is next
+pub record StillCounts (p : Segment → Bool) (most count : ℕ) (rest all : List Segment) : Type 0 where
+  pub few : count ≤ most
+  pub next : start_of_place (filter p rest) (most - count) ≡ start_of_place (filter p all) most
+  pub left : min (most - count) (length (filter p rest)) + count ≡ min most (length (filter p all))
+
+pub counts_start : (p : Segment → Bool) (most : ℕ) (all : List Segment) → StillCounts p most 0 all all
+counts_start p most all = record { few = omega arith; next = ap (start_of_place (filter p all)) (omega arith); left = omega arith }
+
+filter_takes : (p : Segment → Bool) (gs : List Segment) (i : ℕ) (d : Segment) → i < length gs → p (get_or gs i d) ≡ true → filter p (drop i gs) ≡ get_or gs i d ∷ filter p (drop (i + 1) gs)
+filter_takes p gs i d l h = ap (filter p) (drop_more gs i d l) ∙ ap (λ b. cond b (get_or gs i d ∷ filter p (drop (i + 1) gs)) (filter p (drop (i + 1) gs))) h
+
+filter_skips : (p : Segment → Bool) (gs : List Segment) (i : ℕ) (d : Segment) → i < length gs → p (get_or gs i d) ≡ false → filter p (drop i gs) ≡ filter p (drop (i + 1) gs)
+filter_skips p gs i d l h = ap (filter p) (drop_more gs i d l) ∙ ap (λ b. cond b (get_or gs i d ∷ filter p (drop (i + 1) gs)) (filter p (drop (i + 1) gs))) h
+
+pub counts_more : (p : Segment → Bool) (most count i : ℕ) (d : Segment) (gs : List Segment) → StillCounts p most count (drop i gs) gs → i < length gs → p (get_or gs i d) ≡ true → count ≢ most
+    → StillCounts p most (count + 1) (drop (i + 1) gs) gs
+counts_more p most count i d gs h l t ne =
+    let few : count ≤ most = h.few in
+    let e = filter_takes p gs i d l t in
+    let k : most - count ≡ suc (most - (count + 1)) = omega arith in
+    let left = h.left in
+    let long : length (filter p (drop i gs)) ≡ suc (length (filter p (drop (i + 1) gs))) = ap length e in
+    record {
+      few = omega arith;
+      next = sym (ap (λ xs. start_of_place xs (most - count)) e ∙ ap (start_of_place (get_or gs i d ∷ filter p (drop (i + 1) gs))) k) ∙ h.next;
+      left = omega arith;
+    }
+
+pub counts_skip : (p : Segment → Bool) (most count i : ℕ) (d : Segment) (gs : List Segment) → StillCounts p most count (drop i gs) gs → i < length gs → p (get_or gs i d) ≡ false
+    → StillCounts p most count (drop (i + 1) gs) gs
+counts_skip p most count i d gs h l t =
+    let e = filter_skips p gs i d l t in
+    let P : List Segment → Type 0 = λ xs. start_of_place xs (most - count) ≡ start_of_place (filter p gs) most in
+    let Q : List Segment → Type 0 = λ xs. min (most - count) (length xs) + count ≡ min most (length (filter p gs)) in
+    record { few = h.few; next = subst P e h.next; left = subst Q e h.left }
+
+pub counts_full : (p : Segment → Bool) (most count i : ℕ) (d : Segment) (gs : List Segment) → StillCounts p most count (drop i gs) gs → i < length gs → p (get_or gs i d) ≡ true → count ≡ most
+    → (count ≡ min most (length (filter p gs))) × (Some (get_or gs i d).start ≡ start_of_place (filter p gs) most)
+counts_full p most count i d gs h l t e =
+    let f = filter_takes p gs i d l t in
+    let zero_left : most - count ≡ 0 = omega arith in
+    let left = h.left in
+    (omega arith, sym (ap (λ xs. start_of_place xs (most - count)) f ∙ ap (start_of_place (get_or gs i d ∷ filter p (drop (i + 1) gs))) zero_left) ∙ h.next)
+
+start_of_none : (k : ℕ) → start_of_place [] k ≡ None
+start_of_none k = refl
+
+pub counts_end : (p : Segment → Bool) (most count i : ℕ) (gs : List Segment) → StillCounts p most count (drop i gs) gs → length gs ≤ i
+    → (count ≡ min most (length (filter p gs))) × (None ≡ start_of_place (filter p gs) most)
+counts_end p most count i gs h l =
+    let e : filter p (drop i gs) ≡ [] = ap (filter p) (drop_all i gs l) in
+    let left = h.left in
+    let long : length (filter p (drop i gs)) ≡ 0 = ap length e in
+    (omega arith, sym (ap (λ xs. start_of_place xs (most - count)) e) ∙ h.next)
+
+pub ruleset counts = (counts_start, counts_more, counts_skip, counts_full, counts_end)
+
+none_below : (p : Segment → Bool) (a : ℕ) (gs : List Segment) → AreAbove a gs → filter (λ g. p g && nat_lt g.start a) gs ≡ []
+none_below p a [] h = refl
+none_below p a (g ∷ gs) h =
+    let e : nat_lt g.start a ≡ false = grind (arith, nat_tests, h.0) in
+    rw e (elim (p g) as (λ b. cond (b && false) (g ∷ filter (λ x. p x && nat_lt x.start a) gs) (filter (λ x. p x && nat_lt x.start a) gs) ≡ [])
+    [ true ↦ none_below p a gs h.1 | false ↦ none_below p a gs h.1 ])
+
+before_place : (g : Segment) (gs : List Segment) (k : ℕ) → AreAbove g.start gs → lies_before (start_of_place gs k) g ≡ true
+before_place g [] k h = refl
+before_place g (x ∷ xs) zero h = grind (arith, nat_tests, h.0)
+before_place g (x ∷ xs) (suc k) h = before_place g xs k h.1
+
+-- what lies before the next one is what comes first
+pub first_old : (p : Segment → Bool) (gs : List Segment) (k : ℕ) → AreRising gs → filter (λ g. p g && lies_before (start_of_place (filter p gs) k) g) gs ≡ take k (filter p gs)
+first_old p [] zero r = refl
+first_old p [] (suc k) r = refl
+first_old p (g ∷ gs) zero r =
+    elim (p g) as (λ b. cond (b && lies_before (start_of_place (cond b (g ∷ filter p gs) (filter p gs)) 0) g)
+    (g ∷ filter (λ x. p x && lies_before (start_of_place (cond b (g ∷ filter p gs) (filter p gs)) 0) x) gs)
+    (filter (λ x. p x && lies_before (start_of_place (cond b (g ∷ filter p gs) (filter p gs)) 0) x) gs) ≡ take 0 (cond b (g ∷ filter p gs) (filter p gs)))
+    [ true ↦ (let e : nat_lt g.start g.start ≡ false = grind (arith, nat_tests) in rw e (none_below p g.start gs r.0)) | false ↦ first_old p gs 0 r.1 ]
+first_old p (g ∷ gs) (suc k) r =
+    elim (p g) as (λ b. cond (b && lies_before (start_of_place (cond b (g ∷ filter p gs) (filter p gs)) (suc k)) g)
+    (g ∷ filter (λ x. p x && lies_before (start_of_place (cond b (g ∷ filter p gs) (filter p gs)) (suc k)) x) gs)
+    (filter (λ x. p x && lies_before (start_of_place (cond b (g ∷ filter p gs) (filter p gs)) (suc k)) x) gs) ≡ take (suc k) (cond b (g ∷ filter p gs) (filter p gs)))
+    [ true ↦ rw (before_place g (filter p gs) k (filter_above p g.start gs r.0)) (ap (λ xs. g ∷ xs) (first_old p gs k r.1)) | false ↦ first_old p gs (suc k) r.1 ]
+
+pub first-without : (p : Segment → Bool) (gs : List Segment) (k : ℕ) (next : Option ℕ) → AreSound gs → next ≡ start_of_place (filter p gs) k
+    → filter (λ g. not (p g && lies_before next g)) gs ≡ without (take k (filter p gs)) gs
+first-without p gs k next s e =
+    let first : filter (λ g. p g && lies_before next g) gs ≡ take k (filter p gs) = rw e (first_old p gs k s.rising) in
+    without-filter (λ g. p g && lies_before next g) gs s ∙ ap (λ xs. without xs gs) first

@@ -9,3 +9,9 @@ pub mod Answers
 pub mod Texts
 pub mod Examples
 pub mod Appends
+pub mod Stops
+pub mod Cuts
+pub mod Budgets
+pub mod Laws
+pub mod Reading
+pub mod Words

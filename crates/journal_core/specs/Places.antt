@@ -1,5 +1,5 @@
 -- The place of a segment in a list by rising start.
-use Rattle.std.specs.Prelude.{ℕ, ◌≡◌, ◌≤◌, ◌<◌, ◌==◌, ◌&&◌, Bool, not, nat_lt, nat_le, List, [], ◌∷◌, length, take, drop, slice_index_or, Option, if◌then◌else◌}
+use Rattle.std.specs.Prelude.{ℕ, ◌≡◌, ◌≤◌, ◌<◌, ◌==◌, ◌&&◌, Bool, true, not, nat_lt, nat_le, List, [], ◌∷◌, length, take, drop, slice_index_or, zero, suc, Option, Some, None, if◌then◌else◌}
 use Rattle.journal_core.specs.declared.segment.Segment.{Segment}
 use Rattle.journal_core.specs.Segments.{AreAbove, remove_segment, has_edit}
 use Rattle.journal_core.specs.Step.{is_one, last_or_start}
@@ -30,3 +30,14 @@ is_old opened newest committed min g =
 abbrev pub without : List Segment → List Segment → List Segment
 without [] gs = gs
 without (old ∷ olds) gs = without olds (remove_segment old.start gs)
+
+-- the start of the segment at that place
+abbrev pub start_of_place : List Segment → ℕ → Option ℕ
+start_of_place [] place = None
+start_of_place (g ∷ gs) zero = Some g.start
+start_of_place (g ∷ gs) (suc place) = start_of_place gs place
+
+-- the segment starts before that, where that is a start
+abbrev pub lies_before : Option ℕ → Segment → Bool
+lies_before None g = true
+lies_before (Some next) g = nat_lt g.start next

@@ -1,12 +1,13 @@
-// What a crash leaves of what wasn't synced.
+// What a cut may leave of an append.
 
-/// What the bytes that weren't synced hold after a crash.
+/// What stands of an append that was written whole and not closed: nothing, all of it, or all of it
+/// behind a byte that says so.
 #[derive(Clone, Copy, Debug, PartialEq, Eq)]
 pub enum Cut {
-    /// What was there before; files that were never synced are absent.
+    /// The bytes that stood there before.
     Old,
-    /// What was written.
+    /// The bytes that were written.
     New,
-    /// The byte `a5`.
+    /// The byte 0xA5 in each place that was written and not synced.
     A5,
 }

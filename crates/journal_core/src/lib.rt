@@ -3,31 +3,40 @@
 
 mod batch;
 mod body_list;
+mod budget;
 mod bytes;
 mod cut;
+mod cuts;
 mod examples;
 mod front;
 mod head;
+mod number_text;
 mod heard;
+mod laws;
 mod limits;
 mod node;
 mod node_fail;
 mod node_state;
 mod plain_node;
 mod printing;
+mod reading;
 mod refusal;
 mod reply;
 mod reply_text;
 mod request;
+mod request_line;
 mod request_text;
+mod request_word;
 mod segment;
 mod segment_info;
 mod segment_line;
 mod segment_list;
 mod serving;
 mod shared_request;
+mod stops;
 mod table;
 mod told_segment;
+mod words;
 
 pub use batch::Batch;
 pub use body_list::BodyList;
@@ -38,17 +47,25 @@ pub use examples::{
     a_session_is_answered,
 };
 pub use head::Head;
+pub use number_text::print_number;
 pub use heard::Heard;
+pub use laws::{
+    open_segment_is_led, promise_never_falls, refused_at_once_is_idle, step_is_its_effects,
+    stop_behind_nothing_is_kill, stop_keeps_promise,
+};
 pub use limits::{MAX_BATCH, MAX_BODY, MAX_NUMBER, MAX_SEGMENT};
-pub use node::Node;
+pub use node::{CutNode, Node};
 pub use node_fail::NodeFail;
 pub use node_state::NodeState;
 pub use plain_node::PlainNode;
+pub use reading::read_request;
 pub use refusal::Refusal;
 pub use reply::Reply;
 pub use reply_text::{print_cause, print_reply};
 pub use request::Request;
+pub use request_line::ReadRequest;
 pub use request_text::print_request;
+pub use request_word::RequestWord;
 pub use segment::Segment;
 pub use segment_info::SegmentInfo;
 pub use segment_line::{SegmentLine, SegmentLines};

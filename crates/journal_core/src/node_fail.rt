@@ -1,12 +1,12 @@
-// Why a node can't go on.
+// Why a node couldn't be stopped or restarted.
 use crate::bytes::Bytes;
 
-/// Why a node could not be stopped or restarted.
+/// A fault below a node.
 #[derive(Drop)]
 pub enum NodeFail {
-    /// Its disk failed.
+    /// The disk failed.
     DiskFault,
-    /// This file isn't in its format.
+    /// A file isn't in its format.
     BadFile { name: Bytes },
     /// Want of memory.
     OutOfMemory,

@@ -1,9 +1,14 @@
 // The node that keeps its state in memory.
-ghost use Rattle.std.specs.Prelude.{◌≡◌, ◌≢◌, ◌≤◌, true, Some};
+ghost use Rattle.std.specs.Prelude.{◌≡◌, ◌≢◌, ◌≤◌, true, Some, IsOk, OnErr, IfErr};
 ghost use Rattle.journal_core.specs.Step.{fresh_state};
-ghost use Rattle.journal_core.specs.Answers.{Answers, FitsRequest, Rose, is_free};
+ghost use Rattle.journal_core.specs.Answers.{Answers, FitsRequest, is_free};
+ghost use Rattle.journal_core.specs.Stops.{Stops, Restarts};
+ghost use Rattle.journal_core.specs.Cuts.{Cuts};
 
-use crate::node::Node;
+use crate::OutOfMemory;
+use crate::cut::Cut;
+use crate::node::{CutNode, Node};
+use crate::node_fail::NodeFail;
 use crate::node_state::NodeState;
 use crate::refusal::Refusal;
 use crate::reply::Reply;
@@ -62,5 +67,58 @@ impl Node for PlainNode {
         ensures sound { result ≢ Reply.Refused Refusal.DiskFault }
     {
         self.state.step(alloc, request)
+    }
+
+    /// Does the first effects of a request, at most `keep`, and goes down; answers how many it did.
+    /// Want of memory leaves all as it was.
+    fn act_stopped(&mut self, alloc: Global, request: &Request, keep: u64) -> Result<u64, NodeFail>
+        ensures stop { Stops (Some self.old) request.now keep result (Some self.new) }
+        ensures memory { OnErr result (self.new ≡ self.old) }
+        ensures fail { IfErr result (λ fail. fail ≡ NodeFail.OutOfMemory) }
+    {
+        match self.state.stop(alloc, request, keep) {
+            Ok(done) => Ok(done),
+            Err(_) => Err(NodeFail::OutOfMemory),
+        }
+    }
+
+    fn kill(&mut self) -> bool {
+        if !self.state.up {
+            return false;
+        }
+        self.state.crash();
+        true
+    }
+
+    /// Takes no memory.
+    fn restart(&mut self, alloc: Global) -> Result<bool, NodeFail>
+        ensures restart { Restarts (Some self.old) result (Some self.new) }
+        ensures ok { IsOk result }
+    {
+        let _ = alloc;
+        if self.state.up {
+            return Ok(false);
+        }
+        self.state.restart();
+        Ok(true)
+    }
+}
+
+impl CutNode for PlainNode {
+    /// Want of memory leaves all as it was.
+    #[tactic(auto, using(crate::proofs::CutLaws::cut_stopped))]
+    fn act_cut(
+        &mut self,
+        alloc: Global,
+        request: &Request,
+        calls: u64,
+        cut: Cut,
+    ) -> Result<u64, OutOfMemory>
+        ensures cut { Cuts (Some self.old) request.now calls cut result (Some self.new) }
+        ensures memory { OnErr result (self.new ≡ self.old) }
+    {
+        let standing = self.state.effects_standing(request, calls, cut);
+        let done = self.state.stop(alloc, request, standing)?;
+        Ok(done)
     }
 }

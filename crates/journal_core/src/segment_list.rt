@@ -1,9 +1,9 @@
 // The segments of a node.
-ghost use Rattle.std.specs.Prelude.{◌≡◌, ◌++◌, [], List, length, not, filter, Option, Some, None, IfOk, IfErr, OnOk, OnErr, IfSome};
+ghost use Rattle.std.specs.Prelude.{◌≡◌, ◌++◌, [], List, length, take, min as least, not, filter, Option, Some, None, IfOk, IfErr, OnOk, OnErr, IfSome};
 ghost use Rattle.std.specs.Option.{option_copied};
 ghost use Rattle.journal_core.specs.Segments.{find_segment, put_segment, newest, AreSound, AreRising, IsWithin};
 ghost use Rattle.journal_core.specs.Effects.{appended, finalized};
-ghost use Rattle.journal_core.specs.Places.{IsAt, IsGap, is_old, without};
+ghost use Rattle.journal_core.specs.Places.{IsAt, IsGap, is_old, without, start_of_place, lies_before};
 
 use crate::OutOfMemory;
 use crate::body_list::BodyList;
@@ -170,10 +170,64 @@ impl SegmentList {
         self.items
             .retain(|segment| !is_old(segment, opened, newest, committed, min));
     }
+
+    /// Removes the first of these, by rising start and at most `most`; answers how many.
+    pub fn remove_first_old(
+        &mut self,
+        opened: Option<u64>,
+        committed: u64,
+        min: u64,
+        most: u64,
+    ) -> u64
+        ensures count { result ≡ least most (length (filter (is_old opened (newest self.old) committed min) self.old)) }
+        ensures rest { self.new ≡ without (take most (filter (is_old opened (newest self.old) committed min) self.old)) self.old }
+    {
+        let newest = self.newest();
+        let (count, next) = count_old(&self.items, opened, newest, committed, min, most);
+        self.items.retain(|segment| {
+            !(is_old(segment, opened, newest, committed, min) && lies_before(segment, next))
+        });
+        count
+    }
+}
+
+/// How many of the segments a purge may remove, at most `most`, and the start of the next such one.
+#[tactic(auto, using(crate::proofs::PurgeLaws::counts))]
+fn count_old(
+    items: &[Segment],
+    opened: Option<u64>,
+    newest: Option<u64>,
+    committed: u64,
+    min: u64,
+    most: u64,
+) -> (u64, Option<u64>)
+    ensures count { result.0 ≡ least most (length (filter (is_old opened newest committed min) items.now)) }
+    ensures next { result.1 ≡ start_of_place (filter (is_old opened newest committed min) items.now) most }
+{
+    let mut count = 0;
+    for segment in items {
+        if is_old(segment, opened, newest, committed, min) {
+            if count == most {
+                return (count, Some(segment.start));
+            }
+            count += 1;
+        }
+    }
+    (count, None)
+}
+
+/// The segment starts before that, where that is a start.
+fn lies_before(segment: &Segment, next: Option<u64>) -> bool
+    ensures { result ≡ lies_before next segment.now }
+{
+    match next {
+        Some(next) => segment.start < next,
+        None => true,
+    }
 }
 
 /// A purge may remove the segment.
-fn is_old(
+pub(crate) fn is_old(
     segment: &Segment,
     opened: Option<u64>,
     newest: Option<u64>,

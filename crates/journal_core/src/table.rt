@@ -18,7 +18,7 @@ use crate::segment::Segment;
 use std::alloc::Global;
 
 impl NodeState {
-    fn start_refused(&self, start: u64) -> Option<Refusal>
+    pub(crate) fn start_refused(&self, start: u64) -> Option<Refusal>
         ensures { result ≡ start_refused (find_segment start self.now.segments) }
     {
         let segment = self.segments.find(start)?;
@@ -31,7 +31,7 @@ impl NodeState {
         None
     }
 
-    fn journal_refused(&self, head: &Head, start: u64, batch: &Batch) -> Option<Refusal>
+    pub(crate) fn journal_refused(&self, head: &Head, start: u64, batch: &Batch) -> Option<Refusal>
         requires { start ≤ max_number }
         ensures { result ≡ journal_refused self.now head.now start batch.now }
     {
@@ -57,7 +57,7 @@ impl NodeState {
         None
     }
 
-    fn finalize_refused(&self, epoch: u64, start: u64, end: u64) -> Option<Refusal>
+    pub(crate) fn finalize_refused(&self, epoch: u64, start: u64, end: u64) -> Option<Refusal>
         ensures { result ≡ finalize_refused epoch end (find_segment start self.now.segments) }
     {
         let Some(segment) = self.segments.find(start) else {
@@ -77,7 +77,7 @@ impl NodeState {
         None
     }
 
-    fn accept_refused(&self, batch: &Batch) -> Option<Refusal>
+    pub(crate) fn accept_refused(&self, batch: &Batch) -> Option<Refusal>
         requires { last_txid batch.now ≤ max_number }
         ensures { result ≡ accept_refused batch.now (find_segment batch.now.first self.now.segments) }
     {
@@ -170,7 +170,7 @@ impl NodeState {
     }
 
     /// The segment with that start is final.
-    fn is_final(&self, start: u64) -> bool
+    pub(crate) fn is_final(&self, start: u64) -> bool
         ensures { result ≡ is_final_one (find_segment start self.now.segments) }
     {
         match self.segments.find(start) {

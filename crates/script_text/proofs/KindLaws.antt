@@ -1,7 +1,6 @@
 -- Lines by their kinds: what passes the tests says something, and what fails one breaks its rule.
-use Rattle.std.proofs.Common.{ℕ, ◌≡◌, ◌≢◌, ◌<◌, ◌≤◌, ◌+◌, List, [], ◌∷◌, ◌++◌, length, Option, Some, None, Bool, true, false, not, ◌==◌, ◌||◌, ◌&&◌, refl, sym, ap, arith, ◌∙◌, map, nat_le, nat_lt, cond, codes, subst, get_or}
-use Rattle.std.specs.Prelude.{is_none, slice_index_or}
-use Rattle.std.specs.List.{list_all, list_any, AllByRecursion, position, slice_split, onto_first}
+use Rattle.std.proofs.Common.{ℕ, ◌≡◌, ◌≢◌, ◌<◌, ◌≤◌, ◌+◌, List, [], ◌∷◌, length, Option, Some, None, Bool, true, false, not, ◌==◌, ◌||◌, refl, sym, ap, arith, ◌∙◌, map, nat_le, nat_lt, cond, get_or}
+use Rattle.std.specs.List.{list_all, list_any, AllByRecursion, slice_split, onto_first}
 use Rattle.std.specs.Str.{bytes_eq}
 use Rattle.std.proofs.lemmas.Slice.Eq.{bytes_eq-Decides}
 use Rattle.std.proofs.lemmas.Bool.{false≢true}
@@ -10,12 +9,11 @@ use Rattle.std.proofs.lemmas.List.Quantifiers.{position-Some}
 use Rattle.std.proofs.lemmas.List.Splits.{join_with_byte-slice_split}
 use Rattle.script_text.specs.declared.kind.Kind.{Kind}
 use Rattle.script_text.specs.declared.kind.Kind.TheVariants as kind
-use Rattle.script_text.specs.declared.script_line.ScriptLine.{ScriptLine}
 use Rattle.script_text.specs.declared.script_line.ScriptLine.TheVariants.{Declare, Takeover, Log}
 use Rattle.script_text.specs.Views.{SaidView}
-use Rattle.script_text.specs.Words.{joined, is_space, words_of, is_empty, first_word, word_at, is_name, actor_of, name_at, hex_text, is_body, IsBody}
-use Rattle.script_text.specs.Grammar.{keyword, kind_in, words_in, line_text, said_by, said_after, comes_again, HasSense}
-use Rattle.script_text.specs.Rules.{kind_of, has_length, bad_spacing, bad_name, bad_actor, bad_body, rule_in, rule_said, said_in, said_behind}
+use Rattle.script_text.specs.Words.{joined, is_space, words_of, is_empty, first_word, is_name, actor_of, name_at, hex_text, is_body, IsBody}
+use Rattle.script_text.specs.Grammar.{keyword, comes_again}
+use Rattle.script_text.specs.Rules.{kind_of, has_length, bad_spacing, bad_name, bad_actor, bad_body, rule_in, rule_said}
 use Rattle.script_text.specs.Reading.{Says, Stands}
 
 -- ## First words

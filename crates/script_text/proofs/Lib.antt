@@ -3,3 +3,8 @@ pub mod WordLaws
 pub mod KindLaws
 pub mod FirstLaws
 pub mod ReadLaws
+pub mod BodyLaws
+pub mod ScriptLaws
+pub mod FaultLaws
+pub mod PrintLaws
+pub mod OnlyLaws

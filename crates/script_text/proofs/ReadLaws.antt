@@ -1,8 +1,7 @@
 -- The reader, one line on.
-use Rattle.std.proofs.Common.{ℕ, ◌≡◌, ◌≢◌, ◌<◌, ◌≤◌, ◌+◌, List, [], ◌∷◌, ◌++◌, length, Option, Some, None, Bool, true, false, not, ◌&&◌, refl, sym, ap, arith, ◌∙◌, append_assoc, append-nil, nat_le, cond, subst, zero, suc}
+use Rattle.std.proofs.Common.{ℕ, ◌≡◌, ◌<◌, ◌≤◌, ◌+◌, List, [], ◌∷◌, ◌++◌, length, Option, Some, None, Bool, true, false, ◌&&◌, refl, sym, ap, arith, ◌∙◌, append_assoc, append-nil, nat_le, cond, subst}
 use Rattle.std.specs.Prelude.{IsSome}
 use Rattle.std.specs.List.{list_all}
-use Rattle.std.specs.Str.{bytes_eq}
 use Rattle.std.proofs.lemmas.Slice.Eq.{bytes_eq-Decides}
 use Rattle.std.proofs.lemmas.Bool.{false≢true}
 use Rattle.std.proofs.lemmas.Bool.Decides.{nat_tests}
@@ -10,9 +9,9 @@ use Rattle.script_text.specs.declared.kind.Kind.{Kind}
 use Rattle.script_text.specs.declared.kind.Kind.TheVariants as kind
 use Rattle.script_text.specs.declared.script_line.ScriptLine.{ScriptLine}
 use Rattle.script_text.specs.Views.{ScriptView, SaidView, ReadingView}
-use Rattle.script_text.specs.Lines.{Line, Ended, Open, lines_of, is_plain, is_line, is_whole, Lacks, longest_line}
-use Rattle.script_text.specs.Words.{words_of, first_word, word_at, joined}
-use Rattle.script_text.specs.Grammar.{keyword, kind_in, words_in, operands, line_text, first_line, texts_of, nothing_said, said_by, said_after, comes_again, MaySay, AreLines, IsScript, IsScriptText, is_silent, unless_silent, telling}
+use Rattle.script_text.specs.Lines.{Ended, lines_of, is_plain, is_line, is_whole, Lacks, longest_line}
+use Rattle.script_text.specs.Words.{words_of, first_word, joined}
+use Rattle.script_text.specs.Grammar.{keyword, kind_in, words_in, operands, line_text, first_line, texts_of, nothing_said, said_after, MaySay, AreLines, IsScriptText, is_silent, unless_silent, telling}
 use Rattle.script_text.specs.Rules.{kind_of, nodes_of, rule_said, rule_of, said_in, said_next, said_behind, or_later, fault_at_end, first_fault, fault_of}
 use Rattle.script_text.specs.Reading.{Says, said_if, said_of, told_if, told, all_said, HasNodes, IsSound, Takes, IsBehind, nothing_read}
 use Rattle.script_text.proofs.LineLaws.{line_first, line_open, no_lines}

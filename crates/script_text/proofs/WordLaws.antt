@@ -1,11 +1,10 @@
 -- Words, and bodies in hexadecimal.
-use Rattle.std.proofs.Common.{ℕ, ◌≡◌, ◌≢◌, ◌<◌, ◌≤◌, ◌+◌, ◌*◌, List, [], ◌∷◌, ◌++◌, length, Option, Some, None, Bool, true, false, ◌==◌, ◌&&◌, refl, sym, ap, arith, ◌∙◌, append_assoc, append-nil, take, drop, get_or, map, ◌⊎◌, inl, inr, nat_lt, nat_le, not, subst}
-use Rattle.std.specs.List.{flat_map, AllByRecursion, list_all, slice_split, onto_first}
-use Rattle.std.proofs.lemmas.Grind.{flat_map-append}
+use Rattle.std.proofs.Common.{ℕ, ◌≡◌, ◌≢◌, ◌<◌, ◌≤◌, ◌+◌, ◌*◌, ◌/◌, set, List, [], ◌∷◌, ◌++◌, length, Bool, true, false, ◌&&◌, refl, sym, ap, arith, ◌∙◌, append-nil, take, map, inl, inr, nat_le, not, subst}
+use Rattle.std.specs.List.{AllByRecursion, slice_split, onto_first}
 use Rattle.std.proofs.lemmas.Bool.Decides.{eqb_tells, nat_tests}
-use Rattle.std.proofs.lemmas.Bool.{false≢true}
+use Rattle.std.proofs.lemmas.List.{take_more_set, nil_from_length}
 use Rattle.script_text.specs.Lines.{Lacks}
-use Rattle.script_text.specs.Words.{is_space, words_of, hex_byte, hex_text, IsByte, IsBody, is_body, is_hex, is_empty}
+use Rattle.script_text.specs.Words.{is_space, words_of, hex_byte, hex_text, IsByte, IsBody, StandFor, is_body, is_hex, is_empty}
 
 -- ## Words
 not_space : (b : ℕ) → b ≢ 32 → is_space b ≡ false
@@ -55,7 +54,24 @@ all_push P (y ∷ ys) x h p = (h.0, all_push P ys x h.1 p)
 pub bytes_push : (bytes : List ℕ) (b : ℕ) → AllByRecursion IsByte bytes → b < 256 → AllByRecursion IsByte (bytes ++ b ∷ [])
 bytes_push bytes b h l = all_push IsByte bytes b h l
 
-pub ruleset hex_steps = (hex_push, bytes_push)
+-- one more byte in its place
+pub hex_set : (bytes : List ℕ) (at b high low : ℕ) (others : List ℕ) → at < length bytes → hex_byte b ≡ high ∷ low ∷ []
+    → hex_text (take (at + 1) (set bytes at b)) ++ others ≡ hex_text (take at bytes) ++ high ∷ low ∷ others
+hex_set bytes at b high low others l e = ap (λ xs. hex_text xs ++ others) (take_more_set bytes at b l) ∙ hex_push (take at bytes) b high low others e
+
+pub bytes_set : (bytes : List ℕ) (at b : ℕ) → AllByRecursion IsByte (take at bytes) → b < 256 → at < length bytes → AllByRecursion IsByte (take (at + 1) (set bytes at b))
+bytes_set bytes at b h l k = subst (AllByRecursion IsByte) (sym (take_more_set bytes at b k)) (bytes_push (take at bytes) b h l)
+
+-- all digits are read
+pub stand_all : (word bytes rest : List ℕ) (at : ℕ) → hex_text (take at bytes) ++ rest ≡ word → AllByRecursion IsByte (take at bytes) → length rest ≡ 0 → 2 * at + length rest ≡ length word
+    → StandFor word (take (length word / 2) bytes)
+stand_all word bytes rest at h all n two =
+    let none : rest ≡ [] = nil_from_length rest n in
+    let half : length word / 2 ≡ at = omega arith in
+    let text : hex_text (take at bytes) ≡ word = sym (append-nil (hex_text (take at bytes))) ∙ ap (λ xs. hex_text (take at bytes) ++ xs) (sym none) ∙ h in
+    subst (λ k. StandFor word (take k bytes)) (sym half) (record { text = text; bytes = all })
+
+pub ruleset hex_steps = (hex_set, bytes_set)
 
 pub body_found : (word bytes body : List ℕ) → body ≡ bytes → hex_text bytes ≡ word → AllByRecursion IsByte bytes → is_hex word ≡ true → length word ≤ 8192
     → 0 < length word → (is_body word ≡ true) × (hex_text body ≡ word) × IsBody body

@@ -1,5 +1,5 @@
 -- The grammar of scripts: how a script is spelled, and which texts are spelled so.
-use Rattle.std.specs.Prelude.{ℕ, ◌≡◌, ◌≢◌, ◌≤◌, ◌<◌, List, [], ◌∷◌, ◌++◌, Bool, true, false, Option, Some, None, ◌==◌, not, nat_lt, if◌then◌else◌, length, codes, map, decimal}
+use Rattle.std.specs.Prelude.{ℕ, ◌≡◌, ◌≢◌, ◌≤◌, ◌<◌, List, [], ◌∷◌, ◌++◌, Bool, true, false, None, ◌==◌, nat_lt, if◌then◌else◌, length, codes, map, decimal}
 use Rattle.std.specs.List.{list_all, AllByRecursion}
 use Rattle.script_text.specs.declared.kind.Kind.{Kind}
 use Rattle.script_text.specs.declared.kind.Kind.TheVariants as kind

@@ -4,4 +4,5 @@ pub mod Words
 pub mod Grammar
 pub mod Rules
 pub mod Reading
+pub mod Laws
 pub mod Examples

@@ -1,5 +1,5 @@
 -- What the reader of scripts answers, and where it stands between two lines.
-use Rattle.std.specs.Prelude.{ℕ, ◌≡◌, ◌<◌, ◌≤◌, ◌+◌, List, [], ◌∷◌, ◌++◌, Option, Some, None, true, false, IfSome, length, if◌then◌else◌}
+use Rattle.std.specs.Prelude.{ℕ, ◌≡◌, ◌<◌, ◌≤◌, ◌+◌, List, [], ◌∷◌, ◌++◌, Option, Some, None, true, false, length, if◌then◌else◌}
 use Rattle.std.specs.List.{list_any, list_all}
 use Rattle.script_text.specs.declared.answer.ReadScript.{ReadScript}
 use Rattle.script_text.specs.declared.answer.ReadScript.TheVariants as read

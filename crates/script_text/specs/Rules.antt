@@ -1,5 +1,5 @@
 -- The rules of scripts, each a test of a line, in the order in which they are tried; and the first line that breaks one.
-use Rattle.std.specs.Prelude.{ℕ, ◌+◌, List, [], ◌∷◌, Bool, true, false, not, Option, Some, None, ◌==◌, ◌||◌, nat_le, if◌then◌else◌, length, is_none}
+use Rattle.std.specs.Prelude.{ℕ, ◌+◌, List, [], ◌∷◌, Bool, false, not, Option, Some, None, ◌==◌, ◌||◌, nat_le, if◌then◌else◌, length, is_none}
 use Rattle.std.specs.List.{list_all, list_any, find, range_with_len}
 use Rattle.std.specs.Str.{bytes_eq}
 use Rattle.script_text.specs.declared.kind.Kind.{Kind}

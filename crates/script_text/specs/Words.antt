@@ -1,5 +1,5 @@
 -- The words of a line: names and bodies.
-use Rattle.std.specs.Prelude.{ℕ, ◌+◌, ◌/◌, ◌%◌, ◌<◌, ◌≤◌, List, [], ◌∷◌, ◌++◌, Bool, true, false, not, Option, ◌==◌, ◌&&◌, ◌||◌, nat_lt, nat_le, if◌then◌else◌, length, codes, slice_index_or, position}
+use Rattle.std.specs.Prelude.{ℕ, ◌≡◌, ◌+◌, ◌/◌, ◌%◌, ◌<◌, ◌≤◌, List, [], ◌∷◌, Bool, true, false, not, Option, ◌==◌, ◌&&◌, ◌||◌, nat_lt, nat_le, if◌then◌else◌, length, codes, slice_index_or, position}
 use Rattle.std.specs.List.{list_all, flat_map, join_with_byte, slice_split, AllByRecursion}
 use Rattle.std.specs.Str.{bytes_eq}
 
@@ -64,6 +64,10 @@ hex_byte b = hex_digit (b / 16) ∷ hex_digit (b % 16) ∷ []
 abbrev pub hex_text : List ℕ → List ℕ
 hex_text bytes = flat_map hex_byte bytes
 
+-- bodies, each behind a space
+abbrev pub bodies_text : List (List ℕ) → List ℕ
+bodies_text bodies = flat_map (λ body. 32 ∷ hex_text body) bodies
+
 abbrev pub is_hex_digit : ℕ → Bool
 is_hex_digit b = (nat_le 48 b && nat_le b 57) || (nat_le 97 b && nat_le b 102)
 
@@ -83,6 +87,11 @@ is_body word = nat_le (length word) 8192 && is_hex word && not (is_empty word)
 
 abbrev pub IsByte : ℕ → Type 0
 IsByte b = b < 256
+
+-- the digits of the word stand for these bytes
+pub record StandFor (word : List ℕ) (body : List ℕ) : Type 0 where
+  pub text : hex_text body ≡ word
+  pub bytes : AllByRecursion IsByte body
 
 pub record IsBody (body : List ℕ) : Type 0 where
   pub some : 0 < length body

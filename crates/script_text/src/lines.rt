@@ -4,23 +4,23 @@ ghost use Rattle.std.specs.List.{list_all};
 ghost use Rattle.script_text.specs.Lines.{Lacks, is_line, is_plain};
 ghost use Rattle.script_text.specs.Grammar.{is_silent};
 
+use memchr::memchr;
+
 /// The most bytes of a line, its LF not counted.
 pub const LONGEST_LINE: usize = 16_384;
 
 /// What stands before the first such byte, and what follows it.
-#[tactic(auto, using(crate::proofs::LineLaws::lacks_more))]
+#[tactic(auto, using(crate::proofs::LineLaws::cuts))]
 pub fn split_byte(text: &[u8], byte: u8) -> Option<(&[u8], &[u8])>
     ensures spelled { IfSome result (λ p. text.now ≡ p.0.now ++ byte ∷ p.1.now) }
     ensures first { IfSome result (λ p. Lacks byte p.0.now) }
     ensures shorter { IfSome result (λ p. length p.0.now + length p.1.now < length text.now) }
     ensures none { IfNone result (Lacks byte text.now) }
 {
-    for (end, b) in text.iter().enumerate() {
-        if *b == byte {
-            return Some((&text[..end], &text[end + 1..]));
-        }
+    match memchr(byte, text) {
+        Some(at) => Some((&text[..at], &text[at + 1..])),
+        None => None,
     }
-    None
 }
 
 /// The first line, without its LF, and what follows it.
@@ -33,10 +33,21 @@ pub fn split_line(text: &[u8]) -> Option<(&[u8], &[u8])>
     split_byte(text, b'\n')
 }
 
+fn is_plain(b: u8) -> bool
+    ensures { result ≡ is_plain b }
+{
+    32 <= b && b <= 126
+}
+
+/// All bytes are looked at, whatever the first says: that is faster than to stop.
 fn are_plain(line: &[u8]) -> bool
     ensures { result ≡ list_all is_plain line.now }
 {
-    line.iter().all(|b| 32 <= *b && *b <= 126)
+    let mut plain = true;
+    for b in line {
+        plain = is_plain(*b) && plain;
+    }
+    plain
 }
 
 /// The bytes that a line may have.

@@ -18,7 +18,7 @@ fn read_lines(alloc: Global, bytes: &[u8]) -> Result<ReadScript, OutOfMemory>
     ensures fault { IfOk result (λ r. IfBadScript r (λ line rule. fault_of bytes.now ≡ Some (line, rule))) }
 {
     let mut reading = Reading::nothing(alloc);
-    let mut scratch = Vec::new(alloc);
+    let mut scratch = [0u8; 4096];
     let mut count: u64 = 0;
     let mut rest = bytes;
     while !rest.is_empty() {
@@ -51,6 +51,7 @@ fn read_lines(alloc: Global, bytes: &[u8]) -> Result<ReadScript, OutOfMemory>
 pub fn read_script(alloc: Global, bytes: &[u8]) -> ReadScript
     ensures script { IfScript result (λ s. IsScriptText bytes.now s) }
     ensures fault { IfBadScript result (λ line rule. fault_of bytes.now ≡ Some (line, rule)) }
+    ensures only { (s : ScriptView) → IsScriptText bytes.now s → Reads result s }
 {
     match read_lines(alloc, bytes) {
         Ok(read) => read,

@@ -1,5 +1,5 @@
 // The reader of scripts, line by line.
-ghost use Rattle.std.specs.Prelude.{◌≡◌, ◌++◌, ◌∷◌, [], ◌<◌, true, false, Some, None, OnOk, IfOk, IfSome, IfNone, IsSome, MatchOption};
+ghost use Rattle.std.specs.Prelude.{◌≡◌, ◌++◌, ◌∷◌, [], ◌<◌, true, false, Some, None, OnOk, IfOk, IfSome, IfNone, IsSome, MatchOption, length};
 ghost use Rattle.std.specs.Str.{bytes_eq};
 ghost use Rattle.script_text.specs.Words.{words_of, first_word};
 ghost use Rattle.script_text.specs.Grammar.{first_line, kind_in, said_after, comes_again, is_silent};
@@ -109,8 +109,9 @@ fn read_log(
     said: &Said,
     line: &[u8],
     operands: &[u8],
-    scratch: &mut Vec<u8>,
+    scratch: &mut [u8],
 ) -> Result<LineRead, OutOfMemory>
+    requires room { length scratch.old ≡ 4096 }
     requires stands { Stands said.now Kind.Log (words_of line.now) }
     requires words { words_of line.now ≡ first_word (words_of line.now) ∷ words_of operands.now }
     ensures { IfOk result (λ r. IsLineRead said.now line.now r) }
@@ -135,8 +136,9 @@ fn read_line(
     alloc: Global,
     said: &Said,
     line: &[u8],
-    scratch: &mut Vec<u8>,
+    scratch: &mut [u8],
 ) -> Result<LineRead, OutOfMemory>
+    requires { length scratch.old ≡ 4096 }
     ensures { IfOk result (λ r. IsLineRead said.now line.now r) }
 {
     let Some(kind) = kind_of(first_word(line)) else {
@@ -214,14 +216,7 @@ impl Reading {
         requires { comes_again self.old.said (kind_in line) ≡ false }
         ensures { OnOk result (self.new ≡ record { nodes = self.old.nodes; said = said_after self.old.said line; lines = self.old.lines ++ line ∷ [] }) }
     {
-        match &line {
-            ScriptLine::Declare { name } => {
-                let name = name.share()?;
-                self.said.declare(name)?;
-            }
-            ScriptLine::Takeover { .. } => self.said.take_over(),
-            ScriptLine::Log { .. } => {}
-        }
+        self.said.add(&line)?;
         self.lines.push(line)?;
         Ok(())
     }
@@ -251,8 +246,9 @@ impl Reading {
         &mut self,
         alloc: Global,
         line: &[u8],
-        scratch: &mut Vec<u8>,
+        scratch: &mut [u8],
     ) -> Result<Option<u32>, OutOfMemory>
+        requires room { length scratch.old ≡ 4096 }
         requires later { IsSome self.old.nodes }
         requires sound { IsSound self.old }
         requires whole { is_line line.now ≡ true }
@@ -275,9 +271,10 @@ impl Reading {
         &mut self,
         alloc: Global,
         line: &[u8],
-        scratch: &mut Vec<u8>,
+        scratch: &mut [u8],
     ) -> Result<Option<u32>, OutOfMemory>
-        requires { IsSound self.old }
+        requires room { length scratch.old ≡ 4096 }
+        requires sound { IsSound self.old }
         ensures broken { IfOk result (λ o. IfSome o (λ rule. rule_of (said_of self.old) line.now ≡ Some rule)) }
         ensures taken { IfOk result (λ o. IfNone o (Takes self.old line.now self.new)) }
     {

@@ -1,9 +1,10 @@
 // What the lines so far said.
-ghost use Rattle.std.specs.Prelude.{◌≡◌, ◌++◌, ◌∷◌, [], OnOk, OnErr, IfSome, ◌<◌, length, true, false};
-ghost use Rattle.script_text.specs.Words.{actor_of};
-ghost use Rattle.script_text.specs.Grammar.{comes_again, nothing_said};
+ghost use Rattle.std.specs.Prelude.{◌≡◌, ◌<◌, OnOk, OnErr, IfSome, length, false};
+ghost use Rattle.script_text.specs.Words.{actor_of, name_at};
+ghost use Rattle.script_text.specs.Grammar.{comes_again, kind_in, nothing_said, said_after};
 
 use crate::kind::Kind;
+use crate::script_line::ScriptLine;
 use journal_core::{Bytes, OutOfMemory};
 use std::alloc::Global;
 use std::marker::Model;
@@ -69,20 +70,29 @@ impl Said {
         }
     }
 
-    /// One more name is declared.
-    pub fn declare(&mut self, name: Bytes) -> Result<(), OutOfMemory>
-        requires { comes_again self.old Kind.Writer ≡ false }
-        ensures ok { OnOk result (self.new ≡ record { names = self.old.names ++ name ∷ []; taken = self.old.taken }) }
-        ensures err { OnErr result (self.new ≡ self.old) }
+    /// The name with that number.
+    pub fn name_at(&self, actor: u32) -> &[u8]
+        requires { actor < length self.now.names }
+        ensures { result.now ≡ name_at self.now.names actor }
     {
-        self.names.push(name)?;
-        Ok(())
+        let name = &self.names[actor as usize];
+        name.as_slice()
     }
 
-    /// A writer takes over.
-    pub fn take_over(&mut self)
-        ensures { self.new ≡ record { names = self.old.names; taken = true } }
+    /// One more line.
+    pub fn add(&mut self, line: &ScriptLine) -> Result<(), OutOfMemory>
+        requires { comes_again self.old (kind_in line.now) ≡ false }
+        ensures ok { OnOk result (self.new ≡ said_after self.old line.now) }
+        ensures err { OnErr result (self.new ≡ self.old) }
     {
-        self.taken = true;
+        match line {
+            ScriptLine::Declare { name } => {
+                let name = name.share()?;
+                self.names.push(name)?;
+            }
+            ScriptLine::Takeover { .. } => self.taken = true,
+            ScriptLine::Log { .. } => {}
+        }
+        Ok(())
     }
 }

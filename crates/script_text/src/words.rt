@@ -1,7 +1,7 @@
 // The words of a line.
-ghost use Rattle.std.specs.Prelude.{◌≡◌, ◌≢◌, ◌+◌, ◌&&◌, ◌++◌, ◌∷◌, [], ◌<◌, ◌≤◌, ◌-◌, true, false, Some, None, OnOk, IfOk, IfSome, MatchOption, IsTrue, length, map};
+ghost use Rattle.std.specs.Prelude.{◌≡◌, ◌≢◌, ◌+◌, ◌&&◌, ◌++◌, ◌∷◌, [], ◌<◌, ◌≤◌, ◌-◌, ◌*◌, ◌/◌, take, true, false, Some, None, OnOk, IfOk, IfSome, MatchOption, IsTrue, length, map};
 ghost use Rattle.std.specs.List.{list_all, list_any, AllByRecursion};
-ghost use Rattle.script_text.specs.Words.{words_of, first_word, is_name, is_name_byte, is_letter, is_word_of_name, hex_digit, hex_byte, hex_text, is_hex_digit, is_hex, is_body, IsByte, IsBody};
+ghost use Rattle.script_text.specs.Words.{words_of, first_word, StandFor, is_name, is_name_byte, is_letter, is_word_of_name, hex_digit, hex_byte, hex_text, is_hex_digit, is_hex, is_body, IsByte, IsBody};
 ghost use Rattle.script_text.specs.Reading.{word_count};
 
 use crate::lines::split_byte;
@@ -107,31 +107,30 @@ fn hex_byte(high: u8, low: u8) -> Option<u8>
     Some(nibble(high)? * 16 + nibble(low)?)
 }
 
-/// The bytes that the digits stand for go to the end of `out`, if the digits are pairs of hexadecimal
-/// digits.
+/// The bytes that the digits stand for go to the front of `bytes`, if the digits are pairs of
+/// hexadecimal digits.
 #[tactic(auto, using(crate::proofs::WordLaws::hex_steps))]
-fn decode_hex(word: &[u8], out: &mut Vec<u8>) -> Result<bool, OutOfMemory>
-    requires { out.old.items ≡ [] }
-    ensures digits { IfOk result (λ ok. ok ≡ is_hex word.now) }
-    ensures bytes { IfOk result (λ ok. IsTrue ok → (hex_text out.new.items ≡ word.now) × AllByRecursion IsByte out.new.items) }
+fn decode_hex(word: &[u8], bytes: &mut [u8]) -> bool
+    requires { length word.now ≤ 2 * length bytes.old }
+    ensures digits { result ≡ is_hex word.now }
+    ensures bytes { IsTrue result → StandFor word.now (take (length word.now / 2) bytes.new) }
 {
     let mut rest = word;
+    let mut at = 0;
     while let [high, low, others @ ..] = rest {
         let Some(byte) = hex_byte(*high, *low) else {
-            return Ok(false);
+            return false;
         };
-        out.push(byte)?;
+        bytes[at] = byte;
+        at += 1;
         rest = others;
     }
-    Ok(rest.is_empty())
+    rest.is_empty()
 }
 
 /// The body that a word is; `scratch` is room for its bytes.
-fn read_body(
-    alloc: Global,
-    word: &[u8],
-    scratch: &mut Vec<u8>,
-) -> Result<Option<Bytes>, OutOfMemory>
+fn read_body(alloc: Global, word: &[u8], scratch: &mut [u8]) -> Result<Option<Bytes>, OutOfMemory>
+    requires { length scratch.old ≡ 4096 }
     ensures { IfOk result (λ o. MatchOption o (is_body word.now ≡ false) (λ body. (is_body word.now ≡ true) × (hex_text body ≡ word.now) × IsBody body)) }
 {
     if word.is_empty() {
@@ -140,11 +139,10 @@ fn read_body(
     if word.len() > LONGEST_BODY_TEXT {
         return Ok(None);
     }
-    scratch.clear();
-    if !decode_hex(word, scratch)? {
+    if !decode_hex(word, scratch) {
         return Ok(None);
     }
-    match Bytes::copy_of(alloc, scratch.as_slice())? {
+    match Bytes::copy_of(alloc, &scratch[..word.len() / 2])? {
         Some(body) => Ok(Some(body)),
         None => Ok(None),
     }
@@ -155,8 +153,9 @@ fn read_body(
 pub fn read_bodies(
     alloc: Global,
     text: &[u8],
-    scratch: &mut Vec<u8>,
+    scratch: &mut [u8],
 ) -> Result<Option<BodyList>, OutOfMemory>
+    requires { length scratch.old ≡ 4096 }
     ensures { IfOk result (λ o. MatchOption o (list_all is_body (words_of text.now) ≡ false)
         (λ bodies. (list_all is_body (words_of text.now) ≡ true) × (map hex_text bodies ≡ words_of text.now) × AllByRecursion IsBody bodies)) }
 {

@@ -1,6 +1,8 @@
-use Rattle.std.proofs.Common.{arith}
-use Rattle.script_text.proofs.LineLaws.{lacks_more}
+use Rattle.script_text.proofs.LineLaws.{cut_first, cut_none}
 use Rattle.script_text.proofs.lines.split_byte.Goals as goal
 
-pub loop-end-preserved : goal.loop-end-preserved
-loop-end-preserved c = lacks_more c.args.byte c.args.text.now c.loop-end.end 0 (omega arith) c.loop-end.invariant (λ e. c.if-b-byte.false e)
+pub returns-in-Some-clause-first : goal.returns-in-Some-clause-first
+returns-in-Some-clause-first c = cut_first c.args.byte c.args.text.now c.in-Some.at c.in-Some.ensures.0.high c.in-Some.ensures.0.before
+
+pub returns-in-None-clause-none : goal.returns-in-None-clause-none
+returns-in-None-clause-none c = cut_none c.args.byte c.args.text.now c.in-None.ensures

@@ -1,4 +1,4 @@
-use Rattle.std.proofs.Common.{◌≡◌, ◌∙◌, ◌<◌, sym, subst, length, arith}
+use Rattle.std.proofs.Common.{◌≡◌, ◌<◌, sym, subst, length, arith}
 use Rattle.std.proofs.lemmas.Bool.Decides.{nat_tests}
 use Rattle.std.proofs.lemmas.List.{nil_from_length}
 use Rattle.script_text.specs.Views.{ReadingView}
@@ -32,8 +32,8 @@ returns-in-Some-script-clause-script c =
     behind_all c.args.bytes.now c.loop-rest.count c.loop-rest.reading c.loop-rest.rest.now c.in-Some-script.script
     c.loop-rest.invariant (nil_from_length c.loop-rest.rest.now none) c.in-Some-script.ensures.0 c.in-Some-script.ensures.1
 
-pub returns-clause-fault : goal.returns-clause-fault
-returns-clause-fault c =
+pub returns-in-None-clause-fault : goal.returns-in-None-clause-fault
+returns-in-None-clause-fault c =
     let none : length c.loop-rest.rest.now ≡ 0 = grind (arith, nat_tests) in
     behind_nothing c.args.bytes.now c.loop-rest.count c.loop-rest.reading c.loop-rest.rest.now
     c.loop-rest.invariant (nil_from_length c.loop-rest.rest.now none) c.in-None.ensures

@@ -1,4 +1,4 @@
-use Rattle.std.proofs.Common.{◌≡◌, ◌∙◌, sym}
+use Rattle.std.proofs.Common.{◌∙◌, sym}
 use Rattle.script_text.proofs.KindLaws.{logs}
 use Rattle.script_text.proofs.reading.read_log.Goals as goal
 

@@ -1,4 +1,4 @@
-use Rattle.std.proofs.Common.{◌≡◌, ◌∙◌, sym}
+use Rattle.std.proofs.Common.{◌∙◌, sym}
 use Rattle.script_text.proofs.KindLaws.{takes_over}
 use Rattle.script_text.proofs.reading.read_takeover.Goals as goal
 

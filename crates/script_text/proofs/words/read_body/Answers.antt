@@ -1,6 +1,6 @@
-use Rattle.std.proofs.Common.{arith, ◌≡◌, ◌∙◌, ◌<◌, ◌≤◌, List, ℕ, sym, length}
+use Rattle.std.proofs.Common.{arith, ◌≡◌, ◌∙◌, ◌<◌, ◌/◌, sym, length, take}
 use Rattle.std.proofs.lemmas.Bool.Decides.{nat_tests}
-use Rattle.script_text.proofs.WordLaws.{body_found, no_body, empty_is_none, too_long, not_hex}
+use Rattle.script_text.proofs.WordLaws.{body_found, empty_is_none, too_long, not_hex}
 use Rattle.script_text.proofs.words.read_body.Goals as goal
 
 pub returns-then-is_empty : goal.returns-then-is_empty
@@ -11,13 +11,13 @@ returns-then-is_empty c =
 pub returns-then-word-gt-LONGEST_BODY_TEXT : goal.returns-then-word-gt-LONGEST_BODY_TEXT
 returns-then-word-gt-LONGEST_BODY_TEXT c = too_long c.args.word.now (omega (arith, c.if-word-gt-LONGEST_BODY_TEXT.true))
 
-pub returns-then-not-branch : goal.returns-then-not-branch
-returns-then-not-branch c = not_hex c.args.word.now (sym c.in_ok-decode_hex.ensures.digits ∙ c.if-not-branch.true)
+pub returns-then-not-decode_hex : goal.returns-then-not-decode_hex
+returns-then-not-decode_hex c = not_hex c.args.word.now (sym c.decode_hex.ensures.digits ∙ c.if-not-decode_hex.true)
 
 pub returns-in-Some : goal.returns-in-Some
 returns-in-Some c =
-    let hex = c.in_ok-decode_hex.ensures.bytes c.if-not-branch.false in
+    let hex = c.decode_hex.ensures.bytes c.if-not-decode_hex.false in
     let some : 0 < length c.args.word.now = grind (arith, nat_tests) in
-    body_found c.args.word.now c.decode_hex.new.out.items c.in-Some.body
-    ((rw c.in-Some.is at c.in_ok-body.ensures) ∙ c.as_slice.ensures.value) hex.0 hex.1
-    (sym c.in_ok-decode_hex.ensures.digits ∙ c.if-not-branch.false) (omega (arith, c.if-word-gt-LONGEST_BODY_TEXT.false)) some
+    body_found c.args.word.now (take (length c.args.word.now / 2) c.decode_hex.new.bytes) c.in-Some.body
+    (rw c.in-Some.is at c.in_ok-body.ensures) hex.text hex.bytes
+    (sym c.decode_hex.ensures.digits ∙ c.if-not-decode_hex.false) (omega (arith, c.if-word-gt-LONGEST_BODY_TEXT.false)) some

@@ -1,4 +1,4 @@
-use Rattle.std.proofs.Common.{◌≡◌, ◌∙◌, sym, Some, subst}
+use Rattle.std.proofs.Common.{◌∙◌, sym, Some, subst}
 use Rattle.script_text.specs.Views.{ReadingView}
 use Rattle.script_text.specs.Reading.{Takes}
 use Rattle.script_text.proofs.ReadLaws.{first_taken}

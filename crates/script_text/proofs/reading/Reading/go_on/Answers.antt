@@ -1,4 +1,4 @@
-use Rattle.std.proofs.Common.{◌≡◌, ◌∙◌, sym, ap, refl}
+use Rattle.std.proofs.Common.{ap, refl}
 use Rattle.script_text.specs.Views.{ReadingView}
 use Rattle.script_text.proofs.ReadLaws.{later_into}
 use Rattle.script_text.proofs.reading.Reading.go_on.Goals as goal

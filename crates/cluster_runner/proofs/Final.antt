@@ -1,0 +1,236 @@
+-- The mesh of a play agrees, and follows its script.
+use Rattle.std.proofs.Common.{◌≡◌, ℕ, zero, suc, ◌+◌, ◌-◌, ◌<◌, ◌≤◌, List, [], ◌∷◌, ◌++◌, Bool, true, false, refl, sym, ap, ◌∙◌, subst, arith, length, get_or, map, ◌⊎◌, inl, inr}
+use Rattle.std.specs.Prelude.{Option, Some, None, ◌≢◌, ◌==◌, ◌&&◌, is_none}
+use Rattle.std.proofs.lemmas.List.{get_or_append_left, length-append, length-map}
+use Rattle.std.proofs.Math.Seq.{get_or-append_seam}
+use Rattle.journal_core.specs.declared.request.Request.{Request}
+use Rattle.node_world.specs.declared.history_line.HistoryLine.{HistoryLine}
+use Rattle.node_world.specs.declared.record.Record.{Record}
+use Rattle.node_world.specs.declared.mark.Mark.{Mark}
+use Rattle.node_world.specs.Cell.{fresh_cell, IsLocalRun}
+use Rattle.node_world.specs.Moving.{Placed}
+use Rattle.mesh.specs.declared.end.End.{End}
+use Rattle.mesh.specs.Marks.{IsMarked, AreCopied}
+use Rattle.mesh.specs.Makers.{IsOfTasks, IsOperators}
+use Rattle.mesh.specs.Matches.{reached, lines_of, AreSame, AreWithin, CallersWithin}
+use Rattle.mesh.specs.Agree.{Agrees, operator_of, history_at, record_of, plan_of}
+use Rattle.cluster_runner.specs.Lines.{Deed, Line, Operation, declared, names_in, deeds_of, operations_in, ArePlayable}
+use Rattle.cluster_runner.specs.Actor.{Actor, fresh_actor, settled, wants, is_wanting, Rests, actor_after, IsLed}
+use Rattle.cluster_runner.specs.Plays.{Play, play_steps, play_begins, has_ended, no_lines, actor_at, history_of, histories_from, mesh_of, ends_of, IsPlay}
+use Rattle.cluster_runner.specs.Follows.{actor_with, Follows, AreOperations, FollowsLines}
+use Rattle.mesh.proofs.Lists.{Alike, alike, append_none}
+use Rattle.cluster_runner.proofs.Wanting.{Resting, resting, rests_is}
+use Rattle.cluster_runner.proofs.Makes.{lines_made}
+use Rattle.cluster_runner.proofs.Goes.{Goes, GoesBy, all_copied}
+use Rattle.cluster_runner.proofs.Tied.{Tied, callers_within}
+use Rattle.cluster_runner.proofs.Parts.{ActorOk, Actors}
+use Rattle.cluster_runner.proofs.Playing.{Operated, Holds}
+use Rattle.cluster_runner.proofs.Taking.{begins_hold, steps_hold}
+
+-- ## The lists of a mesh
+histories_length : (k n : ℕ) (t : List Placed) → length (histories_from k n t) ≡ n
+unfolding histories_from
+histories_length k zero t = refl
+histories_length k (suc n) t = ap suc (histories_length (k + 1) n t)
+
+histories_at : (k n i : ℕ) (t : List Placed) → i < n → get_or (histories_from k n t) i [] ≡ history_of (k + i) t
+unfolding histories_from
+histories_at k zero i t below = absurd (omega (arith, below))
+histories_at k (suc n) zero t below = ap (λ (x : ℕ). history_of x t) (omega arith)
+histories_at k (suc n) (suc i) t below = histories_at (k + 1) n i t (omega (arith, below)) ∙ ap (λ (x : ℕ). history_of x t) (omega arith)
+
+history_is : (p : Play) (i : ℕ) → i < p.nodes → history_at (mesh_of p) i ≡ history_of (i + 1) p.trace
+unfolding mesh_of
+history_is p i below = histories_at 1 p.nodes i p.trace below ∙ ap (λ (x : ℕ). history_of x p.trace) (omega arith)
+
+pasts_at : (as_ : List Actor) (c : ℕ) (d : Actor) → c < length as_ → get_or (map (λ (a : Actor). a.past) as_) c [] ≡ (get_or as_ c d).past
+pasts_at [] c d below = absurd (omega (arith, below))
+pasts_at (a ∷ as_) zero d below = refl
+pasts_at (a ∷ as_) (suc c) d below = pasts_at as_ c d (omega (arith, below))
+
+marks_at : (as_ : List Actor) (c : ℕ) (d : Actor) → c < length as_ → get_or (map (λ (a : Actor). a.marks) as_) c [] ≡ (get_or as_ c d).marks
+marks_at [] c d below = absurd (omega (arith, below))
+marks_at (a ∷ as_) zero d below = refl
+marks_at (a ∷ as_) (suc c) d below = marks_at as_ c d (omega (arith, below))
+
+actors_are : (p : Play) → operator_of (mesh_of p) ≡ length p.actors
+unfolding mesh_of
+actors_are p = length-map p.actors _
+
+record_is : (p : Play) (c : ℕ) → c < length p.actors → record_of (mesh_of p) c ≡ (actor_at p c).past
+unfolding mesh_of actor_at
+record_is p c below =
+    get_or_append_left (map (λ (a : Actor). a.past) p.actors) (p.operated ∷ []) [] c (omega (arith, below, length-map p.actors (λ (a : Actor). a.past)))
+    ∙ pasts_at p.actors c (fresh_actor p.nodes) below
+
+last_is : (p : Play) (c : ℕ) → c ≡ length p.actors → record_of (mesh_of p) c ≡ p.operated
+unfolding mesh_of
+last_is p c e =
+    ap (λ (x : ℕ). get_or (map (λ (a : Actor). a.past) p.actors ++ p.operated ∷ []) x []) (e ∙ sym (length-map p.actors (λ (a : Actor). a.past)))
+    ∙ get_or-append_seam (map (λ (a : Actor). a.past) p.actors) p.operated [] []
+
+plan_is : (p : Play) (c : ℕ) → c < length p.actors → plan_of (mesh_of p) c ≡ (actor_at p c).marks
+unfolding mesh_of actor_at
+plan_is p c below = marks_at p.actors c (fresh_actor p.nodes) below
+
+nodes_are : (p : Play) → (mesh_of p).nodes ≡ p.nodes
+unfolding mesh_of
+nodes_are p = refl
+
+count_is : (p : Play) → length (mesh_of p).histories ≡ p.nodes
+unfolding mesh_of
+count_is p = histories_length 1 p.nodes p.trace
+
+records_are : (p : Play) → length (mesh_of p).records ≡ length p.actors + 1
+unfolding mesh_of
+records_are p = length-append (map (λ (a : Actor). a.past) p.actors) (p.operated ∷ []) ∙ ap (λ (k : ℕ). k + 1) (length-map p.actors _)
+
+-- ## Its end
+pub ended_lines : (p : Play) → has_ended p ≡ true → p.lines ≡ []
+unfolding has_ended no_lines
+ended_lines p e = by p.lines e
+  where
+    by : (ls : List Line) → no_lines ls && is_none p.turn ≡ true → ls ≡ []
+    by [] h = refl
+    by (l ∷ ls) h = absurd (cc h)
+
+pub ended_turn : (p : Play) → has_ended p ≡ true → p.turn ≡ None
+unfolding has_ended no_lines
+ended_turn p e = by p.lines p.turn e
+  where
+    by : (ls : List Line) (o : Option ℕ) → no_lines ls && is_none o ≡ true → o ≡ None
+    by ls None h = refl
+    by [] (Some a) h = absurd (cc h)
+    by (l ∷ ls) (Some a) h = absurd (cc h)
+
+module _ (n : ℕ) (lines : List Line) (p : Play) (h : Holds n lines p) (e : has_ended p ≡ true) where
+  taken_is : lines ≡ h.taken
+  taken_is = h.all ∙ (ap (λ (x : List Line). h.taken ++ x) (ended_lines p e) ∙ append_none h.taken)
+
+  last_actor : p.operator ≡ length p.actors
+  last_actor = h.operator ∙ (ap declared taken_is ∙ sym h.counted)
+
+  below_is : (c : ℕ) → c < operator_of (mesh_of p) → c < length p.actors
+  below_is c below = subst (λ (m : ℕ). c < m) (actors_are p) below
+
+  ok_of : (c : ℕ) → c < length p.actors → ActorOk p.nodes (deeds_of c h.taken) (actor_at p c)
+  unfolding actor_at
+  ok_of c below = h.actors.each c below
+
+  rests_of : (c : ℕ) → c < length p.actors → Resting (actor_at p c)
+  rests_of c below = resting (actor_at p c) (rests_is (wants (actor_at p c)) (h.rests c below (λ (f : p.turn ≡ Some c). cc (f, ended_turn p e))))
+
+  node_below : (i : ℕ) → i < (mesh_of p).nodes → i < p.nodes
+  node_below i below = subst (λ (x : ℕ). i < x) (nodes_are p) below
+
+  local_of : (i : ℕ) → i < (mesh_of p).nodes → IsLocalRun fresh_cell (history_at (mesh_of p) i)
+  local_of i below = subst (λ (x : List HistoryLine). IsLocalRun fresh_cell x) (sym (history_is p i (node_below i below))) (h.cells.local i (node_below i below))
+
+  made_of : (c : ℕ) → c < operator_of (mesh_of p) → IsOfTasks (mesh_of p).nodes (record_of (mesh_of p) c)
+  made_of c below =
+      let u : c < length p.actors = below_is c below in
+      subst (λ (m : ℕ). IsOfTasks m (record_of (mesh_of p) c)) (sym (nodes_are p)) (subst (λ (x : List Record). IsOfTasks p.nodes x) (sym (record_is p c u)) (lines_made p.nodes (deeds_of c h.taken) (actor_at p c).past (ok_of c u).led))
+
+  same_by : (i c : ℕ) → i < p.nodes → c ≤ length p.actors → Alike c (length p.actors) → AreSame (reached (i + 1) (record_of (mesh_of p) c)) (lines_of c (history_of (i + 1) p.trace))
+  unfolding Alike Tied actor_at
+  same_by i c u v (inl f) = subst (λ (x : List Record). AreSame (reached (i + 1) x) (lines_of c (history_of (i + 1) p.trace))) (sym (last_is p c f.1))
+      (subst (λ (x : ℕ). AreSame (reached (i + 1) p.operated) (lines_of x (history_of (i + 1) p.trace))) (last_actor ∙ sym f.1) (h.links.operator i u))
+  same_by i c u v (inr f) =
+      let w : c < length p.actors = grind (arith, f.1, v) in
+      subst (λ (x : List Record). AreSame (reached (i + 1) x) (lines_of c (history_of (i + 1) p.trace))) (sym (record_is p c w)) (h.links.actors i c u w)
+
+  same_of : (i c : ℕ) → i < (mesh_of p).nodes → c ≤ operator_of (mesh_of p) → AreSame (reached (i + 1) (record_of (mesh_of p) c)) (lines_of c (history_at (mesh_of p) i))
+  same_of i c below v =
+      let u : i < p.nodes = node_below i below in
+      subst (λ (x : List HistoryLine). AreSame (reached (i + 1) (record_of (mesh_of p) c)) (lines_of c x)) (sym (history_is p i u)) (same_by i c u (subst (λ (m : ℕ). c ≤ m) (actors_are p) v) (alike c (length p.actors)))
+
+  goes_of : (c : ℕ) → c < length p.actors → Goes (actor_at p c).marks (actor_at p c).past None
+  unfolding GoesBy
+  goes_of c u = subst (λ (o : Option (ℕ × Request)). Goes (actor_at p c).marks (actor_at p c).past o) (rests_of c u).copies (ok_of c u).sound.goes
+
+  marked_of : (c : ℕ) → c < operator_of (mesh_of p) → IsMarked (plan_of (mesh_of p) c) [] (record_of (mesh_of p) c)
+  marked_of c below =
+      let u : c < length p.actors = below_is c below in
+      subst (λ (x : List Mark). IsMarked x [] (record_of (mesh_of p) c)) (sym (plan_is p c u)) (subst (λ (x : List Record). IsMarked (actor_at p c).marks [] x) (sym (record_is p c u)) (goes_of c u).marked)
+
+  copied_of : (c : ℕ) → c < operator_of (mesh_of p) → AreCopied (plan_of (mesh_of p) c) (record_of (mesh_of p) c)
+  copied_of c below =
+      let u : c < length p.actors = below_is c below in
+      subst (λ (x : List Mark). AreCopied x (record_of (mesh_of p) c)) (sym (plan_is p c u)) (subst (λ (x : List Record). AreCopied (actor_at p c).marks x) (sym (record_is p c u)) (all_copied (actor_at p c).marks (actor_at p c).past (goes_of c u)))
+
+  within_by : (c : ℕ) → c ≤ length p.actors → Alike c (length p.actors) → AreWithin p.nodes (record_of (mesh_of p) c)
+  unfolding Alike
+  within_by c v (inl f) = subst (λ (x : List Record). AreWithin p.nodes x) (sym (last_is p c f.1)) h.operated.within
+  within_by c v (inr f) =
+      let w : c < length p.actors = grind (arith, f.1, v) in
+      subst (λ (x : List Record). AreWithin p.nodes x) (sym (record_is p c w)) (ok_of c w).sound.within
+
+  callers_of : (i : ℕ) → i < (mesh_of p).nodes → CallersWithin (operator_of (mesh_of p)) (history_at (mesh_of p) i)
+  callers_of i below =
+      let u : i < p.nodes = node_below i below in
+      subst (λ (x : List HistoryLine). CallersWithin (operator_of (mesh_of p)) x) (sym (history_is p i u))
+      (subst (λ (m : ℕ). CallersWithin m (history_of (i + 1) p.trace)) (last_actor ∙ sym (actors_are p)) (callers_within (length p.actors) p.operator (history_of (i + 1) p.trace) h.links.above (h.links.callers i u)))
+
+  agrees_of : Agrees (mesh_of p)
+  agrees_of = record {
+    local = local_of;
+    made = made_of;
+    operated = subst IsOperators (sym (last_is p (operator_of (mesh_of p)) (actors_are p))) h.operated.theirs;
+    same = same_of;
+    marked = marked_of;
+    copied = copied_of;
+    histories = count_is p ∙ sym (nodes_are p);
+    records = records_are p ∙ ap (λ (x : ℕ). x + 1) (sym (actors_are p));
+    callers = callers_of;
+    within = λ c v. subst (λ (m : ℕ). AreWithin m (record_of (mesh_of p) c)) (sym (nodes_are p)) (within_by c (subst (λ (m : ℕ). c ≤ m) (actors_are p) v) (alike c (length p.actors)));
+  }
+
+  follows_of : (c : ℕ) → c < length p.actors → Follows p.nodes (deeds_of c h.taken) (actor_at p c).past (actor_at p c).marks
+  follows_of c u =
+      let ok : ActorOk p.nodes (deeds_of c h.taken) (actor_at p c) = ok_of c u in
+      record {
+        led = ok.led;
+        ended = ap wants ok.is ∙ h.rests c u (λ (f : p.turn ≡ Some c). cc (f, ended_turn p e));
+        marks = ap (λ (a : Actor). a.marks) (sym ok.is);
+      }
+
+  each_follows : (c : ℕ) → c < operator_of (mesh_of p) → Follows n (deeds_of c lines) (record_of (mesh_of p) c) (plan_of (mesh_of p) c)
+  each_follows c below =
+      let u : c < length p.actors = below_is c below in
+      subst (λ (m : ℕ). Follows m (deeds_of c lines) (record_of (mesh_of p) c) (plan_of (mesh_of p) c)) h.nodes
+      (subst (λ (ls : List Line). Follows p.nodes (deeds_of c ls) (record_of (mesh_of p) c) (plan_of (mesh_of p) c)) (sym taken_is)
+      (subst (λ (x : List Record). Follows p.nodes (deeds_of c h.taken) x (plan_of (mesh_of p) c)) (sym (record_is p c u))
+      (subst (λ (x : List Mark). Follows p.nodes (deeds_of c h.taken) (actor_at p c).past x) (sym (plan_is p c u)) (follows_of c u))))
+
+  names_of : map (λ (x : End). x.name) (ends_of p) ≡ names_in lines
+  unfolding ends_of
+  names_of = same p.names ∙ (h.names ∙ ap names_in (sym taken_is))
+    where
+      same : (xs : List (List ℕ)) → map (λ (x : End). x.name) (map (λ (name : List ℕ). record { name = name }) xs) ≡ xs
+      same [] = refl
+      same (x ∷ xs) = ap (λ (l : List (List ℕ)). x ∷ l) (same xs)
+
+  follows_all : FollowsLines n lines (mesh_of p) (ends_of p)
+  follows_all = record {
+    nodes_are = nodes_are p ∙ h.nodes;
+    actors_are = actors_are p ∙ (h.counted ∙ ap declared (sym taken_is));
+    names = names_of;
+    actors = each_follows;
+    operator = subst (λ (x : List Record). AreOperations (operations_in lines) x) (sym (last_is p (operator_of (mesh_of p)) (actors_are p)))
+        (subst (λ (ls : List Line). AreOperations (operations_in ls) p.operated) (sym taken_is) h.operated.follows);
+  }
+
+pub holds_at : (n : ℕ) (lines : List Line) (p : Play) → ArePlayable n 0 lines → IsPlay n lines p → Holds n lines p
+holds_at n lines p can h = subst (Holds n lines) h.reached (steps_hold h.steps n lines (play_begins n lines) (begins_hold n lines can))
+
+pub play_agrees : (n : ℕ) (lines : List Line) (p : Play) → ArePlayable n 0 lines → IsPlay n lines p → Agrees (mesh_of p)
+play_agrees n lines p can h = agrees_of n lines p (holds_at n lines p can h) h.ended
+
+pub play_follows : (n : ℕ) (lines : List Line) (p : Play) → ArePlayable n 0 lines → IsPlay n lines p → FollowsLines n lines (mesh_of p) (ends_of p)
+play_follows n lines p can h = follows_all n lines p (holds_at n lines p can h) h.ended
+
+pub local_runs : (n : ℕ) (lines : List Line) (steps i : ℕ) → ArePlayable n 0 lines → i < n → IsLocalRun fresh_cell (history_of (i + 1) (play_steps steps (play_begins n lines)).trace)
+local_runs n lines steps i can below =
+    let p : Play = play_steps steps (play_begins n lines) in
+    let h : Holds n lines p = steps_hold steps n lines (play_begins n lines) (begins_hold n lines can) in
+    h.cells.local i (subst (λ (m : ℕ). i < m) (sym h.nodes) below)

@@ -1,0 +1,220 @@
+-- What is kept of a play goes along with it: the beginning, a line taken, the end.
+use Rattle.std.proofs.Common.{◌≡◌, ◌≢◌, ℕ, zero, suc, ◌+◌, ◌-◌, ◌<◌, ◌≤◌, ◌⊎◌, inl, inr, List, [], ◌∷◌, ◌++◌, length, map, Bool, true, false, refl, sym, ap, ◌∙◌, subst, Option, Some, None, set, get_or, arith, replicate, ◌&&◌}
+use Rattle.std.specs.Prelude.{is_none}
+use Rattle.std.proofs.lemmas.List.{map-set, length-set, length-map, map-append, get_or-set_same}
+use Rattle.std.proofs.Math.ListN.{get_or-map}
+use Rattle.journal_core.specs.declared.node_state.NodeState.{NodeState}
+use Rattle.journal_core.specs.Step.{fresh_state}
+use Rattle.writer_core.specs.declared.phase.Phase.TheVariants as phase
+use Rattle.writer_core.specs.declared.task.Task.{Task}
+use Rattle.writer_core.specs.declared.task.Task.TheVariants as task
+use Rattle.writer_core.specs.declared.task.Begun.{Begun}
+use Rattle.writer_core.specs.declared.task.Begun.TheVariants as begun
+use Rattle.writer_core.specs.Views.{WriterView}
+use Rattle.writer_core.specs.Writer.{Began, writer_begun, next_call, if_writing, is_writing, log_begins, log_limit, begins}
+use Rattle.node_world.specs.declared.record.Record.{Record}
+use Rattle.node_world.specs.declared.history_line.HistoryLine.{HistoryLine}
+use Rattle.node_world.specs.Cell.{Cell, fresh_cell}
+use Rattle.mesh.specs.declared.end.End.{End}
+use Rattle.cluster_runner.specs.Lines.{Line, Deed, Does, Declares, Acts}
+use Rattle.cluster_runner.specs.Results.{inactive_results, too_long_results}
+use Rattle.cluster_runner.specs.Actor.{Actor, handed, fresh_actor}
+use Rattle.cluster_runner.specs.Plays.{Play, play_step, play_begins, play_steps, line_taken, actor_at, histories_from, history_of, has_ended, no_lines, IsPlay, mesh_of, ends_of}
+use Rattle.cluster_runner.specs.Kept.{Kept, KeptActor, actor_of, new_actor, shown, resting, at_rest, Stands, IsAtRest, IsInTurn, Leads, LeadsTo, with_writer, with_actor, new_kept, mesh_kept, ends_kept, IsPlayed}
+use Rattle.cluster_runner.proofs.KeptSteps.{step_line}
+use Rattle.cluster_runner.proofs.KeptActor.{handed_going, handed_inactive, handed_too_long}
+use Rattle.cluster_runner.proofs.KeptTurns.{leads_one, others_same, same_names, set_twice}
+
+-- ## A writer that refuses a task is as before
+log_tells : (b : Bool) (o : Option ℕ) (bodies : List (List ℕ)) (w : WriterView)
+    → ((if_writing b (log_begins o bodies w) w).begun ≡ begun.Going) ⊎ ((if_writing b (log_begins o bodies w) w).writer ≡ w)
+log_tells true None bodies w = inl refl
+log_tells true (Some number) bodies w = inr refl
+log_tells false o bodies w = inr refl
+
+task_tells : (b : Bool) (v w : WriterView) → ((if_writing b (begins v) w).begun ≡ begun.Going) ⊎ ((if_writing b (begins v) w).writer ≡ w)
+task_tells true v w = inl refl
+task_tells false v w = inr refl
+
+begun_tells : (w : WriterView) (t : Task) → ((writer_begun w t).begun ≡ begun.Going) ⊎ ((writer_begun w t).writer ≡ w)
+unfolding writer_begun
+begun_tells w task.Takeover = inl refl
+begun_tells w (task.Log bodies) = log_tells (is_writing w.phase) (log_limit w bodies) bodies w
+begun_tells w task.Roll = task_tells (is_writing w.phase) _ w
+begun_tells w task.Close = task_tells (is_writing w.phase) _ w
+begun_tells w (task.Purge min) = task_tells (is_writing w.phase) _ w
+
+pub refused_same : (w v : WriterView) (t : Task) (b : Begun) → writer_begun w t ≡ record { writer = v; begun = b } → (begun.Going ≡ b → ⊥) → v ≡ w
+refused_same w v t b e n =
+    elim (begun_tells w t) [ inl g ↦ absurd (n (sym g ∙ ap (λ x. x.begun) e)) | inr s ↦ sym (ap (λ x. x.writer) e) ∙ s ]
+
+not_going : (number : ℕ) → begun.Going ≡ begun.TooLong number → ⊥
+not_going number e = cc
+
+going_not : begun.Going ≡ begun.NotActive → ⊥
+going_not e = cc
+
+-- ## A line of an actor
+resting_there : (k : Kept) (p : Play) (ls : List Line) (c : ℕ) → Stands k p → p.actors ≡ map resting k.actors → actor_at (record p { lines = ls }) c ≡ resting (actor_of k c)
+unfolding actor_at fresh_actor
+resting_there k p ls c s e =
+    ap (λ xs. get_or xs c (fresh_actor p.nodes)) e
+    ∙ ap (λ n. get_or (map resting k.actors) c (fresh_actor n)) (sym s.nodes)
+    ∙ get_or-map resting k.actors c (new_actor (length k.nodes) [])
+
+-- the play once the line was taken
+abbrev handed_play : Play → List Line → ℕ → Actor → Play
+handed_play p ls c x = record p { lines = ls; turn = Some c; actors = set p.actors c x }
+
+step_handed : (k : Kept) (p : Play) (ls : List Line) (c : ℕ) (t : Task) (x : Actor) → IsAtRest (Acts c (Does t) ∷ ls) k p → handed (Does t) (resting (actor_of k c)) ≡ x
+    → play_step p ≡ handed_play p ls c x
+unfolding line_taken
+step_handed k p ls c t x h e =
+    step_line p (Acts c (Does t)) ls h.turn h.lines_are
+    ∙ ap (λ a. handed_play p ls c (handed (Does t) a)) (resting_there k p ls c h.stands h.actors)
+    ∙ ap (λ y. handed_play p ls c y) e
+
+pub refused_leads : (k : Kept) (ls : List Line) (c : ℕ) (t : Task) (texts : List (List ℕ)) → handed (Does t) (resting (actor_of k c)) ≡ shown None texts (actor_of k c)
+    → LeadsTo (IsAtRest (Acts c (Does t) ∷ ls) k) (IsInTurn ls c None texts k)
+refused_leads k ls c t texts e p h =
+    (
+      handed_play p ls c (shown None texts (actor_of k c)),
+      leads_one p (handed_play p ls c (shown None texts (actor_of k c))) (step_handed k p ls c t (shown None texts (actor_of k c)) h e),
+      record {
+        stands = record { nodes = h.stands.nodes; cells = h.stands.cells; histories = h.stands.histories; names = h.stands.names; operated = h.stands.operated };
+        lines_are = refl;
+        turn = refl;
+        actors = ap (λ xs. set xs c (shown None texts (actor_of k c))) h.actors;
+      },
+    )
+
+pub inactive_leads : (k : Kept) (ls : List Line) (c : ℕ) (t : Task) (w : WriterView) → next_call (actor_of k c).writer ≡ None
+    → writer_begun (actor_of k c).writer t ≡ record { writer = w; begun = begun.NotActive }
+    → LeadsTo (IsAtRest (Acts c (Does t) ∷ ls) k) (IsInTurn ls c None (inactive_results t) k)
+inactive_leads k ls c t w none b = refused_leads k ls c t (inactive_results t) (handed_inactive (actor_of k c) t w none b)
+
+pub too_long_leads : (k : Kept) (ls : List Line) (c : ℕ) (t : Task) (w : WriterView) (number : ℕ) → next_call (actor_of k c).writer ≡ None
+    → writer_begun (actor_of k c).writer t ≡ record { writer = w; begun = begun.TooLong number }
+    → LeadsTo (IsAtRest (Acts c (Does t) ∷ ls) k) (IsInTurn ls c None (too_long_results t number) k)
+too_long_leads k ls c t w number none b = refused_leads k ls c t (too_long_results t number) (handed_too_long (actor_of k c) t w number none b)
+
+abbrev begun_actor : Kept → ℕ → WriterView → KeptActor
+begun_actor k c w = record { name = (actor_of k c).name; writer = w; past = (actor_of k c).past }
+
+own_writer : (k : Kept) (c : ℕ) (w : WriterView) → c < length k.actors → actor_of (with_writer k c w) c ≡ begun_actor k c w
+own_writer k c w l = get_or-set_same k.actors c (begun_actor k c w) (new_actor (length k.nodes) []) l
+
+pub begin_leads : (k : Kept) (ls : List Line) (c : ℕ) (t : Task) (w : WriterView) → c < length k.actors → next_call (actor_of k c).writer ≡ None
+    → writer_begun (actor_of k c).writer t ≡ record { writer = w; begun = begun.Going }
+    → LeadsTo (IsAtRest (Acts c (Does t) ∷ ls) k) (IsInTurn ls c (Some t) [] (with_writer k c w))
+begin_leads k ls c t w l none b p h =
+    (
+      handed_play p ls c (shown (Some t) [] (begun_actor k c w)),
+      leads_one p (handed_play p ls c (shown (Some t) [] (begun_actor k c w)))
+        (step_handed k p ls c t (shown (Some t) [] (begun_actor k c w)) h (handed_going (actor_of k c) t w none b)),
+      record {
+        stands = record {
+          nodes = h.stands.nodes;
+          cells = h.stands.cells;
+          histories = h.stands.histories;
+          names = h.stands.names ∙ sym (same_names k.actors c (begun_actor k c w) (new_actor (length k.nodes) []) refl);
+          operated = h.stands.operated;
+        };
+        lines_are = refl;
+        turn = refl;
+        actors =
+          ap (λ xs. set xs c (shown (Some t) [] (begun_actor k c w))) h.actors
+          ∙ set_twice k.actors c (begun_actor k c w) (shown (Some t) [] (begun_actor k c w))
+          ∙ ap (λ a. set (map resting (with_writer k c w).actors) c (shown (Some t) [] a)) (sym (own_writer k c w l));
+      },
+    )
+
+-- ## A declaration
+abbrev declared_play : Play → List Line → List ℕ → Play
+declared_play p ls name = record p { lines = ls; names = p.names ++ name ∷ []; actors = p.actors ++ fresh_actor p.nodes ∷ [] }
+
+step_declared : (p : Play) (ls : List Line) (name : List ℕ) → p.turn ≡ None → p.lines ≡ Declares name ∷ ls → play_step p ≡ declared_play p ls name
+unfolding line_taken
+step_declared p ls name turn lines = step_line p (Declares name) ls turn lines
+
+fresh_last : (k : Kept) (name : List ℕ) → map resting k.actors ++ fresh_actor (length k.nodes) ∷ [] ≡ map resting (with_actor k name).actors
+unfolding fresh_actor
+fresh_last k name = sym (map-append resting k.actors (new_actor (length k.nodes) name ∷ []))
+
+pub declare_leads : (k : Kept) (ls : List Line) (name : List ℕ) → LeadsTo (IsAtRest (Declares name ∷ ls) k) (IsAtRest ls (with_actor k name))
+declare_leads k ls name p h =
+    (
+      declared_play p ls name,
+      leads_one p (declared_play p ls name) (step_declared p ls name h.turn h.lines_are),
+      record {
+        stands = record {
+          nodes = h.stands.nodes;
+          cells = h.stands.cells;
+          histories = h.stands.histories;
+          names = ap (λ xs. xs ++ name ∷ []) h.stands.names ∙ sym (map-append (λ a. a.name) k.actors (new_actor (length k.nodes) name ∷ []));
+          operated = h.stands.operated;
+        };
+        lines_are = refl;
+        turn = h.turn;
+        actors =
+          ap (λ xs. xs ++ fresh_actor p.nodes ∷ []) h.actors
+          ∙ ap (λ n. map resting k.actors ++ fresh_actor n ∷ []) (sym h.stands.nodes)
+          ∙ fresh_last k name;
+      },
+    )
+
+-- ## The beginning and the end
+fresh_cells : (n : ℕ) → replicate n fresh_cell ≡ map at_rest (replicate n fresh_state)
+fresh_cells zero = refl
+fresh_cells (suc n) = ap (λ xs. fresh_cell ∷ xs) (fresh_cells n)
+
+no_histories : (k n : ℕ) → histories_from k n [] ≡ replicate n []
+unfolding histories_from history_of
+no_histories k zero = refl
+no_histories k (suc n) = ap (λ xs. [] ∷ xs) (no_histories (k + 1) n)
+
+replicated : {A : Type 0} (n : ℕ) (x : A) → length (replicate n x) ≡ n
+replicated zero x = refl
+replicated (suc n) x = ap suc (replicated n x)
+
+pub begins_at_rest : (n : ℕ) (ls : List Line) → IsAtRest ls (new_kept n) (play_begins n ls)
+unfolding play_begins
+begins_at_rest n ls =
+    record {
+      stands = record { nodes = replicated n fresh_state; cells = fresh_cells n; histories = no_histories 1 n; names = refl; operated = refl };
+      lines_are = refl;
+      turn = refl;
+      actors = refl;
+    }
+
+pasts : (xs : List KeptActor) → map (λ a. a.past) (map resting xs) ≡ map (λ a. a.past) xs
+pasts [] = refl
+pasts (a ∷ xs) = ap (λ ys. a.past ∷ ys) (pasts xs)
+
+unmarked : (xs : List KeptActor) → map (λ a. a.marks) (map resting xs) ≡ map (λ a. []) xs
+unmarked [] = refl
+unmarked (a ∷ xs) = ap (λ ys. [] ∷ ys) (unmarked xs)
+
+abbrev named_end : List ℕ → End
+named_end name = record { name = name }
+
+named : (xs : List KeptActor) → map (λ name. named_end name) (map (λ a. a.name) xs) ≡ map (λ a. named_end a.name) xs
+named [] = refl
+named (a ∷ xs) = ap (λ ys. named_end a.name ∷ ys) (named xs)
+
+pub is_played : (n : ℕ) (ls : List Line) (k : Kept) (p : Play) → Leads (play_begins n ls) p → IsAtRest [] k p → IsPlayed n ls (mesh_kept k) (ends_kept k)
+unfolding has_ended no_lines mesh_of ends_of
+is_played n ls k p leads h =
+    record {
+      play = p;
+      plays = record { steps = leads.steps; reached = leads.reached; ended = ap (λ x. no_lines x && is_none p.turn) h.lines_are ∙ ap is_none h.turn };
+      mesh =
+        ap (λ m. record { nodes = m; histories = k.histories; records = map (λ a. a.past) k.actors ++ [] ∷ []; plan = map (λ a. []) k.actors }) h.stands.nodes
+        ∙ ap (λ hs. record { nodes = p.nodes; histories = hs; records = map (λ a. a.past) k.actors ++ [] ∷ []; plan = map (λ a. []) k.actors }) (sym h.stands.histories)
+        ∙ ap (λ rs. record { nodes = p.nodes; histories = histories_from 1 p.nodes p.trace; records = rs ++ [] ∷ []; plan = map (λ a. []) k.actors })
+          (sym (ap (map (λ a. a.past)) h.actors ∙ pasts k.actors))
+        ∙ ap (λ os. record { nodes = p.nodes; histories = histories_from 1 p.nodes p.trace; records = map (λ a. a.past) p.actors ++ os ∷ []; plan = map (λ a. []) k.actors }) (sym h.stands.operated)
+        ∙ ap (λ ms. record { nodes = p.nodes; histories = histories_from 1 p.nodes p.trace; records = map (λ a. a.past) p.actors ++ p.operated ∷ []; plan = ms })
+          (sym (ap (map (λ a. a.marks)) h.actors ∙ unmarked k.actors));
+      ends_are = sym (ap (map (λ name. named_end name)) h.stands.names ∙ named k.actors);
+    }

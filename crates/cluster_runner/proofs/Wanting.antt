@@ -1,0 +1,137 @@
+-- What an actor wants, read backwards.
+use Rattle.std.proofs.Common.{◌≡◌, ℕ, List, [], ◌∷◌, ◌++◌, Bool, true, false, refl, sym, ap, ◌∙◌}
+use Rattle.std.specs.Prelude.{Option, Some, None}
+use Rattle.journal_core.specs.declared.request.Request.{Request}
+use Rattle.writer_core.specs.Writer.{next_call}
+use Rattle.node_world.specs.declared.node_ask.NodeAsk.{NodeAsk}
+use Rattle.node_world.specs.declared.record.Record.{Record}
+use Rattle.node_world.specs.declared.record.Record.TheVariants.{Call, Late, Operator, Outcome}
+use Rattle.node_world.specs.declared.record.Told.{Told}
+use Rattle.cluster_runner.specs.Actor.{Actor, Want, WantsCall, WantsCopy, Says, Rests, wants, is_wanting, call_wanted, copy_first, says_first, Fits}
+
+-- an actor that wants a call, a copy, or nothing
+pub record Calling (k : ℕ) (q : Request) (a : Actor) : Type 0 where
+  pub says : a.says ≡ []
+  pub copies : a.copies ≡ None
+  pub call : next_call a.writer ≡ Some (k, q)
+
+pub record Copying (k : ℕ) (q : Request) (a : Actor) : Type 0 where
+  pub says : a.says ≡ []
+  pub copies : a.copies ≡ Some (k, q)
+
+pub record Resting (a : Actor) : Type 0 where
+  pub says : a.says ≡ []
+  pub copies : a.copies ≡ None
+  pub call : next_call a.writer ≡ None
+
+pub record Saying (t : List ℕ) (a : Actor) : Type 0 where
+  pub rest : List (List ℕ)
+  pub says : a.says ≡ t ∷ rest
+
+abbrev pair : ℕ → Request → ℕ × Request
+pair k q = (k, q)
+
+pair_is : (c : ℕ × Request) (k : ℕ) (q : Request) → c.0 ≡ k → c.1 ≡ q → c ≡ (k, q)
+pair_is c k q e f = ap (λ (x : ℕ). pair x c.1) e ∙ ap (λ (y : Request). pair k y) f
+
+abbrev pub sending : ℕ → Request → Option (ℕ × Request)
+sending k q = Some (k, q)
+
+pub same_sending : (k i : ℕ) (q p : Request) → sending k q ≡ sending i p → (k ≡ i) × (q ≡ p)
+same_sending k i q p e =
+    let whole : pair k q ≡ pair i p = cc e in
+    (ap (λ (c : ℕ × Request). c.0) whole, ap (λ (c : ℕ × Request). c.1) whole)
+
+call_by : (o : Option (ℕ × Request)) (k : ℕ) (q : Request) → call_wanted o ≡ WantsCall k q → o ≡ Some (k, q)
+unfolding call_wanted
+call_by None k q e = absurd (cc e)
+call_by (Some c) k q e = let first : c.0 ≡ k = cc e in let second : c.1 ≡ q = cc e in let whole : c ≡ (k, q) = pair_is c k q first second in ap (λ (x : ℕ × Request). Some x) whole
+
+no_copy_in : (o : Option (ℕ × Request)) (k : ℕ) (q : Request) → call_wanted o ≡ WantsCopy k q → ⊥
+unfolding call_wanted
+no_copy_in None k q e = cc e
+no_copy_in (Some c) k q e = cc e
+
+rests_by : (o : Option (ℕ × Request)) → is_wanting (call_wanted o) ≡ false → o ≡ None
+unfolding call_wanted is_wanting
+rests_by None e = refl
+rests_by (Some c) e = absurd (cc e)
+
+pub calling : (a : Actor) (k : ℕ) (q : Request) → wants a ≡ WantsCall k q → Calling k q a
+unfolding wants says_first copy_first
+calling a k q e = by a.says a.copies refl refl e
+  where
+    by : (s : List (List ℕ)) (o : Option (ℕ × Request)) → a.says ≡ s → a.copies ≡ o → says_first s (copy_first o (call_wanted (next_call a.writer))) ≡ WantsCall k q → Calling k q a
+    by [] None f g h = record { says = f; copies = g; call = call_by (next_call a.writer) k q h }
+    by [] (Some c) f g h = absurd (cc h)
+    by (t ∷ ts) o f g h = absurd (cc h)
+
+pub copying : (a : Actor) (k : ℕ) (q : Request) → wants a ≡ WantsCopy k q → Copying k q a
+unfolding wants says_first copy_first
+copying a k q e = by a.says a.copies refl refl e
+  where
+    by : (s : List (List ℕ)) (o : Option (ℕ × Request)) → a.says ≡ s → a.copies ≡ o → says_first s (copy_first o (call_wanted (next_call a.writer))) ≡ WantsCopy k q → Copying k q a
+    by [] None f g h = absurd (no_copy_in (next_call a.writer) k q h)
+    by [] (Some c) f g h = let first : c.0 ≡ k = cc h in let second : c.1 ≡ q = cc h in let whole : c ≡ (k, q) = pair_is c k q first second in record { says = f; copies = g ∙ ap (λ (x : ℕ × Request). Some x) whole }
+    by (t ∷ ts) o f g h = absurd (cc h)
+
+pub resting : (a : Actor) → is_wanting (wants a) ≡ false → Resting a
+unfolding wants says_first copy_first is_wanting
+resting a e = by a.says a.copies refl refl e
+  where
+    by : (s : List (List ℕ)) (o : Option (ℕ × Request)) → a.says ≡ s → a.copies ≡ o → is_wanting (says_first s (copy_first o (call_wanted (next_call a.writer)))) ≡ false → Resting a
+    by [] None f g h = record { says = f; copies = g; call = rests_by (next_call a.writer) h }
+    by [] (Some c) f g h = absurd (cc h)
+    by (t ∷ ts) o f g h = absurd (cc h)
+
+pub saying : (a : Actor) (t : List ℕ) → wants a ≡ Says t → Saying t a
+unfolding wants says_first copy_first call_wanted
+saying a t e = by a.says a.copies (next_call a.writer) refl e
+  where
+    by : (s : List (List ℕ)) (o c : Option (ℕ × Request)) → a.says ≡ s → says_first s (copy_first o (call_wanted c)) ≡ Says t → Saying t a
+    by [] None None f h = absurd (cc h)
+    by [] None (Some x) f h = absurd (cc h)
+    by [] (Some x) c f h = absurd (cc h)
+    by (x ∷ xs) o c f h = let same : x ≡ t = cc h in record { rest = xs; says = f ∙ ap (λ (z : List ℕ). z ∷ xs) same }
+
+pub rests_is : (w : Want) → w ≡ Rests → is_wanting w ≡ false
+unfolding is_wanting
+rests_is w e = ap is_wanting e
+
+-- ## What fits a want
+call_want : (w : Want) (k : ℕ) (q : Request) (t : Told) → Fits w (Call k q t) → w ≡ WantsCall k q
+unfolding Fits
+call_want (WantsCall i p) k q t h = cc (h.0, h.1)
+call_want (WantsCopy i p) k q t h = absurd h
+call_want (Says x) k q t h = absurd h
+call_want Rests k q t h = absurd h
+
+copy_want : (w : Want) (k : ℕ) (q : Request) → Fits w (Late k q) → w ≡ WantsCopy k q
+unfolding Fits
+copy_want (WantsCall i p) k q h = absurd h
+copy_want (WantsCopy i p) k q h = cc (h.0, h.1)
+copy_want (Says x) k q h = absurd h
+copy_want Rests k q h = absurd h
+
+says_want : (w : Want) (x : List ℕ) → Fits w (Outcome x) → w ≡ Says x
+unfolding Fits
+says_want (WantsCall i p) x h = absurd h
+says_want (WantsCopy i p) x h = absurd h
+says_want (Says t) x h = ap Says (sym h)
+says_want Rests x h = absurd h
+
+pub fits_calling : (a : Actor) (k : ℕ) (q : Request) (t : Told) → Fits (wants a) (Call k q t) → Calling k q a
+fits_calling a k q t h = calling a k q (call_want (wants a) k q t h)
+
+pub fits_copying : (a : Actor) (k : ℕ) (q : Request) → Fits (wants a) (Late k q) → Copying k q a
+fits_copying a k q h = copying a k q (copy_want (wants a) k q h)
+
+pub fits_saying : (a : Actor) (x : List ℕ) → Fits (wants a) (Outcome x) → Saying x a
+fits_saying a x h = saying a x (says_want (wants a) x h)
+
+pub no_operation : (w : Want) (k : ℕ) (ask : NodeAsk) (d : Bool) → Fits w (Operator k ask d) → ⊥
+unfolding Fits
+no_operation (WantsCall i p) k ask d h = h
+no_operation (WantsCopy i p) k ask d h = h
+no_operation (Says t) k ask d h = h
+no_operation Rests k ask d h = h

@@ -1,0 +1,5 @@
+use Rattle.cluster_runner.proofs.Final.{local_runs}
+use Rattle.cluster_runner.proofs.laws.histories_are_local_runs.Goals as goal
+
+pub returns : goal.returns
+returns c = λ n lines steps i can below. local_runs n lines steps i can below

@@ -1,0 +1,38 @@
+-- When a mesh follows a script.
+use Rattle.std.specs.Prelude.{◌≡◌, ℕ, ◌<◌, List, [], ◌∷◌, length, map, slice_index_or}
+use Rattle.node_world.specs.declared.record.Record.{Record}
+use Rattle.node_world.specs.declared.record.Record.TheVariants.{Call, Late, Operator, Outcome}
+use Rattle.node_world.specs.declared.mark.Mark.{Mark}
+use Rattle.mesh.specs.declared.whole.Mesh.{Mesh}
+use Rattle.mesh.specs.declared.end.End.{End}
+use Rattle.mesh.specs.Agree.{operator_of, record_of, plan_of}
+use Rattle.script_text.specs.Views.{ScriptView}
+use Rattle.cluster_runner.specs.Lines.{Deed, Line, Operation, lines_of, declared, names_in, deeds_of, operations_in}
+use Rattle.cluster_runner.specs.Actor.{Actor, fresh_actor, settled, wants, Rests, IsLed, actor_after}
+
+-- an actor of that many nodes with these deeds, before its first line, and after a record
+abbrev pub actor_with : ℕ → List Deed → Actor
+actor_with nodes deeds = settled deeds (fresh_actor nodes)
+
+-- The record is what such an actor does by the answers in it, to its end, and the plan has the marks that its deeds set.
+pub record Follows (nodes : ℕ) (deeds : List Deed) (rs : List Record) (plan : List Mark) : Type 0 where
+  pub led : IsLed (actor_with nodes deeds) rs
+  pub ended : wants (actor_after (actor_with nodes deeds) rs) ≡ Rests
+  pub marks : plan ≡ (actor_after (actor_with nodes deeds) rs).marks
+
+-- the operator's lines, in order; whether each took place is the node's answer
+unfoldable pub AreOperations : List Operation → List Record → Type 0
+AreOperations [] [] = Unit {0}
+AreOperations (o ∷ os) (Operator node ask done ∷ rs) = (node ≡ o.node) × (ask ≡ o.ask) × AreOperations os rs
+AreOperations _ _ = ⊥
+
+pub record FollowsLines (nodes : ℕ) (lines : List Line) (m : Mesh) (ends : List End) : Type 0 where
+  pub nodes_are : m.nodes ≡ nodes
+  pub actors_are : length m.plan ≡ declared lines
+  pub names : map (λ e. e.name) ends ≡ names_in lines
+  pub actors : (c : ℕ) → c < operator_of m → Follows nodes (deeds_of c lines) (record_of m c) (plan_of m c)
+  pub operator : AreOperations (operations_in lines) (record_of m (operator_of m))
+
+-- its nodes, its actors with their names, plan and records, and the operator's record are the script's
+abbrev pub FollowsScript : ScriptView → Mesh → List End → Type 0
+FollowsScript s m ends = FollowsLines s.nodes (lines_of s) m ends

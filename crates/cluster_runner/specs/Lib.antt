@@ -1,0 +1,17 @@
+pub mod Lines
+pub mod Results
+pub mod Actor
+pub mod Plays
+pub mod Follows
+pub mod Told
+pub mod EditResults
+pub mod Laws
+pub mod Examples
+pub mod FirstRun
+pub mod Broken
+pub mod Orders
+pub mod Kept
+pub mod ResultLists
+pub mod Shown
+pub mod Ready
+pub mod Goal

@@ -1,0 +1,84 @@
+-- What each line of a script says: a declaration, a deed of an actor, or an operation on a node.
+use Rattle.std.specs.Prelude.{ℕ, ◌+◌, ◌<◌, ◌≤◌, ◌==◌, suc, List, [], ◌∷◌, map, if◌then◌else◌}
+use Rattle.writer_core.specs.declared.task.Task.{Task}
+use Rattle.writer_core.specs.declared.task.Task.TheVariants as task
+use Rattle.writer_core.specs.Writer.{HasBody}
+use Rattle.node_world.specs.declared.node_ask.NodeAsk.{NodeAsk}
+use Rattle.script_text.specs.Views.{ScriptView}
+use Rattle.script_text.specs.declared.script_line.ScriptLine.{ScriptLine}
+use Rattle.script_text.specs.declared.script_line.ScriptLine.TheVariants as line
+use Rattle.mesh.specs.Makers.{IsOperation}
+
+-- What an actor is told to do: a task; to lose its next calls to a node, the request or the reply of the one with this number; or to
+-- send a copy of an earlier call.
+pub data Deed : Type 0 where
+  Does : (task : Task) → Deed
+  DoDrop : (node call : ℕ) → Deed
+  DoMute : (node call : ℕ) → Deed
+  DoLate : (node call : ℕ) → Deed
+
+pub data Line : Type 0 where
+  Declares : (name : List ℕ) → Line
+  Acts : (actor : ℕ) (deed : Deed) → Line
+  Operates : (node : ℕ) (ask : NodeAsk) → Line
+
+-- what a line says
+abbrev pub line_of : ScriptLine → Line
+line_of (line.Declare name) = Declares name
+line_of (line.Takeover actor) = Acts actor (Does task.Takeover)
+line_of (line.Log actor bodies) = Acts actor (Does (task.Log bodies))
+
+abbrev pub lines_of : ScriptView → List Line
+lines_of s = map line_of s.lines
+
+-- how many actors are declared
+unfoldable pub declared : List Line → ℕ
+declared [] = 0
+declared (Declares name ∷ ls) = suc (declared ls)
+declared (Acts actor deed ∷ ls) = declared ls
+declared (Operates node ask ∷ ls) = declared ls
+
+-- the names that are declared
+unfoldable pub names_in : List Line → List (List ℕ)
+names_in [] = []
+names_in (Declares name ∷ ls) = name ∷ names_in ls
+names_in (Acts actor deed ∷ ls) = names_in ls
+names_in (Operates node ask ∷ ls) = names_in ls
+
+-- the deeds of one actor
+unfoldable pub deeds_of : ℕ → List Line → List Deed
+deeds_of c [] = []
+deeds_of c (Declares name ∷ ls) = deeds_of c ls
+deeds_of c (Acts actor deed ∷ ls) = if actor == c then deed ∷ deeds_of c ls else deeds_of c ls
+deeds_of c (Operates node ask ∷ ls) = deeds_of c ls
+
+-- what the operator does, and to which node
+pub record Operation : Type 0 where
+  pub node : ℕ
+  pub ask : NodeAsk
+
+unfoldable pub operations_in : List Line → List Operation
+operations_in [] = []
+operations_in (Declares name ∷ ls) = operations_in ls
+operations_in (Acts actor deed ∷ ls) = operations_in ls
+operations_in (Operates node ask ∷ ls) = record { node = node; ask = ask } ∷ operations_in ls
+
+-- ## Lines that can be played
+-- a log has a body, and calls are counted from 1
+abbrev pub IsDeed : Deed → Type 0
+IsDeed (Does t) = HasBody t
+IsDeed (DoDrop node call) = 1 ≤ call
+IsDeed (DoMute node call) = 1 ≤ call
+IsDeed (DoLate node call) = 1 ≤ call
+
+-- where so many actors were declared before
+unfoldable pub ArePlayable : ℕ → ℕ → List Line → Type 0
+ArePlayable nodes actors [] = Unit {0}
+ArePlayable nodes actors (Declares name ∷ ls) = ArePlayable nodes (actors + 1) ls
+ArePlayable nodes actors (Acts actor deed ∷ ls) = (actor < actors) × IsDeed deed × ArePlayable nodes actors ls
+ArePlayable nodes actors (Operates node ask ∷ ls) = (1 ≤ node) × (node ≤ nodes) × IsOperation ask × ArePlayable nodes actors ls
+
+-- there is a node, and each line speaks of what is there
+pub record IsPlayable (s : ScriptView) : Type 0 where
+  pub nodes : 1 ≤ s.nodes
+  pub lines : ArePlayable s.nodes 0 (lines_of s)

@@ -1,0 +1,164 @@
+-- A script played: its lines are taken in order, and the calls of each line are made one after the other.
+use Rattle.std.specs.Prelude.{◌≡◌, ℕ, zero, suc, ◌+◌, ◌-◌, ◌==◌, ◌&&◌, ◌||◌, Bool, true, false, List, [], ◌∷◌, ◌++◌, map, filter, replicate, slice_index_or, slice_set, is_none, Option, Some, None, if◌then◌else◌}
+use Rattle.std.specs.List.{list_any}
+use Rattle.journal_core.specs.declared.request.Request.{Request}
+use Rattle.node_world.specs.declared.node_ask.NodeAsk.{NodeAsk}
+use Rattle.node_world.specs.declared.node_ask.NodeAsk.TheVariants.{Act}
+use Rattle.node_world.specs.declared.node_ask.NodeAnswer.{NodeAnswer}
+use Rattle.node_world.specs.declared.node_ask.NodeAnswer.TheVariants.{Replied, Stopped, Done, Idle, NotOpened}
+use Rattle.node_world.specs.declared.history_line.HistoryLine.{HistoryLine}
+use Rattle.node_world.specs.declared.record.Record.{Record}
+use Rattle.node_world.specs.declared.record.Record.TheVariants.{Call, Late, Operator, Outcome}
+use Rattle.node_world.specs.declared.record.Told.{Told}
+use Rattle.node_world.specs.declared.record.Told.TheVariants as told
+use Rattle.node_world.specs.declared.mark.Mark.{Mark}
+use Rattle.node_world.specs.declared.mark.MarkKind.{MarkKind}
+use Rattle.node_world.specs.declared.mark.MarkKind.TheVariants as kind
+use Rattle.node_world.specs.Cell.{Cell, fresh_cell, Taken, cell_takes}
+use Rattle.node_world.specs.Moving.{Placed}
+use Rattle.mesh.specs.declared.whole.Mesh.{Mesh}
+use Rattle.mesh.specs.declared.end.End.{End}
+use Rattle.mesh.specs.Marks.{next_number}
+use Rattle.script_text.specs.Views.{ScriptView}
+use Rattle.cluster_runner.specs.Lines.{Deed, Line, Declares, Acts, Operates, lines_of, declared}
+use Rattle.cluster_runner.specs.Actor.{Actor, fresh_actor, handed, Want, WantsCall, WantsCopy, Says, Rests, wants, goes_on}
+
+pub record Play : Type 0 where
+  pub nodes : ℕ
+  -- the operator's number, behind those of all actors
+  pub operator : ℕ
+  -- the lines still to come, and the actor whose line is under way
+  pub lines : List Line
+  pub turn : Option ℕ
+  pub names : List (List ℕ)
+  pub cells : List Cell
+  pub actors : List Actor
+  -- all that reached the nodes, in order, and the operator's record
+  pub trace : List Placed
+  pub operated : List Record
+
+unfoldable pub play_begins : ℕ → List Line → Play
+play_begins nodes lines =
+    record { nodes = nodes; operator = declared lines; lines = lines; turn = None; names = []; cells = replicate nodes fresh_cell; actors = []; trace = []; operated = [] }
+
+unfoldable pub actor_at : Play → ℕ → Actor
+actor_at p c = slice_index_or p.actors c (fresh_actor p.nodes)
+
+-- ## What a node is asked
+abbrev pub taken_at : ℕ → NodeAsk → Play → Taken
+taken_at node ask p = cell_takes (slice_index_or p.cells (node - 1) fresh_cell) ask
+
+unfoldable pub node_asked : ℕ → ℕ → Bool → NodeAsk → Play → Play
+node_asked node caller muted ask p =
+    record p {
+      cells = slice_set p.cells (node - 1) (taken_at node ask p).cell;
+      trace = p.trace ++ record { node = node; line = record { caller = caller; ask = ask; answer = (taken_at node ask p).answer }; muted = muted } ∷ [];
+    }
+
+-- the actor goes on by one line of its record
+unfoldable pub noted : ℕ → Record → Play → Play
+noted c r p = record p { actors = slice_set p.actors c (goes_on (actor_at p c) r) }
+
+-- ## How a call goes, by the actor's marks: a call that is marked twice is dropped
+pub data Delivery : Type 0 where
+  Delivered : Delivery
+  ReplyLost : Delivery
+  NotDelivered : Delivery
+
+unfoldable pub same_kind : MarkKind → MarkKind → Bool
+same_kind kind.Dropped kind.Dropped = true
+same_kind kind.Muted kind.Muted = true
+same_kind kind.Late kind.Late = true
+same_kind _ _ = false
+
+unfoldable pub is_marked : List Mark → ℕ → ℕ → MarkKind → Bool
+is_marked marks node number kind = list_any (λ m. (m.node == node) && ((m.number == number) && same_kind m.kind kind)) marks
+
+unfoldable pub delivery : List Mark → ℕ → ℕ → Delivery
+delivery marks node number =
+    if is_marked marks node number kind.Dropped then NotDelivered
+    else if is_marked marks node number kind.Muted then ReplyLost
+    else Delivered
+
+unfoldable pub told_of : Delivery → NodeAnswer → Told
+told_of NotDelivered answer = told.Dropped
+told_of ReplyLost answer = told.Muted
+told_of Delivered (Replied reply) = told.Reply reply
+told_of Delivered _ = told.Silent
+
+unfoldable pub call_made : Delivery → ℕ → ℕ → Request → Play → Play
+call_made NotDelivered c node r p = noted c (Call node r told.Dropped) p
+call_made ReplyLost c node r p = noted c (Call node r told.Muted) (node_asked node c true (Act false r) p)
+call_made Delivered c node r p = noted c (Call node r (told_of Delivered (taken_at node (Act false r) p).answer)) (node_asked node c false (Act false r) p)
+
+unfoldable pub copy_made : ℕ → ℕ → Request → Play → Play
+copy_made c node r p = noted c (Late node r) (node_asked node c false (Act true r) p)
+
+-- ## One step: what the actor in turn wants, or the end of its turn; else the next line
+unfoldable pub wanted : Want → ℕ → Play → Play
+wanted Rests c p = record p { turn = None }
+wanted (Says text) c p = noted c (Outcome text) p
+wanted (WantsCall node r) c p = call_made (delivery (actor_at p c).marks node (next_number node (actor_at p c).past)) c node r p
+wanted (WantsCopy node r) c p = copy_made c node r p
+
+unfoldable pub is_done : NodeAnswer → Bool
+is_done Done = true
+is_done _ = false
+
+unfoldable pub line_taken : Line → Play → Play
+line_taken (Declares name) p = record p { names = p.names ++ name ∷ []; actors = p.actors ++ fresh_actor p.nodes ∷ [] }
+line_taken (Acts c d) p = record p { turn = Some c; actors = slice_set p.actors c (handed d (actor_at p c)) }
+line_taken (Operates node ask) p =
+    record (node_asked node p.operator false ask p) { operated = p.operated ++ Operator node ask (is_done (taken_at node ask p).answer) ∷ [] }
+
+unfoldable pub next_line : List Line → Play → Play
+next_line [] p = p
+next_line (l ∷ ls) p = line_taken l (record p { lines = ls })
+
+unfoldable pub turned : Option ℕ → Play → Play
+turned None p = next_line p.lines p
+turned (Some c) p = wanted (wants (actor_at p c)) c p
+
+unfoldable pub play_step : Play → Play
+play_step p = turned p.turn p
+
+unfoldable pub play_steps : ℕ → Play → Play
+play_steps zero p = p
+play_steps (suc n) p = play_steps n (play_step p)
+
+-- ## A play: the steps from the beginning to the end
+unfoldable pub no_lines : List Line → Bool
+no_lines [] = true
+no_lines (l ∷ ls) = false
+
+unfoldable pub has_ended : Play → Bool
+has_ended p = no_lines p.lines && is_none p.turn
+
+pub record IsPlay (nodes : ℕ) (lines : List Line) (p : Play) : Type 0 where
+  pub steps : ℕ
+  pub reached : play_steps steps (play_begins nodes lines) ≡ p
+  pub ended : has_ended p ≡ true
+
+abbrev pub Plays : ScriptView → Play → Type 0
+Plays s p = IsPlay s.nodes (lines_of s) p
+
+-- ## Its mesh and its ends
+unfoldable pub history_of : ℕ → List Placed → List HistoryLine
+history_of node xs = map (λ x. x.line) (filter (λ x. x.node == node) xs)
+
+-- of so many nodes, from this one on
+unfoldable pub histories_from : ℕ → ℕ → List Placed → List (List HistoryLine)
+histories_from node zero xs = []
+histories_from node (suc count) xs = history_of node xs ∷ histories_from (node + 1) count xs
+
+unfoldable pub mesh_of : Play → Mesh
+mesh_of p =
+    record {
+      nodes = p.nodes;
+      histories = histories_from 1 p.nodes p.trace;
+      records = map (λ a. a.past) p.actors ++ p.operated ∷ [];
+      plan = map (λ a. a.marks) p.actors;
+    }
+
+unfoldable pub ends_of : Play → List End
+ends_of p = map (λ name. record { name = name }) p.names

@@ -1,0 +1,51 @@
+-- What holds of every writer of a play: it calls nodes that are there, and while a round is under way it names a call.
+use Rattle.std.specs.Prelude.{◌≡◌, ℕ, ◌≤◌, ◌<◌, List, [], ◌∷◌, length, Some, None, Bool, true, false}
+use Rattle.journal_core.specs.declared.request.Request.{Request}
+use Rattle.writer_core.specs.declared.turn.Turn.{Turn}
+use Rattle.writer_core.specs.declared.turn.Turn.TheVariants as turn
+use Rattle.writer_core.specs.declared.task.Task.{Task}
+use Rattle.writer_core.specs.Views.{WriterView}
+use Rattle.writer_core.specs.Left.{IsLive}
+use Rattle.mesh.specs.Sized.{Sized}
+use Rattle.writer_core.specs.Writer.{next_call, is_under_way}
+use Rattle.cluster_runner.specs.Lines.{Line, Does}
+use Rattle.cluster_runner.specs.Kept.{Kept, KeptActor, actor_of, IsAtRest, IsInTurn, IsAfterTurn, LeadsTo}
+use Rattle.cluster_runner.specs.ResultLists.{TurnFits}
+
+-- each call is of a node from 1 on, up to this one
+abbrev pub CallsWithin : ℕ → WriterView → Type 0
+CallsWithin nodes w = (node : ℕ) (request : Request) → next_call w ≡ Some (node, request) → (1 ≤ node) × (node ≤ nodes)
+
+pub record IsReady (nodes : ℕ) (w : WriterView) : Type 0 where
+  pub live : IsLive w
+  pub sized : Sized nodes w
+
+abbrev pub AreReady : Kept → Type 0
+AreReady k = (c : ℕ) → c < length k.actors → IsReady (length k.nodes) (actor_of k c).writer
+
+-- no actor has a call to make
+pub record IsIdle (k : Kept) : Type 0 where
+  pub some : 1 ≤ length k.nodes
+  pub ready : AreReady k
+  pub resting : (c : ℕ) → c < length k.actors → next_call (actor_of k c).writer ≡ None
+
+abbrev pub is_going : Turn → Bool
+is_going turn.Going = true
+is_going _ = false
+
+-- the actor's task went on from the one to the other, and its last call had this turn
+pub record GoesOn (c : ℕ) (old new : Kept) (turn : Turn) : Type 0 where
+  pub nodes : length new.nodes ≡ length old.nodes
+  pub actors : length new.actors ≡ length old.actors
+  pub ready : AreReady new
+  pub others : (d : ℕ) → (d ≡ c → ⊥) → actor_of new d ≡ actor_of old d
+  pub leads : (lines : List Line) (t : Task) → LeadsTo (IsInTurn lines c (Some t) [] old) (IsAfterTurn lines c t turn new)
+  pub tells : is_under_way (actor_of new c).writer.phase ≡ is_going turn
+  pub fits : TurnFits turn
+
+-- a line was taken
+pub record TakesLine (line : Line) (actors : ℕ) (old new : Kept) : Type 0 where
+  pub nodes : length new.nodes ≡ length old.nodes
+  pub actors_are : length new.actors ≡ actors
+  pub idle : IsIdle new
+  pub leads : (lines : List Line) → LeadsTo (IsAtRest (line ∷ lines) old) (IsAtRest lines new)

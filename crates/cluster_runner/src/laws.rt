@@ -1,0 +1,45 @@
+// What holds of every play.
+ghost use Rattle.cluster_runner.specs.Laws.{LinesAgree, LinesFollow, PlaysAgree, PlaysFollow, OnePlay, LocalRuns, LinesOneByOne, LineLater, LedIsMade, OneRecord, EachResult};
+
+/// The lists of all nodes and of all callers of a play agree.
+pub fn a_play_agrees()
+    ensures lines { LinesAgree }
+    ensures script { PlaysAgree }
+{}
+
+/// Its nodes, its actors' records and plans, and the operator's record are the script's.
+pub fn a_play_follows()
+    ensures lines { LinesFollow }
+    ensures script { PlaysFollow }
+{}
+
+/// A script has one play.
+pub fn one_script_has_one_play()
+    ensures { OnePlay }
+{}
+
+/// Each node's history is what one node answers from its beginning on, also before the play has ended.
+pub fn histories_are_local_runs()
+    ensures { LocalRuns }
+{}
+
+/// Lines that are handed to an actor together or one by one are the same.
+pub fn lines_one_by_one()
+    ensures together { LinesOneByOne }
+    ensures later { LineLater }
+{}
+
+/// An actor's calls are those of its tasks, by the answers that it heard.
+pub fn an_actor_does_its_tasks()
+    ensures { LedIsMade }
+{}
+
+/// What an actor's calls were told fixes its whole record.
+pub fn answers_fix_the_record()
+    ensures { OneRecord }
+{}
+
+/// Each edit of a log line has exactly one result line, and so has each takeover, roll, close and purge.
+pub fn each_edit_has_one_result()
+    ensures { EachResult }
+{}

@@ -1,0 +1,23 @@
+//! Plays of scripts: nodes and actors in memory, taken through a script's lines in order; what a play is, and what holds of every play.
+#![tactic(auto)]
+
+mod cluster;
+mod examples;
+mod laws;
+mod played;
+mod player;
+mod results;
+mod site;
+mod task_line;
+
+pub use examples::{
+    refuses_broken_meshes, shows_competing_takeovers, shows_cut_in_accept, shows_dropped_call,
+    shows_epoch_order, shows_fenced_writer, shows_first_order, shows_first_run, shows_killed_nodes,
+    shows_late_copies, shows_lost_fetch, shows_recovered_edit, shows_rolled_and_purged,
+    shows_stopped_in_prepare,
+};
+pub use laws::{
+    a_play_agrees, a_play_follows, an_actor_does_its_tasks, answers_fix_the_record,
+    each_edit_has_one_result, histories_are_local_runs, lines_one_by_one, one_script_has_one_play,
+};
+pub use played::{Played, play};

@@ -1,0 +1,12 @@
+pub mod Lists
+pub mod WriterRange
+pub mod WriterNext
+pub mod Calls
+pub mod Senders
+pub mod Shared
+pub mod Winners
+pub mod Heads
+pub mod OneOwner
+pub mod Keys
+pub mod Sorting
+pub mod Cutting

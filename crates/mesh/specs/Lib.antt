@@ -1,0 +1,9 @@
+pub mod Marks
+pub mod Makers
+pub mod Matches
+pub mod Agree
+pub mod Owners
+pub mod Order
+pub mod Sorted
+pub mod Laws
+pub mod Sized

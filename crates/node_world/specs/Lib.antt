@@ -1,0 +1,12 @@
+pub mod Majority
+pub mod Entries
+pub mod Run
+pub mod Safe
+pub mod Laws
+pub mod Parts
+pub mod Tables
+pub mod Examples
+pub mod Cuts
+pub mod Cell
+pub mod Moving
+pub mod CellLaws

@@ -1,0 +1,22 @@
+//! The journal world: what happens at nodes and callers and what each of them lists of it; many writers over nodes that may
+//! lose calls, stop and restart; what a run of it is, and what every run keeps.
+#![tactic(auto)]
+
+pub mod cells;
+mod event;
+pub mod examples;
+mod history_line;
+pub mod laws;
+mod mark;
+mod node_ask;
+mod record;
+mod seen;
+mod stop;
+
+pub use event::{Event, Fate};
+pub use history_line::{HistoryLine, HistoryList};
+pub use mark::{ActorPlan, Mark, MarkKind, Plan};
+pub use node_ask::{NodeAnswer, NodeAsk};
+pub use record::{Record, RecordList, Told};
+pub use seen::Seen;
+pub use stop::Stop;

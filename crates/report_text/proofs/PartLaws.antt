@@ -1,0 +1,26 @@
+-- Numbers in decimal.
+use Rattle.std.proofs.Common.{ℕ, ◌≡◌, ◌<◌, ◌≤◌, ◌+◌, ◌-◌, ◌^◌, List, [], ◌∷◌, ◌++◌, length, take, drop, replicate, refl, sym, ◌∙◌, ap, arith, append_assoc, append-nil, decimal, rules}
+use Rattle.std.proofs.lemmas.Fmt.{length-decimal-le}
+use Rattle.std.proofs.lemmas.List.{take_rest}
+use Rattle.journal_core.specs.Texts.{spaced, numbers_text}
+
+pub decimal_short : (n : ℕ) → n < 2 ^ 64 → length (decimal n) ≤ 20
+decimal_short n h = search (rules, length-decimal-le 20)
+
+-- the digits stand behind the place at which they start
+pub digits_piece : (n start : ℕ) (buf : List ℕ) → length buf ≡ 20 → drop start buf ≡ decimal n ++ drop 20 (replicate 20 32) → take (20 - start) (drop start buf) ≡ decimal n
+digits_piece n start buf size written =
+    ap (λ k. take (k - start) (drop start buf)) (sym size) ∙ take_rest buf start ∙ written ∙ append-nil (decimal n)
+
+pub ruleset decimals = (decimal_short, digits_piece)
+
+pub numbers_one : (out space new : List ℕ) (n : ℕ) → space ≡ out ++ 32 ∷ [] → new ≡ space ++ decimal n → new ≡ out ++ numbers_text (n ∷ [])
+unfolding numbers_text
+numbers_one out space new n s e =
+    e ∙ ap (λ x. x ++ decimal n) s ∙ append_assoc out (32 ∷ []) (decimal n) ∙ ap (λ x. out ++ x) (sym (append-nil (32 ∷ decimal n)))
+
+pub numbers_two : (out one new : List ℕ) (m n : ℕ) → one ≡ out ++ numbers_text (m ∷ []) → new ≡ one ++ numbers_text (n ∷ []) → new ≡ out ++ numbers_text (m ∷ n ∷ [])
+unfolding numbers_text
+numbers_two out one new m n o e =
+    e ∙ ap (λ x. x ++ numbers_text (n ∷ [])) o ∙ append_assoc out (numbers_text (m ∷ [])) (numbers_text (n ∷ []))
+    ∙ ap (λ x. out ++ (x ++ numbers_text (n ∷ []))) (append-nil (32 ∷ decimal m))

@@ -1,0 +1,103 @@
+// What was asked of a node, and what came of it.
+ghost use Rattle.std.specs.Prelude.{◌≡◌, ◌++◌, OnOk};
+ghost use Rattle.report_text.specs.Text.{choice_text, stop_text, late_text, ask_text, answer_text, heard_text, done_text};
+
+use crate::parts::{put_pair, put_spaced};
+use journal_core::{Cut, OutOfMemory, print_reply, print_request};
+use node_world::{NodeAnswer, NodeAsk, Stop, Told};
+
+fn put_choice(out: &mut Vec<u8>, cut: Cut) -> Result<(), OutOfMemory>
+    ensures { OnOk result (out.new.items ≡ out.old.items ++ choice_text cut) }
+{
+    match cut {
+        Cut::Old => out.extend_from_slice(b" old"),
+        Cut::New => out.extend_from_slice(b" new"),
+        Cut::A5 => out.extend_from_slice(b" a5"),
+    }
+}
+
+fn put_stop(out: &mut Vec<u8>, calls: u64, stop: Stop) -> Result<(), OutOfMemory>
+    ensures { OnOk result (out.new.items ≡ out.old.items ++ stop_text calls stop) }
+{
+    match stop {
+        Stop::Effects { keep } => {
+            out.extend_from_slice(b"stop")?;
+            put_pair(out, calls, keep)?;
+            Ok(())
+        }
+        Stop::DiskCalls { calls: made, cut } => {
+            out.extend_from_slice(b"cut")?;
+            put_pair(out, calls, made)?;
+            put_choice(out, cut)?;
+            Ok(())
+        }
+    }
+}
+
+fn put_late(out: &mut Vec<u8>, late: bool) -> Result<(), OutOfMemory>
+    ensures { OnOk result (out.new.items ≡ out.old.items ++ late_text late) }
+{
+    if late {
+        out.extend_from_slice(b"late ")?;
+    }
+    Ok(())
+}
+
+/// What was asked.
+#[tactic(auto, unfolding(crate::specs::Text::ask_text))]
+pub fn put_ask(out: &mut Vec<u8>, ask: &NodeAsk) -> Result<(), OutOfMemory>
+    ensures { OnOk result (out.new.items ≡ out.old.items ++ ask_text ask.now) }
+{
+    match ask {
+        NodeAsk::Act { late, request } => {
+            put_late(out, *late)?;
+            print_request(request.get(), out)?;
+            Ok(())
+        }
+        NodeAsk::Kill => out.extend_from_slice(b"kill"),
+        NodeAsk::Restart => out.extend_from_slice(b"restart"),
+        NodeAsk::Arm { calls, stop } => put_stop(out, *calls, *stop),
+    }
+}
+
+/// What the node answered.
+#[tactic(auto, unfolding(crate::specs::Text::answer_text))]
+pub fn put_answer(out: &mut Vec<u8>, answer: &NodeAnswer) -> Result<(), OutOfMemory>
+    ensures { OnOk result (out.new.items ≡ out.old.items ++ answer_text answer.now) }
+{
+    match answer {
+        NodeAnswer::Replied(reply) => print_reply(reply, out),
+        NodeAnswer::Stopped { keep } => {
+            out.extend_from_slice(b"stopped")?;
+            put_spaced(out, *keep)?;
+            Ok(())
+        }
+        NodeAnswer::Done => out.extend_from_slice(b"done"),
+        NodeAnswer::Idle => out.extend_from_slice(b"idle"),
+        NodeAnswer::NotOpened(_) => out.extend_from_slice(b"not opened"),
+    }
+}
+
+/// What a caller heard.
+#[tactic(auto, unfolding(crate::specs::Text::heard_text))]
+pub fn put_heard(out: &mut Vec<u8>, told: &Told) -> Result<(), OutOfMemory>
+    ensures { OnOk result (out.new.items ≡ out.old.items ++ heard_text told.now) }
+{
+    match told {
+        Told::Reply(reply) => print_reply(reply, out),
+        Told::Dropped => out.extend_from_slice(b"dropped"),
+        Told::Muted => out.extend_from_slice(b"muted"),
+        Told::Silent => out.extend_from_slice(b"silent"),
+    }
+}
+
+/// Whether what the operator did took place.
+pub fn put_done(out: &mut Vec<u8>, done: bool) -> Result<(), OutOfMemory>
+    ensures { OnOk result (out.new.items ≡ out.old.items ++ done_text done) }
+{
+    if done {
+        out.extend_from_slice(b"done")
+    } else {
+        out.extend_from_slice(b"idle")
+    }
+}

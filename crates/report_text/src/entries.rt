@@ -1,0 +1,87 @@
+// The lines of histories and of records.
+ghost use Rattle.std.specs.Prelude.{◌≡◌, ◌++◌, OnOk};
+ghost use Rattle.mesh.specs.declared.end.End.{End};
+ghost use Rattle.report_text.specs.Text.{history_line_text, record_line_text, history_text, record_text};
+
+use crate::asks::{put_answer, put_ask, put_done, put_heard};
+use crate::parts::{caller_name, put_number};
+use journal_core::{OutOfMemory, print_request};
+use mesh::End;
+use node_world::{HistoryLine, Record};
+
+/// A line of a node's history.
+#[tactic(auto, unfolding(crate::specs::Text::history_line_text))]
+fn put_history_line(out: &mut Vec<u8>, ends: &[End], line: &HistoryLine) -> Result<(), OutOfMemory>
+    ensures { OnOk result (out.new.items ≡ out.old.items ++ history_line_text ends.now line.now) }
+{
+    out.extend_from_slice(caller_name(ends, line.caller))?;
+    out.push(b' ')?;
+    put_ask(out, &line.ask)?;
+    out.extend_from_slice(b" -> ")?;
+    put_answer(out, &line.answer)?;
+    out.push(b'\n')?;
+    Ok(())
+}
+
+/// A line of a caller's record.
+#[tactic(auto, unfolding(crate::specs::Text::record_line_text))]
+fn put_record_line(out: &mut Vec<u8>, line: &Record) -> Result<(), OutOfMemory>
+    ensures { OnOk result (out.new.items ≡ out.old.items ++ record_line_text line.now) }
+{
+    match line {
+        Record::Call {
+            node,
+            request,
+            told,
+        } => {
+            put_number(out, *node as u64)?;
+            out.push(b' ')?;
+            print_request(request.get(), out)?;
+            out.extend_from_slice(b" -> ")?;
+            put_heard(out, told)?;
+        }
+        Record::Late { node, request } => {
+            put_number(out, *node as u64)?;
+            out.extend_from_slice(b" late ")?;
+            print_request(request.get(), out)?;
+            out.extend_from_slice(b" -> gone")?;
+        }
+        Record::Operator { node, ask, done } => {
+            put_number(out, *node as u64)?;
+            out.push(b' ')?;
+            put_ask(out, ask)?;
+            out.extend_from_slice(b" -> ")?;
+            put_done(out, *done)?;
+        }
+        Record::Outcome { text } => {
+            out.extend_from_slice(b"= ")?;
+            out.extend_from_slice(text.as_slice())?;
+        }
+    }
+    out.push(b'\n')?;
+    Ok(())
+}
+
+/// A node's history, line by line.
+pub fn put_history(
+    out: &mut Vec<u8>,
+    ends: &[End],
+    lines: &[HistoryLine],
+) -> Result<(), OutOfMemory>
+    ensures { OnOk result (out.new.items ≡ out.old.items ++ history_text ends.now lines.now) }
+{
+    for line in lines {
+        put_history_line(out, ends, line)?;
+    }
+    Ok(())
+}
+
+/// A caller's record, line by line.
+pub fn put_record(out: &mut Vec<u8>, lines: &[Record]) -> Result<(), OutOfMemory>
+    ensures { OnOk result (out.new.items ≡ out.old.items ++ record_text lines.now) }
+{
+    for line in lines {
+        put_record_line(out, line)?;
+    }
+    Ok(())
+}

@@ -1,0 +1,14 @@
+//! The report of a play: each node's history, and each caller's record.
+#![tactic(auto)]
+
+mod asks;
+mod entries;
+mod examples;
+mod parts;
+mod report;
+mod size;
+#[cfg(test)]
+mod tests;
+
+pub use examples::reports_are_as_written;
+pub use report::report_of;

@@ -1,0 +1,49 @@
+// The smallest parts of a report, each added at the end of a list of bytes.
+ghost use Rattle.std.specs.Prelude.{◌≡◌, ◌++◌, ◌∷◌, [], OnOk, decimal};
+ghost use Rattle.journal_core.specs.Texts.{numbers_text};
+ghost use Rattle.mesh.specs.declared.end.End.{End};
+ghost use Rattle.report_text.specs.Text.{caller_name};
+
+use itoa::write_digits;
+use journal_core::OutOfMemory;
+use mesh::End;
+
+/// A number in decimal.
+#[tactic(auto, using(crate::proofs::PartLaws::decimals))]
+pub fn put_number(out: &mut Vec<u8>, number: u64) -> Result<(), OutOfMemory>
+    ensures { OnOk result (out.new.items ≡ out.old.items ++ decimal number) }
+{
+    let mut digits = [b' '; 20];
+    let start = write_digits(number, &mut digits, 20);
+    out.extend_from_slice(&digits[start..])
+}
+
+/// A number behind a space.
+#[tactic(auto, using(crate::proofs::PartLaws::numbers_one))]
+pub fn put_spaced(out: &mut Vec<u8>, number: u64) -> Result<(), OutOfMemory>
+    ensures { OnOk result (out.new.items ≡ out.old.items ++ numbers_text (number ∷ [])) }
+{
+    out.push(b' ')?;
+    put_number(out, number)?;
+    Ok(())
+}
+
+/// Two numbers, each behind a space.
+#[tactic(auto, using(crate::proofs::PartLaws::numbers_two))]
+pub fn put_pair(out: &mut Vec<u8>, first: u64, second: u64) -> Result<(), OutOfMemory>
+    ensures { OnOk result (out.new.items ≡ out.old.items ++ numbers_text (first ∷ second ∷ [])) }
+{
+    put_spaced(out, first)?;
+    put_spaced(out, second)?;
+    Ok(())
+}
+
+/// An actor's name by its number; a greater number is the operator's.
+pub fn caller_name<'a>(ends: &'a [End], caller: u32) -> &'a [u8]
+    ensures { result.now ≡ caller_name ends.now caller }
+{
+    match ends.get(caller as usize) {
+        Some(end) => end.name.as_slice(),
+        None => b"ops",
+    }
+}

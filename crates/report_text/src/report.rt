@@ -1,0 +1,101 @@
+// The report as a whole.
+ghost use Rattle.std.specs.Prelude.{◌≡◌, ◌++◌, ◌∷◌, [], OnOk, IfOk};
+ghost use Rattle.mesh.specs.declared.end.End.{End};
+ghost use Rattle.report_text.specs.Text.{node_text, nodes_text, actor_text, actors_text, operator_text, text_of};
+
+use crate::entries::{put_history, put_record};
+use crate::parts::put_spaced;
+use crate::size::text_size;
+use journal_core::OutOfMemory;
+use mesh::{End, EndList, Mesh};
+use node_world::{HistoryLine, HistoryList, Record, RecordList};
+use std::alloc::Global;
+
+/// A node's number, and its history.
+#[tactic(auto, unfolding(crate::specs::Text::node_text))]
+fn put_node(
+    out: &mut Vec<u8>,
+    ends: &[End],
+    node: u64,
+    lines: &[HistoryLine],
+) -> Result<(), OutOfMemory>
+    ensures { OnOk result (out.new.items ≡ out.old.items ++ node_text ends.now node lines.now) }
+{
+    out.extend_from_slice(b"node")?;
+    put_spaced(out, node)?;
+    out.push(b'\n')?;
+    put_history(out, ends, lines)?;
+    Ok(())
+}
+
+/// The nodes in order, from number 1 on.
+#[tactic(auto, using(crate::proofs::NodeLaws::node_steps))]
+fn put_nodes(out: &mut Vec<u8>, ends: &[End], histories: &[HistoryList]) -> Result<(), OutOfMemory>
+    ensures { OnOk result (out.new.items ≡ out.old.items ++ nodes_text ends.now 1 histories.now) }
+{
+    for (index, history) in histories.iter().enumerate() {
+        put_node(out, ends, index as u64 + 1, history.as_slice())?;
+    }
+    Ok(())
+}
+
+/// A caller's name, and its record.
+#[tactic(auto, unfolding(crate::specs::Text::actor_text))]
+fn put_actor(out: &mut Vec<u8>, name: &[u8], lines: &[Record]) -> Result<(), OutOfMemory>
+    ensures { OnOk result (out.new.items ≡ out.old.items ++ actor_text name.now lines.now) }
+{
+    out.extend_from_slice(b"actor ")?;
+    out.extend_from_slice(name)?;
+    out.push(b'\n')?;
+    put_record(out, lines)?;
+    Ok(())
+}
+
+/// The operator's record, where it isn't empty.
+#[tactic(auto, unfolding(crate::specs::Text::operator_text))]
+fn put_operator(out: &mut Vec<u8>, records: &[RecordList]) -> Result<(), OutOfMemory>
+    ensures { OnOk result (out.new.items ≡ out.old.items ++ operator_text records.now) }
+{
+    let [record, ..] = records else {
+        return Ok(());
+    };
+    let lines = record.as_slice();
+    if lines.is_empty() {
+        return Ok(());
+    }
+    put_actor(out, b"ops", lines)
+}
+
+/// The actors in order of declaration, and then the operator.
+#[tactic(auto, using(crate::proofs::NodeLaws::actor_steps))]
+fn put_actors(out: &mut Vec<u8>, ends: &[End], records: &[RecordList]) -> Result<(), OutOfMemory>
+    ensures { OnOk result (out.new.items ≡ out.old.items ++ actors_text ends.now records.now) }
+{
+    let mut rest = records;
+    for end in ends {
+        let Some((record, others)) = rest.split_first() else {
+            return Ok(());
+        };
+        put_actor(out, end.name.as_slice(), record.as_slice())?;
+        rest = others;
+    }
+    put_operator(out, rest)?;
+    Ok(())
+}
+
+/// The report of what a play leaves: each node's history, and each actor's record and then the
+/// operator's. `ends` has one end per actor.
+#[tactic(auto, unfolding(crate::specs::Text::text_of))]
+pub fn report_of(alloc: Global, mesh: &Mesh, ends: &EndList) -> Result<Vec<u8>, OutOfMemory>
+    ensures { IfOk result (λ report. report.items ≡ text_of mesh.now ends.now) }
+{
+    let ends = ends.as_slice();
+    let mut out = Vec::with_capacity(alloc, text_size(mesh, ends))?;
+    out.extend_from_slice(b"nodes")?;
+    put_spaced(&mut out, mesh.nodes as u64)?;
+    out.push(b'\n')?;
+    put_nodes(&mut out, ends, mesh.histories.as_slice())?;
+    put_actors(&mut out, ends, mesh.records.as_slice())?;
+    out.extend_from_slice(b"end\n")?;
+    Ok(out)
+}

@@ -1,0 +1,239 @@
+-- A text that breaks no rule is a script's.
+use Rattle.std.proofs.Common.{ℕ, ◌≡◌, ◌≤◌, ◌+◌, List, [], ◌∷◌, ◌++◌, length, Option, Some, None, Bool, true, false, not, ◌⊎◌, inl, inr, refl, sym, ap, ◌∙◌, subst, cond}
+use Rattle.std.specs.Prelude.{is_none}
+use Rattle.std.specs.List.{list_all}
+use Rattle.std.proofs.lemmas.Bool.{false≢true}
+use Rattle.std.proofs.lemmas.Bool.Decides.{eqb_tells}
+use Rattle.std.proofs.lemmas.Slice.Eq.{bytes_eq-Decides}
+use Rattle.script_text.specs.declared.kind.Kind.{Kind}
+use Rattle.script_text.specs.declared.kind.Kind.TheVariants as kind
+use Rattle.script_text.specs.declared.script_line.ScriptLine.{ScriptLine}
+use Rattle.script_text.specs.declared.script_line.ScriptLine.TheVariants.{Declare, Takeover, Log}
+use Rattle.script_text.specs.Views.{ScriptView, SaidView}
+use Rattle.script_text.specs.Lines.{Line, Ended, Open, lines_of, is_line, is_whole, Lacks, longest_line}
+use Rattle.script_text.specs.Words.{words_of, first_word, is_name, actor_of, is_body}
+use Rattle.script_text.specs.Grammar.{line_text, words_in, said_after, comes_again, first_line, nothing_said, texts_of, MaySay, AreLines, is_silent, telling, IsScript, IsScriptText}
+use Rattle.script_text.specs.Rules.{nodes_of, kind_of, bad_spacing, rule_said, rule_of, said_behind, said_next, or_later, first_fault, fault_of}
+use Rattle.script_text.specs.Reading.{Says, Stands}
+use Rattle.script_text.proofs.WordLaws.{words_more, words_all}
+use Rattle.script_text.proofs.KindLaws.{first_is, too_few, no_kind, again, ill_spaced, declares, misnames, takes_over, takes_nobody, logs_nothing, logs_nobody, logs_no_body, logs}
+use Rattle.script_text.proofs.FirstLaws.{told_is}
+use Rattle.script_text.proofs.ReadLaws.{text_is, line_fits, said_is}
+use Rattle.script_text.proofs.BodyLaws.{bodies_of}
+
+bool_is : (b : Bool) → (b ≡ true) ⊎ (b ≡ false)
+bool_is true = inl refl
+bool_is false = inr refl
+
+option_is : {A : Type 0} (o : Option A) → (o ≡ None) ⊎ ((x : A) × (o ≡ Some x))
+option_is None = inl refl
+option_is (Some x) = inr (x, refl)
+
+none_some : {A : Type 0} {x : A} (o : Option A) → o ≡ None → o ≡ Some x → ⊥
+none_some o e f = cc
+
+-- ## A text's first word, and the rest
+abbrev Cut : List ℕ → Type 0
+Cut text = (word : List ℕ) × (rest : List ℕ) × (text ≡ word ++ 32 ∷ rest) × Lacks 32 word
+
+cut : (text : List ℕ) → Lacks 32 text ⊎ Cut text
+cut [] = inl tt
+cut (b ∷ bs) =
+    elim (eqb_tells b 32) [
+      | inl p ↦ inr ([], bs, ap (λ c. c ∷ bs) p.1, tt)
+      | inr p ↦ elim (cut bs) [ inl l ↦ inl (p.1, l) | inr (word, rest, e, l) ↦ inr (b ∷ word, rest, ap (λ xs. b ∷ xs) e, (p.1, l)) ]
+    ]
+
+-- ## A line that breaks no rule says something
+abbrev Meaning : SaidView → List ℕ → Type 0
+Meaning said text = (line : ScriptLine) × Says said text line
+
+means_declaration : (said : SaidView) (text rest : List ℕ) → Stands said kind.Writer (words_of text) → words_of text ≡ first_word (words_of text) ∷ words_of rest → rule_said (Some said) text ≡ None → Meaning said text
+means_declaration said text rest s w e =
+    elim (bool_is (is_name rest)) [ inl n ↦ (Declare rest, declares said text rest s w n) | inr n ↦ absurd (none_some (rule_said (Some said) text) e (misnames said text rest s w n)) ]
+
+means_takeover : (said : SaidView) (text rest : List ℕ) → Stands said kind.Takeover (words_of text) → words_of text ≡ first_word (words_of text) ∷ words_of rest → rule_said (Some said) text ≡ None → Meaning said text
+means_takeover said text rest s w e =
+    elim (option_is (actor_of said.names rest)) [
+      | inl n ↦ absurd (none_some (rule_said (Some said) text) e (takes_nobody said text rest s w n))
+      | inr (actor, a) ↦ (Takeover actor, takes_over said text rest actor s w a)
+    ]
+
+means_log : (said : SaidView) (text rest : List ℕ) → Stands said kind.Log (words_of text) → words_of text ≡ first_word (words_of text) ∷ words_of rest → rule_said (Some said) text ≡ None → Meaning said text
+means_log said text rest s w e =
+    elim (cut rest) [
+      | inl l ↦ absurd (logs_nothing said text rest s w (words_all rest l))
+      | inr (name, bodies, r, l) ↦ with_name name bodies (words_more rest name bodies r l)
+    ]
+  where
+    with_actor : (name bodies : List ℕ) → words_of rest ≡ name ∷ words_of bodies → (actor : ℕ) → actor_of said.names name ≡ Some actor → Meaning said text
+    with_actor name bodies f actor a =
+        elim (bool_is (list_all is_body (words_of bodies))) [
+          | inl b ↦ let list = bodies_of (words_of bodies) b in (Log actor list.0, logs said text rest name bodies actor list.0 s w f a b list.1 list.2)
+          | inr b ↦ absurd (none_some (rule_said (Some said) text) e (logs_no_body said text rest name bodies actor s w f a b))
+        ]
+
+    with_name : (name bodies : List ℕ) → words_of rest ≡ name ∷ words_of bodies → Meaning said text
+    with_name name bodies f =
+        elim (option_is (actor_of said.names name)) [
+          | inl n ↦ absurd (none_some (rule_said (Some said) text) e (logs_nobody said text rest name bodies s w f n))
+          | inr (actor, a) ↦ with_actor name bodies f actor a
+        ]
+
+means_kind : (said : SaidView) (text : List ℕ) (k : Kind) → Stands said k (words_of text) → rule_said (Some said) text ≡ None → Meaning said text
+means_kind said text k s e =
+    elim (cut text) [
+      | inl l ↦ absurd (false≢true (sym s.spacing ∙ too_few k (words_of text) text (words_all text l)))
+      | inr (word, rest, t, l) ↦ by_kind k s rest (first_is k (words_of text) word (words_of rest) s.spacing (words_more text word rest t l))
+    ]
+  where
+    by_kind : (k : Kind) → Stands said k (words_of text) → (rest : List ℕ) → words_of text ≡ first_word (words_of text) ∷ words_of rest → Meaning said text
+    by_kind kind.Writer s rest w = means_declaration said text rest s w e
+    by_kind kind.Takeover s rest w = means_takeover said text rest s w e
+    by_kind kind.Log s rest w = means_log said text rest s w e
+
+means : (said : SaidView) (text : List ℕ) → rule_said (Some said) text ≡ None → Meaning said text
+means said text e =
+    elim (option_is (kind_of (first_word (words_of text)))) [
+      | inl n ↦ absurd (none_some (rule_said (Some said) text) e (no_kind said text n))
+      | inr (k, f) ↦ with_kind k f
+    ]
+  where
+    with_kind : (k : Kind) → kind_of (first_word (words_of text)) ≡ Some k → Meaning said text
+    with_kind k f =
+        elim (bool_is (comes_again said k)) [
+          | inl a ↦ absurd (none_some (rule_said (Some said) text) e (again said text k f a))
+          | inr a ↦ elim (bool_is (bad_spacing k (words_of text))) [
+            | inl b ↦ absurd (none_some (rule_said (Some said) text) e (ill_spaced said text k f a b))
+            | inr b ↦ means_kind said text k (record { kind = f; once = a; spacing = b }) e
+          ]
+        ]
+
+-- ## All lines
+later_none : (number : ℕ) (rule : Option ℕ) (later : Option (ℕ × ℕ)) → or_later number rule later ≡ None → (rule ≡ None) × (later ≡ None)
+later_none number (Some rule) later e = cc
+later_none number None later e = (refl, e)
+
+fault_next : (number : ℕ) (said : Option SaidView) (text : List ℕ) (ls : List Line) → first_fault number said (Ended text ∷ ls) ≡ None
+    → (rule_of said text ≡ None) × (first_fault (number + 1) (said_behind said text) ls ≡ None)
+unfolding first_fault
+fault_next number said text ls e = later_none number (rule_of said text) (first_fault (number + 1) (said_behind said text) ls) e
+
+open_faults : (number : ℕ) (said : Option SaidView) (text : List ℕ) (ls : List Line) → first_fault number said (Open text ∷ ls) ≡ None → ⊥
+unfolding first_fault
+open_faults number said text ls e = cc
+
+line_good : (said : Option SaidView) (text : List ℕ) → rule_of said text ≡ None → is_line text ≡ true
+unfolding rule_of
+line_good said text e = by (is_line text) e
+  where
+    by : (b : Bool) → cond (not b) (Some 10) (cond (is_silent text) None (rule_said said text)) ≡ None → b ≡ true
+    by true h = refl
+    by false h = cc
+
+said_good : (said : Option SaidView) (text : List ℕ) → rule_of said text ≡ None → is_line text ≡ true → is_silent text ≡ false → rule_said said text ≡ None
+unfolding rule_of
+said_good said text e w q = rw (w, q) at e
+
+behind_silent : (said : Option SaidView) (text : List ℕ) → is_silent text ≡ true → said_behind said text ≡ said
+unfolding said_behind
+behind_silent said text q = rw q refl
+
+behind_loud : (said : Option SaidView) (text : List ℕ) → is_silent text ≡ false → said_behind said text ≡ Some (said_next said text)
+unfolding said_behind
+behind_loud said text q = rw q refl
+
+telling_silent : (text : List ℕ) (lines : List Line) → is_silent text ≡ true → telling (Ended text ∷ lines) ≡ telling lines
+telling_silent text lines q = rw q refl
+
+telling_loud : (text : List ℕ) (lines : List Line) → is_silent text ≡ false → telling (Ended text ∷ lines) ≡ text ∷ telling lines
+telling_loud text lines q = rw q refl
+
+-- the lines say this script's lines
+pub record AreSaid (said : SaidView) (ls : List Line) (script : List ScriptLine) : Type 0 where
+  pub whole : list_all is_whole ls ≡ true
+  pub says : telling ls ≡ texts_of said script
+  pub lines : AreLines said script
+
+nothing_left : (said : SaidView) → AreSaid said [] []
+unfolding texts_of AreLines
+nothing_left said = record { whole = refl; says = refl; lines = tt }
+
+said_silent : (said : SaidView) (text : List ℕ) (ls : List Line) (lines : List ScriptLine) → is_line text ≡ true → is_silent text ≡ true → AreSaid said ls lines → AreSaid said (Ended text ∷ ls) lines
+said_silent said text ls lines w q a = record { whole = rw w a.whole; says = telling_silent text ls q ∙ a.says; lines = a.lines }
+
+said_loud : (said : SaidView) (text : List ℕ) (ls : List Line) (line : ScriptLine) (lines : List ScriptLine) → is_line text ≡ true → is_silent text ≡ false → Says said text line
+    → AreSaid (said_after said line) ls lines → AreSaid said (Ended text ∷ ls) (line ∷ lines)
+unfolding texts_of AreLines
+said_loud said text ls line lines w q s a =
+    let same : text ≡ line_text said.names line = text_is text (words_in said.names line) s.words in
+    let may : MaySay said line = record { sense = s.sense; once = s.once; fits = subst (λ (t : List ℕ). length t ≤ longest_line) same (line_fits text w) } in
+    record {
+      whole = rw w a.whole;
+      says = telling_loud text ls q ∙ ap (λ t. t ∷ telling ls) same ∙ ap (λ ts. line_text said.names line ∷ ts) a.says;
+      lines = (may, a.lines);
+    }
+
+lines_said : (number : ℕ) (said : SaidView) (ls : List Line) → first_fault number (Some said) ls ≡ None → (lines : List ScriptLine) × AreSaid said ls lines
+lines_said number said [] e = ([], nothing_left said)
+lines_said number said (Open text ∷ ls) e = absurd (open_faults number (Some said) text ls e)
+lines_said number said (Ended text ∷ ls) e =
+    let f = fault_next number (Some said) text ls e in
+    let w = line_good (Some said) text f.0 in
+    elim (bool_is (is_silent text)) [
+      | inl q ↦ let rest = lines_said (number + 1) said ls (ap (λ s. first_fault (number + 1) s ls) (sym (behind_silent (Some said) text q)) ∙ f.1) in (rest.0, said_silent said text ls rest.0 w q rest.1)
+      | inr q ↦
+          let m = means said text (said_good (Some said) text f.0 w q) in
+          let next : said_behind (Some said) text ≡ Some (said_after said m.0) = behind_loud (Some said) text q ∙ ap Some (said_is said text m.0 m.1.words) in
+          let rest = lines_said (number + 1) (said_after said m.0) ls (ap (λ s. first_fault (number + 1) s ls) (sym next) ∙ f.1) in
+          (m.0 ∷ rest.0, said_loud said text ls m.0 rest.0 w q m.1 rest.1)
+    ]
+
+-- the lines are a script's, from the first that says something on
+pub record AreScript (ls : List Line) (s : ScriptView) : Type 0 where
+  pub whole : list_all is_whole ls ≡ true
+  pub says : telling ls ≡ first_line s.nodes ∷ texts_of nothing_said s.lines
+  pub script : IsScript s
+
+end_faults : (number : ℕ) → first_fault number None [] ≡ None → ⊥
+unfolding first_fault
+end_faults number e = cc
+
+first_good : (text : List ℕ) → rule_said None text ≡ None → (nodes : ℕ) × (nodes_of text ≡ Some nodes)
+unfolding rule_said
+first_good text e = by (nodes_of text) refl e
+  where
+    by : (o : Option ℕ) → nodes_of text ≡ o → cond {A = Option ℕ} (is_none o) (Some 1) None ≡ None → (nodes : ℕ) × (nodes_of text ≡ Some nodes)
+    by None h k = cc
+    by (Some nodes) h k = (nodes, h)
+
+script_said : (number : ℕ) (ls : List Line) → first_fault number None ls ≡ None → (s : ScriptView) × AreScript ls s
+script_said number [] e = absurd (end_faults number e)
+script_said number (Open text ∷ ls) e = absurd (open_faults number None text ls e)
+script_said number (Ended text ∷ ls) e =
+    let f = fault_next number None text ls e in
+    let w = line_good None text f.0 in
+    elim (bool_is (is_silent text)) [
+      | inl q ↦
+          let rest = script_said (number + 1) ls (ap (λ s. first_fault (number + 1) s ls) (sym (behind_silent None text q)) ∙ f.1) in
+          (rest.0, record { whole = rw w rest.1.whole; says = telling_silent text ls q ∙ rest.1.says; script = rest.1.script })
+      | inr q ↦
+          let first = first_good text (said_good None text f.0 w q) in
+          let told = told_is text first.0 first.1 in
+          let same : text ≡ first_line first.0 = (bytes_eq-Decides text (first_line first.0)).0 told.0 in
+          let rest = lines_said (number + 1) nothing_said ls (ap (λ s. first_fault (number + 1) s ls) (sym (behind_loud None text q)) ∙ f.1) in
+          let s : ScriptView = record { nodes = first.0; lines = rest.0 } in (
+            s,
+            record {
+              whole = rw w rest.1.whole;
+              says = telling_loud text ls q ∙ ap (λ t. t ∷ telling ls) same ∙ ap (λ ts. first_line first.0 ∷ ts) rest.1.says;
+              script = record { some = told.1; most = told.2; lines = rest.1.lines };
+            },
+          )
+    ]
+
+pub else_broken : (bytes : List ℕ) → fault_of bytes ≡ None → (s : ScriptView) × IsScriptText bytes s
+unfolding fault_of
+else_broken bytes e =
+    let found = script_said 1 (lines_of bytes) e in
+    (found.0, record { whole = found.1.whole; says = found.1.says; script = found.1.script })

@@ -1,0 +1,9 @@
+pub mod InPlace
+pub mod Waiting
+pub mod BestLaws
+pub mod Steps
+pub mod Judging
+pub mod RankLaws
+pub mod RoundLaws
+pub mod LeftLaws
+pub mod LiveLaws

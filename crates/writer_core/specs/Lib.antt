@@ -1,0 +1,14 @@
+pub mod Views
+pub mod Answers
+pub mod Best
+pub mod Rounds
+pub mod Writer
+pub mod Whole
+pub mod Examples
+pub mod Stages
+pub mod PieceList
+pub mod Value
+pub mod Sound
+pub mod Rank
+pub mod Calls
+pub mod Left
