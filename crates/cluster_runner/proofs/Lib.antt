@@ -28,3 +28,14 @@ pub mod ResultLaws
 pub mod Ends
 pub mod LineLaws
 pub mod PlayLaws
+mod Tracked
+mod CallLeft
+mod RoundCalls
+mod RoundEnds
+mod Asks
+mod Begins
+mod Acting
+mod Recorded
+mod Nodes
+mod Deliveries
+mod Running

@@ -2,6 +2,8 @@
 use Rattle.std.specs.Prelude.{◌≡◌, ℕ, ◌+◌, ◌<◌, ◌≤◌, List, [], ◌∷◌, ◌++◌}
 use Rattle.node_world.specs.declared.record.Record.{Record}
 use Rattle.node_world.specs.Cell.{fresh_cell, IsLocalRun}
+use Rattle.node_world.specs.Moving.{moving_of}
+use Rattle.node_world.specs.Run.{IsRun}
 use Rattle.mesh.specs.Makers.{IsOfTasks}
 use Rattle.mesh.specs.Agree.{Agrees}
 use Rattle.script_text.specs.Views.{ScriptView}
@@ -26,6 +28,13 @@ PlaysAgree = (s : ScriptView) → (p : Play) → IsPlayable s → Plays s p → 
 
 abbrev pub PlaysFollow : Type 0
 PlaysFollow = (s : ScriptView) → (p : Play) → IsPlayable s → Plays s p → FollowsScript s (mesh_of p) (ends_of p)
+
+-- the moving entries of a play, in script order, are a run of the journal world
+abbrev pub LinesAreRuns : Type 0
+LinesAreRuns = (nodes : ℕ) → (lines : List Line) → (p : Play) → ArePlayable nodes 0 lines → IsPlay nodes lines p → IsRun nodes (moving_of p.trace)
+
+abbrev pub PlaysAreRuns : Type 0
+PlaysAreRuns = (s : ScriptView) → (p : Play) → IsPlayable s → Plays s p → IsRun s.nodes (moving_of p.trace)
 
 abbrev pub OnePlay : Type 0
 OnePlay = (s : ScriptView) → (p q : Play) → Plays s p → Plays s q → p ≡ q

@@ -1,5 +1,5 @@
 // What holds of every play.
-ghost use Rattle.cluster_runner.specs.Laws.{LinesAgree, LinesFollow, PlaysAgree, PlaysFollow, OnePlay, LocalRuns, LinesOneByOne, LineLater, LedIsMade, OneRecord, EachResult};
+ghost use Rattle.cluster_runner.specs.Laws.{LinesAgree, LinesFollow, PlaysAgree, PlaysFollow, LinesAreRuns, PlaysAreRuns, OnePlay, LocalRuns, LinesOneByOne, LineLater, LedIsMade, OneRecord, EachResult};
 
 /// The lists of all nodes and of all callers of a play agree.
 pub fn a_play_agrees()
@@ -11,6 +11,12 @@ pub fn a_play_agrees()
 pub fn a_play_follows()
     ensures lines { LinesFollow }
     ensures script { PlaysFollow }
+{}
+
+/// The moving entries of a play, in script order, are a run of the journal world.
+pub fn a_play_is_a_run()
+    ensures lines { LinesAreRuns }
+    ensures script { PlaysAreRuns }
 {}
 
 /// A script has one play.

@@ -3,7 +3,7 @@ ghost use Rattle.std.specs.Prelude.{◌≡◌, ◌++◌, ◌∷◌, [], OnOk, If
 ghost use Rattle.journal_core.specs.declared.heard.Heard.TheVariants.{Answer};
 ghost use Rattle.node_world.specs.declared.record.Record.TheVariants.{Outcome};
 ghost use Rattle.writer_core.specs.Writer.{new_writer, next_call, writer_heard};
-ghost use Rattle.writer_core.specs.Stages.{is_fetch, round_in};
+ghost use Rattle.writer_core.specs.Current.{is_fetch, round_in};
 ghost use Rattle.cluster_runner.specs.Kept.{call_record};
 
 use journal_core::{Bytes, Heard, OutOfMemory, Reply, SharedRequest};

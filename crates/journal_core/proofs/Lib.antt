@@ -13,3 +13,4 @@ pub mod NodeLaws
 pub mod LedLaws
 pub mod WordLaws
 pub mod ReadLaws
+pub mod LineLaws

@@ -15,3 +15,5 @@ pub mod Budgets
 pub mod Laws
 pub mod Reading
 pub mod Words
+pub mod Lines
+pub mod ExampleTexts

@@ -1,4 +1,5 @@
-// Laws of the node step, each proved for every state and every request.
+// Laws of the node step and of texts, each proved for every state and every request.
+ghost use Rattle.journal_core.specs.Lines.{TextsAreRead};
 ghost use Rattle.journal_core.specs.Laws.{PromiseNeverFalls, StopKeepsPromise, RefusedAtOnceIsIdle, OpenSegmentIsLed, StopBehindNothingIsKill, StepIsItsEffects};
 
 /// No request lowers a promise.
@@ -29,4 +30,9 @@ pub fn stop_behind_nothing_is_kill()
 /// A step's effects make all the change to what is durable.
 pub fn step_is_its_effects()
     ensures { StepIsItsEffects }
+{}
+
+/// What is printed of a request is read as that request.
+pub fn texts_are_read()
+    ensures { TextsAreRead }
 {}

@@ -35,6 +35,8 @@ mod serving;
 mod shared_request;
 mod stops;
 mod table;
+#[cfg(test)]
+mod tests;
 mod told_segment;
 mod words;
 
@@ -44,14 +46,14 @@ pub use bytes::Bytes;
 pub use cut::Cut;
 pub use examples::{
     a_limit_is_passed, a_node_is_down, a_purge_keeps_what_is_not_committed, a_segment_is_recovered,
-    a_session_is_answered,
+    a_session_is_answered, a_session_is_printed, a_session_is_read,
 };
 pub use head::Head;
 pub use number_text::print_number;
 pub use heard::Heard;
 pub use laws::{
     open_segment_is_led, promise_never_falls, refused_at_once_is_idle, step_is_its_effects,
-    stop_behind_nothing_is_kill, stop_keeps_promise,
+    stop_behind_nothing_is_kill, stop_keeps_promise, texts_are_read,
 };
 pub use limits::{MAX_BATCH, MAX_BODY, MAX_NUMBER, MAX_SEGMENT};
 pub use node::{CutNode, Node};

@@ -39,3 +39,7 @@ pub mod Requests
 pub mod Stops
 pub mod CellLaws
 pub mod Raised
+pub mod Moves
+pub mod Entering
+pub mod Tales
+pub mod TaleSteps

@@ -1,5 +1,5 @@
 -- The best of the prepare answers is one of those that count.
-use Rattle.std.proofs.Common.{ℕ, ◌≡◌, ◌<◌, ◌≤◌, ◌+◌, ◌-◌, List, [], ◌∷◌, length, Option, Some, None, IfSome, Bool, true, false, cond, refl, sym, ap, arith, suc, zero, ◌∙◌, slice_get, nat_le, eqb}
+use Rattle.std.proofs.Common.{ℕ, ◌≡◌, ◌≤◌, ◌+◌, ◌-◌, List, [], ◌∷◌, Option, Some, None, IfSome, Bool, true, false, cond, refl, arith, suc, slice_get}
 use Rattle.std.proofs.lemmas.Bool.Decides.{nat_tests}
 use Rattle.journal_core.specs.declared.segment_info.SegmentInfo.{SegmentInfo}
 use Rattle.journal_core.specs.declared.reply.Reply.{Reply}
@@ -10,7 +10,7 @@ use Rattle.writer_core.specs.declared.slot.Slot.{Slot}
 use Rattle.writer_core.specs.declared.slot.Slot.TheVariants.{Waiting, LeftOut, Told}
 use Rattle.writer_core.specs.Answers.{fits_prepare, fits_told, is_ok}
 use Rattle.writer_core.specs.Best.{Best, better, outranks, told_by, segment_told, segment_in, best_from, best_of}
-use Rattle.writer_core.specs.Sound.{IsCounted, IsOkAt}
+use Rattle.writer_core.specs.Sound.{IsCounted}
 
 -- a segment that counts, and where its answer stands in the list
 record IsAt (start place : ℕ) (info : SegmentInfo) (slots : List Slot) : Type 0 where

@@ -1,31 +1,31 @@
 -- What a round's judgement rests on.
-use Rattle.std.proofs.Common.{ℕ, ◌≡◌, ◌<◌, ◌≤◌, ◌+◌, ◌-◌, ◌*◌, ◌&&◌, List, [], ◌∷◌, length, map, Bool, true, false, cond, Option, Some, None, is_some, Result, Ok, Err, refl, sym, ap, arith, suc, zero, ◌∙◌, position, set, slice_get, count_by, sum_by, get_or, nat_lt}
+use Rattle.std.proofs.Common.{ℕ, ◌≡◌, ◌<◌, ◌≤◌, ◌+◌, ◌-◌, ◌*◌, ◌&&◌, List, [], length, Bool, true, false, cond, Option, Some, None, Ok, Err, refl, sym, ap, arith, ◌∙◌, position, set, slice_get, count_by, sum_by, get_or, nat_lt}
 use Rattle.std.proofs.lemmas.List.Sums.{sum_by-set}
 use Rattle.std.proofs.lemmas.Option.{slice_get_within, get_or_from_slice_get}
 use Rattle.std.proofs.lemmas.Bool.Decides.{nat_tests}
-use Rattle.std.specs.List.{list_any, position_or_len}
+use Rattle.std.specs.List.{position_or_len}
 use Rattle.std.proofs.lemmas.List.{length-set}
 use Rattle.journal_core.specs.Views.{BatchView}
 use Rattle.journal_core.specs.Limits.{max_number}
 use Rattle.journal_core.specs.declared.reply.Reply.TheVariants as reply
 use Rattle.journal_core.specs.declared.heard.Heard.{Heard}
 use Rattle.journal_core.specs.declared.heard.Heard.TheVariants.{Answer, Silent}
-use Rattle.writer_core.specs.declared.cause.Cause.{Cause}
 use Rattle.writer_core.specs.declared.round.Round.{Round}
 use Rattle.writer_core.specs.declared.round.Round.TheVariants as round
 use Rattle.writer_core.specs.declared.slot.Slot.{Slot}
-use Rattle.writer_core.specs.declared.slot.Slot.TheVariants.{Waiting, LeftOut, Told}
+use Rattle.writer_core.specs.declared.slot.Slot.TheVariants.{Told}
 use Rattle.writer_core.specs.declared.stage.RoundKind.{RoundKind}
 use Rattle.writer_core.specs.declared.stage.RoundKind.TheVariants as kind
 use Rattle.writer_core.specs.declared.phase.Phase.{Phase}
 use Rattle.writer_core.specs.declared.phase.Phase.TheVariants as phase
 use Rattle.writer_core.specs.declared.turn.Turn.TheVariants as turn
 use Rattle.writer_core.specs.Views.{WriterView}
-use Rattle.writer_core.specs.Answers.{is_ok, is_waiting, cause_of, has_majority}
+use Rattle.writer_core.specs.Answers.{is_ok, cause_of, has_majority}
 use Rattle.writer_core.specs.Best.{Best, best_of}
-use Rattle.writer_core.specs.Rounds.{numbers_fit, done_in, with_causes, Judged, judged, judged_by, going, stopped, next_serial, recovering, failed, taken_out, not_fetched, fetched}
+use Rattle.writer_core.specs.Rounds.{numbers_fit, with_causes, Judged, judged, judged_by, going, stopped, next_serial, recovering, failed, taken_out, not_fetched, fetched}
 use Rattle.writer_core.specs.Sound.{IsOkAt}
-use Rattle.writer_core.specs.Stages.{round_of, round_in, is_fetch, piece_fits, fetched_in, edits_heard}
+use Rattle.writer_core.specs.Stages.{round_of}
+use Rattle.writer_core.specs.Current.{round_in, piece_fits, fetched_in, edits_heard}
 
 -- which answers count doesn't depend on the bodies
 pub ok_alike : (k : RoundKind) (b : List (List ℕ)) → is_ok (round_of k []) ≡ is_ok (round_of k b)

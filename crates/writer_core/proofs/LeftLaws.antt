@@ -1,5 +1,5 @@
 -- Each answer leaves fewer calls to make, and while a round is under way one is to be made.
-use Rattle.std.proofs.Common.{ℕ, ◌≡◌, ◌<◌, ◌≤◌, ◌+◌, ◌-◌, ◌*◌, ◌&&◌, ◌++◌, List, [], ◌∷◌, length, Option, Some, None, Bool, true, false, cond, not, refl, sym, ap, arith, suc, zero, ◌∙◌, set, map, take, slice_get, ◌==◌, position, option_map, count_by, nat_lt, nat_le, is_some, replicate, length-append, length-take}
+use Rattle.std.proofs.Common.{ℕ, ◌≡◌, ◌<◌, ◌≤◌, ◌+◌, ◌-◌, ◌*◌, ◌&&◌, ◌++◌, List, [], ◌∷◌, length, Option, Some, None, Bool, true, false, cond, refl, sym, ap, arith, suc, zero, ◌∙◌, set, take, slice_get, ◌==◌, position, option_map, count_by, nat_lt, length-append}
 use Rattle.std.specs.List.{list_any, position_or_len}
 use Rattle.std.proofs.lemmas.Bool.Decides.{nat_tests}
 use Rattle.std.proofs.lemmas.List.{length-map, length-set}
@@ -8,7 +8,6 @@ use Rattle.journal_core.specs.Views.{BatchView, last_txid}
 use Rattle.journal_core.specs.Segments.{any_body}
 use Rattle.journal_core.specs.Limits.{max_number}
 use Rattle.journal_core.specs.declared.request.Request.{Request}
-use Rattle.journal_core.specs.declared.reply.Reply.{Reply}
 use Rattle.journal_core.specs.declared.reply.Reply.TheVariants as reply
 use Rattle.journal_core.specs.declared.heard.Heard.{Heard}
 use Rattle.journal_core.specs.declared.heard.Heard.TheVariants.{Answer, Silent}
@@ -20,20 +19,19 @@ use Rattle.writer_core.specs.declared.phase.Aim.{Aim}
 use Rattle.writer_core.specs.declared.phase.Aim.TheVariants as aim
 use Rattle.writer_core.specs.declared.slot.Slot.{Slot}
 use Rattle.writer_core.specs.declared.slot.Slot.TheVariants.{Waiting, LeftOut, Told}
+use Rattle.writer_core.specs.declared.turn.Turn.{Turn}
 use Rattle.writer_core.specs.declared.turn.Turn.TheVariants as turn
-use Rattle.writer_core.specs.declared.turn.Outcome.TheVariants as outcome
 use Rattle.writer_core.specs.Views.{WriterView}
 use Rattle.writer_core.specs.Answers.{fits, fits_edits, is_ok, is_waiting, has_majority}
 use Rattle.writer_core.specs.Best.{Best, best_of, greatest_promise, greatest_newest}
-use Rattle.writer_core.specs.Rounds.{to_all, to_others, none_left_out, missed, numbers_fit, Judged, judged, judged_by, done_in, going, stopped, with_causes, next_serial, proposing, after_state, after_propose, recovering, after_finalize, after_open, after_write, failed, taken_out, not_fetched, pieced, edits_fetched, fetched}
-use Rattle.writer_core.specs.Writer.{is_under_way, next_call, call_in, node_in, writer_heard, heard_at, heard_in, judged_when, with_answer}
-use Rattle.writer_core.specs.Stages.{is_fetch, round_in}
-use Rattle.writer_core.specs.Sound.{IsOkAt, IsCounted}
-use Rattle.writer_core.specs.Left.{most_pieces, calls_now, calls_after, calls_left_in, calls_left, FetchGoesOn, HasCall, HasCallIn, IsLive}
-use Rattle.writer_core.proofs.Waiting.{past_set, within}
-use Rattle.writer_core.proofs.Judging.{one_fewer, place_is, fewer_left, failed_out}
+use Rattle.writer_core.specs.Rounds.{to_all, to_others, missed, numbers_fit, judged, judged_by, done_in, going, stopped, with_causes, next_serial, proposing, after_propose, recovering, after_finalize, after_open, after_write, failed, taken_out, not_fetched, pieced, edits_fetched, fetched}
+use Rattle.writer_core.specs.Writer.{is_under_way, next_call, call_in, writer_heard, heard_at, heard_in, judged_when, with_answer}
+use Rattle.writer_core.specs.Current.{is_fetch}
+use Rattle.writer_core.specs.Sound.{IsOkAt, IsSound, PhaseIsSound}
+use Rattle.writer_core.specs.Left.{most_pieces, calls_now, calls_after, calls_left_in, calls_left, FetchGoesOn, HasCall, IsLive}
+use Rattle.writer_core.proofs.Judging.{one_fewer, place_is, fewer_left}
 use Rattle.writer_core.proofs.Steps.{heard_round}
-use Rattle.writer_core.proofs.RoundLaws.{count_cons, some_wait, none_wait, first_waiting}
+use Rattle.writer_core.proofs.RoundLaws.{count_cons}
 
 -- ## Nodes that wait
 all_wait : (left : List Bool) → count_by is_waiting (to_all left) ≡ length left
@@ -87,6 +85,7 @@ done_left (round.Write bodies) w f e = written w.aim
   where
     last : ℕ
     last = w.next + length bodies - 1
+
     written : (a : Aim) → calls_left (after_write a w.next (w.next + length bodies - 1) (record (next_serial w) { committed = w.next + length bodies - 1; next = w.next + length bodies - 1 + 1; left = missed (round.Write bodies) w.slots })).writer ≤ 3 * length w.left
     written aim.Roll = omega (arith, others_wait (missed (round.Write bodies) w.slots), left_missed (round.Write bodies) w.slots, e)
     written aim.Close = omega (arith, others_wait (missed (round.Write bodies) w.slots), left_missed (round.Write bodies) w.slots, e)
@@ -163,7 +162,7 @@ several_left : (r : Round) (w : WriterView) (node : ℕ) (h : Heard) (b : Bool) 
 several_left r w node h true f e p n =
     let o = one_less w.slots node h n in
     let c : calls_left (with_answer w node h) ≡ count_by is_waiting (set w.slots (node - 1) (Told h)) + calls_after r (length w.left) =
-        rw p (rw (now_waits r (set w.slots (node - 1) (Told h)) f) refl) in
+    rw p (rw (now_waits r (set w.slots (node - 1) (Told h)) f) refl) in
     omega (arith, o, c)
 several_left r w node h false f e p n =
     let o = one_less w.slots node h n in
@@ -198,7 +197,7 @@ not_fetched_left : (node start end : ℕ) (bodies : List (List ℕ)) (h : Heard)
 not_fetched_left node start end bodies h w e g =
     let s : length (set w.slots (node - 1) (Told (failed h))) ≡ length w.slots = length-set w.slots (node - 1) (Told (failed h)) in
     let k : count_by (is_ok (round.Prepare start)) (set w.slots (node - 1) (Told (failed h))) + 1 ≡ count_by (is_ok (round.Prepare start)) w.slots =
-        fewer_left start node (failed h) w.slots (failed_twice h) g.counted in
+    fewer_left start node (failed h) w.slots (failed_twice h) g.counted in
     lost_left start (taken_out node h w) (has_majority (round.Prepare start) (taken_out node h w).slots) (count_by (is_ok (round.Prepare start)) w.slots) (length bodies)
     (e ∙ sym s) k (omega (arith, g.missing, g.end_fits))
 
@@ -311,3 +310,40 @@ fetch_in phase.Stopped slots h = tt
 pub live_run_out : (w : WriterView) (node : ℕ) (request : Request) (h : Heard) → IsLive w → next_call w ≡ Some (node, request)
     → calls_left (writer_heard w node h).writer < calls_left w
 live_run_out w node request h l c = run_out w node request h l.same (fetch_in w.phase w.slots l.call) c
+
+sound_fetch : (p : Phase) (w : WriterView) → PhaseIsSound p w → FetchIn p w.slots
+unfolding FetchIn
+sound_fetch (phase.InRound (round.Fetch node start end bodies)) w h = record { missing = h.missing; end_fits = h.end_fits; counted = h.counted }
+sound_fetch (phase.InRound round.State) w h = tt
+sound_fetch (phase.InRound round.Propose) w h = tt
+sound_fetch (phase.InRound (round.Prepare start)) w h = tt
+sound_fetch (phase.InRound (round.Accept batch)) w h = tt
+sound_fetch (phase.InRound (round.Finalize start end)) w h = tt
+sound_fetch (phase.InRound round.Start) w h = tt
+sound_fetch (phase.InRound round.Open) w h = tt
+sound_fetch (phase.InRound (round.Write bodies)) w h = tt
+sound_fetch (phase.InRound (round.Purge min)) w h = tt
+sound_fetch phase.Idle w h = tt
+sound_fetch phase.Writing w h = tt
+sound_fetch phase.Stopped w h = tt
+
+named_call : (o : Option (ℕ × Request)) (node : ℕ) → option_map (λ call. call.0) o ≡ Some node → (request : Request) × (o ≡ Some (node, request))
+named_call (Some call) node h = (call.1, let e : call.0 ≡ node = cc in rw (← e) refl)
+named_call None node h = cc
+
+-- each answer to a sound writer leaves fewer calls
+pub fewer : (w v : WriterView) (node : ℕ) (h : Heard) (t : Turn) → writer_heard w node h ≡ record { writer = v; turn = t } → IsSound w
+    → option_map (λ call. call.0) (next_call w) ≡ Some node → calls_left v < calls_left w
+fewer w v node h t e s n =
+    let c = named_call (next_call w) node n in
+    let l = run_out w node c.0 h s.left (sound_fetch w.phase w s.phase) c.1 in
+    rw e at l
+
+under_way_in : (p : Phase) (w : WriterView) (node : ℕ) → option_map (λ call. call.0) (call_in p w) ≡ Some node → is_under_way p ≡ true
+under_way_in (phase.InRound r) w node h = refl
+under_way_in phase.Idle w node h = cc
+under_way_in phase.Writing w node h = cc
+under_way_in phase.Stopped w node h = cc
+
+pub under_way : (w : WriterView) (node : ℕ) → option_map (λ call. call.0) (next_call w) ≡ Some node → is_under_way w.phase ≡ true
+under_way w node h = under_way_in w.phase w node h

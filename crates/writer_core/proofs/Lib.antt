@@ -7,3 +7,13 @@ pub mod RankLaws
 pub mod RoundLaws
 pub mod LeftLaws
 pub mod LiveLaws
+pub mod SerialLaws
+pub mod HeedLaws
+pub mod NamedLaws
+pub mod LeadLaws
+pub mod Plain
+pub mod PlainRounds
+pub mod PlainTasks
+pub mod Filling
+pub mod WholeLaws
+pub mod WholeRounds

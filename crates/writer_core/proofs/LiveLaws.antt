@@ -1,14 +1,11 @@
 -- While a round is under way some node is to be called.
-use Rattle.std.proofs.Common.{ℕ, ◌≡◌, ◌<◌, ◌≤◌, ◌+◌, ◌-◌, ◌*◌, ◌&&◌, ◌||◌, ◌++◌, List, [], ◌∷◌, length, Option, Some, None, IfSome, Bool, true, false, cond, not, refl, sym, ap, arith, suc, zero, ◌∙◌, set, map, take, slice_get, ◌==◌, position, option_map, count_by, nat_lt, nat_le, is_some, replicate, length-append, length-take}
-use Rattle.std.specs.List.{list_any, position_or_len}
+use Rattle.std.proofs.Common.{ℕ, ◌≡◌, ◌<◌, ◌≤◌, ◌+◌, ◌-◌, ◌*◌, ◌&&◌, ◌||◌, ◌++◌, List, [], ◌∷◌, length, Option, Some, None, IfSome, Bool, true, false, cond, not, refl, sym, arith, suc, zero, ◌∙◌, set, map, take, position, count_by, nat_lt, is_some, replicate}
+use Rattle.std.specs.List.{list_any}
 use Rattle.std.proofs.lemmas.Bool.Decides.{nat_tests}
 use Rattle.std.proofs.lemmas.List.{length-map, length-set}
-use Rattle.std.proofs.lemmas.List.Sums.{count_by-le-length}
-use Rattle.journal_core.specs.Views.{BatchView, last_txid}
-use Rattle.journal_core.specs.Segments.{any_body}
+use Rattle.journal_core.specs.Views.{BatchView}
 use Rattle.journal_core.specs.Limits.{max_number}
 use Rattle.journal_core.specs.declared.request.Request.{Request}
-use Rattle.journal_core.specs.declared.reply.Reply.{Reply}
 use Rattle.journal_core.specs.declared.reply.Reply.TheVariants as reply
 use Rattle.journal_core.specs.declared.heard.Heard.{Heard}
 use Rattle.journal_core.specs.declared.heard.Heard.TheVariants.{Answer, Silent}
@@ -19,26 +16,22 @@ use Rattle.writer_core.specs.declared.phase.Phase.TheVariants as phase
 use Rattle.writer_core.specs.declared.phase.Aim.{Aim}
 use Rattle.writer_core.specs.declared.phase.Aim.TheVariants as aim
 use Rattle.writer_core.specs.declared.slot.Slot.{Slot}
-use Rattle.writer_core.specs.declared.slot.Slot.TheVariants.{Waiting, LeftOut, Told}
+use Rattle.writer_core.specs.declared.slot.Slot.TheVariants.{Waiting, Told}
 use Rattle.writer_core.specs.declared.task.Task.{Task}
 use Rattle.writer_core.specs.declared.task.Task.TheVariants as task
 use Rattle.writer_core.specs.declared.turn.Turn.TheVariants as turn
-use Rattle.writer_core.specs.declared.turn.Outcome.TheVariants as outcome
 use Rattle.writer_core.specs.Views.{WriterView}
-use Rattle.writer_core.specs.Answers.{fits, fits_edits, is_ok, is_waiting, has_majority}
+use Rattle.writer_core.specs.Answers.{fits_edits, is_ok, is_waiting, has_majority}
 use Rattle.writer_core.specs.Best.{Best, best_of, greatest_promise, greatest_newest}
-use Rattle.writer_core.specs.Rounds.{asking_all, asking_others, end_record, to_all, to_others, none_left_out, missed, numbers_fit, Judged, judged, judged_by, done_in, going, stopped, with_causes, next_serial, proposing, after_state, after_propose, recovering, after_finalize, after_open, after_write, failed, taken_out, not_fetched, pieced, edits_fetched, fetched}
-use Rattle.writer_core.specs.Writer.{new_writer, Began, writer_begun, log_begins, log_limit, is_writing, if_writing, writer_stopped, is_under_way, next_call, call_in, node_in, writer_heard, heard_at, heard_in, judged_when, with_answer}
-use Rattle.writer_core.specs.Stages.{is_fetch, round_in}
+use Rattle.writer_core.specs.Rounds.{asking_all, asking_others, end_record, to_all, to_others, none_left_out, missed, numbers_fit, judged, judged_by, done_in, going, stopped, with_causes, next_serial, proposing, after_propose, recovering, after_finalize, after_open, after_write, failed, taken_out, not_fetched, pieced, edits_fetched, fetched}
+use Rattle.writer_core.specs.Writer.{new_writer, Began, writer_begun, log_begins, log_limit, is_writing, if_writing, writer_stopped, is_under_way, next_call, call_in, writer_heard, heard_at, heard_in, judged_when, with_answer}
+use Rattle.writer_core.specs.Current.{is_fetch}
 use Rattle.writer_core.specs.Sound.{IsOkAt, IsCounted}
-use Rattle.writer_core.specs.Left.{most_pieces, calls_now, calls_after, calls_left_in, calls_left, FetchGoesOn, HasCall, HasCallIn, IsLive, IsReached}
+use Rattle.writer_core.specs.Left.{FetchGoesOn, HasCall, HasCallIn, IsLive, IsReached}
 use Rattle.writer_core.specs.Left.IsReached.{new, begun, heard, stopped as at_stop}
 use Rattle.writer_core.proofs.Waiting.{any_place}
-use Rattle.writer_core.proofs.Judging.{one_fewer, place_is, fewer_left, failed_out}
-use Rattle.writer_core.proofs.Steps.{heard_round}
 use Rattle.writer_core.proofs.RoundLaws.{count_cons, call_round}
 use Rattle.writer_core.proofs.BestLaws.{best_counted}
-
 
 any_all : (left : List Bool) → list_any not left ≡ true → list_any is_waiting (to_all left) ≡ true
 any_all [] h = cc
@@ -136,6 +129,7 @@ live_done (round.Write bodies) w f e s m = written w.aim
   where
     o : list_any not (missed (round.Write bodies) w.slots) ≡ true
     o = any_missed (round.Write bodies) w.slots m
+
     written : (a : Aim) → IsLive (after_write a w.next (w.next + length bodies - 1) (record (next_serial w) { committed = w.next + length bodies - 1; next = w.next + length bodies - 1 + 1; left = missed (round.Write bodies) w.slots })).writer
     written aim.Roll = record { same = len_others (missed (round.Write bodies) w.slots); some = o; call = any_others (missed (round.Write bodies) w.slots) o }
     written aim.Close = record { same = len_others (missed (round.Write bodies) w.slots); some = o; call = any_others (missed (round.Write bodies) w.slots) o }
@@ -182,7 +176,7 @@ pieced_live node start end bodies w true t e s m c = rw t (live_all (round.Accep
 pieced_live node start end bodies w false t e s m c =
     let n : start + length bodies ≤ end = grind (arith, nat_tests) in
     let l : IsLive (record w { phase = phase.InRound (round.Fetch node start end bodies) }) =
-        record { same = e; some = s; call = record { missing = n; end_fits = m; counted = c } } in
+    record { same = e; some = s; call = record { missing = n; end_fits = m; counted = c } } in
     rw t l
 
 edits_live : (b : Bool) (node start end : ℕ) (bodies : List (List ℕ)) (batch : BatchView) (w : WriterView) → length w.left ≡ length w.slots

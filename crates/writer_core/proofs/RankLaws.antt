@@ -1,6 +1,5 @@
 -- The order of segments, and the best answer of a list.
-use Rattle.std.proofs.Common.{ℕ, ◌≡◌, ◌<◌, ◌≤◌, ◌+◌, ◌-◌, List, [], ◌∷◌, length, Option, Some, None, Bool, true, false, cond, refl, sym, ap, arith, suc, zero, ◌∙◌, slice_get, option_map, MatchOption, nat_lt}
-use Rattle.std.specs.Option.{option_and_then}
+use Rattle.std.proofs.Common.{ℕ, ◌≡◌, ◌<◌, ◌+◌, List, [], ◌∷◌, Option, Some, None, Bool, true, false, cond, refl, arith, suc, zero, option_map, MatchOption}
 use Rattle.std.proofs.lemmas.Bool.Decides.{nat_tests}
 use Rattle.journal_core.specs.declared.segment_info.SegmentInfo.{SegmentInfo}
 use Rattle.journal_core.specs.declared.reply.Reply.{Reply}
@@ -57,6 +56,7 @@ later place answer answers b h l r =
     high : (k : ℕ) → is_above (segment_at (answer ∷ answers) k) (Some b.info) ≡ false
     high zero = h
     high (suc k) = r.highest k
+
     low : (k : ℕ) → k < suc r.at → is_above (Some b.info) (segment_at (answer ∷ answers) k) ≡ true
     low zero g = l
     low (suc k) g = r.lowest k (omega arith)

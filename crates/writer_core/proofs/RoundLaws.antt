@@ -1,25 +1,23 @@
 -- A round, call by call.
-use Rattle.std.proofs.Common.{ℕ, ◌≡◌, ◌<◌, ◌≤◌, ◌+◌, ◌-◌, ◌*◌, List, [], ◌∷◌, length, Option, Some, None, Bool, true, false, cond, not, refl, sym, ap, arith, suc, zero, ◌∙◌, set, slice_get, position, option_map, count_by, nat_lt, is_some}
+use Rattle.std.proofs.Common.{ℕ, ◌≡◌, ◌<◌, ◌+◌, ◌-◌, ◌*◌, List, [], ◌∷◌, length, Option, Some, Bool, true, false, cond, refl, sym, ap, arith, suc, zero, ◌∙◌, set, slice_get, position, count_by, nat_lt}
 use Rattle.std.specs.List.{list_any, position_or_len}
 use Rattle.std.proofs.lemmas.Bool.Decides.{nat_tests}
 use Rattle.std.proofs.lemmas.List.Sums.{sum_by-cons}
-use Rattle.journal_core.specs.declared.request.Request.{Request}
 use Rattle.journal_core.specs.declared.reply.Reply.{Reply}
 use Rattle.journal_core.specs.declared.heard.Heard.{Heard}
 use Rattle.writer_core.specs.declared.round.Round.{Round}
 use Rattle.writer_core.specs.declared.round.Round.TheVariants as round
-use Rattle.writer_core.specs.declared.phase.Phase.{Phase}
 use Rattle.writer_core.specs.declared.phase.Phase.TheVariants as phase
 use Rattle.writer_core.specs.declared.slot.Slot.{Slot}
 use Rattle.writer_core.specs.declared.slot.Slot.TheVariants.{Waiting, LeftOut, Told}
 use Rattle.writer_core.specs.Views.{WriterView}
 use Rattle.writer_core.specs.Answers.{is_ok, is_waiting, has_majority}
-use Rattle.writer_core.specs.Rounds.{Judged, judged, going, request_in}
-use Rattle.writer_core.specs.Writer.{is_under_way, next_call, call_in, writer_heard, heard_at, heard_in, judged_when, with_answer}
+use Rattle.writer_core.specs.Rounds.{judged, going, request_in}
+use Rattle.writer_core.specs.Writer.{is_under_way, next_call, call_in, writer_heard, judged_when}
 use Rattle.writer_core.specs.Whole.{heard_of, filled, round_heard}
-use Rattle.writer_core.specs.Stages.{is_fetch, round_in}
+use Rattle.writer_core.specs.Current.{is_fetch, round_in}
 use Rattle.writer_core.specs.Calls.{hear_next, hear_more, calls_of, AnswersBoth}
-use Rattle.writer_core.proofs.Steps.{heard_whole, heard_piece}
+use Rattle.writer_core.proofs.Steps.{heard_whole}
 use Rattle.writer_core.proofs.Judging.{one_fewer}
 
 pub count_cons : {X : Type 0} (p : X → Bool) (x : X) (xs : List X) → count_by p (x ∷ xs) ≡ cond (p x) 1 0 + count_by p xs
@@ -82,7 +80,7 @@ pub fewer_wait : (slots : List Slot) (i : ℕ) (h : Heard) → slice_get slots i
 fewer_wait slots i h e = one_fewer is_waiting slots i Waiting (Told h) e refl refl
 
 -- ## Call by call
-placed : (slots : List Slot) (i : ℕ) → position_or_len is_waiting slots ≡ i → i < length slots → position is_waiting slots ≡ Some i
+pub placed : (slots : List Slot) (i : ℕ) → position_or_len is_waiting slots ≡ i → i < length slots → position is_waiting slots ≡ Some i
 placed slots i e l =
     let t : nat_lt i (length slots) ≡ true = grind (arith, nat_tests) in rw e (rw t refl)
 
@@ -104,7 +102,7 @@ call_round (round.Fetch node start end bodies) w i f e = cc
 pub one_heard : (w : WriterView) (r : Round) (heard : ℕ → Option Reply) (f : FirstWaiting w.slots) → w.phase ≡ phase.InRound r → is_fetch r ≡ false
     → hear_next heard w
     ≡ (let after : List Slot = set w.slots f.place (Told (heard_of (heard (1 + f.place)))) in
-      judged_when (list_any is_waiting after) r (record w { slots = after }))
+    judged_when (list_any is_waiting after) r (record w { slots = after }))
 unfolding writer_heard
 one_heard w r heard f p n =
     let c : next_call w ≡ Some (f.place + 1, request_in w r) = rw p (call_round r w f.place n (placed w.slots f.place f.is f.within)) in

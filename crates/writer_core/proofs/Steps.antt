@@ -1,5 +1,5 @@
 -- An answer, by the round to which it belongs.
-use Rattle.std.proofs.Common.{ℕ, ◌≡◌, Bool, true, false, Option, Some, refl}
+use Rattle.std.proofs.Common.{ℕ, ◌≡◌, true, false, refl}
 use Rattle.std.specs.List.{list_any}
 use Rattle.journal_core.specs.declared.heard.Heard.{Heard}
 use Rattle.writer_core.specs.declared.round.Round.{Round}
@@ -9,7 +9,7 @@ use Rattle.writer_core.specs.declared.phase.Phase.TheVariants as phase
 use Rattle.writer_core.specs.Views.{WriterView}
 use Rattle.writer_core.specs.Answers.{is_waiting}
 use Rattle.writer_core.specs.Writer.{is_under_way, heard_in, heard_at, judged_when, with_answer}
-use Rattle.writer_core.specs.Stages.{is_fetch, round_in, fetched_in}
+use Rattle.writer_core.specs.Current.{is_fetch, round_in, fetched_in}
 
 -- a round that asks several nodes
 pub heard_round : (r : Round) (w : WriterView) (node : ℕ) (heard : Heard) → is_fetch r ≡ false

@@ -1,12 +1,11 @@
 -- The answers that a round counts: those of the Ok kind.
-use Rattle.std.specs.Prelude.{ℕ, ◌==◌, ◌&&◌, ◌*◌, Bool, true, false, List, Option, Some, None, nat_le, nat_lt, length, count_by, if◌then◌else◌}
+use Rattle.std.specs.Prelude.{ℕ, ◌==◌, ◌&&◌, ◌*◌, Bool, true, false, List, Option, Some, None, nat_le, nat_lt, length, count_by}
 use Rattle.journal_core.specs.Views.{BatchView, last_txid}
 use Rattle.journal_core.specs.Limits.{max_number}
 use Rattle.journal_core.specs.Segments.{any_body}
 use Rattle.journal_core.specs.declared.segment_info.SegmentInfo.{SegmentInfo}
 use Rattle.journal_core.specs.declared.reply.Reply.{Reply}
 use Rattle.journal_core.specs.declared.reply.Reply.TheVariants as reply
-use Rattle.journal_core.specs.declared.heard.Heard.{Heard}
 use Rattle.journal_core.specs.declared.heard.Heard.TheVariants.{Answer, Silent}
 use Rattle.writer_core.specs.declared.round.Round.{Round}
 use Rattle.writer_core.specs.declared.round.Round.TheVariants as round

@@ -1,5 +1,5 @@
 -- How many calls a writer still makes at most, and that it has one to make while a round is under way.
-use Rattle.std.specs.Prelude.{ℕ, ◌+◌, ◌-◌, ◌*◌, ◌≡◌, ◌<◌, ◌≤◌, List, [], Option, Some, true, not, length, count_by}
+use Rattle.std.specs.Prelude.{ℕ, ◌+◌, ◌-◌, ◌*◌, ◌≡◌, ◌<◌, ◌≤◌, List, Some, true, not, length, count_by}
 use Rattle.std.specs.List.{list_any}
 use Rattle.journal_core.specs.Limits.{max_number}
 use Rattle.journal_core.specs.declared.request.Request.{Request}

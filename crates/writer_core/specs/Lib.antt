@@ -6,9 +6,14 @@ pub mod Writer
 pub mod Whole
 pub mod Examples
 pub mod Stages
+pub mod Current
 pub mod PieceList
 pub mod Value
 pub mod Sound
 pub mod Rank
 pub mod Calls
 pub mod Left
+pub mod Serials
+pub mod Heed
+pub mod CallsView
+pub mod RoundCalls

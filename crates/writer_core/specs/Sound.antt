@@ -1,5 +1,5 @@
 -- What holds of every writer.
-use Rattle.std.specs.Prelude.{ℕ, ◌+◌, ◌-◌, ◌≡◌, ◌≢◌, ◌<◌, ◌≤◌, List, [], length, count_by, position, Bool, true, false, Option, Some, None, IfSome, slice_get}
+use Rattle.std.specs.Prelude.{ℕ, ◌+◌, ◌-◌, ◌≡◌, ◌≢◌, ◌<◌, ◌≤◌, List, [], length, count_by, position, true, Option, Some, IfSome, slice_get}
 use Rattle.journal_core.specs.declared.request.Request.{Request}
 use Rattle.writer_core.specs.declared.round.Round.{Round}
 use Rattle.writer_core.specs.declared.round.Round.TheVariants as round
@@ -10,7 +10,7 @@ use Rattle.writer_core.specs.Views.{WriterView}
 use Rattle.writer_core.specs.Answers.{is_ok, is_waiting}
 use Rattle.writer_core.specs.Best.{Best}
 use Rattle.writer_core.specs.Rounds.{request_in}
-use Rattle.writer_core.specs.Stages.{round_in}
+use Rattle.writer_core.specs.Current.{round_in}
 
 -- it owns an epoch and numbers its requests
 pub record HasHead (w : WriterView) : Type 0 where

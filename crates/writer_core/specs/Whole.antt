@@ -14,8 +14,8 @@ use Rattle.writer_core.specs.declared.task.Task.{Task}
 use Rattle.writer_core.specs.declared.task.Begun.{Begun}
 use Rattle.writer_core.specs.declared.task.Begun.TheVariants as begun
 use Rattle.writer_core.specs.Views.{WriterView}
-use Rattle.writer_core.specs.Rounds.{request_in, asking_all, Judged, going, judged, fetched}
-use Rattle.writer_core.specs.Writer.{new_writer, Began, writer_begun}
+use Rattle.writer_core.specs.Rounds.{request_in, asking_all, Judged, judged, fetched}
+use Rattle.writer_core.specs.Writer.{new_writer, writer_begun}
 
 -- Who proposes which epoch, what it does then, and what it heard from which node in which round. Round 0 is the proposal, and each
 -- later round is named by its serial.

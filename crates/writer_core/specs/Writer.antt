@@ -1,5 +1,5 @@
 -- A writer, call by call: the task begun, the call to make next, and what an answer does.
-use Rattle.std.specs.Prelude.{ℕ, ◌+◌, ◌-◌, ◌≢◌, List, [], ◌∷◌, Option, Some, None, Bool, true, false, nat_lt, nat_le, if◌then◌else◌, length, position, option_map, slice_set, replicate}
+use Rattle.std.specs.Prelude.{ℕ, ◌+◌, ◌-◌, ◌≢◌, List, [], Option, Some, None, Bool, true, false, nat_lt, nat_le, if◌then◌else◌, length, position, option_map, slice_set, replicate}
 use Rattle.std.specs.List.{list_any}
 use Rattle.journal_core.specs.Limits.{max_body, max_batch, max_segment}
 use Rattle.journal_core.specs.declared.request.Request.{Request}
@@ -8,10 +8,9 @@ use Rattle.writer_core.specs.declared.round.Round.{Round}
 use Rattle.writer_core.specs.declared.round.Round.TheVariants as round
 use Rattle.writer_core.specs.declared.phase.Phase.{Phase}
 use Rattle.writer_core.specs.declared.phase.Phase.TheVariants as phase
-use Rattle.writer_core.specs.declared.phase.Aim.{Aim}
 use Rattle.writer_core.specs.declared.phase.Aim.TheVariants as aim
 use Rattle.writer_core.specs.declared.slot.Slot.{Slot}
-use Rattle.writer_core.specs.declared.slot.Slot.TheVariants.{Waiting, LeftOut, Told}
+use Rattle.writer_core.specs.declared.slot.Slot.TheVariants.{Waiting, Told}
 use Rattle.writer_core.specs.declared.cause.Cause.TheVariants as cause
 use Rattle.writer_core.specs.declared.task.Task.{Task}
 use Rattle.writer_core.specs.declared.task.Task.TheVariants as task

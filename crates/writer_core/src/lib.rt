@@ -8,10 +8,13 @@ mod phase;
 mod pieces;
 mod prepared;
 mod round;
+mod round_calls;
 mod slot;
 mod slots;
 mod stage;
 mod task;
+#[cfg(test)]
+mod tests;
 mod turn;
 mod writer;
 
@@ -19,6 +22,7 @@ pub use cause::Cause;
 pub use phase::{Aim, Phase};
 pub use prepared::{best, rank};
 pub use round::Round;
+pub use round_calls::RoundCalls;
 pub use slot::Slot;
 pub use task::{Begun, Task};
 pub use turn::{Outcome, Turn};

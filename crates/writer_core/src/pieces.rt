@@ -1,6 +1,5 @@
 // Bodies that come in pieces.
 ghost use Rattle.std.specs.Prelude.{◌≡◌, ◌++◌, ◌+◌, ◌<◌, ◌^◌, [], true, length, IfOk, OnOk, take};
-ghost use Rattle.std.specs.List.{concat};
 
 use journal_core::{BodyList, OutOfMemory};
 use std::alloc::Global;

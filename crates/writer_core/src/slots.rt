@@ -1,16 +1,19 @@
 // The answers of a round, node by node.
-ghost use Rattle.std.specs.Prelude.{ℕ, ◌≡◌, ◌≤◌, IfSome, [], false, length, map, count_by, position};
+ghost use Rattle.std.specs.Prelude.{ℕ, ◌≡◌, ◌≤◌, IfOk, IfSome, [], false, length, map, count_by, position};
 ghost use Rattle.std.specs.List.{position_or_len};
 ghost use Rattle.journal_core.specs.Limits.{max_number};
 ghost use Rattle.writer_core.specs.Answers.{fits_newest, fits_told, fits_prepare, fits_round, is_ok, is_waiting, has_majority, cause_of};
 ghost use Rattle.writer_core.specs.Best.{greater, promise_in, greatest_promise, newest_in, greatest_newest};
 ghost use Rattle.writer_core.specs.Rounds.{to_all, to_others, missed};
-ghost use Rattle.writer_core.specs.Stages.{round_of, edits_heard};
+ghost use Rattle.writer_core.specs.RoundCalls.{waiting_from};
+ghost use Rattle.writer_core.specs.Stages.{round_of};
+ghost use Rattle.writer_core.specs.Current.{edits_heard};
 
 use crate::cause::Cause;
 use crate::slot::Slot;
 use crate::stage::RoundKind;
-use journal_core::{Batch, Heard, Reply, SegmentInfo};
+use journal_core::{Batch, Heard, OutOfMemory, Reply, SegmentInfo};
+use std::alloc::Global;
 
 /// The greatest number of a request or an answer, 2^62.
 pub(crate) const MAX_NUMBER: u64 = 1 << 62;
@@ -21,8 +24,8 @@ fn is_waiting(slot: &Slot) -> bool
     matches!(slot, Slot::Waiting)
 }
 
-#[tactic(auto, using(crate::proofs::Waiting::next_at, crate::proofs::Waiting::next_past, crate::proofs::Waiting::within))]
 /// The first slot that waits, where none before this place does.
+#[tactic(auto, using(crate::proofs::Waiting::next_at, crate::proofs::Waiting::next_past, crate::proofs::Waiting::within))]
 pub(crate) fn next_waiting(slots: &[Slot], from: usize) -> Option<usize>
     requires { from ≤ position_or_len is_waiting slots.now }
     ensures { result ≡ position is_waiting slots.now }
@@ -33,6 +36,20 @@ pub(crate) fn next_waiting(slots: &[Slot], from: usize) -> Option<usize>
         }
     }
     None
+}
+
+/// The nodes that wait, from 1.
+#[tactic(auto, unfolding(crate::specs::RoundCalls::waiting_from))]
+pub(crate) fn waiting_nodes(alloc: Global, slots: &[Slot]) -> Result<Vec<usize>, OutOfMemory>
+    ensures { IfOk result (λ nodes. nodes.items ≡ waiting_from 1 slots.now) }
+{
+    let mut nodes = Vec::with_capacity(alloc, slots.len())?;
+    for i in 0..slots.len() {
+        if is_waiting(&slots[i]) {
+            nodes.push(i + 1)?;
+        }
+    }
+    Ok(nodes)
 }
 
 fn fits_newest(newest: Option<u64>) -> bool
@@ -199,8 +216,8 @@ fn promise_in(slot: &Slot) -> u64
     }
 }
 
-#[tactic(auto, unfolding(crate::specs::Best::greatest_promise))]
 /// The greatest promise told, or 0.
+#[tactic(auto, unfolding(crate::specs::Best::greatest_promise))]
 pub(crate) fn greatest_promise(slots: &[Slot]) -> u64
     ensures { result ≡ greatest_promise slots.now }
 {
@@ -232,8 +249,8 @@ fn greater(a: Option<u64>, b: Option<u64>) -> Option<u64>
     }
 }
 
-#[tactic(auto, unfolding(crate::specs::Best::greatest_newest))]
 /// The greatest start told as newest.
+#[tactic(auto, unfolding(crate::specs::Best::greatest_newest))]
 pub(crate) fn greatest_newest(slots: &[Slot]) -> Option<u64>
     ensures newest { result ≡ greatest_newest slots.now }
     ensures within { IfSome result (λ start. start ≤ max_number) }

@@ -1,5 +1,4 @@
 use Rattle.std.proofs.Common.{◌≡◌, arith}
-use Rattle.writer_core.specs.Best.{best_from}
 use Rattle.writer_core.proofs.BestLaws.{best_counted}
 use Rattle.writer_core.proofs.prepared.best_of.Goals as goal
 

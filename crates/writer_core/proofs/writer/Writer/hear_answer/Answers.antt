@@ -1,4 +1,4 @@
-use Rattle.std.proofs.Common.{◌≡◌, ◌+◌, ◌-◌, ◌∙◌, sym, refl, arith, true, false, set}
+use Rattle.std.proofs.Common.{◌≡◌, ◌-◌, ◌∙◌, sym, refl, arith, true, false, set}
 use Rattle.std.specs.List.{list_any}
 use Rattle.writer_core.specs.declared.slot.Slot.TheVariants.{Told}
 use Rattle.writer_core.specs.Answers.{is_waiting}

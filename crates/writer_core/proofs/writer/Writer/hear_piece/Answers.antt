@@ -1,6 +1,6 @@
 use Rattle.std.proofs.Common.{◌≡◌, ◌∙◌, sym, refl}
 use Rattle.writer_core.specs.declared.round.Round.TheVariants as round
-use Rattle.writer_core.specs.Stages.{round_in}
+use Rattle.writer_core.specs.Current.{round_in}
 use Rattle.writer_core.proofs.Judging.{piece_unfit, piece_lost}
 use Rattle.writer_core.proofs.writer.Writer.hear_piece.Goals as goal
 

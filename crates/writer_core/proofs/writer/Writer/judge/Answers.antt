@@ -1,5 +1,5 @@
 use Rattle.std.proofs.Common.{◌∙◌, sym, true, false}
-use Rattle.writer_core.specs.Stages.{round_in}
+use Rattle.writer_core.specs.Current.{round_in}
 use Rattle.writer_core.proofs.Judging.{judged_is}
 use Rattle.writer_core.proofs.writer.Writer.judge.Goals as goal
 
