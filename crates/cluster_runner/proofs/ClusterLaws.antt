@@ -83,7 +83,7 @@ pub same_players : (sites : List Site) (players : List Player) (c : ℕ) (p : Pl
 same_players sites players c p w d is same =
     ap (λ xs. record { nodes = map (λ s. s.node) sites; histories = map (λ s. s.history) sites; actors = xs })
     (same_actor players c (record { name = p.name; writer = w; past = p.past }) d
-      (ap (λ v. record { name = p.name; writer = v; past = p.past }) same ∙ ap kept_actor is))
+    (ap (λ v. record { name = p.name; writer = v; past = p.past }) same ∙ ap kept_actor is))
 
 -- ## Nodes and actors
 replicated_more : {B : Type 0} (n : ℕ) (x : B) → replicate n x ++ x ∷ [] ≡ replicate (n + 1) x
@@ -109,8 +109,8 @@ one_more_actor sites players name p n w e =
   where
     is : kept_actor p ≡ new_actor (length (map (λ s. s.node) sites)) name
     is = ap (λ x. record { name = x; writer = p.writer.view; past = p.past }) n
-      ∙ ap (λ x. record { name = name; writer = x; past = p.past }) (w ∙ ap new_writer (sym (length-map sites (λ s. s.node))))
-      ∙ ap (λ x. record { name = name; writer = new_writer (length (map (λ s. s.node) sites)); past = x }) e
+        ∙ ap (λ x. record { name = name; writer = x; past = p.past }) (w ∙ ap new_writer (sym (length-map sites (λ s. s.node))))
+        ∙ ap (λ x. record { name = name; writer = new_writer (length (map (λ s. s.node) sites)); past = x }) e
 
 -- ## An actor's writer begins, or the actor says results
 pub there_is : (sites : List Site) (players : List Player) (c : ℕ) (p : Player) → p ≡ get_or players c p → c < length players → actor_of (kept sites players) c ≡ kept_actor p
@@ -135,9 +135,9 @@ pub said_is : (sites : List Site) (players : List Player) (c : ℕ) (p q : Playe
 said_is sites players c p q texts e l past name writer =
     put_is sites players c q
     ∙ ap (λ a. record (kept sites players) { actors = set (map kept_actor players) c a })
-      (ap (λ x. record { name = x; writer = q.writer.view; past = q.past }) name
-      ∙ ap (λ x. record { name = p.name; writer = x.view; past = q.past }) writer
-      ∙ ap (λ x. record { name = p.name; writer = p.writer.view; past = x }) past)
+    (ap (λ x. record { name = x; writer = q.writer.view; past = q.past }) name
+    ∙ ap (λ x. record { name = p.name; writer = x.view; past = q.past }) writer
+    ∙ ap (λ x. record { name = p.name; writer = p.writer.view; past = x }) past)
     ∙ ap (λ a. record (kept sites players) { actors = set (map kept_actor players) c (says a texts) }) (sym (there_is sites players c p e l))
 
 -- the bound on actors is one on players

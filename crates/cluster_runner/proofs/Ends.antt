@@ -22,11 +22,11 @@ fewer_called : (c node : ℕ) (r : Request) (k : Kept) → c < length k.actors �
     → calls_left (actor_of (called k c node r).kept c).writer < calls_left (actor_of k c).writer
 fewer_called c node r k l ready next =
     let own : actor_of (called k c node r).kept c ≡ hears (actor_of k c) node r (node_step (node_at k node) r).reply =
-        get_or-set_same k.actors c (hears (actor_of k c) node r (node_step (node_at k node) r).reply) (new_actor (length (called k c node r).kept.nodes) []) l in
+    get_or-set_same k.actors c (hears (actor_of k c) node r (node_step (node_at k node) r).reply) (new_actor (length (called k c node r).kept.nodes) []) l in
     let fewer : calls_left (writer_heard (actor_of k c).writer node (Answer (node_step (node_at k node) r).reply)).writer < calls_left (actor_of k c).writer =
-        live_run_out (actor_of k c).writer node r (Answer (node_step (node_at k node) r).reply) (ready c l).live next in
+    live_run_out (actor_of k c).writer node r (Answer (node_step (node_at k node) r).reply) (ready c l).live next in
     let e : calls_left (actor_of (called k c node r).kept c).writer ≡ calls_left (writer_heard (actor_of k c).writer node (Answer (node_step (node_at k node) r).reply)).writer =
-        ap (λ a. calls_left a.writer) own in
+    ap (λ a. calls_left a.writer) own in
     omega (arith, fewer, e)
 
 pub fewer : (c : ℕ) (k new : Kept) (u : Turn) → c < length k.actors → AreReady k → IsCall c k new u → calls_left (actor_of new c).writer < calls_left (actor_of k c).writer
@@ -39,7 +39,7 @@ pub still_there : (c : ℕ) (k new : Kept) (u : Turn) → c < length k.actors �
 still_there c k new u l call =
     let e : length new.actors ≡ length (called k c call.node call.request).kept.actors = ap (λ x. length x.kept.actors) (sym call.heard) in
     let n : length (called k c call.node call.request).kept.actors ≡ length k.actors =
-        length-set k.actors c (hears (actor_of k c) call.node call.request (node_step (node_at k call.node) call.request).reply) in
+    length-set k.actors c (hears (actor_of k c) call.node call.request (node_step (node_at k call.node) call.request).reply) in
     omega (arith, l, e, n)
 
 pub same_end : (c : ℕ) (k0 k new : Kept) (u : Turn) → GoesOn c k0 k u → new ≡ k → GoesOn c k0 new u

@@ -40,7 +40,7 @@ by_turn t b (turn.EpochLimit told) = refl
 pub goes_call : (t : Task) (a : KeptActor) (node : ℕ) (r : Request) (reply : Reply)
     → goes_on (shown (Some t) [] a) (call_record node r reply)
     ≡ shown (doing_after t (writer_heard a.writer node (Answer reply)).turn)
-      (results_of t (writer_heard a.writer node (Answer reply)).turn (writer_heard a.writer node (Answer reply)).writer.causes) (hears a node r reply)
+    (results_of t (writer_heard a.writer node (Answer reply)).turn (writer_heard a.writer node (Answer reply)).writer.causes) (hears a node r reply)
 unfolding goes_on moved_on
 goes_call t a node r reply = by_turn t (record { name = a.name; writer = (writer_heard a.writer node (Answer reply)).writer; past = a.past ++ call_record node r reply ∷ [] }) (writer_heard a.writer node (Answer reply)).turn
 

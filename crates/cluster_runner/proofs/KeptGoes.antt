@@ -80,18 +80,18 @@ ready_more k c node r l ready d m =
     let e : length (called k c node r).kept.actors ≡ length k.actors = length-set k.actors c (hears (actor_of k c) node r (node_step (node_at k node) r).reply) in
     elim (eqb_tells d c) [
       | inl same ↦
-        let h : IsReady (length k.nodes) (actor_of k c).writer = ready c l in
-        let own : IsReady (length k.nodes) (writer_heard (actor_of k c).writer node (Answer (node_step (node_at k node) r).reply)).writer = record {
-          live = heard_live (actor_of k c).writer node (Answer (node_step (node_at k node) r).reply) h.live;
-          sized = heard_sized (length k.nodes) (actor_of k c).writer node (Answer (node_step (node_at k node) r).reply) h.sized;
-        } in
-        let P : KeptActor → Type 0 = λ a. IsReady (length k.nodes) a.writer in
-        let Q : ℕ → Type 0 = λ x. IsReady x (actor_of (called k c node r).kept d).writer in
-        subst Q (sym n) (subst P (sym (ap (actor_of (called k c node r).kept) same.1 ∙ own_there k c node r l)) own)
+          let h : IsReady (length k.nodes) (actor_of k c).writer = ready c l in
+          let own : IsReady (length k.nodes) (writer_heard (actor_of k c).writer node (Answer (node_step (node_at k node) r).reply)).writer = record {
+            live = heard_live (actor_of k c).writer node (Answer (node_step (node_at k node) r).reply) h.live;
+            sized = heard_sized (length k.nodes) (actor_of k c).writer node (Answer (node_step (node_at k node) r).reply) h.sized;
+          } in
+          let P : KeptActor → Type 0 = λ a. IsReady (length k.nodes) a.writer in
+          let Q : ℕ → Type 0 = λ x. IsReady x (actor_of (called k c node r).kept d).writer in
+          subst Q (sym n) (subst P (sym (ap (actor_of (called k c node r).kept) same.1 ∙ own_there k c node r l)) own)
       | inr other ↦
-        let P : KeptActor → Type 0 = λ a. IsReady (length k.nodes) a.writer in
-        let Q : ℕ → Type 0 = λ x. IsReady x (actor_of (called k c node r).kept d).writer in
-        subst Q (sym n) (subst P (sym (other_there k c node r d other.1)) (ready d (omega (arith, m, e))))
+          let P : KeptActor → Type 0 = λ a. IsReady (length k.nodes) a.writer in
+          let Q : ℕ → Type 0 = λ x. IsReady x (actor_of (called k c node r).kept d).writer in
+          subst Q (sym n) (subst P (sym (other_there k c node r d other.1)) (ready d (omega (arith, m, e))))
     ]
 
 goes_called : (c node : ℕ) (r : Request) (k0 k : Kept) (u : Turn) → c < length k.actors → GoesOn c k0 k u → next_call (actor_of k c).writer ≡ Some (node, r)
@@ -116,7 +116,7 @@ goes_called c node r k0 k u l g next =
     on ls t p (q, lead, after) is within =
         let P : Turn → Type 0 = λ x. IsAfterTurn ls c t x k q in
         let more : (s : Play) × Leads q s × IsAfterTurn ls c t (called k c node r).turn (called k c node r).kept s =
-            call_leads k ls c node r t l within.0 within.1 next q (subst P is after) in
+        call_leads k ls c node r t l within.0 within.1 next q (subst P is after) in
         (more.0, leads_on p q more.0 lead more.1, more.2)
 
 pub goes_more : (c : ℕ) (k0 k new : Kept) (u v : Turn) → c < length k.actors → GoesOn c k0 k u → IsCall c k new v → GoesOn c k0 new v

@@ -76,17 +76,16 @@ step_handed k p ls c t x h e =
 
 pub refused_leads : (k : Kept) (ls : List Line) (c : ℕ) (t : Task) (texts : List (List ℕ)) → handed (Does t) (resting (actor_of k c)) ≡ shown None texts (actor_of k c)
     → LeadsTo (IsAtRest (Acts c (Does t) ∷ ls) k) (IsInTurn ls c None texts k)
-refused_leads k ls c t texts e p h =
-    (
-      handed_play p ls c (shown None texts (actor_of k c)),
-      leads_one p (handed_play p ls c (shown None texts (actor_of k c))) (step_handed k p ls c t (shown None texts (actor_of k c)) h e),
-      record {
-        stands = record { nodes = h.stands.nodes; cells = h.stands.cells; histories = h.stands.histories; names = h.stands.names; operated = h.stands.operated };
-        lines_are = refl;
-        turn = refl;
-        actors = ap (λ xs. set xs c (shown None texts (actor_of k c))) h.actors;
-      },
-    )
+refused_leads k ls c t texts e p h = (
+  handed_play p ls c (shown None texts (actor_of k c)),
+  leads_one p (handed_play p ls c (shown None texts (actor_of k c))) (step_handed k p ls c t (shown None texts (actor_of k c)) h e),
+  record {
+    stands = record { nodes = h.stands.nodes; cells = h.stands.cells; histories = h.stands.histories; names = h.stands.names; operated = h.stands.operated };
+    lines_are = refl;
+    turn = refl;
+    actors = ap (λ xs. set xs c (shown None texts (actor_of k c))) h.actors;
+  },
+)
 
 pub inactive_leads : (k : Kept) (ls : List Line) (c : ℕ) (t : Task) (w : WriterView) → next_call (actor_of k c).writer ≡ None
     → writer_begun (actor_of k c).writer t ≡ record { writer = w; begun = begun.NotActive }
@@ -107,27 +106,26 @@ own_writer k c w l = get_or-set_same k.actors c (begun_actor k c w) (new_actor (
 pub begin_leads : (k : Kept) (ls : List Line) (c : ℕ) (t : Task) (w : WriterView) → c < length k.actors → next_call (actor_of k c).writer ≡ None
     → writer_begun (actor_of k c).writer t ≡ record { writer = w; begun = begun.Going }
     → LeadsTo (IsAtRest (Acts c (Does t) ∷ ls) k) (IsInTurn ls c (Some t) [] (with_writer k c w))
-begin_leads k ls c t w l none b p h =
-    (
-      handed_play p ls c (shown (Some t) [] (begun_actor k c w)),
-      leads_one p (handed_play p ls c (shown (Some t) [] (begun_actor k c w)))
-        (step_handed k p ls c t (shown (Some t) [] (begun_actor k c w)) h (handed_going (actor_of k c) t w none b)),
-      record {
-        stands = record {
-          nodes = h.stands.nodes;
-          cells = h.stands.cells;
-          histories = h.stands.histories;
-          names = h.stands.names ∙ sym (same_names k.actors c (begun_actor k c w) (new_actor (length k.nodes) []) refl);
-          operated = h.stands.operated;
-        };
-        lines_are = refl;
-        turn = refl;
-        actors =
-          ap (λ xs. set xs c (shown (Some t) [] (begun_actor k c w))) h.actors
-          ∙ set_twice k.actors c (begun_actor k c w) (shown (Some t) [] (begun_actor k c w))
-          ∙ ap (λ a. set (map resting (with_writer k c w).actors) c (shown (Some t) [] a)) (sym (own_writer k c w l));
-      },
-    )
+begin_leads k ls c t w l none b p h = (
+  handed_play p ls c (shown (Some t) [] (begun_actor k c w)),
+  leads_one p (handed_play p ls c (shown (Some t) [] (begun_actor k c w)))
+      (step_handed k p ls c t (shown (Some t) [] (begun_actor k c w)) h (handed_going (actor_of k c) t w none b)),
+  record {
+    stands = record {
+      nodes = h.stands.nodes;
+      cells = h.stands.cells;
+      histories = h.stands.histories;
+      names = h.stands.names ∙ sym (same_names k.actors c (begun_actor k c w) (new_actor (length k.nodes) []) refl);
+      operated = h.stands.operated;
+    };
+    lines_are = refl;
+    turn = refl;
+    actors =
+        ap (λ xs. set xs c (shown (Some t) [] (begun_actor k c w))) h.actors
+        ∙ set_twice k.actors c (begun_actor k c w) (shown (Some t) [] (begun_actor k c w))
+        ∙ ap (λ a. set (map resting (with_writer k c w).actors) c (shown (Some t) [] a)) (sym (own_writer k c w l));
+  },
+)
 
 -- ## A declaration
 abbrev declared_play : Play → List Line → List ℕ → Play
@@ -142,26 +140,25 @@ unfolding fresh_actor
 fresh_last k name = sym (map-append resting k.actors (new_actor (length k.nodes) name ∷ []))
 
 pub declare_leads : (k : Kept) (ls : List Line) (name : List ℕ) → LeadsTo (IsAtRest (Declares name ∷ ls) k) (IsAtRest ls (with_actor k name))
-declare_leads k ls name p h =
-    (
-      declared_play p ls name,
-      leads_one p (declared_play p ls name) (step_declared p ls name h.turn h.lines_are),
-      record {
-        stands = record {
-          nodes = h.stands.nodes;
-          cells = h.stands.cells;
-          histories = h.stands.histories;
-          names = ap (λ xs. xs ++ name ∷ []) h.stands.names ∙ sym (map-append (λ a. a.name) k.actors (new_actor (length k.nodes) name ∷ []));
-          operated = h.stands.operated;
-        };
-        lines_are = refl;
-        turn = h.turn;
-        actors =
-          ap (λ xs. xs ++ fresh_actor p.nodes ∷ []) h.actors
-          ∙ ap (λ n. map resting k.actors ++ fresh_actor n ∷ []) (sym h.stands.nodes)
-          ∙ fresh_last k name;
-      },
-    )
+declare_leads k ls name p h = (
+  declared_play p ls name,
+  leads_one p (declared_play p ls name) (step_declared p ls name h.turn h.lines_are),
+  record {
+    stands = record {
+      nodes = h.stands.nodes;
+      cells = h.stands.cells;
+      histories = h.stands.histories;
+      names = ap (λ xs. xs ++ name ∷ []) h.stands.names ∙ sym (map-append (λ a. a.name) k.actors (new_actor (length k.nodes) name ∷ []));
+      operated = h.stands.operated;
+    };
+    lines_are = refl;
+    turn = h.turn;
+    actors =
+        ap (λ xs. xs ++ fresh_actor p.nodes ∷ []) h.actors
+        ∙ ap (λ n. map resting k.actors ++ fresh_actor n ∷ []) (sym h.stands.nodes)
+        ∙ fresh_last k name;
+  },
+)
 
 -- ## The beginning and the end
 fresh_cells : (n : ℕ) → replicate n fresh_cell ≡ map at_rest (replicate n fresh_state)
@@ -209,12 +206,12 @@ is_played n ls k p leads h =
       play = p;
       plays = record { steps = leads.steps; reached = leads.reached; ended = ap (λ x. no_lines x && is_none p.turn) h.lines_are ∙ ap is_none h.turn };
       mesh =
-        ap (λ m. record { nodes = m; histories = k.histories; records = map (λ a. a.past) k.actors ++ [] ∷ []; plan = map (λ a. []) k.actors }) h.stands.nodes
-        ∙ ap (λ hs. record { nodes = p.nodes; histories = hs; records = map (λ a. a.past) k.actors ++ [] ∷ []; plan = map (λ a. []) k.actors }) (sym h.stands.histories)
-        ∙ ap (λ rs. record { nodes = p.nodes; histories = histories_from 1 p.nodes p.trace; records = rs ++ [] ∷ []; plan = map (λ a. []) k.actors })
+          ap (λ m. record { nodes = m; histories = k.histories; records = map (λ a. a.past) k.actors ++ [] ∷ []; plan = map (λ a. []) k.actors }) h.stands.nodes
+          ∙ ap (λ hs. record { nodes = p.nodes; histories = hs; records = map (λ a. a.past) k.actors ++ [] ∷ []; plan = map (λ a. []) k.actors }) (sym h.stands.histories)
+          ∙ ap (λ rs. record { nodes = p.nodes; histories = histories_from 1 p.nodes p.trace; records = rs ++ [] ∷ []; plan = map (λ a. []) k.actors })
           (sym (ap (map (λ a. a.past)) h.actors ∙ pasts k.actors))
-        ∙ ap (λ os. record { nodes = p.nodes; histories = histories_from 1 p.nodes p.trace; records = map (λ a. a.past) p.actors ++ os ∷ []; plan = map (λ a. []) k.actors }) (sym h.stands.operated)
-        ∙ ap (λ ms. record { nodes = p.nodes; histories = histories_from 1 p.nodes p.trace; records = map (λ a. a.past) p.actors ++ p.operated ∷ []; plan = ms })
+          ∙ ap (λ os. record { nodes = p.nodes; histories = histories_from 1 p.nodes p.trace; records = map (λ a. a.past) p.actors ++ os ∷ []; plan = map (λ a. []) k.actors }) (sym h.stands.operated)
+          ∙ ap (λ ms. record { nodes = p.nodes; histories = histories_from 1 p.nodes p.trace; records = map (λ a. a.past) p.actors ++ p.operated ∷ []; plan = ms })
           (sym (ap (map (λ a. a.marks)) h.actors ∙ unmarked k.actors));
       ends_are = sym (ap (map (λ name. named_end name)) h.stands.names ∙ named k.actors);
     }

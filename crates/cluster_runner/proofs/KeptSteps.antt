@@ -55,6 +55,7 @@ step_call p c node r a s turn actor want marks cell =
     answered t =
         noted c (Call node r (told_of Delivered t.answer))
         (record p { cells = set p.cells (node - 1) t.cell; trace = p.trace ++ record { node = node; line = record { caller = c; ask = Act false r; answer = t.answer }; muted = false } ∷ [] })
+
     heard : Actor → Play
     heard x = called_play p c node r x s
 

@@ -67,10 +67,10 @@ stands_called k p c node r x s low high =
       nodes = length-set k.nodes (node - 1) (node_step (node_at k node) r).state ∙ s.nodes;
       cells = ap (λ xs. set xs (node - 1) (at_rest (node_step (node_at k node) r).state)) s.cells ∙ sym (map-set at_rest k.nodes (node - 1) (node_step (node_at k node) r).state);
       histories =
-        let at : node ≡ 1 + (node - 1) = omega (arith, low) in
-        let within : node - 1 < p.nodes = let e = s.nodes in omega (arith, low, high, e) in
-        histories_snoc 1 p.nodes (node - 1) p.trace (placed node c r (node_at k node)) at within
-        ∙ ap (λ hs. set hs (node - 1) (get_or hs (node - 1) [] ++ call_line c r (node_step (node_at k node) r).reply ∷ [])) s.histories;
+          let at : node ≡ 1 + (node - 1) = omega (arith, low) in
+          let within : node - 1 < p.nodes = let e = s.nodes in omega (arith, low, high, e) in
+          histories_snoc 1 p.nodes (node - 1) p.trace (placed node c r (node_at k node)) at within
+          ∙ ap (λ hs. set hs (node - 1) (get_or hs (node - 1) [] ++ call_line c r (node_step (node_at k node) r).reply ∷ [])) s.histories;
       names = s.names ∙ sym (same_names k.actors c (hears (actor_of k c) node r (node_step (node_at k node) r).reply) (new_actor (length k.nodes) []) refl);
       operated = s.operated;
     }
@@ -88,22 +88,21 @@ own_actor k c node r l = get_or-set_same k.actors c (heard_actor k c node r) (ne
 pub call_leads : (k : Kept) (ls : List Line) (c node : ℕ) (r : Request) (t : Task) → c < length k.actors → 1 ≤ node → node ≤ length k.nodes
     → next_call (actor_of k c).writer ≡ Some (node, r)
     → LeadsTo (IsInTurn ls c (Some t) [] k) (IsAfterTurn ls c t (called k c node r).turn (called k c node r).kept)
-call_leads k ls c node r t l low high next p h =
-    (
-      called_play p c node r (shown (Some t) [] (actor_of k c)) (node_at k node),
-      leads_one p (called_play p c node r (shown (Some t) [] (actor_of k c)) (node_at k node))
-        (step_call p c node r (shown (Some t) [] (actor_of k c)) (node_at k node) h.turn (in_turn k p ls c (Some t) [] l h) (wants_call (actor_of k c) (Some t) node r next) refl (cell_there k p node h.stands)),
-      record {
-        stands = stands_called k p c node r (shown (Some t) [] (actor_of k c)) h.stands low high;
-        lines_are = h.lines_are;
-        turn = h.turn;
-        actors =
-          ap (λ xs. set xs c (goes_on (shown (Some t) [] (actor_of k c)) (call_record node r (node_step (node_at k node) r).reply))) h.actors
-          ∙ ap (λ y. set (set (map resting k.actors) c (shown (Some t) [] (actor_of k c))) c y) (goes_call t (actor_of k c) node r (node_step (node_at k node) r).reply)
-          ∙ others_same k.actors c (heard_actor k c node r) (shown (Some t) [] (actor_of k c)) (shown_after k c node r t (heard_actor k c node r))
-          ∙ ap (λ b. set (map resting (called k c node r).kept.actors) c (shown_after k c node r t b)) (sym (own_actor k c node r l));
-      },
-    )
+call_leads k ls c node r t l low high next p h = (
+  called_play p c node r (shown (Some t) [] (actor_of k c)) (node_at k node),
+  leads_one p (called_play p c node r (shown (Some t) [] (actor_of k c)) (node_at k node))
+      (step_call p c node r (shown (Some t) [] (actor_of k c)) (node_at k node) h.turn (in_turn k p ls c (Some t) [] l h) (wants_call (actor_of k c) (Some t) node r next) refl (cell_there k p node h.stands)),
+  record {
+    stands = stands_called k p c node r (shown (Some t) [] (actor_of k c)) h.stands low high;
+    lines_are = h.lines_are;
+    turn = h.turn;
+    actors =
+        ap (λ xs. set xs c (goes_on (shown (Some t) [] (actor_of k c)) (call_record node r (node_step (node_at k node) r).reply))) h.actors
+        ∙ ap (λ y. set (set (map resting k.actors) c (shown (Some t) [] (actor_of k c))) c y) (goes_call t (actor_of k c) node r (node_step (node_at k node) r).reply)
+        ∙ others_same k.actors c (heard_actor k c node r) (shown (Some t) [] (actor_of k c)) (shown_after k c node r t (heard_actor k c node r))
+        ∙ ap (λ b. set (map resting (called k c node r).kept.actors) c (shown_after k c node r t b)) (sym (own_actor k c node r l));
+  },
+)
 
 -- ## A result
 stands_said : (k : Kept) (p : Play) (c : ℕ) (texts : List (List ℕ)) (xs : List Actor) → Stands k p → Stands (said k c texts) (record p { actors = xs })
@@ -121,22 +120,21 @@ own_said k c texts l = get_or-set_same k.actors c (says (actor_of k c) texts) (n
 
 say_leads : (k : Kept) (ls : List Line) (c : ℕ) (text : List ℕ) (texts : List (List ℕ)) → c < length k.actors
     → LeadsTo (IsInTurn ls c None (text ∷ texts) k) (IsInTurn ls c None texts (said k c (text ∷ [])))
-say_leads k ls c text texts l p h =
-    (
-      record p { actors = set p.actors c (goes_on (shown None (text ∷ texts) (actor_of k c)) (Outcome text)) },
-      leads_one p (record p { actors = set p.actors c (goes_on (shown None (text ∷ texts) (actor_of k c)) (Outcome text)) })
-        (step_says p c text (shown None (text ∷ texts) (actor_of k c)) h.turn (in_turn k p ls c None (text ∷ texts) l h) (wants_said (actor_of k c) None text texts)),
-      record {
-        stands = stands_said k p c (text ∷ []) (set p.actors c (goes_on (shown None (text ∷ texts) (actor_of k c)) (Outcome text))) h.stands;
-        lines_are = h.lines_are;
-        turn = h.turn;
-        actors =
-          ap (λ xs. set xs c (goes_on (shown None (text ∷ texts) (actor_of k c)) (Outcome text))) h.actors
-          ∙ ap (λ y. set (set (map resting k.actors) c (shown None (text ∷ texts) (actor_of k c))) c y) (goes_said (actor_of k c) text texts)
-          ∙ others_same k.actors c (says (actor_of k c) (text ∷ [])) (shown None (text ∷ texts) (actor_of k c)) (shown None texts (says (actor_of k c) (text ∷ [])))
-          ∙ ap (λ b. set (map resting (said k c (text ∷ [])).actors) c (shown None texts b)) (sym (own_said k c (text ∷ []) l));
-      },
-    )
+say_leads k ls c text texts l p h = (
+  record p { actors = set p.actors c (goes_on (shown None (text ∷ texts) (actor_of k c)) (Outcome text)) },
+  leads_one p (record p { actors = set p.actors c (goes_on (shown None (text ∷ texts) (actor_of k c)) (Outcome text)) })
+      (step_says p c text (shown None (text ∷ texts) (actor_of k c)) h.turn (in_turn k p ls c None (text ∷ texts) l h) (wants_said (actor_of k c) None text texts)),
+  record {
+    stands = stands_said k p c (text ∷ []) (set p.actors c (goes_on (shown None (text ∷ texts) (actor_of k c)) (Outcome text))) h.stands;
+    lines_are = h.lines_are;
+    turn = h.turn;
+    actors =
+        ap (λ xs. set xs c (goes_on (shown None (text ∷ texts) (actor_of k c)) (Outcome text))) h.actors
+        ∙ ap (λ y. set (set (map resting k.actors) c (shown None (text ∷ texts) (actor_of k c))) c y) (goes_said (actor_of k c) text texts)
+        ∙ others_same k.actors c (says (actor_of k c) (text ∷ [])) (shown None (text ∷ texts) (actor_of k c)) (shown None texts (says (actor_of k c) (text ∷ [])))
+        ∙ ap (λ b. set (map resting (said k c (text ∷ [])).actors) c (shown None texts b)) (sym (own_said k c (text ∷ []) l));
+  },
+)
 
 -- results one after the other are the results together
 says_more : (a : KeptActor) (text : List ℕ) (texts : List (List ℕ)) → says (says a (text ∷ [])) texts ≡ says a (text ∷ texts)
@@ -165,20 +163,19 @@ results_lead k ls c [] l p h =
 results_lead k ls c (text ∷ texts) l p h =
     let one : (q : Play) × Leads p q × IsInTurn ls c None texts (said k c (text ∷ [])) q = say_leads k ls c text texts l p h in
     let more : (q : Play) × Leads one.0 q × IsInTurn ls c None [] (said (said k c (text ∷ [])) c texts) q =
-        results_lead (said k c (text ∷ [])) ls c texts (still_there k c (text ∷ []) l) one.0 one.2 in
+    results_lead (said k c (text ∷ [])) ls c texts (still_there k c (text ∷ []) l) one.0 one.2 in
     let P : Kept → Type 0 = λ x. IsInTurn ls c None [] x more.0 in
     (more.0, leads_on p one.0 more.0 one.1 more.1, subst P (said_more k c text texts l) more.2)
 
 -- ## The end of a line
 pub rest_leads : (k : Kept) (ls : List Line) (c : ℕ) → c < length k.actors → next_call (actor_of k c).writer ≡ None → LeadsTo (IsInTurn ls c None [] k) (IsAtRest ls k)
-rest_leads k ls c l none p h =
-    (
-      record p { turn = None },
-      leads_one p (record p { turn = None }) (step_rests p c (shown None [] (actor_of k c)) h.turn (in_turn k p ls c None [] l h) (rests (actor_of k c) None none)),
-      record {
-        stands = record { nodes = h.stands.nodes; cells = h.stands.cells; histories = h.stands.histories; names = h.stands.names; operated = h.stands.operated };
-        lines_are = h.lines_are;
-        turn = refl;
-        actors = h.actors ∙ sym (map-set resting k.actors c (actor_of k c)) ∙ ap (map resting) (set-get_or k.actors c (new_actor (length k.nodes) []));
-      },
-    )
+rest_leads k ls c l none p h = (
+  record p { turn = None },
+  leads_one p (record p { turn = None }) (step_rests p c (shown None [] (actor_of k c)) h.turn (in_turn k p ls c None [] l h) (rests (actor_of k c) None none)),
+  record {
+    stands = record { nodes = h.stands.nodes; cells = h.stands.cells; histories = h.stands.histories; names = h.stands.names; operated = h.stands.operated };
+    lines_are = h.lines_are;
+    turn = refl;
+    actors = h.actors ∙ sym (map-set resting k.actors c (actor_of k c)) ∙ ap (map resting) (set-get_or k.actors c (new_actor (length k.nodes) []));
+  },
+)

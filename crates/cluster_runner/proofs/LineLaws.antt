@@ -59,9 +59,9 @@ said_idle k c texts l idle =
     record {
       some = idle.some;
       ready = λ d m.
-        let e = said_length k c texts in
-        let P : WriterView → Type 0 = λ w. IsReady (length k.nodes) w in
-        subst P (sym (said_writer k c d texts l)) (idle.ready d (omega (arith, m, e)));
+          let e = said_length k c texts in
+          let P : WriterView → Type 0 = λ w. IsReady (length k.nodes) w in
+          subst P (sym (said_writer k c d texts l)) (idle.ready d (omega (arith, m, e)));
       resting = λ d m. let e = said_length k c texts in ap next_call (said_writer k c d texts l) ∙ idle.resting d (omega (arith, m, e));
     }
 
@@ -72,10 +72,10 @@ ready_begun k c t w l ready e d m =
     let P : WriterView → Type 0 = λ v. IsReady (length k.nodes) v in
     elim (eqb_tells d c) [
       | inl same ↦
-        let h : IsReady (length k.nodes) (actor_of k c).writer = ready c l in
-        let own : IsReady (length k.nodes) (writer_begun (actor_of k c).writer t).writer =
-            record { live = begun_live (actor_of k c).writer t h.live; sized = begun_sized (length k.nodes) (actor_of k c).writer t h.sized } in
-        subst P (e ∙ sym (ap (λ x. (actor_of (with_writer k c w) x).writer) same.1 ∙ with_own k c w l)) own
+          let h : IsReady (length k.nodes) (actor_of k c).writer = ready c l in
+          let own : IsReady (length k.nodes) (writer_begun (actor_of k c).writer t).writer =
+          record { live = begun_live (actor_of k c).writer t h.live; sized = begun_sized (length k.nodes) (actor_of k c).writer t h.sized } in
+          subst P (e ∙ sym (ap (λ x. (actor_of (with_writer k c w) x).writer) same.1 ∙ with_own k c w l)) own
       | inr other ↦ subst P (sym (ap (λ a. a.writer) (with_other k c d w other.1))) (ready d (omega (arith, m, n)))
     ]
 
@@ -115,7 +115,7 @@ begun_going old new c t e = ap (λ x. is_under_way x.writer.phase) (sym e) ∙ b
 pub begun_there : (old new : Kept) (c : ℕ) → c < length old.actors → new ≡ with_writer old c (actor_of new c).writer → c < length new.actors
 begun_there old new c l same =
     let n : length new.actors ≡ length old.actors =
-        ap (λ k. length k.actors) same ∙ length-set old.actors c (record { name = (actor_of old c).name; writer = (actor_of new c).writer; past = (actor_of old c).past }) in
+    ap (λ k. length k.actors) same ∙ length-set old.actors c (record { name = (actor_of old c).name; writer = (actor_of new c).writer; past = (actor_of old c).past }) in
     omega (arith, l, n)
 
 pub few_edits : (w : WriterView) (t : Task) (v : WriterView) → writer_begun w t ≡ record { writer = v; begun = begun.Going } → AreFew (edits_of t)
@@ -139,7 +139,7 @@ takes_refused old new last c t texts l idle same leads e =
       actors_are = said_length old c texts;
       idle = said_idle old c texts l idle;
       leads = λ ls. then_leads _ (IsInTurn ls c None texts old) _ (leads ls)
-        (then_leads _ (IsInTurn ls c None [] (said old c texts)) _ (results_lead old ls c texts l)
+          (then_leads _ (IsInTurn ls c None [] (said old c texts)) _ (results_lead old ls c texts l)
           (rest_leads (said old c texts) ls c (let n = said_length old c texts in omega (arith, l, n)) (ap next_call (said_writer old c c texts l) ∙ idle.resting c l)));
     })
 
@@ -149,7 +149,7 @@ pub takes_inactive : (old new last : Kept) (c : ℕ) (t : Task) (texts : List (L
 takes_inactive old new last c t texts l idle e same are is =
     let P : List (List ℕ) → Type 0 = λ xs. (ls : List Line) → LeadsTo (IsAtRest (Acts c (Does t) ∷ ls) old) (IsInTurn ls c None xs old) in
     takes_refused old new last c t texts l idle (refused_kept old new c t begun.NotActive l e same (λ x. cc x))
-      (subst P (inactive_are t ∙ sym are) (λ ls. inactive_leads old ls c t (actor_of new c).writer (idle.resting c l) e)) is
+    (subst P (inactive_are t ∙ sym are) (λ ls. inactive_leads old ls c t (actor_of new c).writer (idle.resting c l) e)) is
 
 pub takes_too_long : (old new last : Kept) (c : ℕ) (t : Task) (number : ℕ) (texts : List (List ℕ)) → c < length old.actors → IsIdle old
     → writer_begun (actor_of old c).writer t ≡ record { writer = (actor_of new c).writer; begun = begun.TooLong number } → new ≡ with_writer old c (actor_of new c).writer
@@ -157,7 +157,7 @@ pub takes_too_long : (old new last : Kept) (c : ℕ) (t : Task) (number : ℕ) (
 takes_too_long old new last c t number texts l idle e same are is =
     let P : List (List ℕ) → Type 0 = λ xs. (ls : List Line) → LeadsTo (IsAtRest (Acts c (Does t) ∷ ls) old) (IsInTurn ls c None xs old) in
     takes_refused old new last c t texts l idle (refused_kept old new c t (begun.TooLong number) l e same (λ x. cc x))
-      (subst P (too_long_are t number ∙ sym are) (λ ls. too_long_leads old ls c t (actor_of new c).writer number (idle.resting c l) e)) is
+    (subst P (too_long_are t number ∙ sym are) (λ ls. too_long_leads old ls c t (actor_of new c).writer number (idle.resting c l) e)) is
 
 -- ## A line of a task that began
 not_going : (u : Turn) → is_going u ≡ false → (t : Task) → doing_after t u ≡ None
@@ -172,15 +172,15 @@ ended_idle : (old new last : Kept) (c : ℕ) (t : Task) (u : Turn) → c < lengt
 ended_idle old new last c t u l idle same g none =
     record {
       some =
-        let a : length last.nodes ≡ length old.nodes = g.nodes ∙ ap (λ k. length k.nodes) same in
-        let s = idle.some in omega (arith, a, s);
+          let a : length last.nodes ≡ length old.nodes = g.nodes ∙ ap (λ k. length k.nodes) same in
+          let s = idle.some in omega (arith, a, s);
       ready = g.ready;
       resting = λ d m. elim (eqb_tells d c) [
         | inl is ↦ ap (λ x. next_call (actor_of last x).writer) is.1 ∙ none
         | inr other ↦
-          let n : length last.actors ≡ length old.actors =
-              g.actors ∙ ap (λ k. length k.actors) same ∙ length-set old.actors c (record { name = (actor_of old c).name; writer = (actor_of new c).writer; past = (actor_of old c).past }) in
-          ap (λ a. next_call a.writer) (g.others d other.1 ∙ ap (λ k. actor_of k d) same ∙ with_other old c d (actor_of new c).writer other.1) ∙ idle.resting d (omega (arith, m, n))
+            let n : length last.actors ≡ length old.actors =
+            g.actors ∙ ap (λ k. length k.actors) same ∙ length-set old.actors c (record { name = (actor_of old c).name; writer = (actor_of new c).writer; past = (actor_of old c).past }) in
+            ap (λ a. next_call a.writer) (g.others d other.1 ∙ ap (λ k. actor_of k d) same ∙ with_other old c d (actor_of new c).writer other.1) ∙ idle.resting d (omega (arith, m, n))
       ];
     }
 
@@ -190,7 +190,7 @@ pub takes_going : (old new went last : Kept) (c : ℕ) (t : Task) (u : Turn) (te
     → TakesLine (Acts c (Does t)) (length old.actors) old last
 takes_going old new went last c t u texts l idle e same g none are is =
     let n : length went.actors ≡ length old.actors =
-        g.actors ∙ ap (λ k. length k.actors) same ∙ length-set old.actors c (record { name = (actor_of old c).name; writer = (actor_of new c).writer; past = (actor_of old c).past }) in
+    g.actors ∙ ap (λ k. length k.actors) same ∙ length-set old.actors c (record { name = (actor_of old c).name; writer = (actor_of new c).writer; past = (actor_of old c).past }) in
     let there : c < length went.actors = omega (arith, l, n) in
     let rests : IsIdle went = ended_idle old new went c t u l idle same g none in
     let over : doing_after t u ≡ None = not_going u (sym g.tells ∙ rests_under (actor_of went c).writer (rests.ready c there).live none) t in
@@ -201,12 +201,12 @@ takes_going old new went last c t u texts l idle e same g none are is =
       actors_are = said_length went c texts ∙ n;
       idle = said_idle went c texts there rests;
       leads = λ ls.
-        let Q : Kept → Type 0 = λ k. LeadsTo (IsAtRest (Acts c (Does t) ∷ ls) old) (IsInTurn ls c (Some t) [] k) in
-        let R : Option Task → Type 0 = λ o. LeadsTo (IsInTurn ls c (Some t) [] new) (IsInTurn ls c o (results_of t u (actor_of went c).writer.causes) went) in
-        let S : List (List ℕ) → Type 0 = λ xs. LeadsTo (IsInTurn ls c (Some t) [] new) (IsInTurn ls c None xs went) in
-        then_leads _ (IsInTurn ls c (Some t) [] new) _ (subst Q (sym same) (begin_leads old ls c t (actor_of new c).writer l (idle.resting c l) e))
-        (then_leads _ (IsInTurn ls c None texts went) _ (subst S (sym all) (subst R over (g.leads ls t)))
-        (then_leads _ (IsInTurn ls c None [] (said went c texts)) _ (results_lead went ls c texts there)
+          let Q : Kept → Type 0 = λ k. LeadsTo (IsAtRest (Acts c (Does t) ∷ ls) old) (IsInTurn ls c (Some t) [] k) in
+          let R : Option Task → Type 0 = λ o. LeadsTo (IsInTurn ls c (Some t) [] new) (IsInTurn ls c o (results_of t u (actor_of went c).writer.causes) went) in
+          let S : List (List ℕ) → Type 0 = λ xs. LeadsTo (IsInTurn ls c (Some t) [] new) (IsInTurn ls c None xs went) in
+          then_leads _ (IsInTurn ls c (Some t) [] new) _ (subst Q (sym same) (begin_leads old ls c t (actor_of new c).writer l (idle.resting c l) e))
+          (then_leads _ (IsInTurn ls c None texts went) _ (subst S (sym all) (subst R over (g.leads ls t)))
+          (then_leads _ (IsInTurn ls c None [] (said went c texts)) _ (results_lead went ls c texts there)
           (rest_leads (said went c texts) ls c (let m = said_length went c texts in omega (arith, there, m)) (ap next_call (said_writer went c c texts there) ∙ none))));
     })
 

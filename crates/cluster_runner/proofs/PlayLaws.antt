@@ -30,10 +30,10 @@ longer P k name d l old new =
     let n : length (with_actor k name).actors ≡ length k.actors + 1 = length-append k.actors (new_actor (length k.nodes) name ∷ []) in
     elim (eqb_tells d (length k.actors)) [
       | inl same ↦
-        subst P (sym (ap (λ x. (actor_of (with_actor k name) x).writer) same.1 ∙ ap (λ a. a.writer) (get_or-append_seam k.actors (new_actor (length k.nodes) name) [] (new_actor (length k.nodes) [])))) new
+          subst P (sym (ap (λ x. (actor_of (with_actor k name) x).writer) same.1 ∙ ap (λ a. a.writer) (get_or-append_seam k.actors (new_actor (length k.nodes) name) [] (new_actor (length k.nodes) [])))) new
       | inr other ↦
-        let m : d < length k.actors = lt_of_le-ne (omega (arith, l, n)) other.1 in
-        subst P (sym (ap (λ a. a.writer) (get_or_append_left k.actors (new_actor (length k.nodes) name ∷ []) (new_actor (length k.nodes) []) d m))) (old d m)
+          let m : d < length k.actors = lt_of_le-ne (omega (arith, l, n)) other.1 in
+          subst P (sym (ap (λ a. a.writer) (get_or_append_left k.actors (new_actor (length k.nodes) name ∷ []) (new_actor (length k.nodes) []) d m))) (old d m)
     ]
 
 declared_idle : (k : Kept) (name : List ℕ) → IsIdle k → IsIdle (with_actor k name)

@@ -74,7 +74,7 @@ done_fits round.Open w n = open_fits w.aim (record (next_serial w) { committed =
 done_fits (round.Write bodies) w n =
     let last : ℕ = w.next + length bodies - 1 in
     write_fits w.aim w.next last (record (next_serial w) { committed = last; next = last + 1; left = missed (round.Write bodies) w.slots })
-      (second_fits w.start w.next (last_txid (batch_from w.next bodies) ∷ head_numbers (head_now w)) n)
+    (second_fits w.start w.next (last_txid (batch_from w.next bodies) ∷ head_numbers (head_now w)) n)
 done_fits (round.Purge min) w n = tt
 
 -- a prepare that is judged again needs no numbers

@@ -102,12 +102,7 @@ fn aborted(alloc: Global, name: &[u8], causes: &[Cause]) -> Result<Bytes, OutOfM
 
 /// A word of one byte or more, and two numbers, each behind a space.
 #[tactic(auto, using(crate::proofs::ResultLaws::some_words))]
-fn numbered_twice(
-    alloc: Global,
-    name: &[u8],
-    first: u64,
-    second: u64,
-) -> Result<Bytes, OutOfMemory>
+fn numbered_twice(alloc: Global, name: &[u8], first: u64, second: u64) -> Result<Bytes, OutOfMemory>
     ensures { IfOk result (λ b. b ≡ word (word name.now first) second) }
 {
     let mut text = Vec::new(alloc);
@@ -129,11 +124,7 @@ fn once(alloc: Global, text: Bytes) -> Result<Vec<Bytes>, OutOfMemory>
 }
 
 /// A text once for each edit, or once where the task is no log.
-fn for_each(
-    alloc: Global,
-    edits: Option<usize>,
-    text: Bytes,
-) -> Result<Vec<Bytes>, OutOfMemory>
+fn for_each(alloc: Global, edits: Option<usize>, text: Bytes) -> Result<Vec<Bytes>, OutOfMemory>
     ensures { IfOk result (λ texts. texts.items ≡ times edits text) }
 {
     match edits {

@@ -10,13 +10,13 @@ mod cuts;
 mod examples;
 mod front;
 mod head;
-mod number_text;
 mod heard;
 mod laws;
 mod limits;
 mod node;
 mod node_fail;
 mod node_state;
+mod number_text;
 mod plain_node;
 mod printing;
 mod reading;
@@ -49,7 +49,6 @@ pub use examples::{
     a_session_is_answered, a_session_is_printed, a_session_is_read,
 };
 pub use head::Head;
-pub use number_text::print_number;
 pub use heard::Heard;
 pub use laws::{
     open_segment_is_led, promise_never_falls, refused_at_once_is_idle, step_is_its_effects,
@@ -59,6 +58,7 @@ pub use limits::{MAX_BATCH, MAX_BODY, MAX_NUMBER, MAX_SEGMENT};
 pub use node::{CutNode, Node};
 pub use node_fail::NodeFail;
 pub use node_state::NodeState;
+pub use number_text::print_number;
 pub use plain_node::PlainNode;
 pub use reading::read_request;
 pub use refusal::Refusal;

@@ -61,21 +61,23 @@ reply_by : (s : NodeState) (r : Request) (o : Option Refusal) → Sort r → ref
 unfolding moves
 reply_by s r (Some f) x is e = absurd (cc (rw (at_once s r f is) at (and_right (is_some (epoch_of r)) _ e)))
   where
-  and_right : (b c : Bool) → (b && c) ≡ true → c ≡ true
-  and_right true c e = e
-  and_right false c e = absurd (cc e)
+    and_right : (b c : Bool) → (b && c) ≡ true → c ≡ true
+    and_right true c e = e
+    and_right false c e = absurd (cc e)
 reply_by s _ None (Reads r none same) is e = absurd (cc (rw none at e))
 reply_by s _ None (Proposes epoch) is e = unfold epoch_of in propose_by (nat_le epoch s.promised) s epoch refl (not_true (is_refused_at_once _) e)
   where
-  not_true : (b : Bool) → not b ≡ true → b ≡ false
-  not_true true e = absurd (cc e)
-  not_true false e = refl
+    not_true : (b : Bool) → not b ≡ true → b ≡ false
+    not_true true e = absurd (cc e)
+    not_true false e = refl
 reply_by s _ None (Heads r h head epoch then replies) is e =
     let f : Fronted s h (behind_front (fronted s r) r (row_refused (fronted s r) r)).state = behind s r h (row_refused (fronted s r) r) head then in
     record {
-      epoch = h.epoch; of = epoch;
+      epoch = h.epoch;
+      of = epoch;
       is = f.promised ∙ passed s h (front_passes s r h head is);
-      rises = λ p. absurd (cc (p, heads_no_proposal r h head)) }
+      rises = λ p. absurd (cc (p, heads_no_proposal r h head));
+    }
 
 raised_reply : (s : NodeState) (r : Request) → moves r (node_step s r).reply ≡ true → Raised s.promised (node_step s r).state.promised r
 unfolding node_step
@@ -112,9 +114,11 @@ stop_by s r (Some f) n x is l = absurd (no_effect n l)
 stop_by s _ None n (Reads r none same) is l = absurd (no_effect n (subst (λ (es : List Effect). suc n ≤ length es) (read_by s r none) l))
 stop_by s _ None n (Proposes epoch) is l = propose_stop (nat_le epoch s.promised) s epoch n refl l
 stop_by s _ None n (Heads r h head epoch then replies) is l = record {
-  epoch = h.epoch; of = epoch;
+  epoch = h.epoch;
+  of = epoch;
   is = head_front (head_of r) s h (effects_behind (fronted s r) r (row_refused (fronted s r) r)) n head (behind_quiet (fronted s r) r h (row_refused (fronted s r) r) head) (passed s h (front_passes s r h head is)) l;
-  rises = λ p. absurd (cc (p, heads_no_proposal r h head)) }
+  rises = λ p. absurd (cc (p, heads_no_proposal r h head));
+}
 
 raised_stop : (s : NodeState) (r : Request) (n : ℕ) → suc n ≤ length (effects_of s r) → Raised s.promised (stopped s r (suc n)).promised r
 unfolding effects_of
@@ -140,7 +144,7 @@ unfolding CallIs move_of
 call_raised c late muted caller r x m (inl g) e off =
     let f : move_of caller muted (Act late r) (replies c.state r g.0).answer ≡ Some m = subst (λ (y : Taken). move_of caller muted (Act late r) y.answer ≡ Some m) g.1 e in
     subst (λ (y : Taken). Raised c.state.promised y.cell.state.promised r) (sym g.1)
-      (raised_reply c.state r (if_moves (moves r (node_step c.state r).reply) (entry.Answer caller (way_of late muted) r (node_step c.state r).reply) m f))
+    (raised_reply c.state r (if_moves (moves r (node_step c.state r).reply) (entry.Answer caller (way_of late muted) r (node_step c.state r).reply) m f))
 call_raised c late muted caller r x m (inr g) e off =
     let keep : ℕ = kept_by g.1 c.state r in
     let f : move_of caller muted (Act late r) (stops c.state r keep).answer ≡ Some m = subst (λ (y : Taken). move_of caller muted (Act late r) y.answer ≡ Some m) g.2 e in

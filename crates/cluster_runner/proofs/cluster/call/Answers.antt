@@ -8,12 +8,11 @@ use Rattle.cluster_runner.proofs.ClusterLaws.{actor_there, same_players, call_ma
 use Rattle.cluster_runner.proofs.cluster.call.Goals as goal
 
 pub returns-in_default : goal.returns-in_default
-returns-in_default c players d is l =
-    (
-      ap (λ a. next_call a.writer) (actor_there c.args.sites.now players c.args.actor d l ∙ ap kept_actor (sym is)) ∙ ap next_call (sym c.in_ok-node.ensures.unchanged)
+returns-in_default c players d is l = (
+  ap (λ a. next_call a.writer) (actor_there c.args.sites.now players c.args.actor d l ∙ ap kept_actor (sym is)) ∙ ap next_call (sym c.in_ok-node.ensures.unchanged)
       ∙ sym c.in_ok-node.ensures.call ∙ c.in_default.is,
-      same_players c.args.sites.now players c.args.actor c.args.player.now c.next.new.self d is c.in_ok-node.ensures.unchanged,
-    )
+  same_players c.args.sites.now players c.args.actor c.args.player.now c.next.new.self d is c.in_ok-node.ensures.unchanged,
+)
 
 pub returns : goal.returns
 returns c players d is l =
@@ -25,8 +24,8 @@ returns c players d is l =
       request = c.in-Some.request;
       next = ap (λ a. next_call a.writer) (actor_there c.args.sites.now players c.args.actor d l ∙ ap kept_actor (sym is)) ∙ mine;
       heard =
-        call_made c.args.sites.now players c.args.actor c.in-Some.node c.in-Some.request c.in_ok-reply.reply c.in_ok-turn.turn c.index-sites-node.result c.answer.new.self
-        c.args.player.now c.hear.new.self d is l (omega (arith, within.0, within.1)) c.in_ok-reply.ensures.step c.in_ok-reply.ensures.line
-        (ap (λ v. writer_heard v c.in-Some.node (Answer c.in_ok-reply.reply)) (sym c.in_ok-node.ensures.unchanged) ∙ c.in_ok-turn.ensures.heard)
-        c.in_ok-turn.ensures.line c.in_ok-turn.ensures.name;
+          call_made c.args.sites.now players c.args.actor c.in-Some.node c.in-Some.request c.in_ok-reply.reply c.in_ok-turn.turn c.index-sites-node.result c.answer.new.self
+          c.args.player.now c.hear.new.self d is l (omega (arith, within.0, within.1)) c.in_ok-reply.ensures.step c.in_ok-reply.ensures.line
+          (ap (λ v. writer_heard v c.in-Some.node (Answer c.in_ok-reply.reply)) (sym c.in_ok-node.ensures.unchanged) ∙ c.in_ok-turn.ensures.heard)
+          c.in_ok-turn.ensures.line c.in_ok-turn.ensures.name;
     }

@@ -21,4 +21,4 @@ returns c =
     let R : List End → Type 0 = λ ends. IsPlayed c.args.script.now.nodes (lines_of c.args.script.now) (mesh_kept c.loop-line.cluster) ends in
     subst Q (sym c.in_ok-mesh.ensures.mesh)
     (subst R (sym c.in_ok-mesh.ensures.ends)
-      (under_way_end c.args.script.now.nodes (lines_of c.args.script.now) c.lines-line-items.result.now c.loop-line.cluster (subst P e c.loop-line.invariant)))
+    (under_way_end c.args.script.now.nodes (lines_of c.args.script.now) c.lines-line-items.result.now c.loop-line.cluster (subst P e c.loop-line.invariant)))

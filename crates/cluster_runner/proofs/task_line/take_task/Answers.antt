@@ -19,23 +19,23 @@ results-requires-clause-few c =
 pub returns : goal.returns
 returns c = elim c.match-begin.branch [
   | in-Going+in_ok-turn-in-Going+in_ok-texts-in-Going w ↦
-    takes_going c.args.cluster.now c.begin.new.self w.finish.new.self c.say.new.self c.args.actor c.args.task w.in_ok-turn-in-Going.turn c.match-begin.texts.items
-    c.requires.there c.requires.idle w.in-Going.ensures.begun w.in-Going.ensures.others w.in_ok-turn-in-Going.ensures.went w.in_ok-turn-in-Going.ensures.ended
-    (ap (λ v. v.items) w.texts-is ∙ w.in_ok-texts-in-Going.ensures
+      takes_going c.args.cluster.now c.begin.new.self w.finish.new.self c.say.new.self c.args.actor c.args.task w.in_ok-turn-in-Going.turn c.match-begin.texts.items
+      c.requires.there c.requires.idle w.in-Going.ensures.begun w.in-Going.ensures.others w.in_ok-turn-in-Going.ensures.went w.in_ok-turn-in-Going.ensures.ended
+      (ap (λ v. v.items) w.texts-is ∙ w.in_ok-texts-in-Going.ensures
       ∙ ap (λ n. texts_of n c.edits_of-edits.result w.in_ok-turn-in-Going.turn w.causes.result.now) c.name_of-name.ensures
       ∙ ap (λ e. texts_of (name_of c.args.task) e w.in_ok-turn-in-Going.turn w.causes.result.now) c.edits_of-edits.ensures
       ∙ ap (λ cs. texts_of (name_of c.args.task) (edits_of c.args.task) w.in_ok-turn-in-Going.turn cs) w.causes.ensures)
-    (c.in_ok-say.ensures ∙ ap (λ k. said k c.args.actor c.match-begin.texts.items) w.cluster-is)
+      (c.in_ok-say.ensures ∙ ap (λ k. said k c.args.actor c.match-begin.texts.items) w.cluster-is)
   | in-NotActive+in_ok-texts-in-NotActive w ↦
-    takes_inactive c.args.cluster.now c.begin.new.self c.say.new.self c.args.actor c.args.task c.match-begin.texts.items
-    c.requires.there c.requires.idle w.in-NotActive.ensures.begun w.in-NotActive.ensures.others
-    (ap (λ v. v.items) w.texts-is ∙ w.in_ok-texts-in-NotActive.ensures
+      takes_inactive c.args.cluster.now c.begin.new.self c.say.new.self c.args.actor c.args.task c.match-begin.texts.items
+      c.requires.there c.requires.idle w.in-NotActive.ensures.begun w.in-NotActive.ensures.others
+      (ap (λ v. v.items) w.texts-is ∙ w.in_ok-texts-in-NotActive.ensures
       ∙ ap (λ n. times c.edits_of-edits.result (n ++ codes "inactive")) c.name_of-name.ensures
       ∙ ap (λ e. times e (name_of c.args.task ++ codes "inactive")) c.edits_of-edits.ensures)
-    (c.in_ok-say.ensures ∙ ap (λ k. said k c.args.actor c.match-begin.texts.items) w.cluster-is)
+      (c.in_ok-say.ensures ∙ ap (λ k. said k c.args.actor c.match-begin.texts.items) w.cluster-is)
   | in-TooLong+in_ok-texts-in-TooLong w ↦
-    takes_too_long c.args.cluster.now c.begin.new.self c.say.new.self c.args.actor c.args.task w.in-TooLong.number c.match-begin.texts.items
-    c.requires.there c.requires.idle w.in-TooLong.ensures.begun w.in-TooLong.ensures.others
-    (ap (λ v. v.items) w.texts-is ∙ w.in_ok-texts-in-TooLong.ensures ∙ ap (λ e. times e (word (codes "toolong") w.in-TooLong.number)) c.edits_of-edits.ensures)
-    (c.in_ok-say.ensures ∙ ap (λ k. said k c.args.actor c.match-begin.texts.items) w.cluster-is)
+      takes_too_long c.args.cluster.now c.begin.new.self c.say.new.self c.args.actor c.args.task w.in-TooLong.number c.match-begin.texts.items
+      c.requires.there c.requires.idle w.in-TooLong.ensures.begun w.in-TooLong.ensures.others
+      (ap (λ v. v.items) w.texts-is ∙ w.in_ok-texts-in-TooLong.ensures ∙ ap (λ e. times e (word (codes "toolong") w.in-TooLong.number)) c.edits_of-edits.ensures)
+      (c.in_ok-say.ensures ∙ ap (λ k. said k c.args.actor c.match-begin.texts.items) w.cluster-is)
 ]
