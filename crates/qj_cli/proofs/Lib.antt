@@ -1,0 +1,3 @@
+pub mod ScriptLaws
+pub mod ReportLaws
+pub mod EndLaws

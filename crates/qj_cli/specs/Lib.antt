@@ -1,0 +1,4 @@
+pub mod Usage
+pub mod Report
+pub mod Due
+pub mod Scripts

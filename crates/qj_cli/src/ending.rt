@@ -1,0 +1,122 @@
+// What is due, before any of it is written.
+ghost use Rattle.std.specs.Prelude.{◌≡◌, ◌≤◌, ◌++◌, ◌∷◌, ℕ, IfOk, None, codes, decimal, length, List};
+ghost use Rattle.script_text.specs.Grammar.{IsScript, IsScriptText};
+ghost use Rattle.qj_cli.specs.Usage.{usage_of, bytes_of};
+ghost use Rattle.qj_cli.specs.Due.{IsOutcome, Ended, error_line};
+ghost use Rattle.qj_cli.specs.Report.{IsReport};
+
+use crate::laws::scripts_are_playable;
+use crate::status::Status;
+use crate::usage::usage_fault;
+use cluster_runner::{a_play_agrees, a_play_follows, a_play_is_a_run, play};
+use journal_core::{OutOfMemory, print_number};
+use node_world::laws::every_run_is_safe;
+use qj_outside::{Input, Source, read_all};
+use report_text::report_of;
+use script_text::{ReadScript, Script, read_script, scripts_break_no_rule};
+use std::alloc::{AllocError, Global};
+
+/// The most bytes of a script.
+const LONGEST_SCRIPT: usize = 1_048_576;
+
+/// How the program is to end, and the whole text that it is to write.
+#[derive(Drop)]
+pub struct Outcome {
+    pub status: Status,
+    pub text: Vec<u8>,
+}
+
+fn usage_line(alloc: Global, place: u64) -> Result<Vec<u8>, OutOfMemory>
+    ensures { IfOk result (λ text. text.items ≡ error_line (codes "Usage " ++ decimal place)) }
+{
+    let mut text = b"error Usage ".to_vec(alloc)?;
+    print_number(place, &mut text)?;
+    text.push(b'\n')?;
+    Ok(text)
+}
+
+fn script_line(alloc: Global, line: u64, rule: u64) -> Result<Vec<u8>, OutOfMemory>
+    ensures { IfOk result (λ text. text.items ≡ error_line (codes "BadScript " ++ decimal line ++ 32 ∷ decimal rule)) }
+{
+    let mut text = b"error BadScript ".to_vec(alloc)?;
+    print_number(line, &mut text)?;
+    text.push(b' ')?;
+    print_number(rule, &mut text)?;
+    text.push(b'\n')?;
+    Ok(text)
+}
+
+/// The report of a script.
+fn report(alloc: Global, script: &Script) -> Result<Vec<u8>, OutOfMemory>
+    requires { IsScript script.now }
+    ensures { IfOk result (λ text. (bytes : List ℕ) → IsScriptText bytes script.now → IsReport bytes text.items) }
+{
+    scripts_are_playable();
+    a_play_agrees();
+    a_play_follows();
+    a_play_is_a_run();
+    every_run_is_safe();
+    let played = play(alloc, script)?;
+    let text = report_of(alloc, &played.mesh, &played.ends)?;
+    Ok(text)
+}
+
+/// What is due of a source's bytes.
+fn ending_of(alloc: Global, bytes: &[u8]) -> Result<Outcome, OutOfMemory>
+    requires { length bytes.now ≤ 1048576 }
+    ensures { IfOk result (λ e. IsOutcome bytes.now e.status e.text.items) }
+{
+    scripts_break_no_rule();
+    match read_script(alloc, bytes) {
+        ReadScript::Script(script) => Ok(Outcome {
+            status: Status::Ok,
+            text: report(alloc, &script)?,
+        }),
+        ReadScript::BadScript { line, rule } => Ok(Outcome {
+            status: Status::BadScript,
+            text: script_line(alloc, line, rule as u64)?,
+        }),
+        ReadScript::OutOfMemory => Err(AllocError),
+    }
+}
+
+/// A fault line without numbers.
+fn fault_line(alloc: Global, status: Status, line: &[u8]) -> Result<Outcome, OutOfMemory>
+    ensures { IfOk result (λ e. (e.status ≡ status) × (e.text.items ≡ line.now)) }
+{
+    Ok(Outcome {
+        status,
+        text: line.to_vec(alloc)?,
+    })
+}
+
+/// Reads the source and tells what is due of its bytes.
+fn ending_of_source<S: Source>(alloc: Global, source: &mut S) -> Result<Outcome, OutOfMemory>
+    ensures { IfOk result (λ e. (words : List (List ℕ)) → usage_of words ≡ None
+        → Ended words (S.left source.old) (S.left source.new) (S.faults source.old) (S.faults source.new) e.status e.text.items) }
+{
+    match read_all(alloc, source, LONGEST_SCRIPT) {
+        Input::All(bytes) => Ok(ending_of(alloc, &bytes)?),
+        Input::TooLong => Ok(fault_line(alloc, Status::Limit, b"error Limit 1048576\n")?),
+        Input::ReadFault => Ok(fault_line(alloc, Status::ReadFault, b"error ReadFault\n")?),
+        Input::OutOfMemory => Err(AllocError),
+    }
+}
+
+/// Reads the source, where the words are in order, and tells what is due.
+pub fn ending<S: Source>(
+    alloc: Global,
+    words: &[String],
+    source: &mut S,
+) -> Result<Outcome, OutOfMemory>
+    ensures { IfOk result (λ e. Ended (bytes_of words.now) (S.left source.old) (S.left source.new) (S.faults source.old) (S.faults source.new) e.status e.text.items) }
+{
+    if let Some(place) = usage_fault(words) {
+        return Ok(Outcome {
+            status: Status::Usage,
+            text: usage_line(alloc, place)?,
+        });
+    }
+    let outcome = ending_of_source(alloc, source)?;
+    Ok(outcome)
+}

@@ -1,0 +1,14 @@
+//! The top call of the program: words and a script's bytes come in, a report or a fault line goes out.
+#![tactic(auto)]
+
+mod ending;
+mod laws;
+mod status;
+#[cfg(test)]
+mod tests;
+mod top;
+mod usage;
+
+pub use laws::scripts_are_playable;
+pub use status::Status;
+pub use top::qjm;
