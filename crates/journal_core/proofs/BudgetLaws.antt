@@ -1,13 +1,13 @@
 -- Laws of the disk calls that are left before a cut.
-use Rattle.std.proofs.Common.{ℕ, ◌≡◌, ◌<◌, ◌≤◌, ◌+◌, ◌-◌, ◌^◌, ◌==◌, List, [], ◌∷◌, ◌++◌, length, map, filter, take, drop, get_or, min, Option, Some, None, Bool, true, false, cond, nat_lt, nat_le, refl, sym, ◌∙◌, ap, arith, zero, suc, append_assoc, append-nil}
-use Rattle.std.proofs.lemmas.Bool.Decides.{nat_tests, leb_tells}
+use Rattle.std.proofs.Common.{ℕ, ◌≡◌, ◌<◌, ◌≤◌, ◌+◌, ◌-◌, List, [], ◌∷◌, ◌++◌, length, map, filter, take, get_or, Bool, true, false, cond, nat_le, refl, sym, ◌∙◌, ap, arith, suc, append_assoc, append-nil}
+use Rattle.std.proofs.lemmas.Bool.Decides.{nat_tests}
 use Rattle.std.proofs.lemmas.List.{take_all, map-append}
 use Rattle.std.proofs.lemmas.List.Elements.{filter_more}
 use Rattle.journal_core.specs.declared.budget.Budget.{Budget}
 use Rattle.journal_core.specs.Cuts.{Cost, standing, cost_of}
 use Rattle.journal_core.specs.declared.cut.Cut.{Cut}
 use Rattle.journal_core.specs.declared.segment.Segment.{Segment}
-use Rattle.journal_core.specs.Effects.{Effect, Remove}
+use Rattle.journal_core.specs.Effects.{Remove}
 use Rattle.journal_core.specs.Budgets.{count_on, SpendsTo}
 pub use Rattle.journal_core.proofs.FrontLaws.{start_fits, journal_fits, accept_fits}
 

@@ -1,7 +1,7 @@
 -- Laws of places in a list of segments by rising start.
-use Rattle.std.proofs.Common.{ℕ, ◌≡◌, ◌<◌, ◌≤◌, ◌+◌, ◌-◌, ◌≢◌, List, [], ◌∷◌, ◌++◌, length, Option, Some, None, Bool, true, false, cond, nat_lt, ◌==◌, refl, sym, ◌∙◌, ap, arith, take, drop, get_or, set, insert, add-one, suc, zero, ◌⊎◌, inl, inr, max, subst}
+use Rattle.std.proofs.Common.{ℕ, ◌≡◌, ◌<◌, ◌≤◌, ◌+◌, List, [], ◌∷◌, length, Option, Some, None, Bool, true, false, cond, nat_lt, ◌==◌, refl, sym, ◌∙◌, ap, arith, take, drop, get_or, set, insert, add-one, suc, zero, ◌⊎◌, inl, inr, max, subst}
 use Rattle.std.proofs.lemmas.Bool.{cases_lt}
-use Rattle.std.proofs.lemmas.Bool.Decides.{eqb_tells, nat_tests}
+use Rattle.std.proofs.lemmas.Bool.Decides.{nat_tests}
 use Rattle.std.proofs.lemmas.List.{drop_more, drop_all}
 use Rattle.journal_core.specs.declared.segment.Segment.{Segment}
 use Rattle.journal_core.specs.Segments.{find_segment, put_segment, newest, max_or, has_edit, AreAbove, AreRising, IsWithin, AreWithin, AreSound}

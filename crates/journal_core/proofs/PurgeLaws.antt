@@ -2,11 +2,10 @@
 use Rattle.std.proofs.Common.{ℕ, ◌≡◌, ◌<◌, ◌≤◌, List, [], ◌∷◌, Bool, true, false, cond, not, refl, sym, ap, ◌∙◌, arith, filter, map, ◌==◌, ◌≢◌, ◌+◌, ◌-◌, ◌&&◌, length, take, drop, get_or, min, nat_lt, zero, suc, Option, Some, None, subst}
 use Rattle.std.proofs.lemmas.Bool.Decides.{nat_tests}
 use Rattle.std.proofs.lemmas.List.{drop_more, drop_all}
-use Rattle.std.proofs.lemmas.Fn.{filter_same}
 use Rattle.journal_core.specs.declared.segment.Segment.{Segment}
 use Rattle.journal_core.specs.declared.node_state.NodeState.{NodeState}
-use Rattle.journal_core.specs.Effects.{Effect, Remove, after_effects}
-use Rattle.journal_core.specs.Segments.{remove_segment, AreAbove, AreRising, IsWithin, AreWithin, AreSound}
+use Rattle.journal_core.specs.Effects.{Remove, after_effects}
+use Rattle.journal_core.specs.Segments.{remove_segment, AreAbove, AreRising, AreWithin, AreSound}
 use Rattle.journal_core.specs.Places.{without, start_of_place, lies_before}
 
 -- the effects of a purge, one by one

@@ -1,12 +1,12 @@
 -- Laws of what a node serves.
-use Rattle.std.proofs.Common.{ℕ, ◌≡◌, ◌≤◌, ◌<◌, ◌+◌, ◌-◌, List, [], ◌∷◌, length, take, drop, get_or, Option, Some, None, Bool, true, false, cond, refl, sym, ◌∙◌, ap, arith, zero, suc, length-take, length-drop, ◌==◌, ◌≢◌, min, max, nat_lt, subst, ◌⊎◌, inl, inr, ◌++◌, ◌&&◌}
+use Rattle.std.proofs.Common.{ℕ, ◌≡◌, ◌≤◌, ◌<◌, ◌+◌, ◌-◌, List, [], ◌∷◌, length, take, drop, get_or, Some, None, Bool, true, false, cond, refl, sym, ◌∙◌, ap, arith, zero, suc, length-take, length-drop, ◌==◌, ◌≢◌, min, max, nat_lt, subst, ◌⊎◌, inl, inr, ◌&&◌}
 use Rattle.std.proofs.lemmas.Bool.{cases_Bool, cases_lt, lt-ltb, false≢true}
 use Rattle.std.proofs.lemmas.Bool.Decides.{nat_tests, eqb_tells}
 use Rattle.std.proofs.lemmas.List.{drop_more, drop_all, drop-take, take_all, take-take}
 use Rattle.journal_core.specs.declared.segment.Segment.{Segment}
 use Rattle.journal_core.specs.declared.node_state.NodeState.{NodeState}
-use Rattle.journal_core.specs.Segments.{AreSound, AreWithin, AreRising, AreAbove, IsWithin, has_edit, any_body, end_of}
-use Rattle.journal_core.specs.Reads.{served, serving, or_else, least_served, last_below, manifest_of, edits_from, not_served}
+use Rattle.journal_core.specs.Segments.{AreSound, AreRising, AreAbove, IsWithin, has_edit, any_body, end_of}
+use Rattle.journal_core.specs.Reads.{served, serving, least_served, last_below, manifest_of, edits_from, not_served}
 use Rattle.journal_core.specs.Answers.{Serves, BeginsAt, last_of}
 use Rattle.journal_core.specs.declared.reply.Reply.{Reply}
 use Rattle.journal_core.specs.declared.reply.Reply.TheVariants.{Edits}

@@ -1,5 +1,5 @@
 -- Laws of the node step: which refusals it has.
-use Rattle.std.proofs.Common.{ℕ, ◌≡◌, ◌+◌, ◌==◌, ◌&&◌, ◌||◌, List, [], ◌∷◌, Option, Some, None, Bool, true, false, not, cond, nat_lt, nat_le, refl, sym, subst, ◌∙◌}
+use Rattle.std.proofs.Common.{ℕ, ◌≡◌, ◌+◌, ◌==◌, ◌&&◌, ◌||◌, List, Option, Some, None, Bool, true, false, not, cond, nat_lt, nat_le, sym, subst, ◌∙◌}
 use Rattle.journal_core.specs.Views.{HeadView, BatchView, last_txid}
 use Rattle.journal_core.specs.declared.segment.Segment.{Segment}
 use Rattle.journal_core.specs.declared.node_state.NodeState.{NodeState}
@@ -12,7 +12,7 @@ use Rattle.journal_core.specs.declared.reply.Reply.TheVariants as reply
 use Rattle.journal_core.specs.Segments.{find_segment, has_edit, end_of}
 use Rattle.journal_core.specs.Limits.{limit_of, head_of}
 use Rattle.journal_core.specs.Reads.{edits_from, answer_from, serving, least_served, last_below}
-use Rattle.journal_core.specs.Step.{Stepped, node_step, unless_refused, behind_front, refused_at_once, unless_limited, front_refused, fronted, row_refused, start_refused, open_refused, journal_refused, finalize_refused, fetch_refused, accept_refused, row_reply, bodies_in}
+use Rattle.journal_core.specs.Step.{Stepped, node_step, unless_refused, behind_front, refused_at_once, unless_limited, front_refused, fronted, row_refused, start_refused, open_refused, finalize_refused, fetch_refused, accept_refused, row_reply, bodies_in}
 use Rattle.journal_core.specs.Answers.{IsOwn, IsOwnRefusal, row}
 
 abbrev Own : Option Refusal → Type 0

@@ -1,8 +1,8 @@
 -- Laws of stops inside a request.
-use Rattle.std.proofs.Common.{ℕ, ◌≡◌, ◌<◌, ◌≤◌, ◌+◌, ◌-◌, ◌≢◌, List, [], ◌∷◌, ◌++◌, length, take, map, filter, min, max, Option, Some, None, Bool, true, false, cond, nat_lt, refl, sym, ◌∙◌, ap, arith, zero, suc, inl, inr, if◌then◌else◌}
+use Rattle.std.proofs.Common.{ℕ, ◌≡◌, ◌<◌, ◌≤◌, ◌+◌, ◌-◌, List, [], ◌∷◌, ◌++◌, length, take, filter, min, Option, Some, None, Bool, true, false, cond, nat_lt, refl, sym, ◌∙◌, ap, arith, zero, suc, inl, inr, if◌then◌else◌}
 use Rattle.std.proofs.lemmas.Bool.Decides.{nat_tests, leb_tells}
 use Rattle.std.proofs.lemmas.List.{take-map, length-map, length-append}
-use Rattle.journal_core.specs.Views.{HeadView, BatchView}
+use Rattle.journal_core.specs.Views.{HeadView}
 use Rattle.journal_core.specs.declared.segment.Segment.{Segment}
 use Rattle.journal_core.specs.declared.node_state.NodeState.{NodeState}
 use Rattle.journal_core.specs.declared.refusal.Refusal.{Refusal}
@@ -11,7 +11,7 @@ use Rattle.journal_core.specs.declared.request.Request.TheVariants.{Fetch, Purge
 use Rattle.journal_core.specs.declared.refusal.Refusal.TheVariants.{Down}
 use Rattle.journal_core.specs.Limits.{head_of, limit_of}
 use Rattle.journal_core.specs.Effects.{Effect, Promise, Remove, after_effects, after_effect, promised_after, writer_after, committed_after, segments_after}
-use Rattle.journal_core.specs.Step.{refused_at_once, unless_limited, may_go, front_effects, fronted, front_promised, front_refused, effects_of, effects_unless, effects_behind, row_refused, crashed, stopped}
+use Rattle.journal_core.specs.Step.{refused_at_once, unless_limited, may_go, front_effects, fronted, front_promised, front_refused, effects_of, effects_unless, effects_behind, crashed}
 use Rattle.journal_core.specs.Stops.{IsRowStop, IsStop, effects_of_row, raises_promise}
 use Rattle.journal_core.proofs.Within.{journal_within}
 use Rattle.journal_core.proofs.PurgeLaws.{removed_each}
@@ -34,7 +34,7 @@ pub ruleset takes = (take_none, take_nil, take_first)
 pub ruleset journal_takes = (take_none, take_nil, take_first, journal_within)
 
 -- what the volatile part was makes no difference to what a stop leaves
-same_crash : (es : List Effect) (s t : NodeState) → s.promised ≡ t.promised → s.writer ≡ t.writer → s.committed ≡ t.committed → s.segments ≡ t.segments
+pub same_crash : (es : List Effect) (s t : NodeState) → s.promised ≡ t.promised → s.writer ≡ t.writer → s.committed ≡ t.committed → s.segments ≡ t.segments
     → crashed (after_effects s es) ≡ crashed (after_effects t es)
 unfolding after_effects
 same_crash [] s t p w c g = cc
@@ -79,7 +79,7 @@ not_below : (s : NodeState) (h : HeadView) → front_refused s (Some h) ≡ None
 not_below s h e = grind (arith, nat_tests)
 
 -- the front's effect is what the front does to what is durable
-front_crash : (s t : NodeState) (h : Option HeadView) (es : List Effect) → front_refused s h ≡ None → t.promised ≡ front_promised s.promised h → t.writer ≡ s.writer → t.committed ≡ s.committed
+pub front_crash : (s t : NodeState) (h : Option HeadView) (es : List Effect) → front_refused s h ≡ None → t.promised ≡ front_promised s.promised h → t.writer ≡ s.writer → t.committed ≡ s.committed
     → t.segments ≡ s.segments → crashed (after_effects t es) ≡ crashed (after_effects s (front_effects s h ++ es))
 unfolding after_effects
 front_crash s t None es n p w c g = same_crash es t s p w c g
@@ -93,7 +93,7 @@ front_length : (s : NodeState) (h : Option HeadView) → length (front_effects s
 front_length s None = refl
 front_length s (Some h) = elim (nat_lt s.promised h.epoch) as (λ b. length (cond b (Promise h.epoch ∷ []) (let es : List Effect = [] in es)) ≡ cond b 1 0) [ true ↦ refl | false ↦ refl ]
 
-take_behind : (xs ys : List Effect) (k : ℕ) → length xs ≤ k → take k (xs ++ ys) ≡ xs ++ take (k - length xs) ys
+pub take_behind : (xs ys : List Effect) (k : ℕ) → length xs ≤ k → take k (xs ++ ys) ≡ xs ++ take (k - length xs) ys
 take_behind [] ys k l = let e : k - 0 ≡ k = omega arith in rw e refl
 take_behind (x ∷ xs) ys k l =
     take_first k x (xs ++ ys) (omega arith) ∙ ap (λ zs. x ∷ zs) (take_behind xs ys (k - 1) (omega arith) ∙ ap (λ n. xs ++ take n ys) (omega arith))

@@ -1,10 +1,8 @@
 -- A journaled batch that isn't refused keeps its segment's txids at most 2 ^ 62.
-use Rattle.std.proofs.Common.{ℕ, ◌≡◌, ◌≤◌, ◌+◌, ◌-◌, List, [], ◌∷◌, ◌++◌, length, Option, Some, None, Bool, true, false, cond, ◌==◌, refl, arith, length-append, IfSome, inl, inr}
+use Rattle.std.proofs.Common.{ℕ, ◌≡◌, ◌≤◌, ◌+◌, List, [], ◌∷◌, ◌++◌, Option, Some, None, arith, length-append, IfSome, inl, inr}
 use Rattle.std.proofs.lemmas.Bool.Decides.{eqb_tells, nat_tests}
 use Rattle.journal_core.specs.declared.segment.Segment.{Segment}
 use Rattle.journal_core.specs.declared.node_state.NodeState.{NodeState}
-use Rattle.journal_core.specs.declared.refusal.Refusal.{Refusal}
-use Rattle.journal_core.specs.declared.refusal.Refusal.TheVariants.{NoOpenSegment, WrongSegment, WrongTxid, NotWriter}
 use Rattle.journal_core.specs.Views.{HeadView, BatchView, last_txid}
 use Rattle.journal_core.specs.Limits.{max_number}
 use Rattle.journal_core.specs.Segments.{find_segment, IsWithin}

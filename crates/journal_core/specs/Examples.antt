@@ -1,7 +1,6 @@
 -- Worked sessions of a node: requests, and the replies that it gives.
-use Rattle.std.specs.Prelude.{ℕ, List, [], ◌∷◌, Option, Some, None, true, false, replicate}
+use Rattle.std.specs.Prelude.{ℕ, List, [], ◌∷◌, Some, None, true, false, replicate}
 use Rattle.journal_core.specs.Views.{HeadView, BatchView}
-use Rattle.journal_core.specs.declared.segment_info.SegmentInfo.{SegmentInfo}
 use Rattle.journal_core.specs.declared.segment_line.SegmentLine.{SegmentLine}
 use Rattle.journal_core.specs.declared.node_state.NodeState.{NodeState}
 use Rattle.journal_core.specs.declared.request.Request.{Request}
@@ -9,7 +8,7 @@ use Rattle.journal_core.specs.declared.request.Request.TheVariants as request
 use Rattle.journal_core.specs.declared.reply.Reply.{Reply}
 use Rattle.journal_core.specs.declared.reply.Reply.TheVariants as reply
 use Rattle.journal_core.specs.declared.refusal.Refusal.TheVariants as refusal
-use Rattle.journal_core.specs.Step.{Stepped, node_step}
+use Rattle.journal_core.specs.Step.{node_step}
 
 -- the replies of a node, one request after another
 abbrev pub replies_of : NodeState → List Request → List Reply

@@ -1,4 +1,5 @@
 pub mod Views
+pub mod Refusals
 pub mod Segments
 pub mod Limits
 pub mod Effects
@@ -6,14 +7,9 @@ pub mod Reads
 pub mod Step
 pub mod Places
 pub mod Answers
-pub mod Texts
 pub mod Examples
-pub mod Appends
 pub mod Stops
 pub mod Cuts
 pub mod Budgets
 pub mod Laws
-pub mod Reading
-pub mod Words
-pub mod Lines
-pub mod ExampleTexts
+pub mod Peers

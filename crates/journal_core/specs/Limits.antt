@@ -1,7 +1,7 @@
 -- The greatest numbers and sizes that a node takes.
 use Rattle.std.specs.Prelude.{ℕ, ◌+◌, List, [], ◌∷◌, Option, Some, None, Bool, false, nat_lt, nat_le, if◌then◌else◌, length}
 use Rattle.std.specs.List.{list_any}
-use Rattle.journal_core.specs.Views.{HeadView, BatchView, last_txid}
+use Rattle.journal_core.specs.Views.{HeadView, last_txid}
 use Rattle.journal_core.specs.declared.request.Request.{Request}
 use Rattle.journal_core.specs.declared.request.Request.TheVariants.{State, NewEpoch, Start, Journal, Finalize, Prepare, Fetch, Accept, Purge, Read, Manifest}
 

@@ -1,5 +1,5 @@
 -- The place of a segment in a list by rising start.
-use Rattle.std.specs.Prelude.{ℕ, ◌≡◌, ◌≤◌, ◌<◌, ◌==◌, ◌&&◌, Bool, true, not, nat_lt, nat_le, List, [], ◌∷◌, length, take, drop, slice_index_or, zero, suc, Option, Some, None, if◌then◌else◌}
+use Rattle.std.specs.Prelude.{ℕ, ◌≡◌, ◌≤◌, ◌<◌, ◌&&◌, Bool, true, not, nat_lt, nat_le, List, [], ◌∷◌, length, take, drop, slice_index_or, zero, suc, Option, Some, None}
 use Rattle.journal_core.specs.declared.segment.Segment.{Segment}
 use Rattle.journal_core.specs.Segments.{AreAbove, remove_segment, has_edit}
 use Rattle.journal_core.specs.Step.{is_one, last_or_start}

@@ -3,7 +3,7 @@ ghost use Rattle.std.specs.Prelude.{◌≡◌, ◌++◌, ◌==◌, [], ◌∷◌
 ghost use Rattle.std.specs.List.{list_any};
 
 use crate::OutOfMemory;
-use crate::bytes::Bytes;
+use qj_num::Bytes;
 use std::alloc::Global;
 use std::marker::Model;
 

@@ -1,16 +1,12 @@
 // Worked examples, computed by the check.
-ghost use Rattle.std.specs.Prelude.{◌≡◌, map, [], ◌∷◌, Some, None};
+ghost use Rattle.std.specs.Prelude.{◌≡◌, [], ◌∷◌, Some, None};
 ghost use Rattle.journal_core.specs.Step.{fresh_state, crashed};
 ghost use Rattle.journal_core.specs.Limits.{limit_of};
 ghost use Rattle.journal_core.specs.Examples.{replies_of, state_after, logging, logged, recovering, recovered, session, session_replies, purging, purged, final_line, open_line, passing, limited, journal_of};
-ghost use Rattle.journal_core.specs.ExampleTexts.{session_lines, session_reply_lines};
-ghost use Rattle.journal_core.specs.Texts.{request_text, reply_text};
-ghost use Rattle.journal_core.specs.Reading.{reading_of};
 
 use crate::refusal::Refusal;
 use crate::reply::Reply;
 use crate::request::Request;
-use crate::request_line::ReadRequest;
 
 /// One writer takes an epoch and logs three times; the next one recovers its segment.
 pub fn a_segment_is_recovered()
@@ -43,15 +39,4 @@ pub fn a_limit_is_passed()
     ensures large_batch { limit_of (journal_of 1 257 1) ≡ Some 256 }
     ensures segment { limit_of (journal_of 16384 1 1) ≡ None }
     ensures full_segment { limit_of (journal_of 16385 1 1) ≡ Some 16384 }
-{}
-
-/// The texts of that session.
-pub fn a_session_is_printed()
-    ensures requests { map request_text session ≡ session_lines }
-    ensures replies { map reply_text session_replies ≡ session_reply_lines }
-{}
-
-/// Its lines are read as its requests.
-pub fn a_session_is_read()
-    ensures { map reading_of session_lines ≡ map (λ r. ReadRequest.Read r) session }
 {}

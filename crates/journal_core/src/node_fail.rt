@@ -1,5 +1,5 @@
 // Why a node couldn't be stopped or restarted.
-use crate::bytes::Bytes;
+use qj_num::Name;
 
 /// A fault below a node.
 #[derive(Drop)]
@@ -7,7 +7,7 @@ pub enum NodeFail {
     /// The disk failed.
     DiskFault,
     /// A file isn't in its format.
-    BadFile { name: Bytes },
+    BadFile { name: Name },
     /// Want of memory.
     OutOfMemory,
 }

@@ -1,6 +1,6 @@
 // Why a node refuses a request.
 ghost use Rattle.std.specs.Prelude.{◌≡◌};
-ghost use Rattle.journal_core.specs.Texts.{refusal_number, refusal_name, refusal_field};
+ghost use Rattle.journal_core.specs.Refusals.{refusal_number, refusal_name, refusal_field};
 
 /// The cause of a refusal, in the order in which the causes are tested.
 #[derive(Clone, Copy, Debug, PartialEq, Eq)]
@@ -71,7 +71,7 @@ impl Refusal {
     }
 
     /// The cause's name.
-    #[tactic(auto, unfolding(crate::specs::Texts::refusal_name))]
+    #[tactic(auto, unfolding(crate::specs::Refusals::refusal_name))]
     pub fn name(&self) -> &'static [u8]
         ensures { result.now ≡ refusal_name self.now }
     {

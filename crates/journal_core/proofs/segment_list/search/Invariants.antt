@@ -1,6 +1,4 @@
-use Rattle.std.proofs.Common.{◌≤◌, ◌-◌, take, drop, length}
-use Rattle.journal_core.specs.Segments.{AreAbove}
-use Rattle.journal_core.specs.Places.{AreBelow, IsGap}
+use Rattle.std.proofs.Common.{◌-◌}
 use Rattle.journal_core.proofs.PlaceLaws.{IsBetween}
 use Rattle.journal_core.proofs.segment_list.search.Given as goal
 

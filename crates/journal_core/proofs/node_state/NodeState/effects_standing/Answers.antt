@@ -1,4 +1,4 @@
-use Rattle.std.proofs.Common.{◌≡◌, ◌∙◌, sym, ap, None, map}
+use Rattle.std.proofs.Common.{◌≡◌, ◌∙◌, sym, None, map}
 use Rattle.journal_core.specs.Step.{refused_at_once, fronted}
 use Rattle.journal_core.specs.Stops.{effects_of_row}
 use Rattle.journal_core.specs.Cuts.{cost_of}

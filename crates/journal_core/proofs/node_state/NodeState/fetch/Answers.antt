@@ -1,5 +1,4 @@
-use Rattle.std.proofs.Common.{arith, List, length, ◌<◌, ◌-◌, ◌≡◌, true, sym, ◌∙◌}
-use Rattle.journal_core.specs.Segments.{has_edit}
+use Rattle.std.proofs.Common.{arith, length, ◌<◌, ◌-◌}
 use Rattle.journal_core.proofs.ServingLaws.{piece_fits, edit_some}
 use Rattle.journal_core.proofs.node_state.NodeState.fetch.Goals as goal
 

@@ -1,5 +1,4 @@
 use Rattle.std.proofs.Common.{◌≡◌, drop}
-use Rattle.journal_core.specs.Segments.{AreSound}
 use Rattle.journal_core.specs.Reads.{least_served}
 use Rattle.journal_core.proofs.node_state.NodeState.least_served.Given as goal
 

@@ -1,4 +1,4 @@
-use Rattle.std.proofs.Common.{arith, ap, sym, ◌∙◌, ◌++◌, ◌∷◌, [], List, append-nil, ◌≡◌, length, ◌≤◌}
+use Rattle.std.proofs.Common.{arith, ap, sym, ◌∙◌, ◌++◌, List, append-nil, ◌≡◌, length}
 use Rattle.std.proofs.lemmas.Grind.{common_steps}
 use Rattle.journal_core.specs.declared.segment_line.SegmentLine.{SegmentLine}
 use Rattle.journal_core.specs.declared.reply.Reply.{Reply}

@@ -1,4 +1,4 @@
-use Rattle.std.proofs.Common.{◌≡◌, ◌∙◌, sym, ap, None, arith, ◌≤◌, ◌-◌}
+use Rattle.std.proofs.Common.{◌≡◌, sym, None, ◌-◌}
 use Rattle.journal_core.specs.Step.{refused_at_once, fronted}
 use Rattle.journal_core.specs.Stops.{IsRowStop, raises_promise}
 use Rattle.journal_core.specs.Limits.{head_of}

@@ -1,4 +1,3 @@
-use Rattle.std.proofs.Common.{ap}
 use Rattle.journal_core.proofs.StopLaws.{stop_purged}
 use Rattle.journal_core.proofs.node_state.NodeState.stop_purge.Goals as goal
 

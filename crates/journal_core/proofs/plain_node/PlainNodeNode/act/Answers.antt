@@ -1,8 +1,6 @@
-use Rattle.std.proofs.Common.{◌≡◌, ◌≢◌, inl, subst}
+use Rattle.std.proofs.Common.{inl, subst}
 use Rattle.journal_core.specs.declared.node_state.NodeState.{NodeState}
-use Rattle.journal_core.specs.declared.reply.Reply.TheVariants.{Refused}
-use Rattle.journal_core.specs.declared.refusal.Refusal.TheVariants.{OutOfMemory, DiskFault, BadFile}
-use Rattle.journal_core.specs.Step.{node_step}
+use Rattle.journal_core.specs.declared.refusal.Refusal.TheVariants.{DiskFault, BadFile}
 use Rattle.journal_core.specs.Answers.{IsAnswer}
 use Rattle.journal_core.proofs.StepLaws.{step_not}
 use Rattle.journal_core.proofs.plain_node.PlainNodeNode.act.Goals as goal

@@ -1,7 +1,6 @@
-use Rattle.std.proofs.Common.{rules, ℕ, ◌≡◌, ◌&&◌, Bool, List, not, filter, sym, ap, ◌∙◌, Option}
+use Rattle.std.proofs.Common.{rules, ◌≡◌, ◌&&◌, Bool, List, not, filter, ap, ◌∙◌}
 use Rattle.std.proofs.lemmas.Fn.{filter_same}
 use Rattle.journal_core.specs.declared.segment.Segment.{Segment}
-use Rattle.journal_core.specs.Segments.{newest, AreSound}
 use Rattle.journal_core.specs.Places.{is_old, lies_before, start_of_place}
 use Rattle.journal_core.proofs.PurgeLaws.{first-without, filter_sound}
 use Rattle.journal_core.proofs.segment_list.SegmentList.remove_first_old.Goals as goal

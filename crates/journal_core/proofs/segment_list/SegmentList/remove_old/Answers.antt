@@ -1,8 +1,7 @@
-use Rattle.std.proofs.Common.{rules, ◌≡◌, Bool, List, not, filter, sym, ap, ◌∙◌}
+use Rattle.std.proofs.Common.{rules, ◌≡◌, Bool, not, filter}
 use Rattle.std.proofs.lemmas.Fn.{filter_same}
 use Rattle.journal_core.specs.declared.segment.Segment.{Segment}
-use Rattle.journal_core.specs.Segments.{newest, AreSound}
-use Rattle.journal_core.specs.Places.{is_old, without}
+use Rattle.journal_core.specs.Places.{is_old}
 use Rattle.journal_core.proofs.PurgeLaws.{without-filter, filter_sound}
 use Rattle.journal_core.proofs.segment_list.SegmentList.remove_old.Goals as goal
 

@@ -1,5 +1,0 @@
-use Rattle.journal_core.proofs.LineLaws.{text_read}
-use Rattle.journal_core.proofs.laws.texts_are_read.Goals as goal
-
-pub returns : goal.returns
-returns c = text_read

@@ -1,0 +1,4 @@
+pub mod PrintLaws
+pub mod WordLaws
+pub mod ReadLaws
+pub mod LineLaws

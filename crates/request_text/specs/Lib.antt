@@ -1,0 +1,6 @@
+pub mod Appends
+pub mod Texts
+pub mod Reading
+pub mod Words
+pub mod Lines
+pub mod ExampleTexts
