@@ -17,3 +17,6 @@ pub mod PlainTasks
 pub mod Filling
 pub mod WholeLaws
 pub mod WholeRounds
+pub mod TaskTurns
+pub mod RoomLaws
+pub mod Minorities

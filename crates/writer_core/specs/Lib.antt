@@ -17,3 +17,7 @@ pub mod Serials
 pub mod Heed
 pub mod CallsView
 pub mod RoundCalls
+pub mod Turns
+pub mod Room
+pub mod RankExamples
+pub mod Minorities

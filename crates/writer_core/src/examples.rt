@@ -1,5 +1,6 @@
 // Worked examples of the definitions, computed by the check.
 ghost use Rattle.writer_core.specs.Examples.{FirstTakeover, ThreeLogs, LostMajority, Recovery, SecondBest, NoFetch, FourOfNine, ProposedTwice, RollPurgeClose, EpochLimit, TooLong, FullSegment};
+ghost use Rattle.writer_core.specs.RankExamples.{BestAnswers};
 
 /// A first takeover over three nodes, with its requests.
 pub fn first_takeover()
@@ -19,6 +20,11 @@ pub fn lost_majority()
 /// A second writer recovers an edit that one node holds.
 pub fn recovery()
     ensures { Recovery }
+{}
+
+/// The best answer is final, else of the latest epoch, else the longest.
+pub fn best_answers()
+    ensures { BestAnswers }
 {}
 
 /// A fetch that isn't answered, and the next best node.

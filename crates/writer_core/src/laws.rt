@@ -4,6 +4,8 @@ ghost use Rattle.writer_core.specs.RoundCalls.{CallsAreNamed};
 ghost use Rattle.writer_core.specs.Serials.{SerialsAreRounds};
 ghost use Rattle.writer_core.specs.Heed.{OkAnswersDecide, OkAnswersLead};
 ghost use Rattle.writer_core.specs.Left.{WritersAreLive, SomeoneIsCalled, CallsRunOut};
+ghost use Rattle.writer_core.specs.Room.{RoomIsExact};
+ghost use Rattle.writer_core.specs.Minorities.{AbortsAreMinorities, MinoritiesAbort};
 
 /// The answers of a round, heard one by one, are the round judged whole.
 pub fn rounds_are_judged()
@@ -49,4 +51,19 @@ pub fn calls_are_named()
 /// The requests of an epoch, and whom they go to, depend on the answers of the Ok kind alone.
 pub fn ok_answers_lead()
     ensures { OkAnswersLead }
+{}
+
+/// A batch fits the open segment exactly where `room` says so.
+pub fn room_is_exact()
+    ensures { RoomIsExact }
+{}
+
+/// An aborted round was answered with the Ok kind by no majority.
+pub fn aborts_are_minorities()
+    ensures { AbortsAreMinorities }
+{}
+
+/// A round that no majority answers with the Ok kind is aborted at its last answer.
+pub fn minorities_abort()
+    ensures { MinoritiesAbort }
 {}

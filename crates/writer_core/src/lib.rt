@@ -2,6 +2,7 @@
 #![tactic(auto)]
 
 mod cause;
+mod cause_list;
 pub mod examples;
 pub mod laws;
 mod phase;
@@ -13,12 +14,11 @@ mod slot;
 mod slots;
 mod stage;
 mod task;
-#[cfg(test)]
-mod tests;
 mod turn;
 mod writer;
 
 pub use cause::Cause;
+pub use cause_list::CauseList;
 pub use phase::{Aim, Phase};
 pub use prepared::{best, rank};
 pub use round::Round;

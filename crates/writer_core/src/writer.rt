@@ -4,6 +4,7 @@ ghost use Rattle.writer_core.specs.Current.{round_in, is_fetch};
 ghost use Rattle.writer_core.specs.Writer.{new_writer, writer_begun, HasBody, next_call, writer_heard, writer_stopped};
 ghost use Rattle.writer_core.specs.RoundCalls.{round_calls};
 ghost use Rattle.writer_core.specs.Left.{calls_left};
+ghost use Rattle.writer_core.specs.Room.{room_of};
 
 mod asking;
 mod fetching;
@@ -161,6 +162,17 @@ impl Writer {
         ensures { result.now ≡ self.now.view.causes }
     {
         self.causes.as_slice()
+    }
+
+    /// How many more bodies the open segment takes before a log is too long for it; 0 where no
+    /// segment is open, or a task is under way.
+    pub fn room(&self) -> u64
+        ensures { result ≡ room_of self.now.view }
+    {
+        if !self.is_writing() {
+            return 0;
+        }
+        (self.start + 16383).saturating_sub(self.next)
     }
 
     /// Gives up what the writer does; only a takeover may begin then.

@@ -1,5 +1,5 @@
 use Rattle.writer_core.specs.Left.{calls_left}
-use Rattle.writer_core.proofs.tests.finish.Given as goal
+use Rattle.quorum_writer.proofs.writer_tests.finish.Given as goal
 
 -- each answer leaves fewer calls
 abbrev pub decreases-loop-node : goal.decreases-loop-node

@@ -1,11 +1,11 @@
-// What no clause says: that calls succeed, on worked examples.
+// The writer call by call, and the rank of answers: what no clause says.
 ghost use Rattle.std.specs.Prelude.{◌≢◌, [], IfOk};
 
-use crate::{Begun, Cause, Outcome, Task, Turn, Writer, best, rank};
 use journal_core::{Batch, BodyList, Bytes, Heard, Reply, Request, SegmentInfo, ToldSegment};
 use std::alloc::Global;
 use std::cmp::Ordering;
 use std::test::Fail;
+use writer_core::{Begun, Cause, CauseList, Outcome, Task, Turn, Writer, best, rank};
 
 fn prepared(alloc: Global, info: SegmentInfo) -> Result<Reply, Fail> {
     Ok(Reply::Prepared {
@@ -105,6 +105,12 @@ fn a_writer_recovers_logs_rolls_purges_and_closes(rt: HostRuntime) -> Result<(),
         writer.causes(),
         [Cause::Ok, Cause::Ok, Cause::OutOfSync].as_slice()
     );
+    let mut causes = CauseList::new(alloc);
+    causes.push(Cause::Ok)?;
+    causes.push(Cause::Ok)?;
+    causes.push(Cause::OutOfSync)?;
+    assert_eq!(rt; writer.causes(), causes.as_slice());
+    assert_eq!(rt; writer.room(), 16382);
     assert_eq!(rt; writer.begin(Task::Log(some_body(alloc)?)), Begun::Going);
     let round = writer.round(alloc)?;
     assert!(rt; matches!(&round, Some(calls) if calls.nodes().len() == 2));
@@ -141,22 +147,5 @@ fn one_node_is_its_own_majority(rt: HostRuntime) -> Result<(), Fail> {
     let lost = finish(alloc, &mut writer, 1)?;
     assert_eq!(rt; lost, Turn::Aborted);
     assert_eq!(rt; writer.causes(), [Cause::Silent].as_slice());
-    Ok(())
-}
-
-#[test]
-fn no_epoch_stands_above_the_greatest_number(rt: HostRuntime) -> Result<(), Fail> {
-    let alloc = rt.alloc();
-    let mut writer = Writer::new(alloc, 1)?;
-    assert_eq!(rt; writer.begin(Task::Takeover), Begun::Going);
-    let told = 1 << 62;
-    match writer.next(alloc)? {
-        Some((node, request)) => {
-            assert!(rt; matches!(request.get(), Request::State));
-            let turn = writer.hear(node, Heard::Answer(Reply::State { promised: told }));
-            assert_eq!(rt; turn, Turn::EpochLimit { told });
-        }
-        None => assert!(rt; false),
-    }
     Ok(())
 }

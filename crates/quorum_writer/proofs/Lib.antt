@@ -1,0 +1,3 @@
+pub mod Going
+pub mod Comes
+pub mod StepLaws

@@ -1,0 +1,23 @@
+//! A writer that makes the calls of its tasks itself, at any nodes that it can call.
+#![tactic(auto)]
+
+mod came;
+mod closed;
+mod logged;
+mod plain_peers;
+mod purging;
+mod quorum;
+mod rolled;
+mod taken;
+#[cfg(test)]
+mod tests;
+#[cfg(test)]
+mod writer_tests;
+
+pub use closed::Closed;
+pub use logged::Logged;
+pub use plain_peers::PlainPeers;
+pub use purging::Purging;
+pub use quorum::QuorumWriter;
+pub use rolled::Rolled;
+pub use taken::Taken;
