@@ -108,7 +108,7 @@ newest_one (Segments l) m f e = none≢some m e
 newest_one (Refused x) m f e = none≢some m e
 
 -- ## The answers to a prepare
-segment_slot : (m : ℕ) (slot : Slot) (g : SegmentInfo) → segment_in m slot ≡ Some g → (writer committed : ℕ) × (slot ≡ Told (Answer (Prepared writer committed (Some g)))) × (fits_prepare m (Prepared writer committed (Some g)) ≡ true)
+pub segment_slot : (m : ℕ) (slot : Slot) (g : SegmentInfo) → segment_in m slot ≡ Some g → (writer committed : ℕ) × (slot ≡ Told (Answer (Prepared writer committed (Some g)))) × (fits_prepare m (Prepared writer committed (Some g)) ≡ true)
 segment_slot m Waiting g e = none≢some g e
 segment_slot m LeftOut g e = none≢some g e
 segment_slot m (Told Silent) g e = none≢some g e
@@ -124,7 +124,7 @@ segment_slot m (Told (Answer (Edits b))) g e = none≢some g e
 segment_slot m (Told (Answer (Segments l))) g e = none≢some g e
 segment_slot m (Told (Answer (Refused x))) g e = none≢some g e
 
-fits_info : (m writer committed : ℕ) (g : SegmentInfo) → fits_prepare m (Prepared writer committed (Some g)) ≡ true → (g.start ≡ m) × (m ≤ g.end)
+pub fits_info : (m writer committed : ℕ) (g : SegmentInfo) → fits_prepare m (Prepared writer committed (Some g)) ≡ true → (g.start ≡ m) × (m ≤ g.end)
 fits_info m writer committed g k =
     let p = and_parts _ _ k in let q = and_parts _ _ p.1 in let u = and_parts _ _ q.1 in let v = and_parts _ _ u.1 in
     (eqb-true g.start m u.0, leb-true m g.end v.0)

@@ -1,10 +1,9 @@
 -- A node with its arming: the promise never falls, what does not move leaves the state, and what moves is a move of the node.
-use Rattle.std.proofs.Common.{◌≡◌, ◌≢◌, ℕ, zero, suc, ◌+◌, ◌-◌, ◌<◌, ◌≤◌, List, [], ◌∷◌, Bool, true, false, cond, refl, sym, ap, ◌∙◌, subst, arith, length, ◌⊎◌, inl, inr}
+use Rattle.std.proofs.Common.{◌≡◌, ◌≢◌, ℕ, ◌-◌, ◌≤◌, Bool, true, false, cond, refl, sym, ap, ◌∙◌, subst, arith, ◌⊎◌, inl, inr}
 use Rattle.std.specs.Prelude.{Option, Some, None, nat_lt}
 use Rattle.journal_core.specs.declared.node_state.NodeState.{NodeState}
 use Rattle.journal_core.specs.declared.request.Request.{Request}
-use Rattle.journal_core.specs.declared.reply.Reply.{Reply}
-use Rattle.journal_core.specs.Step.{node_step, effects_of, stopped, crashed, restarted}
+use Rattle.journal_core.specs.Step.{node_step, stopped, crashed, restarted}
 use Rattle.node_world.specs.declared.stop.Stop.{Stop}
 use Rattle.node_world.specs.declared.node_ask.NodeAsk.{NodeAsk}
 use Rattle.node_world.specs.declared.node_ask.NodeAsk.TheVariants.{Act, Kill, Restart, Arm}
@@ -14,7 +13,7 @@ use Rattle.node_world.specs.Cell.{Arming, Cell, Taken, kept_by, replies, stops, 
 use Rattle.node_world.specs.Entries as entry
 use Rattle.node_world.specs.Entries.{Way, Move, moved}
 use Rattle.node_world.specs.Moving.{moves, way_of, move_of}
-use Rattle.node_world.specs.CellLaws.{IsPossible, IsMoved}
+use Rattle.node_world.specs.CellLaws.{IsMoved}
 use Rattle.node_world.proofs.Requests.{still, changes, rises}
 use Rattle.node_world.proofs.Stops.{stop_rises, kept_within}
 

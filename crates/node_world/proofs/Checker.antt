@@ -2,11 +2,10 @@
 use Rattle.std.proofs.Common.{◌≡◌, ◌≢◌, ℕ, ◌<◌, ◌⊎◌, ◌==◌, ◌&&◌, ◌||◌, Bool, true, false, not, List, [], ◌∷◌, length, get_or, Option, Some, None, refl, inl, inr, arith, subst, sym, ap, ◌∙◌, nat_lt, nat_le}
 use Rattle.std.specs.List.{list_all}
 use Rattle.std.proofs.lemmas.Bool.{cond_both, and_parts, or_cases, eqb-true, eq-eqb, ltb-true, lt-ltb, leb-true}
-use Rattle.journal_core.specs.Views.{HeadView, BatchView}
 use Rattle.journal_core.specs.declared.segment_info.SegmentInfo.{SegmentInfo}
 use Rattle.journal_core.specs.declared.node_state.NodeState.{NodeState}
 use Rattle.journal_core.specs.declared.request.Request.{Request}
-use Rattle.journal_core.specs.declared.request.Request.TheVariants.{NewEpoch, Start, Journal, Finalize, Prepare, Fetch, Accept, Purge}
+use Rattle.journal_core.specs.declared.request.Request.TheVariants.{Start}
 use Rattle.journal_core.specs.declared.refusal.Refusal.TheVariants.{SegmentHasEdits}
 use Rattle.journal_core.specs.declared.reply.Reply.{Reply}
 use Rattle.journal_core.specs.declared.reply.Reply.TheVariants as reply
@@ -14,51 +13,13 @@ use Rattle.journal_core.specs.Step.{node_step, effects_of}
 use Rattle.writer_core.specs.Whole.{Underway, writer_at, asked, calls}
 use Rattle.node_world.specs.Entries.{Way, Heard, Muted, Late, Move, Answer, Stop, Kill, Restart, Entry, moved, node_after, Earlier, now, before}
 use Rattle.node_world.specs.Run.{Story, WasHeard, may_follow, IsMade, IsInTurn, IsHeardAs, IsCall, IsNext, Follows}
-use Rattle.node_world.specs.Safe.{SaidOk}
+use Rattle.node_world.specs.Safe.{SaidOk, IsStart}
 use Rattle.node_world.specs.Tables.{Told, TakeoverTable, Tables, heard_in, takeover_of, no_takeover, story_of}
+use Rattle.node_world.specs.Same.{same_batch, same_request}
 use Rattle.node_world.proofs.Slots.{none≢some, some_same, true≢false}
+use Rattle.node_world.proofs.SameLaws.{batch_same, request_same}
 
 -- ## Tests of equality, for what examples need
-abbrev pub same_nats : List ℕ → List ℕ → Bool
-same_nats [] [] = true
-same_nats [] (y ∷ ys) = false
-same_nats (x ∷ xs) [] = false
-same_nats (x ∷ xs) (y ∷ ys) = (x == y) && same_nats xs ys
-
-nats_same : (xs ys : List ℕ) → same_nats xs ys ≡ true → xs ≡ ys
-nats_same [] [] e = refl
-nats_same [] (y ∷ ys) e = true≢false (sym e)
-nats_same (x ∷ xs) [] e = true≢false (sym e)
-nats_same (x ∷ xs) (y ∷ ys) e = let p = and_parts (x == y) (same_nats xs ys) e in let a : x ≡ y = eqb-true x y p.0 in let b : xs ≡ ys = nats_same xs ys p.1 in cc
-
-abbrev pub same_bodies : List (List ℕ) → List (List ℕ) → Bool
-same_bodies [] [] = true
-same_bodies [] (y ∷ ys) = false
-same_bodies (x ∷ xs) [] = false
-same_bodies (x ∷ xs) (y ∷ ys) = same_nats x y && same_bodies xs ys
-
-bodies_same : (xs ys : List (List ℕ)) → same_bodies xs ys ≡ true → xs ≡ ys
-bodies_same [] [] e = refl
-bodies_same [] (y ∷ ys) e = true≢false (sym e)
-bodies_same (x ∷ xs) [] e = true≢false (sym e)
-bodies_same (x ∷ xs) (y ∷ ys) e = let p = and_parts (same_nats x y) (same_bodies xs ys) e in let a : x ≡ y = nats_same x y p.0 in let b : xs ≡ ys = bodies_same xs ys p.1 in cc
-
-abbrev pub same_batch : BatchView → BatchView → Bool
-same_batch a b = (a.first == b.first) && same_bodies a.bodies b.bodies
-
-batch_same : (a b : BatchView) → same_batch a b ≡ true → a ≡ b
-batch_same a b e = let p = and_parts (a.first == b.first) (same_bodies a.bodies b.bodies) e in let x : a.first ≡ b.first = eqb-true a.first b.first p.0 in let y : a.bodies ≡ b.bodies = bodies_same a.bodies b.bodies p.1 in
-    ap (λ z. record { first = z; bodies = a.bodies }) x ∙ ap (λ z. record { first = b.first; bodies = z }) y
-
-abbrev pub same_head : HeadView → HeadView → Bool
-same_head a b = (a.epoch == b.epoch) && ((a.serial == b.serial) && (a.committed == b.committed))
-
-head_same : (a b : HeadView) → same_head a b ≡ true → a ≡ b
-head_same a b e =
-    let p = and_parts (a.epoch == b.epoch) _ e in let q = and_parts (a.serial == b.serial) (a.committed == b.committed) p.1 in
-    ap (λ z. record { epoch = z; serial = a.serial; committed = a.committed }) (eqb-true a.epoch b.epoch p.0)
-    ∙ (ap (λ z. record { epoch = b.epoch; serial = z; committed = a.committed }) (eqb-true a.serial b.serial q.0) ∙ ap (λ z. record { epoch = b.epoch; serial = b.serial; committed = z }) (eqb-true a.committed b.committed q.1))
-
 abbrev pub same_option : Option ℕ → Option ℕ → Bool
 same_option None None = true
 same_option None (Some y) = false
@@ -116,34 +77,6 @@ reply_same (reply.Prepared w c g) (reply.Prepared v d h) e =
 reply_same (reply.Edits a) (reply.Edits b) e = ap (λ z. reply.Edits z) (batch_same a b e)
 reply_same (reply.Refused (SegmentHasEdits x)) (reply.Refused (SegmentHasEdits y)) e = ap (λ z. reply.Refused (SegmentHasEdits z)) (eqb-true x y e)
 reply_same a b e = true≢false (sym e)
-
-abbrev pub same_request : Request → Request → Bool
-same_request (NewEpoch a) (NewEpoch b) = a == b
-same_request (Start h m) (Start k l) = same_head h k && (m == l)
-same_request (Journal h m a) (Journal k l b) = same_head h k && ((m == l) && same_batch a b)
-same_request (Finalize h m a) (Finalize k l b) = same_head h k && ((m == l) && (a == b))
-same_request (Prepare h m) (Prepare k l) = same_head h k && (m == l)
-same_request (Fetch h m a) (Fetch k l b) = same_head h k && ((m == l) && (a == b))
-same_request (Accept h a) (Accept k b) = same_head h k && same_batch a b
-same_request (Purge h m) (Purge k l) = same_head h k && (m == l)
-same_request _ _ = false
-
-request_same : (a b : Request) → same_request a b ≡ true → a ≡ b
-request_same (NewEpoch a) (NewEpoch b) e = ap (λ z. NewEpoch z) (eqb-true a b e)
-request_same (Start h m) (Start k l) e = let p = and_parts (same_head h k) (m == l) e in ap (λ z. Start z m) (head_same h k p.0) ∙ ap (λ z. Start k z) (eqb-true m l p.1)
-request_same (Journal h m a) (Journal k l b) e =
-    let p = and_parts (same_head h k) _ e in let q = and_parts (m == l) (same_batch a b) p.1 in
-    ap (λ z. Journal z m a) (head_same h k p.0) ∙ (ap (λ z. Journal k z a) (eqb-true m l q.0) ∙ ap (λ z. Journal k l z) (batch_same a b q.1))
-request_same (Finalize h m a) (Finalize k l b) e =
-    let p = and_parts (same_head h k) _ e in let q = and_parts (m == l) (a == b) p.1 in
-    ap (λ z. Finalize z m a) (head_same h k p.0) ∙ (ap (λ z. Finalize k z a) (eqb-true m l q.0) ∙ ap (λ z. Finalize k l z) (eqb-true a b q.1))
-request_same (Prepare h m) (Prepare k l) e = let p = and_parts (same_head h k) (m == l) e in ap (λ z. Prepare z m) (head_same h k p.0) ∙ ap (λ z. Prepare k z) (eqb-true m l p.1)
-request_same (Fetch h m a) (Fetch k l b) e =
-    let p = and_parts (same_head h k) _ e in let q = and_parts (m == l) (a == b) p.1 in
-    ap (λ z. Fetch z m a) (head_same h k p.0) ∙ (ap (λ z. Fetch k z a) (eqb-true m l q.0) ∙ ap (λ z. Fetch k l z) (eqb-true a b q.1))
-request_same (Accept h a) (Accept k b) e = let p = and_parts (same_head h k) (same_batch a b) e in ap (λ z. Accept z a) (head_same h k p.0) ∙ ap (λ z. Accept k z) (batch_same a b p.1)
-request_same (Purge h m) (Purge k l) e = let p = and_parts (same_head h k) (m == l) e in ap (λ z. Purge z m) (head_same h k p.0) ∙ ap (λ z. Purge k z) (eqb-true m l p.1)
-request_same a b e = true≢false (sym e)
 
 -- two states that some number tells apart
 abbrev pub differ : NodeState → NodeState → Bool
@@ -402,3 +335,28 @@ follows n t (x ∷ past) e =
       },
       follows n t past p.1,
     )
+
+-- ## No start under an epoch
+abbrev pub starts_under : ℕ → Request → Bool
+starts_under epoch (Start head start) = head.epoch == epoch
+starts_under epoch _ = false
+
+abbrev pub is_start : ℕ → Move → Bool
+is_start epoch (Answer caller way request reply) = starts_under epoch request
+is_start epoch (Stop caller late request keep) = starts_under epoch request
+is_start epoch Kill = false
+is_start epoch Restart = false
+
+abbrev pub no_start : ℕ → List Entry → Bool
+no_start epoch [] = true
+no_start epoch (e ∷ past) = not (is_start epoch e.move) && no_start epoch past
+
+start_seen : (epoch start : ℕ) (e : Entry) → IsStart e epoch start → is_start epoch e.move ≡ true
+start_seen epoch start e s = elim s.2 [
+  | inl x ↦ ap (is_start epoch) x.3 ∙ eq-eqb s.0.epoch epoch s.1
+  | inr x ↦ ap (is_start epoch) x.3 ∙ eq-eqb s.0.epoch epoch s.1
+]
+
+pub none_starts : (epoch : ℕ) (past : List Entry) → no_start epoch past ≡ true → (older : List Entry) (e : Entry) (start : ℕ) → Earlier (e ∷ older) past → IsStart e epoch start → ⊥
+none_starts epoch past t older e start now s = not_true (is_start epoch e.move) (start_seen epoch start e s) (and_parts (not (is_start epoch e.move)) (no_start epoch older) t).0
+none_starts epoch (x ∷ past) t older e start (before p) s = none_starts epoch past (and_parts (not (is_start epoch x.move)) (no_start epoch past) t).1 older e start p s

@@ -1,43 +1,25 @@
 -- What reaches a cell, as an entry of a run: the node is moved by it, or is as it was.
-use Rattle.std.proofs.Common.{◌≡◌, ◌≢◌, ℕ, suc, ◌-◌, ◌<◌, ◌≤◌, Bool, true, false, cond, nat_lt, List, [], ◌∷◌, length, refl, sym, ap, ◌∙◌, arith, Option, Some, None, is_some}
-use Rattle.journal_core.specs.declared.cut.Cut.{Cut}
+use Rattle.std.proofs.Common.{◌≡◌, ◌≢◌, ℕ, ◌-◌, ◌<◌, ◌≤◌, Bool, true, false, cond, nat_lt, List, length, refl, sym, ap, ◌∙◌, Option, Some, None, is_some}
 use Rattle.journal_core.specs.declared.node_state.NodeState.{NodeState}
 use Rattle.journal_core.specs.declared.request.Request.{Request}
 use Rattle.journal_core.specs.declared.refusal.Refusal.{Refusal}
 use Rattle.journal_core.specs.declared.reply.Reply.{Reply}
 use Rattle.journal_core.specs.declared.reply.Reply.TheVariants.{Refused}
-use Rattle.journal_core.specs.Effects.{Effect, after_effect, after_effects}
+use Rattle.journal_core.specs.Effects.{Effect, after_effects}
 use Rattle.journal_core.specs.Step.{node_step, effects_of, stopped, crashed, restarted}
 use Rattle.node_world.specs.declared.stop.Stop.{Stop as StopAt}
-use Rattle.node_world.specs.declared.stop.Stop.TheVariants.{Effects, DiskCalls}
 use Rattle.node_world.specs.declared.node_ask.NodeAsk.TheVariants as ask
 use Rattle.node_world.specs.declared.node_ask.NodeAnswer.{NodeAnswer}
 use Rattle.node_world.specs.declared.node_ask.NodeAnswer.TheVariants as answer
-use Rattle.node_world.specs.Cuts.{effects_standing, calls_of}
 use Rattle.node_world.specs.Cell.{Arming, Cell, Taken, kept_by, replies, stops, counted, requested, killed as cell_killed, started_again, armed, cell_takes}
 use Rattle.node_world.specs.Entries.{Move, Answer, Stop, Kill, Restart}
 use Rattle.node_world.specs.Moving.{epoch_of, moves, way_of, move_of}
+use Rattle.node_world.proofs.Stops.{kept_within}
 use Rattle.node_world.proofs.Moves.{Went, stays, goes, went, effects_epoch}
-
--- no more effects stand than there are
-standing_within : (cut : Cut) (s : NodeState) (es : List Effect) (calls : ℕ) → effects_standing cut s es calls ≤ length es
-unfolding effects_standing
-standing_within cut s [] calls = omega arith
-standing_within cut s (e ∷ es) calls =
-    by (nat_lt calls (calls_of cut s.segments e).deciding) (standing_within cut (after_effect s e) es (calls - (calls_of cut s.segments e).calls))
-  where
-    by : (b : Bool) → effects_standing cut (after_effect s e) es (calls - (calls_of cut s.segments e).calls) ≤ length es
-        → cond b 0 (suc (effects_standing cut (after_effect s e) es (calls - (calls_of cut s.segments e).calls))) ≤ suc (length es)
-    by true h = omega arith
-    by false h = omega arith
-
-kept_within : (x : StopAt) (s : NodeState) (r : Request) → kept_by x s r ≤ length (effects_of s r)
-kept_within (Effects keep) s r = omega arith
-kept_within (DiskCalls calls cut) s r = standing_within cut s (effects_of s r) calls
 
 -- ## A request
 -- an answer, or a stop behind some effects
-data Asked (s : NodeState) (r : Request) (t : Taken) : Type 0 where
+pub data Asked (s : NodeState) (r : Request) (t : Taken) : Type 0 where
   replied : t.answer ≡ answer.Replied (node_step s r).reply → t.cell.state ≡ (node_step s r).state → Asked s r t
   cut_off : (keep : ℕ) → t.answer ≡ answer.Stopped keep → t.cell.state ≡ stopped s r keep → s.up ≡ true → keep ≤ length (effects_of s r) → Asked s r t
 
@@ -49,7 +31,7 @@ asked_counted s r (Some a) up = by (nat_lt 1 a.calls)
     by true = replied refl refl
     by false = cut_off (kept_by a.stop s r) refl refl up (kept_within a.stop s r)
 
-asked : (c : Cell) (late : Bool) (r : Request) → Asked c.state r (cell_takes c (ask.Act late r))
+pub asked : (c : Cell) (late : Bool) (r : Request) → Asked c.state r (cell_takes c (ask.Act late r))
 unfolding cell_takes
 asked c late r = by c.state.up refl
   where

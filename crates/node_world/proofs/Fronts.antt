@@ -1,7 +1,6 @@
 -- What a request leaves of a node's promise and serial: the two that tell whether it moved.
-use Rattle.std.proofs.Common.{◌≡◌, ◌≢◌, ℕ, zero, suc, ◌+◌, ◌-◌, ◌<◌, ◌≤◌, max, List, [], ◌∷◌, ◌++◌, Bool, true, false, not, cond, refl, sym, ap, ◌∙◌, subst, arith, length, map, take, filter, ◌⊎◌, inl, inr, true≢false}
-use Rattle.std.specs.Prelude.{Option, Some, None, is_some, ◌&&◌, ◌||◌, ◌==◌, nat_lt, nat_le}
-use Rattle.std.proofs.lemmas.Bool.Decides.{nat_tests}
+use Rattle.std.proofs.Common.{◌≡◌, ℕ, ◌+◌, List, [], ◌∷◌, ◌++◌, Bool, true, false, not, cond, refl, subst, map, filter}
+use Rattle.std.specs.Prelude.{Option, Some, None, ◌&&◌, ◌||◌, ◌==◌, nat_lt, nat_le}
 use Rattle.journal_core.specs.Views.{HeadView, BatchView, last_txid}
 use Rattle.journal_core.specs.declared.segment.Segment.{Segment}
 use Rattle.journal_core.specs.declared.node_state.NodeState.{NodeState}
@@ -9,13 +8,11 @@ use Rattle.journal_core.specs.declared.request.Request.{Request}
 use Rattle.journal_core.specs.declared.request.Request.TheVariants as request
 use Rattle.journal_core.specs.declared.refusal.Refusal.{Refusal}
 use Rattle.journal_core.specs.declared.refusal.Refusal.TheVariants as refusal
-use Rattle.journal_core.specs.declared.reply.Reply.{Reply}
-use Rattle.journal_core.specs.declared.reply.Reply.TheVariants as reply
 use Rattle.journal_core.specs.Segments.{find_segment, has_edit, end_of}
 use Rattle.journal_core.specs.Limits.{head_of, limit_of}
 use Rattle.journal_core.specs.Effects.{Effect, Promise, WriterEpoch, Commit, NewSegment, Append, Replace, MakeFinal, Remove, after_effect, after_effects}
-use Rattle.journal_core.specs.Step.{Stepped, front_refused, unless_limited, refused_at_once, front_effects, fronted, start_refused, open_refused, bodies_in, journal_refused, finalize_refused, fetch_refused, accept_refused, row_refused, is_final_one, may_go, start_effects, finalize_effects, row_effects, row_then, row_reply, behind_front, unless_refused, node_step, effects_behind, effects_unless, effects_of}
-use Rattle.node_world.specs.Moving.{epoch_of, head_epoch, is_at_once, is_refused_at_once, moves}
+use Rattle.journal_core.specs.Step.{front_refused, unless_limited, refused_at_once, start_refused, open_refused, bodies_in, finalize_refused, fetch_refused, accept_refused, row_refused, is_final_one, may_go, row_effects}
+use Rattle.node_world.specs.Moving.{is_at_once}
 
 -- ## Effects that leave the promise
 unfoldable pub IsQuiet : List Effect → Type 0

@@ -49,7 +49,7 @@ passed s r reply e n = go (acted s r)
     go (done a b c d) = record { at_once = a; row = b; state = ap (λ z. z.state) c; reply = ap (λ z. z.reply) c }
 
 -- the segments after a request that passed
-passed_segments : (s : NodeState) (r : Request) → Passed s r → (node_step s r).state.segments ≡ segments_all s.segments (row_effects (fronted s r) r)
+pub passed_segments : (s : NodeState) (r : Request) → Passed s r → (node_step s r).state.segments ≡ segments_all s.segments (row_effects (fronted s r) r)
 passed_segments s r p = ap (λ z. z.segments) p.state ∙ segments-after (fronted s r) (row_effects (fronted s r) r)
 
 -- ## Journal

@@ -1,5 +1,5 @@
 -- A request that moved a node, and did more than stop it, leaves the node with the request's epoch as its promise.
-use Rattle.std.proofs.Common.{◌≡◌, ◌≢◌, ℕ, zero, suc, ◌+◌, ◌-◌, ◌<◌, ◌≤◌, max, List, [], ◌∷◌, ◌++◌, Bool, true, false, not, cond, refl, sym, ap, ◌∙◌, subst, arith, length, take, ◌⊎◌, inl, inr}
+use Rattle.std.proofs.Common.{◌≡◌, ℕ, zero, suc, ◌<◌, ◌≤◌, max, List, [], ◌∷◌, ◌++◌, Bool, true, false, not, cond, refl, sym, ap, ◌∙◌, subst, arith, length, take, ◌⊎◌, inl, inr}
 use Rattle.std.specs.Prelude.{Option, Some, None, is_some, ◌&&◌, nat_lt, nat_le}
 use Rattle.std.proofs.lemmas.Bool.Decides.{nat_tests}
 use Rattle.journal_core.specs.Views.{HeadView}
@@ -9,14 +9,13 @@ use Rattle.journal_core.specs.declared.request.Request.TheVariants as request
 use Rattle.journal_core.specs.declared.refusal.Refusal.{Refusal}
 use Rattle.journal_core.specs.declared.refusal.Refusal.TheVariants as refusal
 use Rattle.journal_core.specs.Limits.{head_of}
-use Rattle.journal_core.specs.Effects.{Effect, Promise, WriterEpoch, Commit, NewSegment, Append, Replace, MakeFinal, Remove, after_effect, after_effects}
-use Rattle.journal_core.specs.Step.{Stepped, refused_at_once, front_effects, fronted, row_refused, row_effects, behind_front, unless_refused, node_step, effects_behind, effects_unless, effects_of, stopped}
-use Rattle.node_world.specs.declared.stop.Stop.{Stop}
+use Rattle.journal_core.specs.Effects.{Effect, Promise, after_effect, after_effects}
+use Rattle.journal_core.specs.Step.{refused_at_once, front_effects, fronted, row_refused, behind_front, unless_refused, node_step, effects_behind, effects_unless, effects_of, stopped}
 use Rattle.node_world.specs.declared.node_ask.NodeAsk.{NodeAsk}
 use Rattle.node_world.specs.declared.node_ask.NodeAsk.TheVariants.{Act, Kill, Restart, Arm}
 use Rattle.node_world.specs.declared.node_ask.NodeAnswer.{NodeAnswer}
 use Rattle.node_world.specs.declared.node_ask.NodeAnswer.TheVariants as answer
-use Rattle.node_world.specs.Cell.{Arming, Cell, Taken, kept_by, replies, stops, killed, started_again, armed, requested, cell_takes}
+use Rattle.node_world.specs.Cell.{Cell, Taken, kept_by, replies, stops, killed, started_again, armed, requested, cell_takes}
 use Rattle.node_world.specs.Entries as entry
 use Rattle.node_world.specs.Entries.{Move}
 use Rattle.node_world.specs.Moving.{epoch_of, is_refused_at_once, is_proposal, moves, way_of, move_of, falls}

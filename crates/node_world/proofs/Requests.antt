@@ -1,6 +1,6 @@
 -- A request at a node: where it moves, promise or serial change, and the promise never falls; where it doesn't, all stays.
-use Rattle.std.proofs.Common.{◌≡◌, ◌≢◌, ℕ, zero, suc, ◌+◌, ◌-◌, ◌<◌, ◌≤◌, max, List, [], ◌∷◌, ◌++◌, Bool, true, false, not, cond, refl, sym, ap, ◌∙◌, subst, arith, length, take, ◌⊎◌, inl, inr}
-use Rattle.std.specs.Prelude.{Option, Some, None, is_some, ◌&&◌, ◌||◌, ◌==◌, nat_lt, nat_le}
+use Rattle.std.proofs.Common.{◌≡◌, ◌≢◌, ℕ, ◌<◌, ◌≤◌, max, Bool, true, false, cond, refl, ap, ◌∙◌, arith, ◌⊎◌, inl, inr}
+use Rattle.std.specs.Prelude.{Option, Some, None, is_some, ◌&&◌, ◌==◌, nat_lt, nat_le}
 use Rattle.std.proofs.lemmas.Bool.Decides.{nat_tests}
 use Rattle.journal_core.specs.Views.{HeadView}
 use Rattle.journal_core.specs.declared.node_state.NodeState.{NodeState}
@@ -8,12 +8,10 @@ use Rattle.journal_core.specs.declared.request.Request.{Request}
 use Rattle.journal_core.specs.declared.request.Request.TheVariants as request
 use Rattle.journal_core.specs.declared.refusal.Refusal.{Refusal}
 use Rattle.journal_core.specs.declared.refusal.Refusal.TheVariants as refusal
-use Rattle.journal_core.specs.declared.reply.Reply.{Reply}
-use Rattle.journal_core.specs.declared.reply.Reply.TheVariants as reply
 use Rattle.journal_core.specs.Limits.{head_of, limit_of}
-use Rattle.journal_core.specs.Effects.{Effect, Promise, after_effect, after_effects}
-use Rattle.journal_core.specs.Step.{Stepped, front_refused, unless_limited, refused_at_once, front_effects, fronted, row_refused, row_effects, row_then, serial_then, row_reply, behind_front, unless_refused, node_step, effects_behind, effects_unless, effects_of, crashed, stopped}
-use Rattle.node_world.specs.Moving.{epoch_of, is_at_once, is_refused_at_once, moves}
+use Rattle.journal_core.specs.Effects.{after_effects}
+use Rattle.journal_core.specs.Step.{Stepped, front_refused, unless_limited, refused_at_once, fronted, row_refused, row_effects, serial_then, row_reply, behind_front, unless_refused, node_step}
+use Rattle.node_world.specs.Moving.{epoch_of, is_refused_at_once, moves}
 use Rattle.node_world.proofs.Fronts.{quiet_promise, same_serial, quiet_row, at_once, row_late}
 
 -- a request is without an epoch, a proposal, or has a head

@@ -251,7 +251,7 @@ order_of {x} {y} {xs} {ys} now q = order_with q (x ∷ xs) refl refl
 order_of (before p) now = first_before p
 order_of (before p) (before q) = order_of p q
 
-one_vote : (n : ℕ) (story : Story) (past : List Entry) (a b i : ℕ) → (story.takeover a).epoch ≡ (story.takeover b).epoch → (v : Vote n story past a i) → (u : Vote n story past b i) → Order v.entry u.entry v.old u.old → a ≡ b
+pub one_vote : (n : ℕ) (story : Story) (past : List Entry) (a b i : ℕ) → (story.takeover a).epoch ≡ (story.takeover b).epoch → (v : Vote n story past a i) → (u : Vote n story past b i) → Order v.entry u.entry v.old u.old → a ≡ b
 one_vote n story past a b i same v u (the_same e) = sym v.whose ∙ (ap (λ z. story.whose (length z)) e ∙ u.whose)
 one_vote n story past a b i same v u (first_before p) =
     let h : (node_after i (v.entry ∷ v.old)).promised ≤ (node_after i u.old).promised = promise_earlier i p in

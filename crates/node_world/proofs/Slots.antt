@@ -136,7 +136,7 @@ ok_distinct r first (x ∷ xs) =
     not_first : Member first (ok_from r (first + 1) xs) → ⊥
     not_first k = let y = in_ok r (first + 1) xs first k in let range = At-range (first + 1) xs first y.0 y.1 in omega (arith, range.0)
 
-ok_count : (r : Round) (first : ℕ) (xs : List Slot) → length (ok_from r first xs) ≡ length (filter (is_ok r) xs)
+pub ok_count : (r : Round) (first : ℕ) (xs : List Slot) → length (ok_from r first xs) ≡ length (filter (is_ok r) xs)
 ok_count r first [] = refl
 ok_count r first (x ∷ xs) = elim (cases_Bool (is_ok r x)) [
   | inl t ↦ ap length (cond-true (is_ok r x) (first ∷ ok_from r (first + 1) xs) (ok_from r (first + 1) xs) t)

@@ -1,9 +1,9 @@
 -- A request that is stopped behind the first of its effects leaves a promise that is no lower.
-use Rattle.std.proofs.Common.{◌≡◌, ◌≢◌, ℕ, zero, suc, ◌+◌, ◌-◌, ◌<◌, ◌≤◌, min, max, List, [], ◌∷◌, ◌++◌, Bool, true, false, not, cond, refl, sym, ap, ◌∙◌, subst, arith, length, take, ◌⊎◌, inl, inr}
-use Rattle.std.specs.Prelude.{Option, Some, None, is_some, nat_lt, nat_le}
+use Rattle.std.proofs.Common.{◌≡◌, ℕ, zero, suc, ◌<◌, ◌≤◌, min, List, [], ◌∷◌, ◌++◌, Bool, true, false, cond, refl, sym, ◌∙◌, subst, arith, length, take}
+use Rattle.std.specs.Prelude.{Option, Some, None, nat_lt, nat_le}
 use Rattle.std.proofs.lemmas.Bool.Decides.{nat_tests}
+use Rattle.std.proofs.lemmas.List.{length-map}
 use Rattle.journal_core.specs.Views.{HeadView}
-use Rattle.journal_core.specs.declared.cut.Cut.{Cut}
 use Rattle.journal_core.specs.declared.node_state.NodeState.{NodeState}
 use Rattle.journal_core.specs.declared.request.Request.{Request}
 use Rattle.journal_core.specs.declared.request.Request.TheVariants as request
@@ -11,10 +11,11 @@ use Rattle.journal_core.specs.declared.refusal.Refusal.{Refusal}
 use Rattle.journal_core.specs.declared.refusal.Refusal.TheVariants as refusal
 use Rattle.journal_core.specs.Limits.{head_of}
 use Rattle.journal_core.specs.Effects.{Effect, Promise, WriterEpoch, Commit, NewSegment, Append, Replace, MakeFinal, Remove, after_effect, after_effects}
-use Rattle.journal_core.specs.Step.{refused_at_once, front_effects, fronted, row_refused, row_effects, effects_behind, effects_unless, effects_of, stopped}
+use Rattle.journal_core.specs.Step.{refused_at_once, front_effects, fronted, row_refused, effects_behind, effects_unless, effects_of, stopped}
 use Rattle.node_world.specs.declared.stop.Stop.{Stop}
 use Rattle.node_world.specs.declared.stop.Stop.TheVariants.{Effects, DiskCalls}
-use Rattle.node_world.specs.Cuts.{calls_of, effects_standing}
+use Rattle.journal_core.specs.Cuts.{standing, cost_of, costs_of}
+use Rattle.journal_core.proofs.BudgetLaws.{standing-le}
 use Rattle.node_world.specs.Cell.{kept_by}
 use Rattle.node_world.specs.Moving.{epoch_of}
 use Rattle.node_world.proofs.Fronts.{IsQuiet, quiet_promise, quiet_row}
@@ -123,16 +124,9 @@ unfolding effects_of
 stop_rises s r keep = rising keep (effects_unless s r (refused_at_once s r)) s (effects_by s r (refused_at_once s r) (sort_of r))
 
 -- ## How many effects stand
-standing_within : (cut : Cut) (es : List Effect) (s : NodeState) (calls : ℕ) → effects_standing cut s es calls ≤ length es
-unfolding effects_standing
-standing_within cut [] s calls = omega arith
-standing_within cut (e ∷ es) s calls = by (nat_lt calls (calls_of cut s.segments e).deciding) (standing_within cut es (after_effect s e) (calls - (calls_of cut s.segments e).calls))
-  where
-    by : (b : Bool) → effects_standing cut (after_effect s e) es (calls - (calls_of cut s.segments e).calls) ≤ length es
-        → cond b 0 (suc (effects_standing cut (after_effect s e) es (calls - (calls_of cut s.segments e).calls))) ≤ suc (length es)
-    by true h = omega arith
-    by false h = omega (arith, h)
-
 pub kept_within : (stop : Stop) (s : NodeState) (r : Request) → kept_by stop s r ≤ length (effects_of s r)
 kept_within (Effects keep) s r = omega arith
-kept_within (DiskCalls calls cut) s r = standing_within cut (effects_of s r) s calls
+kept_within (DiskCalls calls cut) s r =
+    let few : standing calls (costs_of cut s r) ≤ length (costs_of cut s r) = standing-le (costs_of cut s r) calls in
+    let same : length (costs_of cut s r) ≡ length (effects_of s r) = length-map (effects_of s r) (cost_of cut s.segments) in
+    omega arith

@@ -3,6 +3,8 @@ use Rattle.std.specs.Prelude.{ℕ, ◌-◌, ◌≡◌, min, nat_lt, Bool, true, 
 use Rattle.journal_core.specs.declared.node_state.NodeState.{NodeState}
 use Rattle.journal_core.specs.declared.request.Request.{Request}
 use Rattle.journal_core.specs.Step.{node_step, effects_of, stopped, crashed, restarted, fresh_state}
+use Rattle.journal_core.specs.Cuts.{effects_standing}
+pub use Rattle.node_world.specs.declared.arming.Arming.{Arming}
 use Rattle.node_world.specs.declared.stop.Stop.{Stop}
 use Rattle.node_world.specs.declared.stop.Stop.TheVariants.{Effects, DiskCalls}
 use Rattle.node_world.specs.declared.node_ask.NodeAsk.{NodeAsk}
@@ -10,12 +12,6 @@ use Rattle.node_world.specs.declared.node_ask.NodeAsk.TheVariants.{Act, Kill, Re
 use Rattle.node_world.specs.declared.node_ask.NodeAnswer.{NodeAnswer}
 use Rattle.node_world.specs.declared.node_ask.NodeAnswer.TheVariants.{Replied, Stopped, Done, Idle}
 use Rattle.node_world.specs.declared.history_line.HistoryLine.{HistoryLine}
-use Rattle.node_world.specs.Cuts.{effects_standing}
-
--- which of the next requests that reach the node is stopped, counted from 1, and where
-pub record Arming : Type 0 where
-  pub calls : ℕ
-  pub stop : Stop
 
 pub record Cell : Type 0 where
   pub state : NodeState
@@ -32,7 +28,7 @@ fresh_cell = record { state = fresh_state; arming = None }
 -- how many effects of a request stand where it is stopped
 abbrev pub kept_by : Stop → NodeState → Request → ℕ
 kept_by (Effects keep) s r = min keep (length (effects_of s r))
-kept_by (DiskCalls calls cut) s r = effects_standing cut s (effects_of s r) calls
+kept_by (DiskCalls calls cut) s r = effects_standing cut s r calls
 
 -- ## A request
 abbrev pub replies : NodeState → Request → Option Arming → Taken

@@ -1,5 +1,5 @@
 -- What holds of a node with its arming, whatever reaches it.
-use Rattle.std.specs.Prelude.{◌≡◌, ◌≢◌, ℕ, ◌≤◌, Bool, true, false, length, Option, Some, None}
+use Rattle.std.specs.Prelude.{◌≡◌, ◌≢◌, ℕ, ◌≤◌, Bool, true, false, length, Some, None}
 use Rattle.journal_core.specs.declared.node_state.NodeState.{NodeState}
 use Rattle.journal_core.specs.Step.{node_step, effects_of}
 use Rattle.node_world.specs.declared.node_ask.NodeAsk.{NodeAsk}

@@ -1,5 +1,5 @@
--- A run of three nodes and two writers: an edit that one node holds is recovered by a takeover, past a kill, a restart, a late copy and a stop inside a
--- prepare.
+-- A run of three nodes and two writers: an acknowledged edit, and one that a single node holds, are recovered by a takeover, past a kill, a restart,
+-- a late copy and a stop inside a prepare; the new writer goes on.
 use Rattle.std.specs.Prelude.{ℕ, ◌++◌, false, List, [], ◌∷◌, map, None, Some}
 use Rattle.journal_core.specs.Views.{HeadView, BatchView}
 use Rattle.journal_core.specs.declared.request.Request.{Request}
@@ -14,12 +14,18 @@ use Rattle.node_world.specs.Tables.{Told, TakeoverTable, Call, Tables}
 abbrev pub head : ℕ → ℕ → ℕ → HeadView
 head epoch serial committed = record { epoch = epoch; serial = serial; committed = committed }
 
--- the record that begins a segment, and an edit
+-- the record that begins a segment, and three edits
 abbrev pub begin : List ℕ
 begin = 24 ∷ []
 
 abbrev pub edit : List ℕ
 edit = 7 ∷ []
+
+abbrev pub unheard : List ℕ
+unheard = 8 ∷ []
+
+abbrev pub later : List ℕ
+later = 9 ∷ []
 
 abbrev pub one_edit : ℕ → List ℕ → BatchView
 one_edit txid body = record { first = txid; bodies = body ∷ [] }
@@ -30,20 +36,21 @@ heard_at caller request answer node = record { node = node; move = Answer caller
 abbrev pub at_all : ℕ → Request → Reply → List Entry
 at_all caller request answer = map (heard_at caller request answer) (1 ∷ 2 ∷ 3 ∷ [])
 
--- Writer 0 takes epoch 1 and begins segment 1 at all nodes. Its log of the edit reaches node 1 alone, and nobody hears.
+-- Writer 0 takes epoch 1, begins segment 1 at all nodes and logs an edit. Its log of the next one reaches node 1 alone, and nobody hears.
 abbrev pub first_writer : List Entry
 first_writer =
     at_all 0 (NewEpoch 1) (reply.NewEpoch None)
     ++ at_all 0 (Start (head 1 1 0) 1) reply.Ok
     ++ at_all 0 (Journal (head 1 2 0) 1 (one_edit 1 begin)) reply.Ok
-    ++ record { node = 1; move = Answer 0 Muted (Journal (head 1 3 1) 1 (one_edit 2 edit)) reply.Ok } ∷ []
+    ++ at_all 0 (Journal (head 1 3 1) 1 (one_edit 2 edit)) reply.Ok
+    ++ record { node = 1; move = Answer 0 Muted (Journal (head 1 4 2) 1 (one_edit 3 unheard)) reply.Ok } ∷ []
 
 -- Node 2 goes down and comes up again, and a copy of its first `start` comes late.
 abbrev pub interlude : List Entry
 interlude =
     record { node = 2; move = Kill }
     ∷ record { node = 2; move = Restart }
-    ∷ record { node = 2; move = Answer 0 Late (Start (head 1 1 0) 1) (reply.Refused (SegmentHasEdits 1)) }
+    ∷ record { node = 2; move = Answer 0 Late (Start (head 1 1 0) 1) (reply.Refused (SegmentHasEdits 2)) }
     ∷ []
 
 -- what a node tells of segment 1
@@ -51,25 +58,35 @@ abbrev pub tells : ℕ → ℕ → Reply
 tells known end = reply.Prepared 1 known (Some (record { start = 1; end = end; epoch = 1; is_final = false; accepted = false }))
 
 abbrev pub recovered : BatchView
-recovered = record { first = 1; bodies = begin ∷ edit ∷ [] }
+recovered = record { first = 1; bodies = begin ∷ edit ∷ unheard ∷ [] }
 
--- Writer 1 takes epoch 2 by nodes 1 and 2; node 3 is stopped inside its prepare and comes up again. It recovers both edits and begins segment 3.
+-- Writer 1 takes epoch 2 by nodes 1 and 2; node 3 is stopped inside its prepare and comes up again. It recovers all three edits, begins
+-- segment 4 and logs an edit.
 abbrev pub second_writer : List Entry
 second_writer =
     heard_at 1 (NewEpoch 2) (reply.NewEpoch (Some 1)) 1
     ∷ heard_at 1 (NewEpoch 2) (reply.NewEpoch (Some 1)) 2
-    ∷ heard_at 1 (Prepare (head 2 1 0) 1) (tells 1 2) 1
-    ∷ heard_at 1 (Prepare (head 2 1 0) 1) (tells 0 1) 2
+    ∷ heard_at 1 (Prepare (head 2 1 0) 1) (tells 2 3) 1
+    ∷ heard_at 1 (Prepare (head 2 1 0) 1) (tells 0 2) 2
     ∷ record { node = 3; move = Stop 1 false (Prepare (head 2 1 0) 1) 1 }
     ∷ record { node = 3; move = Restart }
     ∷ heard_at 1 (Fetch (head 2 2 0) 1 1) (reply.Edits recovered) 1
     ∷ at_all 1 (Accept (head 2 3 0) recovered) reply.Ok
-    ++ at_all 1 (Finalize (head 2 4 2) 1 2) reply.Ok
-    ++ at_all 1 (Start (head 2 5 2) 3) reply.Ok
-    ++ at_all 1 (Journal (head 2 6 2) 3 (one_edit 3 begin)) reply.Ok
+    ++ at_all 1 (Finalize (head 2 4 3) 1 3) reply.Ok
+    ++ at_all 1 (Start (head 2 5 3) 4) reply.Ok
+    ++ at_all 1 (Journal (head 2 6 3) 4 (one_edit 4 begin)) reply.Ok
+    ++ at_all 1 (Journal (head 2 7 4) 4 (one_edit 5 later)) reply.Ok
 
 abbrev pub recovered_edit : List Entry
 recovered_edit = first_writer ++ interlude ++ second_writer
+
+-- the log that epoch 2 recovered
+abbrev pub recovered_log : List (List ℕ)
+recovered_log = begin ∷ edit ∷ unheard ∷ []
+
+-- the line of the run
+abbrev pub its_line : List (List ℕ)
+its_line = begin ∷ edit ∷ unheard ∷ begin ∷ later ∷ []
 
 -- ## Whose calls they are
 abbrev pub answers : ℕ → Reply → List ℕ → List Told
@@ -83,8 +100,8 @@ first_takeover =
     record {
       caller = 0;
       epoch = 1;
-      tasks = Log (edit ∷ []) ∷ [];
-      answers = answers 0 (reply.NewEpoch None) all ++ answers 1 reply.Ok all ++ answers 2 reply.Ok all;
+      tasks = Log (edit ∷ []) ∷ Log (unheard ∷ []) ∷ [];
+      answers = answers 0 (reply.NewEpoch None) all ++ answers 1 reply.Ok all ++ answers 2 reply.Ok all ++ answers 3 reply.Ok all;
     }
 
 abbrev pub second_takeover : TakeoverTable
@@ -92,16 +109,17 @@ second_takeover =
     record {
       caller = 1;
       epoch = 2;
-      tasks = [];
+      tasks = Log (later ∷ []) ∷ [];
       answers =
           answers 0 (reply.NewEpoch (Some 1)) (1 ∷ 2 ∷ [])
-          ++ answers 1 (tells 1 2) (1 ∷ [])
-          ++ answers 1 (tells 0 1) (2 ∷ [])
+          ++ answers 1 (tells 2 3) (1 ∷ [])
+          ++ answers 1 (tells 0 2) (2 ∷ [])
           ++ answers 2 (reply.Edits recovered) (1 ∷ [])
           ++ answers 3 reply.Ok all
           ++ answers 4 reply.Ok all
           ++ answers 5 reply.Ok all
-          ++ answers 6 reply.Ok all;
+          ++ answers 6 reply.Ok all
+          ++ answers 7 reply.Ok all;
     }
 
 abbrev pub rounds : ℕ → List ℕ → List Call
@@ -112,9 +130,9 @@ tables =
     record {
       takeovers = first_takeover ∷ second_takeover ∷ [];
       calls =
-          rounds 0 (0 ∷ 0 ∷ 0 ∷ 1 ∷ 1 ∷ 1 ∷ 2 ∷ 2 ∷ 2 ∷ 3 ∷ [])
+          rounds 0 (0 ∷ 0 ∷ 0 ∷ 1 ∷ 1 ∷ 1 ∷ 2 ∷ 2 ∷ 2 ∷ 3 ∷ 3 ∷ 3 ∷ 4 ∷ [])
           ++ rounds 0 (0 ∷ 0 ∷ 1 ∷ [])
-          ++ rounds 1 (0 ∷ 0 ∷ 1 ∷ 1 ∷ 1 ∷ 0 ∷ 2 ∷ 3 ∷ 3 ∷ 3 ∷ 4 ∷ 4 ∷ 4 ∷ 5 ∷ 5 ∷ 5 ∷ 6 ∷ 6 ∷ 6 ∷ []);
+          ++ rounds 1 (0 ∷ 0 ∷ 1 ∷ 1 ∷ 1 ∷ 0 ∷ 2 ∷ 3 ∷ 3 ∷ 3 ∷ 4 ∷ 4 ∷ 4 ∷ 5 ∷ 5 ∷ 5 ∷ 6 ∷ 6 ∷ 6 ∷ 7 ∷ 7 ∷ 7 ∷ []);
     }
 
 -- ## What isn't a run, and what isn't safe

@@ -6,7 +6,12 @@ pub mod Laws
 pub mod Parts
 pub mod Tables
 pub mod Examples
-pub mod Cuts
 pub mod Cell
 pub mod Moving
 pub mod CellLaws
+pub mod NodeCells
+pub mod Same
+pub mod World
+pub mod WorldLaws
+pub mod Complete
+pub mod WorldExamples

@@ -1,5 +1,5 @@
 -- The lines of histories that move their node, as entries of a run.
-use Rattle.std.specs.Prelude.{ℕ, zero, suc, ◌&&◌, not, is_some, Bool, true, false, List, [], ◌∷◌, Option, Some, None, option_map, filter_map, if◌then◌else◌}
+use Rattle.std.specs.Prelude.{ℕ, zero, suc, ◌&&◌, not, is_some, Bool, true, false, List, Option, Some, None, filter_map, if◌then◌else◌}
 use Rattle.journal_core.specs.Views.{HeadView}
 use Rattle.journal_core.specs.Limits.{head_of}
 use Rattle.journal_core.specs.declared.request.Request.{Request}

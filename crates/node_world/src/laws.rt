@@ -1,6 +1,8 @@
 // What holds of every run of the journal world. Each law is the contract of a function that does nothing.
 ghost use Rattle.node_world.specs.Laws.{PrefixIsRun, MajoritiesShareANode, PromiseNeverFalls, UnmovedLeavesStates, EveryRunIsSafe, ChosenOnce, ChosenIsOnLine, LineGoesOn, ServedIsOnLine, KnownCommittedIsOnLine, CarriedCommittedIsOnLine};
 ghost use Rattle.node_world.specs.Parts.{PromisesHold, AnswersArePromised, OneOwnerAnEpoch, WrittenOnce, StartsAreChained, SegmentsAreChained, ChosenSurvives, StartsAreAbove, FinalisedIsChosen, NewestNeverFalls, RecoveryIsWhole, LineHasAuthors};
+ghost use Rattle.node_world.specs.WorldLaws.{WorldStepsAreARun, WorldsAreSafe, NotNextChangesNothing, SeenExactly};
+ghost use Rattle.node_world.specs.Complete.{TakeoversComplete};
 
 /// What stood first in a run is a run.
 pub fn prefix_is_run()
@@ -119,4 +121,30 @@ pub fn recovery_is_whole()
 /// line.
 pub fn line_has_authors()
     ensures { LineHasAuthors }
+{}
+
+/// Whatever events come to a world, what reached its nodes, less what doesn't move, is a run.
+pub fn world_steps_are_a_run()
+    ensures { WorldStepsAreARun }
+{}
+
+/// And so it is safe.
+pub fn worlds_are_safe()
+    ensures { WorldsAreSafe }
+{}
+
+/// An event that can't come now leaves the world as it was.
+pub fn not_next_changes_nothing()
+    ensures { NotNextChangesNothing }
+{}
+
+/// Exactly which events can't come now, and exactly which kills, restarts and armings find a node that already is as asked.
+pub fn seen_exactly()
+    ensures { SeenExactly }
+{}
+
+/// A takeover that one majority of nodes serves, up from its begin on and answering each call that it makes to them by no
+/// limit and under no higher promise, is under way or was taken: it is never aborted.
+pub fn takeovers_complete()
+    ensures { TakeoversComplete }
 {}

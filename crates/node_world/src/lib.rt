@@ -2,6 +2,7 @@
 //! lose calls, stop and restart; what a run of it is, and what every run keeps.
 #![tactic(auto)]
 
+mod arming;
 pub mod cells;
 mod event;
 pub mod examples;
@@ -9,14 +10,19 @@ mod history_line;
 pub mod laws;
 mod mark;
 mod node_ask;
+mod node_cell;
 mod record;
 mod seen;
 mod stop;
+#[cfg(test)]
+mod tests;
 
+pub use arming::Arming;
 pub use event::{Event, Fate};
 pub use history_line::{HistoryLine, HistoryList};
 pub use mark::{ActorPlan, Mark, MarkKind, Plan};
 pub use node_ask::{NodeAnswer, NodeAsk};
+pub use node_cell::NodeCell;
 pub use record::{Record, RecordList, Told};
 pub use seen::Seen;
 pub use stop::Stop;

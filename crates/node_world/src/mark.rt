@@ -56,6 +56,15 @@ impl ActorPlan {
     {
         self.items.as_slice()
     }
+
+    /// One more mark.
+    pub fn push(&mut self, mark: Mark) -> Result<(), OutOfMemory>
+        ensures ok { OnOk result (self.new ≡ self.old ++ mark ∷ []) }
+        ensures err { OnErr result (self.new ≡ self.old) }
+    {
+        self.items.push(mark)?;
+        Ok(())
+    }
 }
 
 /// The marks of each actor, in order of declaration.

@@ -1,6 +1,9 @@
 // What reaches a node, and what it answers.
+ghost use Rattle.std.specs.Prelude.{◌≡◌, IfOk};
+
 use crate::stop::Stop;
-use journal_core::{NodeFail, Reply, SharedRequest};
+use journal_core::{NodeFail, OutOfMemory, Reply, SharedRequest};
+use std::alloc::Global;
 
 /// What is asked of a node in one step.
 #[derive(Drop)]
@@ -28,4 +31,52 @@ pub enum NodeAnswer {
     Idle,
     /// The restarted node could not open its files.
     NotOpened(NodeFail),
+}
+
+impl NodeAsk {
+    /// The same ask once more; a request is shared.
+    pub fn share(&self) -> Result<NodeAsk, OutOfMemory>
+        ensures { IfOk result (λ ask. ask ≡ self.now) }
+    {
+        Ok(match self {
+            NodeAsk::Act { late, request } => NodeAsk::Act {
+                late: *late,
+                request: request.share()?,
+            },
+            NodeAsk::Kill => NodeAsk::Kill,
+            NodeAsk::Restart => NodeAsk::Restart,
+            NodeAsk::Arm { calls, stop } => NodeAsk::Arm {
+                calls: *calls,
+                stop: *stop,
+            },
+        })
+    }
+}
+
+/// The same fault once more.
+fn copy_of(alloc: Global, fail: &NodeFail) -> Result<NodeFail, OutOfMemory>
+    ensures { IfOk result (λ copy. copy ≡ fail.now) }
+{
+    Ok(match fail {
+        NodeFail::DiskFault => NodeFail::DiskFault,
+        NodeFail::BadFile { name } => NodeFail::BadFile {
+            name: name.copy(alloc)?,
+        },
+        NodeFail::OutOfMemory => NodeFail::OutOfMemory,
+    })
+}
+
+impl NodeAnswer {
+    /// The same answer once more; edits are shared.
+    pub fn share(&self, alloc: Global) -> Result<NodeAnswer, OutOfMemory>
+        ensures { IfOk result (λ answer. answer ≡ self.now) }
+    {
+        Ok(match self {
+            NodeAnswer::Replied(reply) => NodeAnswer::Replied(reply.share(alloc)?),
+            NodeAnswer::Stopped { keep } => NodeAnswer::Stopped { keep: *keep },
+            NodeAnswer::Done => NodeAnswer::Done,
+            NodeAnswer::Idle => NodeAnswer::Idle,
+            NodeAnswer::NotOpened(fail) => NodeAnswer::NotOpened(copy_of(alloc, fail)?),
+        })
+    }
 }

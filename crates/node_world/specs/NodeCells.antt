@@ -1,0 +1,31 @@
+-- A node that keeps its own history: what contracts see of it, and what one ask of it does.
+use Rattle.std.specs.Prelude.{◌≡◌, ℕ, Bool, List, [], ◌∷◌, ◌++◌, Option, Some, None, unwrap_or}
+use Rattle.journal_core.specs.declared.node_state.NodeState.{NodeState}
+use Rattle.journal_core.specs.Step.{fresh_state}
+use Rattle.node_world.specs.declared.node_ask.NodeAsk.{NodeAsk}
+use Rattle.node_world.specs.declared.node_ask.NodeAnswer.{NodeAnswer}
+use Rattle.node_world.specs.declared.history_line.HistoryLine.{HistoryLine}
+use Rattle.node_world.specs.Cell.{Cell, fresh_cell, cell_takes}
+
+-- the cell as it stands, and what it has listed
+pub record CellView : Type 0 where
+  pub cell : Cell
+  pub history : List HistoryLine
+
+-- the state of a node that tells it
+abbrev pub state_told : Option NodeState → NodeState
+state_told o = unwrap_or o fresh_state
+
+-- where it is known whether the node is up, it is
+abbrev pub IsUp : Option Bool → NodeState → Type 0
+IsUp None s = Unit {0}
+IsUp (Some up) s = up ≡ s.up
+
+-- before anything has reached it
+abbrev pub new_cell : CellView
+new_cell = record { cell = fresh_cell; history = [] }
+
+-- the cell took what this caller asked, gave this answer, and listed it
+pub record IsTaken (old : CellView) (caller : ℕ) (ask : NodeAsk) (answer : NodeAnswer) (new : CellView) : Type 0 where
+  pub taken : cell_takes old.cell ask ≡ record { answer = answer; cell = new.cell }
+  pub listed : new.history ≡ old.history ++ record { caller = caller; ask = ask; answer = answer } ∷ []
