@@ -1,17 +1,17 @@
 -- What a cell answers, as a caller's record has it.
-use Rattle.std.proofs.Common.{◌≡◌, ℕ, ◌-◌, Bool, true, false, cond, refl, sym, ap, ◌∙◌}
+use Rattle.std.proofs.Common.{◌≡◌, ℕ, ◌-◌, Bool, true, false, cond, refl}
 use Rattle.std.specs.Prelude.{Option, Some, None, nat_lt, ◌==◌}
 use Rattle.journal_core.specs.declared.node_state.NodeState.{NodeState}
 use Rattle.journal_core.specs.declared.request.Request.{Request}
-use Rattle.node_world.specs.declared.stop.Stop.{Stop}
 use Rattle.node_world.specs.declared.node_ask.NodeAsk.{NodeAsk}
 use Rattle.node_world.specs.declared.node_ask.NodeAsk.TheVariants.{Act, Kill, Restart, Arm}
 use Rattle.node_world.specs.declared.node_ask.NodeAnswer.{NodeAnswer}
 use Rattle.node_world.specs.declared.node_ask.NodeAnswer.TheVariants.{Replied, Stopped, Done, Idle, NotOpened}
-use Rattle.node_world.specs.declared.record.Record.TheVariants.{Call, Late, Operator, Outcome}
-use Rattle.node_world.specs.Cell.{Arming, Cell, Taken, cell_takes, replies, stops, kept_by, counted, requested, killed, started_again, armed}
+use Rattle.node_world.specs.declared.record.Record.TheVariants.{Call}
+use Rattle.node_world.specs.declared.arming.Arming.{Arming}
+use Rattle.node_world.specs.Cell.{Cell, cell_takes, replies, stops, kept_by, counted, requested, killed, started_again, armed}
 use Rattle.mesh.specs.Makers.{IsOperation}
-use Rattle.mesh.specs.Matches.{reaches, StandsFor, IsStop, done_or_idle}
+use Rattle.mesh.specs.Matches.{reaches, StandsFor, done_or_idle}
 use Rattle.cluster_runner.specs.Plays.{told_of, Delivered, is_done}
 
 -- a request is answered by a reply or by a stop

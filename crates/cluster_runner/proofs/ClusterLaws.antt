@@ -1,176 +1,172 @@
 -- What the program's nodes and actors become is what is kept of a play.
-use Rattle.std.proofs.Common.{◌≡◌, ℕ, ◌-◌, ◌+◌, ◌<◌, ◌≤◌, List, [], ◌∷◌, ◌++◌, length, map, refl, sym, ap, ◌∙◌, subst, Option, Some, None, set, get_or, arith, zero, suc, replicate, slice_get}
+use Rattle.std.proofs.Common.{◌≡◌, ℕ, ◌-◌, ◌+◌, ◌<◌, List, [], ◌∷◌, ◌++◌, length, map, refl, sym, ap, ◌∙◌, set, get_or, arith, zero, suc, replicate}
 use Rattle.std.proofs.Math.Seq.{map-set_same}
-use Rattle.node_world.specs.declared.record.Record.TheVariants.{Outcome}
-use Rattle.std.proofs.lemmas.List.{length-set, get_or-set_same, map-set, get_or-map, set-get_or, length-map, map-append}
+use Rattle.std.proofs.lemmas.List.{length-set, get_or-set_same, map-set, get_or-map, length-map, map-append}
 use Rattle.journal_core.specs.declared.request.Request.{Request}
-use Rattle.journal_core.specs.declared.reply.Reply.{Reply}
-use Rattle.journal_core.specs.declared.heard.Heard.TheVariants.{Answer}
-use Rattle.journal_core.specs.declared.node_state.NodeState.{NodeState}
-use Rattle.journal_core.specs.Step.{Stepped, node_step, fresh_state}
 use Rattle.writer_core.specs.declared.turn.Turn.{Turn}
-use Rattle.writer_core.specs.Views.{WriterView}
-use Rattle.writer_core.specs.Value.{WriterValue}
-use Rattle.writer_core.specs.Rounds.{Judged}
-use Rattle.writer_core.specs.Writer.{next_call, writer_heard, new_writer}
+use Rattle.writer_core.specs.Writer.{writer_heard}
+use Rattle.node_world.specs.declared.node_ask.NodeAsk.{NodeAsk}
+use Rattle.node_world.specs.declared.node_ask.NodeAnswer.{NodeAnswer}
 use Rattle.node_world.specs.declared.history_line.HistoryLine.{HistoryLine}
 use Rattle.node_world.specs.declared.record.Record.{Record}
+use Rattle.node_world.specs.declared.record.Record.TheVariants.{Operator}
+use Rattle.node_world.specs.declared.record.Told.{Told}
 use Rattle.node_world.specs.declared.mark.Mark.{Mark}
+use Rattle.node_world.specs.NodeCells.{CellView, new_cell, IsTaken}
 use Rattle.mesh.specs.declared.whole.Mesh.{Mesh}
 use Rattle.mesh.specs.declared.end.End.{End}
-use Rattle.cluster_runner.specs.declared.site.Site.{Site}
-use Rattle.cluster_runner.specs.declared.player.Player.{Player}
-use Rattle.cluster_runner.specs.Kept.{Kept, KeptActor, Called, called, answered_by, node_at, history_at, actor_of, new_actor, call_line, call_record, hears, with_actor, with_writer, said, says, mesh_kept, ends_kept}
-use Rattle.cluster_runner.specs.Shown.{kept, kept_actor, IsCall}
+use Rattle.mesh.specs.Makers.{heard_of}
+use Rattle.cluster_runner.specs.Plays.{Delivery, is_done}
+use Rattle.cluster_runner.specs.Kept.{Kept, KeptActor, Called, called, node_at, actor_of, new_actor, listed, answer_to, reached_by, told_by, delivery_to, hears, with_actor, with_actor_at, cell_copied, actor_copied, earlier_call, late, operates, mesh_kept, ends_kept}
+use Rattle.cluster_runner.specs.Shown.{PlayerView}
+use Rattle.cluster_runner.specs.Called.{kept}
 
--- the actor that is there
-pub actor_there : (sites : List Site) (players : List Player) (c : ℕ) (d : Player) → c < length players → actor_of (kept sites players) c ≡ kept_actor (get_or players c d)
-actor_there sites players c d l = get_or-map kept_actor players c d (new_actor (length (kept sites players).nodes) []) l
+-- ## What stands at a place
+same_place : {A : Type 0} (xs : List A) (i : ℕ) (a b : A) → i < length xs → get_or xs i a ≡ get_or xs i b
+same_place [] i a b l = absurd (omega (arith, l))
+same_place (x ∷ xs) zero a b l = refl
+same_place (x ∷ xs) (suc i) a b l = same_place xs i a b (omega (arith, l))
 
-node_there : (sites : List Site) (players : List Player) (node : ℕ) (d : Site) → node - 1 < length sites → node_at (kept sites players) node ≡ (get_or sites (node - 1) d).node
-node_there sites players node d l = get_or-map (λ s. s.node) sites (node - 1) d fresh_state l
+pub actor_there : (nodes : List CellView) (players : List PlayerView) (o : ℕ) (os : List Record) (c : ℕ) (d : PlayerView) → c < length players
+    → actor_of (kept nodes players o os) c ≡ (get_or players c d).actor
+actor_there nodes players o os c d l = get_or-map (λ p. p.actor) players c d (new_actor (length nodes) []) l
 
-history_there : (sites : List Site) (players : List Player) (node : ℕ) (d : Site) → node - 1 < length sites → history_at (kept sites players) node ≡ (get_or sites (node - 1) d).history
-history_there sites players node d l = get_or-map (λ s. s.history) sites (node - 1) d [] l
+pub node_there : (nodes : List CellView) (node : ℕ) (e : CellView) → node - 1 < length nodes → get_or nodes (node - 1) new_cell ≡ get_or nodes (node - 1) e
+node_there nodes node e l = same_place nodes (node - 1) new_cell e l
+
+pub there_is : (nodes : List CellView) (players : List PlayerView) (o : ℕ) (os : List Record) (c : ℕ) (p d : PlayerView) → p ≡ get_or players c d → c < length players
+    → actor_of (kept nodes players o os) c ≡ p.actor
+there_is nodes players o os c p d e l = actor_there nodes players o os c d l ∙ ap (λ x. x.actor) (sym e)
+
+pub now_is : (nodes : List CellView) (players : List PlayerView) (o : ℕ) (os : List Record) (c : ℕ) (p : PlayerView) → c < length players
+    → actor_of (kept nodes (set players c p) o os) c ≡ p.actor
+now_is nodes players o os c p l =
+    actor_there nodes (set players c p) o os c p (let e = length-set players c p in omega (arith, l, e)) ∙ ap (λ x. x.actor) (get_or-set_same players c p p l)
+
+-- the bound on actors is one on players
+pub players_there : (nodes : List CellView) (players : List PlayerView) (o : ℕ) (os : List Record) (k : Kept) (c : ℕ) → kept nodes players o os ≡ k → c < length k.actors → c < length players
+players_there nodes players o os k c e l =
+    let n : length k.actors ≡ length players = ap (λ x. length x.actors) (sym e) ∙ length-map players (λ p. p.actor) in omega (arith, l, n)
+
+abbrev with_actors : List CellView → ℕ → List Record → List KeptActor → Kept
+with_actors nodes o os xs = record { nodes = nodes; actors = xs; operator = o; operated = os }
+
+pub put_is : (nodes : List CellView) (players : List PlayerView) (o : ℕ) (os : List Record) (c : ℕ) (q : PlayerView)
+    → kept nodes (set players c q) o os ≡ with_actor_at (kept nodes players o os) c q.actor
+put_is nodes players o os c q = ap (with_actors nodes o os) (map-set (λ p. p.actor) players c q)
 
 -- an actor of which nothing that is kept changed
-pub same_actor : (players : List Player) (c : ℕ) (p d : Player) → kept_actor p ≡ kept_actor (get_or players c d) → map kept_actor (set players c p) ≡ map kept_actor players
-same_actor players c p d e = map-set_same kept_actor players c p d e
+pub same_is : (nodes : List CellView) (players : List PlayerView) (o : ℕ) (os : List Record) (c : ℕ) (p q d : PlayerView) → p ≡ get_or players c d → q.actor ≡ p.actor
+    → kept nodes (set players c q) o os ≡ kept nodes players o os
+same_is nodes players o os c p q d e s = ap (with_actors nodes o os) (map-set_same (λ x. x.actor) players c q d (s ∙ ap (λ x. x.actor) e))
 
-abbrev whole : Kept → ℕ → ℕ → Request → NodeState → Reply → List HistoryLine → KeptActor → Called
-whole k c node r state reply history a =
+-- an actor that became something else
+pub acted_is : (f : KeptActor → KeptActor) (nodes : List CellView) (players : List PlayerView) (o : ℕ) (os : List Record) (k : Kept) (c : ℕ) (p q d : PlayerView)
+    → kept nodes players o os ≡ k → p ≡ get_or players c d → c < length k.actors → q.actor ≡ f p.actor → kept nodes (set players c q) o os ≡ with_actor_at k c (f (actor_of k c))
+acted_is f nodes players o os k c p q d view e l is =
+    put_is nodes players o os c q
+    ∙ ap (with_actor_at (kept nodes players o os) c) (is ∙ ap f (sym (there_is nodes players o os c p d e (players_there nodes players o os k c view l))))
+    ∙ ap (λ x. with_actor_at x c (f (actor_of x c))) view
+
+-- ## A call
+abbrev whole : List CellView → List PlayerView → ℕ → List Record → ℕ → ℕ → Request → KeptActor → CellView → Told → CellView → Called
+whole nodes players o os c node r a v x t =
     record {
-      kept = record {
-        nodes = set k.nodes (node - 1) state;
-        histories = set k.histories (node - 1) (history ++ call_line c r reply ∷ []);
-        actors = set k.actors c (hears a node r reply);
-      };
-      turn = (writer_heard a.writer node (Answer reply)).turn;
+      kept = record { nodes = set nodes (node - 1) t; actors = set (map (λ p. p.actor) players) c (hears a node r x); operator = o; operated = os };
+      turn = (writer_heard a.writer node (heard_of x)).turn;
     }
 
-hears_as : (p q : Player) (node : ℕ) (r : Request) (reply : Reply) (turn : Turn) → writer_heard p.writer.view node (Answer reply) ≡ record { writer = q.writer.view; turn = turn }
-    → q.past ≡ p.past ++ call_record node r reply ∷ [] → q.name ≡ p.name → hears (kept_actor p) node r reply ≡ kept_actor q
-hears_as p q node r reply turn heard past name =
-    ap (λ j. record { name = p.name; writer = j.writer; past = p.past ++ call_record node r reply ∷ [] }) heard
-    ∙ ap (λ xs. record { name = p.name; writer = q.writer.view; past = xs }) (sym past)
-    ∙ ap (λ n. record { name = n; writer = q.writer.view; past = q.past }) (sym name)
+pub call_made : (nodes : List CellView) (players : List PlayerView) (o : ℕ) (os : List Record) (c node : ℕ) (r : Request) (e t : CellView) (p q d : PlayerView) (x : Told) (turn : Turn) (y : Delivery)
+    → p ≡ get_or players c d → c < length players → node - 1 < length nodes → y ≡ delivery_to p.actor node → x ≡ told_by y (get_or nodes (node - 1) e) r
+    → t ≡ reached_by y (get_or nodes (node - 1) e) c r → turn ≡ (writer_heard p.actor.writer node (heard_of x)).turn → q.actor ≡ hears p.actor node r x
+    → called (kept nodes players o os) c node r ≡ record { kept = kept (set nodes (node - 1) t) (set players c q) o os; turn = turn }
+call_made nodes players o os c node r e t p q d x turn y is l w goes told cell now heard =
+    let k : Kept = kept nodes players o os in
+    let v : CellView = get_or nodes (node - 1) e in
+    let a : actor_of k c ≡ p.actor = there_is nodes players o os c p d is l in
+    let n : node_at k node ≡ v = node_there nodes node e w in
+    ap (λ z. whole nodes players o os c node r z (node_at k node) (told_by (delivery_to z node) (node_at k node) r) (reached_by (delivery_to z node) (node_at k node) c r)) a
+    ∙ ap (λ z. whole nodes players o os c node r p.actor z (told_by (delivery_to p.actor node) z r) (reached_by (delivery_to p.actor node) z c r)) n
+    ∙ ap (λ z. whole nodes players o os c node r p.actor v (told_by z v r) (reached_by z v c r)) (sym goes)
+    ∙ ap (λ z. whole nodes players o os c node r p.actor v z (reached_by y v c r)) (sym told)
+    ∙ ap (λ z. whole nodes players o os c node r p.actor v x z) (sym cell)
+    ∙ ap (λ z. record { kept = with_actors (set nodes (node - 1) t) o os (set (map (λ p. p.actor) players) c (hears p.actor node r x)); turn = z }) (sym now)
+    ∙ ap (λ z. record { kept = with_actors (set nodes (node - 1) t) o os (set (map (λ p. p.actor) players) c z); turn = turn }) (sym heard)
+    ∙ ap (λ z. record { kept = with_actors (set nodes (node - 1) t) o os z; turn = turn }) (sym (map-set (λ p. p.actor) players c q))
 
-pub call_made : (sites : List Site) (players : List Player) (c node : ℕ) (r : Request) (reply : Reply) (turn : Turn) (e t : Site) (p q : Player) (d : Player)
-    → p ≡ get_or players c d → c < length players → node - 1 < length sites
-    → node_step (get_or sites (node - 1) e).node r ≡ record { state = t.node; reply = reply } → t.history ≡ (get_or sites (node - 1) e).history ++ call_line c r reply ∷ []
-    → writer_heard p.writer.view node (Answer reply) ≡ record { writer = q.writer.view; turn = turn } → q.past ≡ p.past ++ call_record node r reply ∷ [] → q.name ≡ p.name
-    → called (kept sites players) c node r ≡ record { kept = kept (set sites (node - 1) t) (set players c q); turn = turn }
-call_made sites players c node r reply turn e t p q d is l w step line heard past name =
-    let k : Kept = kept sites players in
-    let s : Site = get_or sites (node - 1) e in
-    let n : node_at k node ≡ s.node = node_there sites players node e w in
-    let a : actor_of k c ≡ kept_actor p = actor_there sites players c d l ∙ ap kept_actor (sym is) in
-    let h : history_at k node ≡ s.history = history_there sites players node e w in
-    ap (λ x. answered_by (node_step x r) k c node r) n
-    ∙ ap (λ x. answered_by x k c node r) step
-    ∙ ap (λ x. whole k c node r t.node reply x (actor_of k c)) h
-    ∙ ap (λ x. whole k c node r t.node reply s.history x) a
-    ∙ ap (λ j. record { kept = record { nodes = set k.nodes (node - 1) t.node; histories = set k.histories (node - 1) (s.history ++ call_line c r reply ∷ []); actors = set k.actors c (hears (kept_actor p) node r reply) }; turn = j.turn }) heard
-    ∙ ap (λ x. record { kept = record { nodes = set k.nodes (node - 1) t.node; histories = set k.histories (node - 1) (s.history ++ call_line c r reply ∷ []); actors = set k.actors c x }; turn = turn }) (hears_as p q node r reply turn heard past name)
-    ∙ ap (λ x. record { kept = record { nodes = set k.nodes (node - 1) t.node; histories = set k.histories (node - 1) x; actors = set k.actors c (kept_actor q) }; turn = turn }) (sym line)
-    ∙ ap (λ x. record { kept = record { nodes = x; histories = set k.histories (node - 1) t.history; actors = set k.actors c (kept_actor q) }; turn = turn }) (sym (map-set (λ x. x.node) sites (node - 1) t))
-    ∙ ap (λ x. record { kept = record { nodes = map (λ y. y.node) (set sites (node - 1) t); histories = x; actors = set k.actors c (kept_actor q) }; turn = turn }) (sym (map-set (λ x. x.history) sites (node - 1) t))
-    ∙ ap (λ x. record { kept = record { nodes = map (λ y. y.node) (set sites (node - 1) t); histories = map (λ y. y.history) (set sites (node - 1) t); actors = x }; turn = turn }) (sym (map-set kept_actor players c q))
+-- ## A late copy
+pub copied_is : (nodes : List CellView) (players : List PlayerView) (o : ℕ) (os : List Record) (k : Kept) (c node call : ℕ) (e t : CellView) (p q d : PlayerView)
+    → kept nodes players o os ≡ k → p ≡ get_or players c d → c < length k.actors → node - 1 < length nodes → t ≡ cell_copied (earlier_call p.actor node call) (get_or nodes (node - 1) e) c
+    → q.actor ≡ actor_copied (earlier_call p.actor node call) p.actor node call → kept (set nodes (node - 1) t) (set players c q) o os ≡ late k c node call
+copied_is nodes players o os k c node call e t p q d view is l w cell actor =
+    let j : Kept = kept nodes players o os in
+    let a : actor_of j c ≡ p.actor = there_is nodes players o os c p d is (players_there nodes players o os k c view l) in
+    let n : node_at j node ≡ get_or nodes (node - 1) e = node_there nodes node e w in
+    put_is (set nodes (node - 1) t) players o os c q
+    ∙ ap (λ z. with_actors (set nodes (node - 1) z) o os (set j.actors c q.actor)) cell
+    ∙ ap (λ z. with_actors (set nodes (node - 1) (cell_copied (earlier_call p.actor node call) z c)) o os (set j.actors c q.actor)) (sym n)
+    ∙ ap (λ z. with_actors (set nodes (node - 1) (cell_copied (earlier_call p.actor node call) (node_at j node) c)) o os (set j.actors c z)) actor
+    ∙ ap (λ z. with_actors (set nodes (node - 1) (cell_copied (earlier_call z node call) (node_at j node) c)) o os (set j.actors c (actor_copied (earlier_call z node call) z node call))) (sym a)
+    ∙ ap (λ z. late z c node call) view
 
--- only the writer changed, and its view didn't
-pub same_players : (sites : List Site) (players : List Player) (c : ℕ) (p : Player) (w : WriterValue) (d : Player) → p ≡ get_or players c d → w.view ≡ p.writer.view
-    → kept sites (set players c (record { name = p.name; writer = w; past = p.past })) ≡ kept sites players
-same_players sites players c p w d is same =
-    ap (λ xs. record { nodes = map (λ s. s.node) sites; histories = map (λ s. s.history) sites; actors = xs })
-    (same_actor players c (record { name = p.name; writer = w; past = p.past }) d
-    (ap (λ v. record { name = p.name; writer = v; past = p.past }) same ∙ ap kept_actor is))
+-- ## The operator
+is_listed : (v t : CellView) (c : ℕ) (ask : NodeAsk) (answer : NodeAnswer) → IsTaken v c ask answer t → t ≡ listed v c ask
+is_listed v t c ask answer h =
+    ap (λ x. record { cell = x; history = t.history }) (ap (λ x. x.cell) (sym h.taken))
+    ∙ ap (λ x. record { cell = (listed v c ask).cell; history = x }) h.listed
+    ∙ ap (λ x. record { cell = (listed v c ask).cell; history = v.history ++ record { caller = c; ask = ask; answer = x } ∷ [] }) (ap (λ x. x.answer) (sym h.taken))
+
+pub listed_is : (v t : CellView) (c : ℕ) (ask : NodeAsk) (answer : NodeAnswer) → IsTaken v c ask answer t → t ≡ listed v c ask
+listed_is v t c ask answer h = is_listed v t c ask answer h
+
+pub answered_is : (v t : CellView) (c : ℕ) (ask : NodeAsk) (answer : NodeAnswer) → IsTaken v c ask answer t → answer ≡ answer_to v ask
+answered_is v t c ask answer h = ap (λ x. x.answer) (sym h.taken)
+
+pub operated_is : (nodes : List CellView) (players : List PlayerView) (o : ℕ) (os ps : List Record) (k : Kept) (node : ℕ) (ask : NodeAsk) (e t : CellView) (answer : NodeAnswer)
+    → kept nodes players o os ≡ k → node - 1 < length nodes → IsTaken (get_or nodes (node - 1) e) o ask answer t → ps ≡ os ++ Operator node ask (is_done answer) ∷ []
+    → kept (set nodes (node - 1) t) players o ps ≡ operates k node ask
+operated_is nodes players o os ps k node ask e t answer view w taken more =
+    let v : CellView = get_or nodes (node - 1) e in
+    ap (λ z. kept (set nodes (node - 1) z) players o ps) (is_listed v t o ask answer taken)
+    ∙ ap (kept (set nodes (node - 1) (listed v o ask)) players o) more
+    ∙ ap (λ z. kept (set nodes (node - 1) (listed v o ask)) players o (os ++ Operator node ask (is_done z) ∷ [])) (answered_is v t o ask answer taken)
+    ∙ ap (λ z. kept (set nodes (node - 1) (listed z o ask)) players o (os ++ Operator node ask (is_done (answer_to z ask)) ∷ [])) (sym (node_there nodes node e w))
+    ∙ ap (λ z. operates z node ask) view
 
 -- ## Nodes and actors
-replicated_more : {B : Type 0} (n : ℕ) (x : B) → replicate n x ++ x ∷ [] ≡ replicate (n + 1) x
+pub replicated_more : {B : Type 0} (n : ℕ) (x : B) → replicate n x ++ x ∷ [] ≡ replicate (n + 1) x
 replicated_more zero x = refl
 replicated_more (suc n) x = let e : suc n + 1 ≡ suc (n + 1) = omega arith in ap (λ xs. x ∷ xs) (replicated_more n x) ∙ ap (λ k. replicate k x) (sym e)
 
-fresh_map : {A B : Type 0} (f : A → B) (x : B) (xs : List A) (n : ℕ) → map f xs ≡ replicate n x → (y : A) → f y ≡ x → map f (xs ++ y ∷ []) ≡ replicate (n + 1) x
-fresh_map f x xs n e y g = map-append f xs (y ∷ []) ∙ ap (λ ys. ys ++ f y ∷ []) e ∙ ap (λ z. replicate n x ++ z ∷ []) g ∙ replicated_more n x
-
--- so many fresh sites
-pub record AreFresh (sites : List Site) (n : ℕ) : Type 0 where
-  pub nodes : map (λ s. s.node) sites ≡ replicate n fresh_state
-  pub histories : map (λ s. s.history) sites ≡ replicate n []
-
-pub fresh_more : (sites : List Site) (n : ℕ) (s : Site) → AreFresh sites n → s.node ≡ fresh_state → s.history ≡ [] → AreFresh (sites ++ s ∷ []) (n + 1)
-fresh_more sites n s f a b = record { nodes = fresh_map (λ x. x.node) fresh_state sites n f.nodes s a; histories = fresh_map (λ x. x.history) [] sites n f.histories s b }
-
-pub one_more_actor : (sites : List Site) (players : List Player) (name : List ℕ) (p : Player) → p.name ≡ name → p.writer.view ≡ new_writer (length sites) → p.past ≡ []
-    → kept sites (players ++ p ∷ []) ≡ with_actor (kept sites players) name
-one_more_actor sites players name p n w e =
-    ap (λ xs. record { nodes = map (λ s. s.node) sites; histories = map (λ s. s.history) sites; actors = xs })
-    (map-append kept_actor players (p ∷ []) ∙ ap (λ x. map kept_actor players ++ x ∷ []) is)
-  where
-    is : kept_actor p ≡ new_actor (length (map (λ s. s.node) sites)) name
-    is = ap (λ x. record { name = x; writer = p.writer.view; past = p.past }) n
-        ∙ ap (λ x. record { name = name; writer = x; past = p.past }) (w ∙ ap new_writer (sym (length-map sites (λ s. s.node))))
-        ∙ ap (λ x. record { name = name; writer = new_writer (length (map (λ s. s.node) sites)); past = x }) e
-
--- ## An actor's writer begins, or the actor says results
-pub there_is : (sites : List Site) (players : List Player) (c : ℕ) (p : Player) → p ≡ get_or players c p → c < length players → actor_of (kept sites players) c ≡ kept_actor p
-there_is sites players c p e l = actor_there sites players c p l ∙ ap kept_actor (sym e)
-
-pub now_is : (sites : List Site) (players : List Player) (c : ℕ) (p : Player) → c < length players → actor_of (kept sites (set players c p)) c ≡ kept_actor p
-now_is sites players c p l =
-    actor_there sites (set players c p) c p (let e = length-set players c p in omega (arith, l, e)) ∙ ap kept_actor (get_or-set_same players c p p l)
-
-pub put_is : (sites : List Site) (players : List Player) (c : ℕ) (p : Player)
-    → kept sites (set players c p) ≡ record (kept sites players) { actors = set (map kept_actor players) c (kept_actor p) }
-put_is sites players c p = ap (λ xs. record { nodes = map (λ s. s.node) sites; histories = map (λ s. s.history) sites; actors = xs }) (map-set kept_actor players c p)
-
-pub begun_is : (sites : List Site) (players : List Player) (c : ℕ) (p : Player) (w : WriterValue) → p ≡ get_or players c p → c < length players
-    → kept sites (set players c (record { name = p.name; writer = w; past = p.past })) ≡ with_writer (kept sites players) c w.view
-begun_is sites players c p w e l =
-    put_is sites players c (record { name = p.name; writer = w; past = p.past })
-    ∙ ap (λ a. record (kept sites players) { actors = set (map kept_actor players) c (record { name = a.name; writer = w.view; past = a.past }) }) (sym (there_is sites players c p e l))
-
-pub said_is : (sites : List Site) (players : List Player) (c : ℕ) (p q : Player) (texts : List (List ℕ)) → p ≡ get_or players c p → c < length players
-    → q.past ≡ p.past ++ map (λ text. Outcome text) texts → q.name ≡ p.name → q.writer ≡ p.writer → kept sites (set players c q) ≡ said (kept sites players) c texts
-said_is sites players c p q texts e l past name writer =
-    put_is sites players c q
-    ∙ ap (λ a. record (kept sites players) { actors = set (map kept_actor players) c a })
-    (ap (λ x. record { name = x; writer = q.writer.view; past = q.past }) name
-    ∙ ap (λ x. record { name = p.name; writer = x.view; past = q.past }) writer
-    ∙ ap (λ x. record { name = p.name; writer = p.writer.view; past = x }) past)
-    ∙ ap (λ a. record (kept sites players) { actors = set (map kept_actor players) c (says a texts) }) (sym (there_is sites players c p e l))
-
--- the bound on actors is one on players
-pub players_there : (sites : List Site) (players : List Player) (k : Kept) (c : ℕ) → kept sites players ≡ k → c < length k.actors → c < length players
-players_there sites players k c e l = let n : length k.actors ≡ length players = ap (λ x. length x.actors) (sym e) ∙ length-map players kept_actor in omega (arith, l, n)
+pub one_more_actor : (nodes : List CellView) (players : List PlayerView) (o : ℕ) (os : List Record) (name : List ℕ) (p : PlayerView) → p.actor ≡ new_actor (length nodes) name
+    → kept nodes (players ++ p ∷ []) o os ≡ with_actor (kept nodes players o os) name
+one_more_actor nodes players o os name p e =
+    ap (with_actors nodes o os) (map-append (λ x. x.actor) players (p ∷ []) ∙ ap (λ x. map (λ y. y.actor) players ++ x ∷ []) e)
 
 -- ## The end
-abbrev no_marks : List Mark
-no_marks = []
-
 abbrev pub named_end : List ℕ → End
 named_end name = record { name = name }
 
 abbrev mesh : ℕ → List (List HistoryLine) → List (List Record) → List (List Mark) → Mesh
 mesh n histories records plan = record { nodes = n; histories = histories; records = records; plan = plan }
 
-pasts : (ps : List Player) → map (λ k. k.past) (map kept_actor ps) ≡ map (λ p. p.past) ps
+pasts : (ps : List PlayerView) → map (λ k. k.past) (map (λ p. p.actor) ps) ≡ map (λ p. p.actor.past) ps
 pasts [] = refl
-pasts (p ∷ ps) = ap (λ xs. p.past ∷ xs) (pasts ps)
+pasts (p ∷ ps) = ap (λ xs. p.actor.past ∷ xs) (pasts ps)
 
-plans : (ps : List Player) → map (λ k. no_marks) (map kept_actor ps) ≡ map (λ p. no_marks) ps
+plans : (ps : List PlayerView) → map (λ k. k.marks) (map (λ p. p.actor) ps) ≡ map (λ p. p.actor.marks) ps
 plans [] = refl
-plans (p ∷ ps) = ap (λ xs. no_marks ∷ xs) (plans ps)
+plans (p ∷ ps) = ap (λ xs. p.actor.marks ∷ xs) (plans ps)
 
-pub mesh_is : (sites : List Site) (players : List Player) (n : ℕ) (histories : List (List HistoryLine)) (records : List (List Record)) (plan : List (List Mark)) → n ≡ length sites
-    → histories ≡ map (λ s. s.history) sites → records ≡ map (λ p. p.past) players ++ [] ∷ [] → plan ≡ map (λ p. []) players
-    → record { nodes = n; histories = histories; records = records; plan = plan } ≡ mesh_kept (kept sites players)
-mesh_is sites players n histories records plan a b c d =
-    ap (λ x. mesh x histories records plan) (a ∙ sym (length-map sites (λ s. s.node)))
-    ∙ ap (λ x. mesh (length (map (λ s. s.node) sites)) x records plan) b
-    ∙ ap (λ x. mesh (length (map (λ s. s.node) sites)) (map (λ s. s.history) sites) x plan) (c ∙ ap (λ xs. xs ++ [] ∷ []) (sym (pasts players)))
-    ∙ ap (λ x. mesh (length (map (λ s. s.node) sites)) (map (λ s. s.history) sites) (map (λ k. k.past) (map kept_actor players) ++ [] ∷ []) x) (d ∙ sym (plans players))
+pub mesh_is : (nodes : List CellView) (players : List PlayerView) (o : ℕ) (os : List Record) (n : ℕ) (histories : List (List HistoryLine)) (records : List (List Record)) (plan : List (List Mark))
+    → n ≡ length nodes → histories ≡ map (λ v. v.history) nodes → records ≡ map (λ p. p.actor.past) players ++ os ∷ [] → plan ≡ map (λ p. p.actor.marks) players
+    → record { nodes = n; histories = histories; records = records; plan = plan } ≡ mesh_kept (kept nodes players o os)
+mesh_is nodes players o os n histories records plan a b c d =
+    ap (λ x. mesh x histories records plan) a
+    ∙ ap (λ x. mesh (length nodes) x records plan) b
+    ∙ ap (λ x. mesh (length nodes) (map (λ v. v.history) nodes) x plan) (c ∙ ap (λ xs. xs ++ os ∷ []) (sym (pasts players)))
+    ∙ ap (λ x. mesh (length nodes) (map (λ v. v.history) nodes) (map (λ k. k.past) (map (λ p. p.actor) players) ++ os ∷ []) x) (d ∙ sym (plans players))
 
-pub ends_are : (sites : List Site) (players : List Player) → map (λ p. named_end p.name) players ≡ ends_kept (kept sites players)
-ends_are sites [] = refl
-ends_are sites (p ∷ ps) = ap (λ xs. named_end p.name ∷ xs) (ends_are sites ps)
+pub ends_are : (nodes : List CellView) (players : List PlayerView) (o : ℕ) (os : List Record) → map (λ p. named_end p.actor.name) players ≡ ends_kept (kept nodes players o os)
+ends_are nodes [] o os = refl
+ends_are nodes (p ∷ ps) o os = ap (λ xs. named_end p.actor.name ∷ xs) (ends_are nodes ps o os)

@@ -1,6 +1,6 @@
 -- An actor that is led to its end has said, deed by deed, as many results as are due.
-use Rattle.std.proofs.Common.{◌≡◌, ℕ, zero, suc, ◌+◌, ◌-◌, ◌<◌, ◌≤◌, List, [], ◌∷◌, ◌++◌, Bool, true, false, cond, refl, sym, ap, ◌∙◌, subst, arith, length, map, drop, ◌⊎◌, inl, inr, append_assoc}
-use Rattle.std.specs.Prelude.{Option, Some, None, ◌≢◌, is_some, slice_get}
+use Rattle.std.proofs.Common.{◌≡◌, ℕ, suc, ◌+◌, ◌≤◌, List, [], ◌∷◌, ◌++◌, Bool, true, false, cond, refl, sym, ap, ◌∙◌, subst, arith, length, drop, ◌⊎◌, inl, inr}
+use Rattle.std.specs.Prelude.{Option, Some, None, ◌≢◌}
 use Rattle.std.proofs.lemmas.List.{length-map}
 use Rattle.journal_core.specs.declared.request.Request.{Request}
 use Rattle.writer_core.specs.declared.phase.Phase.{Phase}
@@ -18,18 +18,16 @@ use Rattle.writer_core.specs.declared.turn.Outcome.{Outcome as TaskOutcome}
 use Rattle.writer_core.specs.declared.turn.Outcome.TheVariants as outcome
 use Rattle.writer_core.specs.Views.{WriterView}
 use Rattle.writer_core.specs.Rounds.{Judged}
-use Rattle.writer_core.specs.Writer.{new_writer, Began, writer_begun, next_call, writer_heard}
+use Rattle.writer_core.specs.Writer.{writer_begun, next_call, writer_heard}
 use Rattle.node_world.specs.declared.record.Record.{Record}
 use Rattle.node_world.specs.declared.record.Record.TheVariants.{Call, Late, Operator, Outcome}
 use Rattle.node_world.specs.declared.record.Told.{Told}
-use Rattle.mesh.specs.Marks.{calls_to}
 use Rattle.mesh.specs.Makers.{heard_of}
 use Rattle.cluster_runner.specs.Lines.{Deed, Does, DoDrop, DoMute, DoLate}
-use Rattle.cluster_runner.specs.Results.{name_of, for_each, acked_from, acked, done_results, results_of, inactive_results, too_long_results, late_none}
+use Rattle.cluster_runner.specs.Results.{for_each, acked_from, acked, done_results, results_of, inactive_results, too_long_results, late_none}
 use Rattle.cluster_runner.specs.Actor.{Actor, Rests, fresh_actor, wants, is_wanting, task_begun, copied, deed_taken, settled, turn_taken, moved_on, resettled, goes_on, Fits, IsLed, actor_after}
 use Rattle.cluster_runner.specs.Told.{results_in}
 use Rattle.cluster_runner.specs.EditResults.{results_due, AreResultsOf, AreResults}
-use Rattle.mesh.proofs.Lists.{append_none}
 use Rattle.cluster_runner.proofs.Led.{moved_keeps}
 use Rattle.cluster_runner.proofs.Wanting.{Calling, Resting, Saying, resting, rests_is, fits_calling, fits_saying, no_operation}
 use Rattle.cluster_runner.proofs.WriterTurns.{IsOf, IsInRound, IsBetween, Course, TurnOf, Turned, aim_of, Begins, begun_turn, heard_turn, new_course, call_some, call_none}

@@ -1,6 +1,6 @@
 -- The mesh of a play agrees, and follows its script.
-use Rattle.std.proofs.Common.{◌≡◌, ℕ, zero, suc, ◌+◌, ◌-◌, ◌<◌, ◌≤◌, List, [], ◌∷◌, ◌++◌, Bool, true, false, refl, sym, ap, ◌∙◌, subst, arith, length, get_or, map, ◌⊎◌, inl, inr}
-use Rattle.std.specs.Prelude.{Option, Some, None, ◌≢◌, ◌==◌, ◌&&◌, is_none}
+use Rattle.std.proofs.Common.{◌≡◌, ℕ, zero, suc, ◌+◌, ◌<◌, ◌≤◌, List, [], ◌∷◌, ◌++◌, true, refl, sym, ap, ◌∙◌, subst, arith, length, get_or, map, inl, inr}
+use Rattle.std.specs.Prelude.{Option, Some, None, ◌&&◌, is_none}
 use Rattle.std.proofs.lemmas.List.{get_or_append_left, length-append, length-map}
 use Rattle.std.proofs.Math.Seq.{get_or-append_seam}
 use Rattle.journal_core.specs.declared.request.Request.{Request}
@@ -14,17 +14,17 @@ use Rattle.mesh.specs.Marks.{IsMarked, AreCopied}
 use Rattle.mesh.specs.Makers.{IsOfTasks, IsOperators}
 use Rattle.mesh.specs.Matches.{reached, lines_of, AreSame, AreWithin, CallersWithin}
 use Rattle.mesh.specs.Agree.{Agrees, operator_of, history_at, record_of, plan_of}
-use Rattle.cluster_runner.specs.Lines.{Deed, Line, Operation, declared, names_in, deeds_of, operations_in, ArePlayable}
-use Rattle.cluster_runner.specs.Actor.{Actor, fresh_actor, settled, wants, is_wanting, Rests, actor_after, IsLed}
+use Rattle.cluster_runner.specs.Lines.{Line, declared, names_in, deeds_of, operations_in, ArePlayable}
+use Rattle.cluster_runner.specs.Actor.{Actor, fresh_actor, wants}
 use Rattle.cluster_runner.specs.Plays.{Play, play_steps, play_begins, has_ended, no_lines, actor_at, history_of, histories_from, mesh_of, ends_of, IsPlay}
-use Rattle.cluster_runner.specs.Follows.{actor_with, Follows, AreOperations, FollowsLines}
+use Rattle.cluster_runner.specs.Follows.{Follows, AreOperations, FollowsLines}
 use Rattle.mesh.proofs.Lists.{Alike, alike, append_none}
 use Rattle.cluster_runner.proofs.Wanting.{Resting, resting, rests_is}
 use Rattle.cluster_runner.proofs.Makes.{lines_made}
 use Rattle.cluster_runner.proofs.Goes.{Goes, GoesBy, all_copied}
 use Rattle.cluster_runner.proofs.Tied.{Tied, callers_within}
-use Rattle.cluster_runner.proofs.Parts.{ActorOk, Actors}
-use Rattle.cluster_runner.proofs.Playing.{Operated, Holds}
+use Rattle.cluster_runner.proofs.Parts.{ActorOk}
+use Rattle.cluster_runner.proofs.Playing.{Holds}
 use Rattle.cluster_runner.proofs.Taking.{begins_hold, steps_hold}
 
 -- ## The lists of a mesh

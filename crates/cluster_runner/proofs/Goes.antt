@@ -1,5 +1,5 @@
 -- An actor's record goes by its marks, line by line and deed by deed.
-use Rattle.std.proofs.Common.{◌≡◌, ℕ, zero, suc, ◌+◌, ◌-◌, ◌<◌, ◌≤◌, List, [], ◌∷◌, ◌++◌, Bool, true, false, cond, Contains, refl, sym, ap, ◌∙◌, subst, arith, length, ◌⊎◌, inl, inr}
+use Rattle.std.proofs.Common.{◌≡◌, ℕ, ◌+◌, ◌-◌, ◌≤◌, List, [], ◌∷◌, ◌++◌, Contains, refl, sym, ap, subst, arith, ◌⊎◌, inl, inr}
 use Rattle.std.specs.Prelude.{Option, Some, None, ◌≢◌, slice_get}
 use Rattle.std.proofs.lemmas.List.Elements.{Contains-append_left, Contains-push, Contains-push_cases}
 use Rattle.journal_core.specs.declared.request.Request.{Request}
@@ -13,15 +13,13 @@ use Rattle.node_world.specs.declared.record.Record.{Record}
 use Rattle.node_world.specs.declared.record.Record.TheVariants.{Call, Late, Operator, Outcome}
 use Rattle.node_world.specs.declared.record.Told.{Told}
 use Rattle.node_world.specs.declared.mark.Mark.{Mark}
-use Rattle.node_world.specs.declared.mark.MarkKind.{MarkKind}
 use Rattle.node_world.specs.declared.mark.MarkKind.TheVariants as kind
 use Rattle.mesh.specs.Marks.{mark, calls_to, next_number, Asked, IsAsMarked, IsCopy, IsMarked, AreCopied}
 use Rattle.mesh.specs.Makers.{heard_of}
 use Rattle.cluster_runner.specs.Lines.{Deed, Does, DoDrop, DoMute, DoLate, IsDeed}
-use Rattle.cluster_runner.specs.Actor.{Actor, fresh_actor, wants, is_wanting, task_begun, copied, deed_taken, settled, moved_on, resettled, goes_on, Fits}
-use Rattle.mesh.proofs.Lists.{append_none}
+use Rattle.cluster_runner.specs.Actor.{Actor, wants, task_begun, copied, deed_taken, moved_on, Fits}
 use Rattle.cluster_runner.proofs.Led.{turn_keeps, moved_keeps}
-use Rattle.cluster_runner.proofs.Wanting.{sending, same_sending, Calling, Copying, Resting, resting, fits_calling, fits_copying, no_operation}
+use Rattle.cluster_runner.proofs.Wanting.{sending, same_sending, Copying, fits_copying, no_operation}
 use Rattle.cluster_runner.proofs.MarkLaws.{asked_more, asked_one, copy_more, copy_planned, IsLater, more_marks, marked_snoc}
 
 -- a late mark was of a call, and its copy was sent or is the next to be sent

@@ -1,11 +1,9 @@
 -- A task goes on, call by call.
-use Rattle.std.proofs.Common.{◌≡◌, ℕ, zero, suc, ◌+◌, ◌-◌, ◌<◌, ◌≤◌, List, [], ◌∷◌, length, map, Bool, true, false, refl, sym, ap, ◌∙◌, subst, Option, Some, None, is_some, set, get_or, arith, inl, inr, ◌⊎◌}
+use Rattle.std.proofs.Common.{◌≡◌, ℕ, ◌-◌, ◌<◌, ◌≤◌, List, [], length, Bool, true, false, refl, sym, ap, ◌∙◌, subst, Some, None, is_some, get_or, arith, inl, inr}
 use Rattle.std.proofs.lemmas.List.{length-set, get_or-set_same, get_or-set_other}
-use Rattle.std.proofs.Math.Dec.{eqb}
 use Rattle.std.proofs.lemmas.Bool.Decides.{eqb_tells}
 use Rattle.journal_core.specs.declared.request.Request.{Request}
-use Rattle.journal_core.specs.declared.heard.Heard.TheVariants.{Answer}
-use Rattle.journal_core.specs.Step.{node_step}
+use Rattle.journal_core.specs.declared.heard.Heard.{Heard}
 use Rattle.writer_core.specs.declared.phase.Phase.{Phase}
 use Rattle.writer_core.specs.declared.phase.Phase.TheVariants as phase
 use Rattle.writer_core.specs.declared.task.Task.{Task}
@@ -15,13 +13,14 @@ use Rattle.writer_core.specs.Views.{WriterView}
 use Rattle.writer_core.specs.Left.{IsLive}
 use Rattle.writer_core.specs.Writer.{next_call, call_in, writer_heard, is_under_way}
 use Rattle.writer_core.proofs.LiveLaws.{heard_live, someone_called}
+use Rattle.node_world.specs.declared.record.Told.{Told}
+use Rattle.mesh.specs.Makers.{heard_of}
 use Rattle.cluster_runner.specs.Lines.{Line}
 use Rattle.cluster_runner.specs.Results.{results_of}
 use Rattle.cluster_runner.specs.Plays.{Play}
-use Rattle.cluster_runner.specs.Kept.{Kept, KeptActor, Called, called, actor_of, node_at, hears, new_actor, IsInTurn, IsAfterTurn, Leads, LeadsTo}
-use Rattle.mesh.specs.Sized.{Sized}
-use Rattle.cluster_runner.specs.Ready.{IsReady, AreReady, CallsWithin, GoesOn, is_going}
-use Rattle.cluster_runner.specs.Shown.{IsCall}
+use Rattle.cluster_runner.specs.Kept.{Kept, KeptActor, Called, called, actor_of, node_at, hears, told_by, reached_by, delivery_to, new_actor, IsAfterTurn, Leads}
+use Rattle.cluster_runner.specs.Ready.{IsReady, AreReady, GoesOn, is_going}
+use Rattle.cluster_runner.specs.Called.{IsCall}
 use Rattle.mesh.proofs.WriterRange.{heard_sized, call_within}
 use Rattle.cluster_runner.proofs.TurnsTell.{turn_tells}
 use Rattle.cluster_runner.proofs.TurnsFit.{heard_fits}
@@ -65,25 +64,37 @@ goes_begin c k ready under =
     record { nodes = refl; actors = refl; ready = ready; others = λ d n. refl; leads = λ ls t p h. (p, leads_same p, h); tells = under; fits = tt }
 
 -- ## One call more
+-- what the call was told, and what the actor heard
+abbrev pub told_at : Kept → ℕ → ℕ → Request → Told
+told_at k c node r = told_by (delivery_to (actor_of k c) node) (node_at k node) r
+
+abbrev pub heard_at : Kept → ℕ → ℕ → Request → Heard
+heard_at k c node r = heard_of (told_at k c node r)
+
+same_count : (k : Kept) (c node : ℕ) (r : Request) → length (called k c node r).kept.nodes ≡ length k.nodes
+same_count k c node r = length-set k.nodes (node - 1) (reached_by (delivery_to (actor_of k c) node) (node_at k node) c r)
+
+pub same_actors : (k : Kept) (c node : ℕ) (r : Request) → length (called k c node r).kept.actors ≡ length k.actors
+same_actors k c node r = length-set k.actors c (hears (actor_of k c) node r (told_at k c node r))
+
 other_there : (k : Kept) (c node : ℕ) (r : Request) (d : ℕ) → (d ≡ c → ⊥) → actor_of (called k c node r).kept d ≡ actor_of k d
 other_there k c node r d n =
-    get_or-set_other k.actors c d (hears (actor_of k c) node r (node_step (node_at k node) r).reply) (new_actor (length (called k c node r).kept.nodes) []) n
-    ∙ ap (λ m. get_or k.actors d (new_actor m [])) (length-set k.nodes (node - 1) (node_step (node_at k node) r).state)
+    get_or-set_other k.actors c d (hears (actor_of k c) node r (told_at k c node r)) (new_actor (length (called k c node r).kept.nodes) []) n
+    ∙ ap (λ m. get_or k.actors d (new_actor m [])) (same_count k c node r)
 
-own_there : (k : Kept) (c node : ℕ) (r : Request) → c < length k.actors
-    → actor_of (called k c node r).kept c ≡ hears (actor_of k c) node r (node_step (node_at k node) r).reply
-own_there k c node r l = get_or-set_same k.actors c (hears (actor_of k c) node r (node_step (node_at k node) r).reply) (new_actor (length (called k c node r).kept.nodes) []) l
+pub own_there : (k : Kept) (c node : ℕ) (r : Request) → c < length k.actors → actor_of (called k c node r).kept c ≡ hears (actor_of k c) node r (told_at k c node r)
+own_there k c node r l = get_or-set_same k.actors c (hears (actor_of k c) node r (told_at k c node r)) (new_actor (length (called k c node r).kept.nodes) []) l
 
 ready_more : (k : Kept) (c node : ℕ) (r : Request) → c < length k.actors → AreReady k → AreReady (called k c node r).kept
 ready_more k c node r l ready d m =
-    let n : length (called k c node r).kept.nodes ≡ length k.nodes = length-set k.nodes (node - 1) (node_step (node_at k node) r).state in
-    let e : length (called k c node r).kept.actors ≡ length k.actors = length-set k.actors c (hears (actor_of k c) node r (node_step (node_at k node) r).reply) in
+    let n : length (called k c node r).kept.nodes ≡ length k.nodes = same_count k c node r in
+    let e : length (called k c node r).kept.actors ≡ length k.actors = same_actors k c node r in
     elim (eqb_tells d c) [
       | inl same ↦
           let h : IsReady (length k.nodes) (actor_of k c).writer = ready c l in
-          let own : IsReady (length k.nodes) (writer_heard (actor_of k c).writer node (Answer (node_step (node_at k node) r).reply)).writer = record {
-            live = heard_live (actor_of k c).writer node (Answer (node_step (node_at k node) r).reply) h.live;
-            sized = heard_sized (length k.nodes) (actor_of k c).writer node (Answer (node_step (node_at k node) r).reply) h.sized;
+          let own : IsReady (length k.nodes) (writer_heard (actor_of k c).writer node (heard_at k c node r)).writer = record {
+            live = heard_live (actor_of k c).writer node (heard_at k c node r) h.live;
+            sized = heard_sized (length k.nodes) (actor_of k c).writer node (heard_at k c node r) h.sized;
           } in
           let P : KeptActor → Type 0 = λ a. IsReady (length k.nodes) a.writer in
           let Q : ℕ → Type 0 = λ x. IsReady x (actor_of (called k c node r).kept d).writer in
@@ -102,13 +113,13 @@ goes_called c node r k0 k u l g next =
     let is : u ≡ turn.Going = going_is u (sym g.tells ∙ under) in
     let within : (1 ≤ node) × (node ≤ length k.nodes) = call_within (length k.nodes) (actor_of k c).writer node r (g.ready c l).sized next in
     record {
-      nodes = length-set k.nodes (node - 1) (node_step (node_at k node) r).state ∙ g.nodes;
-      actors = length-set k.actors c (hears (actor_of k c) node r (node_step (node_at k node) r).reply) ∙ g.actors;
+      nodes = same_count k c node r ∙ g.nodes;
+      actors = same_actors k c node r ∙ g.actors;
       ready = ready_more k c node r l g.ready;
       others = λ d n. other_there k c node r d n ∙ g.others d n;
       leads = λ ls t p h. on ls t p (g.leads ls t p h) is within;
-      tells = ap (λ a. is_under_way a.writer.phase) (own_there k c node r l) ∙ turn_tells (actor_of k c).writer node (Answer (node_step (node_at k node) r).reply) under;
-      fits = heard_fits (actor_of k c).writer node (Answer (node_step (node_at k node) r).reply);
+      tells = ap (λ a. is_under_way a.writer.phase) (own_there k c node r l) ∙ turn_tells (actor_of k c).writer node (heard_at k c node r) under;
+      fits = heard_fits (actor_of k c).writer node (heard_at k c node r);
     }
   where
     on : (ls : List Line) (t : Task) (p : Play) → (q : Play) × Leads p q × IsAfterTurn ls c t u k q → u ≡ turn.Going → (1 ≤ node) × (node ≤ length k.nodes)

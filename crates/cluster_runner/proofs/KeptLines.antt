@@ -1,29 +1,29 @@
 -- What is kept of a play goes along with it: the beginning, a line taken, the end.
-use Rattle.std.proofs.Common.{◌≡◌, ◌≢◌, ℕ, zero, suc, ◌+◌, ◌-◌, ◌<◌, ◌≤◌, ◌⊎◌, inl, inr, List, [], ◌∷◌, ◌++◌, length, map, Bool, true, false, refl, sym, ap, ◌∙◌, subst, Option, Some, None, set, get_or, arith, replicate, ◌&&◌}
+use Rattle.std.proofs.Common.{◌≡◌, ℕ, zero, suc, ◌+◌, ◌<◌, ◌⊎◌, inl, inr, List, [], ◌∷◌, ◌++◌, length, map, Bool, true, false, refl, sym, ap, ◌∙◌, Option, Some, None, set, get_or, replicate, ◌&&◌}
 use Rattle.std.specs.Prelude.{is_none}
-use Rattle.std.proofs.lemmas.List.{map-set, length-set, length-map, map-append, get_or-set_same}
+use Rattle.std.proofs.lemmas.List.{map-append, get_or-set_same}
 use Rattle.std.proofs.Math.ListN.{get_or-map}
-use Rattle.journal_core.specs.declared.node_state.NodeState.{NodeState}
-use Rattle.journal_core.specs.Step.{fresh_state}
-use Rattle.writer_core.specs.declared.phase.Phase.TheVariants as phase
 use Rattle.writer_core.specs.declared.task.Task.{Task}
 use Rattle.writer_core.specs.declared.task.Task.TheVariants as task
 use Rattle.writer_core.specs.declared.task.Begun.{Begun}
 use Rattle.writer_core.specs.declared.task.Begun.TheVariants as begun
 use Rattle.writer_core.specs.Views.{WriterView}
-use Rattle.writer_core.specs.Writer.{Began, writer_begun, next_call, if_writing, is_writing, log_begins, log_limit, begins}
+use Rattle.writer_core.specs.Writer.{writer_begun, next_call, if_writing, is_writing, log_begins, log_limit, begins}
 use Rattle.node_world.specs.declared.record.Record.{Record}
 use Rattle.node_world.specs.declared.history_line.HistoryLine.{HistoryLine}
-use Rattle.node_world.specs.Cell.{Cell, fresh_cell}
+use Rattle.node_world.specs.declared.mark.Mark.{Mark}
+use Rattle.node_world.specs.Cell.{fresh_cell}
+use Rattle.node_world.specs.NodeCells.{new_cell}
+use Rattle.mesh.specs.declared.whole.Mesh.{Mesh}
 use Rattle.mesh.specs.declared.end.End.{End}
-use Rattle.cluster_runner.specs.Lines.{Line, Deed, Does, Declares, Acts}
+use Rattle.cluster_runner.specs.Lines.{Line, Deed, Does, Declares, Acts, declared}
 use Rattle.cluster_runner.specs.Results.{inactive_results, too_long_results}
 use Rattle.cluster_runner.specs.Actor.{Actor, handed, fresh_actor}
-use Rattle.cluster_runner.specs.Plays.{Play, play_step, play_begins, play_steps, line_taken, actor_at, histories_from, history_of, has_ended, no_lines, IsPlay, mesh_of, ends_of}
-use Rattle.cluster_runner.specs.Kept.{Kept, KeptActor, actor_of, new_actor, shown, resting, at_rest, Stands, IsAtRest, IsInTurn, Leads, LeadsTo, with_writer, with_actor, new_kept, mesh_kept, ends_kept, IsPlayed}
+use Rattle.cluster_runner.specs.Plays.{Play, play_step, play_begins, line_taken, actor_at, histories_from, history_of, has_ended, no_lines, mesh_of, ends_of}
+use Rattle.cluster_runner.specs.Kept.{Kept, KeptActor, actor_of, new_actor, shown, resting, Stands, IsAtRest, IsInTurn, Leads, LeadsTo, with_writer, with_actor, new_kept, mesh_kept, ends_kept, IsPlayed}
 use Rattle.cluster_runner.proofs.KeptSteps.{step_line}
 use Rattle.cluster_runner.proofs.KeptActor.{handed_going, handed_inactive, handed_too_long}
-use Rattle.cluster_runner.proofs.KeptTurns.{leads_one, others_same, same_names, set_twice}
+use Rattle.cluster_runner.proofs.KeptTurns.{leads_one, set_twice, stands_actor}
 
 -- ## A writer that refuses a task is as before
 log_tells : (b : Bool) (o : Option ℕ) (bodies : List (List ℕ)) (w : WriterView)
@@ -63,24 +63,28 @@ resting_there k p ls c s e =
     ∙ get_or-map resting k.actors c (new_actor (length k.nodes) [])
 
 -- the play once the line was taken
-abbrev handed_play : Play → List Line → ℕ → Actor → Play
+abbrev pub handed_play : Play → List Line → ℕ → Actor → Play
 handed_play p ls c x = record p { lines = ls; turn = Some c; actors = set p.actors c x }
 
-step_handed : (k : Kept) (p : Play) (ls : List Line) (c : ℕ) (t : Task) (x : Actor) → IsAtRest (Acts c (Does t) ∷ ls) k p → handed (Does t) (resting (actor_of k c)) ≡ x
+pub step_handed : (k : Kept) (p : Play) (ls : List Line) (c : ℕ) (d : Deed) (x : Actor) → IsAtRest (Acts c d ∷ ls) k p → handed d (resting (actor_of k c)) ≡ x
     → play_step p ≡ handed_play p ls c x
 unfolding line_taken
-step_handed k p ls c t x h e =
-    step_line p (Acts c (Does t)) ls h.turn h.lines_are
-    ∙ ap (λ a. handed_play p ls c (handed (Does t) a)) (resting_there k p ls c h.stands h.actors)
+step_handed k p ls c d x h e =
+    step_line p (Acts c d) ls h.turn h.lines_are
+    ∙ ap (λ a. handed_play p ls c (handed d a)) (resting_there k p ls c h.stands h.actors)
     ∙ ap (λ y. handed_play p ls c y) e
 
-pub refused_leads : (k : Kept) (ls : List Line) (c : ℕ) (t : Task) (texts : List (List ℕ)) → handed (Does t) (resting (actor_of k c)) ≡ shown None texts (actor_of k c)
-    → LeadsTo (IsAtRest (Acts c (Does t) ∷ ls) k) (IsInTurn ls c None texts k)
-refused_leads k ls c t texts e p h = (
+-- the same nodes, names and operator
+pub stands_same : (k : Kept) (p : Play) (ls : List Line) (turn : Option ℕ) (xs : List Actor) → Stands k p → Stands k (record p { lines = ls; turn = turn; actors = xs })
+stands_same k p ls turn xs s = record { nodes = s.nodes; cells = s.cells; histories = s.histories; names = s.names; operator = s.operator; operated = s.operated }
+
+pub refused_leads : (k : Kept) (ls : List Line) (c : ℕ) (d : Deed) (texts : List (List ℕ)) → handed d (resting (actor_of k c)) ≡ shown None texts (actor_of k c)
+    → LeadsTo (IsAtRest (Acts c d ∷ ls) k) (IsInTurn ls c None texts k)
+refused_leads k ls c d texts e p h = (
   handed_play p ls c (shown None texts (actor_of k c)),
-  leads_one p (handed_play p ls c (shown None texts (actor_of k c))) (step_handed k p ls c t (shown None texts (actor_of k c)) h e),
+  leads_one p (handed_play p ls c (shown None texts (actor_of k c))) (step_handed k p ls c d (shown None texts (actor_of k c)) h e),
   record {
-    stands = record { nodes = h.stands.nodes; cells = h.stands.cells; histories = h.stands.histories; names = h.stands.names; operated = h.stands.operated };
+    stands = stands_same k p ls (Some c) (set p.actors c (shown None texts (actor_of k c))) h.stands;
     lines_are = refl;
     turn = refl;
     actors = ap (λ xs. set xs c (shown None texts (actor_of k c))) h.actors;
@@ -90,15 +94,15 @@ refused_leads k ls c t texts e p h = (
 pub inactive_leads : (k : Kept) (ls : List Line) (c : ℕ) (t : Task) (w : WriterView) → next_call (actor_of k c).writer ≡ None
     → writer_begun (actor_of k c).writer t ≡ record { writer = w; begun = begun.NotActive }
     → LeadsTo (IsAtRest (Acts c (Does t) ∷ ls) k) (IsInTurn ls c None (inactive_results t) k)
-inactive_leads k ls c t w none b = refused_leads k ls c t (inactive_results t) (handed_inactive (actor_of k c) t w none b)
+inactive_leads k ls c t w none b = refused_leads k ls c (Does t) (inactive_results t) (handed_inactive (actor_of k c) t w none b)
 
 pub too_long_leads : (k : Kept) (ls : List Line) (c : ℕ) (t : Task) (w : WriterView) (number : ℕ) → next_call (actor_of k c).writer ≡ None
     → writer_begun (actor_of k c).writer t ≡ record { writer = w; begun = begun.TooLong number }
     → LeadsTo (IsAtRest (Acts c (Does t) ∷ ls) k) (IsInTurn ls c None (too_long_results t number) k)
-too_long_leads k ls c t w number none b = refused_leads k ls c t (too_long_results t number) (handed_too_long (actor_of k c) t w number none b)
+too_long_leads k ls c t w number none b = refused_leads k ls c (Does t) (too_long_results t number) (handed_too_long (actor_of k c) t w number none b)
 
 abbrev begun_actor : Kept → ℕ → WriterView → KeptActor
-begun_actor k c w = record { name = (actor_of k c).name; writer = w; past = (actor_of k c).past }
+begun_actor k c w = record (actor_of k c) { writer = w }
 
 own_writer : (k : Kept) (c : ℕ) (w : WriterView) → c < length k.actors → actor_of (with_writer k c w) c ≡ begun_actor k c w
 own_writer k c w l = get_or-set_same k.actors c (begun_actor k c w) (new_actor (length k.nodes) []) l
@@ -109,15 +113,11 @@ pub begin_leads : (k : Kept) (ls : List Line) (c : ℕ) (t : Task) (w : WriterVi
 begin_leads k ls c t w l none b p h = (
   handed_play p ls c (shown (Some t) [] (begun_actor k c w)),
   leads_one p (handed_play p ls c (shown (Some t) [] (begun_actor k c w)))
-      (step_handed k p ls c t (shown (Some t) [] (begun_actor k c w)) h (handed_going (actor_of k c) t w none b)),
+      (step_handed k p ls c (Does t) (shown (Some t) [] (begun_actor k c w)) h (handed_going (actor_of k c) t w none b)),
   record {
-    stands = record {
-      nodes = h.stands.nodes;
-      cells = h.stands.cells;
-      histories = h.stands.histories;
-      names = h.stands.names ∙ sym (same_names k.actors c (begun_actor k c w) (new_actor (length k.nodes) []) refl);
-      operated = h.stands.operated;
-    };
+    stands =
+        stands_actor k (record p { lines = ls; turn = Some c }) c (begun_actor k c w) (new_actor (length k.nodes) []) (set p.actors c (shown (Some t) [] (begun_actor k c w))) refl
+        (stands_same k p ls (Some c) p.actors h.stands);
     lines_are = refl;
     turn = refl;
     actors =
@@ -149,6 +149,7 @@ declare_leads k ls name p h = (
       cells = h.stands.cells;
       histories = h.stands.histories;
       names = ap (λ xs. xs ++ name ∷ []) h.stands.names ∙ sym (map-append (λ a. a.name) k.actors (new_actor (length k.nodes) name ∷ []));
+      operator = h.stands.operator;
       operated = h.stands.operated;
     };
     lines_are = refl;
@@ -161,9 +162,13 @@ declare_leads k ls name p h = (
 )
 
 -- ## The beginning and the end
-fresh_cells : (n : ℕ) → replicate n fresh_cell ≡ map at_rest (replicate n fresh_state)
+fresh_cells : (n : ℕ) → replicate n fresh_cell ≡ map (λ v. v.cell) (replicate n new_cell)
 fresh_cells zero = refl
 fresh_cells (suc n) = ap (λ xs. fresh_cell ∷ xs) (fresh_cells n)
+
+fresh_histories : (n : ℕ) → replicate n [] ≡ map (λ v. v.history) (replicate n new_cell)
+fresh_histories zero = refl
+fresh_histories (suc n) = ap (λ xs. [] ∷ xs) (fresh_histories n)
 
 no_histories : (k n : ℕ) → histories_from k n [] ≡ replicate n []
 unfolding histories_from history_of
@@ -174,11 +179,18 @@ replicated : {A : Type 0} (n : ℕ) (x : A) → length (replicate n x) ≡ n
 replicated zero x = refl
 replicated (suc n) x = ap suc (replicated n x)
 
-pub begins_at_rest : (n : ℕ) (ls : List Line) → IsAtRest ls (new_kept n) (play_begins n ls)
+pub begins_at_rest : (n : ℕ) (ls : List Line) → IsAtRest ls (new_kept n (declared ls)) (play_begins n ls)
 unfolding play_begins
 begins_at_rest n ls =
     record {
-      stands = record { nodes = replicated n fresh_state; cells = fresh_cells n; histories = no_histories 1 n; names = refl; operated = refl };
+      stands = record {
+        nodes = replicated n new_cell;
+        cells = fresh_cells n;
+        histories = no_histories 1 n ∙ fresh_histories n;
+        names = refl;
+        operator = refl;
+        operated = refl;
+      };
       lines_are = refl;
       turn = refl;
       actors = refl;
@@ -188,9 +200,12 @@ pasts : (xs : List KeptActor) → map (λ a. a.past) (map resting xs) ≡ map (�
 pasts [] = refl
 pasts (a ∷ xs) = ap (λ ys. a.past ∷ ys) (pasts xs)
 
-unmarked : (xs : List KeptActor) → map (λ a. a.marks) (map resting xs) ≡ map (λ a. []) xs
-unmarked [] = refl
-unmarked (a ∷ xs) = ap (λ ys. [] ∷ ys) (unmarked xs)
+marks_of : (xs : List KeptActor) → map (λ a. a.marks) (map resting xs) ≡ map (λ a. a.marks) xs
+marks_of [] = refl
+marks_of (a ∷ xs) = ap (λ ys. a.marks ∷ ys) (marks_of xs)
+
+abbrev mesh_with : ℕ → List (List HistoryLine) → List (List Record) → List Record → List (List Mark) → Mesh
+mesh_with n hs rs os ms = record { nodes = n; histories = hs; records = rs ++ os ∷ []; plan = ms }
 
 abbrev named_end : List ℕ → End
 named_end name = record { name = name }
@@ -206,12 +221,10 @@ is_played n ls k p leads h =
       play = p;
       plays = record { steps = leads.steps; reached = leads.reached; ended = ap (λ x. no_lines x && is_none p.turn) h.lines_are ∙ ap is_none h.turn };
       mesh =
-          ap (λ m. record { nodes = m; histories = k.histories; records = map (λ a. a.past) k.actors ++ [] ∷ []; plan = map (λ a. []) k.actors }) h.stands.nodes
-          ∙ ap (λ hs. record { nodes = p.nodes; histories = hs; records = map (λ a. a.past) k.actors ++ [] ∷ []; plan = map (λ a. []) k.actors }) (sym h.stands.histories)
-          ∙ ap (λ rs. record { nodes = p.nodes; histories = histories_from 1 p.nodes p.trace; records = rs ++ [] ∷ []; plan = map (λ a. []) k.actors })
-          (sym (ap (map (λ a. a.past)) h.actors ∙ pasts k.actors))
-          ∙ ap (λ os. record { nodes = p.nodes; histories = histories_from 1 p.nodes p.trace; records = map (λ a. a.past) p.actors ++ os ∷ []; plan = map (λ a. []) k.actors }) (sym h.stands.operated)
-          ∙ ap (λ ms. record { nodes = p.nodes; histories = histories_from 1 p.nodes p.trace; records = map (λ a. a.past) p.actors ++ p.operated ∷ []; plan = ms })
-          (sym (ap (map (λ a. a.marks)) h.actors ∙ unmarked k.actors));
+          ap (λ m. mesh_with m (map (λ v. v.history) k.nodes) (map (λ a. a.past) k.actors) k.operated (map (λ a. a.marks) k.actors)) h.stands.nodes
+          ∙ ap (λ hs. mesh_with p.nodes hs (map (λ a. a.past) k.actors) k.operated (map (λ a. a.marks) k.actors)) (sym h.stands.histories)
+          ∙ ap (λ rs. mesh_with p.nodes (histories_from 1 p.nodes p.trace) rs k.operated (map (λ a. a.marks) k.actors)) (sym (ap (map (λ a. a.past)) h.actors ∙ pasts k.actors))
+          ∙ ap (λ os. mesh_with p.nodes (histories_from 1 p.nodes p.trace) (map (λ a. a.past) p.actors) os (map (λ a. a.marks) k.actors)) (sym h.stands.operated)
+          ∙ ap (λ ms. mesh_with p.nodes (histories_from 1 p.nodes p.trace) (map (λ a. a.past) p.actors) p.operated ms) (sym (ap (map (λ a. a.marks)) h.actors ∙ marks_of k.actors));
       ends_are = sym (ap (map (λ name. named_end name)) h.stands.names ∙ named k.actors);
     }

@@ -1,9 +1,8 @@
 -- Histories as projections of a trace, one line more; and lists with one element changed.
-use Rattle.std.proofs.Common.{◌≡◌, ◌≢◌, ℕ, zero, suc, ◌+◌, ◌-◌, ◌<◌, ◌≤◌, ◌==◌, List, [], ◌∷◌, ◌++◌, length, map, filter, Bool, true, false, refl, sym, ap, ◌∙◌, subst, cond, arith, ◌⊎◌, inl, inr, set, get_or, append-nil}
+use Rattle.std.proofs.Common.{◌≡◌, ◌≢◌, ℕ, zero, suc, ◌+◌, ◌<◌, ◌==◌, List, [], ◌∷◌, ◌++◌, length, map, filter, Bool, true, false, refl, ap, ◌∙◌, cond, arith, inl, inr, set, get_or, append-nil}
 use Rattle.std.proofs.lemmas.Bool.Decides.{eqb_tells}
 use Rattle.std.proofs.lemmas.List.{map-append}
 use Rattle.std.proofs.lemmas.List.Elements.{filter-append}
-use Rattle.node_world.specs.declared.history_line.HistoryLine.{HistoryLine}
 use Rattle.node_world.specs.Moving.{Placed}
 use Rattle.cluster_runner.specs.Plays.{history_of, histories_from}
 
@@ -23,10 +22,10 @@ history_snoc node xs x =
     ∙ map-append (λ y. y.line) (filter (λ y. y.node == node) xs) (filter (λ y. y.node == node) (x ∷ []))
     ∙ ap (λ ls. map (λ y. y.line) (filter (λ y. y.node == node) xs) ++ ls) (one_line (x.node == node) x)
 
-same_test : (a b : ℕ) → a ≡ b → (a == b) ≡ true
+pub same_test : (a b : ℕ) → a ≡ b → (a == b) ≡ true
 same_test a b e = elim (eqb_tells a b) [ inl p ↦ p.0 | inr p ↦ absurd (p.1 e) ]
 
-other_test : (a b : ℕ) → a ≢ b → (a == b) ≡ false
+pub other_test : (a b : ℕ) → a ≢ b → (a == b) ≡ false
 other_test a b n = elim (eqb_tells a b) [ inl p ↦ absurd (n p.1) | inr p ↦ p.0 ]
 
 history_same : (node : ℕ) (xs : List Placed) (x : Placed) → x.node ≡ node → history_of node (xs ++ x ∷ []) ≡ history_of node xs ++ x.line ∷ []

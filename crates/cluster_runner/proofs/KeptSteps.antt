@@ -1,75 +1,75 @@
 -- The steps of a play, one kind each.
-use Rattle.std.proofs.Common.{◌≡◌, ℕ, ◌+◌, ◌-◌, List, [], ◌∷◌, ◌++◌, Bool, true, false, refl, sym, ap, ◌∙◌, set, get_or, Option, Some, None}
-use Rattle.journal_core.specs.declared.node_state.NodeState.{NodeState}
+use Rattle.std.proofs.Common.{◌≡◌, ℕ, ◌-◌, List, [], ◌∷◌, ◌++◌, Bool, true, false, ap, ◌∙◌, set, get_or, Some, None}
 use Rattle.journal_core.specs.declared.request.Request.{Request}
-use Rattle.journal_core.specs.Step.{node_step}
+use Rattle.node_world.specs.declared.node_ask.NodeAsk.{NodeAsk}
 use Rattle.node_world.specs.declared.node_ask.NodeAsk.TheVariants.{Act}
-use Rattle.node_world.specs.declared.node_ask.NodeAnswer.TheVariants.{Replied}
 use Rattle.node_world.specs.declared.record.Record.{Record}
-use Rattle.node_world.specs.declared.record.Record.TheVariants.{Call, Outcome}
-use Rattle.node_world.specs.declared.mark.Mark.{Mark}
-use Rattle.node_world.specs.Cell.{Cell, Taken, fresh_cell, cell_takes, requested}
+use Rattle.node_world.specs.declared.record.Record.TheVariants.{Call, Late, Operator, Outcome}
+use Rattle.node_world.specs.Cell.{Cell, fresh_cell, cell_takes}
 use Rattle.node_world.specs.Moving.{Placed}
 use Rattle.mesh.specs.Marks.{next_number}
-use Rattle.cluster_runner.specs.Lines.{Line, Deed, Acts, Declares}
-use Rattle.cluster_runner.specs.Actor.{Actor, Want, WantsCall, Says, Rests, wants, goes_on, handed, fresh_actor}
-use Rattle.cluster_runner.specs.Plays.{Play, play_step, turned, wanted, call_made, Delivery, Delivered, delivery, is_marked, told_of, noted, node_asked, taken_at, actor_at, next_line, line_taken}
-use Rattle.cluster_runner.specs.Kept.{at_rest, call_line, call_record}
+use Rattle.cluster_runner.specs.Lines.{Line, Operates}
+use Rattle.cluster_runner.specs.Actor.{Actor, WantsCall, WantsCopy, Says, Rests, wants, goes_on, fresh_actor}
+use Rattle.cluster_runner.specs.Plays.{Play, play_step, turned, wanted, call_made, copy_made, Delivery, Delivered, ReplyLost, NotDelivered, delivery, told_of, noted, node_asked, is_done, actor_at, next_line, line_taken}
 
-pub takes_request : (s : NodeState) (r : Request) → cell_takes (at_rest s) (Act false r) ≡ record { answer = Replied (node_step s r).reply; cell = at_rest (node_step s r).state }
-unfolding cell_takes
-takes_request s r = by_up s.up
-  where
-    by_up : (b : Bool) → requested b (at_rest s) r ≡ record { answer = Replied (node_step s r).reply; cell = at_rest (node_step s r).state }
-    by_up true = refl
-    by_up false = refl
+-- what was listed of this node
+abbrev pub placed : ℕ → ℕ → Bool → NodeAsk → Cell → Placed
+placed node c muted ask v = record { node = node; line = record { caller = c; ask = ask; answer = (cell_takes v ask).answer }; muted = muted }
 
-unmarked : (marks : List Mark) (node number : ℕ) → marks ≡ [] → delivery marks node number ≡ Delivered
-unfolding delivery is_marked
-unmarked marks node number e = ap (λ ms. delivery ms node number) e
+-- the play once this reached the node
+abbrev pub asked_play : Play → ℕ → ℕ → Bool → NodeAsk → Cell → Play
+asked_play p node c muted ask v = record p { cells = set p.cells (node - 1) (cell_takes v ask).cell; trace = p.trace ++ placed node c muted ask v ∷ [] }
 
-abbrev pub placed : ℕ → ℕ → Request → NodeState → Placed
-placed node c r s = record { node = node; line = call_line c r (node_step s r).reply; muted = false }
+abbrev pub reached_play : Delivery → Play → ℕ → ℕ → Request → Cell → Play
+reached_play NotDelivered p node c r v = p
+reached_play ReplyLost p node c r v = asked_play p node c true (Act false r) v
+reached_play Delivered p node c r v = asked_play p node c false (Act false r) v
 
--- the play once the actor has heard the node's answer
-abbrev pub called_play : Play → ℕ → ℕ → Request → Actor → NodeState → Play
-called_play p c node r a s =
-    record p {
-      cells = set p.cells (node - 1) (at_rest (node_step s r).state);
-      trace = p.trace ++ placed node c r s ∷ [];
-      actors = set p.actors c (goes_on a (call_record node r (node_step s r).reply));
-    }
+-- the play once the actor went on by a line of its record
+abbrev pub noted_play : Play → ℕ → Actor → Record → Play
+noted_play p c a r = record p { actors = set p.actors c (goes_on a r) }
 
-pub step_call : (p : Play) (c node : ℕ) (r : Request) (a : Actor) (s : NodeState) → p.turn ≡ Some c → actor_at p c ≡ a → wants a ≡ WantsCall node r → a.marks ≡ []
-    → get_or p.cells (node - 1) fresh_cell ≡ at_rest s → play_step p ≡ called_play p c node r a s
+-- the play once the actor has heard what came of its call
+abbrev pub called_play : Delivery → Play → ℕ → ℕ → Request → Actor → Cell → Play
+called_play d p c node r a v = noted_play (reached_play d p node c r v) c a (Call node r (told_of d (cell_takes v (Act false r)).answer))
+
+pub step_call : (d : Delivery) (p : Play) (c node : ℕ) (r : Request) (a : Actor) (v : Cell) → p.turn ≡ Some c → actor_at p c ≡ a → wants a ≡ WantsCall node r
+    → delivery a.marks node (next_number node a.past) ≡ d → get_or p.cells (node - 1) fresh_cell ≡ v → play_step p ≡ called_play d p c node r a v
 unfolding play_step turned wanted call_made noted node_asked told_of actor_at
-step_call p c node r a s turn actor want marks cell =
+step_call d p c node r a v turn actor want goes cell =
     ap (λ t. turned t p) turn
     ∙ ap (λ x. wanted (wants x) c p) actor
     ∙ ap (λ w. wanted w c p) want
-    ∙ ap (λ d. call_made d c node r p) (unmarked (actor_at p c).marks node (next_number node (actor_at p c).past) (ap (λ x. x.marks) actor ∙ marks))
-    ∙ ap answered (ap (λ x. cell_takes x (Act false r)) cell ∙ takes_request s r)
-    ∙ ap (λ x. heard x) actor
+    ∙ ap (λ x. call_made (delivery x.marks node (next_number node x.past)) c node r p) actor
+    ∙ ap (λ e. call_made e c node r p) goes
+    ∙ by d
   where
-    answered : Taken → Play
-    answered t =
-        noted c (Call node r (told_of Delivered t.answer))
-        (record p { cells = set p.cells (node - 1) t.cell; trace = p.trace ++ record { node = node; line = record { caller = c; ask = Act false r; answer = t.answer }; muted = false } ∷ [] })
+    by : (e : Delivery) → call_made e c node r p ≡ called_play e p c node r a v
+    by NotDelivered = ap (λ x. called_play NotDelivered p c node r x v) actor
+    by ReplyLost = ap (λ y. called_play ReplyLost p c node r (get_or p.actors c (fresh_actor p.nodes)) y) cell ∙ ap (λ x. called_play ReplyLost p c node r x v) actor
+    by Delivered = ap (λ y. called_play Delivered p c node r (get_or p.actors c (fresh_actor p.nodes)) y) cell ∙ ap (λ x. called_play Delivered p c node r x v) actor
 
-    heard : Actor → Play
-    heard x = called_play p c node r x s
+-- the play once a late copy has come
+abbrev pub copied_play : Play → ℕ → ℕ → Request → Actor → Cell → Play
+copied_play p c node r a v = noted_play (asked_play p node c false (Act true r) v) c a (Late node r)
 
-pub step_says : (p : Play) (c : ℕ) (text : List ℕ) (a : Actor) → p.turn ≡ Some c → actor_at p c ≡ a → wants a ≡ Says text
-    → play_step p ≡ record p { actors = set p.actors c (goes_on a (Outcome text)) }
+pub step_copy : (p : Play) (c node : ℕ) (r : Request) (a : Actor) (v : Cell) → p.turn ≡ Some c → actor_at p c ≡ a → wants a ≡ WantsCopy node r
+    → get_or p.cells (node - 1) fresh_cell ≡ v → play_step p ≡ copied_play p c node r a v
+unfolding play_step turned wanted copy_made noted node_asked actor_at
+step_copy p c node r a v turn actor want cell =
+    ap (λ t. turned t p) turn
+    ∙ ap (λ x. wanted (wants x) c p) actor
+    ∙ ap (λ w. wanted w c p) want
+    ∙ ap (λ y. copied_play p c node r (get_or p.actors c (fresh_actor p.nodes)) y) cell
+    ∙ ap (λ x. copied_play p c node r x v) actor
+
+pub step_says : (p : Play) (c : ℕ) (text : List ℕ) (a : Actor) → p.turn ≡ Some c → actor_at p c ≡ a → wants a ≡ Says text → play_step p ≡ noted_play p c a (Outcome text)
 unfolding play_step turned wanted noted actor_at
 step_says p c text a turn actor want =
     ap (λ t. turned t p) turn
     ∙ ap (λ x. wanted (wants x) c p) actor
     ∙ ap (λ w. wanted w c p) want
-    ∙ ap (λ x. heard x) actor
-  where
-    heard : Actor → Play
-    heard x = record p { actors = set p.actors c (goes_on x (Outcome text)) }
+    ∙ ap (λ x. noted_play p c x (Outcome text)) actor
 
 pub step_rests : (p : Play) (c : ℕ) (a : Actor) → p.turn ≡ Some c → actor_at p c ≡ a → wants a ≡ Rests → play_step p ≡ record p { turn = None }
 unfolding play_step turned wanted actor_at
@@ -81,3 +81,16 @@ step_rests p c a turn actor want =
 pub step_line : (p : Play) (l : Line) (ls : List Line) → p.turn ≡ None → p.lines ≡ l ∷ ls → play_step p ≡ line_taken l (record p { lines = ls })
 unfolding play_step turned next_line
 step_line p l ls turn lines = ap (λ t. turned t p) turn ∙ ap (λ x. next_line x p) lines
+
+-- the play once the operator has done this to the node
+abbrev pub operated_play : Play → List Line → ℕ → NodeAsk → ℕ → Cell → Play
+operated_play p ls node ask c v =
+    record (asked_play (record p { lines = ls }) node c false ask v) { operated = p.operated ++ Operator node ask (is_done (cell_takes v ask).answer) ∷ [] }
+
+pub step_operated : (p : Play) (ls : List Line) (node c : ℕ) (ask : NodeAsk) (v : Cell) → p.turn ≡ None → p.lines ≡ Operates node ask ∷ ls → p.operator ≡ c
+    → get_or p.cells (node - 1) fresh_cell ≡ v → play_step p ≡ operated_play p ls node ask c v
+unfolding line_taken node_asked
+step_operated p ls node c ask v turn lines operator cell =
+    step_line p (Operates node ask) ls turn lines
+    ∙ ap (λ y. operated_play p ls node ask p.operator y) cell
+    ∙ ap (λ x. operated_play p ls node ask x v) operator

@@ -1,6 +1,6 @@
 -- A machine that is led along its record: one line of the record more, and one deed more.
 use Rattle.std.proofs.Common.{◌≡◌, ℕ, List, [], ◌∷◌, ◌++◌, Bool, true, false, refl, sym, ap, ◌∙◌, subst, cond}
-use Rattle.std.specs.Prelude.{Option, Some, None, if◌then◌else◌}
+use Rattle.std.specs.Prelude.{Option, Some, None}
 use Rattle.journal_core.specs.declared.request.Request.{Request}
 use Rattle.writer_core.specs.declared.task.Task.{Task}
 use Rattle.writer_core.specs.declared.task.Begun.{Begun}
@@ -9,13 +9,12 @@ use Rattle.writer_core.specs.declared.turn.Turn.{Turn}
 use Rattle.writer_core.specs.declared.turn.Turn.TheVariants as turn
 use Rattle.writer_core.specs.Views.{WriterView}
 use Rattle.writer_core.specs.Rounds.{Judged}
-use Rattle.writer_core.specs.Writer.{writer_begun, writer_heard, next_call}
+use Rattle.writer_core.specs.Writer.{writer_begun, writer_heard}
 use Rattle.node_world.specs.declared.record.Record.{Record}
 use Rattle.node_world.specs.declared.record.Record.TheVariants.{Call, Late, Operator, Outcome}
-use Rattle.mesh.specs.Marks.{calls_to}
 use Rattle.mesh.specs.Makers.{heard_of}
 use Rattle.cluster_runner.specs.Lines.{Deed, Does, DoDrop, DoMute, DoLate}
-use Rattle.cluster_runner.specs.Actor.{Actor, Want, WantsCall, WantsCopy, Says, Rests, wants, is_wanting, task_begun, copied, deed_taken, settled, handed, turn_taken, judged_as, moved_on, resettled, goes_on, Fits, IsLed, actor_after}
+use Rattle.cluster_runner.specs.Actor.{Actor, Want, WantsCall, WantsCopy, Says, Rests, wants, is_wanting, task_begun, copied, deed_taken, settled, handed, turn_taken, moved_on, resettled, goes_on, Fits, IsLed, actor_after}
 
 pub led_snoc : (a : Actor) (rs : List Record) (r : Record) → IsLed a rs → Fits (wants (actor_after a rs)) r → IsLed a (rs ++ r ∷ [])
 unfolding IsLed actor_after

@@ -1,7 +1,7 @@
 mod Led
 mod Wanting
 mod Makes
-mod MarkLaws
+pub mod MarkLaws
 mod Goes
 mod Sound
 mod Tied
@@ -15,6 +15,7 @@ mod Unique
 mod BrokenLaws
 mod WriterTurns
 mod EachResult
+pub mod IndexLaws
 pub mod KeptSteps
 pub mod KeptLists
 pub mod KeptActor
@@ -27,6 +28,7 @@ pub mod ClusterLaws
 pub mod ResultLaws
 pub mod Ends
 pub mod LineLaws
+pub mod OtherLaws
 pub mod PlayLaws
 mod Tracked
 mod CallLeft

@@ -1,5 +1,5 @@
 -- A line is taken: a task refused, or begun and led to its end, and its results said.
-use Rattle.std.proofs.Common.{◌≡◌, ℕ, ◌+◌, ◌-◌, ◌<◌, ◌≤◌, List, [], ◌∷◌, ◌++◌, length, Bool, true, false, refl, sym, ap, ◌∙◌, subst, Option, Some, None, is_some, set, get_or, arith, inl, inr, ◌⊎◌, codes}
+use Rattle.std.proofs.Common.{◌≡◌, ℕ, ◌<◌, List, [], ◌∷◌, ◌++◌, length, Bool, true, false, refl, sym, ap, ◌∙◌, subst, Option, Some, None, arith, inl, inr, codes}
 use Rattle.std.proofs.lemmas.List.{length-set, get_or-set_same, get_or-set_other, set-get_or}
 use Rattle.std.proofs.lemmas.Bool.Decides.{eqb_tells}
 use Rattle.writer_core.specs.declared.task.Task.{Task}
@@ -7,18 +7,15 @@ use Rattle.writer_core.specs.declared.task.Begun.{Begun}
 use Rattle.writer_core.specs.declared.task.Begun.TheVariants as begun
 use Rattle.writer_core.specs.declared.turn.Turn.{Turn}
 use Rattle.writer_core.specs.declared.turn.Turn.TheVariants as turn
-use Rattle.writer_core.specs.declared.phase.Phase.{Phase}
-use Rattle.writer_core.specs.declared.phase.Phase.TheVariants as phase
 use Rattle.writer_core.specs.declared.task.Task.TheVariants as task
 use Rattle.writer_core.specs.Views.{WriterView}
-use Rattle.writer_core.specs.Writer.{Began, next_call, call_in, writer_begun, is_under_way, if_writing, is_writing, begins, log_begins, log_limit}
+use Rattle.writer_core.specs.Writer.{next_call, writer_begun, is_under_way, if_writing, is_writing, begins, log_begins, log_limit}
 use Rattle.writer_core.proofs.LiveLaws.{begun_live}
 use Rattle.cluster_runner.specs.Lines.{Line, Acts, Does}
-use Rattle.cluster_runner.specs.Results.{name_of, results_of, inactive_results, too_long_results, word}
-use Rattle.cluster_runner.specs.ResultLists.{edits_of, times, texts_of, TurnFits, AreFew}
+use Rattle.cluster_runner.specs.Results.{name_of, results_of, word}
+use Rattle.cluster_runner.specs.ResultLists.{edits_of, times, texts_of, AreFew}
 use Rattle.cluster_runner.specs.Plays.{Play}
-use Rattle.cluster_runner.specs.Kept.{Kept, KeptActor, actor_of, new_actor, with_writer, said, says, IsAtRest, IsInTurn, IsAfterTurn, Leads, LeadsTo, doing_after}
-use Rattle.mesh.specs.Sized.{Sized}
+use Rattle.cluster_runner.specs.Kept.{Kept, actor_of, new_actor, with_writer, said, says, IsAtRest, IsInTurn, Leads, LeadsTo, doing_after}
 use Rattle.cluster_runner.specs.Ready.{IsReady, AreReady, IsIdle, GoesOn, TakesLine, is_going}
 use Rattle.mesh.proofs.WriterRange.{begun_sized}
 use Rattle.cluster_runner.proofs.KeptLines.{refused_same, inactive_leads, too_long_leads, begin_leads}
@@ -37,12 +34,12 @@ then_leads P Q R a b p h =
 -- ## Actors where one has another writer, or has said something
 with_own : (k : Kept) (c : ℕ) (w : WriterView) → c < length k.actors → (actor_of (with_writer k c w) c).writer ≡ w
 with_own k c w l =
-    ap (λ a. a.writer) (get_or-set_same k.actors c (record { name = (actor_of k c).name; writer = w; past = (actor_of k c).past }) (new_actor (length k.nodes) []) l)
+    ap (λ a. a.writer) (get_or-set_same k.actors c (record (actor_of k c) { writer = w }) (new_actor (length k.nodes) []) l)
 
 with_other : (k : Kept) (c d : ℕ) (w : WriterView) → (d ≡ c → ⊥) → actor_of (with_writer k c w) d ≡ actor_of k d
-with_other k c d w n = get_or-set_other k.actors c d (record { name = (actor_of k c).name; writer = w; past = (actor_of k c).past }) (new_actor (length k.nodes) []) n
+with_other k c d w n = get_or-set_other k.actors c d (record (actor_of k c) { writer = w }) (new_actor (length k.nodes) []) n
 
-said_writer : (k : Kept) (c d : ℕ) (texts : List (List ℕ)) → c < length k.actors → (actor_of (said k c texts) d).writer ≡ (actor_of k d).writer
+pub said_writer : (k : Kept) (c d : ℕ) (texts : List (List ℕ)) → c < length k.actors → (actor_of (said k c texts) d).writer ≡ (actor_of k d).writer
 said_writer k c d texts l = elim (eqb_tells d c) [
   | inl same ↦ ap (λ x. (actor_of (said k c texts) x).writer) same.1
       ∙ ap (λ a. a.writer) (get_or-set_same k.actors c (says (actor_of k c) texts) (new_actor (length k.nodes) []) l)
@@ -50,7 +47,7 @@ said_writer k c d texts l = elim (eqb_tells d c) [
   | inr other ↦ ap (λ a. a.writer) (get_or-set_other k.actors c d (says (actor_of k c) texts) (new_actor (length k.nodes) []) other.1)
 ]
 
-said_length : (k : Kept) (c : ℕ) (texts : List (List ℕ)) → length (said k c texts).actors ≡ length k.actors
+pub said_length : (k : Kept) (c : ℕ) (texts : List (List ℕ)) → length (said k c texts).actors ≡ length k.actors
 said_length k c texts = length-set k.actors c (says (actor_of k c) texts)
 
 -- what is idle stays so when results are said
@@ -68,7 +65,7 @@ said_idle k c texts l idle =
 -- ## A task that begins
 ready_begun : (k : Kept) (c : ℕ) (t : Task) (w : WriterView) → c < length k.actors → AreReady k → (writer_begun (actor_of k c).writer t).writer ≡ w → AreReady (with_writer k c w)
 ready_begun k c t w l ready e d m =
-    let n : length (with_writer k c w).actors ≡ length k.actors = length-set k.actors c (record { name = (actor_of k c).name; writer = w; past = (actor_of k c).past }) in
+    let n : length (with_writer k c w).actors ≡ length k.actors = length-set k.actors c (record (actor_of k c) { writer = w }) in
     let P : WriterView → Type 0 = λ v. IsReady (length k.nodes) v in
     elim (eqb_tells d c) [
       | inl same ↦
@@ -115,7 +112,7 @@ begun_going old new c t e = ap (λ x. is_under_way x.writer.phase) (sym e) ∙ b
 pub begun_there : (old new : Kept) (c : ℕ) → c < length old.actors → new ≡ with_writer old c (actor_of new c).writer → c < length new.actors
 begun_there old new c l same =
     let n : length new.actors ≡ length old.actors =
-    ap (λ k. length k.actors) same ∙ length-set old.actors c (record { name = (actor_of old c).name; writer = (actor_of new c).writer; past = (actor_of old c).past }) in
+    ap (λ k. length k.actors) same ∙ length-set old.actors c (record (actor_of old c) { writer = (actor_of new c).writer }) in
     omega (arith, l, n)
 
 pub few_edits : (w : WriterView) (t : Task) (v : WriterView) → writer_begun w t ≡ record { writer = v; begun = begun.Going } → AreFew (edits_of t)
@@ -179,7 +176,7 @@ ended_idle old new last c t u l idle same g none =
         | inl is ↦ ap (λ x. next_call (actor_of last x).writer) is.1 ∙ none
         | inr other ↦
             let n : length last.actors ≡ length old.actors =
-            g.actors ∙ ap (λ k. length k.actors) same ∙ length-set old.actors c (record { name = (actor_of old c).name; writer = (actor_of new c).writer; past = (actor_of old c).past }) in
+            g.actors ∙ ap (λ k. length k.actors) same ∙ length-set old.actors c (record (actor_of old c) { writer = (actor_of new c).writer }) in
             ap (λ a. next_call a.writer) (g.others d other.1 ∙ ap (λ k. actor_of k d) same ∙ with_other old c d (actor_of new c).writer other.1) ∙ idle.resting d (omega (arith, m, n))
       ];
     }
@@ -190,7 +187,7 @@ pub takes_going : (old new went last : Kept) (c : ℕ) (t : Task) (u : Turn) (te
     → TakesLine (Acts c (Does t)) (length old.actors) old last
 takes_going old new went last c t u texts l idle e same g none are is =
     let n : length went.actors ≡ length old.actors =
-    g.actors ∙ ap (λ k. length k.actors) same ∙ length-set old.actors c (record { name = (actor_of old c).name; writer = (actor_of new c).writer; past = (actor_of old c).past }) in
+    g.actors ∙ ap (λ k. length k.actors) same ∙ length-set old.actors c (record (actor_of old c) { writer = (actor_of new c).writer }) in
     let there : c < length went.actors = omega (arith, l, n) in
     let rests : IsIdle went = ended_idle old new went c t u l idle same g none in
     let over : doing_after t u ≡ None = not_going u (sym g.tells ∙ rests_under (actor_of went c).writer (rests.ready c there).live none) t in

@@ -1,13 +1,13 @@
 -- What ties the records of a play's actors and of its operator to its trace.
-use Rattle.std.proofs.Common.{◌≡◌, ℕ, zero, suc, ◌+◌, ◌-◌, ◌<◌, ◌≤◌, List, [], ◌∷◌, ◌++◌, Bool, true, false, refl, sym, ap, ◌∙◌, subst, arith, length, get_or, set, ◌⊎◌, inl, inr}
-use Rattle.std.specs.Prelude.{◌≢◌, ◌==◌}
+use Rattle.std.proofs.Common.{◌≡◌, ℕ, ◌+◌, ◌<◌, ◌≤◌, List, [], ◌∷◌, ◌++◌, false, sym, ap, ◌∙◌, subst, arith, length, get_or, set, ◌⊎◌, inl, inr}
+use Rattle.std.specs.Prelude.{◌==◌}
 use Rattle.std.proofs.lemmas.List.{get_or-set_same, get_or-set_other, length-set, get_or_append_left, length-append}
 use Rattle.std.proofs.Math.Seq.{get_or-append_seam}
 use Rattle.node_world.specs.declared.history_line.HistoryLine.{HistoryLine}
 use Rattle.node_world.specs.declared.record.Record.{Record}
 use Rattle.node_world.specs.Moving.{Placed}
 use Rattle.mesh.specs.Matches.{reaches, reached, lines_of, AreSame, IsSame}
-use Rattle.cluster_runner.specs.Actor.{Actor, fresh_actor}
+use Rattle.cluster_runner.specs.Actor.{Actor}
 use Rattle.cluster_runner.specs.Plays.{history_of}
 use Rattle.mesh.proofs.Lists.{Alike, alike}
 use Rattle.cluster_runner.proofs.Tied.{Tied, quiet, others, both, history_at, history_off, CallersAre, callers_snoc, callers_more, no_lines_of}

@@ -2,23 +2,21 @@
 use Rattle.std.proofs.Common.{◌≡◌, ℕ, List, [], ◌∷◌, ◌++◌, Bool, true, false, cond, refl, sym, ap, ◌∙◌, subst, ◌⊎◌, inl, inr}
 use Rattle.std.specs.Prelude.{Option, Some, None, is_some}
 use Rattle.journal_core.specs.declared.request.Request.{Request}
-use Rattle.writer_core.specs.declared.phase.Phase.{Phase}
 use Rattle.writer_core.specs.declared.task.Task.{Task}
 use Rattle.writer_core.specs.declared.task.Task.TheVariants as task
 use Rattle.writer_core.specs.declared.task.Begun.{Begun}
 use Rattle.writer_core.specs.declared.task.Begun.TheVariants as begun
 use Rattle.writer_core.specs.Views.{WriterView}
 use Rattle.writer_core.specs.Rounds.{Judged}
-use Rattle.writer_core.specs.Writer.{new_writer, Began, log_begins, log_limit, is_writing, if_writing, writer_begun, next_call, writer_heard}
+use Rattle.writer_core.specs.Writer.{Began, log_begins, log_limit, is_writing, if_writing, writer_begun, next_call, writer_heard}
 use Rattle.node_world.specs.declared.record.Record.{Record}
 use Rattle.node_world.specs.declared.record.Record.TheVariants.{Call, Late, Operator, Outcome}
 use Rattle.node_world.specs.declared.record.Told.{Told}
-use Rattle.mesh.specs.Marks.{calls_to}
 use Rattle.mesh.specs.Makers.{Maker, heard_of, maker_of, maker_hears, IsMade, IsOfTasks}
 use Rattle.cluster_runner.specs.Lines.{Deed, Does, DoDrop, DoMute, DoLate}
-use Rattle.cluster_runner.specs.Actor.{Actor, fresh_actor, wants, is_wanting, task_begun, copied, deed_taken, settled, moved_on, resettled, goes_on, Fits, IsLed}
+use Rattle.cluster_runner.specs.Actor.{Actor, fresh_actor, wants, is_wanting, task_begun, copied, deed_taken, settled, moved_on, resettled, goes_on, IsLed}
 use Rattle.cluster_runner.proofs.Led.{turn_keeps, moved_keeps}
-use Rattle.cluster_runner.proofs.Wanting.{Calling, Resting, resting, fits_calling, no_operation}
+use Rattle.cluster_runner.proofs.Wanting.{Calling, resting, fits_calling, no_operation}
 
 pub tasks_of : List Deed → List Task
 tasks_of [] = []

@@ -1,11 +1,9 @@
 -- A record that goes by a plan goes by it still when marks of later calls are added, and when the next call is told by its marks.
-use Rattle.std.proofs.Common.{◌≡◌, ℕ, zero, suc, ◌+◌, ◌-◌, ◌<◌, ◌≤◌, List, [], ◌∷◌, ◌++◌, Bool, true, false, cond, Contains, refl, sym, ap, ◌∙◌, subst, arith, length, ◌⊎◌, inl, inr, append_assoc, length-append}
-use Rattle.std.specs.Prelude.{Option, Some, None, ◌≢◌, ◌↔◌, ◌&&◌, ◌||◌, ◌==◌, slice_get}
-use Rattle.std.specs.List.{list_any}
+use Rattle.std.proofs.Common.{◌≡◌, ℕ, ◌+◌, ◌-◌, ◌<◌, ◌≤◌, List, [], ◌∷◌, ◌++◌, Bool, true, false, cond, Contains, refl, sym, ap, ◌∙◌, subst, arith, length, ◌⊎◌, inl, inr, append_assoc, length-append}
+use Rattle.std.specs.Prelude.{Some, ◌≢◌, ◌&&◌, ◌||◌, ◌==◌, slice_get}
 use Rattle.std.proofs.lemmas.List.Elements.{Contains-append_left}
 use Rattle.std.proofs.lemmas.Bool.Decides.{eqb_tells}
 use Rattle.journal_core.specs.declared.request.Request.{Request}
-use Rattle.journal_core.specs.declared.reply.Reply.{Reply}
 use Rattle.node_world.specs.declared.node_ask.NodeAnswer.{NodeAnswer}
 use Rattle.node_world.specs.declared.node_ask.NodeAnswer.TheVariants.{Replied, Stopped, Done, Idle, NotOpened}
 use Rattle.node_world.specs.declared.record.Record.{Record}
@@ -15,8 +13,8 @@ use Rattle.node_world.specs.declared.record.Told.TheVariants as told
 use Rattle.node_world.specs.declared.mark.Mark.{Mark}
 use Rattle.node_world.specs.declared.mark.MarkKind.{MarkKind}
 use Rattle.node_world.specs.declared.mark.MarkKind.TheVariants as kind
-use Rattle.mesh.specs.Marks.{mark, calls_to, next_number, Asked, IsAsMarked, IsCopy, IsMarked, AreCopied}
-use Rattle.cluster_runner.specs.Plays.{Delivery, Delivered, ReplyLost, NotDelivered, same_kind, is_marked, delivery, told_of}
+use Rattle.mesh.specs.Marks.{mark, calls_to, next_number, Asked, IsAsMarked, IsCopy, IsMarked}
+use Rattle.cluster_runner.specs.Plays.{Delivered, ReplyLost, NotDelivered, same_kind, is_marked, delivery, told_of}
 use Rattle.mesh.proofs.Lists.{contains_cases, contains_head, contains_tail, contains_less, contains_none, get_left, append_none, same_test, cond_true}
 
 -- ## Calls of a longer record

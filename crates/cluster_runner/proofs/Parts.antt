@@ -1,15 +1,14 @@
 -- One step of a play, part by part: the actors, the nodes, and what ties the two.
-use Rattle.std.proofs.Common.{◌≡◌, ℕ, zero, suc, ◌+◌, ◌-◌, ◌<◌, ◌≤◌, List, [], ◌∷◌, ◌++◌, Bool, true, false, cond, refl, sym, ap, ◌∙◌, subst, arith, length, get_or, set, ◌⊎◌, inl, inr}
+use Rattle.std.proofs.Common.{◌≡◌, ℕ, ◌+◌, ◌-◌, ◌<◌, ◌≤◌, List, [], ◌∷◌, ◌++◌, Bool, true, false, cond, refl, sym, ap, ◌∙◌, subst, arith, length, get_or, set, inl, inr}
 use Rattle.std.specs.Prelude.{◌≢◌, ◌==◌}
 use Rattle.std.proofs.lemmas.List.{get_or-set_same, get_or-set_other, length-set, get_or_append_left, length-append}
 use Rattle.std.proofs.Math.Seq.{get_or-append_seam}
 use Rattle.node_world.specs.declared.history_line.HistoryLine.{HistoryLine}
 use Rattle.node_world.specs.declared.node_ask.NodeAsk.{NodeAsk}
-use Rattle.node_world.specs.declared.node_ask.NodeAnswer.{NodeAnswer}
 use Rattle.node_world.specs.declared.record.Record.{Record}
 use Rattle.node_world.specs.Cell.{Cell, fresh_cell, cell_takes, IsLocalRun, cell_after}
 use Rattle.node_world.specs.Moving.{Placed}
-use Rattle.mesh.specs.Matches.{reaches, IsSame, IsWithin}
+use Rattle.mesh.specs.Matches.{IsWithin}
 use Rattle.cluster_runner.specs.Lines.{Deed, Line, Declares, Acts, Operates, deeds_of, IsDeed}
 use Rattle.cluster_runner.specs.Actor.{Actor, fresh_actor, settled, handed, wants, goes_on, Fits, actor_after, IsLed}
 use Rattle.cluster_runner.specs.Plays.{history_of}
@@ -17,7 +16,7 @@ use Rattle.mesh.proofs.Lists.{cond_true, cond_false, Alike, alike, append_none}
 use Rattle.cluster_runner.proofs.Led.{led_snoc, after_snoc, settled_more, handed_after, handed_led}
 use Rattle.cluster_runner.proofs.Goes.{IsTold}
 use Rattle.cluster_runner.proofs.Sound.{Sound, goes_past, goes_sound, handed_past, handed_sound, fresh_sound}
-use Rattle.cluster_runner.proofs.Tied.{history_at, history_off, local_snoc, cell_snoc, Tied, quiet, others, both, CallersAre, callers_snoc, callers_more, no_lines_of}
+use Rattle.cluster_runner.proofs.Tied.{history_at, history_off, local_snoc, cell_snoc}
 
 -- ## An actor
 pub record ActorOk (n : ℕ) (ds : List Deed) (a : Actor) : Type 0 where

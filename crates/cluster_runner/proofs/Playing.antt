@@ -1,34 +1,30 @@
 -- What a play keeps from step to step.
-use Rattle.std.proofs.Common.{◌≡◌, ℕ, zero, suc, ◌+◌, ◌-◌, ◌<◌, ◌≤◌, List, [], ◌∷◌, ◌++◌, Bool, true, false, refl, sym, ap, ◌∙◌, subst, arith, length, get_or, set, replicate, ◌⊎◌, inl, inr, append_assoc}
-use Rattle.std.specs.Prelude.{Option, Some, None, ◌≢◌, ◌==◌}
-use Rattle.std.proofs.lemmas.List.{get_or-set_same, get_or-set_other, length-set, get_or_append_left, length-append, get_or-replicate, length-replicate}
-use Rattle.std.proofs.Math.Seq.{get_or-append_seam}
+use Rattle.std.proofs.Common.{◌≡◌, ℕ, ◌-◌, ◌<◌, ◌≤◌, List, ◌++◌, Bool, true, false, refl, sym, ap, ◌∙◌, subst, length, get_or, set, inl, inr}
+use Rattle.std.specs.Prelude.{Some, ◌≢◌, ◌==◌}
+use Rattle.std.proofs.lemmas.List.{get_or-set_other, length-set}
 use Rattle.journal_core.specs.declared.request.Request.{Request}
 use Rattle.node_world.specs.declared.node_ask.NodeAsk.{NodeAsk}
 use Rattle.node_world.specs.declared.node_ask.NodeAsk.TheVariants.{Act}
 use Rattle.node_world.specs.declared.node_ask.NodeAnswer.{NodeAnswer}
 use Rattle.node_world.specs.declared.record.Record.{Record}
-use Rattle.node_world.specs.declared.record.Record.TheVariants.{Call, Late, Operator, Outcome}
-use Rattle.node_world.specs.declared.record.Told.{Told}
+use Rattle.node_world.specs.declared.record.Record.TheVariants.{Call, Late, Outcome}
 use Rattle.node_world.specs.declared.record.Told.TheVariants as told
-use Rattle.node_world.specs.declared.mark.Mark.{Mark}
-use Rattle.node_world.specs.Cell.{Cell, fresh_cell, Taken, cell_takes, IsLocalRun, cell_after}
+use Rattle.node_world.specs.Cell.{fresh_cell}
 use Rattle.node_world.specs.Moving.{Placed}
 use Rattle.mesh.specs.Marks.{next_number, IsAsMarked}
-use Rattle.mesh.specs.Makers.{IsOperation, IsOperators}
+use Rattle.mesh.specs.Makers.{IsOperators}
 use Rattle.mesh.specs.Matches.{reaches, IsSame, IsWithin, AreWithin}
-use Rattle.cluster_runner.specs.Lines.{Deed, Line, Declares, Acts, Operates, Operation, declared, names_in, operations_in, deeds_of, IsDeed, ArePlayable}
-use Rattle.cluster_runner.specs.Actor.{Actor, fresh_actor, handed, Want, WantsCall, WantsCopy, Says, Rests, wants, says_first, copy_first, call_wanted, goes_on, Fits}
-use Rattle.cluster_runner.specs.Plays.{Play, play_begins, actor_at, taken_at, node_asked, noted, Delivery, Delivered, ReplyLost, NotDelivered, delivery, told_of, call_made, copy_made, wanted, is_done, line_taken, next_line, turned, play_step, play_steps, history_of}
+use Rattle.cluster_runner.specs.Lines.{Line, declared, names_in, operations_in, ArePlayable}
+use Rattle.cluster_runner.specs.Actor.{Actor, fresh_actor, Want, WantsCall, WantsCopy, Says, Rests, wants, goes_on, Fits}
+use Rattle.cluster_runner.specs.Plays.{Play, actor_at, taken_at, node_asked, noted, Delivery, Delivered, ReplyLost, NotDelivered, delivery, told_of, call_made, copy_made, wanted}
 use Rattle.cluster_runner.specs.Follows.{AreOperations}
 use Rattle.mesh.proofs.Lists.{Alike, alike}
 use Rattle.cluster_runner.proofs.MarkLaws.{delivery_marked}
 use Rattle.cluster_runner.proofs.Goes.{IsTold}
-use Rattle.cluster_runner.proofs.Sound.{Sound, goes_past, handed_past, wants_call_within, wants_copy_within, within_snoc}
-use Rattle.cluster_runner.proofs.Tied.{CallersAre, Tied}
-use Rattle.cluster_runner.proofs.Parts.{Actors, actors_noted, actors_handed, actors_declared, actors_operated, Nodes, nodes_asked}
-use Rattle.cluster_runner.proofs.Links.{Links, links_same, links_quiet, links_loud, links_operated, links_declared}
-use Rattle.cluster_runner.proofs.Answers.{call_answer, told_stands, told_reaches, operation_answer}
+use Rattle.cluster_runner.proofs.Sound.{goes_past, wants_call_within, wants_copy_within}
+use Rattle.cluster_runner.proofs.Parts.{Actors, actors_noted, Nodes, nodes_asked}
+use Rattle.cluster_runner.proofs.Links.{Links, links_quiet, links_loud}
+use Rattle.cluster_runner.proofs.Answers.{call_answer, told_stands, told_reaches}
 
 -- the operator's record
 pub record Operated (n : ℕ) (taken : List Line) (rs : List Record) : Type 0 where

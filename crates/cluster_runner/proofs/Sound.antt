@@ -1,5 +1,5 @@
 -- What holds of an actor from its first deed on: its writer calls nodes that there are, its record speaks of these, and it goes by its marks.
-use Rattle.std.proofs.Common.{◌≡◌, ℕ, zero, suc, ◌+◌, ◌-◌, ◌<◌, ◌≤◌, List, [], ◌∷◌, ◌++◌, Bool, true, false, cond, refl, sym, ap, ◌∙◌, subst, arith, length, ◌⊎◌, inl, inr}
+use Rattle.std.proofs.Common.{◌≡◌, ℕ, ◌-◌, ◌≤◌, List, [], ◌∷◌, ◌++◌, Bool, true, false, cond, refl, sym, ◌∙◌, subst, inl, inr}
 use Rattle.std.specs.Prelude.{Option, Some, None, slice_get, ◌==◌}
 use Rattle.journal_core.specs.declared.request.Request.{Request}
 use Rattle.writer_core.specs.declared.task.Task.{Task}
@@ -7,20 +7,19 @@ use Rattle.writer_core.specs.declared.task.Begun.{Begun}
 use Rattle.writer_core.specs.declared.task.Begun.TheVariants as begun
 use Rattle.writer_core.specs.Views.{WriterView}
 use Rattle.writer_core.specs.Rounds.{Judged}
-use Rattle.writer_core.specs.Writer.{new_writer, writer_begun, writer_heard, next_call}
+use Rattle.writer_core.specs.Writer.{writer_begun, writer_heard}
 use Rattle.node_world.specs.declared.record.Record.{Record}
 use Rattle.node_world.specs.declared.record.Record.TheVariants.{Call, Late, Operator, Outcome}
-use Rattle.node_world.specs.declared.record.Told.{Told}
-use Rattle.mesh.specs.Marks.{calls_to, IsCopy, Asked}
+use Rattle.mesh.specs.Marks.{calls_to, IsCopy}
 use Rattle.mesh.specs.Makers.{heard_of}
 use Rattle.mesh.specs.Matches.{IsWithin, AreWithin}
 use Rattle.cluster_runner.specs.Lines.{Deed, Does, DoDrop, DoMute, DoLate, IsDeed}
-use Rattle.cluster_runner.specs.Actor.{Actor, Want, WantsCall, WantsCopy, fresh_actor, wants, is_wanting, task_begun, copied, deed_taken, settled, handed, moved_on, resettled, goes_on, Fits}
+use Rattle.cluster_runner.specs.Actor.{Actor, WantsCall, WantsCopy, fresh_actor, wants, is_wanting, task_begun, copied, deed_taken, settled, handed, moved_on, resettled, goes_on, Fits}
 use Rattle.cluster_runner.proofs.Led.{turn_keeps, moved_keeps}
 use Rattle.mesh.proofs.Lists.{alike, Alike}
-use Rattle.cluster_runner.proofs.Wanting.{Calling, Copying, Resting, calling, copying, resting, no_operation}
+use Rattle.cluster_runner.proofs.Wanting.{Resting, calling, copying, resting}
 use Rattle.mesh.proofs.WriterRange.{Sized, heard_sized, begun_sized, new_sized, call_within}
-use Rattle.cluster_runner.proofs.Goes.{Goes, GoesBy, fresh_goes, taken_goes, IsTold, moved_goes}
+use Rattle.cluster_runner.proofs.Goes.{GoesBy, fresh_goes, taken_goes, IsTold, moved_goes}
 
 unfoldable pub AreDeeds : List Deed → Type 0
 AreDeeds [] = Unit {0}

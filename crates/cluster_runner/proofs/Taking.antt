@@ -1,24 +1,23 @@
 -- A script line keeps what a play keeps; and so does each step.
-use Rattle.std.proofs.Common.{◌≡◌, ℕ, zero, suc, ◌+◌, ◌-◌, ◌<◌, ◌≤◌, List, [], ◌∷◌, ◌++◌, Bool, true, false, refl, sym, ap, ◌∙◌, subst, arith, length, get_or, set, replicate, ◌⊎◌, inl, inr, append_assoc}
-use Rattle.std.specs.Prelude.{Option, Some, None, ◌≢◌, ◌==◌}
-use Rattle.std.proofs.lemmas.List.{get_or-set_same, get_or-set_other, length-set, get_or_append_left, length-append, get_or-replicate, length-replicate}
+use Rattle.std.proofs.Common.{◌≡◌, ℕ, zero, suc, ◌+◌, ◌-◌, ◌<◌, ◌≤◌, List, [], ◌∷◌, ◌++◌, Bool, false, refl, sym, ap, ◌∙◌, subst, arith, length, get_or, set, inl, inr, append_assoc}
+use Rattle.std.specs.Prelude.{Option, Some, None, ◌≢◌}
+use Rattle.std.proofs.lemmas.List.{get_or-set_other, length-set, get_or_append_left, length-append, get_or-replicate, length-replicate}
 use Rattle.std.proofs.Math.Seq.{get_or-append_seam}
 use Rattle.node_world.specs.declared.node_ask.NodeAsk.{NodeAsk}
 use Rattle.node_world.specs.declared.record.Record.{Record}
 use Rattle.node_world.specs.declared.record.Record.TheVariants.{Call, Late, Operator, Outcome}
-use Rattle.node_world.specs.Cell.{Cell, fresh_cell, Taken, cell_takes, IsLocalRun, cell_after}
-use Rattle.node_world.specs.Moving.{Placed}
+use Rattle.node_world.specs.Cell.{fresh_cell, IsLocalRun, cell_after}
 use Rattle.mesh.specs.Makers.{IsOperation, IsOperators}
-use Rattle.mesh.specs.Matches.{reaches, reached, lines_of, IsSame, AreSame, IsWithin, AreWithin}
+use Rattle.mesh.specs.Matches.{reaches, reached, lines_of, IsSame, AreSame, AreWithin}
 use Rattle.cluster_runner.specs.Lines.{Deed, Line, Declares, Acts, Operates, Operation, declared, names_in, operations_in, deeds_of, IsDeed, ArePlayable}
-use Rattle.cluster_runner.specs.Actor.{Actor, fresh_actor, handed, Want, Rests, wants, says_first, copy_first, call_wanted}
-use Rattle.cluster_runner.specs.Plays.{Play, play_begins, actor_at, taken_at, node_asked, wanted, is_done, line_taken, next_line, turned, play_step, play_steps, history_of}
+use Rattle.cluster_runner.specs.Actor.{Actor, fresh_actor, handed, Rests, wants, says_first, copy_first, call_wanted}
+use Rattle.cluster_runner.specs.Plays.{Play, play_begins, actor_at, taken_at, node_asked, is_done, line_taken, next_line, turned, play_step, play_steps, history_of}
 use Rattle.cluster_runner.specs.Follows.{AreOperations}
 use Rattle.mesh.proofs.Lists.{Alike, alike, append_none}
 use Rattle.cluster_runner.proofs.Sound.{handed_past, within_snoc}
 use Rattle.cluster_runner.proofs.Tied.{CallersAre, Tied}
-use Rattle.cluster_runner.proofs.Parts.{Actors, actors_handed, actors_declared, actors_operated, Nodes, nodes_asked}
-use Rattle.cluster_runner.proofs.Links.{Links, links_same, links_operated, links_declared}
+use Rattle.cluster_runner.proofs.Parts.{actors_handed, actors_declared, actors_operated, nodes_asked}
+use Rattle.cluster_runner.proofs.Links.{links_same, links_operated, links_declared}
 use Rattle.cluster_runner.proofs.Answers.{operation_answer}
 use Rattle.cluster_runner.proofs.Playing.{Operated, Holds, asked_as, wanted_holds}
 

@@ -1,9 +1,9 @@
 -- The txids of a log that is done are in range, and a log that begins is one batch at most.
-use Rattle.std.proofs.Common.{◌≡◌, ℕ, ◌+◌, ◌-◌, ◌<◌, ◌≤◌, List, [], ◌∷◌, ◌++◌, length, Bool, true, false, cond, refl, sym, ap, ◌∙◌, Option, Some, None, arith, ◌&&◌, nat_lt, nat_le}
+use Rattle.std.proofs.Common.{◌≡◌, ℕ, ◌+◌, ◌-◌, ◌≤◌, List, ◌∷◌, length, Bool, true, false, cond, refl, Option, Some, None, arith, ◌&&◌, nat_lt}
 use Rattle.std.specs.List.{list_any, list_all}
 use Rattle.std.proofs.lemmas.Bool.Decides.{nat_tests}
 use Rattle.journal_core.specs.Views.{BatchView, last_txid}
-use Rattle.journal_core.specs.Limits.{max_number, max_batch, max_body, max_segment, head_numbers}
+use Rattle.journal_core.specs.Limits.{max_number, max_batch, head_numbers}
 use Rattle.journal_core.specs.declared.reply.Reply.{Reply}
 use Rattle.journal_core.specs.declared.reply.Reply.TheVariants as reply
 use Rattle.journal_core.specs.declared.heard.Heard.{Heard}
@@ -16,13 +16,11 @@ use Rattle.writer_core.specs.declared.phase.Aim.{Aim}
 use Rattle.writer_core.specs.declared.phase.Aim.TheVariants as aim
 use Rattle.writer_core.specs.declared.task.Task.{Task}
 use Rattle.writer_core.specs.declared.task.Task.TheVariants as task
-use Rattle.writer_core.specs.declared.task.Begun.{Begun}
 use Rattle.writer_core.specs.declared.task.Begun.TheVariants as begun
-use Rattle.writer_core.specs.declared.turn.Turn.{Turn}
 use Rattle.writer_core.specs.declared.turn.Turn.TheVariants as turn
 use Rattle.writer_core.specs.Views.{WriterView}
 use Rattle.writer_core.specs.Answers.{is_waiting, has_majority, fits_edits, fits}
-use Rattle.writer_core.specs.Best.{Best, best_of, greatest_promise, greatest_newest}
+use Rattle.writer_core.specs.Best.{greatest_promise}
 use Rattle.writer_core.specs.Rounds.{Judged, going, stopped, next_serial, proposing, after_state, after_finalize, after_open, after_write, done_in, with_causes, judged_by, judged, taken_out, edits_fetched, not_fetched, fetched, numbers_fit, missed, head_now, batch_from}
 use Rattle.writer_core.specs.Writer.{with_answer, judged_when, heard_in, heard_at, writer_heard, writer_begun, log_begins, log_limit, is_writing, if_writing}
 use Rattle.cluster_runner.specs.ResultLists.{TurnFits, IsFew}

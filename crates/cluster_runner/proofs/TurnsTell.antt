@@ -1,10 +1,8 @@
 -- A turn tells whether a round is under way.
-use Rattle.std.proofs.Common.{◌≡◌, ℕ, zero, suc, ◌+◌, ◌-◌, ◌<◌, List, [], ◌∷◌, ◌++◌, length, Bool, true, false, cond, refl, sym, ap, ◌∙◌, Option, Some, None, is_some, set, arith, ◌&&◌, nat_lt, position, option_map}
+use Rattle.std.proofs.Common.{◌≡◌, ℕ, ◌+◌, ◌-◌, List, length, Bool, true, false, cond, refl, Option, Some, None, ◌&&◌, nat_lt}
 use Rattle.std.specs.List.{list_any}
-use Rattle.std.proofs.lemmas.Bool.Decides.{nat_tests}
 use Rattle.journal_core.specs.Views.{BatchView}
 use Rattle.journal_core.specs.Limits.{max_number}
-use Rattle.journal_core.specs.declared.request.Request.{Request}
 use Rattle.journal_core.specs.declared.reply.Reply.{Reply}
 use Rattle.journal_core.specs.declared.reply.Reply.TheVariants as reply
 use Rattle.journal_core.specs.declared.heard.Heard.{Heard}
@@ -15,14 +13,12 @@ use Rattle.writer_core.specs.declared.phase.Phase.{Phase}
 use Rattle.writer_core.specs.declared.phase.Phase.TheVariants as phase
 use Rattle.writer_core.specs.declared.phase.Aim.{Aim}
 use Rattle.writer_core.specs.declared.phase.Aim.TheVariants as aim
-use Rattle.writer_core.specs.declared.slot.Slot.{Slot}
-use Rattle.writer_core.specs.declared.turn.Turn.{Turn}
 use Rattle.writer_core.specs.declared.turn.Turn.TheVariants as turn
 use Rattle.writer_core.specs.Views.{WriterView}
 use Rattle.writer_core.specs.Answers.{is_waiting, has_majority, fits_edits}
 use Rattle.writer_core.specs.Best.{Best, best_of, greatest_promise, greatest_newest}
 use Rattle.writer_core.specs.Rounds.{Judged, going, stopped, next_serial, proposing, after_state, after_propose, recovering, after_finalize, after_open, after_write, done_in, with_causes, judged_by, judged, taken_out, pieced, edits_fetched, not_fetched, fetched, numbers_fit, asking_all, batch_from, missed}
-use Rattle.writer_core.specs.Writer.{is_under_way, next_call, call_in, node_in, with_answer, judged_when, heard_in, heard_at, writer_heard}
+use Rattle.writer_core.specs.Writer.{is_under_way, with_answer, judged_when, heard_in, heard_at, writer_heard}
 use Rattle.cluster_runner.specs.Ready.{is_going}
 
 abbrev Tells : Judged → Type 0

@@ -1,7 +1,6 @@
 -- A script has one play, and lines and answers have one record.
-use Rattle.std.proofs.Common.{◌≡◌, ℕ, zero, suc, ◌+◌, ◌-◌, ◌<◌, ◌≤◌, List, [], ◌∷◌, ◌++◌, Bool, true, false, refl, sym, ap, ◌∙◌, subst, arith, length, ◌⊎◌, inl, inr}
-use Rattle.std.specs.Prelude.{Option, Some, None}
-use Rattle.journal_core.specs.declared.request.Request.{Request}
+use Rattle.std.proofs.Common.{◌≡◌, ℕ, zero, suc, ◌+◌, ◌-◌, ◌≤◌, List, [], ◌∷◌, true, refl, sym, ap, ◌∙◌, subst, arith, ◌⊎◌, inl, inr}
+use Rattle.std.specs.Prelude.{Option, None}
 use Rattle.node_world.specs.declared.record.Record.{Record}
 use Rattle.node_world.specs.declared.record.Record.TheVariants.{Call, Late, Operator, Outcome}
 use Rattle.node_world.specs.declared.record.Told.{Told}

@@ -1,10 +1,9 @@
 -- What an actor wants, read backwards.
-use Rattle.std.proofs.Common.{◌≡◌, ℕ, List, [], ◌∷◌, ◌++◌, Bool, true, false, refl, sym, ap, ◌∙◌}
+use Rattle.std.proofs.Common.{◌≡◌, ℕ, List, [], ◌∷◌, Bool, false, refl, sym, ap, ◌∙◌}
 use Rattle.std.specs.Prelude.{Option, Some, None}
 use Rattle.journal_core.specs.declared.request.Request.{Request}
 use Rattle.writer_core.specs.Writer.{next_call}
 use Rattle.node_world.specs.declared.node_ask.NodeAsk.{NodeAsk}
-use Rattle.node_world.specs.declared.record.Record.{Record}
 use Rattle.node_world.specs.declared.record.Record.TheVariants.{Call, Late, Operator, Outcome}
 use Rattle.node_world.specs.declared.record.Told.{Told}
 use Rattle.cluster_runner.specs.Actor.{Actor, Want, WantsCall, WantsCopy, Says, Rests, wants, is_wanting, call_wanted, copy_first, says_first, Fits}

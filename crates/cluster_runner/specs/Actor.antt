@@ -8,10 +8,9 @@ use Rattle.writer_core.specs.declared.turn.Turn.{Turn}
 use Rattle.writer_core.specs.declared.turn.Turn.TheVariants as turn
 use Rattle.writer_core.specs.Views.{WriterView}
 use Rattle.writer_core.specs.Rounds.{Judged}
-use Rattle.writer_core.specs.Writer.{new_writer, Began, writer_begun, next_call, writer_heard}
+use Rattle.writer_core.specs.Writer.{new_writer, writer_begun, next_call, writer_heard}
 use Rattle.node_world.specs.declared.record.Record.{Record}
 use Rattle.node_world.specs.declared.record.Record.TheVariants.{Call, Late, Operator, Outcome}
-use Rattle.node_world.specs.declared.record.Told.{Told}
 use Rattle.node_world.specs.declared.mark.Mark.{Mark}
 use Rattle.node_world.specs.declared.mark.MarkKind.TheVariants as kind
 use Rattle.mesh.specs.Marks.{mark, calls_to, next_number}

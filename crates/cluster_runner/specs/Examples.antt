@@ -1,7 +1,7 @@
 -- Worked plays: scripts of several writers, with the results of each actor and with what some node lists.
-use Rattle.std.specs.Prelude.{ℕ, Bool, true, false, List, [], ◌∷◌, ◌++◌, drop, map, codes, Option, Some, None, slice_index_or}
+use Rattle.std.specs.Prelude.{ℕ, true, false, List, [], ◌∷◌, ◌++◌, drop, codes, Option, Some}
 use Rattle.journal_core.specs.Views.{HeadView, BatchView}
-use Rattle.journal_core.specs.declared.cut.Cut.TheVariants.{Old, New, A5}
+use Rattle.journal_core.specs.declared.cut.Cut.TheVariants.{Old}
 use Rattle.journal_core.specs.declared.segment_info.SegmentInfo.{SegmentInfo}
 use Rattle.journal_core.specs.declared.request.Request.{Request}
 use Rattle.journal_core.specs.declared.request.Request.TheVariants as request
@@ -13,7 +13,7 @@ use Rattle.writer_core.specs.declared.task.Task.TheVariants.{Takeover, Log, Roll
 use Rattle.node_world.specs.declared.stop.Stop.TheVariants.{Effects, DiskCalls}
 use Rattle.node_world.specs.declared.node_ask.NodeAsk.{NodeAsk}
 use Rattle.node_world.specs.declared.node_ask.NodeAsk.TheVariants.{Act, Kill, Restart, Arm}
-use Rattle.node_world.specs.declared.node_ask.NodeAnswer.TheVariants.{Replied, Stopped, Done, Idle}
+use Rattle.node_world.specs.declared.node_ask.NodeAnswer.TheVariants.{Replied, Stopped, Done}
 use Rattle.node_world.specs.declared.history_line.HistoryLine.{HistoryLine}
 use Rattle.cluster_runner.specs.Lines.{Line, Declares, Acts, Operates, Does, DoDrop, DoMute, DoLate}
 use Rattle.cluster_runner.specs.Told.{results_in}

@@ -1,7 +1,7 @@
 -- When a mesh follows a script.
-use Rattle.std.specs.Prelude.{◌≡◌, ℕ, ◌<◌, List, [], ◌∷◌, length, map, slice_index_or}
+use Rattle.std.specs.Prelude.{◌≡◌, ℕ, ◌<◌, List, [], ◌∷◌, length, map}
 use Rattle.node_world.specs.declared.record.Record.{Record}
-use Rattle.node_world.specs.declared.record.Record.TheVariants.{Call, Late, Operator, Outcome}
+use Rattle.node_world.specs.declared.record.Record.TheVariants.{Operator}
 use Rattle.node_world.specs.declared.mark.Mark.{Mark}
 use Rattle.mesh.specs.declared.whole.Mesh.{Mesh}
 use Rattle.mesh.specs.declared.end.End.{End}

@@ -1,112 +1,167 @@
 -- What the program keeps of a play, and the play that this is.
-use Rattle.std.specs.Prelude.{◌≡◌, ℕ, zero, suc, false, ◌+◌, ◌-◌, ◌<◌, List, [], ◌∷◌, ◌++◌, length, map, Option, Some, None, slice_index_or, slice_set, replicate}
-use Rattle.journal_core.specs.declared.node_state.NodeState.{NodeState}
+use Rattle.std.specs.Prelude.{◌≡◌, ℕ, true, false, ◌+◌, ◌-◌, List, [], ◌∷◌, ◌++◌, length, map, Option, Some, None, slice_get, slice_index_or, slice_set, replicate}
 use Rattle.journal_core.specs.declared.request.Request.{Request}
-use Rattle.journal_core.specs.declared.reply.Reply.{Reply}
-use Rattle.journal_core.specs.declared.heard.Heard.TheVariants.{Answer}
-use Rattle.journal_core.specs.Step.{Stepped, node_step, fresh_state}
 use Rattle.writer_core.specs.declared.task.Task.{Task}
 use Rattle.writer_core.specs.declared.turn.Turn.{Turn}
 use Rattle.writer_core.specs.declared.turn.Turn.TheVariants as turn
-use Rattle.writer_core.specs.declared.cause.Cause.{Cause}
 use Rattle.writer_core.specs.Views.{WriterView}
-use Rattle.writer_core.specs.Rounds.{Judged}
-use Rattle.writer_core.specs.Writer.{new_writer, writer_heard, next_call}
+use Rattle.writer_core.specs.Writer.{new_writer, writer_heard}
+use Rattle.node_world.specs.declared.node_ask.NodeAsk.{NodeAsk}
 use Rattle.node_world.specs.declared.node_ask.NodeAsk.TheVariants.{Act}
-use Rattle.node_world.specs.declared.node_ask.NodeAnswer.TheVariants.{Replied}
-use Rattle.node_world.specs.declared.history_line.HistoryLine.{HistoryLine}
+use Rattle.node_world.specs.declared.node_ask.NodeAnswer.{NodeAnswer}
 use Rattle.node_world.specs.declared.record.Record.{Record}
-use Rattle.node_world.specs.declared.record.Record.TheVariants.{Call, Outcome}
-use Rattle.node_world.specs.declared.record.Told.TheVariants as told
-use Rattle.node_world.specs.Cell.{Cell}
+use Rattle.node_world.specs.declared.record.Record.TheVariants.{Call, Late, Operator, Outcome}
+use Rattle.node_world.specs.declared.record.Told.{Told}
+use Rattle.node_world.specs.declared.mark.Mark.{Mark}
+use Rattle.node_world.specs.declared.mark.MarkKind.{MarkKind}
+use Rattle.node_world.specs.declared.mark.MarkKind.TheVariants as kind
+use Rattle.node_world.specs.Cell.{cell_takes}
+use Rattle.node_world.specs.NodeCells.{CellView, new_cell}
 use Rattle.cluster_runner.specs.Lines.{Line}
-use Rattle.cluster_runner.specs.Results.{results_of}
-use Rattle.cluster_runner.specs.Actor.{Actor, fresh_actor}
+use Rattle.cluster_runner.specs.Results.{results_of, late_none}
+use Rattle.cluster_runner.specs.Actor.{Actor}
 use Rattle.mesh.specs.declared.whole.Mesh.{Mesh}
 use Rattle.mesh.specs.declared.end.End.{End}
-use Rattle.cluster_runner.specs.Plays.{Play, play_steps, histories_from, IsPlay, mesh_of, ends_of}
+use Rattle.mesh.specs.Marks.{mark, calls_to, next_number}
+use Rattle.mesh.specs.Makers.{heard_of}
+use Rattle.cluster_runner.specs.Plays.{Play, play_steps, histories_from, IsPlay, mesh_of, ends_of, Delivery, Delivered, ReplyLost, NotDelivered, delivery, told_of, is_done}
 
--- an actor's name, its writer and its record so far
+-- an actor's name, its writer, its record so far, and its marks
 pub record KeptActor : Type 0 where
   pub name : List ℕ
   pub writer : WriterView
   pub past : List Record
+  pub marks : List Mark
 
--- the nodes, what each has listed, and the actors
+-- the nodes with what each has listed, the actors, and the operator's number and record
 pub record Kept : Type 0 where
-  pub nodes : List NodeState
-  pub histories : List (List HistoryLine)
+  pub nodes : List CellView
   pub actors : List KeptActor
+  pub operator : ℕ
+  pub operated : List Record
 
 abbrev pub new_actor : ℕ → List ℕ → KeptActor
-new_actor nodes name = record { name = name; writer = new_writer nodes; past = [] }
+new_actor nodes name = record { name = name; writer = new_writer nodes; past = []; marks = [] }
 
-abbrev pub node_at : Kept → ℕ → NodeState
-node_at k node = slice_index_or k.nodes (node - 1) fresh_state
+abbrev pub node_at : Kept → ℕ → CellView
+node_at k node = slice_index_or k.nodes (node - 1) new_cell
 
 abbrev pub actor_of : Kept → ℕ → KeptActor
 actor_of k c = slice_index_or k.actors c (new_actor (length k.nodes) [])
 
-abbrev pub history_at : Kept → ℕ → List HistoryLine
-history_at k node = slice_index_or k.histories (node - 1) []
+-- ## What reaches a node
+abbrev pub answer_to : CellView → NodeAsk → NodeAnswer
+answer_to v ask = (cell_takes v.cell ask).answer
+
+-- the node once it has taken and listed what this caller asked
+abbrev pub listed : CellView → ℕ → NodeAsk → CellView
+listed v c ask =
+    record { cell = (cell_takes v.cell ask).cell; history = v.history ++ record { caller = c; ask = ask; answer = answer_to v ask } ∷ [] }
 
 -- ## One call
 pub record Called : Type 0 where
   pub kept : Kept
   pub turn : Turn
 
-abbrev pub call_line : ℕ → Request → Reply → HistoryLine
-call_line c r reply = record { caller = c; ask = Act false r; answer = Replied reply }
+-- a call that isn't delivered reaches no node
+abbrev pub reached_by : Delivery → CellView → ℕ → Request → CellView
+reached_by NotDelivered v c r = v
+reached_by ReplyLost v c r = listed v c (Act false r)
+reached_by Delivered v c r = listed v c (Act false r)
 
-abbrev pub call_record : ℕ → Request → Reply → Record
-call_record node r reply = Call node r (told.Reply reply)
+abbrev pub told_by : Delivery → CellView → Request → Told
+told_by d v r = told_of d (answer_to v (Act false r))
 
-abbrev pub hears : KeptActor → ℕ → Request → Reply → KeptActor
-hears a node r reply =
-    record { name = a.name; writer = (writer_heard a.writer node (Answer reply)).writer; past = a.past ++ call_record node r reply ∷ [] }
+abbrev pub hears : KeptActor → ℕ → Request → Told → KeptActor
+hears a node r t = record a { writer = (writer_heard a.writer node (heard_of t)).writer; past = a.past ++ Call node r t ∷ [] }
 
--- where the node's step gives this
-abbrev pub answered_by : Stepped → Kept → ℕ → ℕ → Request → Called
-answered_by s k c node r =
+-- how the actor's next call to a node goes
+abbrev pub delivery_to : KeptActor → ℕ → Delivery
+delivery_to a node = delivery a.marks node (next_number node a.past)
+
+abbrev pub called_by : Delivery → Kept → ℕ → ℕ → Request → Called
+called_by d k c node r =
     record {
-      kept = record {
-        nodes = slice_set k.nodes (node - 1) s.state;
-        histories = slice_set k.histories (node - 1) (history_at k node ++ call_line c r s.reply ∷ []);
-        actors = slice_set k.actors c (hears (actor_of k c) node r s.reply);
+      kept = record k {
+        nodes = slice_set k.nodes (node - 1) (reached_by d (node_at k node) c r);
+        actors = slice_set k.actors c (hears (actor_of k c) node r (told_by d (node_at k node) r));
       };
-      turn = (writer_heard (actor_of k c).writer node (Answer s.reply)).turn;
+      turn = (writer_heard (actor_of k c).writer node (heard_of (told_by d (node_at k node) r))).turn;
     }
 
 -- an actor's call to a node
 abbrev pub called : Kept → ℕ → ℕ → Request → Called
-called k c node r = answered_by (node_step (node_at k node) r) k c node r
+called k c node r = called_by (delivery_to (actor_of k c) node) k c node r
 
 -- ## Results
 abbrev pub says : KeptActor → List (List ℕ) → KeptActor
-says a texts = record { name = a.name; writer = a.writer; past = a.past ++ map (λ text. Outcome text) texts }
+says a texts = record a { past = a.past ++ map (λ text. Outcome text) texts }
+
+abbrev pub with_actor_at : Kept → ℕ → KeptActor → Kept
+with_actor_at k c a = record k { actors = slice_set k.actors c a }
 
 abbrev pub said : Kept → ℕ → List (List ℕ) → Kept
-said k c texts = record k { actors = slice_set k.actors c (says (actor_of k c) texts) }
+said k c texts = with_actor_at k c (says (actor_of k c) texts)
+
+-- ## Marks, copies and the operator
+-- one of the actor's next calls to the node is marked, counted from 1
+abbrev pub loses : KeptActor → ℕ → ℕ → MarkKind → KeptActor
+loses a node call loss = record a { marks = a.marks ++ mark node (next_number node a.past + (call - 1)) loss ∷ [] }
+
+abbrev pub lost : Kept → ℕ → ℕ → ℕ → MarkKind → Kept
+lost k c node call loss = with_actor_at k c (loses (actor_of k c) node call loss)
+
+-- the request of one of the actor's calls to the node so far, counted from 1
+abbrev pub earlier_call : KeptActor → ℕ → ℕ → Option Request
+earlier_call a node call = slice_get (calls_to node a.past) (call - 1)
+
+abbrev pub copies : KeptActor → ℕ → ℕ → Request → KeptActor
+copies a node call r = record a { past = a.past ++ Late node r ∷ []; marks = a.marks ++ mark node call kind.Late ∷ [] }
+
+-- a copy of the call reaches the node, if there was such a call; else that is the actor's result
+abbrev pub cell_copied : Option Request → CellView → ℕ → CellView
+cell_copied None v c = v
+cell_copied (Some r) v c = listed v c (Act true r)
+
+abbrev pub actor_copied : Option Request → KeptActor → ℕ → ℕ → KeptActor
+actor_copied None a node call = says a (late_none ∷ [])
+actor_copied (Some r) a node call = copies a node call r
+
+abbrev pub copied_by : Option Request → Kept → ℕ → ℕ → ℕ → Kept
+copied_by r k c node call =
+    record k {
+      nodes = slice_set k.nodes (node - 1) (cell_copied r (node_at k node) c);
+      actors = slice_set k.actors c (actor_copied r (actor_of k c) node call);
+    }
+
+abbrev pub late : Kept → ℕ → ℕ → ℕ → Kept
+late k c node call = copied_by (earlier_call (actor_of k c) node call) k c node call
+
+-- the operator does this to the node
+abbrev pub operates : Kept → ℕ → NodeAsk → Kept
+operates k node ask =
+    record k {
+      nodes = slice_set k.nodes (node - 1) (listed (node_at k node) k.operator ask);
+      operated = k.operated ++ Operator node ask (is_done (answer_to (node_at k node) ask)) ∷ [];
+    }
 
 -- ## The play that this is
 -- the actor, with the task under way and the results that are due
 abbrev pub shown : Option Task → List (List ℕ) → KeptActor → Actor
 shown doing texts a =
-    record { todo = []; doing = doing; writer = a.writer; says = texts; copies = None; past = a.past; marks = [] }
+    record { todo = []; doing = doing; writer = a.writer; says = texts; copies = None; past = a.past; marks = a.marks }
 
 abbrev pub resting : KeptActor → Actor
 resting a = shown None [] a
 
-abbrev pub at_rest : NodeState → Cell
-at_rest s = record { state = s; arming = None }
-
 -- all but the actors
 pub record Stands (k : Kept) (p : Play) : Type 0 where
   pub nodes : length k.nodes ≡ p.nodes
-  pub cells : p.cells ≡ map at_rest k.nodes
-  pub histories : histories_from 1 p.nodes p.trace ≡ k.histories
+  pub cells : p.cells ≡ map (λ v. v.cell) k.nodes
+  pub histories : histories_from 1 p.nodes p.trace ≡ map (λ v. v.history) k.nodes
   pub names : p.names ≡ map (λ a. a.name) k.actors
-  pub operated : p.operated ≡ []
+  pub operator : p.operator ≡ k.operator
+  pub operated : p.operated ≡ k.operated
 
 -- between two lines, with these lines to come
 pub record IsAtRest (lines : List Line) (k : Kept) (p : Play) : Type 0 where
@@ -141,12 +196,12 @@ abbrev pub LeadsTo : (Play → Type 0) → (Play → Type 0) → Type 0
 LeadsTo P Q = (p : Play) → P p → (q : Play) × Leads p q × Q q
 
 -- before the first line
-abbrev pub new_kept : ℕ → Kept
-new_kept nodes = record { nodes = replicate nodes fresh_state; histories = replicate nodes []; actors = [] }
+abbrev pub new_kept : ℕ → ℕ → Kept
+new_kept nodes operator = record { nodes = replicate nodes new_cell; actors = []; operator = operator; operated = [] }
 
 -- with this writer for the actor
 abbrev pub with_writer : Kept → ℕ → WriterView → Kept
-with_writer k c w = record k { actors = slice_set k.actors c (record { name = (actor_of k c).name; writer = w; past = (actor_of k c).past }) }
+with_writer k c w = with_actor_at k c (record (actor_of k c) { writer = w })
 
 -- one more actor
 abbrev pub with_actor : Kept → List ℕ → Kept
@@ -155,7 +210,12 @@ with_actor k name = record k { actors = k.actors ++ new_actor (length k.nodes) n
 -- the mesh and the ends of what is kept
 abbrev pub mesh_kept : Kept → Mesh
 mesh_kept k =
-    record { nodes = length k.nodes; histories = k.histories; records = map (λ a. a.past) k.actors ++ [] ∷ []; plan = map (λ a. []) k.actors }
+    record {
+      nodes = length k.nodes;
+      histories = map (λ v. v.history) k.nodes;
+      records = map (λ a. a.past) k.actors ++ k.operated ∷ [];
+      plan = map (λ a. a.marks) k.actors;
+    }
 
 abbrev pub ends_kept : Kept → List End
 ends_kept k = map (λ a. record { name = a.name }) k.actors

@@ -13,5 +13,6 @@ pub mod Orders
 pub mod Kept
 pub mod ResultLists
 pub mod Shown
+pub mod Called
 pub mod Ready
 pub mod Goal

@@ -1,9 +1,11 @@
 -- What each line of a script says: a declaration, a deed of an actor, or an operation on a node.
-use Rattle.std.specs.Prelude.{ℕ, ◌+◌, ◌<◌, ◌≤◌, ◌==◌, suc, List, [], ◌∷◌, map, if◌then◌else◌}
+use Rattle.std.specs.Prelude.{ℕ, ◌^◌, ◌+◌, ◌<◌, ◌≤◌, ◌==◌, suc, List, [], ◌∷◌, map, if◌then◌else◌}
+use Rattle.journal_core.specs.Limits.{max_number}
 use Rattle.writer_core.specs.declared.task.Task.{Task}
 use Rattle.writer_core.specs.declared.task.Task.TheVariants as task
 use Rattle.writer_core.specs.Writer.{HasBody}
 use Rattle.node_world.specs.declared.node_ask.NodeAsk.{NodeAsk}
+use Rattle.node_world.specs.declared.node_ask.NodeAsk.TheVariants.{Kill, Restart, Arm}
 use Rattle.script_text.specs.Views.{ScriptView}
 use Rattle.script_text.specs.declared.script_line.ScriptLine.{ScriptLine}
 use Rattle.script_text.specs.declared.script_line.ScriptLine.TheVariants as line
@@ -26,7 +28,16 @@ pub data Line : Type 0 where
 abbrev pub line_of : ScriptLine → Line
 line_of (line.Declare name) = Declares name
 line_of (line.Takeover actor) = Acts actor (Does task.Takeover)
+line_of (line.Roll actor) = Acts actor (Does task.Roll)
+line_of (line.Close actor) = Acts actor (Does task.Close)
 line_of (line.Log actor bodies) = Acts actor (Does (task.Log bodies))
+line_of (line.Purge actor min) = Acts actor (Does (task.Purge min))
+line_of (line.Drop actor node call) = Acts actor (DoDrop node call)
+line_of (line.Mute actor node call) = Acts actor (DoMute node call)
+line_of (line.Late actor node call) = Acts actor (DoLate node call)
+line_of (line.Kill node) = Operates node Kill
+line_of (line.Restart node) = Operates node Restart
+line_of (line.Arm node calls stop) = Operates node (Arm calls stop)
 
 abbrev pub lines_of : ScriptView → List Line
 lines_of s = map line_of s.lines
@@ -82,3 +93,20 @@ ArePlayable nodes actors (Operates node ask ∷ ls) = (1 ≤ node) × (node ≤ 
 pub record IsPlayable (s : ScriptView) : Type 0 where
   pub nodes : 1 ≤ s.nodes
   pub lines : ArePlayable s.nodes 0 (lines_of s)
+
+-- ## Numbers that the program can hold
+-- a mark is of a node that is there, and counts up to 2 ^ 62
+abbrev pub IsInRange : ℕ → ScriptLine → Type 0
+IsInRange nodes (line.Drop actor node call) = (1 ≤ node) × (node ≤ nodes) × (call ≤ max_number)
+IsInRange nodes (line.Mute actor node call) = (1 ≤ node) × (node ≤ nodes) × (call ≤ max_number)
+IsInRange nodes (line.Late actor node call) = (1 ≤ node) × (node ≤ nodes)
+IsInRange nodes _ = Unit {0}
+
+unfoldable pub AreInRange : ℕ → List ScriptLine → Type 0
+AreInRange nodes [] = Unit {0}
+AreInRange nodes (l ∷ ls) = IsInRange nodes l × AreInRange nodes ls
+
+-- the operator's number, behind those of all actors, is a u32
+pub record NumbersFit (s : ScriptView) : Type 0 where
+  pub operator : declared (lines_of s) < 2 ^ 32
+  pub lines : AreInRange s.nodes s.lines

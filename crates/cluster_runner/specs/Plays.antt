@@ -1,11 +1,11 @@
 -- A script played: its lines are taken in order, and the calls of each line are made one after the other.
-use Rattle.std.specs.Prelude.{◌≡◌, ℕ, zero, suc, ◌+◌, ◌-◌, ◌==◌, ◌&&◌, ◌||◌, Bool, true, false, List, [], ◌∷◌, ◌++◌, map, filter, replicate, slice_index_or, slice_set, is_none, Option, Some, None, if◌then◌else◌}
+use Rattle.std.specs.Prelude.{◌≡◌, ℕ, zero, suc, ◌+◌, ◌-◌, ◌==◌, ◌&&◌, Bool, true, false, List, [], ◌∷◌, ◌++◌, map, filter, replicate, slice_index_or, slice_set, is_none, Option, Some, None, if◌then◌else◌}
 use Rattle.std.specs.List.{list_any}
 use Rattle.journal_core.specs.declared.request.Request.{Request}
 use Rattle.node_world.specs.declared.node_ask.NodeAsk.{NodeAsk}
 use Rattle.node_world.specs.declared.node_ask.NodeAsk.TheVariants.{Act}
 use Rattle.node_world.specs.declared.node_ask.NodeAnswer.{NodeAnswer}
-use Rattle.node_world.specs.declared.node_ask.NodeAnswer.TheVariants.{Replied, Stopped, Done, Idle, NotOpened}
+use Rattle.node_world.specs.declared.node_ask.NodeAnswer.TheVariants.{Replied, Done}
 use Rattle.node_world.specs.declared.history_line.HistoryLine.{HistoryLine}
 use Rattle.node_world.specs.declared.record.Record.{Record}
 use Rattle.node_world.specs.declared.record.Record.TheVariants.{Call, Late, Operator, Outcome}
@@ -20,7 +20,9 @@ use Rattle.mesh.specs.declared.whole.Mesh.{Mesh}
 use Rattle.mesh.specs.declared.end.End.{End}
 use Rattle.mesh.specs.Marks.{next_number}
 use Rattle.script_text.specs.Views.{ScriptView}
-use Rattle.cluster_runner.specs.Lines.{Deed, Line, Declares, Acts, Operates, lines_of, declared}
+pub use Rattle.cluster_runner.specs.declared.delivery.Delivery.{Delivery}
+pub use Rattle.cluster_runner.specs.declared.delivery.Delivery.TheVariants.{Delivered, ReplyLost, NotDelivered}
+use Rattle.cluster_runner.specs.Lines.{Line, Declares, Acts, Operates, lines_of, declared}
 use Rattle.cluster_runner.specs.Actor.{Actor, fresh_actor, handed, Want, WantsCall, WantsCopy, Says, Rests, wants, goes_on}
 
 pub record Play : Type 0 where
@@ -60,11 +62,6 @@ unfoldable pub noted : ℕ → Record → Play → Play
 noted c r p = record p { actors = slice_set p.actors c (goes_on (actor_at p c) r) }
 
 -- ## How a call goes, by the actor's marks: a call that is marked twice is dropped
-pub data Delivery : Type 0 where
-  Delivered : Delivery
-  ReplyLost : Delivery
-  NotDelivered : Delivery
-
 unfoldable pub same_kind : MarkKind → MarkKind → Bool
 same_kind kind.Dropped kind.Dropped = true
 same_kind kind.Muted kind.Muted = true

@@ -8,8 +8,8 @@ use Rattle.writer_core.specs.Views.{WriterView}
 use Rattle.writer_core.specs.Left.{IsLive}
 use Rattle.mesh.specs.Sized.{Sized}
 use Rattle.writer_core.specs.Writer.{next_call, is_under_way}
-use Rattle.cluster_runner.specs.Lines.{Line, Does}
-use Rattle.cluster_runner.specs.Kept.{Kept, KeptActor, actor_of, IsAtRest, IsInTurn, IsAfterTurn, LeadsTo}
+use Rattle.cluster_runner.specs.Lines.{Line}
+use Rattle.cluster_runner.specs.Kept.{Kept, actor_of, IsAtRest, IsInTurn, IsAfterTurn, LeadsTo}
 use Rattle.cluster_runner.specs.ResultLists.{TurnFits}
 
 -- each call is of a node from 1 on, up to this one

@@ -1,6 +1,6 @@
 -- The result lines of a script line.
 use Rattle.std.specs.Prelude.{ℕ, ◌+◌, List, [], ◌∷◌, ◌++◌, map, codes, decimal}
-use Rattle.journal_core.specs.Texts.{refusal_cause_text}
+use Rattle.request_text.specs.Texts.{refusal_cause_text}
 use Rattle.writer_core.specs.declared.task.Task.{Task}
 use Rattle.writer_core.specs.declared.task.Task.TheVariants as task
 use Rattle.writer_core.specs.declared.cause.Cause.{Cause}

@@ -1,69 +1,160 @@
 // The nodes and the actors of a play.
-ghost use Rattle.std.specs.Prelude.{◌≡◌, ◌≤◌, ◌<◌, ◌+◌, ◌-◌, ◌++◌, ◌∷◌, [], OnOk, IfOk, length, ℕ, List, map, Some, None, true, slice_index_or, slice_set};
-ghost use Rattle.cluster_runner.specs.declared.player.Player.{Player};
+ghost use Rattle.std.specs.Prelude.{◌≡◌, ◌≤◌, ◌<◌, ◌+◌, ◌-◌, ◌++◌, ◌∷◌, [], OnOk, IfOk, length, ℕ, List, map, Some, None, true, slice_index_or, slice_set, replicate};
+ghost use Rattle.journal_core.specs.Limits.{max_number};
+ghost use Rattle.node_world.specs.declared.mark.MarkKind.TheVariants as kind;
+ghost use Rattle.node_world.specs.declared.record.Record.{Record};
+ghost use Rattle.node_world.specs.NodeCells.{new_cell};
 ghost use Rattle.writer_core.specs.Writer.{next_call, writer_begun, HasBody, is_under_way};
-ghost use Rattle.writer_core.specs.Left.{calls_left};
-ghost use Rattle.cluster_runner.specs.Kept.{new_kept, with_actor, with_writer, actor_of, said, mesh_kept, ends_kept};
-ghost use Rattle.cluster_runner.specs.Shown.{kept, kept_actor, IsNextCall};
-ghost use Rattle.cluster_runner.specs.Ready.{CallsWithin, AreReady, GoesOn};
+ghost use Rattle.cluster_runner.specs.Plays.{told_of, is_done};
+ghost use Rattle.cluster_runner.specs.Kept.{new_kept, with_actor, with_writer, actor_of, said, lost, late, operates, mesh_kept, ends_kept, reached_by, told_by, cell_copied, actor_copied, earlier_call};
+ghost use Rattle.cluster_runner.specs.Shown.{PlayerView};
+ghost use Rattle.cluster_runner.specs.Called.{kept, IsNextCall};
+ghost use Rattle.mesh.specs.Sized.{Sized};
+ghost use Rattle.cluster_runner.specs.Ready.{AreReady, GoesOn};
 
-use crate::player::Player;
-use crate::site::Site;
-use journal_core::{Bytes, OutOfMemory};
+use crate::delivery::Delivery;
+use crate::player::{Left, Player};
+use crate::results::no_call;
+use journal_core::{Bytes, OutOfMemory, PlainNode, SharedRequest};
 use mesh::{End, EndList, HistoryTable, Mesh, RecordTable};
-use node_world::{ActorPlan, Plan, RecordList};
+use node_world::{NodeAnswer, NodeAsk, NodeCell, Plan, Record, RecordList, Told};
 use std::alloc::Global;
 use std::marker::Model;
 use writer_core::{Begun, Cause, Task, Turn};
 
-/// The nodes and the actors of a play. Contracts see what is kept of the play.
+/// The nodes and the actors of a play, and the operator's number and record. Contracts see what is kept of the play.
 #[derive(Drop)]
 pub(crate) struct Cluster {
-    sites: Vec<Site>,
+    cells: Vec<NodeCell<PlainNode>>,
     players: Vec<Player>,
+    operator: u32,
+    operated: RecordList,
 }
 
 impl Model for Cluster {
     ghost use Rattle.cluster_runner.specs.Kept.{Kept};
-    ghost use Rattle.cluster_runner.specs.Shown.{kept};
+    ghost use Rattle.cluster_runner.specs.Called.{kept};
 
     ghost Value = { Kept };
 
-    ghost view = { λ c. kept c.sites.items c.players.items };
+    ghost view = { λ c. kept c.cells.items c.players.items c.operator c.operated };
+}
+
+/// What is told of a call that a node answered so.
+#[tactic(auto, unfolding(crate::specs::Plays::told_of))]
+fn told_of(answer: NodeAnswer) -> Told
+    ensures { result ≡ told_of Delivery.Delivered answer }
+{
+    match answer {
+        NodeAnswer::Replied(reply) => Told::Reply(reply),
+        NodeAnswer::Stopped { keep: _ } => Told::Silent,
+        NodeAnswer::Done => Told::Silent,
+        NodeAnswer::Idle => Told::Silent,
+        NodeAnswer::NotOpened(_) => Told::Silent,
+    }
+}
+
+/// The call reaches the node, where it is delivered; what its caller is told.
+#[tactic(auto, unfolding(crate::specs::Plays::told_of))]
+fn deliver(
+    alloc: Global,
+    cell: &mut NodeCell<PlainNode>,
+    delivery: Delivery,
+    caller: u32,
+    request: &SharedRequest,
+) -> Result<Told, OutOfMemory>
+    ensures told { IfOk result (λ told. told ≡ told_by delivery cell.old request.now) }
+    ensures cell { OnOk result (cell.new ≡ reached_by delivery cell.old caller request.now) }
+{
+    if delivery == Delivery::NotDelivered {
+        return Ok(Told::Dropped);
+    }
+    let ask = NodeAsk::Act {
+        late: false,
+        request: request.share()?,
+    };
+    let answer = cell.take(alloc, caller, ask)?;
+    if delivery == Delivery::ReplyLost {
+        return Ok(Told::Muted);
+    }
+    Ok(told_of(answer))
 }
 
 /// Makes the actor's next call, if there is one, and hears it.
 fn call(
     alloc: Global,
-    sites: &mut [Site],
+    cells: &mut [NodeCell<PlainNode>],
     player: &mut Player,
     actor: u32,
 ) -> Result<Option<Turn>, OutOfMemory>
-    requires { CallsWithin (length sites.old) player.old.writer.view }
-    ensures { IfOk result (λ o. (players : List Player) (d : Player) → player.old ≡ slice_index_or players actor d → actor < length players
-        → IsNextCall actor (kept sites.old players) (kept sites.new (slice_set players actor player.new)) o) }
+    requires { Sized (length cells.old) player.old.actor.writer }
+    ensures { IfOk result (λ o. (players : List PlayerView) (d : PlayerView) (operator : ℕ) (operated : List Record) → player.old ≡ slice_index_or players actor d → actor < length players
+        → IsNextCall actor (kept cells.old players operator operated) (kept cells.new (slice_set players actor player.new) operator operated) o) }
 {
-    let Some((node, request)) = player.writer.next(alloc)? else {
+    let Some((node, request)) = player.next(alloc)? else {
         return Ok(None);
     };
-    let reply = sites[node - 1].answer(alloc, actor, &request)?;
-    let turn = player.hear(alloc, node, request, reply)?;
+    let delivery = player.delivery(node)?;
+    let told = deliver(alloc, &mut cells[node - 1], delivery, actor, &request)?;
+    let turn = player.hear(alloc, node, request, told)?;
     Ok(Some(turn))
 }
 
-/// The histories of these nodes.
-fn histories_of(alloc: Global, sites: Vec<Site>) -> Result<HistoryTable, OutOfMemory>
-    ensures { IfOk result (λ table. table ≡ map (λ s. s.history) sites.items) }
+/// A copy of the actor's `call`-th call to this node reaches the cell, if there was such a call.
+fn copy_call(
+    alloc: Global,
+    cell: &mut NodeCell<PlainNode>,
+    player: &mut Player,
+    actor: u32,
+    node: usize,
+    call: u64,
+) -> Result<(), OutOfMemory>
+    requires low { 1 ≤ node }
+    requires high { node ≤ length player.old.actor.writer.left }
+    requires from_one { 1 ≤ call }
+    ensures cell { OnOk result (cell.new ≡ cell_copied (earlier_call player.old.actor node call) cell.old actor) }
+    ensures actor { OnOk result (player.new.actor ≡ actor_copied (earlier_call player.old.actor node call) player.old.actor node call) }
 {
-    let mut histories = Vec::with_capacity(alloc, sites.len())?;
-    for site in sites {
-        let Site { node: _, history } = site;
+    match player.earlier(node, call)? {
+        Some(request) => {
+            let ask = NodeAsk::Act {
+                late: true,
+                request: request.share()?,
+            };
+            let _ = cell.take(alloc, actor, ask)?;
+            player.copy(node, call, request)
+        }
+        None => player.say(no_call(alloc)?),
+    }
+}
+
+/// The kill, the restart or the arming took place.
+#[tactic(auto, unfolding(crate::specs::Plays::is_done))]
+fn is_done(answer: &NodeAnswer) -> bool
+    ensures { result ≡ is_done answer.now }
+{
+    match answer {
+        NodeAnswer::Done => true,
+        NodeAnswer::Replied(_) => false,
+        NodeAnswer::Stopped { keep: _ } => false,
+        NodeAnswer::Idle => false,
+        NodeAnswer::NotOpened(_) => false,
+    }
+}
+
+/// The histories of these nodes.
+fn histories_of(alloc: Global, cells: Vec<NodeCell<PlainNode>>) -> Result<HistoryTable, OutOfMemory>
+    ensures { IfOk result (λ table. table ≡ map (λ v. v.history) cells.items) }
+{
+    let mut histories = Vec::with_capacity(alloc, cells.len())?;
+    for cell in cells {
+        let (_, history) = cell.into_parts();
         histories.push(history)?;
     }
     Ok(HistoryTable::of(histories))
 }
 
-/// What is left of the actors: their ends, their records, and as many plans without marks.
+/// What is left of the actors: their ends, their records, and their marks.
 #[derive(Drop)]
 struct Lists {
     ends: EndList,
@@ -73,22 +164,18 @@ struct Lists {
 
 /// What these actors leave.
 fn lists_of(alloc: Global, players: Vec<Player>) -> Result<Lists, OutOfMemory>
-    ensures ends { IfOk result (λ l. l.ends ≡ map (λ p. record { name = p.name }) players.items) }
-    ensures records { IfOk result (λ l. l.records.items ≡ map (λ p. p.past) players.items) }
-    ensures plan { IfOk result (λ l. l.plan ≡ map (λ p. []) players.items) }
+    ensures ends { IfOk result (λ l. l.ends ≡ map (λ p. record { name = p.actor.name }) players.items) }
+    ensures records { IfOk result (λ l. l.records.items ≡ map (λ p. p.actor.past) players.items) }
+    ensures plan { IfOk result (λ l. l.plan ≡ map (λ p. p.actor.marks) players.items) }
 {
     let mut ends = EndList::new(alloc);
     let mut records = Vec::with_capacity(alloc, players.len() + 1)?;
     let mut plan = Plan::new(alloc);
     for player in players {
-        let Player {
-            name,
-            writer: _,
-            past,
-        } = player;
+        let Left { name, past, marks } = player.into_left();
         ends.push(End { name })?;
         records.push(past)?;
-        plan.push(ActorPlan::new(alloc))?;
+        plan.push(marks)?;
     }
     Ok(Lists {
         ends,
@@ -98,18 +185,20 @@ fn lists_of(alloc: Global, players: Vec<Player>) -> Result<Lists, OutOfMemory>
 }
 
 impl Cluster {
-    /// That many fresh nodes, and no actors.
-    #[tactic(auto, using(crate::proofs::ClusterLaws::fresh_more))]
-    pub(crate) fn new(alloc: Global, nodes: usize) -> Result<Cluster, OutOfMemory>
-        ensures { IfOk result (λ cluster. cluster ≡ new_kept nodes) }
+    /// That many fresh nodes, no actors, and an operator of this number.
+    #[tactic(auto, using(crate::proofs::ClusterLaws::replicated_more))]
+    pub(crate) fn new(alloc: Global, nodes: usize, operator: u32) -> Result<Cluster, OutOfMemory>
+        ensures { IfOk result (λ cluster. cluster ≡ new_kept nodes operator) }
     {
-        let mut sites = Vec::with_capacity(alloc, nodes)?;
+        let mut cells = Vec::with_capacity(alloc, nodes)?;
         for _ in 0..nodes {
-            sites.push(Site::new(alloc))?;
+            cells.push(NodeCell::new(alloc, PlainNode::new(alloc)))?;
         }
         Ok(Cluster {
-            sites,
+            cells,
             players: Vec::new(alloc),
+            operator,
+            operated: RecordList::new(alloc),
         })
     }
 
@@ -118,7 +207,7 @@ impl Cluster {
     pub(crate) fn declare(&mut self, alloc: Global, name: &Bytes) -> Result<(), OutOfMemory>
         ensures { OnOk result (self.new ≡ with_actor self.old name.now) }
     {
-        let player = Player::new(alloc, name.share()?, self.sites.len())?;
+        let player = Player::new(alloc, name.share()?, self.cells.len())?;
         self.players.push(player)?;
         Ok(())
     }
@@ -130,18 +219,18 @@ impl Cluster {
         ensures begun { writer_begun (actor_of self.old actor).writer task ≡ record { writer = (actor_of self.new actor).writer; begun = result } }
         ensures others { self.new ≡ with_writer self.old actor (actor_of self.new actor).writer }
     {
-        self.players[actor as usize].writer.begin(task)
+        self.players[actor as usize].begin(task)
     }
 
     /// Makes the actor's next call, if there is one, and hears it.
     fn call_next(&mut self, alloc: Global, actor: u32) -> Result<Option<Turn>, OutOfMemory>
         requires there { actor < length self.old.actors }
-        requires within { CallsWithin (length self.old.nodes) (actor_of self.old actor).writer }
+        requires sized { Sized (length self.old.nodes) (actor_of self.old actor).writer }
         ensures { IfOk result (λ o. IsNextCall actor self.old self.new o) }
     {
         call(
             alloc,
-            &mut self.sites,
+            &mut self.cells,
             &mut self.players[actor as usize],
             actor,
         )
@@ -178,20 +267,107 @@ impl Cluster {
         requires { actor < length self.now.actors }
         ensures { result.now ≡ (actor_of self.now actor).writer.causes }
     {
-        self.players[actor as usize].writer.causes()
+        self.players[actor as usize].causes()
+    }
+
+    /// The actor's `call`-th next call to this node isn't delivered.
+    pub(crate) fn drop_next(
+        &mut self,
+        actor: u32,
+        node: usize,
+        call: u64,
+    ) -> Result<(), OutOfMemory>
+        requires there { actor < length self.old.actors }
+        requires sized { Sized (length self.old.nodes) (actor_of self.old actor).writer }
+        requires low { 1 ≤ node }
+        requires high { node ≤ length self.old.nodes }
+        requires from_one { 1 ≤ call }
+        requires in_range { call ≤ max_number }
+        ensures { OnOk result (self.new ≡ lost self.old actor node call kind.Dropped) }
+    {
+        self.players[actor as usize].drop_next(node, call)?;
+        Ok(())
+    }
+
+    /// The reply to the actor's `call`-th next call to this node is lost.
+    pub(crate) fn mute_next(
+        &mut self,
+        actor: u32,
+        node: usize,
+        call: u64,
+    ) -> Result<(), OutOfMemory>
+        requires there { actor < length self.old.actors }
+        requires sized { Sized (length self.old.nodes) (actor_of self.old actor).writer }
+        requires low { 1 ≤ node }
+        requires high { node ≤ length self.old.nodes }
+        requires from_one { 1 ≤ call }
+        requires in_range { call ≤ max_number }
+        ensures { OnOk result (self.new ≡ lost self.old actor node call kind.Muted) }
+    {
+        self.players[actor as usize].mute_next(node, call)?;
+        Ok(())
+    }
+
+    /// A copy of the actor's `call`-th call to this node reaches it now; its reply goes to nobody. Where there is no such call
+    /// that is the actor's result.
+    pub(crate) fn copy_late(
+        &mut self,
+        alloc: Global,
+        actor: u32,
+        node: usize,
+        call: u64,
+    ) -> Result<(), OutOfMemory>
+        requires there { actor < length self.old.actors }
+        requires sized { Sized (length self.old.nodes) (actor_of self.old actor).writer }
+        requires low { 1 ≤ node }
+        requires high { node ≤ length self.old.nodes }
+        requires from_one { 1 ≤ call }
+        ensures { OnOk result (self.new ≡ late self.old actor node call) }
+    {
+        copy_call(
+            alloc,
+            &mut self.cells[node - 1],
+            &mut self.players[actor as usize],
+            actor,
+            node,
+            call,
+        )?;
+        Ok(())
+    }
+
+    /// The operator does this to the node.
+    pub(crate) fn operate(
+        &mut self,
+        alloc: Global,
+        node: usize,
+        ask: NodeAsk,
+    ) -> Result<(), OutOfMemory>
+        requires low { 1 ≤ node }
+        requires high { node ≤ length self.old.nodes }
+        ensures { OnOk result (self.new ≡ operates self.old node ask) }
+    {
+        let listed = ask.share()?;
+        let answer = self.cells[node - 1].take(alloc, self.operator, listed)?;
+        let done = is_done(&answer);
+        self.operated.push(Record::Operator { node, ask, done })?;
+        Ok(())
     }
 
     /// The mesh of all lists, and the actors' ends.
-    #[tactic(auto, using(crate::proofs::ClusterLaws::mesh_is))]
     pub(crate) fn into_lists(self, alloc: Global) -> Result<(Mesh, EndList), OutOfMemory>
         ensures mesh { IfOk result (λ lists. lists.0 ≡ mesh_kept self) }
         ensures ends { IfOk result (λ lists. lists.1 ≡ ends_kept self) }
     {
-        let Cluster { sites, players } = self;
-        let nodes = sites.len();
-        let histories = histories_of(alloc, sites)?;
+        let Cluster {
+            cells,
+            players,
+            operator: _,
+            operated,
+        } = self;
+        let nodes = cells.len();
+        let histories = histories_of(alloc, cells)?;
         let mut lists = lists_of(alloc, players)?;
-        lists.records.push(RecordList::new(alloc))?;
+        lists.records.push(operated)?;
         let mesh = Mesh {
             nodes,
             histories,

@@ -1,13 +1,15 @@
 //! Plays of scripts: nodes and actors in memory, taken through a script's lines in order; what a play is, and what holds of every play.
 #![tactic(auto)]
 
+mod calls_to;
 mod cluster;
+mod delivery;
 mod examples;
 mod laws;
+mod other_line;
 mod played;
 mod player;
 mod results;
-mod site;
 mod task_line;
 
 pub use examples::{

@@ -1,15 +1,17 @@
 // Scripts are played.
-ghost use Rattle.std.specs.Prelude.{◌≡◌, ◌≤◌, IfOk, OnOk, length, map, drop};
+ghost use Rattle.std.specs.Prelude.{◌≡◌, ◌≤◌, ◌<◌, ◌^◌, ◌∷◌, [], IfOk, OnOk, length, map, drop};
 ghost use Rattle.script_text.specs.declared.script_line.ScriptLine.{ScriptLine};
-ghost use Rattle.cluster_runner.specs.Lines.{line_of, lines_of, IsPlayable};
+ghost use Rattle.cluster_runner.specs.Lines.{line_of, lines_of, declared, IsPlayable, NumbersFit};
 ghost use Rattle.cluster_runner.specs.Kept.{IsPlayed, mesh_kept, ends_kept};
 ghost use Rattle.cluster_runner.specs.Ready.{IsIdle, TakesLine};
 ghost use Rattle.cluster_runner.specs.Goal.{MayTake, actors_after, IsUnderWay};
 
 use crate::cluster::Cluster;
+use crate::other_line::{take_drop, take_late, take_mute, take_operation};
 use crate::task_line::take_task;
 use journal_core::OutOfMemory;
 use mesh::{EndList, Mesh};
+use node_world::NodeAsk;
 use script_text::{Script, ScriptLine};
 use std::alloc::Global;
 use writer_core::Task;
@@ -25,25 +27,79 @@ pub struct Played {
 #[tactic(auto, using(crate::proofs::PlayLaws::takes))]
 fn take_line(alloc: Global, cluster: &mut Cluster, line: &ScriptLine) -> Result<(), OutOfMemory>
     requires idle { IsIdle cluster.old }
-    requires may { MayTake (length cluster.old.actors) line.now }
+    requires may { MayTake (length cluster.old.nodes) (length cluster.old.actors) line.now }
     ensures { OnOk result (TakesLine (line_of line.now) (actors_after (length cluster.old.actors) line.now) cluster.old cluster.new) }
 {
     match line {
         ScriptLine::Declare { name } => cluster.declare(alloc, name),
         ScriptLine::Takeover { actor } => take_task(alloc, cluster, *actor, Task::Takeover),
+        ScriptLine::Roll { actor } => take_task(alloc, cluster, *actor, Task::Roll),
+        ScriptLine::Close { actor } => take_task(alloc, cluster, *actor, Task::Close),
         ScriptLine::Log { actor, bodies } => {
             take_task(alloc, cluster, *actor, Task::Log(bodies.share(alloc)?))
         }
+        ScriptLine::Purge { actor, min } => {
+            take_task(alloc, cluster, *actor, Task::Purge { min: *min })
+        }
+        ScriptLine::Drop { actor, node, call } => take_drop(cluster, *actor, *node, *call),
+        ScriptLine::Mute { actor, node, call } => take_mute(cluster, *actor, *node, *call),
+        ScriptLine::Late { actor, node, call } => take_late(alloc, cluster, *actor, *node, *call),
+        ScriptLine::Kill { node } => take_operation(alloc, cluster, *node, NodeAsk::Kill),
+        ScriptLine::Restart { node } => take_operation(alloc, cluster, *node, NodeAsk::Restart),
+        ScriptLine::Arm { node, calls, stop } => take_operation(
+            alloc,
+            cluster,
+            *node,
+            NodeAsk::Arm {
+                calls: *calls,
+                stop: *stop,
+            },
+        ),
     }
+}
+
+/// How many actors the line declares.
+#[tactic(auto, unfolding(crate::specs::Lines::declared))]
+fn declarations(line: &ScriptLine) -> u32
+    ensures { result ≡ declared (line_of line.now ∷ []) }
+{
+    match line {
+        ScriptLine::Declare { name: _ } => 1,
+        ScriptLine::Takeover { .. } => 0,
+        ScriptLine::Roll { .. } => 0,
+        ScriptLine::Close { .. } => 0,
+        ScriptLine::Log { .. } => 0,
+        ScriptLine::Purge { .. } => 0,
+        ScriptLine::Drop { .. } => 0,
+        ScriptLine::Mute { .. } => 0,
+        ScriptLine::Late { .. } => 0,
+        ScriptLine::Kill { .. } => 0,
+        ScriptLine::Restart { .. } => 0,
+        ScriptLine::Arm { .. } => 0,
+    }
+}
+
+/// How many actors the lines declare.
+fn actors_in(lines: &[ScriptLine]) -> u32
+    requires { declared (map line_of lines.now) < 2 ^ 32 }
+    ensures { result ≡ declared (map line_of lines.now) }
+{
+    let mut actors = 0;
+    for line in lines {
+        actors += declarations(line);
+    }
+    actors
 }
 
 /// Plays a script in order, each line with all its calls, over fresh nodes in memory.
 #[tactic(auto, using(crate::proofs::PlayLaws::plays))]
 pub fn play(alloc: Global, script: &Script) -> Result<Played, OutOfMemory>
-    requires { IsPlayable script.now }
+    requires playable { IsPlayable script.now }
+    requires numbers { NumbersFit script.now }
     ensures { IfOk result (λ played. IsPlayed script.now.nodes (lines_of script.now) played.mesh played.ends) }
 {
-    let mut cluster = Cluster::new(alloc, script.nodes())?;
+    let operator = actors_in(script.lines());
+    let mut cluster = Cluster::new(alloc, script.nodes(), operator)?;
     for line in script.lines() {
         take_line(alloc, &mut cluster, line)?;
     }

@@ -1,10 +1,12 @@
 // The result lines of a script line.
 ghost use Rattle.std.specs.Prelude.{◌≡◌, ◌++◌, ◌∷◌, [], ◌+◌, ◌≤◌, ◌<◌, ◌≢◌, OnOk, IfOk, List, ℕ, replicate, codes, decimal};
 ghost use Rattle.journal_core.specs.Limits.{max_number};
-ghost use Rattle.cluster_runner.specs.Results.{word, cause_word, cause_words};
+ghost use Rattle.cluster_runner.specs.Results.{word, cause_word, cause_words, late_none};
 ghost use Rattle.cluster_runner.specs.ResultLists.{acked_texts, aborted_text, times, done_texts, texts_of, OutcomeFits, TurnFits, AreFew};
 
-use journal_core::{Bytes, OutOfMemory, print_cause, print_number};
+use journal_core::{Bytes, OutOfMemory};
+use qj_num::put_decimal;
+use request_text::print_cause;
 use std::alloc::Global;
 use writer_core::{Cause, Outcome, Turn};
 
@@ -27,7 +29,7 @@ fn numbered(alloc: Global, name: &[u8], number: u64) -> Result<Bytes, OutOfMemor
     let mut text = Vec::new(alloc);
     text.extend_from_slice(name)?;
     text.push(b' ')?;
-    print_number(number, &mut text)?;
+    put_decimal(&mut text, number)?;
     bytes_of(alloc, &text)
 }
 
@@ -108,9 +110,9 @@ fn numbered_twice(alloc: Global, name: &[u8], first: u64, second: u64) -> Result
     let mut text = Vec::new(alloc);
     text.extend_from_slice(name)?;
     text.push(b' ')?;
-    print_number(first, &mut text)?;
+    put_decimal(&mut text, first)?;
     text.push(b' ')?;
-    print_number(second, &mut text)?;
+    put_decimal(&mut text, second)?;
     bytes_of(alloc, &text)
 }
 
@@ -197,4 +199,12 @@ pub(crate) fn too_long(
     ensures { IfOk result (λ texts. texts.items ≡ times edits (word (codes "toolong") number)) }
 {
     for_each(alloc, edits, numbered(alloc, b"toolong", number)?)
+}
+
+/// The result of a late copy of no call.
+#[tactic(auto, unfolding(crate::specs::Results::late_none))]
+pub(crate) fn no_call(alloc: Global) -> Result<Vec<Bytes>, OutOfMemory>
+    ensures { IfOk result (λ texts. texts.items ≡ late_none ∷ []) }
+{
+    once(alloc, bytes_of(alloc, b"late none")?)
 }

@@ -8,8 +8,8 @@ use Rattle.script_text.specs.Rules.{fault_of}
 use Rattle.qj_cli.specs.declared.status.Status.{Status}
 use Rattle.qj_cli.specs.declared.status.Status.TheVariants as status
 use Rattle.qj_cli.specs.Usage.{usage_of}
-use Rattle.qj_cli.specs.Report.{IsReport}
-use Rattle.qj_cli.specs.Due.{due, due_by_rules, error_line, failed, IsDue, IsText, IsReadOut, IsOutcome, AreTold, Says, Ended, Ends, Writes, CameOf}
+use Rattle.qj_cli.specs.Report.{IsPrinted, HasLongReport}
+use Rattle.qj_cli.specs.Due.{due, due_by_rules, error_line, failed, IsDueOf, IsPlayedTo, IsDue, IsText, IsReadOut, IsOutcome, AreTold, Says, Ended, Ends, Writes, CameOf}
 
 -- ## What is due
 no_fewer : (m n : ℕ) → n ≤ m → nat_lt m n ≡ false
@@ -31,10 +31,12 @@ due_usage : (words : List (List ℕ)) (bytes : List ℕ) (place : ℕ) → usage
 unfolding due
 due_usage words bytes place u = rw u refl
 
-is_due : (words : List (List ℕ)) (told left : Option (List ℕ)) (bytes : List ℕ) (o : Option (ℕ × ℕ)) → GivesAll told left bytes
-    → usage_of words ≡ None → length bytes ≤ 1048576 → fault_of bytes ≡ o → IsDue words told (due_by_rules o)
-is_due words None left bytes o all u l f = tt
-is_due words (Some told) left bytes o all u l f = subst (λ x. due_by_rules o ≡ due words x) all.0 (due_of words bytes o u l f)
+-- what is due of the bytes that were read is due of those that were told
+is_due : (words : List (List ℕ)) (told left : Option (List ℕ)) (bytes : List ℕ) (o : Option (ℕ × ℕ)) (s : Status) → GivesAll told left bytes
+    → usage_of words ≡ None → length bytes ≤ 1048576 → fault_of bytes ≡ o → IsDueOf (due_by_rules o) bytes s → IsDue words told s
+is_due words None left bytes o s all u l f d = tt
+is_due words (Some told) left bytes o s all u l f d =
+    subst (λ x. IsDueOf (due words x) x s) all.0 (subst (λ x. IsDueOf x bytes s) (due_of words bytes o u l f) d)
 
 are_told : (told left : Option (List ℕ)) (bytes : List ℕ) → GivesAll told left bytes → AreTold told bytes
 are_told None left bytes all = tt
@@ -56,7 +58,7 @@ said words (Some told) s text h = (told, refl, h told)
 pub played : (words : List (List ℕ)) (told left : Option (List ℕ)) (bytes : List ℕ) (f g : ℕ) (s : Status) (text : List ℕ)
     → GivesAll told left bytes → length bytes ≤ 1048576 → g ≡ f → usage_of words ≡ None → IsOutcome bytes s text → Ended words told left f g s text
 played words told left bytes f g status.Ok text all l same u h = record {
-  due = λ a b. is_due words told left bytes None all u l h.0;
+  due = λ a b. is_due words told left bytes None status.Ok all u l h.0 (inl refl);
   text_is = (bytes, are_told told left bytes all, h.1);
   usage = λ e. absurd (cc e);
   only_usage = λ n m. absurd (n u);
@@ -66,7 +68,7 @@ played words told left bytes f g status.Ok text all l same u h = record {
   unwritten = λ e. cc e;
 }
 played words told left bytes f g status.BadScript text all l same u h = record {
-  due = λ a b. is_due words told left bytes (Some (h.0, h.1)) all u l h.2;
+  due = λ a b. is_due words told left bytes (Some (h.0, h.1)) status.BadScript all u l h.2 refl;
   text_is = (bytes, are_told told left bytes all, h);
   usage = λ e. absurd (cc e);
   only_usage = λ n m. absurd (n u);
@@ -76,20 +78,29 @@ played words told left bytes f g status.BadScript text all l same u h = record {
   unwritten = λ e. cc e;
 }
 played words told left bytes f g status.Usage text all l same u h = absurd h
-played words told left bytes f g status.Limit text all l same u h = absurd h
+played words told left bytes f g status.Limit text all l same u h = record {
+  due = λ a b. is_due words told left bytes None status.Limit all u l h.0 (inr (refl, h.1.1));
+  text_is = (bytes, are_told told left bytes all, inr h.1);
+  usage = λ e. absurd (cc e);
+  only_usage = λ n m. absurd (n u);
+  read_out = λ e. absurd (cc e);
+  read_fault = λ e. absurd (cc e);
+  no_read_fault = λ a b. same;
+  unwritten = λ e. cc e;
+}
 played words told left bytes f g status.ReadFault text all l same u h = absurd h
 played words told left bytes f g status.WriteFault text all l same u h = absurd h
 played words told left bytes f g status.OutOfMemory text all l same u h = absurd h
 
 limit_due : (words : List (List ℕ)) (told : Option (List ℕ)) → usage_of words ≡ None → IfSome told (λ bytes. 1048576 < length bytes) → IsDue words told status.Limit
 limit_due words None u h = tt
-limit_due words (Some told) u h = due_limit words told u h
+limit_due words (Some told) u h = subst (λ x. IsDueOf x told status.Limit) (due_limit words told u h) refl
 
 pub too_long : (words : List (List ℕ)) (told left : Option (List ℕ)) (f g : ℕ) (s : Status) (text : List ℕ)
     → IfSome told (λ bytes. 1048576 < length bytes) → g ≡ f → usage_of words ≡ None → s ≡ status.Limit → text ≡ error_line (codes "Limit 1048576") → Ended words told left f g s text
 too_long words told left f g s text h same u e t = subst (λ x. Ended words told left f g x text) (sym e) (record {
   due = λ a b. limit_due words told u h;
-  text_is = said words told status.Limit text (λ bytes. t);
+  text_is = said words told status.Limit text (λ bytes. inl t);
   usage = λ e. absurd (cc e);
   only_usage = λ n m. absurd (n u);
   read_out = λ e. absurd (cc e);
@@ -113,7 +124,7 @@ unread words told left f g s text rose u e t = subst (λ x. Ended words told lef
 
 usage_due : (words : List (List ℕ)) (told : Option (List ℕ)) (place : ℕ) → usage_of words ≡ Some place → IsDue words told status.Usage
 usage_due words None place u = tt
-usage_due words (Some told) place u = due_usage words told place u
+usage_due words (Some told) place u = subst (λ x. IsDueOf x told status.Usage) (due_usage words told place u) refl
 
 pub unusual : (words : List (List ℕ)) (told : Option (List ℕ)) (f place : ℕ) (text : List ℕ)
     → usage_of words ≡ Some place → text ≡ error_line (codes "Usage " ++ decimal place) → Ended words told told f f status.Usage text

@@ -1,5 +1,5 @@
 -- What is known of a report.
-use Rattle.std.proofs.Common.{◌≡◌, ℕ, List, [], ◌∙◌, ap}
+use Rattle.std.proofs.Common.{◌≡◌, ◌≤◌, ℕ, List, [], length, sym, refl, subst, ◌∙◌, ap}
 use Rattle.node_world.specs.Moving.{moving_of}
 use Rattle.node_world.specs.Run.{IsRun}
 use Rattle.node_world.specs.Laws.{EveryRunIsSafe}
@@ -12,7 +12,13 @@ use Rattle.cluster_runner.specs.Plays.{mesh_of, ends_of}
 use Rattle.cluster_runner.specs.Kept.{IsPlayed}
 use Rattle.cluster_runner.specs.Laws.{PlaysAgree, PlaysFollow, PlaysAreRuns}
 use Rattle.report_text.specs.Text.{text_of}
-use Rattle.qj_cli.specs.Report.{IsReport}
+use Rattle.report_text.specs.declared.answer.Report.{Report}
+use Rattle.report_text.specs.declared.answer.Report.TheVariants.{Text, TooLong}
+use Rattle.report_text.specs.Limit.{longest_report, Reports}
+use Rattle.script_text.specs.Laws.{TextIsOfOneScript}
+use Rattle.cluster_runner.specs.Plays.{Play, Plays}
+use Rattle.cluster_runner.specs.Laws.{OnePlay}
+use Rattle.qj_cli.specs.Report.{IsReport, IsPrinted, HasLongReport, IsReportOf, ScriptsHaveOneReport}
 
 pub reported : (bytes text : List ℕ) (s : ScriptView) (m : Mesh) (ends : List End) → IsScriptText bytes s → IsPlayable s
     → IsPlayed s.nodes (lines_of s) m ends → text ≡ text_of m ends → PlaysAgree → PlaysFollow → PlaysAreRuns → EveryRunIsSafe → IsReport bytes text
@@ -29,3 +35,25 @@ reported bytes text s m ends reads playable played is agree follow run safe =
       run = moves;
       safe = safe s.nodes (moving_of played.play.trace) [] moves (λ e none. absurd none);
     }
+
+pub reported_as : (bytes : List ℕ) (r : Report) (s : ScriptView) (m : Mesh) (ends : List End) → IsScriptText bytes s → IsPlayable s
+    → IsPlayed s.nodes (lines_of s) m ends → Reports r (text_of m ends) → PlaysAgree → PlaysFollow → PlaysAreRuns → EveryRunIsSafe → IsReportOf bytes r
+reported_as bytes (Text text) s m ends reads playable played is agree follow run safe = record {
+  report = reported bytes text.items s m ends reads playable played is.0 agree follow run safe;
+  within = subst (λ t. length t ≤ longest_report) (sym is.0) is.1;
+}
+reported_as bytes TooLong s m ends reads playable played is agree follow run safe = record {
+  text = text_of m ends;
+  report = reported bytes (text_of m ends) s m ends reads playable played refl agree follow run safe;
+  longer = is;
+}
+
+-- ## One report
+same_text : (p q : Play) → p ≡ q → text_of (mesh_of p) (ends_of p) ≡ text_of (mesh_of q) (ends_of q)
+same_text p q e = ap (λ x. text_of (mesh_of x) (ends_of x)) e
+
+pub one_report : TextIsOfOneScript → OnePlay → ScriptsHaveOneReport
+one_report one_script one_play bytes a b f g =
+    let e : f.script ≡ g.script = one_script bytes f.script g.script f.reads g.reads in
+    let plays : Plays f.script g.play = subst (λ s. Plays s g.play) (sym e) g.plays in
+    f.printed ∙ same_text f.play g.play (one_play f.script f.play g.play f.plays plays) ∙ sym g.printed

@@ -7,7 +7,7 @@ use Rattle.script_text.specs.Rules.{fault_of}
 use Rattle.qj_cli.specs.declared.status.Status.{Status}
 use Rattle.qj_cli.specs.declared.status.Status.TheVariants as status
 use Rattle.qj_cli.specs.Usage.{usage_of}
-use Rattle.qj_cli.specs.Report.{IsReport}
+use Rattle.qj_cli.specs.Report.{IsPrinted, HasLongReport}
 
 -- ## The status that is due
 abbrev pub longest_script : ℕ
@@ -28,10 +28,15 @@ due_behind (Some place) bytes = status.Usage
 unfoldable pub due : List (List ℕ) → List ℕ → Status
 due words bytes = due_behind (usage_of words) bytes
 
+-- a script is played: Limit comes of it where its report is too long
+abbrev pub IsDueOf : Status → List ℕ → Status → Type 0
+IsDueOf status.Ok bytes s = (s ≡ status.Ok) ⊎ (s ≡ status.Limit) × HasLongReport bytes
+IsDueOf d bytes s = s ≡ d
+
 -- where the source told its bytes
 abbrev pub IsDue : List (List ℕ) → Option (List ℕ) → Status → Type 0
 IsDue words None s = Unit {0}
-IsDue words (Some bytes) s = s ≡ due words bytes
+IsDue words (Some bytes) s = IsDueOf (due words bytes) bytes s
 
 -- ## The text that is due
 abbrev pub error_line : List ℕ → List ℕ
@@ -39,14 +44,15 @@ error_line what = codes "error " ++ what ++ 10 ∷ []
 
 -- what a status says, of the words and of the bytes that were read
 abbrev pub Says : List (List ℕ) → List ℕ → Status → List ℕ → Type 0
-Says words bytes status.Ok text = IsReport bytes text
+Says words bytes status.Ok text = IsPrinted bytes text
 Says words bytes status.Usage text = (place : ℕ) × (usage_of words ≡ Some place) × (text ≡ error_line (codes "Usage " ++ decimal place))
 Says words bytes status.BadScript text =
     (line : ℕ) × (rule : ℕ) × (fault_of bytes ≡ Some (line, rule)) × (text ≡ error_line (codes "BadScript " ++ decimal line ++ 32 ∷ decimal rule))
-Says words bytes status.Limit text = text ≡ error_line (codes "Limit 1048576")
+Says words bytes status.Limit text =
+    (text ≡ error_line (codes "Limit 1048576")) ⊎ (text ≡ error_line (codes "Limit 268435456")) × HasLongReport bytes
 Says words bytes status.ReadFault text = text ≡ error_line (codes "ReadFault")
 Says words bytes status.OutOfMemory text = text ≡ error_line (codes "OutOfMemory")
-Says words bytes status.WriteFault text = IsReport bytes text
+Says words bytes status.WriteFault text = IsPrinted bytes text
 
 -- the bytes are those that the source told, where it told any
 abbrev pub AreTold : Option (List ℕ) → List ℕ → Type 0
@@ -56,9 +62,16 @@ AreTold (Some told) bytes = bytes ≡ told
 abbrev pub IsText : List (List ℕ) → Option (List ℕ) → Status → List ℕ → Type 0
 IsText words told s text = (bytes : List ℕ) × AreTold told bytes × Says words bytes s text
 
+-- what comes of a script's bytes
+abbrev pub IsPlayedTo : List ℕ → Status → List ℕ → Type 0
+IsPlayedTo bytes status.Ok text = IsPrinted bytes text
+IsPlayedTo bytes status.Limit text = (text ≡ error_line (codes "Limit 268435456")) × HasLongReport bytes
+IsPlayedTo bytes _ text = ⊥
+
 -- of so many bytes as a script may have
 abbrev pub IsOutcome : List ℕ → Status → List ℕ → Type 0
-IsOutcome bytes status.Ok text = (fault_of bytes ≡ None) × IsReport bytes text
+IsOutcome bytes status.Ok text = (fault_of bytes ≡ None) × IsPlayedTo bytes status.Ok text
+IsOutcome bytes status.Limit text = (fault_of bytes ≡ None) × IsPlayedTo bytes status.Limit text
 IsOutcome bytes status.BadScript text =
     (line : ℕ) × (rule : ℕ) × (fault_of bytes ≡ Some (line, rule)) × (text ≡ error_line (codes "BadScript " ++ decimal line ++ 32 ∷ decimal rule))
 IsOutcome bytes _ text = ⊥

@@ -1,5 +1,5 @@
 -- What the report of a script's bytes is.
-use Rattle.std.specs.Prelude.{ℕ, ◌≡◌, List, []}
+use Rattle.std.specs.Prelude.{ℕ, ◌≡◌, ◌<◌, ◌≤◌, List, [], length}
 use Rattle.node_world.specs.Moving.{moving_of}
 use Rattle.node_world.specs.Run.{IsRun}
 use Rattle.node_world.specs.Safe.{IsSafe}
@@ -9,6 +9,9 @@ use Rattle.script_text.specs.Grammar.{IsScriptText}
 use Rattle.cluster_runner.specs.Plays.{Play, Plays, mesh_of, ends_of}
 use Rattle.cluster_runner.specs.Follows.{FollowsScript}
 use Rattle.report_text.specs.Text.{text_of}
+use Rattle.report_text.specs.Limit.{longest_report}
+use Rattle.report_text.specs.declared.answer.Report.{Report}
+use Rattle.report_text.specs.declared.answer.Report.TheVariants.{Text, TooLong}
 
 -- The bytes are a script's, and the text is the report of the one play of that script. Its lists agree, and they are what the
 -- script's lines ask for. What moved its nodes is a run of the journal world, and a safe one. No actor has a namespace yet.
@@ -22,3 +25,23 @@ pub record IsReport (bytes text : List ℕ) : Type 0 where
   pub follows : FollowsScript script (mesh_of play) (ends_of play)
   pub run : IsRun script.nodes (moving_of play.trace)
   pub safe : IsSafe script.nodes (moving_of play.trace) []
+
+-- a report that is printed
+pub record IsPrinted (bytes text : List ℕ) : Type 0 where
+  pub report : IsReport bytes text
+  pub within : length text ≤ longest_report
+
+-- the bytes are a script's whose report is longer than a report may be
+pub record HasLongReport (bytes : List ℕ) : Type 0 where
+  pub text : List ℕ
+  pub report : IsReport bytes text
+  pub longer : longest_report < length text
+
+-- what is printed of the bytes of a script
+abbrev pub IsReportOf : List ℕ → Report → Type 0
+IsReportOf bytes (Text text) = IsPrinted bytes text.items
+IsReportOf bytes TooLong = HasLongReport bytes
+
+-- a text is one script's, and a script has one report
+abbrev pub ScriptsHaveOneReport : Type 0
+ScriptsHaveOneReport = (bytes a b : List ℕ) → IsReport bytes a → IsReport bytes b → a ≡ b

@@ -2,17 +2,18 @@
 ghost use Rattle.std.specs.Prelude.{◌≡◌, ◌≤◌, ◌++◌, ◌∷◌, ℕ, IfOk, None, codes, decimal, length, List};
 ghost use Rattle.script_text.specs.Grammar.{IsScript, IsScriptText};
 ghost use Rattle.qj_cli.specs.Usage.{usage_of, bytes_of};
-ghost use Rattle.qj_cli.specs.Due.{IsOutcome, Ended, error_line};
-ghost use Rattle.qj_cli.specs.Report.{IsReport};
+ghost use Rattle.qj_cli.specs.Due.{IsOutcome, IsPlayedTo, Ended, error_line};
+ghost use Rattle.qj_cli.specs.Report.{IsReportOf};
 
 use crate::laws::scripts_are_playable;
 use crate::status::Status;
 use crate::usage::usage_fault;
 use cluster_runner::{a_play_agrees, a_play_follows, a_play_is_a_run, play};
-use journal_core::{OutOfMemory, print_number};
+use journal_core::OutOfMemory;
 use node_world::laws::every_run_is_safe;
+use qj_num::put_decimal;
 use qj_outside::{Input, Source, read_all};
-use report_text::report_of;
+use report_text::{Report, report_of};
 use script_text::{ReadScript, Script, read_script, scripts_break_no_rule};
 use std::alloc::{AllocError, Global};
 
@@ -30,7 +31,7 @@ fn usage_line(alloc: Global, place: u64) -> Result<Vec<u8>, OutOfMemory>
     ensures { IfOk result (λ text. text.items ≡ error_line (codes "Usage " ++ decimal place)) }
 {
     let mut text = b"error Usage ".to_vec(alloc)?;
-    print_number(place, &mut text)?;
+    put_decimal(&mut text, place)?;
     text.push(b'\n')?;
     Ok(text)
 }
@@ -39,45 +40,11 @@ fn script_line(alloc: Global, line: u64, rule: u64) -> Result<Vec<u8>, OutOfMemo
     ensures { IfOk result (λ text. text.items ≡ error_line (codes "BadScript " ++ decimal line ++ 32 ∷ decimal rule)) }
 {
     let mut text = b"error BadScript ".to_vec(alloc)?;
-    print_number(line, &mut text)?;
+    put_decimal(&mut text, line)?;
     text.push(b' ')?;
-    print_number(rule, &mut text)?;
+    put_decimal(&mut text, rule)?;
     text.push(b'\n')?;
     Ok(text)
-}
-
-/// The report of a script.
-fn report(alloc: Global, script: &Script) -> Result<Vec<u8>, OutOfMemory>
-    requires { IsScript script.now }
-    ensures { IfOk result (λ text. (bytes : List ℕ) → IsScriptText bytes script.now → IsReport bytes text.items) }
-{
-    scripts_are_playable();
-    a_play_agrees();
-    a_play_follows();
-    a_play_is_a_run();
-    every_run_is_safe();
-    let played = play(alloc, script)?;
-    let text = report_of(alloc, &played.mesh, &played.ends)?;
-    Ok(text)
-}
-
-/// What is due of a source's bytes.
-fn ending_of(alloc: Global, bytes: &[u8]) -> Result<Outcome, OutOfMemory>
-    requires { length bytes.now ≤ 1048576 }
-    ensures { IfOk result (λ e. IsOutcome bytes.now e.status e.text.items) }
-{
-    scripts_break_no_rule();
-    match read_script(alloc, bytes) {
-        ReadScript::Script(script) => Ok(Outcome {
-            status: Status::Ok,
-            text: report(alloc, &script)?,
-        }),
-        ReadScript::BadScript { line, rule } => Ok(Outcome {
-            status: Status::BadScript,
-            text: script_line(alloc, line, rule as u64)?,
-        }),
-        ReadScript::OutOfMemory => Err(AllocError),
-    }
 }
 
 /// A fault line without numbers.
@@ -88,6 +55,51 @@ fn fault_line(alloc: Global, status: Status, line: &[u8]) -> Result<Outcome, Out
         status,
         text: line.to_vec(alloc)?,
     })
+}
+
+/// The report of a script.
+fn report(alloc: Global, script: &Script) -> Result<Report, OutOfMemory>
+    requires { IsScript script.now }
+    ensures { IfOk result (λ report. (bytes : List ℕ) → IsScriptText bytes script.now → IsReportOf bytes report) }
+{
+    scripts_are_playable();
+    a_play_agrees();
+    a_play_follows();
+    a_play_is_a_run();
+    every_run_is_safe();
+    let played = play(alloc, script)?;
+    let report = report_of(alloc, &played.mesh, &played.ends)?;
+    Ok(report)
+}
+
+/// What is due of a script.
+fn ending_of_script(alloc: Global, script: &Script) -> Result<Outcome, OutOfMemory>
+    requires { IsScript script.now }
+    ensures { IfOk result (λ e. (bytes : List ℕ) → IsScriptText bytes script.now → IsPlayedTo bytes e.status e.text.items) }
+{
+    match report(alloc, script)? {
+        Report::Text(text) => Ok(Outcome {
+            status: Status::Ok,
+            text,
+        }),
+        Report::TooLong => fault_line(alloc, Status::Limit, b"error Limit 268435456\n"),
+    }
+}
+
+/// What is due of a source's bytes.
+fn ending_of(alloc: Global, bytes: &[u8]) -> Result<Outcome, OutOfMemory>
+    requires { length bytes.now ≤ 1048576 }
+    ensures { IfOk result (λ e. IsOutcome bytes.now e.status e.text.items) }
+{
+    scripts_break_no_rule();
+    match read_script(alloc, bytes) {
+        ReadScript::Script(script) => ending_of_script(alloc, &script),
+        ReadScript::BadScript { line, rule } => Ok(Outcome {
+            status: Status::BadScript,
+            text: script_line(alloc, line, rule as u64)?,
+        }),
+        ReadScript::OutOfMemory => Err(AllocError),
+    }
 }
 
 /// Reads the source and tells what is due of its bytes.

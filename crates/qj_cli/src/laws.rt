@@ -1,7 +1,21 @@
 // What holds of every script.
-ghost use Rattle.qj_cli.specs.Scripts.{ScriptsArePlayable};
+ghost use Rattle.qj_cli.specs.Scripts.{ScriptsArePlayable, ScriptNumbersFit};
+ghost use Rattle.qj_cli.specs.Report.{ScriptsHaveOneReport};
 
-/// A script of the grammar can be played: it has a node, and its lines speak of declared writers.
+use cluster_runner::one_script_has_one_play;
+use script_text::text_is_of_one_script;
+
+/// A script of the grammar can be played: it has a node, its lines speak of declared writers and of its nodes, and the program can hold
+/// its numbers.
 pub fn scripts_are_playable()
-    ensures { ScriptsArePlayable }
+    ensures lines { ScriptsArePlayable }
+    ensures numbers { ScriptNumbersFit }
 {}
+
+/// A script has one report, so it is too long or it isn't.
+pub fn scripts_have_one_report()
+    ensures { ScriptsHaveOneReport }
+{
+    text_is_of_one_script();
+    one_script_has_one_play();
+}

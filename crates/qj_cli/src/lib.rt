@@ -9,6 +9,6 @@ mod tests;
 mod top;
 mod usage;
 
-pub use laws::scripts_are_playable;
+pub use laws::{scripts_are_playable, scripts_have_one_report};
 pub use status::Status;
 pub use top::qjm;

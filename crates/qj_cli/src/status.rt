@@ -9,7 +9,7 @@ pub enum Status {
     Usage,
     /// A line of the script breaks a rule.
     BadScript,
-    /// The script has more than 1,048,576 bytes.
+    /// The script has more than 1,048,576 bytes, or its report more than 268,435,456.
     Limit,
     /// The source failed.
     ReadFault,

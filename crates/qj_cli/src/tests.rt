@@ -1,4 +1,7 @@
 // The program over memory: reports, bad scripts, bad words, and ends that fail.
+mod bad;
+mod known;
+
 use crate::{Status, qjm};
 use qj_outside::{MemSink, MemSource};
 use std::alloc::{AllocError, Global};
@@ -61,28 +64,6 @@ fn scripts_without_a_writer_are_played(rt: HostRuntime) -> Result<(), Fail> {
     );
     let two = played(rt.alloc(), b"raw 2\n")?;
     assert_eq!(rt; two.status, Status::Ok);
-    Ok(())
-}
-
-#[test]
-fn bad_scripts_are_refused(rt: HostRuntime) -> Result<(), Fail> {
-    let cases: [(&[u8], &[u8]); 7] = [
-        (b"", b"error BadScript 1 1\n"),
-        (b"raw 16\n", b"error BadScript 1 1\n"),
-        (b"raw 3\nwriter a\ntakeo", b"error BadScript 3 10\n"),
-        (b"raw 3\nfoo\n", b"error BadScript 2 2\n"),
-        (b"raw 3\nwriter a\nwriter b\n", b"error BadScript 3 2\n"),
-        (b"raw 3\nwriter a\nlog a 0\n", b"error BadScript 3 8\n"),
-        (
-            b"raw 3\nwriter a\ntakeover a\ntakeover a\n",
-            b"error BadScript 4 2\n",
-        ),
-    ];
-    for (script, line) in cases.iter() {
-        let done = played(rt.alloc(), script)?;
-        assert_eq!(rt; done.status, Status::BadScript);
-        assert_eq!(rt; done.taken.as_slice(), *line);
-    }
     Ok(())
 }
 

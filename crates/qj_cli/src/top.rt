@@ -39,7 +39,7 @@ fn write_ending<K: Sink>(sink: &mut K, status: Status, text: &[u8]) -> Status
 /// name: the one word `play`.
 ///
 /// `Usage`: another word, or none, with its place from 0; nothing is read. `Limit`: the source has more than 1,048,576
-/// bytes. `BadScript`: the first line, from 1, that breaks a rule, and the rule. `ReadFault`: the source failed.
+/// bytes, or the report would have more than 268,435,456. `BadScript`: the first line, from 1, that breaks a rule, and the rule. `ReadFault`: the source failed.
 /// `WriteFault`: the sink failed while the report was written. `OutOfMemory`: memory ran out before anything was
 /// written. Each but `WriteFault` writes its line `error NAME ..`.
 pub fn qjm<S: Source, K: Sink>(

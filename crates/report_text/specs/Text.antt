@@ -3,7 +3,7 @@ use Rattle.std.specs.Prelude.{ℕ, ◌+◌, Bool, true, false, List, [], ◌∷�
 use Rattle.std.specs.List.{flat_map}
 use Rattle.journal_core.specs.declared.cut.Cut.{Cut}
 use Rattle.journal_core.specs.declared.cut.Cut.TheVariants as cut
-use Rattle.journal_core.specs.Texts.{spaced, numbers_text, request_text, reply_text}
+use Rattle.request_text.specs.Texts.{spaced, numbers_text, request_text, reply_text}
 use Rattle.node_world.specs.declared.stop.Stop.{Stop}
 use Rattle.node_world.specs.declared.stop.Stop.TheVariants as stop
 use Rattle.node_world.specs.declared.node_ask.NodeAsk.{NodeAsk}

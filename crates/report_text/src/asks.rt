@@ -3,8 +3,9 @@ ghost use Rattle.std.specs.Prelude.{◌≡◌, ◌++◌, OnOk};
 ghost use Rattle.report_text.specs.Text.{choice_text, stop_text, late_text, ask_text, answer_text, heard_text, done_text};
 
 use crate::parts::{put_pair, put_spaced};
-use journal_core::{Cut, OutOfMemory, print_reply, print_request};
+use journal_core::{Cut, OutOfMemory};
 use node_world::{NodeAnswer, NodeAsk, Stop, Told};
+use request_text::{print_reply, print_request};
 
 fn put_choice(out: &mut Vec<u8>, cut: Cut) -> Result<(), OutOfMemory>
     ensures { OnOk result (out.new.items ≡ out.old.items ++ choice_text cut) }

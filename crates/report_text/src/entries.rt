@@ -1,13 +1,16 @@
 // The lines of histories and of records.
-ghost use Rattle.std.specs.Prelude.{◌≡◌, ◌++◌, OnOk};
+ghost use Rattle.std.specs.Prelude.{◌≡◌, ◌<◌, ◌++◌, length, Err, OnOk};
 ghost use Rattle.mesh.specs.declared.end.End.{End};
+ghost use Rattle.report_text.specs.Limit.{longest_report};
 ghost use Rattle.report_text.specs.Text.{history_line_text, record_line_text, history_text, record_text};
 
 use crate::asks::{put_answer, put_ask, put_done, put_heard};
 use crate::parts::{caller_name, put_number};
-use journal_core::{OutOfMemory, print_request};
+use crate::unprinted::{Unprinted, within_limit};
+use journal_core::OutOfMemory;
 use mesh::End;
 use node_world::{HistoryLine, Record};
+use request_text::print_request;
 
 /// A line of a node's history.
 #[tactic(auto, unfolding(crate::specs::Text::history_line_text))]
@@ -63,25 +66,27 @@ fn put_record_line(out: &mut Vec<u8>, line: &Record) -> Result<(), OutOfMemory>
 }
 
 /// A node's history, line by line.
-pub fn put_history(
-    out: &mut Vec<u8>,
-    ends: &[End],
-    lines: &[HistoryLine],
-) -> Result<(), OutOfMemory>
-    ensures { OnOk result (out.new.items ≡ out.old.items ++ history_text ends.now lines.now) }
+#[tactic(auto, using(crate::proofs::LimitLaws::histories))]
+pub fn put_history(out: &mut Vec<u8>, ends: &[End], lines: &[HistoryLine]) -> Result<(), Unprinted>
+    ensures text { OnOk result (out.new.items ≡ out.old.items ++ history_text ends.now lines.now) }
+    ensures long { result ≡ Err Unprinted.TooLong → longest_report < length (out.old.items ++ history_text ends.now lines.now) }
 {
     for line in lines {
         put_history_line(out, ends, line)?;
+        within_limit(out)?;
     }
     Ok(())
 }
 
 /// A caller's record, line by line.
-pub fn put_record(out: &mut Vec<u8>, lines: &[Record]) -> Result<(), OutOfMemory>
-    ensures { OnOk result (out.new.items ≡ out.old.items ++ record_text lines.now) }
+#[tactic(auto, using(crate::proofs::LimitLaws::records))]
+pub fn put_record(out: &mut Vec<u8>, lines: &[Record]) -> Result<(), Unprinted>
+    ensures text { OnOk result (out.new.items ≡ out.old.items ++ record_text lines.now) }
+    ensures long { result ≡ Err Unprinted.TooLong → longest_report < length (out.old.items ++ record_text lines.now) }
 {
     for line in lines {
         put_record_line(out, line)?;
+        within_limit(out)?;
     }
     Ok(())
 }

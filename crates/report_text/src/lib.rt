@@ -1,6 +1,7 @@
 //! The report of a play: each node's history, and each caller's record.
 #![tactic(auto)]
 
+mod answer;
 mod asks;
 mod entries;
 mod examples;
@@ -9,6 +10,9 @@ mod report;
 mod size;
 #[cfg(test)]
 mod tests;
+mod unprinted;
 
+pub use answer::Report;
 pub use examples::reports_are_as_written;
 pub use report::report_of;
+pub use unprinted::LONGEST_REPORT;

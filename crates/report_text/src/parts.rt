@@ -1,6 +1,6 @@
 // The smallest parts of a report, each added at the end of a list of bytes.
 ghost use Rattle.std.specs.Prelude.{◌≡◌, ◌++◌, ◌∷◌, [], OnOk, decimal};
-ghost use Rattle.journal_core.specs.Texts.{numbers_text};
+ghost use Rattle.request_text.specs.Texts.{numbers_text};
 ghost use Rattle.mesh.specs.declared.end.End.{End};
 ghost use Rattle.report_text.specs.Text.{caller_name};
 

@@ -1,15 +1,18 @@
 // The report as a whole.
-ghost use Rattle.std.specs.Prelude.{◌≡◌, ◌++◌, ◌∷◌, [], OnOk, IfOk};
+ghost use Rattle.std.specs.Prelude.{◌≡◌, ◌<◌, ◌≤◌, ◌++◌, length, Err, OnOk, IfOk};
+ghost use Rattle.report_text.specs.Limit.{longest_report, Reports};
 ghost use Rattle.mesh.specs.declared.end.End.{End};
 ghost use Rattle.report_text.specs.Text.{node_text, nodes_text, actor_text, actors_text, operator_text, text_of};
 
+use crate::answer::Report;
 use crate::entries::{put_history, put_record};
 use crate::parts::put_spaced;
 use crate::size::text_size;
+use crate::unprinted::{Unprinted, within_limit};
 use journal_core::OutOfMemory;
 use mesh::{End, EndList, Mesh};
 use node_world::{HistoryLine, HistoryList, Record, RecordList};
-use std::alloc::Global;
+use std::alloc::{AllocError, Global};
 
 /// A node's number, and its history.
 #[tactic(auto, unfolding(crate::specs::Text::node_text))]
@@ -18,8 +21,9 @@ fn put_node(
     ends: &[End],
     node: u64,
     lines: &[HistoryLine],
-) -> Result<(), OutOfMemory>
-    ensures { OnOk result (out.new.items ≡ out.old.items ++ node_text ends.now node lines.now) }
+) -> Result<(), Unprinted>
+    ensures text { OnOk result (out.new.items ≡ out.old.items ++ node_text ends.now node lines.now) }
+    ensures long { result ≡ Err Unprinted.TooLong → longest_report < length (out.old.items ++ node_text ends.now node lines.now) }
 {
     out.extend_from_slice(b"node")?;
     put_spaced(out, node)?;
@@ -30,8 +34,9 @@ fn put_node(
 
 /// The nodes in order, from number 1 on.
 #[tactic(auto, using(crate::proofs::NodeLaws::node_steps))]
-fn put_nodes(out: &mut Vec<u8>, ends: &[End], histories: &[HistoryList]) -> Result<(), OutOfMemory>
-    ensures { OnOk result (out.new.items ≡ out.old.items ++ nodes_text ends.now 1 histories.now) }
+fn put_nodes(out: &mut Vec<u8>, ends: &[End], histories: &[HistoryList]) -> Result<(), Unprinted>
+    ensures text { OnOk result (out.new.items ≡ out.old.items ++ nodes_text ends.now 1 histories.now) }
+    ensures long { result ≡ Err Unprinted.TooLong → longest_report < length (out.old.items ++ nodes_text ends.now 1 histories.now) }
 {
     for (index, history) in histories.iter().enumerate() {
         put_node(out, ends, index as u64 + 1, history.as_slice())?;
@@ -41,8 +46,9 @@ fn put_nodes(out: &mut Vec<u8>, ends: &[End], histories: &[HistoryList]) -> Resu
 
 /// A caller's name, and its record.
 #[tactic(auto, unfolding(crate::specs::Text::actor_text))]
-fn put_actor(out: &mut Vec<u8>, name: &[u8], lines: &[Record]) -> Result<(), OutOfMemory>
-    ensures { OnOk result (out.new.items ≡ out.old.items ++ actor_text name.now lines.now) }
+fn put_actor(out: &mut Vec<u8>, name: &[u8], lines: &[Record]) -> Result<(), Unprinted>
+    ensures text { OnOk result (out.new.items ≡ out.old.items ++ actor_text name.now lines.now) }
+    ensures long { result ≡ Err Unprinted.TooLong → longest_report < length (out.old.items ++ actor_text name.now lines.now) }
 {
     out.extend_from_slice(b"actor ")?;
     out.extend_from_slice(name)?;
@@ -53,8 +59,9 @@ fn put_actor(out: &mut Vec<u8>, name: &[u8], lines: &[Record]) -> Result<(), Out
 
 /// The operator's record, where it isn't empty.
 #[tactic(auto, unfolding(crate::specs::Text::operator_text))]
-fn put_operator(out: &mut Vec<u8>, records: &[RecordList]) -> Result<(), OutOfMemory>
-    ensures { OnOk result (out.new.items ≡ out.old.items ++ operator_text records.now) }
+fn put_operator(out: &mut Vec<u8>, records: &[RecordList]) -> Result<(), Unprinted>
+    ensures text { OnOk result (out.new.items ≡ out.old.items ++ operator_text records.now) }
+    ensures long { result ≡ Err Unprinted.TooLong → longest_report < length (out.old.items ++ operator_text records.now) }
 {
     let [record, ..] = records else {
         return Ok(());
@@ -68,8 +75,9 @@ fn put_operator(out: &mut Vec<u8>, records: &[RecordList]) -> Result<(), OutOfMe
 
 /// The actors in order of declaration, and then the operator.
 #[tactic(auto, using(crate::proofs::NodeLaws::actor_steps))]
-fn put_actors(out: &mut Vec<u8>, ends: &[End], records: &[RecordList]) -> Result<(), OutOfMemory>
-    ensures { OnOk result (out.new.items ≡ out.old.items ++ actors_text ends.now records.now) }
+fn put_actors(out: &mut Vec<u8>, ends: &[End], records: &[RecordList]) -> Result<(), Unprinted>
+    ensures text { OnOk result (out.new.items ≡ out.old.items ++ actors_text ends.now records.now) }
+    ensures long { result ≡ Err Unprinted.TooLong → longest_report < length (out.old.items ++ actors_text ends.now records.now) }
 {
     let mut rest = records;
     for end in ends {
@@ -83,19 +91,33 @@ fn put_actors(out: &mut Vec<u8>, ends: &[End], records: &[RecordList]) -> Result
     Ok(())
 }
 
+/// All of a report.
+#[tactic(auto, using(crate::proofs::LimitLaws::wholes), unfolding(crate::specs::Text::text_of))]
+fn put_report(out: &mut Vec<u8>, mesh: &Mesh, ends: &[End]) -> Result<(), Unprinted>
+    ensures text { OnOk result (out.new.items ≡ out.old.items ++ text_of mesh.now ends.now) }
+    ensures within { OnOk result (length out.new.items ≤ longest_report) }
+    ensures long { result ≡ Err Unprinted.TooLong → longest_report < length (out.old.items ++ text_of mesh.now ends.now) }
+{
+    out.extend_from_slice(b"nodes")?;
+    put_spaced(out, mesh.nodes as u64)?;
+    out.push(b'\n')?;
+    put_nodes(out, ends, mesh.histories.as_slice())?;
+    put_actors(out, ends, mesh.records.as_slice())?;
+    out.extend_from_slice(b"end\n")?;
+    within_limit(out)
+}
+
 /// The report of what a play leaves: each node's history, and each actor's record and then the
-/// operator's. `ends` has one end per actor.
-#[tactic(auto, unfolding(crate::specs::Text::text_of))]
-pub fn report_of(alloc: Global, mesh: &Mesh, ends: &EndList) -> Result<Vec<u8>, OutOfMemory>
-    ensures { IfOk result (λ report. report.items ≡ text_of mesh.now ends.now) }
+/// operator's. `ends` has one end per actor. `TooLong` comes exactly where the text has more than
+/// 268,435,456 bytes; no more than one line past them is printed then.
+pub fn report_of(alloc: Global, mesh: &Mesh, ends: &EndList) -> Result<Report, OutOfMemory>
+    ensures { IfOk result (λ report. Reports report (text_of mesh.now ends.now)) }
 {
     let ends = ends.as_slice();
     let mut out = Vec::with_capacity(alloc, text_size(mesh, ends))?;
-    out.extend_from_slice(b"nodes")?;
-    put_spaced(&mut out, mesh.nodes as u64)?;
-    out.push(b'\n')?;
-    put_nodes(&mut out, ends, mesh.histories.as_slice())?;
-    put_actors(&mut out, ends, mesh.records.as_slice())?;
-    out.extend_from_slice(b"end\n")?;
-    Ok(out)
+    match put_report(&mut out, mesh, ends) {
+        Ok(()) => Ok(Report::Text(out)),
+        Err(Unprinted::TooLong) => Ok(Report::TooLong),
+        Err(Unprinted::OutOfMemory) => Err(AllocError),
+    }
 }

@@ -1,4 +1,6 @@
-// How long a report gets: room is made for it once. Nothing rests on these numbers, which may be a few bytes too great.
+// About how long a report gets: room is made for it once. Nothing rests on these numbers, which may be a few bytes too great; what is
+// longer than the longest report isn't counted to its end.
+use crate::unprinted::LONGEST_REPORT;
 use journal_core::{BodyList, Head, Reply, Request};
 use mesh::{End, Mesh};
 use node_world::{HistoryLine, NodeAnswer, NodeAsk, Record, Told};
@@ -113,6 +115,9 @@ fn record_line_size(line: &Record) -> usize {
 fn history_size(lines: &[HistoryLine], name: usize) -> usize {
     let mut size: usize = 2 * WORD;
     for line in lines {
+        if size > LONGEST_REPORT {
+            break;
+        }
         size = size.saturating_add(history_line_size(line, name));
     }
     size
@@ -121,6 +126,9 @@ fn history_size(lines: &[HistoryLine], name: usize) -> usize {
 fn record_size(lines: &[Record]) -> usize {
     let mut size: usize = 3 * WORD;
     for line in lines {
+        if size > LONGEST_REPORT {
+            break;
+        }
         size = size.saturating_add(record_line_size(line));
     }
     size
@@ -135,7 +143,7 @@ fn longest_name(ends: &[End]) -> usize {
     longest
 }
 
-/// About how many bytes the report of this mesh has.
+/// About how many bytes the report of this mesh has, and no more than one past the longest report.
 pub fn text_size(mesh: &Mesh, ends: &[End]) -> usize {
     let name = longest_name(ends);
     let mut size: usize = 3 * WORD;
@@ -145,5 +153,5 @@ pub fn text_size(mesh: &Mesh, ends: &[End]) -> usize {
     for record in mesh.records.as_slice() {
         size = size.saturating_add(record_size(record.as_slice()));
     }
-    size
+    size.min(LONGEST_REPORT + 1)
 }

@@ -1,8 +1,9 @@
 // The report on its happy path.
-use crate::report_of;
-use journal_core::{Bytes, Refusal, Reply, Request, SharedRequest};
+use crate::{Report, report_of};
+use journal_core::{Batch, BodyList, Bytes, Head, Refusal, Reply, Request, SharedRequest};
 use mesh::{End, EndList, HistoryTable, Mesh, RecordTable};
 use node_world::{HistoryLine, HistoryList, NodeAnswer, NodeAsk, Plan, Record, RecordList, Told};
+use std::alloc::Global;
 use std::test::Fail;
 
 #[test]
@@ -50,9 +51,55 @@ fn a_report_is_printed(rt: HostRuntime) -> Result<(), Fail> {
     if let Some(name) = Bytes::copy_of(alloc, b"a")? {
         ends.push(End { name })?;
     }
-    let report = report_of(alloc, &mesh, &ends)?;
+    let Report::Text(report) = report_of(alloc, &mesh, &ends)? else {
+        return Err("too long".into());
+    };
     let wanted =
         b"nodes 1\nnode 1\na state -> state 12\nops kill -> done\nactor a\n1 state -> refused 1 Down\nactor ops\n1 kill -> done\nend\n";
     assert_eq!(rt; report.as_slice(), wanted.as_slice());
+    Ok(())
+}
+
+/// A request with 16,384 times the same body of 4,096 bytes, whose text has 134,234,138 bytes.
+fn long_request(alloc: Global) -> Result<SharedRequest, Fail> {
+    let body = Bytes::copy_of(alloc, &[7; 4096])?.ok_or("no byte")?;
+    let mut bodies = BodyList::new(alloc);
+    for _ in 0..16_384 {
+        bodies.push(body.share()?)?;
+    }
+    if bodies.is_empty() {
+        return Err("no body".into());
+    }
+    let head = Head::new(1, 1, 0).ok_or("no head")?;
+    let batch = Batch::new(1, bodies);
+    Ok(SharedRequest::new(alloc, Request::Accept { head, batch })?)
+}
+
+#[test]
+fn a_longer_report_is_too_long(rt: HostRuntime) -> Result<(), Fail> {
+    let alloc = rt.alloc();
+    let request = long_request(alloc)?;
+    let mut calls = RecordList::new(alloc);
+    for node in 1..3 {
+        calls.push(Record::Call {
+            node,
+            request: request.share()?,
+            told: Told::Dropped,
+        })?;
+    }
+    let mut records = RecordTable::new(alloc);
+    records.push(calls)?;
+    let mesh = Mesh {
+        nodes: 0,
+        histories: HistoryTable::new(alloc),
+        records,
+        plan: Plan::new(alloc),
+    };
+    let mut ends = EndList::new(alloc);
+    if let Some(name) = Bytes::copy_of(alloc, b"a")? {
+        ends.push(End { name })?;
+    }
+    let report = report_of(alloc, &mesh, &ends)?;
+    assert!(rt; matches!(&report, Report::TooLong));
     Ok(())
 }

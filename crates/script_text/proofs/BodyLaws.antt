@@ -4,8 +4,9 @@ use Rattle.std.specs.List.{list_all, AllByRecursion}
 use Rattle.std.specs.Str.{bytes_eq}
 use Rattle.std.proofs.lemmas.Bool.{false≢true}
 use Rattle.std.proofs.lemmas.Bool.Decides.{nat_tests, leb_tells}
+use Rattle.request_text.specs.Texts.{hex_digit, hex_text}
 use Rattle.script_text.specs.Lines.{Lacks, is_plain}
-use Rattle.script_text.specs.Words.{joined, words_of, is_empty, is_letter, is_name_byte, is_word_of_name, is_name, operator, hex_digit, hex_byte, hex_text, is_hex_digit, is_hex, is_body, IsByte, IsBody}
+use Rattle.script_text.specs.Words.{joined, words_of, is_empty, is_letter, is_name_byte, is_word_of_name, is_name, operator, hex_byte, is_hex_digit, is_hex, is_body, IsByte, IsBody}
 use Rattle.script_text.proofs.WordLaws.{words_more, words_all, length-hex_text}
 
 pub both : (a b : Bool) → (a && b) ≡ true → (a ≡ true) × (b ≡ true)
@@ -41,10 +42,10 @@ byte_between b h =
     le_true : (m n : ℕ) → nat_le m n ≡ true → m ≤ n
     le_true m n e = elim (leb_tells m n) [ inl p ↦ p.1 | inr p ↦ absurd (false≢true (sym p.0 ∙ e)) ]
 
-le_is : (m n : ℕ) → m ≤ n → nat_le m n ≡ true
+pub le_is : (m n : ℕ) → m ≤ n → nat_le m n ≡ true
 le_is m n l = elim (leb_tells m n) [ inl p ↦ p.0 | inr p ↦ absurd (omega (arith, p.1)) ]
 
-le_from : (m n : ℕ) → nat_le m n ≡ true → m ≤ n
+pub le_from : (m n : ℕ) → nat_le m n ≡ true → m ≤ n
 le_from m n e = elim (leb_tells m n) [ inl p ↦ p.1 | inr p ↦ absurd (false≢true (sym p.0 ∙ e)) ]
 
 pub between_is : (low high b : ℕ) → low ≤ b → b ≤ high → (nat_le low b && nat_le b high) ≡ true
@@ -128,6 +129,7 @@ hex_digit_word b e = byte_is (nat_le 48 b && nat_le b 57) refl e
     byte_is false h k = let r : (97 ≤ b) × (b ≤ 102) = between_from 97 102 b k in between_is 33 126 b (omega (arith, r.0)) (omega (arith, r.1))
 
 pub hex_is : (bytes : List ℕ) → AllByRecursion IsByte bytes → is_hex (hex_text bytes) ≡ true
+unfolding hex_text
 hex_is [] h = refl
 hex_is (b ∷ bs) h =
     let l : b < 256 = h.0 in
@@ -136,6 +138,7 @@ hex_is (b ∷ bs) h =
     rw (x, y) (hex_is bs h.1)
 
 pub hex_is_word : (bytes : List ℕ) → AllByRecursion IsByte bytes → IsWord (hex_text bytes)
+unfolding hex_text
 hex_is_word [] h = refl
 hex_is_word (b ∷ bs) h =
     let l : b < 256 = h.0 in
@@ -144,6 +147,7 @@ hex_is_word (b ∷ bs) h =
     rw (x, y) (hex_is_word bs h.1)
 
 hex_some : (bytes : List ℕ) → 0 < length bytes → is_empty (hex_text bytes) ≡ false
+unfolding hex_text
 hex_some [] l = absurd (omega arith)
 hex_some (b ∷ bs) l = refl
 
@@ -159,38 +163,31 @@ body_again body h =
     let z : nat_le (length (hex_text body)) 8192 ≡ true = le_is (length (hex_text body)) 8192 (omega (arith, length-hex_text body)) in
     rw (x, y, z) refl
 
--- ## Digits stand for one byte
-digit_same : (m n : ℕ) → m < 16 → n < 16 → hex_digit m ≡ hex_digit n → m ≡ n
-digit_same m n k l e = grind (arith, nat_tests)
+-- ## The bytes that digits stand for
+abbrev pub unhex_digit : ℕ → ℕ
+unhex_digit d = cond (nat_lt d 58) (d - 48) (d - 87)
 
-byte_same : (b c : ℕ) → b < 256 → c < 256 → hex_digit (b / 16) ≡ hex_digit (c / 16) → hex_digit (b % 16) ≡ hex_digit (c % 16) → b ≡ c
-byte_same b c k l e f =
-    let high : b / 16 ≡ c / 16 = digit_same (b / 16) (c / 16) (omega arith) (omega arith) e in
-    let low : b % 16 ≡ c % 16 = digit_same (b % 16) (c % 16) (omega arith) (omega arith) f in
-    omega arith
+abbrev pub unhex : List ℕ → List ℕ
+unhex [] = []
+unhex (high ∷ []) = []
+unhex (high ∷ low ∷ digits) = (unhex_digit high * 16 + unhex_digit low) ∷ unhex digits
 
-pub hex_same : (xs ys : List ℕ) → AllByRecursion IsByte xs → AllByRecursion IsByte ys → hex_text xs ≡ hex_text ys → xs ≡ ys
-hex_same [] [] h k e = refl
-hex_same [] (y ∷ ys) h k e = cc
-hex_same (x ∷ xs) [] h k e = cc
-hex_same (x ∷ xs) (y ∷ ys) h k e =
-    let a : hex_digit (x / 16) ≡ hex_digit (y / 16) = cc in
-    let b : hex_digit (x % 16) ≡ hex_digit (y % 16) = cc in
-    let rest : hex_text xs ≡ hex_text ys = cc in
-    let first : x ≡ y = byte_same x y h.0 k.0 a b in
-    let tail : xs ≡ ys = hex_same xs ys h.1 k.1 rest in
-    cc
+digit_back : (n : ℕ) → n < 16 → unhex_digit (hex_digit n) ≡ n
+digit_back n l = grind (arith, nat_tests)
 
-pub bodies_same : (bs cs : List (List ℕ)) → AllByRecursion IsBody bs → AllByRecursion IsBody cs → map hex_text bs ≡ map hex_text cs → bs ≡ cs
-bodies_same [] [] h k e = refl
-bodies_same [] (c ∷ cs) h k e = cc
-bodies_same (b ∷ bs) [] h k e = cc
-bodies_same (b ∷ bs) (c ∷ cs) h k e =
-    let a : hex_text b ≡ hex_text c = cc in
-    let rest : map hex_text bs ≡ map hex_text cs = cc in
-    let first : b ≡ c = hex_same b c h.0.bytes k.0.bytes a in
-    let tail : bs ≡ cs = bodies_same bs cs h.1 k.1 rest in
-    cc
+pub unhex_back : (bytes : List ℕ) → AllByRecursion IsByte bytes → unhex (hex_text bytes) ≡ bytes
+unfolding hex_text
+unhex_back [] h = refl
+unhex_back (b ∷ bs) h =
+    let l : b < 256 = h.0 in
+    let high : unhex_digit (hex_digit (b / 16)) ≡ b / 16 = digit_back (b / 16) (omega arith) in
+    let low : unhex_digit (hex_digit (b % 16)) ≡ b % 16 = digit_back (b % 16) (omega arith) in
+    let whole : unhex_digit (hex_digit (b / 16)) * 16 + unhex_digit (hex_digit (b % 16)) ≡ b = omega (arith, high, low) in
+    ap (λ x. x ∷ unhex (hex_text bs)) whole ∙ ap (λ xs. b ∷ xs) (unhex_back bs h.1)
+
+pub bodies_back : (bodies : List (List ℕ)) → AllByRecursion IsBody bodies → map unhex (map hex_text bodies) ≡ bodies
+bodies_back [] h = refl
+bodies_back (b ∷ bs) h = ap (λ x. x ∷ map unhex (map hex_text bs)) (unhex_back b h.0.bytes) ∙ ap (λ xs. b ∷ xs) (bodies_back bs h.1)
 
 -- ## Words that are bodies stand for some
 low_digit : (n d : ℕ) → n < 10 → 48 + n ≡ d → hex_digit n ≡ d
@@ -217,6 +214,7 @@ byte_of high low h l =
     (m.0 * 16 + n.0, omega arith, rw (q, r) (ap (λ x. x ∷ hex_digit n.0 ∷ []) m.2 ∙ ap (λ y. high ∷ y ∷ []) n.2))
 
 pub bytes_of : (word : List ℕ) → is_hex word ≡ true → (bytes : List ℕ) × (hex_text bytes ≡ word) × AllByRecursion IsByte bytes
+unfolding hex_text
 bytes_of [] e = ([], refl, tt)
 bytes_of (high ∷ []) e = absurd (false≢true e)
 bytes_of (high ∷ low ∷ digits) e =

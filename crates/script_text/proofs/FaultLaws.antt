@@ -6,20 +6,19 @@ use Rattle.std.proofs.lemmas.Bool.{false≢true}
 use Rattle.std.proofs.lemmas.Bool.Decides.{eqb_tells}
 use Rattle.std.proofs.lemmas.Slice.Eq.{bytes_eq-Decides}
 use Rattle.script_text.specs.declared.kind.Kind.{Kind}
-use Rattle.script_text.specs.declared.kind.Kind.TheVariants as kind
+use Rattle.script_text.specs.declared.line_read.LineRead.TheVariants as line_read
 use Rattle.script_text.specs.declared.script_line.ScriptLine.{ScriptLine}
-use Rattle.script_text.specs.declared.script_line.ScriptLine.TheVariants.{Declare, Takeover, Log}
 use Rattle.script_text.specs.Views.{ScriptView, SaidView}
 use Rattle.script_text.specs.Lines.{Line, Ended, Open, lines_of, is_line, is_whole, Lacks, longest_line}
-use Rattle.script_text.specs.Words.{words_of, first_word, is_name, actor_of, is_body}
-use Rattle.script_text.specs.Grammar.{line_text, words_in, said_after, comes_again, first_line, nothing_said, texts_of, MaySay, AreLines, is_silent, telling, IsScript, IsScriptText}
-use Rattle.script_text.specs.Rules.{nodes_of, kind_of, bad_spacing, rule_said, rule_of, said_behind, said_next, or_later, first_fault, fault_of}
-use Rattle.script_text.specs.Reading.{Says, Stands}
-use Rattle.script_text.proofs.WordLaws.{words_more, words_all}
-use Rattle.script_text.proofs.KindLaws.{first_is, too_few, no_kind, again, ill_spaced, declares, misnames, takes_over, takes_nobody, logs_nothing, logs_nobody, logs_no_body, logs}
+use Rattle.script_text.specs.Words.{words_of, first_word}
+use Rattle.script_text.specs.Grammar.{line_text, words_in, said_after, first_line, nothing_said, texts_of, MaySay, AreLines, is_silent, telling, IsScript, IsScriptText}
+use Rattle.script_text.specs.Rules.{nodes_of, kind_of, bad_spacing, rule_said, rule_of, said_first, said_behind, said_next, or_later, first_fault, fault_of}
+use Rattle.script_text.specs.Reading.{Says}
+use Rattle.script_text.proofs.WordLaws.{words_more, words_all, text_is}
+use Rattle.script_text.proofs.KindLaws.{first_is, too_few, count_behind, no_kind, ill_spaced, rule_later, line_read_as}
+use Rattle.script_text.proofs.MeansLaws.{means_kind}
 use Rattle.script_text.proofs.FirstLaws.{told_is}
-use Rattle.script_text.proofs.ReadLaws.{text_is, line_fits, said_is}
-use Rattle.script_text.proofs.BodyLaws.{bodies_of}
+use Rattle.script_text.proofs.ReadLaws.{line_fits, said_is}
 
 bool_is : (b : Bool) → (b ≡ true) ⊎ (b ≡ false)
 bool_is true = inl refl
@@ -48,66 +47,28 @@ cut (b ∷ bs) =
 abbrev Meaning : SaidView → List ℕ → Type 0
 Meaning said text = (line : ScriptLine) × Says said text line
 
-means_declaration : (said : SaidView) (text rest : List ℕ) → Stands said kind.Writer (words_of text) → words_of text ≡ first_word (words_of text) ∷ words_of rest → rule_said (Some said) text ≡ None → Meaning said text
-means_declaration said text rest s w e =
-    elim (bool_is (is_name rest)) [ inl n ↦ (Declare rest, declares said text rest s w n) | inr n ↦ absurd (none_some (rule_said (Some said) text) e (misnames said text rest s w n)) ]
+means_words : (said : SaidView) (text : List ℕ) (k : Kind) (words : List (List ℕ)) → kind_of (first_word (words_of text)) ≡ Some k → bad_spacing k (words_of text) ≡ false
+    → words_of text ≡ first_word (words_of text) ∷ words → rule_said (Some said) text ≡ None → Meaning said text
+means_words said text k words f b w e =
+    let m = means_kind said k words (count_behind k (words_of text) (first_word (words_of text)) words b w) (sym (rule_later said text k words f b w) ∙ e) in
+    (m.0, line_read_as said text k words (line_read.Says m.0) f b w m.1)
 
-means_takeover : (said : SaidView) (text rest : List ℕ) → Stands said kind.Takeover (words_of text) → words_of text ≡ first_word (words_of text) ∷ words_of rest → rule_said (Some said) text ≡ None → Meaning said text
-means_takeover said text rest s w e =
-    elim (option_is (actor_of said.names rest)) [
-      | inl n ↦ absurd (none_some (rule_said (Some said) text) e (takes_nobody said text rest s w n))
-      | inr (actor, a) ↦ (Takeover actor, takes_over said text rest actor s w a)
-    ]
-
-means_log : (said : SaidView) (text rest : List ℕ) → Stands said kind.Log (words_of text) → words_of text ≡ first_word (words_of text) ∷ words_of rest → rule_said (Some said) text ≡ None → Meaning said text
-means_log said text rest s w e =
-    elim (cut rest) [
-      | inl l ↦ absurd (logs_nothing said text rest s w (words_all rest l))
-      | inr (name, bodies, r, l) ↦ with_name name bodies (words_more rest name bodies r l)
-    ]
-  where
-    with_actor : (name bodies : List ℕ) → words_of rest ≡ name ∷ words_of bodies → (actor : ℕ) → actor_of said.names name ≡ Some actor → Meaning said text
-    with_actor name bodies f actor a =
-        elim (bool_is (list_all is_body (words_of bodies))) [
-          | inl b ↦ let list = bodies_of (words_of bodies) b in (Log actor list.0, logs said text rest name bodies actor list.0 s w f a b list.1 list.2)
-          | inr b ↦ absurd (none_some (rule_said (Some said) text) e (logs_no_body said text rest name bodies actor s w f a b))
-        ]
-
-    with_name : (name bodies : List ℕ) → words_of rest ≡ name ∷ words_of bodies → Meaning said text
-    with_name name bodies f =
-        elim (option_is (actor_of said.names name)) [
-          | inl n ↦ absurd (none_some (rule_said (Some said) text) e (logs_nobody said text rest name bodies s w f n))
-          | inr (actor, a) ↦ with_actor name bodies f actor a
-        ]
-
-means_kind : (said : SaidView) (text : List ℕ) (k : Kind) → Stands said k (words_of text) → rule_said (Some said) text ≡ None → Meaning said text
-means_kind said text k s e =
+means_kind_of : (said : SaidView) (text : List ℕ) (k : Kind) → kind_of (first_word (words_of text)) ≡ Some k → bad_spacing k (words_of text) ≡ false → rule_said (Some said) text ≡ None → Meaning said text
+means_kind_of said text k f b e =
     elim (cut text) [
-      | inl l ↦ absurd (false≢true (sym s.spacing ∙ too_few k (words_of text) text (words_all text l)))
-      | inr (word, rest, t, l) ↦ by_kind k s rest (first_is k (words_of text) word (words_of rest) s.spacing (words_more text word rest t l))
+      | inl l ↦ absurd (false≢true (sym b ∙ too_few k (words_of text) text (words_all text l)))
+      | inr (word, rest, t, l) ↦ means_words said text k (words_of rest) f b (first_is k (words_of text) word (words_of rest) b (words_more text word rest t l)) e
     ]
-  where
-    by_kind : (k : Kind) → Stands said k (words_of text) → (rest : List ℕ) → words_of text ≡ first_word (words_of text) ∷ words_of rest → Meaning said text
-    by_kind kind.Writer s rest w = means_declaration said text rest s w e
-    by_kind kind.Takeover s rest w = means_takeover said text rest s w e
-    by_kind kind.Log s rest w = means_log said text rest s w e
 
 means : (said : SaidView) (text : List ℕ) → rule_said (Some said) text ≡ None → Meaning said text
 means said text e =
     elim (option_is (kind_of (first_word (words_of text)))) [
       | inl n ↦ absurd (none_some (rule_said (Some said) text) e (no_kind said text n))
-      | inr (k, f) ↦ with_kind k f
+      | inr (k, f) ↦ elim (bool_is (bad_spacing k (words_of text))) [
+        | inl b ↦ absurd (none_some (rule_said (Some said) text) e (ill_spaced said text k f b))
+        | inr b ↦ means_kind_of said text k f b e
+      ]
     ]
-  where
-    with_kind : (k : Kind) → kind_of (first_word (words_of text)) ≡ Some k → Meaning said text
-    with_kind k f =
-        elim (bool_is (comes_again said k)) [
-          | inl a ↦ absurd (none_some (rule_said (Some said) text) e (again said text k f a))
-          | inr a ↦ elim (bool_is (bad_spacing k (words_of text))) [
-            | inl b ↦ absurd (none_some (rule_said (Some said) text) e (ill_spaced said text k f a b))
-            | inr b ↦ means_kind said text k (record { kind = f; once = a; spacing = b }) e
-          ]
-        ]
 
 -- ## All lines
 later_none : (number : ℕ) (rule : Option ℕ) (later : Option (ℕ × ℕ)) → or_later number rule later ≡ None → (rule ≡ None) × (later ≡ None)
@@ -139,7 +100,7 @@ behind_silent : (said : Option SaidView) (text : List ℕ) → is_silent text �
 unfolding said_behind
 behind_silent said text q = rw q refl
 
-behind_loud : (said : Option SaidView) (text : List ℕ) → is_silent text ≡ false → said_behind said text ≡ Some (said_next said text)
+behind_loud : (said : Option SaidView) (text : List ℕ) → is_silent text ≡ false → said_behind said text ≡ said_next said text
 unfolding said_behind
 behind_loud said text q = rw q refl
 
@@ -167,7 +128,7 @@ said_loud : (said : SaidView) (text : List ℕ) (ls : List Line) (line : ScriptL
 unfolding texts_of AreLines
 said_loud said text ls line lines w q s a =
     let same : text ≡ line_text said.names line = text_is text (words_in said.names line) s.words in
-    let may : MaySay said line = record { sense = s.sense; once = s.once; fits = subst (λ (t : List ℕ). length t ≤ longest_line) same (line_fits text w) } in
+    let may : MaySay said line = record { sense = s.sense; fits = subst (λ (t : List ℕ). length t ≤ longest_line) same (line_fits text w) } in
     record {
       whole = rw w a.whole;
       says = telling_loud text ls q ∙ ap (λ t. t ∷ telling ls) same ∙ ap (λ ts. line_text said.names line ∷ ts) a.says;
@@ -184,7 +145,7 @@ lines_said number said (Ended text ∷ ls) e =
       | inl q ↦ let rest = lines_said (number + 1) said ls (ap (λ s. first_fault (number + 1) s ls) (sym (behind_silent (Some said) text q)) ∙ f.1) in (rest.0, said_silent said text ls rest.0 w q rest.1)
       | inr q ↦
           let m = means said text (said_good (Some said) text f.0 w q) in
-          let next : said_behind (Some said) text ≡ Some (said_after said m.0) = behind_loud (Some said) text q ∙ ap Some (said_is said text m.0 m.1.words) in
+          let next : said_behind (Some said) text ≡ Some (said_after said m.0) = behind_loud (Some said) text q ∙ said_is said text m.0 m.1.words in
           let rest = lines_said (number + 1) (said_after said m.0) ls (ap (λ s. first_fault (number + 1) s ls) (sym next) ∙ f.1) in
           (m.0 ∷ rest.0, said_loud said text ls m.0 rest.0 w q m.1 rest.1)
     ]
@@ -192,7 +153,7 @@ lines_said number said (Ended text ∷ ls) e =
 -- the lines are a script's, from the first that says something on
 pub record AreScript (ls : List Line) (s : ScriptView) : Type 0 where
   pub whole : list_all is_whole ls ≡ true
-  pub says : telling ls ≡ first_line s.nodes ∷ texts_of nothing_said s.lines
+  pub says : telling ls ≡ first_line s.nodes ∷ texts_of (nothing_said s.nodes) s.lines
   pub script : IsScript s
 
 end_faults : (number : ℕ) → first_fault number None [] ≡ None → ⊥
@@ -221,7 +182,8 @@ script_said number (Ended text ∷ ls) e =
           let first = first_good text (said_good None text f.0 w q) in
           let told = told_is text first.0 first.1 in
           let same : text ≡ first_line first.0 = (bytes_eq-Decides text (first_line first.0)).0 told.0 in
-          let rest = lines_said (number + 1) nothing_said ls (ap (λ s. first_fault (number + 1) s ls) (sym (behind_loud None text q)) ∙ f.1) in
+          let next : said_behind None text ≡ Some (nothing_said first.0) = behind_loud None text q ∙ ap said_first first.1 in
+          let rest = lines_said (number + 1) (nothing_said first.0) ls (ap (λ s. first_fault (number + 1) s ls) (sym next) ∙ f.1) in
           let s : ScriptView = record { nodes = first.0; lines = rest.0 } in (
             s,
             record {

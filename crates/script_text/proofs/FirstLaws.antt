@@ -29,14 +29,6 @@ decimal_high nodes g l =
 pub first_high : (line : List ℕ) (nodes : ℕ) → 10 ≤ nodes → nodes < 16 → bytes_eq line (first_line nodes) ≡ bytes_eq line (114 ∷ 97 ∷ 119 ∷ 32 ∷ 49 ∷ (48 + (nodes - 10)) ∷ [])
 first_high line nodes g l = ap (λ d. bytes_eq line (codes "raw " ++ d)) (decimal_high nodes g l)
 
-pub text_low : (nodes : ℕ) → nodes < 10 → first_line nodes ≡ 114 ∷ 97 ∷ 119 ∷ 32 ∷ (48 + nodes) ∷ []
-text_low nodes l = ap (λ d. codes "raw " ++ d) (decimal_digit nodes l)
-
-pub text_high : (nodes : ℕ) → 10 ≤ nodes → nodes < 16 → first_line nodes ≡ 114 ∷ 97 ∷ 119 ∷ 32 ∷ 49 ∷ (48 + (nodes - 10)) ∷ []
-text_high nodes g l = ap (λ d. codes "raw " ++ d) (decimal_high nodes g l)
-
-pub ruleset first_texts = (text_low, text_high)
-
 pub ruleset first_lines = (first_low, first_high)
 
 -- ## The number that it tells

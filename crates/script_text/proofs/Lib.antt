@@ -1,10 +1,16 @@
 pub mod LineLaws
 pub mod WordLaws
+pub mod BodyLaws
+pub mod NumberLaws
+pub mod NameLaws
 pub mod KindLaws
+pub mod MeansLaws
+pub mod SenseLaws
+pub mod MadeLaws
 pub mod FirstLaws
 pub mod ReadLaws
-pub mod BodyLaws
 pub mod ScriptLaws
 pub mod FaultLaws
+pub mod PushLaws
 pub mod PrintLaws
 pub mod OnlyLaws

@@ -1,17 +1,16 @@
 -- What is printed is read again.
-use Rattle.std.proofs.Common.{ℕ, ◌≡◌, ◌<◌, ◌≤◌, List, [], ◌∷◌, ◌++◌, length, true, false, refl, sym, ap, arith, ◌∙◌, append_assoc, append-nil, nat_le, map, codes, zero, suc, subst}
+use Rattle.std.proofs.Common.{ℕ, ◌≡◌, ◌<◌, ◌≤◌, List, [], ◌∷◌, ◌++◌, length, true, false, refl, sym, ap, arith, ◌∙◌, append_assoc, append-nil, nat_le, map, zero, suc, subst}
 use Rattle.std.specs.List.{list_all, AllByRecursion, flat_map}
 use Rattle.std.specs.Fmt.{digits}
 use Rattle.std.proofs.lemmas.Bool.Decides.{nat_tests}
 use Rattle.script_text.specs.declared.script_line.ScriptLine.{ScriptLine}
-use Rattle.script_text.specs.declared.script_line.ScriptLine.TheVariants.{Log}
 use Rattle.script_text.specs.Views.{ScriptView, SaidView}
 use Rattle.script_text.specs.Lines.{Ended, lines_of, ended, Lacks, is_plain, is_line, is_whole, longest_line}
-use Rattle.script_text.specs.Words.{joined, hex_text, bodies_text, name_at}
 use Rattle.script_text.specs.Grammar.{words_in, line_text, first_line, nothing_said, said_after, texts_of, MaySay, AreLines, IsScript, IsScriptText, script_lines, script_text, is_silent, telling}
 use Rattle.script_text.proofs.LineLaws.{line_first, no_lines}
 use Rattle.script_text.proofs.BodyLaws.{both, between_from, joined_plain}
-use Rattle.script_text.proofs.ScriptLaws.{AreKnown, none_known, known_after, words_are_words, not_silent}
+use Rattle.script_text.proofs.NameLaws.{AreKnown, none_known}
+use Rattle.script_text.proofs.SenseLaws.{AreFew, known_after, nodes_after, words_are_words, not_silent}
 
 -- ## Texts of lines
 plain_lacks : (line : List ℕ) → list_all is_plain line ≡ true → Lacks 10 line
@@ -59,17 +58,20 @@ all_told [] h = refl
 all_told (line ∷ lines) h = rw h.0.loud (ap (λ ls. line ∷ ls) (all_told lines h.1))
 
 -- ## A script's lines
-line_printed : (said : SaidView) (line : ScriptLine) → AreKnown said.names → MaySay said line → IsPrinted (line_text said.names line)
-line_printed said line k m =
+line_printed : (said : SaidView) (line : ScriptLine) → AreKnown said.names → AreFew said → MaySay said line → IsPrinted (line_text said.names line)
+line_printed said line k f m =
     record {
-      whole = line_is (line_text said.names line) (joined_plain (words_in said.names line) (words_are_words said.names line k m.sense)) m.fits;
+      whole = line_is (line_text said.names line) (joined_plain (words_in said.names line) (words_are_words said line k f m.sense)) m.fits;
       loud = not_silent said.names line;
     }
 
-lines_printed : (said : SaidView) (lines : List ScriptLine) → AreKnown said.names → AreLines said lines → AllByRecursion IsPrinted (texts_of said lines)
+few_after : (said : SaidView) (line : ScriptLine) → AreFew said → AreFew (said_after said line)
+few_after said line f = subst (λ (n : ℕ). n < 16) (sym (nodes_after said line)) f
+
+lines_printed : (said : SaidView) (lines : List ScriptLine) → AreKnown said.names → AreFew said → AreLines said lines → AllByRecursion IsPrinted (texts_of said lines)
 unfolding texts_of AreLines
-lines_printed said [] k a = tt
-lines_printed said (line ∷ lines) k a = (line_printed said line k a.0, lines_printed (said_after said line) lines (known_after said line k a.0.sense) a.1)
+lines_printed said [] k f a = tt
+lines_printed said (line ∷ lines) k f a = (line_printed said line k f a.0, lines_printed (said_after said line) lines (known_after said line k a.0.sense) (few_after said line f) a.1)
 
 first_printed : (nodes : ℕ) → 0 < nodes → nodes < 16 → IsPrinted (first_line nodes)
 unfolding is_line digits
@@ -93,7 +95,7 @@ first_printed (suc (suc (suc (suc (suc (suc (suc (suc (suc (suc (suc (suc (suc (
 
 pub has_its_text : (s : ScriptView) → IsScript s → IsScriptText (script_text s) s
 has_its_text s h =
-    let printed : AllByRecursion IsPrinted (script_lines s) = (first_printed s.nodes h.some h.most, lines_printed nothing_said s.lines none_known h.lines) in
+    let printed : AllByRecursion IsPrinted (script_lines s) = (first_printed s.nodes h.some h.most, lines_printed (nothing_said s.nodes) s.lines none_known h.most h.lines) in
     let again : lines_of (script_text s) ≡ map Ended (script_lines s) = lines_again (script_lines s) printed in
     record {
       whole = ap (list_all is_whole) again ∙ all_whole (script_lines s) printed;
@@ -102,20 +104,6 @@ has_its_text s h =
     }
 
 -- ## Printed line by line
-joined_bodies : (word : List ℕ) (bodies : List (List ℕ)) → joined (word ∷ map hex_text bodies) ≡ word ++ bodies_text bodies
-joined_bodies word [] = sym (append-nil word)
-joined_bodies word (b ∷ bs) = ap (λ t. word ++ 32 ∷ t) (joined_bodies (hex_text b) bs)
-
--- the text of a log line
-pub log_text : (names : List (List ℕ)) (actor : ℕ) (bodies : List (List ℕ)) → line_text names (Log actor bodies) ≡ 108 ∷ 111 ∷ 103 ∷ 32 ∷ (name_at names actor ++ bodies_text bodies)
-log_text names actor bodies = ap (λ t. 108 ∷ 111 ∷ 103 ∷ 32 ∷ t) (joined_bodies (name_at names actor) bodies)
-
-pub log_appends : (old word named new : List ℕ) (names : List (List ℕ)) (actor : ℕ) (bodies : List (List ℕ)) (line : ScriptLine) → line ≡ Log actor bodies → word ≡ old ++ codes "log "
-    → named ≡ word ++ name_at names actor → new ≡ named ++ bodies_text bodies → new ≡ old ++ line_text names line
-log_appends old word named new names actor bodies line e w n b =
-    b ∙ ap (λ x. x ++ bodies_text bodies) (n ∙ ap (λ x. x ++ name_at names actor) w) ∙ append_assoc (old ++ codes "log ") (name_at names actor) (bodies_text bodies)
-    ∙ append_assoc old (codes "log ") (name_at names actor ++ bodies_text bodies) ∙ ap (λ x. old ++ x) (sym (log_text names actor bodies)) ∙ ap (λ l. old ++ line_text names l) (sym e)
-
 -- what is written, and what is left to write
 pub record IsWritten (out : List ℕ) (said : SaidView) (left : List ScriptLine) (all : List ℕ) : Type 0 where
   pub text : out ++ ended (texts_of said left) ≡ all
@@ -138,13 +126,13 @@ unfolding AreLines
 lines_first said line lines h = h
 
 -- before the first of these lines
-pub written_start : (out : List ℕ) (s : ScriptView) (said : SaidView) → said ≡ nothing_said → IsScript s → out ≡ first_line s.nodes ++ 10 ∷ [] → IsWritten out said s.lines (script_text s)
+pub written_start : (out : List ℕ) (s : ScriptView) (said : SaidView) → said ≡ nothing_said s.nodes → IsScript s → out ≡ first_line s.nodes ++ 10 ∷ [] → IsWritten out said s.lines (script_text s)
 written_start out s said e h o =
     let P : SaidView → Type 0 = λ v. IsWritten out v s.lines (script_text s) in
     subst P (sym e) (record {
       text =
-          ap (λ t. t ++ ended (texts_of nothing_said s.lines)) o ∙ append_assoc (first_line s.nodes) (10 ∷ []) (ended (texts_of nothing_said s.lines))
-          ∙ sym (ended_first (first_line s.nodes) (texts_of nothing_said s.lines));
+          ap (λ t. t ++ ended (texts_of (nothing_said s.nodes) s.lines)) o ∙ append_assoc (first_line s.nodes) (10 ∷ []) (ended (texts_of (nothing_said s.nodes) s.lines))
+          ∙ sym (ended_first (first_line s.nodes) (texts_of (nothing_said s.nodes) s.lines));
       lines = h.lines;
     })
 

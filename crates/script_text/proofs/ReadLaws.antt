@@ -1,22 +1,21 @@
 -- The reader, one line on.
-use Rattle.std.proofs.Common.{ℕ, ◌≡◌, ◌<◌, ◌≤◌, ◌+◌, List, [], ◌∷◌, ◌++◌, length, Option, Some, None, Bool, true, false, ◌&&◌, refl, sym, ap, arith, ◌∙◌, append_assoc, append-nil, nat_le, cond, subst}
-use Rattle.std.specs.Prelude.{IsSome}
+use Rattle.std.proofs.Common.{ℕ, ◌≡◌, ◌<◌, ◌≤◌, ◌+◌, List, [], ◌∷◌, ◌++◌, length, drop, Option, Some, None, Bool, true, false, ◌&&◌, refl, sym, ap, arith, ◌∙◌, append_assoc, append-nil, nat_le, cond, subst}
+use Rattle.std.specs.Prelude.{Result, Ok, Err, IfOk, IfSome, IfNone, is_none}
 use Rattle.std.specs.List.{list_all}
 use Rattle.std.proofs.lemmas.Slice.Eq.{bytes_eq-Decides}
 use Rattle.std.proofs.lemmas.Bool.{false≢true}
 use Rattle.std.proofs.lemmas.Bool.Decides.{nat_tests}
-use Rattle.script_text.specs.declared.kind.Kind.{Kind}
-use Rattle.script_text.specs.declared.kind.Kind.TheVariants as kind
 use Rattle.script_text.specs.declared.script_line.ScriptLine.{ScriptLine}
 use Rattle.script_text.specs.Views.{ScriptView, SaidView, ReadingView}
 use Rattle.script_text.specs.Lines.{Ended, lines_of, is_plain, is_line, is_whole, Lacks, longest_line}
-use Rattle.script_text.specs.Words.{words_of, first_word, joined}
-use Rattle.script_text.specs.Grammar.{keyword, kind_in, words_in, operands, line_text, first_line, texts_of, nothing_said, said_after, MaySay, AreLines, IsScriptText, is_silent, unless_silent, telling}
-use Rattle.script_text.specs.Rules.{kind_of, nodes_of, rule_said, rule_of, said_in, said_next, said_behind, or_later, fault_at_end, first_fault, fault_of}
-use Rattle.script_text.specs.Reading.{Says, said_if, said_of, told_if, told, all_said, HasNodes, IsSound, Takes, IsBehind, nothing_read}
+use Rattle.script_text.specs.Words.{words_of, first_word}
+use Rattle.script_text.specs.Grammar.{words_in, operands, line_text, first_line, texts_of, nothing_said, said_after, MaySay, AreLines, IsScript, script_lines, IsScriptText, is_silent, unless_silent, telling}
+use Rattle.script_text.specs.Rules.{kind_of, nodes_of, rule_said, rule_of, said_in, said_first, said_next, said_behind, or_later, fault_at_end, first_fault, fault_of}
+use Rattle.script_text.specs.Reading.{Says, told_if, told, all_said, AreSaidBy, IsSoundIf, IsSound, script_of, Adds, Takes, IsBehind, nothing_read}
 use Rattle.script_text.proofs.LineLaws.{line_first, line_open, no_lines}
-use Rattle.script_text.proofs.KindLaws.{kind_is, words_joined}
+use Rattle.script_text.proofs.WordLaws.{text_is}
 use Rattle.script_text.proofs.FirstLaws.{told_is}
+use Rattle.script_text.proofs.SenseLaws.{kind_of_words, nodes_after}
 
 -- ## Lists of lines, one longer
 pub texts_push : (said : SaidView) (lines : List ScriptLine) (line : ScriptLine) → texts_of said (lines ++ line ∷ []) ≡ texts_of said lines ++ line_text (all_said said lines).names line ∷ []
@@ -34,21 +33,11 @@ unfolding AreLines all_said
 lines_push said [] line h m = (m, tt)
 lines_push said (l ∷ lines) line h m = (h.0, lines_push (said_after said l) lines line h.1 m)
 
--- ## The kind of a line's words
-first_keyword : (k : Kind) (words : List (List ℕ)) → first_word (keyword k ∷ words) ≡ keyword k
-first_keyword kind.Writer words = refl
-first_keyword kind.Takeover words = refl
-first_keyword kind.Log words = refl
-
-pub kind_of_words : (names : List (List ℕ)) (line : ScriptLine) → kind_of (first_word (words_in names line)) ≡ Some (kind_in line)
-kind_of_words names line = ap kind_of (first_keyword (kind_in line) (operands names line)) ∙ kind_is (kind_in line)
-
+-- ## What a line says
 -- what a line says is what its words say
-pub said_is : (said : SaidView) (text : List ℕ) (line : ScriptLine) → words_of text ≡ words_in said.names line → said_next (Some said) text ≡ said_after said line
-said_is said text line e = ap (λ ws. said_in said (kind_of (first_word ws)) ws) e ∙ ap (λ k. said_in said k (words_in said.names line)) (kind_of_words said.names line)
-
-pub text_is : (text : List ℕ) (words : List (List ℕ)) → words_of text ≡ words → text ≡ joined words
-text_is text words e = sym (words_joined text) ∙ ap joined e
+pub said_is : (said : SaidView) (text : List ℕ) (line : ScriptLine) → words_of text ≡ words_in said.names line → said_next (Some said) text ≡ Some (said_after said line)
+said_is said text line e =
+    ap (λ ws. Some (said_in said (kind_of (first_word ws)) (drop 1 ws))) e ∙ ap (λ k. Some (said_in said k (operands said.names line))) (kind_of_words said.names line)
 
 both_true : (a b : Bool) → (a && b) ≡ true → (a ≡ true) × (b ≡ true)
 both_true true b e = (refl, e)
@@ -62,7 +51,7 @@ unfolding is_line
 line_fits text e = le_from (length text) longest_line (both_true (list_all is_plain text) (nat_le (length text) longest_line) e).1
 
 -- ## Any line
-pub bad_line : (r : ReadingView) (text : List ℕ) → is_line text ≡ false → rule_of (said_of r) text ≡ Some 10
+pub bad_line : (r : ReadingView) (text : List ℕ) → is_line text ≡ false → rule_of r.said text ≡ Some 10
 unfolding rule_of
 bad_line r text e = rw e refl
 
@@ -77,87 +66,113 @@ takes_silent r text s w q =
       sound = s;
     }
 
-pub ruleset takes = (bad_line, takes_silent)
-
 -- ## The first line
-pub first_broken : (r : ReadingView) (text : List ℕ) → r.nodes ≡ None → is_line text ≡ true → is_silent text ≡ false → nodes_of text ≡ None → rule_of (said_of r) text ≡ Some 1
+first_rule : (text : List ℕ) (o : Option ℕ) → is_line text ≡ true → is_silent text ≡ false → nodes_of text ≡ o → rule_of None text ≡ cond (is_none o) (Some 1) None
 unfolding rule_of rule_said
-first_broken r text n w q e = ap (λ o. rule_of (said_if o r.said) text) n ∙ rw (w, q, e) refl
+first_rule text o w q e = rw (w, q, e) refl
 
-begun : (nodes : Option ℕ) (said : SaidView) (lines : List ScriptLine) (text : List ℕ) (m : ℕ) → nodes ≡ None → IsSound (record { nodes = nodes; said = said; lines = lines })
-    → is_line text ≡ true → is_silent text ≡ false → nodes_of text ≡ Some m
-    → Takes (record { nodes = nodes; said = said; lines = lines }) text (record { nodes = Some m; said = said; lines = lines })
-unfolding rule_of rule_said said_behind texts_of AreLines all_said
-begun (Some k) said lines text m n s w q e = cc
-begun None said (l ∷ lines) text m n s w q e = absurd (cons_nil l lines s.nodes)
+first_behind : (text : List ℕ) (o : Option ℕ) → is_silent text ≡ false → nodes_of text ≡ o → said_behind None text ≡ said_first o
+unfolding said_behind
+first_behind text o q e = rw (q, e) refl
+
+pub first_broken : (r : ReadingView) (text : List ℕ) → r.said ≡ None → is_line text ≡ true → is_silent text ≡ false → nodes_of text ≡ None → rule_of r.said text ≡ Some 1
+first_broken r text n w q e = ap (λ o. rule_of o text) n ∙ first_rule text None w q e
+
+said_nothing : (nodes : ℕ) → 0 < nodes → nodes < 16 → AreSaidBy (nothing_said nodes) []
+unfolding all_said AreLines
+said_nothing nodes s l = record { some = s; most = l; said = refl; lines = tt }
+
+texts_nothing : (nodes : ℕ) → texts_of (nothing_said nodes) [] ≡ []
+unfolding texts_of
+texts_nothing nodes = refl
+
+begun : (said : Option SaidView) (lines : List ScriptLine) (text : List ℕ) (m : ℕ) → said ≡ None → IsSoundIf said lines → is_line text ≡ true → is_silent text ≡ false → nodes_of text ≡ Some m
+    → Takes (record { said = said; lines = lines }) text (record { said = Some (nothing_said m); lines = lines })
+begun (Some v) lines text m n s w q e = cc
+begun None (l ∷ lines) text m n s w q e = absurd (cons_nil l lines s)
   where
     cons_nil : (l : ScriptLine) (lines : List ScriptLine) → l ∷ lines ≡ [] → ⊥
     cons_nil l lines e = cc
-begun None said [] text m n s w q e =
+begun None [] text m n s w q e =
     let t = told_is text m e in
     record {
       whole = w;
-      rule = rw (w, q, e) refl;
-      behind = rw q (ap Some s.said);
-      told = rw q (ap (λ t. t ∷ []) (sym ((bytes_eq-Decides text (first_line m)).0 t.0)));
-      sound = record { nodes = (t.1, t.2); said = s.said; lines = tt };
+      rule = first_rule text (Some m) w q e;
+      behind = sym (first_behind text (Some m) q e);
+      told = rw q (ap (λ ts. first_line m ∷ ts) (texts_nothing m) ∙ ap (λ t. t ∷ []) (sym ((bytes_eq-Decides text (first_line m)).0 t.0)));
+      sound = said_nothing m t.1 t.2;
     }
 
-pub first_taken : (r : ReadingView) (text : List ℕ) (m : ℕ) → r.nodes ≡ None → IsSound r → is_line text ≡ true → is_silent text ≡ false → nodes_of text ≡ Some m
-    → Takes r text (record { nodes = Some m; said = r.said; lines = r.lines })
-first_taken r text m n s w q e = begun r.nodes r.said r.lines text m n s w q e
+abbrev pub reading : Option SaidView → List ScriptLine → ReadingView
+reading said lines = record { said = said; lines = lines }
 
-pub ruleset begins = (first_broken, first_taken)
+pub first_taken : (r : ReadingView) (o : Option SaidView) (read : List ScriptLine) (v : SaidView) (text : List ℕ) (m : ℕ) → reading o read ≡ r → o ≡ None → v ≡ nothing_said m → IsSound r
+    → is_line text ≡ true → is_silent text ≡ false → nodes_of text ≡ Some m → Takes r text (reading (Some v) read)
+first_taken r o read v text m is n e s w q t =
+    let P : ReadingView → Type 0 = λ x. Takes x text (reading (Some v) read) in
+    let Q : SaidView → Type 0 = λ u. Takes (reading o read) text (reading (Some u) read) in
+    subst P is (subst Q (sym e) (begun o read text m n (subst (λ (x : ReadingView). IsSound x) (sym is) s) w q t))
 
 -- ## A later line
-pub later_broken : (r : ReadingView) (text : List ℕ) (rule : ℕ) → IsSome r.nodes → is_line text ≡ true → is_silent text ≡ false → rule_said (Some r.said) text ≡ Some rule
-    → rule_of (said_of r) text ≡ Some rule
+later_rule_of : (said : SaidView) (text : List ℕ) → is_line text ≡ true → is_silent text ≡ false → rule_of (Some said) text ≡ rule_said (Some said) text
 unfolding rule_of
-later_broken r text rule n w q e = broken r.nodes n ∙ rw (w, q) e
-  where
-    broken : (nodes : Option ℕ) → IsSome nodes → rule_of (said_if nodes r.said) text ≡ rule_of (Some r.said) text
-    broken None h = absurd (false≢true h)
-    broken (Some k) h = refl
+later_rule_of said text w q = rw (w, q) refl
 
-gone_on : (nodes : Option ℕ) (said : SaidView) (lines : List ScriptLine) (text : List ℕ) (line : ScriptLine) → IsSome nodes → IsSound (record { nodes = nodes; said = said; lines = lines })
-    → is_line text ≡ true → is_silent text ≡ false → Says said text line
-    → Takes (record { nodes = nodes; said = said; lines = lines }) text (record { nodes = nodes; said = said_after said line; lines = lines ++ line ∷ [] })
-unfolding rule_of said_behind
-gone_on None said lines text line n s w q e = absurd (false≢true n)
-gone_on (Some k) said lines text line n s w q e =
+later_behind : (said : SaidView) (text : List ℕ) → is_silent text ≡ false → said_behind (Some said) text ≡ said_next (Some said) text
+unfolding said_behind
+later_behind said text q = rw q refl
+
+gone_on : (said : SaidView) (lines : List ScriptLine) (text : List ℕ) (line : ScriptLine) → AreSaidBy said lines → is_line text ≡ true → is_silent text ≡ false → Says said text line
+    → Takes (record { said = Some said; lines = lines }) text (record { said = Some (said_after said line); lines = lines ++ line ∷ [] })
+gone_on said lines text line s w q e =
     let same : text ≡ line_text said.names line = text_is text (words_in said.names line) e.words in
-    let may : MaySay said line = record { sense = e.sense; once = e.once; fits = subst (λ (t : List ℕ). length t ≤ longest_line) same (line_fits text w) } in
+    let may : MaySay said line = record { sense = e.sense; fits = subst (λ (t : List ℕ). length t ≤ longest_line) same (line_fits text w) } in
+    let first : SaidView = nothing_said said.nodes in
+    let nodes : (said_after said line).nodes ≡ said.nodes = nodes_after said line in
+    let more : texts_of first (lines ++ line ∷ []) ≡ texts_of first lines ++ text ∷ [] =
+    texts_push first lines line ∙ ap (λ (v : SaidView). texts_of first lines ++ line_text v.names line ∷ []) (sym s.said) ∙ ap (λ t. texts_of first lines ++ t ∷ []) (sym same) in
     record {
       whole = w;
-      rule = rw (w, q) e.rule;
-      behind = rw q (ap Some (sym (said_is said text line e.words)));
-      told =
-          rw q (ap (λ ts. first_line k ∷ ts) (texts_push nothing_said lines line ∙ ap (λ (v : SaidView). texts_of nothing_said lines ++ line_text v.names line ∷ []) (sym s.said)
-          ∙ ap (λ t. texts_of nothing_said lines ++ t ∷ []) (sym same)));
+      rule = later_rule_of said text w q ∙ e.rule;
+      behind = sym (later_behind said text q ∙ said_is said text line e.words);
+      told = rw q (ap (λ n. first_line n ∷ texts_of (nothing_said n) (lines ++ line ∷ [])) nodes ∙ ap (λ ts. first_line said.nodes ∷ ts) more);
       sound =
           record {
-            nodes = s.nodes;
-            said = ap (λ v. said_after v line) s.said ∙ sym (said_push nothing_said lines line);
-            lines = lines_push nothing_said lines line s.lines (subst (λ (v : SaidView). MaySay v line) s.said may);
+            some = subst (λ n. 0 < n) (sym nodes) s.some;
+            most = subst (λ n. n < 16) (sym nodes) s.most;
+            said = ap (λ v. said_after v line) s.said ∙ sym (said_push first lines line) ∙ ap (λ n. all_said (nothing_said n) (lines ++ line ∷ [])) (sym nodes);
+            lines = subst (λ n. AreLines (nothing_said n) (lines ++ line ∷ [])) (sym nodes) (lines_push first lines line s.lines (subst (λ (v : SaidView). MaySay v line) s.said may));
           };
     }
 
-pub later_taken : (r : ReadingView) (text : List ℕ) (line : ScriptLine) → IsSome r.nodes → IsSound r → is_line text ≡ true → is_silent text ≡ false → Says r.said text line
-    → Takes r text (record { nodes = r.nodes; said = said_after r.said line; lines = r.lines ++ line ∷ [] })
-later_taken r text line n s w q e = gone_on r.nodes r.said r.lines text line n s w q e
+added : (said now : SaidView) (read all : List ScriptLine) (text : List ℕ) → AreSaidBy said read → is_line text ≡ true → is_silent text ≡ false → Adds said read text now all
+    → Takes (reading (Some said) read) text (reading (Some now) all)
+added said now read all text s w q a =
+    let P : SaidView → Type 0 = λ v. Takes (reading (Some said) read) text (reading (Some v) all) in
+    let Q : List ScriptLine → Type 0 = λ ls. Takes (reading (Some said) read) text (reading (Some (said_after said a.line)) ls) in
+    subst P (sym a.said) (subst Q (sym a.lines) (gone_on said read text a.line s w q a.says))
 
-pub ruleset goes_on = (later_broken, later_taken)
+pub later_taken : {E : Type 0} (r : ReadingView) (o : Option SaidView) (read all : List ScriptLine) (said now : SaidView) (text : List ℕ) (res : Result (Option ℕ) E) → reading o read ≡ r → o ≡ Some said → IsSound r
+    → is_line text ≡ true → is_silent text ≡ false → IfOk res (λ x. IfNone x (Adds said read text now all)) → IfOk res (λ x. IfNone x (Takes r text (reading (Some now) all)))
+later_taken r o read all said now text (Ok None) is n s w q h =
+    let P : ReadingView → Type 0 = λ x. Takes x text (reading (Some now) all) in
+    let same : reading (Some said) read ≡ r = ap (λ v. reading v read) (sym n) ∙ is in
+    subst P same (added said now read all text (subst (λ (x : ReadingView). IsSound x) (sym same) s) w q h)
+later_taken r o read all said now text (Ok (Some rule)) is n s w q h = h
+later_taken r o read all said now text (Err e) is n s w q h = h
 
-pub later_into : (r : ReadingView) (said : SaidView) (text : List ℕ) (line : ScriptLine) (old new : ReadingView) → said ≡ r.said → old ≡ r → IsSome r.nodes → IsSound r → is_line text ≡ true → is_silent text ≡ false
-    → Says said text line → new ≡ record { nodes = old.nodes; said = said_after old.said line; lines = old.lines ++ line ∷ [] } → Takes r text new
-later_into r said text line old new v o n s w q e f =
-    let says : Says r.said text line = subst (λ (u : SaidView). Says u text line) v e in
-    let is : new ≡ record { nodes = r.nodes; said = said_after r.said line; lines = r.lines ++ line ∷ [] } =
-    f ∙ ap (λ (x : ReadingView). let y : ReadingView = record { nodes = x.nodes; said = said_after x.said line; lines = x.lines ++ line ∷ [] } in y) o in
-    subst (λ (x : ReadingView). Takes r text x) (sym is) (later_taken r text line n s w q says)
+pub later_broken : {E : Type 0} (r : ReadingView) (o : Option SaidView) (read : List ScriptLine) (said : SaidView) (text : List ℕ) (res : Result (Option ℕ) E) → reading o read ≡ r → o ≡ Some said
+    → is_line text ≡ true → is_silent text ≡ false → IfOk res (λ x. IfSome x (λ rule. rule_said (Some said) text ≡ Some rule)) → IfOk res (λ x. IfSome x (λ rule. rule_of r.said text ≡ Some rule))
+later_broken r o read said text (Ok None) is n w q h = h
+later_broken r o read said text (Ok (Some rule)) is n w q h =
+    let same : r.said ≡ Some said = ap (λ (x : ReadingView). x.said) (sym is) ∙ n in
+    ap (λ v. rule_of v text) same ∙ later_rule_of said text w q ∙ h
+later_broken r o read said text (Err e) is n w q h = h
+
+pub ruleset takes = (bad_line, takes_silent, first_broken)
 
 -- ## All lines
-pub behind_none : (bytes : List ℕ) (r : ReadingView) → IsSound r → said_of r ≡ None → told r ≡ [] → IsBehind bytes 0 r bytes
+pub behind_none : (bytes : List ℕ) (r : ReadingView) → IsSound r → r.said ≡ None → told r ≡ [] → IsBehind bytes 0 r bytes
 unfolding fault_of
 behind_none bytes r s n t =
     record {
@@ -169,8 +184,7 @@ behind_none bytes r s n t =
     }
 
 pub behind_start : (bytes : List ℕ) → IsBehind bytes 0 nothing_read bytes
-unfolding all_said AreLines
-behind_start bytes = behind_none bytes nothing_read (record { nodes = refl; said = refl; lines = tt }) refl refl
+behind_start bytes = behind_none bytes nothing_read refl refl refl
 
 says_more : (before text : List (List ℕ)) (line : List ℕ) → (before ++ unless_silent line []) ++ text ≡ before ++ unless_silent line text
 says_more before text line = by (is_silent line)
@@ -189,8 +203,8 @@ behind_more bytes count r rest line others new b e l n t =
       sound = t.sound;
       fault =
           ap (λ o. first_fault (count + 1 + 1) o (lines_of others)) t.behind
-          ∙ sym (ap (λ o. or_later (count + 1) o (first_fault (count + 1 + 1) (said_behind (said_of r) line) (lines_of others))) t.rule)
-          ∙ sym (ap (first_fault (count + 1) (said_of r)) at) ∙ b.fault;
+          ∙ sym (ap (λ o. or_later (count + 1) o (first_fault (count + 1 + 1) (said_behind (r.said) line) (lines_of others))) t.rule)
+          ∙ sym (ap (first_fault (count + 1) (r.said)) at) ∙ b.fault;
       whole = sym (ap (λ w. w && list_all is_whole (lines_of others)) t.whole) ∙ sym (ap (list_all is_whole) at) ∙ b.whole;
       says =
           ap (λ ts. ts ++ telling (lines_of others)) t.told ∙ says_more (told r) (telling (lines_of others)) line
@@ -200,29 +214,37 @@ behind_more bytes count r rest line others new b e l n t =
 
 pub behind_open : (bytes : List ℕ) (count : ℕ) (r : ReadingView) (rest : List ℕ) → IsBehind bytes count r rest → Lacks 10 rest → 0 < length rest → fault_of bytes ≡ Some (count + 1, 10)
 unfolding first_fault
-behind_open bytes count r rest b l n = sym b.fault ∙ ap (first_fault (count + 1) (said_of r)) (line_open rest l n)
+behind_open bytes count r rest b l n = sym b.fault ∙ ap (first_fault (count + 1) (r.said)) (line_open rest l n)
 
 pub behind_broken : (bytes : List ℕ) (count : ℕ) (r : ReadingView) (rest line others : List ℕ) (rule : ℕ) → IsBehind bytes count r rest → rest ≡ line ++ 10 ∷ others → Lacks 10 line
-    → rule_of (said_of r) line ≡ Some rule → fault_of bytes ≡ Some (count + 1, rule)
+    → rule_of (r.said) line ≡ Some rule → fault_of bytes ≡ Some (count + 1, rule)
 unfolding first_fault
 behind_broken bytes count r rest line others rule b e l f =
-    sym b.fault ∙ ap (first_fault (count + 1) (said_of r)) (line_first rest line others e l)
-    ∙ ap (λ o. or_later (count + 1) o (first_fault (count + 1 + 1) (said_behind (said_of r) line) (lines_of others))) f
+    sym b.fault ∙ ap (first_fault (count + 1) (r.said)) (line_first rest line others e l)
+    ∙ ap (λ o. or_later (count + 1) o (first_fault (count + 1 + 1) (said_behind (r.said) line) (lines_of others))) f
 
-pub behind_nothing : (bytes : List ℕ) (count : ℕ) (r : ReadingView) (rest : List ℕ) → IsBehind bytes count r rest → rest ≡ [] → r.nodes ≡ None → fault_of bytes ≡ Some (1, 1)
+pub behind_nothing : (bytes : List ℕ) (count : ℕ) (r : ReadingView) (rest : List ℕ) → IsBehind bytes count r rest → rest ≡ [] → None ≡ script_of r.said r.lines → fault_of bytes ≡ Some (1, 1)
 unfolding first_fault
 behind_nothing bytes count r rest b e n =
-    sym b.fault ∙ ap (first_fault (count + 1) (said_of r)) (no_lines rest e) ∙ ap (λ o. fault_at_end (said_if o r.said)) n
+    sym b.fault ∙ ap (first_fault (count + 1) r.said) (no_lines rest e) ∙ ap fault_at_end (no_script r.said r.lines n)
+  where
+    no_script : (said : Option SaidView) (lines : List ScriptLine) → None ≡ script_of said lines → said ≡ None
+    no_script None lines e = refl
+    no_script (Some v) lines e = cc
 
-told_some : (nodes : Option ℕ) (lines : List ScriptLine) (s : ScriptView) → nodes ≡ Some s.nodes → s.lines ≡ lines → told_if nodes lines ≡ first_line s.nodes ∷ texts_of nothing_said s.lines
-told_some nodes lines s n l = ap (λ o. told_if o lines) n ∙ ap (λ ls. first_line s.nodes ∷ texts_of nothing_said ls) (sym l)
+all_told : (said : Option SaidView) (lines : List ScriptLine) (s : ScriptView) → Some s ≡ script_of said lines → IsSoundIf said lines → (told_if said lines ≡ script_lines s) × IsScript s
+all_told None lines s e h = cc
+all_told (Some v) lines s e h =
+    let t : ScriptView = record { nodes = v.nodes; lines = lines } in
+    let same : t ≡ s = cc in
+    subst (λ (x : ScriptView). (told_if (Some v) lines ≡ script_lines x) × IsScript x) same (refl, record { some = h.some; most = h.most; lines = h.lines })
 
-pub behind_all : (bytes : List ℕ) (count : ℕ) (r : ReadingView) (rest : List ℕ) (s : ScriptView) → IsBehind bytes count r rest → rest ≡ [] → r.nodes ≡ Some s.nodes → s.lines ≡ r.lines → IsScriptText bytes s
-behind_all bytes count r rest s b e n l =
+pub behind_all : (bytes : List ℕ) (count : ℕ) (r : ReadingView) (rest : List ℕ) (s : ScriptView) → IsBehind bytes count r rest → rest ≡ [] → Some s ≡ script_of r.said r.lines → IsScriptText bytes s
+behind_all bytes count r rest s b e n =
     let none : lines_of rest ≡ [] = no_lines rest e in
-    let nodes : (0 < s.nodes) × (s.nodes < 16) = subst (λ o. HasNodes o r.lines) n b.sound.nodes in
+    let all = all_told r.said r.lines s n b.sound in
     record {
       whole = sym b.whole ∙ ap (list_all is_whole) none;
-      says = sym b.says ∙ ap (λ ls. told r ++ telling ls) none ∙ append-nil (told r) ∙ told_some r.nodes r.lines s n l;
-      script = record { some = nodes.0; most = nodes.1; lines = subst (AreLines nothing_said) (sym l) b.sound.lines };
+      says = sym b.says ∙ ap (λ ls. told r ++ telling ls) none ∙ append-nil (told r) ∙ all.0;
+      script = all.1;
     }

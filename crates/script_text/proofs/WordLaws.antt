@@ -1,10 +1,13 @@
 -- Words, and bodies in hexadecimal.
-use Rattle.std.proofs.Common.{ℕ, ◌≡◌, ◌≢◌, ◌<◌, ◌≤◌, ◌+◌, ◌*◌, ◌/◌, set, List, [], ◌∷◌, ◌++◌, length, Bool, true, false, ◌&&◌, refl, sym, ap, arith, ◌∙◌, append-nil, take, map, inl, inr, nat_le, not, subst}
+use Rattle.std.proofs.Common.{ℕ, ◌≡◌, ◌≢◌, ◌<◌, ◌≤◌, ◌+◌, ◌*◌, ◌/◌, set, List, [], ◌∷◌, ◌++◌, length, Bool, true, false, ◌&&◌, refl, sym, ap, arith, ◌∙◌, append-nil, take, drop, get_or, ◌-◌, map, inl, inr, nat_le, not, subst, cond}
 use Rattle.std.specs.List.{AllByRecursion, slice_split, onto_first}
 use Rattle.std.proofs.lemmas.Bool.Decides.{eqb_tells, nat_tests}
 use Rattle.std.proofs.lemmas.List.{take_more_set, nil_from_length}
+use Rattle.std.proofs.lemmas.List.Splits.{join_with_byte-slice_split}
+use Rattle.request_text.specs.Texts.{hex_text}
 use Rattle.script_text.specs.Lines.{Lacks}
-use Rattle.script_text.specs.Words.{is_space, words_of, hex_byte, hex_text, IsByte, IsBody, StandFor, is_body, is_hex, is_empty}
+use Rattle.request_text.proofs.WordLaws.{pair_of}
+use Rattle.script_text.specs.Words.{joined, is_space, words_of, hex_byte, IsByte, IsBody, StandFor, is_body, is_hex_digit, is_hex, is_empty}
 
 -- ## Words
 not_space : (b : ℕ) → b ≢ 32 → is_space b ≡ false
@@ -29,8 +32,43 @@ words_all word h = split_all word h
 
 pub ruleset splits = (words_more, words_all)
 
+pub words_joined : (text : List ℕ) → joined (words_of text) ≡ text
+unfolding words_of
+words_joined text = join_with_byte-slice_split 32 text
+
+one_is : (text : List ℕ) (words : List (List ℕ)) → joined words ≡ text → length words ≡ 1 → words ≡ text ∷ []
+one_is text [] j n = absurd (omega arith)
+one_is text (w ∷ []) j n = ap (λ x. x ∷ []) j
+one_is text (w ∷ v ∷ words) j n = absurd (omega arith)
+
+-- a text of one word
+pub one_word : (text : List ℕ) → length (words_of text) ≡ 1 → words_of text ≡ text ∷ []
+one_word text n = one_is text (words_of text) (words_joined text) n
+
+pub text_is : (text : List ℕ) (words : List (List ℕ)) → words_of text ≡ words → text ≡ joined words
+text_is text words e = sym (words_joined text) ∙ ap joined e
+
+onto_some : (b : ℕ) (parts : List (List ℕ)) → onto_first b parts ≢ []
+onto_some b [] e = cc
+onto_some b (part ∷ parts) e = cc
+
+split_some : (text : List ℕ) → slice_split is_space text ≢ []
+split_some [] e = cc
+split_some (b ∷ bs) e = cond_some (is_space b) (slice_split is_space bs) (onto_first b (slice_split is_space bs)) (onto_some b (slice_split is_space bs)) e
+  where
+    cond_some : (c : Bool) (xs ys : List (List ℕ)) → ys ≢ [] → cond c ([] ∷ xs) ys ≢ []
+    cond_some true xs ys n h = cc
+    cond_some false xs ys n h = n h
+
+-- there is a word in any text
+pub words_some : (text : List ℕ) → words_of text ≢ []
+unfolding words_of
+words_some text e = split_some text e
+
+pub ruleset counted = (one_word)
+
 -- ## Bodies
-some_of : (word : List ℕ) → 0 < length word → is_empty word ≡ false
+pub some_of : (word : List ℕ) → 0 < length word → is_empty word ≡ false
 some_of [] h = absurd (omega arith)
 some_of (b ∷ bs) h = refl
 
@@ -39,11 +77,13 @@ last_false true b = refl
 last_false false b = refl
 
 pub length-hex_text : (bytes : List ℕ) → length (hex_text bytes) ≡ 2 * length bytes
+unfolding hex_text
 length-hex_text [] = refl
 length-hex_text (b ∷ bs) = omega (arith, length-hex_text bs)
 
 -- one more byte
 pub hex_push : (bytes : List ℕ) (b high low : ℕ) (rest : List ℕ) → hex_byte b ≡ high ∷ low ∷ [] → hex_text (bytes ++ b ∷ []) ++ rest ≡ hex_text bytes ++ high ∷ low ∷ rest
+unfolding hex_text
 hex_push [] b high low rest e = ap (λ xs. xs ++ rest) e
 hex_push (c ∷ cs) b high low rest e = ap (λ xs. hex_byte c ++ xs) (hex_push cs b high low rest e)
 
@@ -71,7 +111,23 @@ stand_all word bytes rest at h all n two =
     let text : hex_text (take at bytes) ≡ word = sym (append-nil (hex_text (take at bytes))) ∙ ap (λ xs. hex_text (take at bytes) ++ xs) (sym none) ∙ h in
     subst (λ k. StandFor word (take k bytes)) (sym half) (record { text = text; bytes = all })
 
-pub ruleset hex_steps = (hex_set, bytes_set)
+-- two more digits
+pub hex_pair : (word rest bytes : List ℕ) (at b : ℕ) → 2 ≤ length rest → at < length bytes → is_hex rest ≡ is_hex word → hex_text (take at bytes) ++ rest ≡ word → AllByRecursion IsByte (take at bytes)
+    → 2 * at + length rest ≡ length word → ((is_hex_digit (get_or rest 0 0) && is_hex_digit (get_or rest 1 0)) ≡ true) × (hex_byte b ≡ get_or rest 0 0 ∷ get_or rest 1 0 ∷ []) × (b < 256)
+    → (is_hex (take (length rest - 2) (drop 2 rest)) ≡ is_hex word) × (hex_text (take (at + 1) (set bytes at b)) ++ take (length rest - 2) (drop 2 rest) ≡ word)
+    × AllByRecursion IsByte (take (at + 1) (set bytes at b)) × (2 * (at + 1) + length (take (length rest - 2) (drop 2 rest)) ≡ length word)
+hex_pair word rest bytes at b l k h t all n d =
+    let others : List ℕ = take (length rest - 2) (drop 2 rest) in
+    let high : ℕ = get_or rest 0 0 in
+    let low : ℕ = get_or rest 1 0 in
+    let pair : rest ≡ high ∷ low ∷ others = pair_of rest l in
+    let more : is_hex rest ≡ is_hex others = ap is_hex pair ∙ ap (λ x. x && is_hex others) d.0 in
+    let long : length rest ≡ length (high ∷ low ∷ others) = ap length pair in (
+      sym more ∙ h,
+      hex_set bytes at b high low others k d.1 ∙ ap (λ xs. hex_text (take at bytes) ++ xs) (sym pair) ∙ t,
+      bytes_set bytes at b all d.2 k,
+      omega arith,
+    )
 
 pub body_found : (word bytes body : List ℕ) → body ≡ bytes → hex_text bytes ≡ word → AllByRecursion IsByte bytes → is_hex word ≡ true → length word ≤ 8192
     → 0 < length word → (is_body word ≡ true) × (hex_text body ≡ word) × IsBody body
@@ -83,7 +139,7 @@ body_found word bytes body e h all hex most some =
     (rw (fits, hex, full) refl, ap hex_text e ∙ h, record { some = omega arith; most = omega arith; bytes = subst (AllByRecursion IsByte) (sym e) all })
 
 pub no_body : (word bytes : List ℕ) → bytes ≡ [] → hex_text bytes ≡ word → is_body word ≡ false
-unfolding is_body
+unfolding hex_text is_body
 no_body word bytes e h =
     let w : word ≡ [] = sym h ∙ ap hex_text e in
     rw w refl

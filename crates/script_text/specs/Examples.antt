@@ -1,6 +1,7 @@
 -- Scripts and texts, worked out at check time.
 use Rattle.std.specs.Prelude.{ℕ, List, [], ◌∷◌, ◌++◌, codes}
-use Rattle.script_text.specs.declared.script_line.ScriptLine.TheVariants.{Declare, Takeover, Log}
+use Rattle.node_world.specs.declared.stop.Stop.TheVariants as stop
+use Rattle.script_text.specs.declared.script_line.ScriptLine.TheVariants.{Declare, Takeover, Roll, Close, Log, Purge, Drop, Mute, Late, Kill, Restart, Arm}
 use Rattle.script_text.specs.Views.{ScriptView}
 use Rattle.script_text.specs.Lines.{ended}
 
@@ -20,6 +21,31 @@ one_writer_lines =
 abbrev pub commented_lines : List (List ℕ)
 commented_lines =
     codes "# three edits" ∷ [] ∷ codes "raw 3" ∷ codes "#" ∷ codes "writer a" ∷ codes "takeover a" ∷ [] ∷ codes "log a 0a" ∷ codes "log a 0b" ∷ codes "# the last" ∷ codes "log a 0c" ∷ []
+
+-- a line of each kind, over 15 nodes
+abbrev pub every_kind : ScriptView
+every_kind =
+    record {
+      nodes = 15;
+      lines =
+          Declare (97 ∷ []) ∷ Declare (98 ∷ 49 ∷ []) ∷ Drop 1 2 3 ∷ Mute 0 15 1 ∷ Arm 2 1 (stop.Effects 0) ∷ Takeover 0 ∷ Log 0 ((10 ∷ []) ∷ (255 ∷ 0 ∷ []) ∷ []) ∷ Roll 0 ∷ Purge 0 3 ∷ Kill 3 ∷ Restart 3
+          ∷ Late 0 1 10 ∷ Close 0 ∷ [];
+    }
+
+abbrev pub every_kind_lines : List (List ℕ)
+every_kind_lines =
+    codes "raw 15" ∷ codes "writer a" ∷ codes "writer b1" ∷ codes "drop b1 2 3" ∷ codes "mute a 15 1" ∷ codes "stop 2 1 0" ∷ codes "takeover a" ∷ codes "log a 0a ff00" ∷ codes "roll a" ∷ codes "purge a 3" ∷ codes "kill 3"
+    ∷ codes "restart 3" ∷ codes "late a 1 10" ∷ codes "close a" ∷ []
+
+-- three nodes and two writers, and then these lines
+abbrev pub after_two : List (List ℕ) → List ℕ
+after_two lines = ended (codes "raw 3" ∷ codes "writer a" ∷ codes "writer b" ∷ lines)
+
+-- eight writers, and then these lines
+abbrev pub after_eight : List (List ℕ) → List ℕ
+after_eight lines =
+    ended
+    (codes "raw 3" ∷ codes "writer a" ∷ codes "writer b" ∷ codes "writer c" ∷ codes "writer d" ∷ codes "writer e" ∷ codes "writer f" ∷ codes "writer g" ∷ codes "writer h" ∷ lines)
 
 -- these lines with their LF, and then bytes without
 abbrev pub cut_off : List (List ℕ) → List ℕ → List ℕ

@@ -1,30 +1,63 @@
 -- The grammar of scripts: how a script is spelled, and which texts are spelled so.
-use Rattle.std.specs.Prelude.{ℕ, ◌≡◌, ◌≢◌, ◌≤◌, ◌<◌, List, [], ◌∷◌, ◌++◌, Bool, true, false, None, ◌==◌, nat_lt, if◌then◌else◌, length, codes, map, decimal}
+use Rattle.std.specs.Prelude.{ℕ, ◌≡◌, ◌≢◌, ◌≤◌, ◌<◌, List, [], ◌∷◌, ◌++◌, Bool, true, None, ◌==◌, if◌then◌else◌, length, codes, map, decimal}
 use Rattle.std.specs.List.{list_all, AllByRecursion}
+use Rattle.request_text.specs.Texts.{hex_text}
+use Rattle.node_world.specs.declared.stop.Stop.TheVariants as stop
+use Rattle.script_text.specs.declared.task_word.TaskWord.TheVariants as task
+use Rattle.script_text.specs.declared.call_word.CallWord.TheVariants as call
+use Rattle.script_text.specs.declared.node_word.NodeWord.TheVariants as node
 use Rattle.script_text.specs.declared.kind.Kind.{Kind}
 use Rattle.script_text.specs.declared.kind.Kind.TheVariants as kind
 use Rattle.script_text.specs.declared.script_line.ScriptLine.{ScriptLine}
-use Rattle.script_text.specs.declared.script_line.ScriptLine.TheVariants.{Declare, Takeover, Log}
+use Rattle.script_text.specs.declared.script_line.ScriptLine.TheVariants as line
 use Rattle.script_text.specs.Views.{ScriptView, SaidView}
 use Rattle.script_text.specs.Lines.{Line, Ended, Open, lines_of, ended, longest_line, is_whole}
-use Rattle.script_text.specs.Words.{joined, word_at, is_name, actor_of, name_at, hex_text, IsBody}
+use Rattle.script_text.specs.Words.{joined, word_at, is_name, actor_of, name_at, greatest, IsBody}
 
 -- ## The kinds of line
 abbrev pub keyword : Kind → List ℕ
 keyword kind.Writer = codes "writer"
-keyword kind.Takeover = codes "takeover"
+keyword (kind.Task task.Takeover) = codes "takeover"
+keyword (kind.Task task.Roll) = codes "roll"
+keyword (kind.Task task.Close) = codes "close"
 keyword kind.Log = codes "log"
+keyword kind.Purge = codes "purge"
+keyword (kind.Call call.Drop) = codes "drop"
+keyword (kind.Call call.Mute) = codes "mute"
+keyword (kind.Call call.Late) = codes "late"
+keyword (kind.Node node.Kill) = codes "kill"
+keyword (kind.Node node.Restart) = codes "restart"
+keyword kind.Stop = codes "stop"
 
 abbrev pub kind_in : ScriptLine → Kind
-kind_in (Declare name) = kind.Writer
-kind_in (Takeover actor) = kind.Takeover
-kind_in (Log actor bodies) = kind.Log
+kind_in (line.Declare name) = kind.Writer
+kind_in (line.Takeover actor) = kind.Task task.Takeover
+kind_in (line.Roll actor) = kind.Task task.Roll
+kind_in (line.Close actor) = kind.Task task.Close
+kind_in (line.Log actor bodies) = kind.Log
+kind_in (line.Purge actor min) = kind.Purge
+kind_in (line.Drop actor i k) = kind.Call call.Drop
+kind_in (line.Mute actor i k) = kind.Call call.Mute
+kind_in (line.Late actor i k) = kind.Call call.Late
+kind_in (line.Kill i) = kind.Node node.Kill
+kind_in (line.Restart i) = kind.Node node.Restart
+kind_in (line.Arm i calls how) = kind.Stop
 
--- the words of a line, behind lines that declared these names
+-- the words behind the first, after lines that declared these names; a stop by disk calls has no text yet
 abbrev pub operands : List (List ℕ) → ScriptLine → List (List ℕ)
-operands names (Declare name) = name ∷ []
-operands names (Takeover actor) = name_at names actor ∷ []
-operands names (Log actor bodies) = name_at names actor ∷ map hex_text bodies
+operands names (line.Declare name) = name ∷ []
+operands names (line.Takeover actor) = name_at names actor ∷ []
+operands names (line.Roll actor) = name_at names actor ∷ []
+operands names (line.Close actor) = name_at names actor ∷ []
+operands names (line.Log actor bodies) = name_at names actor ∷ map hex_text bodies
+operands names (line.Purge actor min) = name_at names actor ∷ decimal min ∷ []
+operands names (line.Drop actor i k) = name_at names actor ∷ decimal i ∷ decimal k ∷ []
+operands names (line.Mute actor i k) = name_at names actor ∷ decimal i ∷ decimal k ∷ []
+operands names (line.Late actor i k) = name_at names actor ∷ decimal i ∷ decimal k ∷ []
+operands names (line.Kill i) = decimal i ∷ []
+operands names (line.Restart i) = decimal i ∷ []
+operands names (line.Arm i calls (stop.Effects keep)) = decimal i ∷ decimal calls ∷ decimal keep ∷ []
+operands names (line.Arm i calls (stop.DiskCalls after cut)) = []
 
 abbrev pub words_in : List (List ℕ) → ScriptLine → List (List ℕ)
 words_in names line = keyword (kind_in line) ∷ operands names line
@@ -33,23 +66,17 @@ abbrev pub line_text : List (List ℕ) → ScriptLine → List ℕ
 line_text names line = joined (words_in names line)
 
 -- ## What the lines so far said
-abbrev pub nothing_said : SaidView
-nothing_said = record { names = []; taken = false }
+-- the first line that says something told the number of nodes
+abbrev pub nothing_said : ℕ → SaidView
+nothing_said nodes = record { nodes = nodes; names = [] }
 
--- one more line of that kind with these words
+-- one more line of that kind with these words behind the first
 abbrev pub said_by : SaidView → Kind → List (List ℕ) → SaidView
-said_by said kind.Writer words = record { names = said.names ++ word_at words 1 ∷ []; taken = said.taken }
-said_by said kind.Takeover words = record { names = said.names; taken = true }
-said_by said kind.Log words = said
+said_by said kind.Writer words = record { nodes = said.nodes; names = said.names ++ word_at words 0 ∷ [] }
+said_by said _ words = said
 
 abbrev pub said_after : SaidView → ScriptLine → SaidView
-said_after said line = said_by said (kind_in line) (words_in said.names line)
-
--- for now there is one writer, and it takes over once
-abbrev pub comes_again : SaidView → Kind → Bool
-comes_again said kind.Writer = nat_lt 0 (length said.names)
-comes_again said kind.Takeover = said.taken
-comes_again said kind.Log = false
+said_after said line = said_by said (kind_in line) (operands said.names line)
 
 -- ## The lines of a script
 abbrev pub first_line : ℕ → List ℕ
@@ -59,15 +86,38 @@ unfoldable pub texts_of : SaidView → List ScriptLine → List (List ℕ)
 texts_of said [] = []
 texts_of said (line ∷ lines) = line_text said.names line ∷ texts_of (said_after said line) lines
 
+-- the most actors of a script
+abbrev pub most_actors : ℕ
+most_actors = 8
+
+abbrev pub IsActor : SaidView → ℕ → Type 0
+IsActor said actor = actor < length said.names
+
+abbrev pub IsNode : SaidView → ℕ → Type 0
+IsNode said i = (1 ≤ i) × (i ≤ said.nodes)
+
+-- calls are counted from 1
+abbrev pub IsCount : ℕ → Type 0
+IsCount k = (1 ≤ k) × (k ≤ greatest)
+
 -- what a line may say
-abbrev pub HasSense : List (List ℕ) → ScriptLine → Type 0
-HasSense names (Declare name) = (is_name name ≡ true) × (actor_of names name ≡ None)
-HasSense names (Takeover actor) = actor < length names
-HasSense names (Log actor bodies) = (actor < length names) × (bodies ≢ []) × AllByRecursion IsBody bodies
+abbrev pub HasSense : SaidView → ScriptLine → Type 0
+HasSense said (line.Declare name) = (is_name name ≡ true) × (length said.names < most_actors) × (actor_of said.names name ≡ None)
+HasSense said (line.Takeover actor) = IsActor said actor
+HasSense said (line.Roll actor) = IsActor said actor
+HasSense said (line.Close actor) = IsActor said actor
+HasSense said (line.Log actor bodies) = IsActor said actor × (bodies ≢ []) × AllByRecursion IsBody bodies
+HasSense said (line.Purge actor min) = IsActor said actor × (min ≤ greatest)
+HasSense said (line.Drop actor i k) = IsActor said actor × IsNode said i × IsCount k
+HasSense said (line.Mute actor i k) = IsActor said actor × IsNode said i × IsCount k
+HasSense said (line.Late actor i k) = IsActor said actor × IsNode said i × IsCount k
+HasSense said (line.Kill i) = IsNode said i
+HasSense said (line.Restart i) = IsNode said i
+HasSense said (line.Arm i calls (stop.Effects keep)) = IsNode said i × IsCount calls × (keep ≤ greatest)
+HasSense said (line.Arm i calls (stop.DiskCalls after cut)) = ⊥
 
 pub record MaySay (said : SaidView) (line : ScriptLine) : Type 0 where
-  pub sense : HasSense said.names line
-  pub once : comes_again said (kind_in line) ≡ false
+  pub sense : HasSense said line
   pub fits : length (line_text said.names line) ≤ longest_line
 
 unfoldable pub AreLines : SaidView → List ScriptLine → Type 0
@@ -78,11 +128,11 @@ AreLines said (line ∷ lines) = MaySay said line × AreLines (said_after said l
 pub record IsScript (s : ScriptView) : Type 0 where
   pub some : 0 < s.nodes
   pub most : s.nodes < 16
-  pub lines : AreLines nothing_said s.lines
+  pub lines : AreLines (nothing_said s.nodes) s.lines
 
 -- a script's lines, without comments and empty lines
 abbrev pub script_lines : ScriptView → List (List ℕ)
-script_lines s = first_line s.nodes ∷ texts_of nothing_said s.lines
+script_lines s = first_line s.nodes ∷ texts_of (nothing_said s.nodes) s.lines
 
 -- its text, without comments and empty lines
 abbrev pub script_text : ScriptView → List ℕ

@@ -1,5 +1,5 @@
 -- What the reader of scripts answers, and where it stands between two lines.
-use Rattle.std.specs.Prelude.{ℕ, ◌≡◌, ◌<◌, ◌≤◌, ◌+◌, List, [], ◌∷◌, ◌++◌, Option, Some, None, true, false, length, if◌then◌else◌}
+use Rattle.std.specs.Prelude.{ℕ, ◌≡◌, ◌<◌, ◌≤◌, ◌+◌, List, [], ◌∷◌, ◌++◌, Option, Some, None, true, length, decimal, if◌then◌else◌}
 use Rattle.std.specs.List.{list_any, list_all}
 use Rattle.script_text.specs.declared.answer.ReadScript.{ReadScript}
 use Rattle.script_text.specs.declared.answer.ReadScript.TheVariants as read
@@ -8,10 +8,10 @@ use Rattle.script_text.specs.declared.line_read.LineRead.TheVariants as line_rea
 use Rattle.script_text.specs.declared.script_line.ScriptLine.{ScriptLine}
 use Rattle.script_text.specs.declared.kind.Kind.{Kind}
 use Rattle.script_text.specs.Views.{ScriptView, SaidView, ReadingView}
-use Rattle.script_text.specs.Words.{words_of, first_word, is_empty}
-use Rattle.script_text.specs.Grammar.{first_line, texts_of, words_in, kind_in, nothing_said, said_after, comes_again, HasSense, AreLines, unless_silent, telling}
+use Rattle.script_text.specs.Words.{words_of, is_empty, is_number, actor_of, name_at}
+use Rattle.script_text.specs.Grammar.{first_line, texts_of, operands, words_in, kind_in, nothing_said, said_after, HasSense, AreLines, unless_silent, telling}
 use Rattle.script_text.specs.Lines.{is_line, is_whole, lines_of}
-use Rattle.script_text.specs.Rules.{rule_of, rule_said, said_behind, kind_of, bad_spacing, first_fault, fault_of}
+use Rattle.script_text.specs.Rules.{later_rule, rule_of, rule_said, said_behind, first_fault, fault_of}
 
 -- ## Answers
 abbrev pub IfScript : ReadScript → (ScriptView → Type 0) → Type 0
@@ -30,66 +30,83 @@ Reads (read.Script s) t = s ≡ t
 Reads (read.BadScript line rule) t = ⊥
 Reads read.OutOfMemory t = Unit {0}
 
+-- ## Words
+-- how many words there are, if none is empty
+abbrev pub word_count : List (List ℕ) → Option ℕ
+word_count words = if list_any is_empty words then None else Some (length words)
+
+-- the word is that number, of that range
+abbrev pub Tells : ℕ → ℕ → List ℕ → ℕ → Type 0
+Tells least most word n = (is_number least most word ≡ true) × (decimal n ≡ word) × (least ≤ n) × (n ≤ most)
+
+-- the word is the name of that actor
+abbrev pub Names : List (List ℕ) → List ℕ → ℕ → Type 0
+Names names word actor = (actor_of names word ≡ Some actor) × (name_at names actor ≡ word) × (actor < length names)
+
 -- ## A line behind the first
--- it breaks no rule and says that
+-- what a line of that kind with these words behind the first is read as
+abbrev pub IsRead : SaidView → Kind → List (List ℕ) → LineRead → Type 0
+IsRead said k words (line_read.Broken rule) = later_rule said k words ≡ Some rule
+IsRead said k words (line_read.Says line) =
+    (later_rule said k words ≡ None) × (kind_in line ≡ k) × (operands said.names line ≡ words) × HasSense said line
+
+-- the line breaks no rule and says that
 pub record Says (said : SaidView) (text : List ℕ) (line : ScriptLine) : Type 0 where
   pub rule : rule_said (Some said) text ≡ None
   pub words : words_of text ≡ words_in said.names line
-  pub sense : HasSense said.names line
-  pub once : comes_again said (kind_in line) ≡ false
+  pub sense : HasSense said line
 
 abbrev pub IsLineRead : SaidView → List ℕ → LineRead → Type 0
 IsLineRead said text (line_read.Broken rule) = rule_said (Some said) text ≡ Some rule
 IsLineRead said text (line_read.Says line) = Says said text line
 
--- the words of a line of that kind, whose first tests are passed
-pub record Stands (said : SaidView) (k : Kind) (words : List (List ℕ)) : Type 0 where
-  pub kind : kind_of (first_word words) ≡ Some k
-  pub once : comes_again said k ≡ false
-  pub spacing : bad_spacing k words ≡ false
-
--- how many words there are, if none is empty
-abbrev pub word_count : List (List ℕ) → Option ℕ
-word_count words = if list_any is_empty words then None else Some (length words)
-
 -- ## Between two lines
-abbrev pub said_if : Option ℕ → SaidView → Option SaidView
-said_if None said = None
-said_if (Some nodes) said = Some said
-
 abbrev pub nothing_read : ReadingView
-nothing_read = record { nodes = None; said = nothing_said; lines = [] }
+nothing_read = record { said = None; lines = [] }
 
--- what the lines said, from the first that says something on
-abbrev pub said_of : ReadingView → Option SaidView
-said_of r = said_if r.nodes r.said
-
-abbrev pub told_if : Option ℕ → List ScriptLine → List (List ℕ)
+abbrev pub told_if : Option SaidView → List ScriptLine → List (List ℕ)
 told_if None lines = []
-told_if (Some nodes) lines = first_line nodes ∷ texts_of nothing_said lines
+told_if (Some said) lines = first_line said.nodes ∷ texts_of (nothing_said said.nodes) lines
 
 -- the lines so far that say something
 abbrev pub told : ReadingView → List (List ℕ)
-told r = told_if r.nodes r.lines
+told r = told_if r.said r.lines
 
 unfoldable pub all_said : SaidView → List ScriptLine → SaidView
 all_said said [] = said
 all_said said (line ∷ lines) = all_said (said_after said line) lines
 
-abbrev pub HasNodes : Option ℕ → List ScriptLine → Type 0
-HasNodes None lines = lines ≡ []
-HasNodes (Some nodes) lines = (0 < nodes) × (nodes < 16)
+-- these lines are a script's, and said that
+pub record AreSaidBy (now : SaidView) (all : List ScriptLine) : Type 0 where
+  pub some : 0 < now.nodes
+  pub most : now.nodes < 16
+  pub said : now ≡ all_said (nothing_said now.nodes) all
+  pub lines : AreLines (nothing_said now.nodes) all
 
-pub record IsSound (r : ReadingView) : Type 0 where
-  pub nodes : HasNodes r.nodes r.lines
-  pub said : r.said ≡ all_said nothing_said r.lines
-  pub lines : AreLines nothing_said r.lines
+abbrev pub IsSoundIf : Option SaidView → List ScriptLine → Type 0
+IsSoundIf None lines = lines ≡ []
+IsSoundIf (Some said) lines = AreSaidBy said lines
+
+abbrev pub IsSound : ReadingView → Type 0
+IsSound r = IsSoundIf r.said r.lines
+
+-- the script, if some line said something
+abbrev pub script_of : Option SaidView → List ScriptLine → Option ScriptView
+script_of None lines = None
+script_of (Some said) lines = Some (record { nodes = said.nodes; lines = lines })
+
+-- one more line behind the first, that breaks no rule
+pub record Adds (before : SaidView) (read : List ScriptLine) (text : List ℕ) (now : SaidView) (all : List ScriptLine) : Type 0 where
+  pub line : ScriptLine
+  pub says : Says before text line
+  pub said : now ≡ said_after before line
+  pub lines : all ≡ read ++ line ∷ []
 
 -- one more line that breaks no rule
 pub record Takes (old : ReadingView) (text : List ℕ) (new : ReadingView) : Type 0 where
   pub whole : is_line text ≡ true
-  pub rule : rule_of (said_of old) text ≡ None
-  pub behind : said_of new ≡ said_behind (said_of old) text
+  pub rule : rule_of old.said text ≡ None
+  pub behind : new.said ≡ said_behind old.said text
   pub told : told new ≡ told old ++ unless_silent text []
   pub sound : IsSound new
 
@@ -97,7 +114,7 @@ pub record Takes (old : ReadingView) (text : List ℕ) (new : ReadingView) : Typ
 -- rest is that of the text.
 pub record IsBehind (bytes : List ℕ) (count : ℕ) (r : ReadingView) (rest : List ℕ) : Type 0 where
   pub sound : IsSound r
-  pub fault : first_fault (count + 1) (said_of r) (lines_of rest) ≡ fault_of bytes
+  pub fault : first_fault (count + 1) r.said (lines_of rest) ≡ fault_of bytes
   pub whole : list_all is_whole (lines_of rest) ≡ list_all is_whole (lines_of bytes)
   pub says : told r ++ telling (lines_of rest) ≡ telling (lines_of bytes)
   pub room : count + length rest ≤ length bytes

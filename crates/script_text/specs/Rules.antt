@@ -1,61 +1,100 @@
 -- The rules of scripts, each a test of a line, in the order in which they are tried; and the first line that breaks one.
-use Rattle.std.specs.Prelude.{ℕ, ◌+◌, List, [], ◌∷◌, Bool, false, not, Option, Some, None, ◌==◌, ◌||◌, nat_le, if◌then◌else◌, length, is_none}
+use Rattle.std.specs.Prelude.{ℕ, ◌+◌, List, [], ◌∷◌, Bool, true, false, not, Option, Some, None, ◌==◌, ◌&&◌, ◌||◌, nat_le, if◌then◌else◌, length, drop, is_some, is_none}
 use Rattle.std.specs.List.{list_all, list_any, find, range_with_len}
 use Rattle.std.specs.Str.{bytes_eq}
+use Rattle.script_text.specs.declared.task_word.TaskWord.TheVariants as task
+use Rattle.script_text.specs.declared.call_word.CallWord.TheVariants as call
+use Rattle.script_text.specs.declared.node_word.NodeWord.TheVariants as node
 use Rattle.script_text.specs.declared.kind.Kind.{Kind}
 use Rattle.script_text.specs.declared.kind.Kind.TheVariants as kind
 use Rattle.script_text.specs.Views.{SaidView}
 use Rattle.script_text.specs.Lines.{Line, Ended, Open, lines_of, is_line}
-use Rattle.script_text.specs.Words.{words_of, is_empty, first_word, word_at, is_name, actor_of, is_body}
-use Rattle.script_text.specs.Grammar.{keyword, first_line, nothing_said, said_by, comes_again, is_silent}
+use Rattle.script_text.specs.Words.{words_of, is_empty, first_word, word_at, is_name, actor_of, greatest, is_number, is_body}
+use Rattle.script_text.specs.Grammar.{keyword, first_line, nothing_said, said_by, most_actors, is_silent}
 
 -- the number of nodes that a first line tells
 unfoldable pub nodes_of : List ℕ → Option ℕ
 nodes_of line = find (λ nodes. bytes_eq line (first_line nodes)) (range_with_len 1 15)
 
+-- ## Rule 2: the first word
+abbrev pub all_kinds : List Kind
+all_kinds =
+    kind.Writer ∷ kind.Task task.Takeover ∷ kind.Task task.Roll ∷ kind.Task task.Close ∷ kind.Log ∷ kind.Purge ∷ kind.Call call.Drop ∷ kind.Call call.Mute ∷ kind.Call call.Late
+    ∷ kind.Node node.Kill ∷ kind.Node node.Restart ∷ kind.Stop ∷ []
+
 -- the kind of line that a first word begins
 unfoldable pub kind_of : List ℕ → Option Kind
-kind_of word =
-    if bytes_eq word (keyword kind.Writer) then Some kind.Writer
-    else if bytes_eq word (keyword kind.Takeover) then Some kind.Takeover
-    else if bytes_eq word (keyword kind.Log) then Some kind.Log
-    else None
+kind_of word = find (λ k. bytes_eq word (keyword k)) all_kinds
 
 -- ## Rule 3: the number of words, none of them empty
 abbrev pub has_length : Kind → ℕ → Bool
 has_length kind.Writer n = n == 2
-has_length kind.Takeover n = n == 2
+has_length (kind.Task t) n = n == 2
 has_length kind.Log n = nat_le 3 n
+has_length kind.Purge n = n == 3
+has_length (kind.Call c) n = n == 4
+has_length (kind.Node t) n = n == 2
+has_length kind.Stop n = n == 4
 
 abbrev pub bad_spacing : Kind → List (List ℕ) → Bool
 bad_spacing k words = list_any is_empty words || not (has_length k (length words))
 
--- ## Rule 4: the name in a declaration
+-- ## The later rules, of the words behind the first
+abbrev pub declares : Kind → Bool
+declares kind.Writer = true
+declares _ = false
+
+-- rule 4: the name in a declaration
 abbrev pub bad_name : Kind → List (List ℕ) → Bool
-bad_name kind.Writer words = not (is_name (word_at words 1))
-bad_name _ words = false
+bad_name k words = declares k && not (is_name (word_at words 0))
 
--- ## Rule 5: an actor that was declared before
+-- rule 11: one actor too many
+abbrev pub too_many : SaidView → Kind → Bool
+too_many said k = declares k && nat_le most_actors (length said.names)
+
+-- rule 6: an actor that was declared before
+abbrev pub declared_again : SaidView → Kind → List (List ℕ) → Bool
+declared_again said k words = declares k && is_some (actor_of said.names (word_at words 0))
+
+abbrev pub names_actor : Kind → Bool
+names_actor (kind.Task t) = true
+names_actor kind.Log = true
+names_actor kind.Purge = true
+names_actor (kind.Call c) = true
+names_actor _ = false
+
+-- rule 5: an actor that was not declared before
 abbrev pub bad_actor : SaidView → Kind → List (List ℕ) → Bool
-bad_actor said kind.Writer words = false
-bad_actor said _ words = is_none (actor_of said.names (word_at words 1))
+bad_actor said k words = names_actor k && is_none (actor_of said.names (word_at words 0))
 
--- ## Rule 8: the bodies
+-- rule 7: the numbers, those of nodes among them
+abbrev pub bad_number : SaidView → Kind → List (List ℕ) → Bool
+bad_number said kind.Purge (name ∷ min ∷ []) = not (is_number 0 greatest min)
+bad_number said (kind.Call c) (name ∷ i ∷ k ∷ []) = not (is_number 1 said.nodes i && is_number 1 greatest k)
+bad_number said (kind.Node t) (i ∷ []) = not (is_number 1 said.nodes i)
+bad_number said kind.Stop (i ∷ calls ∷ keep ∷ []) = not (is_number 1 said.nodes i && is_number 1 greatest calls && is_number 0 greatest keep)
+bad_number said _ words = false
+
+-- rule 8: the bodies
 abbrev pub bad_body : Kind → List (List ℕ) → Bool
-bad_body kind.Log (word ∷ name ∷ bodies) = not (list_all is_body bodies)
+bad_body kind.Log (name ∷ bodies) = not (list_all is_body bodies)
 bad_body _ words = false
+
+abbrev pub later_rule : SaidView → Kind → List (List ℕ) → Option ℕ
+later_rule said k words =
+    if bad_name k words then Some 4
+    else if too_many said k then Some 11
+    else if declared_again said k words then Some 6
+    else if bad_actor said k words then Some 5
+    else if bad_number said k words then Some 7
+    else if bad_body k words then Some 8
+    else None
 
 -- ## The rules in order
 -- behind the first line that says something; 2 is the first word's rule
 unfoldable pub rule_in : SaidView → Option Kind → List (List ℕ) → Option ℕ
 rule_in said None words = Some 2
-rule_in said (Some k) words =
-    if comes_again said k then Some 2
-    else if bad_spacing k words then Some 3
-    else if bad_name k words then Some 4
-    else if bad_actor said k words then Some 5
-    else if bad_body k words then Some 8
-    else None
+rule_in said (Some k) words = if bad_spacing k words then Some 3 else later_rule said k (drop 1 words)
 
 -- the rule that a line breaks which says something; 1 is the rule of the first such line
 unfoldable pub rule_said : Option SaidView → List ℕ → Option ℕ
@@ -71,12 +110,16 @@ abbrev pub said_in : SaidView → Option Kind → List (List ℕ) → SaidView
 said_in said None words = said
 said_in said (Some k) words = said_by said k words
 
-abbrev pub said_next : Option SaidView → List ℕ → SaidView
-said_next None line = nothing_said
-said_next (Some said) line = said_in said (kind_of (first_word (words_of line))) (words_of line)
+abbrev pub said_first : Option ℕ → Option SaidView
+said_first None = None
+said_first (Some nodes) = Some (nothing_said nodes)
+
+abbrev pub said_next : Option SaidView → List ℕ → Option SaidView
+said_next None line = said_first (nodes_of line)
+said_next (Some said) line = Some (said_in said (kind_of (first_word (words_of line))) (drop 1 (words_of line)))
 
 unfoldable pub said_behind : Option SaidView → List ℕ → Option SaidView
-said_behind said line = if is_silent line then said else Some (said_next said line)
+said_behind said line = if is_silent line then said else said_next said line
 
 -- ## The first line that breaks a rule, and the rule
 abbrev pub or_later : ℕ → Option ℕ → Option (ℕ × ℕ) → Option (ℕ × ℕ)

@@ -1,5 +1,5 @@
 -- What contracts see of a script, and of what its lines so far said.
-use Rattle.std.specs.Prelude.{ℕ, List, Bool, Option}
+use Rattle.std.specs.Prelude.{ℕ, List, Option}
 use Rattle.script_text.specs.declared.script_line.ScriptLine.{ScriptLine}
 
 pub record ScriptView : Type 0 where
@@ -8,13 +8,11 @@ pub record ScriptView : Type 0 where
   pub lines : List ScriptLine
 
 pub record SaidView : Type 0 where
-  -- the names declared, in order
+  pub nodes : ℕ
+  -- the names of the actors, in order of declaration
   pub names : List (List ℕ)
-  -- a takeover line came
-  pub taken : Bool
 
--- what the reader has so far
+-- what the reader has so far; before the first line that says something, nothing is said
 pub record ReadingView : Type 0 where
-  pub nodes : Option ℕ
-  pub said : SaidView
+  pub said : Option SaidView
   pub lines : List ScriptLine

@@ -1,7 +1,9 @@
--- The words of a line: names and bodies.
-use Rattle.std.specs.Prelude.{ℕ, ◌≡◌, ◌+◌, ◌/◌, ◌%◌, ◌<◌, ◌≤◌, List, [], ◌∷◌, Bool, true, false, not, Option, ◌==◌, ◌&&◌, ◌||◌, nat_lt, nat_le, if◌then◌else◌, length, codes, slice_index_or, position}
-use Rattle.std.specs.List.{list_all, flat_map, join_with_byte, slice_split, AllByRecursion}
+-- The words of a line: names, numbers and bodies.
+use Rattle.std.specs.Prelude.{ℕ, ◌≡◌, ◌/◌, ◌%◌, ◌^◌, ◌<◌, ◌≤◌, List, [], ◌∷◌, Bool, true, false, not, Option, ◌==◌, ◌&&◌, ◌||◌, nat_lt, nat_le, length, codes, slice_index_or, position, decimal}
+use Rattle.std.specs.List.{list_all, join_with_byte, slice_split, AllByRecursion}
 use Rattle.std.specs.Str.{bytes_eq}
+use Rattle.std.specs.Str.Parse.{digits_value}
+use Rattle.request_text.specs.Texts.{hex_digit, hex_text}
 
 -- words, with one space between two
 abbrev pub joined : List (List ℕ) → List ℕ
@@ -54,19 +56,19 @@ actor_of names name = position (λ n. bytes_eq n name) names
 abbrev pub name_at : List (List ℕ) → ℕ → List ℕ
 name_at names actor = slice_index_or names actor []
 
--- ## Bodies, in lower-case hexadecimal
-abbrev pub hex_digit : ℕ → ℕ
-hex_digit n = if nat_lt n 10 then 48 + n else 87 + n
+-- ## Numbers, in decimal without a leading zero
+-- the greatest number of a script
+abbrev pub greatest : ℕ
+greatest = 2 ^ 62
 
+-- a word that is a number of that range
+unfoldable pub is_number : ℕ → ℕ → List ℕ → Bool
+is_number least most word = nat_le least (digits_value 10 word) && nat_le (digits_value 10 word) most && bytes_eq word (decimal (digits_value 10 word))
+
+-- ## Bodies, in lower-case hexadecimal
+-- the two digits of a byte
 abbrev pub hex_byte : ℕ → List ℕ
 hex_byte b = hex_digit (b / 16) ∷ hex_digit (b % 16) ∷ []
-
-abbrev pub hex_text : List ℕ → List ℕ
-hex_text bytes = flat_map hex_byte bytes
-
--- bodies, each behind a space
-abbrev pub bodies_text : List (List ℕ) → List ℕ
-bodies_text bodies = flat_map (λ body. 32 ∷ hex_text body) bodies
 
 abbrev pub is_hex_digit : ℕ → Bool
 is_hex_digit b = (nat_le 48 b && nat_le b 57) || (nat_le 97 b && nat_le b 102)

@@ -1,12 +1,95 @@
 // The kinds of line.
+ghost use Rattle.std.specs.Prelude.{◌≡◌, ◌∷◌, true, false, MatchOption};
+ghost use Rattle.script_text.specs.Words.{words_of, first_word};
+ghost use Rattle.script_text.specs.Rules.{kind_of, bad_spacing};
+
+use crate::call_word::CallWord;
+use crate::node_word::NodeWord;
+use crate::task_word::TaskWord;
+use crate::words::{count_words, split_word};
 
 /// A kind of line behind the first, by its first word.
 #[derive(Clone, Copy, Debug, PartialEq, Eq)]
 pub enum Kind {
     /// `writer NAME`
     Writer,
-    /// `takeover NAME`
-    Takeover,
-    /// `log NAME BODY ..`
+    /// `takeover A`, `roll A` or `close A`
+    Task(TaskWord),
+    /// `log A BODY ..`
     Log,
+    /// `purge A MIN`
+    Purge,
+    /// `drop A I K`, `mute A I K` or `late A I K`
+    Call(CallWord),
+    /// `kill I` or `restart I`
+    Node(NodeWord),
+    /// `stop I J K`
+    Stop,
+}
+
+/// The kind of line that a first word begins.
+#[tactic(auto, unfolding(crate::specs::Rules::kind_of))]
+pub fn kind_of(word: &[u8]) -> Option<Kind>
+    ensures { result ≡ kind_of word.now }
+{
+    if word == b"writer".as_slice() {
+        Some(Kind::Writer)
+    } else if word == b"takeover".as_slice() {
+        Some(Kind::Task(TaskWord::Takeover))
+    } else if word == b"roll".as_slice() {
+        Some(Kind::Task(TaskWord::Roll))
+    } else if word == b"close".as_slice() {
+        Some(Kind::Task(TaskWord::Close))
+    } else if word == b"log".as_slice() {
+        Some(Kind::Log)
+    } else if word == b"purge".as_slice() {
+        Some(Kind::Purge)
+    } else if word == b"drop".as_slice() {
+        Some(Kind::Call(CallWord::Drop))
+    } else if word == b"mute".as_slice() {
+        Some(Kind::Call(CallWord::Mute))
+    } else if word == b"late".as_slice() {
+        Some(Kind::Call(CallWord::Late))
+    } else if word == b"kill".as_slice() {
+        Some(Kind::Node(NodeWord::Kill))
+    } else if word == b"restart".as_slice() {
+        Some(Kind::Node(NodeWord::Restart))
+    } else if word == b"stop".as_slice() {
+        Some(Kind::Stop)
+    } else {
+        None
+    }
+}
+
+/// A wrong number of words, or an empty one.
+fn has_bad_spacing(kind: Kind, line: &[u8]) -> bool
+    ensures { result ≡ bad_spacing kind (words_of line.now) }
+{
+    let Some(count) = count_words(line) else {
+        return true;
+    };
+    match kind {
+        Kind::Writer => count != 2,
+        Kind::Task(_) => count != 2,
+        Kind::Log => count < 3,
+        Kind::Purge => count != 3,
+        Kind::Call(_) => count != 4,
+        Kind::Node(_) => count != 2,
+        Kind::Stop => count != 4,
+    }
+}
+
+/// The words behind the first, if there are as many words as the kind wants, and none is empty.
+#[tactic(auto, using(crate::proofs::KindLaws::spacings))]
+pub fn operands(kind: Kind, line: &[u8]) -> Option<&[u8]>
+    ensures { MatchOption result (bad_spacing kind (words_of line.now) ≡ true)
+        (λ rest. (bad_spacing kind (words_of line.now) ≡ false) × (words_of line.now ≡ first_word (words_of line.now) ∷ words_of rest.now)) }
+{
+    if has_bad_spacing(kind, line) {
+        return None;
+    }
+    match split_word(line) {
+        Some((_, rest)) => Some(rest),
+        None => None,
+    }
 }

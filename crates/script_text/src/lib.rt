@@ -2,11 +2,14 @@
 #![tactic(auto)]
 
 mod answer;
+mod call_word;
 mod examples;
 mod kind;
 mod laws;
 mod line_read;
+mod line_reading;
 mod lines;
+mod node_word;
 mod print;
 mod reader;
 mod reading;
@@ -14,13 +17,16 @@ mod rules;
 mod said;
 mod script;
 mod script_line;
+mod task_word;
 #[cfg(test)]
 mod tests;
 mod words;
 
 pub use answer::ReadScript;
-pub use examples::{comments_say_nothing, faults_are_told, one_writer_logs};
-pub use kind::Kind;
+pub use examples::{
+    actors_are_told, comments_say_nothing, every_kind_is_spelled, first_lines_are_told,
+    numbers_are_told, one_writer_logs, words_are_told,
+};
 pub use laws::{script_has_its_text, scripts_break_no_rule, text_is_of_one_script};
 pub use print::print_script;
 pub use reader::read_script;

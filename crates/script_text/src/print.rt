@@ -1,12 +1,15 @@
 // Scripts are printed.
-ghost use Rattle.std.specs.Prelude.{◌≡◌, ◌++◌, ◌∷◌, [], ◌<◌, ◌≤◌, OnOk, IfOk};
-ghost use Rattle.script_text.specs.Words.{hex_digit, hex_text, bodies_text};
+ghost use Rattle.std.specs.Prelude.{◌≡◌, ◌++◌, ◌∷◌, [], ◌<◌, ◌≤◌, OnOk, IfOk, codes, decimal, map};
+ghost use Rattle.request_text.specs.Texts.{hex_digit, hex_text, bodies_text};
+ghost use Rattle.script_text.specs.Words.{joined};
 ghost use Rattle.script_text.specs.Grammar.{first_line, line_text, script_text, HasSense, IsScript, IsScriptText};
 
 use crate::said::Said;
 use crate::script::Script;
 use crate::script_line::ScriptLine;
 use journal_core::{BodyList, OutOfMemory};
+use node_world::Stop;
+use qj_num::put_decimal;
 use std::alloc::Global;
 
 fn hex_digit(n: u8) -> u8
@@ -16,6 +19,7 @@ fn hex_digit(n: u8) -> u8
     if n < 10 { b'0' + n } else { 87 + n }
 }
 
+#[tactic(auto, using(crate::proofs::PushLaws::pushes))]
 fn push_hex(out: &mut Vec<u8>, bytes: &[u8]) -> Result<(), OutOfMemory>
     ensures { OnOk result (out.new.items ≡ out.old.items ++ hex_text bytes.now) }
 {
@@ -27,6 +31,7 @@ fn push_hex(out: &mut Vec<u8>, bytes: &[u8]) -> Result<(), OutOfMemory>
 }
 
 /// The bodies, each behind a space.
+#[tactic(auto, using(crate::proofs::PushLaws::pushes))]
 fn push_bodies(out: &mut Vec<u8>, bodies: &BodyList) -> Result<(), OutOfMemory>
     ensures { OnOk result (out.new.items ≡ out.old.items ++ bodies_text bodies.now) }
 {
@@ -37,40 +42,117 @@ fn push_bodies(out: &mut Vec<u8>, bodies: &BodyList) -> Result<(), OutOfMemory>
     Ok(())
 }
 
+/// The word behind a space.
+#[tactic(auto, using(crate::proofs::PushLaws::pushes))]
+fn push_word(out: &mut Vec<u8>, word: &[u8]) -> Result<(), OutOfMemory>
+    ensures { OnOk result (out.new.items ≡ out.old.items ++ 32 ∷ word.now) }
+{
+    out.push(b' ')?;
+    out.extend_from_slice(word)
+}
+
+/// The number behind a space.
+#[tactic(auto, using(crate::proofs::PushLaws::pushes))]
+fn push_number(out: &mut Vec<u8>, number: u64) -> Result<(), OutOfMemory>
+    ensures { OnOk result (out.new.items ≡ out.old.items ++ 32 ∷ decimal number) }
+{
+    out.push(b' ')?;
+    put_decimal(out, number)
+}
+
+/// A line of two words.
+#[tactic(auto, using(crate::proofs::PushLaws::pushes))]
+fn push_named(out: &mut Vec<u8>, keyword: &[u8], name: &[u8]) -> Result<(), OutOfMemory>
+    ensures { OnOk result (out.new.items ≡ out.old.items ++ joined (keyword.now ∷ name.now ∷ [])) }
+{
+    out.extend_from_slice(keyword)?;
+    push_word(out, name)
+}
+
+fn push_log(out: &mut Vec<u8>, name: &[u8], bodies: &BodyList) -> Result<(), OutOfMemory>
+    ensures { OnOk result (out.new.items ≡ out.old.items ++ joined (codes "log" ∷ name.now ∷ map hex_text bodies.now)) }
+{
+    push_named(out, b"log", name)?;
+    push_bodies(out, bodies)
+}
+
+#[tactic(auto, using(crate::proofs::PushLaws::pushes))]
+fn push_purge(out: &mut Vec<u8>, name: &[u8], min: u64) -> Result<(), OutOfMemory>
+    ensures { OnOk result (out.new.items ≡ out.old.items ++ joined (codes "purge" ∷ name.now ∷ decimal min ∷ [])) }
+{
+    push_named(out, b"purge", name)?;
+    push_number(out, min)
+}
+
+/// A line on one call of an actor.
+#[tactic(auto, using(crate::proofs::PushLaws::pushes))]
+fn push_call(
+    out: &mut Vec<u8>,
+    keyword: &[u8],
+    name: &[u8],
+    node: usize,
+    call: u64,
+) -> Result<(), OutOfMemory>
+    ensures { OnOk result (out.new.items ≡ out.old.items ++ joined (keyword.now ∷ name.now ∷ decimal node ∷ decimal call ∷ [])) }
+{
+    push_named(out, keyword, name)?;
+    push_number(out, node as u64)?;
+    push_number(out, call)
+}
+
+/// A line on one node.
+#[tactic(auto, using(crate::proofs::PushLaws::pushes))]
+fn push_visit(out: &mut Vec<u8>, keyword: &[u8], node: usize) -> Result<(), OutOfMemory>
+    ensures { OnOk result (out.new.items ≡ out.old.items ++ joined (keyword.now ∷ decimal node ∷ [])) }
+{
+    out.extend_from_slice(keyword)?;
+    push_number(out, node as u64)
+}
+
+#[tactic(auto, using(crate::proofs::PushLaws::pushes))]
+fn push_stop(out: &mut Vec<u8>, node: usize, calls: u64, keep: u64) -> Result<(), OutOfMemory>
+    ensures { OnOk result (out.new.items ≡ out.old.items ++ joined (codes "stop" ∷ decimal node ∷ decimal calls ∷ decimal keep ∷ [])) }
+{
+    push_visit(out, b"stop", node)?;
+    push_number(out, calls)?;
+    push_number(out, keep)
+}
+
 /// The line `raw N`.
-#[tactic(auto, using(crate::proofs::FirstLaws::first_texts))]
 fn push_first_line(out: &mut Vec<u8>, nodes: usize) -> Result<(), OutOfMemory>
-    requires { nodes < 16 }
     ensures { OnOk result (out.new.items ≡ out.old.items ++ first_line nodes) }
 {
-    if nodes < 10 {
-        out.extend_from_slice(&[b'r', b'a', b'w', b' ', b'0' + nodes as u8])?;
-    } else {
-        out.extend_from_slice(&[b'r', b'a', b'w', b' ', b'1', b'0' + (nodes - 10) as u8])?;
-    }
-    Ok(())
+    out.extend_from_slice(b"raw ")?;
+    put_decimal(out, nodes as u64)
 }
 
 /// A later line, without its LF.
 fn push_line(out: &mut Vec<u8>, said: &Said, line: &ScriptLine) -> Result<(), OutOfMemory>
-    requires { HasSense said.now.names line.now }
+    requires { HasSense said.now line.now }
     ensures { OnOk result (out.new.items ≡ out.old.items ++ line_text said.now.names line.now) }
 {
     match line {
-        ScriptLine::Declare { name } => {
-            out.extend_from_slice(b"writer ")?;
-            out.extend_from_slice(name.as_slice())
+        ScriptLine::Declare { name } => push_named(out, b"writer", name.as_slice()),
+        ScriptLine::Takeover { actor } => push_named(out, b"takeover", said.name_at(*actor)),
+        ScriptLine::Roll { actor } => push_named(out, b"roll", said.name_at(*actor)),
+        ScriptLine::Close { actor } => push_named(out, b"close", said.name_at(*actor)),
+        ScriptLine::Log { actor, bodies } => push_log(out, said.name_at(*actor), bodies),
+        ScriptLine::Purge { actor, min } => push_purge(out, said.name_at(*actor), *min),
+        ScriptLine::Drop { actor, node, call } => {
+            push_call(out, b"drop", said.name_at(*actor), *node, *call)
         }
-        ScriptLine::Takeover { actor } => {
-            out.extend_from_slice(b"takeover ")?;
-            out.extend_from_slice(said.name_at(*actor))
+        ScriptLine::Mute { actor, node, call } => {
+            push_call(out, b"mute", said.name_at(*actor), *node, *call)
         }
-        ScriptLine::Log { actor, bodies } => {
-            out.extend_from_slice(b"log ")?;
-            out.extend_from_slice(said.name_at(*actor))?;
-            push_bodies(out, bodies)?;
-            Ok(())
+        ScriptLine::Late { actor, node, call } => {
+            push_call(out, b"late", said.name_at(*actor), *node, *call)
         }
+        ScriptLine::Kill { node } => push_visit(out, b"kill", *node),
+        ScriptLine::Restart { node } => push_visit(out, b"restart", *node),
+        ScriptLine::Arm { node, calls, stop } => match stop {
+            Stop::Effects { keep } => push_stop(out, *node, *calls, *keep),
+            Stop::DiskCalls { .. } => Ok(()),
+        },
     }
 }
 
@@ -81,9 +163,10 @@ pub fn print_script(alloc: Global, script: &Script) -> Result<Vec<u8>, OutOfMemo
     ensures again { IfOk result (λ v. IsScriptText v.items script.now) }
 {
     let mut out = Vec::new(alloc);
-    push_first_line(&mut out, script.nodes())?;
+    let nodes = script.nodes();
+    push_first_line(&mut out, nodes)?;
     out.push(b'\n')?;
-    let mut said = Said::nothing(alloc);
+    let mut said = Said::first(alloc, nodes);
     for line in script.lines() {
         push_line(&mut out, &said, line)?;
         out.push(b'\n')?;

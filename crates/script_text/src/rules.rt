@@ -10,7 +10,13 @@ pub const FIRST_WORD: u32 = 2;
 pub const WORD_COUNT: u32 = 3;
 /// A bad name in a declaration.
 pub const BAD_NAME: u32 = 4;
+/// A ninth actor.
+pub const TOO_MANY_ACTORS: u32 = 11;
+/// An actor that was declared before.
+pub const DECLARED_AGAIN: u32 = 6;
 /// An actor that wasn't declared before.
 pub const UNKNOWN_ACTOR: u32 = 5;
+/// A number or a node that isn't one, or isn't in its range.
+pub const BAD_NUMBER: u32 = 7;
 /// A body that isn't lower-case hexadecimal of 1 to 4,096 bytes.
 pub const BAD_BODY: u32 = 8;

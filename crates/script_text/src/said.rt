@@ -1,19 +1,23 @@
 // What the lines so far said.
-ghost use Rattle.std.specs.Prelude.{◌≡◌, ◌<◌, OnOk, OnErr, IfSome, length, false};
-ghost use Rattle.script_text.specs.Words.{actor_of, name_at};
-ghost use Rattle.script_text.specs.Grammar.{comes_again, kind_in, nothing_said, said_after};
+ghost use Rattle.std.specs.Prelude.{◌≡◌, ◌<◌, ◌≤◌, false, None, OnOk, OnErr, IfSome, MatchOption, length, nat_le};
+ghost use Rattle.script_text.specs.Words.{actor_of, name_at, is_number};
+ghost use Rattle.script_text.specs.Grammar.{nothing_said, said_after, most_actors, HasSense};
+ghost use Rattle.script_text.specs.Reading.{Names, Tells};
 
-use crate::kind::Kind;
 use crate::script_line::ScriptLine;
+use crate::words::number_of;
 use journal_core::{Bytes, OutOfMemory};
 use std::alloc::Global;
 use std::marker::Model;
 
-/// What the lines so far said: the names that they declared, in order, and whether a writer takes over.
+/// The most actors of a script.
+const MOST_ACTORS: usize = 8;
+
+/// What the lines so far said: the number of nodes, and the names that they declared, in order.
 #[derive(Drop)]
 pub struct Said {
+    nodes: usize,
     names: Vec<Bytes>,
-    taken: bool,
 }
 
 impl Model for Said {
@@ -22,7 +26,7 @@ impl Model for Said {
 
     ghost Value = { SaidView };
 
-    ghost view = { λ s. record { names = s.names.items; taken = s.taken } };
+    ghost view = { λ s. record { nodes = s.nodes; names = s.names.items } };
 
     ghost invariant = { λ s. length s.names.items ≤ 8 };
 }
@@ -39,19 +43,27 @@ fn index_of(names: &[Bytes], name: &[u8]) -> Option<usize>
 }
 
 impl Said {
-    /// No line came.
-    pub fn nothing(alloc: Global) -> Said
-        ensures { result ≡ nothing_said }
+    /// Behind the first line, which tells the number of nodes.
+    pub fn first(alloc: Global, nodes: usize) -> Said
+        ensures { result ≡ nothing_said nodes }
     {
         Said {
+            nodes,
             names: Vec::new(alloc),
-            taken: false,
         }
     }
 
+    /// The number of nodes.
+    pub fn nodes(&self) -> usize
+        ensures { result ≡ self.now.nodes }
+    {
+        self.nodes
+    }
+
     /// The number of the actor with that name.
+    #[tactic(auto, using(crate::proofs::NameLaws::named))]
     pub fn actor_of(&self, name: &[u8]) -> Option<u32>
-        ensures { result ≡ actor_of self.now.names name.now }
+        ensures { MatchOption result (actor_of self.now.names name.now ≡ None) (Names self.now.names name.now) }
     {
         match index_of(self.names.as_slice(), name) {
             Some(index) => Some(index as u32),
@@ -59,15 +71,21 @@ impl Said {
         }
     }
 
-    /// For now there is one writer, and it takes over once.
-    pub fn comes_again(&self, kind: Kind) -> bool
-        ensures { result ≡ comes_again self.now kind }
+    /// The node that a word tells, from 1.
+    pub fn node_of(&self, word: &[u8]) -> Option<usize>
+        ensures { MatchOption result (is_number 1 self.now.nodes word.now ≡ false) (Tells 1 self.now.nodes word.now) }
     {
-        match kind {
-            Kind::Writer => !self.names.is_empty(),
-            Kind::Takeover => self.taken,
-            Kind::Log => false,
+        match number_of(word, 1, self.nodes as u64) {
+            Some(node) => Some(node as usize),
+            None => None,
         }
+    }
+
+    /// There is no room for one more actor.
+    pub fn is_full(&self) -> bool
+        ensures { result ≡ nat_le most_actors (length self.now.names) }
+    {
+        MOST_ACTORS <= self.names.len()
     }
 
     /// The name with that number.
@@ -81,7 +99,7 @@ impl Said {
 
     /// One more line.
     pub fn add(&mut self, line: &ScriptLine) -> Result<(), OutOfMemory>
-        requires { comes_again self.old (kind_in line.now) ≡ false }
+        requires { HasSense self.old line.now }
         ensures ok { OnOk result (self.new ≡ said_after self.old line.now) }
         ensures err { OnErr result (self.new ≡ self.old) }
     {
@@ -89,10 +107,9 @@ impl Said {
             ScriptLine::Declare { name } => {
                 let name = name.share()?;
                 self.names.push(name)?;
+                Ok(())
             }
-            ScriptLine::Takeover { .. } => self.taken = true,
-            ScriptLine::Log { .. } => {}
+            _ => Ok(()),
         }
-        Ok(())
     }
 }

@@ -1,14 +1,34 @@
 // The lines of a script.
 use journal_core::{BodyList, Bytes};
+use node_world::Stop;
 
 /// A line of a script that says something, behind the first. An actor is its number in order of
-/// declaration, from 0.
+/// declaration, from 0; a node is its number from 1.
 #[derive(Drop)]
 pub enum ScriptLine {
     /// `writer NAME`: a writer is declared.
     Declare { name: Bytes },
-    /// `takeover NAME`: the writer takes over.
+    /// `takeover A`: the writer takes a new epoch and begins a segment.
     Takeover { actor: u32 },
-    /// `log NAME BODY ..`: the writer logs these edits as one batch.
+    /// `roll A`: the writer ends its segment and begins the next one.
+    Roll { actor: u32 },
+    /// `close A`: the writer ends its segment.
+    Close { actor: u32 },
+    /// `log A BODY ..`: the writer logs these edits as one batch.
     Log { actor: u32, bodies: BodyList },
+    /// `purge A MIN`: the writer lets the nodes remove segments that end below `min`.
+    Purge { actor: u32, min: u64 },
+    /// `drop A I K`: the writer's `call`-th next call to the node isn't delivered.
+    Drop { actor: u32, node: usize, call: u64 },
+    /// `mute A I K`: the writer's `call`-th next call to the node is delivered, and its reply is lost.
+    Mute { actor: u32, node: usize, call: u64 },
+    /// `late A I K`: a copy of the writer's `call`-th call to the node arrives now.
+    Late { actor: u32, node: usize, call: u64 },
+    /// `kill I`: the node goes down.
+    Kill { node: usize },
+    /// `restart I`: the node comes up again.
+    Restart { node: usize },
+    /// `stop I J K`: the `calls`-th next call that reaches the node while it is up is stopped inside it,
+    /// after K effects. A stop after disk calls has no text yet.
+    Arm { node: usize, calls: u64, stop: Stop },
 }

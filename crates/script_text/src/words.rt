@@ -1,11 +1,13 @@
 // The words of a line.
 ghost use Rattle.std.specs.Prelude.{◌≡◌, ◌≢◌, ◌+◌, ◌&&◌, ◌++◌, ◌∷◌, [], ◌<◌, ◌≤◌, ◌-◌, ◌*◌, ◌/◌, take, true, false, Some, None, OnOk, IfOk, IfSome, MatchOption, IsTrue, length, map};
 ghost use Rattle.std.specs.List.{list_all, list_any, AllByRecursion};
-ghost use Rattle.script_text.specs.Words.{words_of, first_word, StandFor, is_name, is_name_byte, is_letter, is_word_of_name, hex_digit, hex_byte, hex_text, is_hex_digit, is_hex, is_body, IsByte, IsBody};
-ghost use Rattle.script_text.specs.Reading.{word_count};
+ghost use Rattle.request_text.specs.Texts.{hex_digit, hex_text};
+ghost use Rattle.script_text.specs.Words.{words_of, first_word, StandFor, is_name, is_name_byte, is_letter, is_word_of_name, is_number, hex_byte, is_hex_digit, is_hex, is_body, IsByte, IsBody};
+ghost use Rattle.script_text.specs.Reading.{word_count, Tells};
 
 use crate::lines::split_byte;
 use journal_core::{BodyList, Bytes, OutOfMemory};
+use qj_num::read_number;
 use std::alloc::Global;
 
 /// The most digits of a body.
@@ -54,6 +56,33 @@ pub fn count_words(line: &[u8]) -> Option<usize>
     }
 }
 
+/// Both words of a text of two.
+#[tactic(auto, using(crate::proofs::WordLaws::counted))]
+pub fn two_words(text: &[u8]) -> (&[u8], &[u8])
+    requires { length (words_of text.now) ≡ 2 }
+    ensures { words_of text.now ≡ result.0.now ∷ result.1.now ∷ [] }
+{
+    match split_word(text) {
+        Some(words) => words,
+        None => (text, text),
+    }
+}
+
+/// The three words of a text of three.
+#[tactic(auto, using(crate::proofs::WordLaws::counted))]
+pub fn three_words(text: &[u8]) -> (&[u8], &[u8], &[u8])
+    requires { length (words_of text.now) ≡ 3 }
+    ensures { words_of text.now ≡ result.0.now ∷ result.1.now ∷ result.2.now ∷ [] }
+{
+    match split_word(text) {
+        Some((first, others)) => {
+            let (second, third) = two_words(others);
+            (first, second, third)
+        }
+        None => (text, text, text),
+    }
+}
+
 fn is_letter(b: u8) -> bool
     ensures { result ≡ is_letter b }
 {
@@ -89,6 +118,21 @@ pub fn is_name(word: &[u8]) -> bool
     is_word_of_name(word) && word != b"ops".as_slice()
 }
 
+/// The number of that range that a word is, in decimal.
+#[tactic(auto, using(crate::proofs::NumberLaws::numbers))]
+pub fn number_of(word: &[u8], least: u64, most: u64) -> Option<u64>
+    ensures { MatchOption result (is_number least most word.now ≡ false) (Tells least most word.now) }
+{
+    let number = read_number(word)?;
+    if number < least {
+        return None;
+    }
+    if most < number {
+        return None;
+    }
+    Some(number)
+}
+
 /// The number that a digit stands for.
 fn nibble(digit: u8) -> Option<u8>
     ensures { MatchOption result (is_hex_digit digit ≡ false) (λ n. (is_hex_digit digit ≡ true) × (n < 16) × (hex_digit n ≡ digit)) }
@@ -102,14 +146,14 @@ fn nibble(digit: u8) -> Option<u8>
 
 /// The byte that two digits stand for.
 fn hex_byte(high: u8, low: u8) -> Option<u8>
-    ensures { MatchOption result ((is_hex_digit high && is_hex_digit low) ≡ false) (λ b. ((is_hex_digit high && is_hex_digit low) ≡ true) × (hex_byte b ≡ high ∷ low ∷ [])) }
+    ensures { MatchOption result ((is_hex_digit high && is_hex_digit low) ≡ false) (λ b. ((is_hex_digit high && is_hex_digit low) ≡ true) × (hex_byte b ≡ high ∷ low ∷ []) × (b < 256)) }
 {
     Some(nibble(high)? * 16 + nibble(low)?)
 }
 
 /// The bytes that the digits stand for go to the front of `bytes`, if the digits are pairs of
 /// hexadecimal digits.
-#[tactic(auto, using(crate::proofs::WordLaws::hex_steps))]
+#[tactic(auto, unfolding(request_text::specs::Texts::hex_text))]
 fn decode_hex(word: &[u8], bytes: &mut [u8]) -> bool
     requires { length word.now ≤ 2 * length bytes.old }
     ensures digits { result ≡ is_hex word.now }

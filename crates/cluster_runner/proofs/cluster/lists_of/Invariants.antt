@@ -1,7 +1,7 @@
-use Rattle.std.proofs.Common.{◌≡◌, map, []}
+use Rattle.std.proofs.Common.{◌≡◌, map}
 use Rattle.cluster_runner.proofs.ClusterLaws.{named_end}
 use Rattle.cluster_runner.proofs.cluster.lists_of.Given as goal
 
 abbrev pub invariant-loop-player : goal.invariant-loop-player
 invariant-loop-player l =
-    (l.ends ≡ map (λ p. named_end p.name) l.yielded) × (l.records.items ≡ map (λ p. p.past) l.yielded) × (l.plan ≡ map (λ p. []) l.yielded)
+    (l.ends ≡ map (λ p. named_end p.actor.name) l.yielded) × (l.records.items ≡ map (λ p. p.actor.past) l.yielded) × (l.plan ≡ map (λ p. p.actor.marks) l.yielded)

@@ -1,16 +1,16 @@
-use Rattle.std.proofs.Common.{◌≡◌, ◌≤◌, ◌<◌, ◌+◌, ◌∙◌, ap, sym, subst, arith, length, drop, List, ℕ}
+use Rattle.std.proofs.Common.{◌≡◌, ◌∙◌, ap, sym, subst, arith, length, drop, map, List, ℕ}
 use Rattle.mesh.specs.declared.whole.Mesh.{Mesh}
 use Rattle.mesh.specs.declared.end.End.{End}
 use Rattle.script_text.specs.declared.script_line.ScriptLine.{ScriptLine}
-use Rattle.cluster_runner.specs.Lines.{lines_of}
+use Rattle.cluster_runner.specs.Lines.{line_of, lines_of, declared}
 use Rattle.cluster_runner.specs.Goal.{MayTake, IsUnderWay}
 use Rattle.cluster_runner.specs.Kept.{IsPlayed, mesh_kept}
-use Rattle.cluster_runner.proofs.PlayLaws.{may_on, under_way_end}
+use Rattle.cluster_runner.proofs.PlayLaws.{may_on, under_way_first, under_way_end}
 use Rattle.cluster_runner.proofs.played.play.Goals as goal
 
 pub take_line-requires-clause-may : goal.take_line-requires-clause-may
 take_line-requires-clause-may c =
-    let P : ScriptLine → Type 0 = λ x. MayTake (length c.loop-line.cluster.actors) x in
+    let P : ScriptLine → Type 0 = λ x. MayTake (length c.loop-line.cluster.nodes) (length c.loop-line.cluster.actors) x in
     subst P (sym c.line-item.is) (may_on c.args.script.now.nodes (lines_of c.args.script.now) c.lines-line-items.result.now c.loop-line.line-index c.line-item.result c.loop-line.cluster c.loop-line-test.true c.loop-line.invariant)
 
 pub returns : goal.returns
@@ -22,3 +22,8 @@ returns c =
     subst Q (sym c.in_ok-mesh.ensures.mesh)
     (subst R (sym c.in_ok-mesh.ensures.ends)
     (under_way_end c.args.script.now.nodes (lines_of c.args.script.now) c.lines-line-items.result.now c.loop-line.cluster (subst P e c.loop-line.invariant)))
+
+pub loop-line-init : goal.loop-line-init
+loop-line-init c =
+    under_way_first c.args.script.now c.nodes.result c.actors_in-operator.result c.lines-line-items.result.now c.in_ok-cluster.cluster c.requires.playable c.requires.numbers c.nodes.ensures
+    c.lines-line-items.ensures (c.actors_in-operator.ensures ∙ ap (λ xs. declared (map line_of xs)) (c.lines.ensures ∙ sym c.lines-line-items.ensures)) c.in_ok-cluster.ensures

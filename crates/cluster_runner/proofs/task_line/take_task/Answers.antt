@@ -1,4 +1,4 @@
-use Rattle.std.proofs.Common.{◌≡◌, ◌<◌, ◌++◌, sym, ap, ◌∙◌, subst, Option, length, List, ℕ, codes}
+use Rattle.std.proofs.Common.{◌++◌, sym, ap, ◌∙◌, subst, Option, ℕ, codes}
 use Rattle.cluster_runner.specs.Kept.{actor_of, said}
 use Rattle.cluster_runner.specs.Results.{name_of, word}
 use Rattle.cluster_runner.specs.ResultLists.{edits_of, AreFew, texts_of, times}

@@ -1,13 +1,13 @@
 use Rattle.std.proofs.Common.{◌≡◌, ◌∙◌, ◌∷◌, ◌+◌, sym, ap, arith, drop}
 use Rattle.std.proofs.lemmas.Grind.{common_steps}
 use Rattle.std.proofs.lemmas.List.{drop_more, drop_all}
-use Rattle.script_text.specs.Grammar.{script_text}
+use Rattle.script_text.specs.Grammar.{script_text, nothing_said}
 use Rattle.script_text.proofs.PrintLaws.{written_start, written_may, written_more, written_all, has_its_text}
 use Rattle.script_text.proofs.print.print_script.Goals as goal
 
 pub loop-line-init : goal.loop-line-init
 loop-line-init c =
-    rw c.lines-line-items.ensures (written_start c.push.new.self.items c.args.script.now c.nothing-said.result c.nothing-said.ensures c.requires (grind (arith, common_steps)))
+    rw c.lines-line-items.ensures (written_start c.push.new.self.items c.args.script.now c.first-said.result (c.first-said.ensures ∙ ap nothing_said c.nodes-nodes.ensures) c.requires (grind (arith, common_steps)))
 
 pub push_line-requires : goal.push_line-requires
 push_line-requires c =
@@ -19,7 +19,7 @@ pub add-requires : goal.add-requires
 add-requires c =
     let first = drop_more c.lines-line-items.result.now c.loop-line.line-index c.line-item.result (omega (arith, c.loop-line-test.true)) in
     (written_may c.loop-line.out.items c.loop-line.said c.line-item.result (drop (c.loop-line.line-index + 1) c.lines-line-items.result.now) _ _ c.loop-line.invariant
-    (first ∙ ap (λ x. x ∷ drop (c.loop-line.line-index + 1) c.lines-line-items.result.now) (sym c.line-item.is))).once
+    (first ∙ ap (λ x. x ∷ drop (c.loop-line.line-index + 1) c.lines-line-items.result.now) (sym c.line-item.is))).sense
 
 pub loop-line-preserved : goal.loop-line-preserved
 loop-line-preserved c =

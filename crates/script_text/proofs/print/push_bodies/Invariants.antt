@@ -1,5 +1,5 @@
 use Rattle.std.proofs.Common.{◌≡◌, ◌++◌, take}
-use Rattle.script_text.specs.Words.{bodies_text}
+use Rattle.request_text.specs.Texts.{bodies_text}
 use Rattle.script_text.proofs.print.push_bodies.Given as goal
 
 abbrev pub invariant-loop-body : goal.invariant-loop-body

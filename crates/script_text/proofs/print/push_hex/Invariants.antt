@@ -1,5 +1,5 @@
 use Rattle.std.proofs.Common.{◌≡◌, ◌++◌, take}
-use Rattle.script_text.specs.Words.{hex_text}
+use Rattle.request_text.specs.Texts.{hex_text}
 use Rattle.script_text.proofs.print.push_hex.Given as goal
 
 abbrev pub invariant-loop-b : goal.invariant-loop-b

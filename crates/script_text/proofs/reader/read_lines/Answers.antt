@@ -30,7 +30,7 @@ pub returns-in-Some-script-clause-script : goal.returns-in-Some-script-clause-sc
 returns-in-Some-script-clause-script c =
     let none : length c.loop-rest.rest.now ≡ 0 = grind (arith, nat_tests) in
     behind_all c.args.bytes.now c.loop-rest.count c.loop-rest.reading c.loop-rest.rest.now c.in-Some-script.script
-    c.loop-rest.invariant (nil_from_length c.loop-rest.rest.now none) c.in-Some-script.ensures.0 c.in-Some-script.ensures.1
+    c.loop-rest.invariant (nil_from_length c.loop-rest.rest.now none) c.in-Some-script.ensures
 
 pub returns-in-None-clause-fault : goal.returns-in-None-clause-fault
 returns-in-None-clause-fault c =

@@ -1,6 +1,7 @@
 use Rattle.std.proofs.Common.{◌≡◌, ◌++◌, ◌+◌, ◌*◌, length, take}
 use Rattle.std.specs.List.{AllByRecursion}
-use Rattle.script_text.specs.Words.{is_hex, hex_text, IsByte}
+use Rattle.request_text.specs.Texts.{hex_text}
+use Rattle.script_text.specs.Words.{is_hex, IsByte}
 use Rattle.script_text.proofs.words.decode_hex.Given as goal
 
 -- the digits so far stand for the bytes

@@ -1,6 +1,7 @@
 use Rattle.std.proofs.Common.{◌≡◌, ◌++◌, length, map}
 use Rattle.std.specs.List.{AllByRecursion, list_all}
-use Rattle.script_text.specs.Words.{words_of, is_body, hex_text, IsBody}
+use Rattle.request_text.specs.Texts.{hex_text}
+use Rattle.script_text.specs.Words.{words_of, is_body, IsBody}
 use Rattle.script_text.proofs.words.read_bodies.Given as goal
 
 -- the words so far are the bodies

@@ -1,6 +1,6 @@
 use Rattle.std.proofs.Common.{arith, ◌≡◌, ◌∙◌, ◌<◌, ◌/◌, sym, length, take}
 use Rattle.std.proofs.lemmas.Bool.Decides.{nat_tests}
-use Rattle.script_text.proofs.WordLaws.{body_found, empty_is_none, too_long, not_hex}
+use Rattle.script_text.proofs.WordLaws.{body_found, no_body, empty_is_none, too_long, not_hex}
 use Rattle.script_text.proofs.words.read_body.Goals as goal
 
 pub returns-then-is_empty : goal.returns-then-is_empty
@@ -21,3 +21,8 @@ returns-in-Some c =
     body_found c.args.word.now (take (length c.args.word.now / 2) c.decode_hex.new.bytes) c.in-Some.body
     (rw c.in-Some.is at c.in_ok-body.ensures) hex.text hex.bytes
     (sym c.decode_hex.ensures.digits ∙ c.if-not-decode_hex.false) (omega (arith, c.if-word-gt-LONGEST_BODY_TEXT.false)) some
+
+pub returns-in-None : goal.returns-in-None
+returns-in-None c =
+    let hex = c.decode_hex.ensures.bytes c.if-not-decode_hex.false in
+    no_body c.args.word.now (take (length c.args.word.now / 2) c.decode_hex.new.bytes) (rw c.in-None.is at c.in_ok-body.ensures) hex.text

@@ -1,6 +1,6 @@
-use Rattle.std.proofs.Common.{◌≡◌, subst, Option, Some}
+use Rattle.std.proofs.Common.{subst, Option}
 use Rattle.writer_core.specs.declared.turn.Turn.{Turn}
-use Rattle.cluster_runner.specs.Shown.{IsCall, IsNextCall}
+use Rattle.cluster_runner.specs.Called.{IsCall, IsNextCall}
 use Rattle.cluster_runner.proofs.KeptGoes.{goes_more}
 use Rattle.cluster_runner.proofs.Ends.{still_there}
 use Rattle.cluster_runner.proofs.cluster.Cluster.finish.Goals as goal

@@ -1,4 +1,4 @@
-use Rattle.std.proofs.Common.{◌≡◌, ◌<◌, length}
+use Rattle.std.proofs.Common.{◌<◌, length}
 use Rattle.writer_core.specs.Left.{calls_left}
 use Rattle.cluster_runner.specs.Kept.{actor_of}
 use Rattle.cluster_runner.specs.Ready.{GoesOn}

@@ -1,5 +1,6 @@
-use Rattle.cluster_runner.proofs.ClusterLaws.{AreFresh}
+use Rattle.std.proofs.Common.{◌≡◌, replicate}
+use Rattle.node_world.specs.NodeCells.{new_cell}
 use Rattle.cluster_runner.proofs.cluster.Cluster.new.Given as goal
 
 abbrev pub invariant-loop : goal.invariant-loop
-invariant-loop l = AreFresh l.sites.items l.counter
+invariant-loop l = l.cells.items ≡ replicate l.counter new_cell

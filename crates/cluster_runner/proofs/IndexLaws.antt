@@ -1,0 +1,314 @@
+-- An actor's index of its calls and of its marks goes along with its record.
+use Rattle.std.proofs.Common.{◌≡◌, ◌≢◌, ℕ, ◌+◌, ◌-◌, ◌<◌, ◌≤◌, ◌==◌, ◌&&◌, ◌||◌, nat_lt, List, [], ◌∷◌, ◌++◌, length, map, Bool, true, false, cond, refl, sym, ap, ◌∙◌, subst, Some, set, get_or, arith, inl, inr, append-nil}
+use Rattle.std.specs.Ordering.{nat_cmp, is_eq}
+use Rattle.std.specs.declared.cmp.Ordering.TheVariants.{Less, Equal, Greater}
+use Rattle.std.specs.BTreeSet.{BTreeSet, Updates, contains}
+use Rattle.std.proofs.lemmas.Bool.Decides.{eqb_tells, nat_tests}
+use Rattle.std.proofs.lemmas.List.{length-set, length-append, get_or-set_same, get_or-set_other, get_or_append_left}
+use Rattle.std.proofs.Math.Seq.{get_or-append_seam}
+use Rattle.std.proofs.Math.Arith.{lt_of_le-ne}
+use Rattle.std.proofs.lemmas.List.Folds.{list_any-append}
+use Rattle.journal_core.specs.declared.request.Request.{Request}
+use Rattle.writer_core.specs.declared.task.Task.{Task}
+use Rattle.writer_core.specs.declared.task.Begun.{Begun}
+use Rattle.writer_core.specs.declared.turn.Turn.{Turn}
+use Rattle.journal_core.specs.declared.heard.Heard.{Heard}
+use Rattle.writer_core.specs.Views.{WriterView}
+use Rattle.writer_core.specs.Writer.{new_writer, writer_begun, writer_heard, next_call}
+use Rattle.node_world.specs.declared.record.Record.{Record}
+use Rattle.node_world.specs.declared.record.Record.TheVariants.{Call, Late, Outcome}
+use Rattle.node_world.specs.declared.record.Told.{Told}
+use Rattle.node_world.specs.declared.mark.Mark.{Mark}
+use Rattle.node_world.specs.declared.mark.MarkKind.{MarkKind}
+use Rattle.node_world.specs.declared.mark.MarkKind.TheVariants as kind
+use Rattle.mesh.specs.Marks.{calls_to, next_number, mark}
+use Rattle.mesh.specs.Sized.{Sized}
+use Rattle.mesh.proofs.WriterRange.{new_sized, begun_sized, heard_sized, call_within}
+use Rattle.cluster_runner.specs.declared.calls_to.CallsTo.{CallsTo}
+use Rattle.cluster_runner.specs.Plays.{Delivery, Delivered, ReplyLost, NotDelivered, delivery, is_marked, same_kind}
+use Rattle.cluster_runner.specs.Shown.{IsIndex, AreIndexes}
+use Rattle.cluster_runner.proofs.KeptLists.{same_test, other_test}
+use Rattle.cluster_runner.proofs.MarkLaws.{calls_append}
+
+-- ## One mark more
+cmp_eq : (x y : ℕ) → is_eq (nat_cmp x y) ≡ (x == y)
+cmp_eq x y = by (nat_lt x y) (x == y) refl refl
+  where
+    by : (a b : Bool) → nat_lt x y ≡ a → (x == y) ≡ b → is_eq (cond a Less (cond b Equal Greater)) ≡ b
+    by true true l e = absurd (grind (arith, nat_tests, l, e))
+    by true false l e = refl
+    by false true l e = refl
+    by false false l e = refl
+
+join_own : (b x : Bool) → cond b true x ≡ (x || ((true && (b && true)) || false))
+join_own true true = refl
+join_own true false = refl
+join_own false true = refl
+join_own false false = refl
+
+join_other : (b x : Bool) → (x || ((true && (b && false)) || false)) ≡ x
+join_other true true = refl
+join_other true false = refl
+join_other false true = refl
+join_other false false = refl
+
+join_none : (b x : Bool) → (x || ((false && b) || false)) ≡ x
+join_none true true = refl
+join_none true false = refl
+join_none false true = refl
+join_none false false = refl
+
+-- a mark more: what it is of, and what it says
+marked_more : (marks : List Mark) (k : ℕ) (node n q : ℕ) (a b : MarkKind)
+    → is_marked (marks ++ mark node n a ∷ []) k q b ≡ (is_marked marks k q b || (((node == k) && ((n == q) && same_kind a b)) || false))
+unfolding is_marked
+marked_more marks k node n q a b = list_any-append (λ m. (m.node == k) && ((m.number == q) && same_kind m.kind b)) marks (mark node n a ∷ [])
+
+own_mark : (marks : List Mark) (node n q : ℕ) (a b : MarkKind) → is_marked (marks ++ mark node n a ∷ []) node q b ≡ (is_marked marks node q b || ((true && ((n == q) && same_kind a b)) || false))
+own_mark marks node n q a b = marked_more marks node node n q a b ∙ ap (λ x. is_marked marks node q b || ((x && ((n == q) && same_kind a b)) || false)) (same_test node node refl)
+
+other_mark : (marks : List Mark) (k node n q : ℕ) (a b : MarkKind) → node ≢ k → is_marked (marks ++ mark node n a ∷ []) k q b ≡ is_marked marks k q b
+other_mark marks k node n q a b e =
+    marked_more marks k node n q a b
+    ∙ ap (λ x. is_marked marks k q b || ((x && ((n == q) && same_kind a b)) || false)) (other_test node k e)
+    ∙ join_none ((n == q) && same_kind a b) (is_marked marks k q b)
+
+-- ## One node's calls
+pub drop_index : (node n : ℕ) (past : List Record) (marks : List Mark) (c : CallsTo) (s : BTreeSet ℕ) → Updates nat_cmp c.dropped s n true → IsIndex node past marks c
+    → IsIndex node past (marks ++ mark node n kind.Dropped ∷ []) (record c { dropped = s })
+unfolding same_kind
+drop_index node n past marks c s u h =
+    record {
+      requests = h.requests;
+      dropped = λ q.
+          u.0 q
+          ∙ ap (λ b. cond b true (contains nat_cmp c.dropped q)) (cmp_eq n q)
+          ∙ ap (λ x. cond (n == q) true x) (h.dropped q)
+          ∙ join_own (n == q) (is_marked marks node q kind.Dropped)
+          ∙ sym (own_mark marks node n q kind.Dropped kind.Dropped);
+      muted = λ q. h.muted q ∙ sym (own_mark marks node n q kind.Dropped kind.Muted ∙ join_other (n == q) (is_marked marks node q kind.Muted));
+    }
+
+pub mute_index : (node n : ℕ) (past : List Record) (marks : List Mark) (c : CallsTo) (s : BTreeSet ℕ) → Updates nat_cmp c.muted s n true → IsIndex node past marks c
+    → IsIndex node past (marks ++ mark node n kind.Muted ∷ []) (record c { muted = s })
+unfolding same_kind
+mute_index node n past marks c s u h =
+    record {
+      requests = h.requests;
+      dropped = λ q. h.dropped q ∙ sym (own_mark marks node n q kind.Muted kind.Dropped ∙ join_other (n == q) (is_marked marks node q kind.Dropped));
+      muted = λ q.
+          u.0 q
+          ∙ ap (λ b. cond b true (contains nat_cmp c.muted q)) (cmp_eq n q)
+          ∙ ap (λ x. cond (n == q) true x) (h.muted q)
+          ∙ join_own (n == q) (is_marked marks node q kind.Muted)
+          ∙ sym (own_mark marks node n q kind.Muted kind.Muted);
+    }
+
+one_call : (node : ℕ) (r : Request) (told : Told) → calls_to node (Call node r told ∷ []) ≡ r ∷ []
+unfolding calls_to
+one_call node r told = ap (λ b. cond b (r ∷ []) []) (same_test node node refl)
+
+pub push_index : (node : ℕ) (past : List Record) (marks : List Mark) (told : Told) (r : Request) (c d : CallsTo) → d.requests.items ≡ c.requests.items ++ r ∷ [] → d.dropped ≡ c.dropped → d.muted ≡ c.muted
+    → IsIndex node past marks c → IsIndex node (past ++ Call node r told ∷ []) marks d
+push_index node past marks told r c d e f g h =
+    record {
+      requests = e ∙ ap (λ xs. xs ++ r ∷ []) h.requests ∙ sym (calls_append node past (Call node r told ∷ []) ∙ ap (λ xs. calls_to node past ++ xs) (one_call node r told));
+      dropped = λ q. ap (λ s. contains nat_cmp s q) f ∙ h.dropped q;
+      muted = λ q. ap (λ s. contains nat_cmp s q) g ∙ h.muted q;
+    }
+
+-- how the next call goes
+goes : (node n : ℕ) (past : List Record) (marks : List Mark) (c : CallsTo) → n ≡ length c.requests.items + 1 → IsIndex node past marks c → n ≡ next_number node past
+goes node n past marks c e h = e ∙ ap (λ xs. length xs + 1) h.requests
+
+abbrev by_tests : Bool → Bool → Delivery
+by_tests a b = cond a NotDelivered (cond b ReplyLost Delivered)
+
+pub goes_by : (a b : Bool) (node n : ℕ) (past : List Record) (marks : List Mark) (c : CallsTo) → n ≡ length c.requests.items + 1 → contains nat_cmp c.dropped n ≡ a → contains nat_cmp c.muted n ≡ b
+    → IsIndex node past marks c → by_tests a b ≡ delivery marks node (next_number node past)
+unfolding delivery
+goes_by a b node n past marks c e f g h =
+    ap (λ x. by_tests x b) (sym f ∙ h.dropped n)
+    ∙ ap (λ x. by_tests (is_marked marks node n kind.Dropped) x) (sym g ∙ h.muted n)
+    ∙ ap (λ m. by_tests (is_marked marks node m kind.Dropped) (is_marked marks node m kind.Muted)) (goes node n past marks c e h)
+
+-- a call that isn't delivered, whatever else is marked
+pub goes_dropped : (node n : ℕ) (past : List Record) (marks : List Mark) (c : CallsTo) → n ≡ length c.requests.items + 1 → contains nat_cmp c.dropped n ≡ true → IsIndex node past marks c
+    → NotDelivered ≡ delivery marks node (next_number node past)
+goes_dropped node n past marks c e f h = goes_by true (contains nat_cmp c.muted n) node n past marks c e f refl h
+
+-- ## All nodes' calls
+abbrev Keeps : List Record → List Mark → List Record → List Mark → ℕ → Type 0
+Keeps past marks past2 marks2 i = (y : CallsTo) → IsIndex (i + 1) past marks y → IsIndex (i + 1) past2 marks2 y
+
+set_indexes : (w v : WriterView) (past past2 : List Record) (marks marks2 : List Mark) (calls : List CallsTo) (i : ℕ) (x : CallsTo) → i < length calls → AreIndexes w past marks calls
+    → Sized (length calls) v → IsIndex (i + 1) past2 marks2 x → ((j : ℕ) → (j ≡ i → ⊥) → Keeps past marks past2 marks2 j) → AreIndexes v past2 marks2 (set calls i x)
+set_indexes w v past past2 marks marks2 calls i x l all sized own others =
+    let n : length (set calls i x) ≡ length calls = length-set calls i x in
+    let P : ℕ → Type 0 = λ m. Sized m v in
+    record {
+      sized = subst P (sym n) sized;
+      each = λ j d m. elim (eqb_tells j i) [
+        | inl same ↦
+            let Q : CallsTo → Type 0 = λ y. IsIndex (j + 1) past2 marks2 y in
+            let R : ℕ → Type 0 = λ k. IsIndex (k + 1) past2 marks2 x in
+            subst Q (sym (ap (λ k. get_or (set calls i x) k d) same.1 ∙ get_or-set_same calls i x d l)) (subst R (sym same.1) own)
+        | inr other ↦
+            let Q : CallsTo → Type 0 = λ y. IsIndex (j + 1) past2 marks2 y in
+            subst Q (sym (get_or-set_other calls i j x d other.1)) (others j other.1 (get_or calls j d) (all.each j d (omega (arith, m, n))))
+      ];
+    }
+
+pub same_indexes : (w v : WriterView) (past past2 : List Record) (marks marks2 : List Mark) (calls : List CallsTo) → AreIndexes w past marks calls → Sized (length calls) v
+    → ((j : ℕ) → Keeps past marks past2 marks2 j) → AreIndexes v past2 marks2 calls
+same_indexes w v past past2 marks marks2 calls all sized keeps = record { sized = sized; each = λ j d m. keeps j (get_or calls j d) (all.each j d m) }
+
+-- the calls to one node
+at_place : (w : WriterView) (past : List Record) (marks : List Mark) (calls : List CallsTo) (node : ℕ) (x : CallsTo) → 1 ≤ node → node ≤ length calls → AreIndexes w past marks calls
+    → x ≡ get_or calls (node - 1) x → IsIndex node past marks x
+at_place w past marks calls node x low high all is =
+    let e : (node - 1) + 1 ≡ node = omega (arith, low) in
+    let P : CallsTo → Type 0 = λ y. IsIndex ((node - 1) + 1) past marks y in
+    let Q : ℕ → Type 0 = λ k. IsIndex k past marks x in
+    subst Q e (subst P (sym is) (all.each (node - 1) x (omega (arith, low, high))))
+
+pub found_index : (w : WriterView) (past : List Record) (marks : List Mark) (calls : List CallsTo) (node : ℕ) (x : CallsTo) → 1 ≤ node → node ≤ length w.left → AreIndexes w past marks calls
+    → x ≡ get_or calls (node - 1) x → IsIndex node past marks x
+found_index w past marks calls node x low high all is = let s = all.sized.left in at_place w past marks calls node x low (omega (arith, high, s)) all is
+
+pub within_index : (w : WriterView) (past : List Record) (marks : List Mark) (calls : List CallsTo) (node : ℕ) → 1 ≤ node → node ≤ length w.left → AreIndexes w past marks calls → node - 1 < length calls
+within_index w past marks calls node low high all = let s = all.sized.left in omega (arith, low, high, s)
+
+pub called_index : (w : WriterView) (past : List Record) (marks : List Mark) (calls : List CallsTo) (node : ℕ) (r : Request) → next_call w ≡ Some (node, r) → AreIndexes w past marks calls → node - 1 < length calls
+called_index w past marks calls node r next all = let s = call_within (length calls) w node r all.sized next in omega (arith, s.0, s.1)
+
+abbrev at_own : ℕ → List Record → List Mark → CallsTo → Type 0
+at_own node past marks y = IsIndex ((node - 1) + 1) past marks y
+
+own_at : (node : ℕ) (past : List Record) (marks : List Mark) (y : CallsTo) → 1 ≤ node → IsIndex node past marks y → at_own node past marks y
+own_at node past marks y low h =
+    let e : node ≡ (node - 1) + 1 = omega (arith, low) in
+    let P : ℕ → Type 0 = λ k. IsIndex k past marks y in
+    subst P e h
+
+not_own : (j node : ℕ) → 1 ≤ node → (j ≡ node - 1 → ⊥) → node ≢ j + 1
+not_own j node low n e = n (omega (arith, low, e))
+
+other_call : (k node : ℕ) (past : List Record) (r : Request) (told : Told) → node ≢ k → calls_to k (past ++ Call node r told ∷ []) ≡ calls_to k past
+unfolding calls_to
+other_call k node past r told n =
+    calls_append k past (Call node r told ∷ []) ∙ ap (λ b. calls_to k past ++ cond b (r ∷ []) []) (other_test node k n) ∙ append-nil (calls_to k past)
+
+pub hear_indexes : (w v : WriterView) (past past2 : List Record) (marks : List Mark) (calls : List CallsTo) (node : ℕ) (r : Request) (told : Told) (heard : Heard) (turn : Turn) (x y : CallsTo)
+    → next_call w ≡ Some (node, r) → AreIndexes w past marks calls → x ≡ get_or calls (node - 1) x
+    → ((k : ℕ) (ps : List Record) (ms : List Mark) (t : Told) → IsIndex k ps ms x → IsIndex k (ps ++ Call k r t ∷ []) ms y)
+    → writer_heard w node heard ≡ record { writer = v; turn = turn } → past2 ≡ past ++ Call node r told ∷ [] → AreIndexes v past2 marks (set calls (node - 1) y)
+hear_indexes w v past past2 marks calls node r told heard turn x y next all is push e more =
+    let s : (1 ≤ node) × (node ≤ length calls) = call_within (length calls) w node r all.sized next in
+    let P : List Record → Type 0 = λ ps. AreIndexes v ps marks (set calls (node - 1) y) in
+    let Q : WriterView → Type 0 = λ z. Sized (length calls) z in
+    subst P (sym more)
+    (set_indexes w v past (past ++ Call node r told ∷ []) marks marks calls (node - 1) y (omega (arith, s.0, s.1)) all
+    (subst Q (ap (λ j. j.writer) e) (heard_sized (length calls) w node heard all.sized))
+    (own_at node (past ++ Call node r told ∷ []) marks y s.0 (push node past marks told (at_place w past marks calls node x s.0 s.1 all is)))
+    (λ j n z h. record { requests = h.requests ∙ sym (other_call (j + 1) node past r told (not_own j node s.0 n)); dropped = h.dropped; muted = h.muted }))
+
+pub mark_indexes : (w : WriterView) (past : List Record) (marks marks2 : List Mark) (calls : List CallsTo) (node n : ℕ) (a : MarkKind) (x y : CallsTo) → 1 ≤ node → node ≤ length w.left
+    → AreIndexes w past marks calls → x ≡ get_or calls (node - 1) x → ((k : ℕ) (ps : List Record) (ms : List Mark) → IsIndex k ps ms x → IsIndex k ps (ms ++ mark k n a ∷ []) y)
+    → marks2 ≡ marks ++ mark node n a ∷ [] → AreIndexes w past marks2 (set calls (node - 1) y)
+mark_indexes w past marks marks2 calls node n a x y low high all is put more =
+    let P : List Mark → Type 0 = λ ms. AreIndexes w past ms (set calls (node - 1) y) in
+    subst P (sym more)
+    (set_indexes w w past past marks (marks ++ mark node n a ∷ []) calls (node - 1) y (within_index w past marks calls node low high all) all all.sized
+    (own_at node past (marks ++ mark node n a ∷ []) y low (put node past marks (found_index w past marks calls node x low high all is)))
+    (λ j m z h. record {
+      requests = h.requests;
+      dropped = λ q. h.dropped q ∙ sym (other_mark marks (j + 1) node n q a kind.Dropped (not_own j node low m));
+      muted = λ q. h.muted q ∙ sym (other_mark marks (j + 1) node n q a kind.Muted (not_own j node low m));
+    }))
+
+-- results are no calls
+no_results : (k : ℕ) (texts : List (List ℕ)) → calls_to k (map (λ text. Outcome text) texts) ≡ []
+unfolding calls_to
+no_results k [] = refl
+no_results k (text ∷ texts) = no_results k texts
+
+pub say_indexes : (w : WriterView) (past past2 : List Record) (marks : List Mark) (calls : List CallsTo) (texts : List (List ℕ)) → AreIndexes w past marks calls
+    → past2 ≡ past ++ map (λ text. Outcome text) texts → AreIndexes w past2 marks calls
+say_indexes w past past2 marks calls texts all more =
+    same_indexes w w past past2 marks marks calls all all.sized
+    (λ j y h. record {
+      requests =
+          h.requests
+          ∙ sym (ap (calls_to (j + 1)) more ∙ calls_append (j + 1) past (map (λ text. Outcome text) texts) ∙ ap (λ xs. calls_to (j + 1) past ++ xs) (no_results (j + 1) texts) ∙ append-nil (calls_to (j + 1) past));
+      dropped = h.dropped;
+      muted = h.muted;
+    })
+
+-- a copy is no call, and its mark loses none
+no_copy : (k node : ℕ) (r : Request) → calls_to k (Late node r ∷ []) ≡ []
+unfolding calls_to
+no_copy k node r = refl
+
+late_mark : (marks : List Mark) (k node n q : ℕ) → (is_marked (marks ++ mark node n kind.Late ∷ []) k q kind.Dropped ≡ is_marked marks k q kind.Dropped)
+    × (is_marked (marks ++ mark node n kind.Late ∷ []) k q kind.Muted ≡ is_marked marks k q kind.Muted)
+unfolding same_kind
+late_mark marks k node n q = (
+  marked_more marks k node n q kind.Late kind.Dropped ∙ none (node == k) (n == q) (is_marked marks k q kind.Dropped),
+  marked_more marks k node n q kind.Late kind.Muted ∙ none (node == k) (n == q) (is_marked marks k q kind.Muted),
+)
+  where
+    none : (a b x : Bool) → (x || ((a && (b && false)) || false)) ≡ x
+    none true b x = join_other b x
+    none false b x = join_none (b && false) x
+
+pub copy_indexes : (w : WriterView) (past past2 : List Record) (marks marks2 : List Mark) (calls : List CallsTo) (node n : ℕ) (r : Request) → AreIndexes w past marks calls
+    → past2 ≡ past ++ Late node r ∷ [] → marks2 ≡ marks ++ mark node n kind.Late ∷ [] → AreIndexes w past2 marks2 calls
+copy_indexes w past past2 marks marks2 calls node n r all more most =
+    same_indexes w w past past2 marks marks2 calls all all.sized
+    (λ j y h. record {
+      requests =
+          h.requests
+          ∙ sym (ap (calls_to (j + 1)) more ∙ calls_append (j + 1) past (Late node r ∷ []) ∙ ap (λ xs. calls_to (j + 1) past ++ xs) (no_copy (j + 1) node r) ∙ append-nil (calls_to (j + 1) past));
+      dropped = λ q. h.dropped q ∙ sym (ap (λ ms. is_marked ms (j + 1) q kind.Dropped) most ∙ (late_mark marks (j + 1) node n q).0);
+      muted = λ q. h.muted q ∙ sym (ap (λ ms. is_marked ms (j + 1) q kind.Muted) most ∙ (late_mark marks (j + 1) node n q).1);
+    })
+
+pub begin_indexes : (w v : WriterView) (past : List Record) (marks : List Mark) (calls : List CallsTo) (t : Task) (b : Begun) → AreIndexes w past marks calls
+    → writer_begun w t ≡ record { writer = v; begun = b } → AreIndexes v past marks calls
+begin_indexes w v past marks calls t b all e =
+    let Q : WriterView → Type 0 = λ z. Sized (length calls) z in
+    same_indexes w v past past marks marks calls all (subst Q (ap (λ j. j.writer) e) (begun_sized (length calls) w t all.sized)) (λ j y h. h)
+
+pub view_indexes : (w v : WriterView) (past : List Record) (marks : List Mark) (calls : List CallsTo) → AreIndexes w past marks calls → v ≡ w → AreIndexes v past marks calls
+view_indexes w v past marks calls all e = let P : WriterView → Type 0 = λ z. AreIndexes z past marks calls in subst P (sym e) all
+
+-- ## An actor without calls
+pub record AreNone (calls : List CallsTo) (n : ℕ) : Type 0 where
+  pub count : length calls ≡ n
+  pub each : (i : ℕ) (d : CallsTo) → i < n → IsIndex (i + 1) [] [] (get_or calls i d)
+
+pub more_none : (calls : List CallsTo) (n : ℕ) (x : CallsTo) → AreNone calls n → ((node : ℕ) → IsIndex node [] [] x) → AreNone (calls ++ x ∷ []) (n + 1)
+more_none calls n x h new =
+    let e : length calls ≡ n = h.count in
+    record {
+      count = length-append calls (x ∷ []) ∙ ap (λ m. m + 1) e;
+      each = λ i d l. elim (eqb_tells i n) [
+        | inl same ↦
+            let P : CallsTo → Type 0 = λ y. IsIndex (i + 1) [] [] y in
+            subst P (sym (ap (λ k. get_or (calls ++ x ∷ []) k d) (same.1 ∙ sym e) ∙ get_or-append_seam calls x [] d)) (new (i + 1))
+        | inr other ↦
+            let m : i < n = lt_of_le-ne (omega (arith, l)) other.1 in
+            let P : CallsTo → Type 0 = λ y. IsIndex (i + 1) [] [] y in
+            subst P (sym (get_or_append_left calls (x ∷ []) d i (omega (arith, m, e)))) (h.each i d m)
+      ];
+    }
+
+pub new_indexes : (w : WriterView) (past : List Record) (marks : List Mark) (calls : List CallsTo) (n : ℕ) → w ≡ new_writer n → past ≡ [] → marks ≡ [] → length calls ≡ n
+    → ((i : ℕ) (d : CallsTo) → i < n → IsIndex (i + 1) [] [] (get_or calls i d)) → AreIndexes w past marks calls
+new_indexes w past marks calls n e f g count each =
+    let P : WriterView → Type 0 = λ z. AreIndexes z past marks calls in
+    let Q : List Record → Type 0 = λ ps. AreIndexes (new_writer n) ps marks calls in
+    let R : List Mark → Type 0 = λ ms. AreIndexes (new_writer n) [] ms calls in
+    let S : ℕ → Type 0 = λ m. Sized m (new_writer n) in
+    subst P (sym e) (subst Q (sym f) (subst R (sym g) (record { sized = subst S (sym count) (new_sized n); each = λ i d l. each i d (omega (arith, l, count)) })))

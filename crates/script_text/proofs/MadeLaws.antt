@@ -1,0 +1,91 @@
+-- Two lines with the same words are one.
+use Rattle.std.proofs.Common.{ℕ, ◌≡◌, ◌<◌, List, [], ◌∷◌, length, Option, Some, None, refl, sym, ap, arith, ◌∙◌, map, decimal}
+use Rattle.std.specs.Str.Parse.{digits_value}
+use Rattle.request_text.specs.Texts.{hex_text}
+use Rattle.node_world.specs.declared.stop.Stop.TheVariants as stop
+use Rattle.script_text.specs.declared.task_word.TaskWord.TheVariants as task
+use Rattle.script_text.specs.declared.call_word.CallWord.TheVariants as call
+use Rattle.script_text.specs.declared.node_word.NodeWord.TheVariants as node
+use Rattle.script_text.specs.declared.kind.Kind.{Kind}
+use Rattle.script_text.specs.declared.kind.Kind.TheVariants as kind
+use Rattle.script_text.specs.declared.script_line.ScriptLine.{ScriptLine}
+use Rattle.script_text.specs.declared.script_line.ScriptLine.TheVariants as line
+use Rattle.script_text.specs.Views.{SaidView}
+use Rattle.script_text.specs.Words.{actor_of, name_at}
+use Rattle.script_text.specs.Grammar.{keyword, kind_in, operands, words_in, IsNode, IsCount, HasSense}
+use Rattle.script_text.specs.Rules.{kind_of}
+use Rattle.script_text.proofs.BodyLaws.{unhex, bodies_back}
+use Rattle.script_text.proofs.NumberLaws.{number_again}
+use Rattle.script_text.proofs.NameLaws.{AreKnown}
+use Rattle.script_text.proofs.KindLaws.{kind_is}
+use Rattle.script_text.proofs.SenseLaws.{AreFew}
+
+abbrev or_first : Option ℕ → ℕ
+or_first None = 0
+or_first (Some n) = n
+
+abbrev place_of : List (List ℕ) → List ℕ → ℕ
+place_of names name = or_first (actor_of names name)
+
+-- the line of that kind that these words say
+abbrev made : List (List ℕ) → Kind → List (List ℕ) → ScriptLine
+made names kind.Writer (name ∷ []) = line.Declare name
+made names (kind.Task task.Takeover) (name ∷ []) = line.Takeover (place_of names name)
+made names (kind.Task task.Roll) (name ∷ []) = line.Roll (place_of names name)
+made names (kind.Task task.Close) (name ∷ []) = line.Close (place_of names name)
+made names kind.Log (name ∷ bodies) = line.Log (place_of names name) (map unhex bodies)
+made names kind.Purge (name ∷ min ∷ []) = line.Purge (place_of names name) (digits_value 10 min)
+made names (kind.Call call.Drop) (name ∷ i ∷ k ∷ []) = line.Drop (place_of names name) (digits_value 10 i) (digits_value 10 k)
+made names (kind.Call call.Mute) (name ∷ i ∷ k ∷ []) = line.Mute (place_of names name) (digits_value 10 i) (digits_value 10 k)
+made names (kind.Call call.Late) (name ∷ i ∷ k ∷ []) = line.Late (place_of names name) (digits_value 10 i) (digits_value 10 k)
+made names (kind.Node node.Kill) (i ∷ []) = line.Kill (digits_value 10 i)
+made names (kind.Node node.Restart) (i ∷ []) = line.Restart (digits_value 10 i)
+made names kind.Stop (i ∷ calls ∷ keep ∷ []) = line.Arm (digits_value 10 i) (digits_value 10 calls) (stop.Effects (digits_value 10 keep))
+made names k words = line.Declare []
+
+module _ (said : SaidView) (k : AreKnown said.names) (f : AreFew said) where
+  place : (actor : ℕ) → actor < length said.names → place_of said.names (name_at said.names actor) ≡ actor
+  place actor l = ap or_first (k.found actor l)
+
+  node_again : (i : ℕ) → IsNode said i → digits_value 10 (decimal i) ≡ i
+  node_again i n = number_again i (omega (arith, n.1))
+
+  count_again : (n : ℕ) → IsCount n → digits_value 10 (decimal n) ≡ n
+  count_again n c = number_again n c.1
+
+  made_again : (l : ScriptLine) → HasSense said l → made said.names (kind_in l) (operands said.names l) ≡ l
+  made_again (line.Declare name) s = refl
+  made_again (line.Takeover actor) s = ap line.Takeover (place actor s)
+  made_again (line.Roll actor) s = ap line.Roll (place actor s)
+  made_again (line.Close actor) s = ap line.Close (place actor s)
+  made_again (line.Log actor bodies) s = ap (λ a. line.Log a (map unhex (map hex_text bodies))) (place actor s.0) ∙ ap (line.Log actor) (bodies_back bodies s.2)
+  made_again (line.Purge actor min) s = ap (λ a. line.Purge a (digits_value 10 (decimal min))) (place actor s.0) ∙ ap (line.Purge actor) (number_again min s.1)
+  made_again (line.Drop actor i n) s =
+      ap (λ a. line.Drop a (digits_value 10 (decimal i)) (digits_value 10 (decimal n))) (place actor s.0) ∙ ap (λ x. line.Drop actor x (digits_value 10 (decimal n))) (node_again i s.1) ∙ ap (line.Drop actor i) (count_again n s.2)
+  made_again (line.Mute actor i n) s =
+      ap (λ a. line.Mute a (digits_value 10 (decimal i)) (digits_value 10 (decimal n))) (place actor s.0) ∙ ap (λ x. line.Mute actor x (digits_value 10 (decimal n))) (node_again i s.1) ∙ ap (line.Mute actor i) (count_again n s.2)
+  made_again (line.Late actor i n) s =
+      ap (λ a. line.Late a (digits_value 10 (decimal i)) (digits_value 10 (decimal n))) (place actor s.0) ∙ ap (λ x. line.Late actor x (digits_value 10 (decimal n))) (node_again i s.1) ∙ ap (line.Late actor i) (count_again n s.2)
+  made_again (line.Kill i) s = ap line.Kill (node_again i s)
+  made_again (line.Restart i) s = ap line.Restart (node_again i s)
+  made_again (line.Arm i calls (stop.Effects keep)) s =
+      ap (λ x. line.Arm x (digits_value 10 (decimal calls)) (stop.Effects (digits_value 10 (decimal keep)))) (node_again i s.0)
+      ∙ ap (λ x. line.Arm i x (stop.Effects (digits_value 10 (decimal keep)))) (count_again calls s.1) ∙ ap (λ x. line.Arm i calls (stop.Effects x)) (number_again keep s.2)
+  made_again (line.Arm i calls (stop.DiskCalls after cut)) s = absurd s
+
+  pub same_line : (x y : ScriptLine) → HasSense said x → HasSense said y → words_in said.names x ≡ words_in said.names y → x ≡ y
+  same_line x y s t e =
+      let first : keyword (kind_in x) ≡ keyword (kind_in y) = heads (keyword (kind_in x)) (keyword (kind_in y)) _ _ e in
+      let rest : operands said.names x ≡ operands said.names y = tails (keyword (kind_in x)) (keyword (kind_in y)) _ _ e in
+      let both_are : Some (kind_in x) ≡ Some (kind_in y) = sym (kind_is (kind_in x)) ∙ ap kind_of first ∙ kind_is (kind_in y) in
+      let same : kind_in x ≡ kind_in y = some_same (kind_in x) (kind_in y) both_are in
+      sym (made_again x s) ∙ ap (λ j. made said.names j (operands said.names x)) same ∙ ap (made said.names (kind_in y)) rest ∙ made_again y t
+    where
+      heads : (u v : List ℕ) (us vs : List (List ℕ)) → u ∷ us ≡ v ∷ vs → u ≡ v
+      heads u v us vs e = cc
+
+      tails : (u v : List ℕ) (us vs : List (List ℕ)) → u ∷ us ≡ v ∷ vs → us ≡ vs
+      tails u v us vs e = cc
+
+      some_same : (a b : Kind) → Some a ≡ Some b → a ≡ b
+      some_same a b e = cc

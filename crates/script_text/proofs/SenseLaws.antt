@@ -1,0 +1,286 @@
+-- A line that makes sense: its words are words, break no rule, and are of no other line.
+use Rattle.std.proofs.Common.{ℕ, ◌≡◌, ◌≢◌, ◌<◌, ◌≤◌, List, [], ◌∷◌, ◌++◌, length, Some, None, true, false, inl, inr, refl, ap, arith, ◌∙◌, nat_le, map, codes, decimal}
+use Rattle.std.specs.List.{list_all, list_any, AllByRecursion}
+use Rattle.std.proofs.lemmas.Bool.Decides.{nat_tests, leb_tells}
+use Rattle.request_text.specs.Texts.{hex_text}
+use Rattle.node_world.specs.declared.stop.Stop.TheVariants as stop
+use Rattle.script_text.specs.declared.task_word.TaskWord.TheVariants as task
+use Rattle.script_text.specs.declared.call_word.CallWord.TheVariants as call
+use Rattle.script_text.specs.declared.node_word.NodeWord.TheVariants as node
+use Rattle.script_text.specs.declared.kind.Kind.{Kind}
+use Rattle.script_text.specs.declared.kind.Kind.TheVariants as kind
+use Rattle.script_text.specs.declared.script_line.ScriptLine.{ScriptLine}
+use Rattle.script_text.specs.declared.script_line.ScriptLine.TheVariants as line
+use Rattle.script_text.specs.Views.{SaidView}
+use Rattle.script_text.specs.Words.{joined, words_of, is_empty, first_word, actor_of, name_at, greatest, is_number, is_body, IsBody}
+use Rattle.script_text.specs.Grammar.{keyword, kind_in, operands, words_in, line_text, said_after, most_actors, IsActor, IsNode, IsCount, HasSense, is_silent}
+use Rattle.script_text.specs.Rules.{kind_of, has_length, bad_spacing, later_rule, rule_in, rule_said}
+use Rattle.script_text.specs.Reading.{Says}
+use Rattle.script_text.proofs.BodyLaws.{IsWord, words_again, name_is_word, body_is_word, body_again}
+use Rattle.script_text.proofs.NumberLaws.{number_is, number_is_word}
+use Rattle.script_text.proofs.NameLaws.{AreKnown, known_push, name_good}
+use Rattle.script_text.proofs.KindLaws.{kind_is}
+
+-- ## Its words
+keyword_is_word : (k : Kind) → IsWord (keyword k)
+keyword_is_word kind.Writer = refl
+keyword_is_word (kind.Task task.Takeover) = refl
+keyword_is_word (kind.Task task.Roll) = refl
+keyword_is_word (kind.Task task.Close) = refl
+keyword_is_word kind.Log = refl
+keyword_is_word kind.Purge = refl
+keyword_is_word (kind.Call call.Drop) = refl
+keyword_is_word (kind.Call call.Mute) = refl
+keyword_is_word (kind.Call call.Late) = refl
+keyword_is_word (kind.Node node.Kill) = refl
+keyword_is_word (kind.Node node.Restart) = refl
+keyword_is_word kind.Stop = refl
+
+-- a word that isn't empty
+abbrev IsFull : List ℕ → Type 0
+IsFull word = IsWord word × (is_empty word ≡ false)
+
+abbrev AreFull : List (List ℕ) → Type 0
+AreFull words = AllByRecursion IsWord words × (list_any is_empty words ≡ false)
+
+none_full : AreFull []
+none_full = (tt, refl)
+
+more_full : (word : List ℕ) (words : List (List ℕ)) → IsFull word → AreFull words → AreFull (word ∷ words)
+more_full word words h k = ((h.0, k.0), rw h.1 k.1)
+
+one_full : (a : List ℕ) → IsFull a → AreFull (a ∷ [])
+one_full a h = more_full a [] h none_full
+
+two_full : (a b : List ℕ) → IsFull a → IsFull b → AreFull (a ∷ b ∷ [])
+two_full a b h k = more_full a (b ∷ []) h (one_full b k)
+
+three_full : (a b c : List ℕ) → IsFull a → IsFull b → IsFull c → AreFull (a ∷ b ∷ c ∷ [])
+three_full a b c h k l = more_full a (b ∷ c ∷ []) h (two_full b c k l)
+
+hex_full : (bodies : List (List ℕ)) → AllByRecursion IsBody bodies → AreFull (map hex_text bodies)
+hex_full [] h = none_full
+hex_full (b ∷ bs) h = more_full (hex_text b) (map hex_text bs) (body_is_word b h.0) (hex_full bs h.1)
+
+hex_are_bodies : (bodies : List (List ℕ)) → AllByRecursion IsBody bodies → list_all is_body (map hex_text bodies) ≡ true
+hex_are_bodies [] h = refl
+hex_are_bodies (b ∷ bs) h = rw (body_again b h.0) (hex_are_bodies bs h.1)
+
+actor_full : (names : List (List ℕ)) (actor : ℕ) → AreKnown names → actor < length names → IsFull (name_at names actor)
+actor_full names actor k l = name_is_word (name_at names actor) (name_good names actor k.good l)
+
+-- the number of a node is no greater than any other
+abbrev pub AreFew : SaidView → Type 0
+AreFew said = said.nodes < 16
+
+node_full : (said : SaidView) (i : ℕ) → AreFew said → IsNode said i → IsFull (decimal i)
+node_full said i f n = number_is_word i (omega (arith, n.1))
+
+call_full : (said : SaidView) (actor i k : ℕ) → AreKnown said.names → AreFew said → IsActor said actor × IsNode said i × IsCount k → AreFull (name_at said.names actor ∷ decimal i ∷ decimal k ∷ [])
+call_full said actor i k known f s =
+    three_full (name_at said.names actor) (decimal i) (decimal k) (actor_full said.names actor known s.0) (node_full said i f s.1) (number_is_word k s.2.1)
+
+pub operands_full : (said : SaidView) (l : ScriptLine) → AreKnown said.names → AreFew said → HasSense said l → AllByRecursion IsWord (operands said.names l) × (list_any is_empty (operands said.names l) ≡ false)
+operands_full said (line.Declare name) k f s = one_full name (name_is_word name s.0)
+operands_full said (line.Takeover actor) k f s = one_full (name_at said.names actor) (actor_full said.names actor k s)
+operands_full said (line.Roll actor) k f s = one_full (name_at said.names actor) (actor_full said.names actor k s)
+operands_full said (line.Close actor) k f s = one_full (name_at said.names actor) (actor_full said.names actor k s)
+operands_full said (line.Log actor bodies) k f s = more_full (name_at said.names actor) (map hex_text bodies) (actor_full said.names actor k s.0) (hex_full bodies s.2)
+operands_full said (line.Purge actor min) k f s = two_full (name_at said.names actor) (decimal min) (actor_full said.names actor k s.0) (number_is_word min s.1)
+operands_full said (line.Drop actor i n) k f s = call_full said actor i n k f s
+operands_full said (line.Mute actor i n) k f s = call_full said actor i n k f s
+operands_full said (line.Late actor i n) k f s = call_full said actor i n k f s
+operands_full said (line.Kill i) k f s = one_full (decimal i) (node_full said i f s)
+operands_full said (line.Restart i) k f s = one_full (decimal i) (node_full said i f s)
+operands_full said (line.Arm i calls (stop.Effects keep)) k f s =
+    three_full (decimal i) (decimal calls) (decimal keep) (node_full said i f s.0) (number_is_word calls s.1.1) (number_is_word keep s.2)
+operands_full said (line.Arm i calls (stop.DiskCalls after cut)) k f s = absurd s
+
+pub words_are_words : (said : SaidView) (l : ScriptLine) → AreKnown said.names → AreFew said → HasSense said l → AllByRecursion IsWord (words_in said.names l)
+words_are_words said l k f s = (keyword_is_word (kind_in l), (operands_full said l k f s).0)
+
+pub words_back : (said : SaidView) (l : ScriptLine) → AreKnown said.names → AreFew said → HasSense said l → words_of (line_text said.names l) ≡ words_in said.names l
+words_back said l k f s = words_again (keyword (kind_in l)) (operands said.names l) (words_are_words said l k f s)
+
+-- ## How many there are
+some_bodies : (bodies : List (List ℕ)) (word name : List ℕ) → bodies ≢ [] → nat_le 3 (length (word ∷ name ∷ map hex_text bodies)) ≡ true
+some_bodies [] word name n = absurd (n refl)
+some_bodies (b ∷ bs) word name n = grind (arith, nat_tests)
+
+counted : (said : SaidView) (l : ScriptLine) → HasSense said l → has_length (kind_in l) (length (words_in said.names l)) ≡ true
+counted said (line.Declare name) s = refl
+counted said (line.Takeover actor) s = refl
+counted said (line.Roll actor) s = refl
+counted said (line.Close actor) s = refl
+counted said (line.Log actor bodies) s = some_bodies bodies (codes "log") (name_at said.names actor) s.1
+counted said (line.Purge actor min) s = refl
+counted said (line.Drop actor i n) s = refl
+counted said (line.Mute actor i n) s = refl
+counted said (line.Late actor i n) s = refl
+counted said (line.Kill i) s = refl
+counted said (line.Restart i) s = refl
+counted said (line.Arm i calls (stop.Effects keep)) s = refl
+counted said (line.Arm i calls (stop.DiskCalls after cut)) s = absurd s
+
+keyword_full : (k : Kind) → is_empty (keyword k) ≡ false
+keyword_full kind.Writer = refl
+keyword_full (kind.Task task.Takeover) = refl
+keyword_full (kind.Task task.Roll) = refl
+keyword_full (kind.Task task.Close) = refl
+keyword_full kind.Log = refl
+keyword_full kind.Purge = refl
+keyword_full (kind.Call call.Drop) = refl
+keyword_full (kind.Call call.Mute) = refl
+keyword_full (kind.Call call.Late) = refl
+keyword_full (kind.Node node.Kill) = refl
+keyword_full (kind.Node node.Restart) = refl
+keyword_full kind.Stop = refl
+
+spacing_good : (said : SaidView) (l : ScriptLine) → AreKnown said.names → AreFew said → HasSense said l → bad_spacing (kind_in l) (words_in said.names l) ≡ false
+spacing_good said l k f s =
+    let a : is_empty (keyword (kind_in l)) ≡ false = keyword_full (kind_in l) in
+    let b : list_any is_empty (operands said.names l) ≡ false = (operands_full said l k f s).1 in
+    let c : has_length (kind_in l) (length (words_in said.names l)) ≡ true = counted said l s in
+    rw (a, b, c) refl
+
+-- ## The later rules
+few_actors : (said : SaidView) → length said.names < most_actors → nat_le most_actors (length said.names) ≡ false
+few_actors said l = elim (leb_tells most_actors (length said.names)) [ inl p ↦ absurd (omega (arith, p.1)) | inr p ↦ p.0 ]
+
+node_number : (said : SaidView) (i : ℕ) → AreFew said → IsNode said i → is_number 1 said.nodes (decimal i) ≡ true
+node_number said i f n = number_is 1 said.nodes i (omega arith) n.0 n.1
+
+count_number : (k : ℕ) → IsCount k → is_number 1 greatest (decimal k) ≡ true
+count_number k c = number_is 1 greatest k (omega arith) c.0 c.1
+
+any_number : (n : ℕ) → n ≤ greatest → is_number 0 greatest (decimal n) ≡ true
+any_number n l = number_is 0 greatest n (omega arith) (omega arith) l
+
+actor_rule : (said : SaidView) (actor : ℕ) → AreKnown said.names → IsActor said actor → actor_of said.names (name_at said.names actor) ≡ Some actor
+actor_rule said actor k l = k.found actor l
+
+rule_none : (said : SaidView) (l : ScriptLine) → AreKnown said.names → AreFew said → HasSense said l → later_rule said (kind_in l) (operands said.names l) ≡ None
+rule_none said (line.Declare name) k f s = rw (s.0, few_actors said s.1, s.2) refl
+rule_none said (line.Takeover actor) k f s = rw (actor_rule said actor k s) refl
+rule_none said (line.Roll actor) k f s = rw (actor_rule said actor k s) refl
+rule_none said (line.Close actor) k f s = rw (actor_rule said actor k s) refl
+rule_none said (line.Log actor bodies) k f s = rw (actor_rule said actor k s.0, hex_are_bodies bodies s.2) refl
+rule_none said (line.Purge actor min) k f s = rw (actor_rule said actor k s.0, any_number min s.1) refl
+rule_none said (line.Drop actor i n) k f s = rw (actor_rule said actor k s.0, node_number said i f s.1, count_number n s.2) refl
+rule_none said (line.Mute actor i n) k f s = rw (actor_rule said actor k s.0, node_number said i f s.1, count_number n s.2) refl
+rule_none said (line.Late actor i n) k f s = rw (actor_rule said actor k s.0, node_number said i f s.1, count_number n s.2) refl
+rule_none said (line.Kill i) k f s = rw (node_number said i f s) refl
+rule_none said (line.Restart i) k f s = rw (node_number said i f s) refl
+rule_none said (line.Arm i calls (stop.Effects keep)) k f s = rw (node_number said i f s.0, count_number calls s.1, any_number keep s.2) refl
+rule_none said (line.Arm i calls (stop.DiskCalls after cut)) k f s = absurd s
+
+first_keyword : (k : Kind) (words : List (List ℕ)) → first_word (keyword k ∷ words) ≡ keyword k
+first_keyword kind.Writer words = refl
+first_keyword (kind.Task task.Takeover) words = refl
+first_keyword (kind.Task task.Roll) words = refl
+first_keyword (kind.Task task.Close) words = refl
+first_keyword kind.Log words = refl
+first_keyword kind.Purge words = refl
+first_keyword (kind.Call call.Drop) words = refl
+first_keyword (kind.Call call.Mute) words = refl
+first_keyword (kind.Call call.Late) words = refl
+first_keyword (kind.Node node.Kill) words = refl
+first_keyword (kind.Node node.Restart) words = refl
+first_keyword kind.Stop words = refl
+
+pub kind_of_words : (names : List (List ℕ)) (l : ScriptLine) → kind_of (first_word (words_in names l)) ≡ Some (kind_in l)
+kind_of_words names l = ap kind_of (first_keyword (kind_in l) (operands names l)) ∙ kind_is (kind_in l)
+
+rule_in_none : (said : SaidView) (l : ScriptLine) → AreKnown said.names → AreFew said → HasSense said l → rule_in said (Some (kind_in l)) (words_in said.names l) ≡ None
+unfolding rule_in
+rule_in_none said l k f s = rw (spacing_good said l k f s) (rule_none said l k f s)
+
+pub says_it : (said : SaidView) (l : ScriptLine) → AreKnown said.names → AreFew said → HasSense said l → Says said (line_text said.names l) l
+unfolding rule_said
+says_it said l k f s =
+    let words = words_back said l k f s in
+    record {
+      rule =
+          ap (λ ws. rule_in said (kind_of (first_word ws)) ws) words ∙ ap (λ o. rule_in said o (words_in said.names l)) (kind_of_words said.names l)
+          ∙ rule_in_none said l k f s;
+      words = words;
+      sense = s;
+    }
+
+pub known_after : (said : SaidView) (l : ScriptLine) → AreKnown said.names → HasSense said l → AreKnown (said_after said l).names
+known_after said (line.Declare name) k s = known_push said.names name k s.0 s.2
+known_after said (line.Takeover actor) k s = k
+known_after said (line.Roll actor) k s = k
+known_after said (line.Close actor) k s = k
+known_after said (line.Log actor bodies) k s = k
+known_after said (line.Purge actor min) k s = k
+known_after said (line.Drop actor i n) k s = k
+known_after said (line.Mute actor i n) k s = k
+known_after said (line.Late actor i n) k s = k
+known_after said (line.Kill i) k s = k
+known_after said (line.Restart i) k s = k
+known_after said (line.Arm i calls how) k s = k
+
+pub nodes_after : (said : SaidView) (l : ScriptLine) → (said_after said l).nodes ≡ said.nodes
+nodes_after said (line.Declare name) = refl
+nodes_after said (line.Takeover actor) = refl
+nodes_after said (line.Roll actor) = refl
+nodes_after said (line.Close actor) = refl
+nodes_after said (line.Log actor bodies) = refl
+nodes_after said (line.Purge actor min) = refl
+nodes_after said (line.Drop actor i n) = refl
+nodes_after said (line.Mute actor i n) = refl
+nodes_after said (line.Late actor i n) = refl
+nodes_after said (line.Kill i) = refl
+nodes_after said (line.Restart i) = refl
+nodes_after said (line.Arm i calls how) = refl
+
+-- a line that declares nobody leaves what was said
+pub said_same : (said : SaidView) (l : ScriptLine) → ((name : List ℕ) → l ≡ line.Declare name → ⊥) → said ≡ said_after said l
+said_same said (line.Declare name) h = absurd (h name refl)
+said_same said (line.Takeover actor) h = refl
+said_same said (line.Roll actor) h = refl
+said_same said (line.Close actor) h = refl
+said_same said (line.Log actor bodies) h = refl
+said_same said (line.Purge actor min) h = refl
+said_same said (line.Drop actor i n) h = refl
+said_same said (line.Mute actor i n) h = refl
+said_same said (line.Late actor i n) h = refl
+said_same said (line.Kill i) h = refl
+said_same said (line.Restart i) h = refl
+said_same said (line.Arm i calls how) h = refl
+
+speaks : (k : Kind) (words : List (List ℕ)) → is_silent (joined (keyword k ∷ words)) ≡ false
+speaks k [] = first_speaks k
+  where
+    first_speaks : (k : Kind) → is_silent (keyword k) ≡ false
+    first_speaks kind.Writer = refl
+    first_speaks (kind.Task task.Takeover) = refl
+    first_speaks (kind.Task task.Roll) = refl
+    first_speaks (kind.Task task.Close) = refl
+    first_speaks kind.Log = refl
+    first_speaks kind.Purge = refl
+    first_speaks (kind.Call call.Drop) = refl
+    first_speaks (kind.Call call.Mute) = refl
+    first_speaks (kind.Call call.Late) = refl
+    first_speaks (kind.Node node.Kill) = refl
+    first_speaks (kind.Node node.Restart) = refl
+    first_speaks kind.Stop = refl
+speaks k (w ∷ ws) = more_speaks k (32 ∷ joined (w ∷ ws))
+  where
+    more_speaks : (k : Kind) (rest : List ℕ) → is_silent (keyword k ++ rest) ≡ false
+    more_speaks kind.Writer rest = refl
+    more_speaks (kind.Task task.Takeover) rest = refl
+    more_speaks (kind.Task task.Roll) rest = refl
+    more_speaks (kind.Task task.Close) rest = refl
+    more_speaks kind.Log rest = refl
+    more_speaks kind.Purge rest = refl
+    more_speaks (kind.Call call.Drop) rest = refl
+    more_speaks (kind.Call call.Mute) rest = refl
+    more_speaks (kind.Call call.Late) rest = refl
+    more_speaks (kind.Node node.Kill) rest = refl
+    more_speaks (kind.Node node.Restart) rest = refl
+    more_speaks kind.Stop rest = refl
+
+pub not_silent : (names : List (List ℕ)) (l : ScriptLine) → is_silent (line_text names l) ≡ false
+not_silent names l = speaks (kind_in l) (operands names l)

@@ -1,0 +1,212 @@
+// Lines behind the first are read.
+ghost use Rattle.std.specs.Prelude.{◌≡◌, ◌+◌, ◌∷◌, [], true, IfOk, length};
+ghost use Rattle.script_text.specs.declared.kind.Kind.TheVariants as kind;
+ghost use Rattle.script_text.specs.Words.{words_of};
+ghost use Rattle.script_text.specs.Rules.{has_length};
+ghost use Rattle.script_text.specs.Reading.{IsRead, IsLineRead};
+
+use crate::call_word::CallWord;
+use crate::kind::{Kind, kind_of, operands};
+use crate::line_read::LineRead;
+use crate::node_word::NodeWord;
+use crate::rules::{
+    BAD_BODY, BAD_NAME, BAD_NUMBER, DECLARED_AGAIN, FIRST_WORD, TOO_MANY_ACTORS, UNKNOWN_ACTOR,
+    WORD_COUNT,
+};
+use crate::said::Said;
+use crate::script_line::ScriptLine;
+use crate::task_word::TaskWord;
+use crate::words::{
+    first_word, is_name, number_of, read_bodies, split_word, three_words, two_words,
+};
+use journal_core::{Bytes, OutOfMemory};
+use node_world::Stop;
+use qj_num::MAX;
+use std::alloc::Global;
+
+/// A declaration.
+fn read_declaration(alloc: Global, said: &Said, name: &[u8]) -> Result<LineRead, OutOfMemory>
+    ensures { IfOk result (IsRead said.now kind.Writer (name.now ∷ [])) }
+{
+    if !is_name(name) {
+        return Ok(LineRead::Broken { rule: BAD_NAME });
+    }
+    if said.is_full() {
+        return Ok(LineRead::Broken {
+            rule: TOO_MANY_ACTORS,
+        });
+    }
+    if said.actor_of(name).is_some() {
+        return Ok(LineRead::Broken {
+            rule: DECLARED_AGAIN,
+        });
+    }
+    match Bytes::copy_of(alloc, name)? {
+        Some(name) => Ok(LineRead::Says(ScriptLine::Declare { name })),
+        None => Ok(LineRead::Broken { rule: BAD_NAME }),
+    }
+}
+
+/// A takeover, a roll or a close.
+fn read_task(said: &Said, task: TaskWord, name: &[u8]) -> LineRead
+    ensures { IsRead said.now (kind.Task task) (name.now ∷ []) result }
+{
+    let Some(actor) = said.actor_of(name) else {
+        return LineRead::Broken {
+            rule: UNKNOWN_ACTOR,
+        };
+    };
+    match task {
+        TaskWord::Takeover => LineRead::Says(ScriptLine::Takeover { actor }),
+        TaskWord::Roll => LineRead::Says(ScriptLine::Roll { actor }),
+        TaskWord::Close => LineRead::Says(ScriptLine::Close { actor }),
+    }
+}
+
+/// A batch that is logged.
+fn read_log(
+    alloc: Global,
+    said: &Said,
+    name: &[u8],
+    bodies: &[u8],
+    scratch: &mut [u8],
+) -> Result<LineRead, OutOfMemory>
+    requires { length scratch.old ≡ 4096 }
+    ensures { IfOk result (IsRead said.now kind.Log (name.now ∷ words_of bodies.now)) }
+{
+    let Some(actor) = said.actor_of(name) else {
+        return Ok(LineRead::Broken {
+            rule: UNKNOWN_ACTOR,
+        });
+    };
+    match read_bodies(alloc, bodies, scratch)? {
+        Some(bodies) => Ok(LineRead::Says(ScriptLine::Log { actor, bodies })),
+        None => Ok(LineRead::Broken { rule: BAD_BODY }),
+    }
+}
+
+/// A purge.
+fn read_purge(said: &Said, name: &[u8], min: &[u8]) -> LineRead
+    ensures { IsRead said.now kind.Purge (name.now ∷ min.now ∷ []) result }
+{
+    let Some(actor) = said.actor_of(name) else {
+        return LineRead::Broken {
+            rule: UNKNOWN_ACTOR,
+        };
+    };
+    match number_of(min, 0, MAX) {
+        Some(min) => LineRead::Says(ScriptLine::Purge { actor, min }),
+        None => LineRead::Broken { rule: BAD_NUMBER },
+    }
+}
+
+/// A drop, a mute or a late copy of one call.
+fn read_call(said: &Said, word: CallWord, name: &[u8], node: &[u8], call: &[u8]) -> LineRead
+    ensures { IsRead said.now (kind.Call word) (name.now ∷ node.now ∷ call.now ∷ []) result }
+{
+    let Some(actor) = said.actor_of(name) else {
+        return LineRead::Broken {
+            rule: UNKNOWN_ACTOR,
+        };
+    };
+    let Some(node) = said.node_of(node) else {
+        return LineRead::Broken { rule: BAD_NUMBER };
+    };
+    let Some(call) = number_of(call, 1, MAX) else {
+        return LineRead::Broken { rule: BAD_NUMBER };
+    };
+    match word {
+        CallWord::Drop => LineRead::Says(ScriptLine::Drop { actor, node, call }),
+        CallWord::Mute => LineRead::Says(ScriptLine::Mute { actor, node, call }),
+        CallWord::Late => LineRead::Says(ScriptLine::Late { actor, node, call }),
+    }
+}
+
+/// A kill or a restart.
+fn read_visit(said: &Said, word: NodeWord, node: &[u8]) -> LineRead
+    ensures { IsRead said.now (kind.Node word) (node.now ∷ []) result }
+{
+    let Some(node) = said.node_of(node) else {
+        return LineRead::Broken { rule: BAD_NUMBER };
+    };
+    match word {
+        NodeWord::Kill => LineRead::Says(ScriptLine::Kill { node }),
+        NodeWord::Restart => LineRead::Says(ScriptLine::Restart { node }),
+    }
+}
+
+/// A stop that a node is armed with.
+fn read_stop(said: &Said, node: &[u8], calls: &[u8], keep: &[u8]) -> LineRead
+    ensures { IsRead said.now kind.Stop (node.now ∷ calls.now ∷ keep.now ∷ []) result }
+{
+    let Some(node) = said.node_of(node) else {
+        return LineRead::Broken { rule: BAD_NUMBER };
+    };
+    let Some(calls) = number_of(calls, 1, MAX) else {
+        return LineRead::Broken { rule: BAD_NUMBER };
+    };
+    let Some(keep) = number_of(keep, 0, MAX) else {
+        return LineRead::Broken { rule: BAD_NUMBER };
+    };
+    LineRead::Says(ScriptLine::Arm {
+        node,
+        calls,
+        stop: Stop::Effects { keep },
+    })
+}
+
+/// The words behind the first of a line of that kind, of which there are as many as the kind wants.
+#[tactic(auto, using(crate::proofs::KindLaws::arities))]
+fn read_operands(
+    alloc: Global,
+    said: &Said,
+    kind: Kind,
+    text: &[u8],
+    scratch: &mut [u8],
+) -> Result<LineRead, OutOfMemory>
+    requires room { length scratch.old ≡ 4096 }
+    requires count { has_length kind (length (words_of text.now) + 1) ≡ true }
+    ensures { IfOk result (IsRead said.now kind (words_of text.now)) }
+{
+    match kind {
+        Kind::Writer => read_declaration(alloc, said, text),
+        Kind::Task(task) => Ok(read_task(said, task, text)),
+        Kind::Log => match split_word(text) {
+            Some((name, bodies)) => read_log(alloc, said, name, bodies, scratch),
+            None => Ok(LineRead::Broken { rule: WORD_COUNT }),
+        },
+        Kind::Purge => {
+            let (name, min) = two_words(text);
+            Ok(read_purge(said, name, min))
+        }
+        Kind::Call(word) => {
+            let (name, node, call) = three_words(text);
+            Ok(read_call(said, word, name, node, call))
+        }
+        Kind::Node(word) => Ok(read_visit(said, word, text)),
+        Kind::Stop => {
+            let (node, calls, keep) = three_words(text);
+            Ok(read_stop(said, node, calls, keep))
+        }
+    }
+}
+
+/// A line that says something, behind the first: its tests in order.
+#[tactic(auto, using(crate::proofs::KindLaws::first_tests))]
+pub fn read_line(
+    alloc: Global,
+    said: &Said,
+    line: &[u8],
+    scratch: &mut [u8],
+) -> Result<LineRead, OutOfMemory>
+    requires { length scratch.old ≡ 4096 }
+    ensures { IfOk result (IsLineRead said.now line.now) }
+{
+    let Some(kind) = kind_of(first_word(line)) else {
+        return Ok(LineRead::Broken { rule: FIRST_WORD });
+    };
+    let Some(text) = operands(kind, line) else {
+        return Ok(LineRead::Broken { rule: WORD_COUNT });
+    };
+    read_operands(alloc, said, kind, text, scratch)
+}
