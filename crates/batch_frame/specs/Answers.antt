@@ -1,0 +1,50 @@
+-- The right answers for a batch that is written, and for bytes that are read.
+use Rattle.std.specs.Prelude.{◌≡◌, ℕ, List, length, Option, Some, None, nat_lt, if◌then◌else◌}
+use Rattle.std.specs.List.{list_any}
+use Rattle.journal_core.specs.Views.{BatchView}
+use Rattle.journal_core.specs.Limits.{max_body, max_segment}
+use Rattle.batch_frame.specs.declared.framed.Framed.{Framed}
+use Rattle.batch_frame.specs.declared.framed.Framed.TheVariants as framed
+use Rattle.batch_frame.specs.declared.scanned.Scanned.{Scanned}
+use Rattle.batch_frame.specs.declared.scanned.Scanned.TheVariants as scanned
+use Rattle.batch_frame.specs.declared.checked.Checked.{Checked}
+use Rattle.batch_frame.specs.declared.checked.Checked.TheVariants as checked
+use Rattle.batch_frame.specs.Frames.{frame_bytes, broken_rule, IsTail, AreFrames}
+use Rattle.batch_frame.specs.Faults.{Spells, IsBadFrame, HaveBadFrame}
+
+-- the first limit that a batch passes: a body of more than 4,096 bytes, or more than 16,384 bodies
+abbrev pub passed_limit : BatchView → Option ℕ
+passed_limit b =
+    if list_any (λ body. nat_lt max_body (length body)) b.bodies then Some max_body
+    else if nat_lt max_segment (length b.bodies) then Some max_segment
+    else None
+
+-- want of memory is a right answer everywhere
+abbrev pub IsFramed : BatchView → Framed → Type 0
+IsFramed b (framed.Bytes v) = (v.items ≡ frame_bytes b) × (passed_limit b ≡ None)
+IsFramed b (framed.TooLong number) = passed_limit b ≡ Some number
+IsFramed b framed.OutOfMemory = Unit {0}
+
+-- what was written breaks no rule where the batch's first txid is the next one
+abbrev pub IsGoodFrame : BatchView → Framed → Type 0
+IsGoodFrame b (framed.Bytes v) = broken_rule b.first b ≡ None
+IsGoodFrame b (framed.TooLong number) = Unit {0}
+IsGoodFrame b framed.OutOfMemory = Unit {0}
+
+abbrev pub IsScanned : ℕ → List ℕ → Scanned → Type 0
+IsScanned first bytes (scanned.Whole s) = AreFrames first bytes s.bodies s.whole_length
+IsScanned first bytes (scanned.BadFrame place cause) = HaveBadFrame first bytes place cause
+IsScanned first bytes scanned.OutOfMemory = Unit {0}
+
+-- the bytes begin with a frame that breaks no rule, of so many entries and so many bytes
+pub record IsWholeFrame (next : ℕ) (bytes : List ℕ) (count size : ℕ) : Type 0 where
+  pub batch : BatchView
+  pub spells : Spells bytes batch
+  pub good : broken_rule next batch ≡ None
+  pub count_is : count ≡ length batch.bodies
+  pub size_is : size ≡ length (frame_bytes batch)
+
+abbrev pub IsChecked : ℕ → List ℕ → Checked → Type 0
+IsChecked next bytes checked.Closed = IsTail bytes
+IsChecked next bytes (checked.Whole count size) = IsWholeFrame next bytes count size
+IsChecked next bytes (checked.Bad cause) = IsBadFrame next bytes cause

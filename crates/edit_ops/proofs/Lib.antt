@@ -1,0 +1,12 @@
+pub mod Goods
+pub mod ReadFields
+pub mod ReadItems
+pub mod FieldLaws
+pub mod WalkLaws
+pub mod EditLaws
+pub mod DecodeLaws
+pub mod SayNumbers
+pub mod SayItems
+pub mod SayWords
+pub mod SayLaws
+pub mod SayEdits

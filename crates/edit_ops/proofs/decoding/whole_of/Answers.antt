@@ -1,0 +1,58 @@
+use Rattle.std.proofs.Common.{◌≡◌, ◌≤◌, ◌<◌, ℕ, List, [], ◌∷◌, length, Bool, true, false, eqb, Err, subst, sym, ap, ◌∙◌, arith}
+use Rattle.std.proofs.lemmas.Bool.{eqb-true}
+use Rattle.edit_ops.specs.declared.fault.Fault.TheVariants.{Short, Bad}
+use Rattle.edit_ops.specs.declared.fault.ReadError.{ReadError}
+use Rattle.edit_ops.specs.declared.fault.ReadError.TheVariants as errors
+use Rattle.edit_ops.specs.Records.{edit_fields, full_layout}
+use Rattle.edit_ops.specs.Decoding.{IsShort, EndsInside}
+use Rattle.edit_ops.specs.Reading.{Fails, fields_at}
+use Rattle.edit_ops.proofs.DecodeLaws.{right_edit, right_trailing, right_short, right_bad, few_left, few_missing}
+use Rattle.edit_ops.proofs.decoding.whole_of.Goals as goal
+
+there : (bytes : List ℕ) → eqb (length bytes) 0 ≡ false → 0 < length bytes
+there [] e = absurd cc
+there (b ∷ bytes) e = omega arith
+
+short_of_some : (body : List ℕ) (byte needed : ℕ) (bytes : List ℕ) → body ≡ byte ∷ bytes → EndsInside body needed → IsShort body needed
+short_of_some [] byte needed bytes e ends = absurd cc
+short_of_some (b ∷ rest) byte needed bytes e ends = ends
+
+pub overflow_add-result : goal.overflow_add-result
+overflow_add-result c =
+    let o = c.in-Some.ensures.found in
+    let arm = c.in-Err-Fault-Short in
+    let read = subst (λ (e : ReadError). Fails e (fields_at (full_layout c.in-Some.kind c.in-Some.has_call) c.args.bytes.now)) (arm.field-0-is ∙ ap errors.Fault arm.field-0-0-is) arm.ensures.read in
+    let few = few_missing c.in-Some.kind c.in-Some.has_call c.args.body.now c.args.bytes.now c.args.byte o.0 o.1 c.requires (λ i. omega (arith, c.type_inv.bytes i)) arm.missing read in
+    omega (arith, few)
+
+pub overflow_sub-result : goal.overflow_sub-result
+overflow_sub-result c =
+    let o = c.in-Some.ensures.found in
+    let arm = c.in-Err-Fault-Bad in
+    let read = subst (λ (e : ReadError). Fails e (fields_at (full_layout c.in-Some.kind c.in-Some.has_call) c.args.bytes.now)) (arm.field-0-is ∙ ap errors.Fault arm.field-0-0-is) arm.ensures.read in
+    few_left c.in-Some.kind c.in-Some.has_call c.args.body.now c.args.bytes.now c.args.byte o.0 o.1 c.requires (λ i. omega (arith, c.type_inv.bytes i)) arm.left arm.rule read
+
+pub returns-then-is_empty : goal.returns-then-is_empty
+returns-then-is_empty c =
+    let o = c.in-Some.ensures.found in
+    let is = c.in-Ok.ensures.kind in
+    right_edit c.in-Some.kind c.in-Some.has_call c.args.body.now c.args.bytes.now c.args.byte o.0 o.1 c.requires (λ i. omega (arith, c.type_inv.bytes i)) c.in-Ok.edit c.in-Ok.rest.now is.0 is.1 is.2 c.in-Ok.ensures.read (eqb-true _ _ (sym c.is_empty.ensures ∙ c.if-is_empty.true))
+
+pub returns-else-is_empty : goal.returns-else-is_empty
+returns-else-is_empty c =
+    let o = c.in-Some.ensures.found in
+    right_trailing c.in-Some.kind c.in-Some.has_call c.args.body.now c.args.bytes.now c.args.byte o.0 o.1 c.requires (λ i. omega (arith, c.type_inv.bytes i)) (edit_fields c.in-Ok.edit) c.in-Ok.rest.now c.in-Ok.ensures.read (there c.in-Ok.rest.now (sym c.is_empty.ensures ∙ c.if-is_empty.false))
+
+pub returns-in-Err-Fault-Short : goal.returns-in-Err-Fault-Short
+returns-in-Err-Fault-Short c =
+    let o = c.in-Some.ensures.found in
+    let arm = c.in-Err-Fault-Short in
+    let read = subst (λ (e : ReadError). Fails e (fields_at (full_layout c.in-Some.kind c.in-Some.has_call) c.args.bytes.now)) (arm.field-0-is ∙ ap errors.Fault arm.field-0-0-is) arm.ensures.read in
+    short_of_some c.args.body.now c.args.byte _ c.args.bytes.now c.requires (right_short c.in-Some.kind c.in-Some.has_call c.args.body.now c.args.bytes.now c.args.byte o.0 o.1 c.requires (λ i. omega (arith, c.type_inv.bytes i)) arm.missing read)
+
+pub returns-in-Err-Fault-Bad : goal.returns-in-Err-Fault-Bad
+returns-in-Err-Fault-Bad c =
+    let o = c.in-Some.ensures.found in
+    let arm = c.in-Err-Fault-Bad in
+    let read = subst (λ (e : ReadError). Fails e (fields_at (full_layout c.in-Some.kind c.in-Some.has_call) c.args.bytes.now)) (arm.field-0-is ∙ ap errors.Fault arm.field-0-0-is) arm.ensures.read in
+    right_bad c.in-Some.kind c.in-Some.has_call c.args.body.now c.args.bytes.now c.args.byte o.0 o.1 c.requires (λ i. omega (arith, c.type_inv.bytes i)) arm.left arm.rule read

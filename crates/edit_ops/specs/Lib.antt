@@ -1,0 +1,12 @@
+pub mod Kinds
+pub mod Fields
+pub mod Records
+pub mod Grammar
+pub mod Shown
+pub mod Words
+pub mod Texts
+pub mod Forms
+pub mod Decoding
+pub mod Reading
+pub mod Saying
+pub mod ReadTexts

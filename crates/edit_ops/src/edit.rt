@@ -1,0 +1,29 @@
+//! An edit: what it does, and the call of the client that asked for it.
+use crate::op::Op;
+use std::marker::Model;
+
+/// A client's call: who called, and the number of the call.
+#[derive(Clone, Copy)]
+pub struct Call {
+    pub client: [u8; 16],
+    pub number: u32,
+}
+
+/// An edit that has a record: its texts are short enough and printable, its numbers are at most 2^62, its
+/// lists have at most 65,535 members, and a mark of a segment has no call.
+#[derive(Drop)]
+pub struct Edit {
+    pub op: Op,
+    pub call: Option<Call>,
+}
+
+impl Model for Edit {
+    ghost use Rattle.edit_ops.specs.Records.{EditView};
+    ghost use Rattle.edit_ops.specs.Grammar.{IsEdit};
+
+    ghost Value = { EditView };
+
+    ghost view = { λ e. record { op = e.op; call = e.call } };
+
+    ghost invariant = { λ e. IsEdit (record { op = e.op; call = e.call }) };
+}

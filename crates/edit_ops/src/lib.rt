@@ -1,0 +1,33 @@
+//! Edit records: the edits of a namespace as bytes and as texts.
+#![tactic(auto)]
+
+mod decoded;
+mod decoding;
+mod edit;
+mod fault;
+mod field;
+mod kind;
+mod laws;
+mod lists;
+mod op;
+mod reading;
+mod reading_text;
+mod said_text;
+mod text;
+mod words;
+mod writing;
+
+pub use decoded::Decoded;
+pub use decoding::decode;
+pub use edit::{Call, Edit};
+pub use kind::OpKind;
+pub use laws::{no_record_begins_another, texts_tell_edits};
+pub use lists::{NameList, NumberList};
+pub use op::Op;
+pub use reading_text::read_text;
+pub use said_text::ReadText;
+pub use text::edit_text;
+pub use writing::encode;
+
+#[cfg(test)]
+mod tests;

@@ -1,0 +1,10 @@
+mod Bytes
+mod MemFileLemmas
+mod Fills
+mod Images
+mod Maps
+mod CallPlanLemmas
+mod Retains
+mod Timeline
+mod Names
+mod Choices

@@ -1,0 +1,15 @@
+pub mod Files
+pub mod View
+pub mod Calls
+pub mod Moments
+pub mod Runs
+pub mod FileView
+pub mod Change
+pub mod MemFile
+pub mod FileMap
+pub mod CallPlan
+pub mod ImageLaws
+pub mod Timeline
+pub mod TimelineLaws
+pub mod MemDisk
+pub mod Crash

@@ -1,0 +1,24 @@
+use Rattle.std.proofs.Common.{ℕ, refl, ◌≤◌, ◌^◌}
+use Rattle.segment_file.proofs.FileBytes.{InRange}
+use Rattle.segment_file.proofs.EffectLaws.{cut_before}
+use Rattle.segment_file.proofs.Counts.{counted_put}
+use Rattle.segment_file.proofs.PlacedLaws.{quiet}
+use Rattle.segment_file.proofs.PlacedAgain.{again_becomes, again_touches}
+use Rattle.segment_file.proofs.repeating.replace_again.Goals as goal
+
+in_range : (start epoch : ℕ) → (1 ≤ start) × (start ≤ 2 ^ 62) → (1 ≤ epoch) × (epoch ≤ 2 ^ 62) → InRange start epoch
+in_range start epoch a b = record { some_start = a.0; start_within = a.1; some_epoch = b.0; epoch_within = b.1 }
+
+pub returns-clause-effect : goal.returns-clause-effect
+returns-clause-effect g c = λ t gs s ready can.
+    again_becomes c.args.epoch c.args.batch.now (in_range _ _ c.requires.start c.requires.epoch) _ (g.met.D.Disk.sound _ t) gs ready s can _ _ (c.place_frame.ensures.place t)
+
+pub returns-clause-touches : goal.returns-clause-touches
+returns-clause-touches g c = λ t. again_touches c.args.epoch c.args.batch.now _ _ _ (g.met.D.Disk.sound _ (c.place_frame.ensures.tells.0 t)) (c.place_frame.ensures.place t)
+
+pub returns-clause-counts : goal.returns-clause-counts
+returns-clause-counts g c = counted_put _ _ _ _ _ _ _ c.place_frame.ensures.cut
+
+pub returns-clause-cut : goal.returns-clause-cut
+returns-clause-cut g c = λ t gs s ready can.
+    cut_before 3 gs _ _ _ _ _ _ _ _ _ (λ cut. refl) t c.place_frame.ensures.cut (quiet c.args.batch.now.first c.requires.start.0 c.requires.start.1 _ (g.met.D.Disk.sound _ t) gs ready)

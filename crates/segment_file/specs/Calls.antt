@@ -1,0 +1,82 @@
+-- What each call asks of the segments and of the files.
+use Rattle.std.specs.Prelude.{◌≡◌, ℕ, ◌+◌, Bool, true, false, List, [], ◌∷◌, ◌++◌, drop, length, Option, Some, None}
+use Rattle.qj_disk.specs.Files.{Files, ChangesOnly}
+use Rattle.qj_disk.specs.View.{View, AllLeave}
+use Rattle.journal_core.specs.Views.{BatchView}
+use Rattle.journal_core.specs.declared.segment.Segment.{Segment}
+use Rattle.journal_core.specs.Segments.{find_segment}
+use Rattle.batch_frame.specs.Frames.{broken_rule, frame_bytes}
+use Rattle.batch_frame.specs.Segments.{header_bytes}
+use Rattle.segment_file.specs.Gate.{Opens}
+use Rattle.segment_file.specs.Places.{Places}
+use Rattle.segment_file.specs.Names.{InProgress, Final, Record, Fresh, name_of, IsKind}
+use Rattle.segment_file.specs.Stands.{HasEpoch}
+use Rattle.segment_file.specs.Effects.{AppendsAt}
+
+-- what is written behind the gate of a batch's frame: the rest of the frame, and a closed gate
+abbrev pub behind_gate : BatchView → List ℕ
+behind_gate b = drop 1 (frame_bytes b ++ 0 ∷ [])
+
+-- a header, a frame or none, and a closed gate
+unfoldable pub content_of : ℕ → ℕ → List ℕ → List ℕ
+content_of start epoch frame = header_bytes start epoch ++ (frame ++ 0 ∷ [])
+
+-- the gate at this place is opened, with the frame of the batch, which breaks no rule of its own
+pub record AppendsFrame (start at : ℕ) (b : BatchView) (old new : Files) : Type 0 where
+  pub change : ChangesOnly (name_of start InProgress) (Opens at (behind_gate b)) old new
+  pub good : broken_rule b.first b ≡ None
+
+-- the frame of the batch stands behind a header in the file in progress, and breaks no rule of its own
+pub record PlacesFrame (epoch : ℕ) (b : BatchView) (old new : Files) : Type 0 where
+  pub places : Places (name_of b.first InProgress) (name_of b.first Fresh) (content_of b.first epoch (frame_bytes b)) old new
+  pub good : broken_rule b.first b ≡ None
+
+abbrev pub NotFinal : Option Segment → Type 0
+NotFinal None = Unit {0}
+NotFinal (Some g) = g.is_final ≡ false
+
+abbrev pub HasNoEdit : Option Segment → Type 0
+HasNoEdit None = Unit {0}
+HasNoEdit (Some g) = g.bodies ≡ []
+
+-- the record of this segment isn't of this epoch, nor does a crash leave one that is
+abbrev pub HasOtherEpoch : ℕ → ℕ → View → Type 0
+HasOtherEpoch start epoch v = AllLeave v (λ c. HasEpoch (c (name_of start Record)) epoch → ⊥)
+
+-- nothing stands with that start, or a segment in progress without an edit
+pub record CanCreate (start epoch : ℕ) (gs : List Segment) (v : View) : Type 0 where
+  pub not_final : NotFinal (find_segment start gs)
+  pub no_edit : HasNoEdit (find_segment start gs)
+  pub other_epoch : HasOtherEpoch start epoch v
+
+-- this segment in progress ends before the batch
+pub record CanAppend (start at : ℕ) (b : BatchView) (gs : List Segment) (v : View) (g : Segment) : Type 0 where
+  pub known : find_segment start gs ≡ Some g
+  pub start_is : g.start ≡ start
+  pub in_progress : g.is_final ≡ false
+  pub appends : AppendsAt v g at
+  pub next : b.first ≡ start + length g.bodies
+
+-- this segment in progress holds an edit and has that end
+pub record CanFinalize (start end : ℕ) (gs : List Segment) (g : Segment) : Type 0 where
+  pub known : find_segment start gs ≡ Some g
+  pub in_progress : g.is_final ≡ false
+  pub valid : IsKind start (Final end)
+  pub ends : end + 1 ≡ start + length g.bodies
+
+-- this segment is final or in progress as is told, and a final one has that end
+pub record CanDiscard (start end : ℕ) (is_final : Bool) (gs : List Segment) (g : Segment) : Type 0 where
+  pub known : find_segment start gs ≡ Some g
+  pub final : g.is_final ≡ is_final
+  pub valid : is_final ≡ true → IsKind start (Final end) × (end + 1 ≡ start + length g.bodies)
+
+-- no final segment has the batch's start, and the record is of another epoch
+pub record CanReplace (epoch : ℕ) (b : BatchView) (gs : List Segment) (v : View) : Type 0 where
+  pub not_final : NotFinal (find_segment b.first gs)
+  pub other_epoch : HasOtherEpoch b.first epoch v
+
+-- a segment in progress has the batch's start, and its record this epoch
+pub record CanReplaceAgain (epoch : ℕ) (b : BatchView) (gs : List Segment) (v : View) (g : Segment) : Type 0 where
+  pub known : find_segment b.first gs ≡ Some g
+  pub in_progress : g.is_final ≡ false
+  pub same_epoch : AllLeave v (λ c. HasEpoch (c (name_of b.first Record)) epoch)

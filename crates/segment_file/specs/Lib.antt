@@ -1,0 +1,10 @@
+pub mod Gate
+pub mod Names
+pub mod Stands
+pub mod Places
+pub mod Effects
+pub mod Calls
+pub mod Answers
+pub mod Reads
+pub mod Kinds
+pub mod Opening

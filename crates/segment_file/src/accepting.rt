@@ -1,0 +1,176 @@
+//! A recovery is accepted.
+ghost use Rattle.std.specs.Prelude.{◌≡◌, ◌≢◌, ◌↔◌, ◌≤◌, ◌^◌, List, ◌∷◌, [], None, IsSome, IfOk, OnOk, string_bytes, false};
+ghost use Rattle.qj_disk.specs.Files.{Moves};
+ghost use Rattle.qj_disk.specs.Calls.{Atomic, Effect, HasCause};
+ghost use Rattle.qj_disk.specs.Runs.{Quiet};
+ghost use Rattle.small_files.specs.Puts.{Disturbs, Puts, PutCut, OneCut};
+ghost use Rattle.small_files.specs.Answers.{put_result};
+ghost use Rattle.small_files.specs.Records.{record_bytes};
+ghost use Rattle.journal_core.specs.Views.{last_txid};
+ghost use Rattle.journal_core.specs.declared.segment.Segment.{Segment};
+ghost use Rattle.journal_core.specs.Effects.{Replace, segments_after};
+ghost use Rattle.journal_core.specs.Cuts.{accept_cost};
+ghost use Rattle.batch_frame.specs.Frames.{frame_bytes, broken_rule};
+ghost use Rattle.segment_file.specs.Names.{name_of, InProgress, Record, UnderWay, FreshRecord};
+ghost use Rattle.segment_file.specs.Places.{IsStaged};
+ghost use Rattle.segment_file.specs.Effects.{IsReady, Becomes, Touches, IsCounted, IsCut};
+ghost use Rattle.segment_file.specs.Calls.{CanReplace, content_of};
+
+use crate::content::{content_bytes, good_frame};
+use crate::names::{progress_name, under_way_name};
+use journal_core::Batch;
+use qj_disk::{Disk, DiskFail};
+use small_files::{PaxosFile, Put};
+use std::alloc::{AllocError, Global};
+
+// Writes a content and syncs it.
+fn stage_by<D: Disk>(disk: &mut D, way: &str, bytes: &[u8]) -> Result<(), DiskFail>
+    ensures tells { D.tells disk.old ↔ D.tells disk.new }
+    ensures quiet { D.tells disk.old → Quiet (Disturbs way.now) (D.view disk.old) (D.view disk.new) }
+    ensures staged { D.tells disk.old → OnOk result (IsStaged way.now bytes.now (D.view disk.new)) }
+    ensures counts { IsCounted 2 (D.left disk.old) (D.left disk.new) result }
+    ensures cause { HasCause (D.faults disk.old) (D.faults disk.new) (D.steady disk.old) (D.steady disk.new) result }
+{
+    disk.write_at(way, 0, bytes)?;
+    disk.sync(way)
+}
+
+// The name and the bytes of the content of an acceptance.
+fn content(alloc: Global, epoch: u64, batch: &Batch) -> Result<(String, Vec<u8>), AllocError>
+    requires start { batch.now.first ≤ 2 ^ 62 }
+    requires last { last_txid batch.now ≤ 2 ^ 62 }
+    ensures name { IfOk result (λ both. string_bytes both.0 ≡ name_of batch.now.first (UnderWay epoch)) }
+    ensures bytes { IfOk result (λ both. both.1.items ≡ content_of batch.now.first epoch (frame_bytes batch.now)) }
+    ensures good { OnOk result (broken_rule batch.now.first batch.now ≡ None) }
+{
+    let way = under_way_name(alloc, batch.first(), epoch)?;
+    let frame = good_frame(alloc, batch)?;
+    let bytes = content_bytes(alloc, batch.first(), epoch, &frame)?;
+    Ok((way, bytes))
+}
+
+// Writes the content of an acceptance beside the file in progress.
+fn stage<D: Disk>(alloc: Global, disk: &mut D, epoch: u64, batch: &Batch) -> Result<(), DiskFail>
+    requires start { batch.now.first ≤ 2 ^ 62 }
+    requires last { last_txid batch.now ≤ 2 ^ 62 }
+
+    ensures tells { D.tells disk.old ↔ D.tells disk.new }
+    ensures quiet { D.tells disk.old → Quiet (Disturbs (name_of batch.now.first (UnderWay epoch))) (D.view disk.old) (D.view disk.new) }
+    ensures staged { D.tells disk.old → OnOk result (IsStaged (name_of batch.now.first (UnderWay epoch)) (content_of batch.now.first epoch (frame_bytes batch.now)) (D.view disk.new)) }
+    ensures good { OnOk result (broken_rule batch.now.first batch.now ≡ None) }
+    ensures counts { IsCounted 2 (D.left disk.old) (D.left disk.new) result }
+    ensures cause { HasCause (D.faults disk.old) (D.faults disk.new) (D.steady disk.old) (D.steady disk.new) result }
+{
+    match content(alloc, epoch, batch) {
+        Ok((way, bytes)) => stage_by(disk, way.as_str(), &bytes),
+        Err(_) => Err(DiskFail::OutOfMemory),
+    }
+}
+
+// Puts the record of an acceptance.
+fn put_record<D: Disk>(
+    alloc: Global,
+    disk: &mut D,
+    epoch: u64,
+    batch: &Batch,
+) -> Result<(), DiskFail>
+    requires start { batch.now.first ≤ 2 ^ 62 }
+    requires epoch { epoch ≤ 2 ^ 62 }
+    requires last { last_txid batch.now ≤ 2 ^ 62 }
+    requires absent { D.tells disk.old → (D.view disk.old).seen (name_of batch.now.first FreshRecord) ≡ None }
+
+    ensures tells { D.tells disk.old ↔ D.tells disk.new }
+    ensures put { D.tells disk.old → Effect (Disturbs (name_of batch.now.first FreshRecord)) (Puts (name_of batch.now.first Record) (name_of batch.now.first FreshRecord) (record_bytes (record { epoch = epoch; end = last_txid batch.now }))) result (D.view disk.old) (D.view disk.new) }
+    ensures cut { PutCut (D.left disk.old) (D.left disk.new) (D.tells disk.old) (name_of batch.now.first FreshRecord) result (D.view disk.old) (D.view disk.new) }
+    ensures cause { HasCause (D.faults disk.old) (D.faults disk.new) (D.steady disk.old) (D.steady disk.new) result }
+{
+    as_result(PaxosFile::put(alloc, disk, batch.first(), epoch, batch.last()))
+}
+
+fn as_result(put: Put) -> Result<(), DiskFail>
+    ensures { result ≡ put_result put }
+{
+    match put {
+        Put::Done => Ok(()),
+        Put::DiskFault => Err(DiskFail::Failed),
+        Put::OutOfMemory => Err(DiskFail::OutOfMemory),
+    }
+}
+
+// The names of the content of an acceptance and of the file in progress.
+fn both_names(alloc: Global, epoch: u64, batch: &Batch) -> Result<(String, String), AllocError>
+    requires { batch.now.first ≤ 2 ^ 62 }
+    ensures { IfOk result (λ names. (string_bytes names.0 ≡ name_of batch.now.first (UnderWay epoch)) × (string_bytes names.1 ≡ name_of batch.now.first InProgress)) }
+{
+    let from = under_way_name(alloc, batch.first(), epoch)?;
+    let to = progress_name(alloc, batch.first())?;
+    Ok((from, to))
+}
+
+// Puts the content of an acceptance in the place of the file in progress.
+fn settle<D: Disk>(alloc: Global, disk: &mut D, epoch: u64, batch: &Batch) -> Result<(), DiskFail>
+    requires start { batch.now.first ≤ 2 ^ 62 }
+    requires there { D.tells disk.old → IsSome ((D.view disk.old).seen (name_of batch.now.first (UnderWay epoch))) }
+
+    ensures tells { D.tells disk.old ↔ D.tells disk.new }
+    ensures moves { D.tells disk.old → Atomic (Moves (name_of batch.now.first (UnderWay epoch)) (name_of batch.now.first InProgress)) result (D.view disk.old) (D.view disk.new) }
+    ensures cut { OneCut (D.left disk.old) (D.left disk.new) (D.tells disk.old) result (D.view disk.old) (D.view disk.new) }
+    ensures cause { HasCause (D.faults disk.old) (D.faults disk.new) (D.steady disk.old) (D.steady disk.new) result }
+{
+    match both_names(alloc, epoch, batch) {
+        Ok((from, to)) => disk.rename(from.as_str(), to.as_str()),
+        Err(_) => Err(DiskFail::OutOfMemory),
+    }
+}
+
+fn accept_by<D: Disk>(
+    alloc: Global,
+    disk: &mut D,
+    epoch: u64,
+    batch: &Batch,
+) -> Result<(), DiskFail>
+    requires start { (1 ≤ batch.now.first) × (batch.now.first ≤ 2 ^ 62) }
+    requires epoch { (1 ≤ epoch) × (epoch ≤ 2 ^ 62) }
+    requires last { last_txid batch.now ≤ 2 ^ 62 }
+    requires absent { D.tells disk.old → (D.view disk.old).seen (name_of batch.now.first FreshRecord) ≡ None }
+
+    ensures tells { D.tells disk.old ↔ D.tells disk.new }
+    ensures effect { D.tells disk.old → (gs : List Segment) → IsReady (D.view disk.old) gs → CanReplace epoch batch.now gs (D.view disk.old)
+        → Becomes gs (segments_after gs (Replace epoch batch.now)) result (D.view disk.old) (D.view disk.new) }
+    ensures touches { D.tells disk.old → Touches batch.now.first (UnderWay epoch ∷ Record ∷ FreshRecord ∷ InProgress ∷ []) (D.view disk.old) (D.view disk.new) }
+    ensures counts { IsCounted 6 (D.left disk.old) (D.left disk.new) result }
+    ensures cut { D.tells disk.old → (gs : List Segment) → IsReady (D.view disk.old) gs → CanReplace epoch batch.now gs (D.view disk.old)
+        → IsCut (λ _. accept_cost false) gs (segments_after gs (Replace epoch batch.now)) (D.left disk.old) result (D.view disk.new) }
+    ensures cause { HasCause (D.faults disk.old) (D.faults disk.new) (D.steady disk.old) (D.steady disk.new) result }
+{
+    stage(alloc, disk, epoch, batch)?;
+    put_record(alloc, disk, epoch, batch)?;
+    settle(alloc, disk, epoch, batch)
+}
+
+/// Accepts the edits of the batch under this epoch as the segment in progress with its start, in the
+/// place of one that may be there. Six disk calls: a header, one frame and a closed gate are written to
+/// the `.epoch=` file; sync; the paxos record is put, which takes three calls; the `.epoch=` file is
+/// renamed to the file in progress. The rename of the record decides. Where the files stand for segments
+/// among which no final one has this start, and the record isn't of this epoch, a crash at any moment
+/// leaves files that stand for the old edits or for the accepted ones, and once this answered Done only
+/// for these. The temporary file of the record isn't there. The batch's start and the epoch are from 1 to
+/// 2^62; a batch with a body of more than 4,096 bytes, or of more than 16,384 bodies, is answered
+/// OutOfMemory.
+pub fn replace<D: Disk>(alloc: Global, disk: &mut D, epoch: u64, batch: &Batch) -> Put
+    requires start { (1 ≤ batch.now.first) × (batch.now.first ≤ 2 ^ 62) }
+    requires epoch { (1 ≤ epoch) × (epoch ≤ 2 ^ 62) }
+    requires last { last_txid batch.now ≤ 2 ^ 62 }
+    requires absent { D.tells disk.old → (D.view disk.old).seen (name_of batch.now.first FreshRecord) ≡ None }
+
+    ensures tells { D.tells disk.old ↔ D.tells disk.new }
+    ensures effect { D.tells disk.old → (gs : List Segment) → IsReady (D.view disk.old) gs → CanReplace epoch batch.now gs (D.view disk.old)
+        → Becomes gs (segments_after gs (Replace epoch batch.now)) (put_result result) (D.view disk.old) (D.view disk.new) }
+    ensures touches { D.tells disk.old → Touches batch.now.first (UnderWay epoch ∷ Record ∷ FreshRecord ∷ InProgress ∷ []) (D.view disk.old) (D.view disk.new) }
+    ensures counts { IsCounted 6 (D.left disk.old) (D.left disk.new) (put_result result) }
+    ensures cut { D.tells disk.old → (gs : List Segment) → IsReady (D.view disk.old) gs → CanReplace epoch batch.now gs (D.view disk.old)
+        → IsCut (λ _. accept_cost false) gs (segments_after gs (Replace epoch batch.now)) (D.left disk.old) (put_result result) (D.view disk.new) }
+    ensures cause { HasCause (D.faults disk.old) (D.faults disk.new) (D.steady disk.old) (D.steady disk.new) (put_result result) }
+{
+    Put::from(accept_by(alloc, disk, epoch, batch))
+}

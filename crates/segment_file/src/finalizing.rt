@@ -1,0 +1,66 @@
+//! A segment becomes final.
+ghost use Rattle.std.specs.Prelude.{◌≡◌, ◌↔◌, ◌≤◌, ◌^◌, List, ◌∷◌, [], IsSome, IfOk, string_bytes, false};
+ghost use Rattle.qj_disk.specs.Files.{Moves};
+ghost use Rattle.qj_disk.specs.Calls.{Atomic, HasCause};
+ghost use Rattle.small_files.specs.Puts.{OneCut};
+ghost use Rattle.small_files.specs.Answers.{put_result};
+ghost use Rattle.journal_core.specs.declared.segment.Segment.{Segment};
+ghost use Rattle.journal_core.specs.Effects.{MakeFinal, segments_after};
+ghost use Rattle.journal_core.specs.Cuts.{name_cost};
+ghost use Rattle.segment_file.specs.Names.{name_of, InProgress, Final};
+ghost use Rattle.segment_file.specs.Effects.{IsReady, Becomes, Touches, IsCounted, IsCut};
+ghost use Rattle.segment_file.specs.Calls.{CanFinalize};
+
+use crate::names::{final_name, progress_name};
+use qj_disk::Disk;
+use small_files::Put;
+use std::alloc::{AllocError, Global};
+
+// The names of a segment's file in progress and of its final one.
+fn both_names(alloc: Global, start: u64, end: u64) -> Result<(String, String), AllocError>
+    requires start { start ≤ 2 ^ 62 }
+    requires end { end ≤ 2 ^ 62 }
+    ensures { IfOk result (λ names. (string_bytes names.0 ≡ name_of start InProgress) × (string_bytes names.1 ≡ name_of start (Final end))) }
+{
+    let from = progress_name(alloc, start)?;
+    let to = final_name(alloc, start, end)?;
+    Ok((from, to))
+}
+
+// Renames the file in progress.
+fn rename_to_final<D: Disk>(alloc: Global, disk: &mut D, start: u64, end: u64) -> Put
+    requires start { start ≤ 2 ^ 62 }
+    requires end { end ≤ 2 ^ 62 }
+    requires there { D.tells disk.old → IsSome ((D.view disk.old).seen (name_of start InProgress)) }
+
+    ensures tells { D.tells disk.old ↔ D.tells disk.new }
+    ensures moves { D.tells disk.old → Atomic (Moves (name_of start InProgress) (name_of start (Final end))) (put_result result) (D.view disk.old) (D.view disk.new) }
+    ensures cut { OneCut (D.left disk.old) (D.left disk.new) (D.tells disk.old) (put_result result) (D.view disk.old) (D.view disk.new) }
+    ensures cause { HasCause (D.faults disk.old) (D.faults disk.new) (D.steady disk.old) (D.steady disk.new) (put_result result) }
+{
+    match both_names(alloc, start, end) {
+        Ok((from, to)) => Put::from(disk.rename(from.as_str(), to.as_str())),
+        Err(_) => Put::OutOfMemory,
+    }
+}
+
+/// Makes the segment with this start final, with this last txid, both from 1 to 2^62: its file in
+/// progress, which is there, is renamed in one disk call. A segment in progress that holds an edit and
+/// has that end so becomes final at once: a crash at any moment leaves files that stand for it in
+/// progress or final. Its paxos record, if there is one, is left for `PaxosFile::remove`.
+pub fn finalize<D: Disk>(alloc: Global, disk: &mut D, start: u64, end: u64) -> Put
+    requires start { (1 ≤ start) × (start ≤ 2 ^ 62) }
+    requires end { end ≤ 2 ^ 62 }
+    requires there { D.tells disk.old → IsSome ((D.view disk.old).seen (name_of start InProgress)) }
+
+    ensures tells { D.tells disk.old ↔ D.tells disk.new }
+    ensures effect { D.tells disk.old → (gs : List Segment) (g : Segment) → IsReady (D.view disk.old) gs → CanFinalize start end gs g
+        → Becomes gs (segments_after gs (MakeFinal start)) (put_result result) (D.view disk.old) (D.view disk.new) }
+    ensures touches { D.tells disk.old → Touches start (InProgress ∷ Final end ∷ []) (D.view disk.old) (D.view disk.new) }
+    ensures counts { IsCounted 1 (D.left disk.old) (D.left disk.new) (put_result result) }
+    ensures cut { D.tells disk.old → (gs : List Segment) (g : Segment) → IsReady (D.view disk.old) gs → CanFinalize start end gs g
+        → IsCut (λ _. name_cost false) gs (segments_after gs (MakeFinal start)) (D.left disk.old) (put_result result) (D.view disk.new) }
+    ensures cause { HasCause (D.faults disk.old) (D.faults disk.new) (D.steady disk.old) (D.steady disk.new) (put_result result) }
+{
+    rename_to_final(alloc, disk, start, end)
+}

@@ -1,0 +1,4 @@
+pub mod Puts
+pub mod Records
+pub mod Answers
+pub mod Whole

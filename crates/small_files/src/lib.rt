@@ -1,0 +1,19 @@
+//! Small files over a disk: numbers and accepted recoveries, each put all or nothing.
+#![tactic(auto)]
+
+mod answers;
+mod grammar;
+mod names;
+mod number_file;
+mod paxos_file;
+mod put;
+#[cfg(test)]
+mod tests;
+mod whole;
+pub mod worked;
+
+pub use answers::{Got, GotRecord, Put};
+pub use names::paxos_name;
+pub use number_file::NumberFile;
+pub use paxos_file::PaxosFile;
+pub use put::{put_bytes, put_through};

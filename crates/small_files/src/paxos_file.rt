@@ -1,0 +1,101 @@
+//! Files that hold an accepted recovery.
+ghost use Rattle.std.specs.Prelude.{◌≡◌, ◌↔◌, ◌≤◌, ◌^◌, None, IsSome};
+ghost use Rattle.qj_disk.specs.Files.{ChangesOnly, IsGone};
+ghost use Rattle.qj_disk.specs.Calls.{Atomic, Budget, Effect, HasCause, Rests};
+ghost use Rattle.small_files.specs.Puts.{temporary, Disturbs, Puts, PutCut, OneCut};
+ghost use Rattle.small_files.specs.Records.{paxos_name as name_of, record_bytes};
+ghost use Rattle.small_files.specs.Answers.{FoundIn, found_result, put_result, IsBadRecord};
+
+use crate::answers::{GotRecord, Put};
+use crate::grammar::{print_record, read_record};
+use crate::names::paxos_name;
+use crate::put::put_bytes;
+use crate::whole::{Whole, read_whole};
+use qj_disk::{Disk, DiskFail};
+use qj_num::Name;
+use std::alloc::Global;
+
+/// The paxos record of a segment: the epoch under which its edits were accepted and their last txid, of
+/// at most 2^62 both, as two numbers of 19 digits with a space between and a line feed behind.
+pub struct PaxosFile;
+
+impl PaxosFile {
+    /// The record of the segment with this start. `Absent` comes exactly where there is no such file,
+    /// and `BadFile` exactly where its bytes hold no record.
+    pub fn get<D: Disk>(alloc: Global, disk: &mut D, start: u64) -> GotRecord
+        requires { start ≤ 2 ^ 62 }
+
+        ensures tells { D.tells disk.old ↔ D.tells disk.new }
+        ensures record_ { D.tells disk.old → FoundIn (name_of start) ((D.view disk.old).seen (name_of start)) result }
+        ensures disk { D.tells disk.old → Rests (D.view disk.old) (D.view disk.new) }
+        ensures cause { HasCause (D.faults disk.old) (D.faults disk.new) (D.steady disk.old) (D.steady disk.new) (found_result result) }
+    {
+        match paxos_name(alloc, start) {
+            Ok(name) => get_by(alloc, disk, name.as_str()),
+            Err(_) => GotRecord::OutOfMemory,
+        }
+    }
+
+    /// Puts the record of the segment with this start, all or nothing, as `put_bytes` does.
+    pub fn put<D: Disk>(alloc: Global, disk: &mut D, start: u64, epoch: u64, end: u64) -> Put
+        requires start { start ≤ 2 ^ 62 }
+        requires epoch { epoch ≤ 2 ^ 62 }
+        requires end { end ≤ 2 ^ 62 }
+        requires absent { D.tells disk.old → (D.view disk.old).seen (temporary (name_of start)) ≡ None }
+
+        ensures tells { D.tells disk.old ↔ D.tells disk.new }
+        ensures put { D.tells disk.old → Effect (Disturbs (temporary (name_of start))) (Puts (name_of start) (temporary (name_of start)) (record_bytes (record { epoch = epoch; end = end }))) (put_result result) (D.view disk.old) (D.view disk.new) }
+        ensures cut { PutCut (D.left disk.old) (D.left disk.new) (D.tells disk.old) (temporary (name_of start)) (put_result result) (D.view disk.old) (D.view disk.new) }
+        ensures cause { HasCause (D.faults disk.old) (D.faults disk.new) (D.steady disk.old) (D.steady disk.new) (put_result result) }
+    {
+        match paxos_name(alloc, start) {
+            Ok(name) => put_bytes(alloc, disk, name.as_str(), &print_record(epoch, end)),
+            Err(_) => Put::OutOfMemory,
+        }
+    }
+
+    /// Removes the record of the segment with this start, which is there, in one call.
+    pub fn remove<D: Disk>(alloc: Global, disk: &mut D, start: u64) -> Put
+        requires start { start ≤ 2 ^ 62 }
+        requires there { D.tells disk.old → IsSome ((D.view disk.old).seen (name_of start)) }
+
+        ensures tells { D.tells disk.old ↔ D.tells disk.new }
+        ensures disk { D.tells disk.old → Atomic (ChangesOnly (name_of start) IsGone) (put_result result) (D.view disk.old) (D.view disk.new) }
+        ensures cut { OneCut (D.left disk.old) (D.left disk.new) (D.tells disk.old) (put_result result) (D.view disk.old) (D.view disk.new) }
+        ensures cause { HasCause (D.faults disk.old) (D.faults disk.new) (D.steady disk.old) (D.steady disk.new) (put_result result) }
+    {
+        match paxos_name(alloc, start) {
+            Ok(name) => Put::from(disk.remove(name.as_str())),
+            Err(_) => Put::OutOfMemory,
+        }
+    }
+}
+
+fn get_by<D: Disk>(alloc: Global, disk: &mut D, name: &str) -> GotRecord
+    ensures tells { D.tells disk.old ↔ D.tells disk.new }
+    ensures record_ { D.tells disk.old → FoundIn name.now ((D.view disk.old).seen name.now) result }
+    ensures disk { D.tells disk.old → Rests (D.view disk.old) (D.view disk.new) }
+    ensures cause { HasCause (D.faults disk.old) (D.faults disk.new) (D.steady disk.old) (D.steady disk.new) (found_result result) }
+{
+    let mut bytes = [0; 40];
+    match read_whole(disk, name, &mut bytes) {
+        Ok(Whole::Absent) => GotRecord::Absent,
+        Ok(Whole::Read) => match read_record(&bytes) {
+            Some((epoch, end)) => GotRecord::Found { epoch, end },
+            None => bad_record(alloc, name),
+        },
+        Ok(Whole::OtherLength) => bad_record(alloc, name),
+        Err(DiskFail::Failed) => GotRecord::DiskFault,
+        Err(DiskFail::OutOfMemory) => GotRecord::OutOfMemory,
+    }
+}
+
+// The answer that the file of this name is bad.
+fn bad_record(alloc: Global, name: &str) -> GotRecord
+    ensures { IsBadRecord name.now result }
+{
+    match Name::from_slice(alloc, name.as_bytes()) {
+        Ok(name) => GotRecord::BadFile { name },
+        Err(_) => GotRecord::OutOfMemory,
+    }
+}

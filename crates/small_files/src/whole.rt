@@ -1,0 +1,38 @@
+//! A file of a known length is read whole.
+ghost use Rattle.std.specs.Prelude.{◌≡◌, ◌≢◌, ◌↔◌, IfOk, length};
+ghost use Rattle.qj_disk.specs.Calls.{HasCause, Rests};
+ghost use Rattle.small_files.specs.Whole.{IsWhole};
+
+use qj_disk::{Disk, DiskFail};
+
+/// Whether a file was read.
+#[derive(Clone, Copy)]
+pub enum Whole {
+    /// There is no such file.
+    Absent,
+    /// Its bytes are all those that were asked for.
+    Read,
+    /// It has another number of bytes.
+    OtherLength,
+}
+
+/// Reads a file that is to have as many bytes as `into`.
+pub fn read_whole<D: Disk>(disk: &mut D, name: &str, into: &mut [u8]) -> Result<Whole, DiskFail>
+    ensures tells { D.tells disk.old ↔ D.tells disk.new }
+    ensures whole { D.tells disk.old → IfOk result (IsWhole ((D.view disk.old).seen name.now) into.new) }
+    ensures disk { D.tells disk.old → Rests (D.view disk.old) (D.view disk.new) }
+    ensures cause { HasCause (D.faults disk.old) (D.faults disk.new) (D.steady disk.old) (D.steady disk.new) result }
+{
+    match disk.length(name)? {
+        None => Ok(Whole::Absent),
+        Some(length) if length == into.len() as u64 => {
+            let count = disk.read(name, 0, into)?;
+            if count == into.len() {
+                Ok(Whole::Read)
+            } else {
+                Ok(Whole::OtherLength)
+            }
+        }
+        Some(_) => Ok(Whole::OtherLength),
+    }
+}
