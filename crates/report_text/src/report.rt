@@ -114,7 +114,7 @@ pub fn report_of(alloc: Global, mesh: &Mesh, ends: &EndList) -> Result<Report, O
     ensures { IfOk result (λ report. Reports report (text_of mesh.now ends.now)) }
 {
     let ends = ends.as_slice();
-    let mut out = Vec::with_capacity(alloc, text_size(mesh, ends))?;
+    let mut out = Vec::with_capacity(alloc, text_size(mesh))?;
     match put_report(&mut out, mesh, ends) {
         Ok(()) => Ok(Report::Text(out)),
         Err(Unprinted::TooLong) => Ok(Report::TooLong),
