@@ -74,3 +74,6 @@ pub mod BestHeld
 pub mod OwnCall
 pub mod Completing
 pub mod WorldWorked
+pub mod SameCode
+pub mod WorldCode
+pub mod WorldStands

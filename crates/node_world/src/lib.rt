@@ -2,8 +2,10 @@
 //! lose calls, stop and restart; what a run of it is, and what every run keeps.
 #![tactic(auto)]
 
+mod actor;
 mod arming;
 pub mod cells;
+mod equality;
 mod event;
 pub mod examples;
 mod history_line;
@@ -16,6 +18,7 @@ mod seen;
 mod stop;
 #[cfg(test)]
 mod tests;
+mod world;
 
 pub use arming::Arming;
 pub use event::{Event, Fate};
@@ -26,3 +29,4 @@ pub use node_cell::NodeCell;
 pub use record::{Record, RecordList, Told};
 pub use seen::Seen;
 pub use stop::Stop;
+pub use world::World;

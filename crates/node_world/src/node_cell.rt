@@ -3,7 +3,8 @@ ghost use Rattle.std.specs.Prelude.{◌≡◌, ◌≢◌, Some, true, is_some, I
 ghost use Rattle.journal_core.specs.Step.{node_step, fresh_state, stopped};
 ghost use Rattle.node_world.specs.Cell.{kept_by, replies, stops, counted, requested, killed, started_again, armed, cell_takes};
 ghost use Rattle.node_world.specs.NodeCells.{state_told, new_cell, IsTaken};
-ghost use Rattle.node_world.specs.World.{is_due, stopping};
+ghost use Rattle.node_world.specs.World.{is_due};
+ghost use Rattle.node_world.specs.WorldViews.{stopping_at};
 
 use crate::arming::Arming;
 use crate::history_line::{HistoryLine, HistoryList};
@@ -39,6 +40,16 @@ fn is_out_of_memory(reply: &Reply) -> bool
     ensures { IsTrue result ↔ (reply.now ≡ Reply.Refused Refusal.OutOfMemory) }
 {
     matches!(reply, Reply::Refused(Refusal::OutOfMemory))
+}
+
+/// The next request that reaches the node while it is up is stopped.
+fn is_due(arming: &Option<Arming>) -> bool
+    ensures { result ≡ is_due arming.now }
+{
+    match arming {
+        None => false,
+        Some(arming) => arming.calls <= 1,
+    }
 }
 
 /// What the node replies, unless it lacks memory.
@@ -120,34 +131,6 @@ impl<N: CutNode> NodeCell<N> {
             history,
         } = self;
         (node, history)
-    }
-
-    /// The node's own arming stops the next request.
-    fn is_stop_due(&self) -> bool
-        ensures { result ≡ is_due self.now.cell.arming }
-    {
-        match self.arming {
-            Some(arming) => arming.calls <= 1,
-            None => false,
-        }
-    }
-
-    /// The next request is stopped behind so many effects, unless the node is down or its own arming stops that request; nothing is
-    /// listed. `OutOfMemory` where the node lacked memory before.
-    pub fn stop_next(&mut self, keep: u64) -> Result<(), OutOfMemory>
-        ensures cell { OnOk result (self.new.cell ≡ stopping (Some keep) self.old.cell) }
-        ensures history { self.new.history ≡ self.old.history }
-    {
-        let Some(is_up) = self.is_up else {
-            return Err(AllocError);
-        };
-        if is_up && !self.is_stop_due() {
-            self.arming = Some(Arming {
-                calls: 1,
-                stop: Stop::Effects { keep },
-            });
-        }
-        Ok(())
     }
 
     /// The node replies; the arming stays.
@@ -278,6 +261,40 @@ impl<N: CutNode> NodeCell<N> {
                 },
             )),
         }
+    }
+
+    /// A stop that comes with the next request is as an arming for it, unless the node's own arming is due, or the node is down.
+    /// Nothing is listed.
+    fn arm_for_next(&mut self, stop: Option<u64>) -> Result<(), OutOfMemory>
+        ensures { OnOk result (self.new ≡ stopping_at stop self.old) }
+    {
+        let Some(keep) = stop else {
+            return Ok(());
+        };
+        let Some(is_up) = self.is_up else {
+            return Err(AllocError);
+        };
+        if is_up && !is_due(&self.arming) {
+            self.arming = Some(Arming {
+                calls: 1,
+                stop: Stop::Effects { keep },
+            });
+        }
+        Ok(())
+    }
+
+    /// As `take`, with a stop that comes with the request.
+    pub fn take_stopped(
+        &mut self,
+        alloc: Global,
+        caller: u32,
+        stop: Option<u64>,
+        ask: NodeAsk,
+    ) -> Result<NodeAnswer, OutOfMemory>
+        ensures { IfOk result (λ answer. IsTaken (stopping_at stop self.old) caller ask answer self.new) }
+    {
+        self.arm_for_next(stop)?;
+        self.take(alloc, caller, ask)
     }
 
     /// The node takes what this caller asks, lists it with its answer, and answers. `OutOfMemory` where the node lacks memory, then

@@ -1,0 +1,7 @@
+pub mod RecordLaws
+pub mod EndLaws
+pub mod OneAnswer
+pub mod PlaceLaws
+pub mod ListLaws
+pub mod SoFar
+pub mod NextLaws

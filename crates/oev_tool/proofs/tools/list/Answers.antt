@@ -1,0 +1,12 @@
+use Rattle.oev_tool.specs.Lines.{lines}
+use Rattle.oev_tool.proofs.OneAnswer.{gives_text, gives_damage}
+use Rattle.oev_tool.proofs.tools.list.Goals as goal
+
+pub returns-clause-right : goal.returns-clause-right
+returns-clause-right c = c.listing_of.ensures lines c.args.bytes.now c.lines_in.ensures
+
+pub returns-clause-text : goal.returns-clause-text
+returns-clause-text c = gives_text lines c.args.bytes.now c.listing_of.result (c.listing_of.ensures lines c.args.bytes.now c.lines_in.ensures)
+
+pub returns-clause-damage : goal.returns-clause-damage
+returns-clause-damage c = gives_damage lines c.args.bytes.now c.listing_of.result (c.listing_of.ensures lines c.args.bytes.now c.lines_in.ensures)

@@ -1,0 +1,33 @@
+-- The right answer to a question on the edits of a segment's file.
+use Rattle.std.specs.Prelude.{◌≡◌, ℕ, List}
+use Rattle.edit_ops.specs.Records.{EditView}
+use Rattle.oev_tool.specs.declared.listing.ByteCause.{ByteCause}
+use Rattle.oev_tool.specs.declared.listing.Listing.{Listing}
+use Rattle.oev_tool.specs.declared.listing.Listing.TheVariants.{Text, BadBytes, OutOfMemory}
+use Rattle.oev_tool.specs.Segment.{IsSegment}
+use Rattle.oev_tool.specs.Damage.{IsDamaged}
+
+-- the text is what is told of the edits of the file
+pub record IsTold (tell : ℕ → List EditView → List ℕ) (bytes text : List ℕ) : Type 0 where
+  pub start : ℕ
+  pub edits : List EditView
+  pub segment : IsSegment bytes start edits
+  pub spelled : text ≡ tell start edits
+
+-- the right answer; want of memory is one everywhere
+abbrev pub IsListed : (ℕ → List EditView → List ℕ) → List ℕ → Listing → Type 0
+IsListed tell bytes (Text text) = IsTold tell bytes text.items
+IsListed tell bytes (BadBytes place cause) = IsDamaged bytes place cause
+IsListed tell bytes OutOfMemory = Unit {0}
+
+-- the answer is this text, unless memory ran out
+abbrev pub GivesText : List ℕ → Listing → Type 0
+GivesText text (Text given) = given.items ≡ text
+GivesText text (BadBytes place cause) = ⊥
+GivesText text OutOfMemory = Unit {0}
+
+-- the answer is this damage, unless memory ran out
+abbrev pub GivesDamage : ℕ → ByteCause → Listing → Type 0
+GivesDamage place cause (Text given) = ⊥
+GivesDamage place cause (BadBytes at of) = (at ≡ place) × (of ≡ cause)
+GivesDamage place cause OutOfMemory = Unit {0}

@@ -1,0 +1,135 @@
+//! The listings of a segment's file.
+ghost use Rattle.std.specs.Prelude.{ℕ, List};
+ghost use Rattle.edit_ops.specs.Records.{EditView};
+ghost use Rattle.oev_tool.specs.declared.listing.ByteCause.{ByteCause};
+ghost use Rattle.oev_tool.specs.Lines.{lines};
+ghost use Rattle.oev_tool.specs.Counts.{statistics};
+ghost use Rattle.oev_tool.specs.Segment.{IsSegment};
+ghost use Rattle.oev_tool.specs.Damage.{IsDamaged};
+ghost use Rattle.oev_tool.specs.Listed.{IsListed, GivesText, GivesDamage};
+ghost use Rattle.oev_tool.specs.Places.{IsFresh, IsRead};
+ghost use Rattle.oev_tool.specs.Steps.{IsListedSoFar, ListsNext, IsCountedSoFar, CountsNext};
+
+use crate::counts::{count_owned, put_statistics};
+use crate::edits::Edits;
+use crate::fault::Fault;
+use crate::lines::put_owned_line;
+use crate::listing::Listing;
+use std::alloc::Global;
+
+// Appends the line of the next edit; whether there was one.
+fn put_next(alloc: Global, edits: &mut Edits<'_>, out: &mut Vec<u8>) -> Result<bool, Fault>
+    ensures { (bytes : List ℕ) → IsListedSoFar bytes edits.old out.old.items → ListsNext bytes edits.old out.new.items result edits.new }
+{
+    match edits.next(alloc)? {
+        Some((txid, edit)) => {
+            put_owned_line(out, txid, edit)?;
+            Ok(true)
+        }
+        None => Ok(false),
+    }
+}
+
+// A line for each edit that is to come.
+fn lines_of(alloc: Global, mut edits: Edits<'_>) -> Result<Vec<u8>, Fault>
+    requires { IsFresh edits.bytes edits }
+    ensures { IsRead lines edits.entry.bytes result }
+{
+    let mut out = Vec::new(alloc);
+    while put_next(alloc, &mut edits, &mut out)? {}
+    Ok(out)
+}
+
+// Counts the next edit, by its kind and in all; whether there was one.
+fn count_next(
+    alloc: Global,
+    edits: &mut Edits<'_>,
+    counts: &mut [u64; 128],
+    total: &mut u64,
+) -> Result<bool, Fault>
+    requires { IsCountedSoFar edits.old.bytes edits.old counts.old total.old }
+    ensures { (bytes : List ℕ) → IsCountedSoFar bytes edits.old counts.old total.old → CountsNext bytes edits.old counts.new total.new result edits.new }
+{
+    match edits.next(alloc)? {
+        Some((_, edit)) => {
+            count_owned(counts, edit);
+            *total += 1;
+            Ok(true)
+        }
+        None => Ok(false),
+    }
+}
+
+// How many edits of each kind are to come.
+fn statistics_of(alloc: Global, mut edits: Edits<'_>) -> Result<Vec<u8>, Fault>
+    requires { IsFresh edits.bytes edits }
+    ensures { IsRead (λ start. statistics) edits.entry.bytes result }
+{
+    let mut counts = [0u64; 128];
+    let mut total = 0;
+    while count_next(alloc, &mut edits, &mut counts, &mut total)? {}
+    let mut out = Vec::new(alloc);
+    put_statistics(&mut out, &counts, total)?;
+    Ok(out)
+}
+
+// A line for each edit of the file.
+fn lines_in(alloc: Global, bytes: &[u8]) -> Result<Vec<u8>, Fault>
+    ensures { IsRead lines bytes.now result }
+{
+    match Edits::of(bytes) {
+        Some(edits) => lines_of(alloc, edits),
+        None => Err(Fault::no_header()),
+    }
+}
+
+// How many edits of each kind the file has.
+fn statistics_in(alloc: Global, bytes: &[u8]) -> Result<Vec<u8>, Fault>
+    ensures { IsRead (λ start. statistics) bytes.now result }
+{
+    match Edits::of(bytes) {
+        Some(edits) => statistics_of(alloc, edits),
+        None => Err(Fault::no_header()),
+    }
+}
+
+// The answer for a text, or for why there is none.
+fn listing_of(read: Result<Vec<u8>, Fault>) -> Listing
+    ensures { (tell : ℕ → List EditView → List ℕ) (bytes : List ℕ) → IsRead tell bytes read → IsListed tell bytes result }
+{
+    match read {
+        Ok(text) => Listing::Text(text),
+        Err(Fault::Memory) => Listing::OutOfMemory,
+        Err(Fault::Damage { place, cause }) => Listing::BadBytes {
+            place: place as u64,
+            cause,
+        },
+    }
+}
+
+/// The edits of a segment's file, a line each: the txid, `call` with the client and the number where a client's call
+/// asked for the edit, the name of its kind, and its fields. A file that is damaged is told as its first damage alone.
+pub fn list(alloc: Global, bytes: &[u8]) -> Listing
+    // The answer is right.
+    ensures right { IsListed lines bytes.now result }
+    // A segment's file is told by its text.
+    ensures text { (start : ℕ) (edits : List EditView) → IsSegment bytes.now start edits → GivesText (lines start edits) result }
+    // A damaged file is told by its first damage.
+    ensures damage { (place : ℕ) (cause : ByteCause) → IsDamaged bytes.now place cause → GivesDamage place cause result }
+{
+    listing_of(lines_in(alloc, bytes))
+}
+
+/// How many edits of each kind a segment's file has: for each first byte of a record that occurs, in their order, a line
+/// with `OP_` and the kind's name, that byte and how many there are; last `total` and how many there are in all. A file
+/// that is damaged is told as its first damage alone.
+pub fn stats(alloc: Global, bytes: &[u8]) -> Listing
+    // The answer is right.
+    ensures right { IsListed (λ start. statistics) bytes.now result }
+    // A segment's file is told by its text.
+    ensures text { (start : ℕ) (edits : List EditView) → IsSegment bytes.now start edits → GivesText (statistics edits) result }
+    // A damaged file is told by its first damage.
+    ensures damage { (place : ℕ) (cause : ByteCause) → IsDamaged bytes.now place cause → GivesDamage place cause result }
+{
+    listing_of(statistics_in(alloc, bytes))
+}
