@@ -162,7 +162,10 @@ fn frames_in_a_row_are_listed(rt: HostRuntime) -> Result<(), Fail> {
     let mut listed = Vec::new(alloc);
     if let Checked::Whole { count, length } = check_frame(&bytes, 20, 3) {
         let mut entries = Entries::of(&bytes, 20, 3, count, length);
-        while let Some(entry) = entries.next_entry() {
+        for _ in 0..count {
+            let Some(entry) = entries.next_entry() else {
+                break;
+            };
             listed.push((entry.txid, entry.place))?;
         }
     }
