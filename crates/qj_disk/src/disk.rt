@@ -1,5 +1,5 @@
 //! The calls of a disk, and what they mean.
-ghost use Rattle.std.specs.Prelude.{◌≡◌, ◌≢◌, ◌≤◌, ◌<◌, ◌↔◌, ℕ, List, length, Option, IfOk, option_map, take, drop, IsSome, map, string_bytes};
+ghost use Rattle.std.specs.Prelude.{◌≡◌, ◌≢◌, ◌≤◌, ◌<◌, ◌↔◌, ℕ, Bool, T, List, length, Option, IfOk, option_map, take, drop, IsSome, map, string_bytes};
 ghost use Rattle.qj_disk.specs.declared.disk.DiskFail.TheVariants.{OutOfMemory};
 ghost use Rattle.qj_disk.specs.Files.{bytes_of, Moves, ChangesOnly, IsGone};
 ghost use Rattle.qj_disk.specs.View.{View, IsSound};
@@ -54,6 +54,9 @@ pub enum Choice {
 pub trait Disk {
     // Whether it tells its bytes.
     ghost tells: { Self → Type 0 };
+
+    // The same as a truth value, on which a meaning may depend.
+    ghost is_told: { Self → Bool };
 
     // What reads give, and which images a crash may leave.
     ghost view: { Self → View };
@@ -146,4 +149,6 @@ pub trait Disk {
     ghost sound: { (disk : Self) → tells disk → IsSound (view disk) };
 
     ghost told: { (disk : Self) → steady disk → tells disk };
+
+    ghost told_so: { (disk : Self) → tells disk ↔ T (is_told disk) };
 }

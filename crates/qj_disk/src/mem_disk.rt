@@ -121,11 +121,13 @@ impl MemDisk {
 }
 
 impl Disk for MemDisk {
-    ghost use Rattle.std.specs.Prelude.{◌≡◌, ℕ};
+    ghost use Rattle.std.specs.Prelude.{◌≡◌, ℕ, true};
     ghost use Rattle.qj_disk.specs.MemDisk.{disk_view, faults_of, reads_of, CannotFail, calls_left};
     ghost use Rattle.qj_disk.specs.TimelineLaws.{is_sound};
 
     ghost tells = { λ _. Unit {0} };
+
+    ghost is_told = { λ _. true };
 
     ghost view = { disk_view };
 
@@ -140,6 +142,8 @@ impl Disk for MemDisk {
     ghost sound = { λ m _. is_sound m.past.items m.files };
 
     ghost told = { λ _ _. tt };
+
+    ghost told_so = { λ _. (λ _. tt, λ _. tt) };
 
     fn length(&mut self, name: &str) -> Result<Option<u64>, DiskFail> {
         self.plan.admit()?;

@@ -152,3 +152,21 @@ fn what_isnt_there_is_refused(rt: HostRuntime) -> Result<(), Fail> {
     assert_eq!(rt; disk.remove("a"), Err(DiskFail::Failed));
     Ok(())
 }
+
+// Writes a file, syncs it and tells its length, of any disk.
+fn stored_length<D: Disk + Drop>(mut disk: D, bytes: &[u8]) -> Result<Option<u64>, DiskFail>
+    requires { D.tells disk → ⊥ }
+{
+    disk.write_at("a", 0, bytes)?;
+    disk.sync("a")?;
+    disk.length("a")
+}
+
+#[test]
+fn a_lent_disk_is_the_disk(rt: HostRuntime) -> Result<(), Fail> {
+    let alloc = rt.alloc();
+    let mut disk = UntoldDisk::new(MemDisk::new(alloc));
+    assert_eq!(rt; stored_length(&mut disk, b"abcd")?, Some(4));
+    expect_content(&rt, alloc, &mut disk, "a", Some(b"abcd"))?;
+    Ok(())
+}

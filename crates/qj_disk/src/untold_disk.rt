@@ -34,10 +34,12 @@ fn refuse<T>(refused: &mut u64) -> Result<T, DiskFail>
 }
 
 impl Disk for UntoldDisk {
-    ghost use Rattle.std.specs.Prelude.{◌+◌, None};
+    ghost use Rattle.std.specs.Prelude.{◌+◌, None, false};
     ghost use Rattle.qj_disk.specs.MemDisk.{disk_view, faults_of, reads_of};
 
     ghost tells = { λ _. ⊥ };
+
+    ghost is_told = { λ _. false };
 
     ghost view = { λ d. disk_view d.disk };
 
@@ -52,6 +54,8 @@ impl Disk for UntoldDisk {
     ghost sound = { λ d t. absurd t };
 
     ghost told = { λ d s. s };
+
+    ghost told_so = { λ _. (λ t. t, λ t. t) };
 
     fn length(&mut self, name: &str) -> Result<Option<u64>, DiskFail> {
         self.disk.length(name)
