@@ -122,8 +122,8 @@ module _ (epoch : ℕ) (b : BatchView) (range : InRange b.first epoch) (v0 : Vie
         pub behind : List ℕ
         pub there : d (name_of b.first (UnderWay epoch)) ≡ Some (content_of b.first epoch (frame_bytes b) ++ behind)
         pub alone : (other : ℕ) → IsKind b.first (UnderWay other) → other ≢ epoch → d (name_of b.first (UnderWay other)) ≡ None
-        pub elsewhere : (start other : ℕ) → start ≤ 2 ^ 62 → start ≢ b.first → IsKind start (UnderWay other) → d (name_of start (UnderWay other)) ≡ None
-        pub not_both : (start last : ℕ) → start ≤ 2 ^ 62 → start ≢ b.first → IsKind start (Final last) → IsSome (d (name_of start (Final last))) → d (name_of start InProgress) ≡ None
+        pub elsewhere : (start other : ℕ) → 1 ≤ start → start ≤ 2 ^ 62 → start ≢ b.first → IsKind start (UnderWay other) → d (name_of start (UnderWay other)) ≡ None
+        pub not_both : (start last : ℕ) → 1 ≤ start → start ≤ 2 ^ 62 → start ≢ b.first → IsKind start (Final last) → IsSome (d (name_of start (Final last))) → d (name_of start InProgress) ≡ None
 
       module _ (staged : IsStaged (name_of b.first (UnderWay epoch)) (content_of b.first epoch (frame_bytes b)) v1) (good : broken_rule b.first b ≡ None) where
         pub all_staged : (d : Files) → v1.may_leave d → Staged d
@@ -133,11 +133,11 @@ module _ (epoch : ℕ) (b : BatchView) (range : InRange b.first epoch) (v0 : Vie
               (λ last ok. from.2.others (name_of b.first (Final last)) (kinds_apart b.first (UnderWay epoch) (Final last) valid ok (λ is. absurd (cc)))) (no_final_here b.first from.0 gs was can.not_final);
           behind = staged.behind;
           there = staged.stable d left ∙ staged.there;
-          alone = λ other ok ne. from.2.others (name_of b.first (UnderWay other)) (kinds_apart b.first (UnderWay epoch) (UnderWay other) valid ok (λ is. ne (cc))) ∙ was.tidy.none_under_way b.first other small ok;
-          elsewhere = λ start other small_start ne ok. from.2.others (name_of start (UnderWay other)) (apart b.first start (UnderWay epoch) (UnderWay other) small small_start ne) ∙ was.tidy.none_under_way start other small_start ok;
-          not_both = λ start last small_start ne ok here.
+          alone = λ other ok ne. from.2.others (name_of b.first (UnderWay other)) (kinds_apart b.first (UnderWay epoch) (UnderWay other) valid ok (λ is. ne (cc))) ∙ was.tidy.none_under_way b.first other range.some_start small ok;
+          elsewhere = λ start other first_start small_start ne ok. from.2.others (name_of start (UnderWay other)) (apart b.first start (UnderWay epoch) (UnderWay other) small small_start ne) ∙ was.tidy.none_under_way start other first_start small_start ok;
+          not_both = λ start last first_start small_start ne ok here.
               from.2.others (name_of start InProgress) (apart b.first start (UnderWay epoch) InProgress small small_start ne)
-              ∙ was.tidy.not_both start last small_start ok (subst IsSome (from.2.others (name_of start (Final last)) (apart b.first start (UnderWay epoch) (Final last) small small_start ne)) here);
+              ∙ was.tidy.not_both start last first_start small_start ok (subst IsSome (from.2.others (name_of start (Final last)) (apart b.first start (UnderWay epoch) (Final last) small small_start ne)) here);
         }
           where
             from : (e : Files) × v0.may_leave e × Disturbs (name_of b.first (UnderWay epoch)) e d
@@ -191,13 +191,13 @@ module _ (epoch : ℕ) (b : BatchView) (range : InRange b.first epoch) (v0 : Vie
 
                 tidy_then : Moves (name_of b.first (UnderWay epoch)) (name_of b.first InProgress) v2.seen v3.seen → IsTidy v3.seen
                 tidy_then moves = record {
-                  none_under_way = λ start other small_start ok. elim (cases_eq start b.first) [
+                  none_under_way = λ start other first_start small_start ok. elim (cases_eq start b.first) [
                     | inl is ↦ subst (λ (m : ℕ). v3.seen (name_of m (UnderWay other)) ≡ None) (sym is) (own_way other (subst (λ (m : ℕ). IsKind m (UnderWay other)) is ok))
-                    | inr ne ↦ far start (UnderWay other) small_start ne ∙ was.elsewhere start other small_start ne ok
+                    | inr ne ↦ far start (UnderWay other) small_start ne ∙ was.elsewhere start other first_start small_start ne ok
                   ];
-                  not_both = λ start end small_start ok here. elim (cases_eq start b.first) [
+                  not_both = λ start end first_start small_start ok here. elim (cases_eq start b.first) [
                     | inl is ↦ absurd (none_some (v3.seen (name_of start (Final end))) (subst (λ (m : ℕ). v3.seen (name_of m (Final end)) ≡ None) (sym is) (own_final end (subst (λ (m : ℕ). IsKind m (Final end)) is ok))) here)
-                    | inr ne ↦ far start InProgress small_start ne ∙ was.not_both start end small_start ne ok (subst IsSome (far start (Final end) small_start ne) here)
+                    | inr ne ↦ far start InProgress small_start ne ∙ was.not_both start end first_start small_start ne ok (subst IsSome (far start (Final end) small_start ne) here)
                   ];
                 }
                   where

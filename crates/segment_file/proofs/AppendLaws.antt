@@ -113,7 +113,7 @@ module _ (start : ℕ) (first : 1 ≤ start) (small : start ≤ 2 ^ 62) (v0 : Vi
   tidy_then : (c : Files) → AppendsFrame start at b v0.seen c → IsTidy c
   tidy_then c done =
       let deed = done.change in tidy_by start v0.seen c small ready.tidy InProgress InProgress (λ m ne ne_again. deed.others m ne)
-      (λ epoch ok. deed.others (name_of start (UnderWay epoch)) (kinds_apart start InProgress (UnderWay epoch) tt ok (λ is. absurd (cc))) ∙ ready.tidy.none_under_way start epoch small ok)
+      (λ epoch ok. deed.others (name_of start (UnderWay epoch)) (kinds_apart start InProgress (UnderWay epoch) tt ok (λ is. absurd (cc))) ∙ ready.tidy.none_under_way start epoch first small ok)
       (λ last ok here. none_both start last c (c (name_of start InProgress))
       (deed.others (name_of start (Final last)) (kinds_apart start InProgress (Final last) tt ok (λ is. absurd (cc))) ∙ (plain_here start v0.seen gs (was v0.seen sound.seen_now) g can.known can.in_progress).none_final.none last ok) here)
 

@@ -122,7 +122,7 @@ module _ (start : ℕ) (d : Files) (gs : List Segment) (was : Before start d gs)
       none_final = record { none = λ other ok_other. none other ok_other };
       counts = record {
         none = nothing_under_way start (slot_of c start) (λ epoch ok_epoch. same_there (UnderWay epoch) ok_epoch (λ is. absurd (cc)) ∙ nothing start d gs was epoch ok_epoch);
-        there = same_there InProgress tt (λ is. absurd (cc)) ∙ was.tidy.not_both start end was.small ok there;
+        there = same_there InProgress tt (λ is. absurd (cc)) ∙ was.tidy.not_both start end was.first was.small ok there;
       };
     };
   }

@@ -58,13 +58,13 @@ module _ (start : ℕ) (d c : Files) (small : start ≤ 2 ^ 62) (tidy : IsTidy d
   pub tidy_by : ((epoch : ℕ) → IsKind start (UnderWay epoch) → c (name_of start (UnderWay epoch)) ≡ None)
       → ((last : ℕ) → IsKind start (Final last) → IsSome (c (name_of start (Final last))) → c (name_of start InProgress) ≡ None) → IsTidy c
   tidy_by none both = record {
-    none_under_way = λ other epoch small_other ok. elim (cases_eq other start) [
+    none_under_way = λ other epoch first_other small_other ok. elim (cases_eq other start) [
       | inl is ↦ subst (λ (m : ℕ). c (name_of m (UnderWay epoch)) ≡ None) (sym is) (none epoch ok)
-      | inr ne ↦ elsewhere other (UnderWay epoch) ne small_other ∙ tidy.none_under_way other epoch small_other ok
+      | inr ne ↦ elsewhere other (UnderWay epoch) ne small_other ∙ tidy.none_under_way other epoch first_other small_other ok
     ];
-    not_both = λ other last small_other ok there. elim (cases_eq other start) [
+    not_both = λ other last first_other small_other ok there. elim (cases_eq other start) [
       | inl is ↦ subst (λ (m : ℕ). c (name_of m InProgress) ≡ None) (sym is) (both last (let p : (start ≤ last) × (last ≤ 2 ^ 62) = (omega (arith, ok.0, is), ok.1) in p) (subst (λ (m : ℕ). IsSome (c (name_of m (Final last)))) is there))
-      | inr ne ↦ elsewhere other InProgress ne small_other ∙ tidy.not_both other last small_other ok (subst IsSome (elsewhere other (Final last) ne small_other) there)
+      | inr ne ↦ elsewhere other InProgress ne small_other ∙ tidy.not_both other last first_other small_other ok (subst IsSome (elsewhere other (Final last) ne small_other) there)
     ];
   }
 

@@ -1,7 +1,7 @@
 -- The bytes of a segment file, taken apart and put together.
 use Rattle.std.proofs.Common.{◌≡◌, ◌≢◌, ℕ, List, [], ◌∷◌, ◌++◌, ap, sym, ◌∙◌, refl, subst, arith, ◌+◌, ◌≤◌, get_or, take, drop, length, length-append, take-append-drop, append_assoc}
-use Rattle.std.specs.Prelude.{None, ◌==◌, ◌||◌, Bool, true, false}
-use Rattle.std.specs.List.{flat_map, list_any, AllByRecursion}
+use Rattle.std.specs.Prelude.{None}
+use Rattle.std.specs.List.{flat_map}
 use Rattle.std.proofs.lemmas.List.{take_at, drop_at, get_or-drop, append-nil, length-take-le}
 use Rattle.std.proofs.lemmas.Grind.{flat_map-append}
 use Rattle.journal_core.specs.Views.{BatchView}

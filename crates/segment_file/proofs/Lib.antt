@@ -1,4 +1,4 @@
-mod GateLemmas
+pub mod GateLemmas
 mod FindLemmas
 pub mod NamesLemmas
 pub mod Frame
@@ -13,9 +13,35 @@ pub mod RenamedLaws
 pub mod AppendLaws
 pub mod AcceptLemmas
 pub mod AcceptLaws
+mod AcceptFresh
 mod AcceptCuts
-mod Counts
+pub mod Counts
 mod ReadLemmas
 pub mod OpenLemmas
 pub mod KindsLemmas
 mod SyncLemmas
+pub mod RowLaws
+pub mod RowsOf
+pub mod RowsTold
+mod NameOrder
+pub mod OpenFiles
+mod OpenJudged
+mod RecordOrNot
+mod OpenReads
+mod ReadLoop
+pub mod HeldOnce
+pub mod StableLaws
+mod OpenRemoves
+mod RemoveLoop
+pub mod OpenWhole
+pub mod OpenBad
+mod TemporaryLemmas
+mod RepairLemmas
+mod MendLemmas
+mod ToldLemmas
+mod RecordLemmas
+mod StartLemmas
+mod TurnLemmas
+mod CompleteLemmas
+mod ClearLemmas
+pub mod CompletedBack

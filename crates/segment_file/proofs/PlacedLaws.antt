@@ -37,7 +37,7 @@ module _ (start : ℕ) (first : 1 ≤ start) (small : start ≤ 2 ^ 62) (v0 : Vi
 
     pub tidy_then : (c : Files) → Places (name_of start InProgress) (name_of start Fresh) bytes v0.seen c → IsTidy c
     tidy_then c places = tidy_by start v0.seen c small ready.tidy InProgress Fresh places.others
-        (λ epoch ok. places.others (name_of start (UnderWay epoch)) (kinds_apart start InProgress (UnderWay epoch) tt ok (λ is. absurd (cc))) (kinds_apart start Fresh (UnderWay epoch) tt ok (λ is. absurd (cc))) ∙ ready.tidy.none_under_way start epoch small ok)
+        (λ epoch ok. places.others (name_of start (UnderWay epoch)) (kinds_apart start InProgress (UnderWay epoch) tt ok (λ is. absurd (cc))) (kinds_apart start Fresh (UnderWay epoch) tt ok (λ is. absurd (cc))) ∙ ready.tidy.none_under_way start epoch first small ok)
         (λ last ok there. none_both start last c (c (name_of start InProgress))
         (places.others (name_of start (Final last)) (kinds_apart start InProgress (Final last) tt ok (λ is. absurd (cc))) (kinds_apart start Fresh (Final last) tt ok (λ is. absurd (cc)))
         ∙ (no_final_here start v0.seen gs (before_all v0.seen sound.seen_now) was_open).none last ok) there)

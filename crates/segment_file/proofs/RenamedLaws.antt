@@ -45,7 +45,7 @@ module _ (start : ℕ) (first : 1 ≤ start) (small : start ≤ 2 ^ 62) (v0 : Vi
 
     tidy_then : (c : Files) → Moves (name_of start InProgress) (name_of start (Final end)) v0.seen c → IsTidy c
     tidy_then c moves = tidy_by start v0.seen c small ready.tidy InProgress (Final end) moves.others
-        (λ epoch ok. moves.others (name_of start (UnderWay epoch)) (kinds_apart start InProgress (UnderWay epoch) tt ok (λ is. absurd (cc))) (kinds_apart start (Final end) (UnderWay epoch) can.valid ok (λ is. absurd (cc))) ∙ ready.tidy.none_under_way start epoch small ok)
+        (λ epoch ok. moves.others (name_of start (UnderWay epoch)) (kinds_apart start InProgress (UnderWay epoch) tt ok (λ is. absurd (cc))) (kinds_apart start (Final end) (UnderWay epoch) can.valid ok (λ is. absurd (cc))) ∙ ready.tidy.none_under_way start epoch first small ok)
         (λ last ok there. moves.gone (kinds_apart start (Final end) InProgress can.valid tt (λ is. absurd (cc))))
 
     pub finalize_becomes : (result : Result (Unit {0}) DiskFail) (v1 : View) → Atomic (Moves (name_of start InProgress) (name_of start (Final end))) result v0 v1 → Becomes gs (finalized (find_segment start gs) gs) result v0 v1
@@ -64,8 +64,8 @@ module _ (start : ℕ) (first : 1 ≤ start) (small : start ≤ 2 ^ 62) (v0 : Vi
 
     tidy_gone : (b : Bool) → is_final ≡ b → (c : Files) → ChangesOnly (name_of start (kind_of end b)) IsGone v0.seen c → IsTidy c
     tidy_gone true is c change = tidy_by start v0.seen c small ready.tidy (Final end) (Final end) (λ m ne ne_again. change.others m ne)
-        (λ epoch ok. change.others (name_of start (UnderWay epoch)) (kinds_apart start (Final end) (UnderWay epoch) (can.valid is).0 ok (λ is. absurd (cc))) ∙ ready.tidy.none_under_way start epoch small ok)
-        (λ last ok there. change.others (name_of start InProgress) (kinds_apart start (Final end) InProgress (can.valid is).0 tt (λ is. absurd (cc))) ∙ ready.tidy.not_both start last small ok (still_there last ok there))
+        (λ epoch ok. change.others (name_of start (UnderWay epoch)) (kinds_apart start (Final end) (UnderWay epoch) (can.valid is).0 ok (λ is. absurd (cc))) ∙ ready.tidy.none_under_way start epoch first small ok)
+        (λ last ok there. change.others (name_of start InProgress) (kinds_apart start (Final end) InProgress (can.valid is).0 tt (λ is. absurd (cc))) ∙ ready.tidy.not_both start last first small ok (still_there last ok there))
       where
         still_there : (last : ℕ) → IsKind start (Final last) → IsSome (c (name_of start (Final last))) → IsSome (v0.seen (name_of start (Final last)))
         still_there last ok there = elim (cases_eq last end) [
@@ -73,7 +73,7 @@ module _ (start : ℕ) (first : 1 ≤ start) (small : start ≤ 2 ^ 62) (v0 : Vi
           | inr ne ↦ subst IsSome (change.others (name_of start (Final last)) (kinds_apart start (Final end) (Final last) (can.valid is).0 ok (λ is. ne (cc)))) there
         ]
     tidy_gone false is c change = tidy_by start v0.seen c small ready.tidy InProgress InProgress (λ m ne ne_again. change.others m ne)
-        (λ epoch ok. change.others (name_of start (UnderWay epoch)) (kinds_apart start InProgress (UnderWay epoch) tt ok (λ is. absurd (cc))) ∙ ready.tidy.none_under_way start epoch small ok)
+        (λ epoch ok. change.others (name_of start (UnderWay epoch)) (kinds_apart start InProgress (UnderWay epoch) tt ok (λ is. absurd (cc))) ∙ ready.tidy.none_under_way start epoch first small ok)
         (λ last ok there. change.here)
 
     pub discard_becomes : (result : Result (Unit {0}) DiskFail) (v1 : View) → Atomic (ChangesOnly (name_of start (kind_of end is_final)) IsGone) result v0 v1 → Becomes gs (remove_segment start gs) result v0 v1

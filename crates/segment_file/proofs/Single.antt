@@ -18,8 +18,8 @@ use Rattle.segment_file.proofs.Frame.{stands_by, slot_same, apart, kinds_apart, 
 -- an outcome of a crash is as tidy as what is read
 pub tidy_left : (v : View) (c : Files) → IsSound v → IsTidy v.seen → v.may_leave c → IsTidy c
 tidy_left v c sound tidy left = record {
-  none_under_way = λ start epoch small ok. sound.absent (name_of start (UnderWay epoch)) c (tidy.none_under_way start epoch small ok) left;
-  not_both = λ start last small ok there. sound.absent (name_of start InProgress) c (tidy.not_both start last small ok (seen_there (name_of start (Final last)) there (v.seen (name_of start (Final last))) refl)) left;
+  none_under_way = λ start epoch first small ok. sound.absent (name_of start (UnderWay epoch)) c (tidy.none_under_way start epoch first small ok) left;
+  not_both = λ start last first small ok there. sound.absent (name_of start InProgress) c (tidy.not_both start last first small ok (seen_there (name_of start (Final last)) there (v.seen (name_of start (Final last))) refl)) left;
 }
   where
     seen_there : (name : List ℕ) → IsSome (c name) → (x : Option (List ℕ)) → v.seen name ≡ x → IsSome (v.seen name)
@@ -95,7 +95,7 @@ module _ (start : ℕ) (d : Files) (gs : List Segment) (was : Before start d gs)
   here = was.stands.slots start was.first was.small
 
   pub nothing : (epoch : ℕ) → IsKind start (UnderWay epoch) → slot (UnderWay epoch) ≡ None
-  nothing epoch ok = was.tidy.none_under_way start epoch was.small ok
+  nothing epoch ok = was.tidy.none_under_way start epoch was.first was.small ok
 
   pub plain_here : (g : Segment) → find_segment start gs ≡ Some g → g.is_final ≡ false → IsPlain start slot g
   plain_here g known open_ = plain start slot nothing g (subst (λ (held : Option Segment). Holds start slot held) known here.holds) open_

@@ -19,14 +19,14 @@ settled_push v [] name all one = (one, tt)
 settled_push v (x ∷ names) name all one = (all.0, settled_push v names name all.1 one)
 
 -- what is stable stays so while nothing changes
-stays : (v w : View) (name : List ℕ) → Keeps v w → IsStable name v → IsStable name w
+pub stays : (v w : View) (name : List ℕ) → Keeps v w → IsStable name v → IsStable name w
 stays v w name keeps stable c left = stable c (keeps.crash c left) ∙ sym (ap (λ (f : Files). f name) keeps.seen)
 
 pub settled_stays : (v w : View) (names : List (List ℕ)) → Keeps v w → AllSettled v names → AllSettled w names
 settled_stays v w [] keeps all = tt
 settled_stays v w (name ∷ names) keeps all = (⊎_elim (λ t. inl t) (λ s. inr (stays v w name keeps s)) all.0, settled_stays v w names keeps all.1)
 
-rose_since : (a b c : ℕ) → a ≤ b → Rose b c → Rose a c
+pub rose_since : (a b c : ℕ) → a ≤ b → Rose b c → Rose a c
 rose_since a b c le rose = omega (arith, le, rose)
 
 pub same_quiet : (v : View) → IsSound v → Quiet IsSame v v
@@ -101,7 +101,7 @@ module _ {X : Type 0} (f : X → List ℕ) where
   pub all_done : (xs : List X) (i : ℕ) → length xs ≤ i → map f (take i xs) ≡ map f xs
   all_done xs i le = ap (map f) (take_all i xs le)
 
-  index_at : (xs : List X) (i : ℕ) (x : X) → i < length xs → x ≡ get_or xs i x → slice_index_or (map f xs) i (f x) ≡ f x
+  pub index_at : (xs : List X) (i : ℕ) (x : X) → i < length xs → x ≡ get_or xs i x → slice_index_or (map f xs) i (f x) ≡ f x
   index_at [] i x lt is = absurd (omega (arith, lt))
   index_at (y ∷ ys) zero x lt is = ap f (sym is)
   index_at (y ∷ ys) (suc i) x lt is = index_at ys i x (omega (arith, lt)) is

@@ -17,8 +17,8 @@ use Rattle.segment_file.specs.Stands.{StandsFor}
 
 -- no acceptance is under way, and no start has both a final file and one in progress
 pub record IsTidy (seen : Files) : Type 0 where
-  pub none_under_way : (start epoch : ℕ) → start ≤ 2 ^ 62 → IsKind start (UnderWay epoch) → seen (name_of start (UnderWay epoch)) ≡ None
-  pub not_both : (start last : ℕ) → start ≤ 2 ^ 62 → IsKind start (Final last) → IsSome (seen (name_of start (Final last))) → seen (name_of start InProgress) ≡ None
+  pub none_under_way : (start epoch : ℕ) → 1 ≤ start → start ≤ 2 ^ 62 → IsKind start (UnderWay epoch) → seen (name_of start (UnderWay epoch)) ≡ None
+  pub not_both : (start last : ℕ) → 1 ≤ start → start ≤ 2 ^ 62 → IsKind start (Final last) → IsSome (seen (name_of start (Final last))) → seen (name_of start InProgress) ≡ None
 
 -- The files, and those that each crash would leave, stand for these segments. Each call takes this and gives it back.
 pub record IsReady (v : View) (gs : List Segment) : Type 0 where

@@ -7,4 +7,8 @@ pub mod Calls
 pub mod Answers
 pub mod Reads
 pub mod Kinds
+pub mod Rows
 pub mod Opening
+pub mod Completing
+pub mod Opened
+pub mod OpenSteps

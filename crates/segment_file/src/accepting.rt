@@ -138,6 +138,7 @@ fn accept_by<D: Disk>(
     ensures effect { D.tells disk.old → (gs : List Segment) → IsReady (D.view disk.old) gs → CanReplace epoch batch.now gs (D.view disk.old)
         → Becomes gs (segments_after gs (Replace epoch batch.now)) result (D.view disk.old) (D.view disk.new) }
     ensures touches { D.tells disk.old → Touches batch.now.first (UnderWay epoch ∷ Record ∷ FreshRecord ∷ InProgress ∷ []) (D.view disk.old) (D.view disk.new) }
+    ensures fresh { D.tells disk.old → OnOk result ((D.view disk.new).seen (name_of batch.now.first FreshRecord) ≡ None) }
     ensures counts { IsCounted 6 (D.left disk.old) (D.left disk.new) result }
     ensures cut { D.tells disk.old → (gs : List Segment) → IsReady (D.view disk.old) gs → CanReplace epoch batch.now gs (D.view disk.old)
         → IsCut (λ _. accept_cost false) gs (segments_after gs (Replace epoch batch.now)) (D.left disk.old) result (D.view disk.new) }
@@ -154,8 +155,8 @@ fn accept_by<D: Disk>(
 /// renamed to the file in progress. The rename of the record decides. Where the files stand for segments
 /// among which no final one has this start, and the record isn't of this epoch, a crash at any moment
 /// leaves files that stand for the old edits or for the accepted ones, and once this answered Done only
-/// for these. The temporary file of the record isn't there. The batch's start and the epoch are from 1 to
-/// 2^62; a batch with a body of more than 4,096 bytes, or of more than 16,384 bodies, is answered
+/// for these. The temporary file of the record isn't there, and is gone again once this answered Done. The
+/// batch's start and the epoch are from 1 to 2^62; a batch with a body of more than 4,096 bytes, or of more than 16,384 bodies, is answered
 /// OutOfMemory.
 pub fn replace<D: Disk>(alloc: Global, disk: &mut D, epoch: u64, batch: &Batch) -> Put
     requires start { (1 ≤ batch.now.first) × (batch.now.first ≤ 2 ^ 62) }
@@ -167,6 +168,7 @@ pub fn replace<D: Disk>(alloc: Global, disk: &mut D, epoch: u64, batch: &Batch) 
     ensures effect { D.tells disk.old → (gs : List Segment) → IsReady (D.view disk.old) gs → CanReplace epoch batch.now gs (D.view disk.old)
         → Becomes gs (segments_after gs (Replace epoch batch.now)) (put_result result) (D.view disk.old) (D.view disk.new) }
     ensures touches { D.tells disk.old → Touches batch.now.first (UnderWay epoch ∷ Record ∷ FreshRecord ∷ InProgress ∷ []) (D.view disk.old) (D.view disk.new) }
+    ensures fresh { D.tells disk.old → OnOk (put_result result) ((D.view disk.new).seen (name_of batch.now.first FreshRecord) ≡ None) }
     ensures counts { IsCounted 6 (D.left disk.old) (D.left disk.new) (put_result result) }
     ensures cut { D.tells disk.old → (gs : List Segment) → IsReady (D.view disk.old) gs → CanReplace epoch batch.now gs (D.view disk.old)
         → IsCut (λ _. accept_cost false) gs (segments_after gs (Replace epoch batch.now)) (D.left disk.old) (put_result result) (D.view disk.new) }

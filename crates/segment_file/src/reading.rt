@@ -36,7 +36,7 @@ pub fn read_file<D: Disk>(
 }
 
 // The bodies of the segment file with this start, if the bytes are one.
-fn scan_of(alloc: Global, bytes: &[u8], start: u64) -> Result<Option<Scan>, OutOfMemory>
+pub fn scan_of(alloc: Global, bytes: &[u8], start: u64) -> Result<Option<Scan>, OutOfMemory>
     ensures { IfOk result (ScansTo start bytes.now) }
 {
     match read_header(bytes) {

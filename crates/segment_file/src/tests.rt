@@ -2,6 +2,8 @@
 ghost use Rattle.std.specs.Prelude.{◌≡◌, ◌≤◌, IfOk};
 ghost use Rattle.journal_core.specs.Views.{last_txid};
 
+mod completing;
+
 use crate::{
     Appended, FileKind, Given, append, append_behind_gate, create, discard, file_named, finalize,
     read_from, replace, replace_again, sync_all,
@@ -14,9 +16,9 @@ use std::alloc::{AllocError, Global};
 use std::process::Abort;
 use std::test::Fail;
 
-const PROGRESS: &str = "edits_inprogress_0000000000000000001";
+pub const PROGRESS: &str = "edits_inprogress_0000000000000000001";
 
-const FINAL: &str = "edits_0000000000000000001-0000000000000000002";
+pub const FINAL: &str = "edits_0000000000000000001-0000000000000000002";
 
 const UNDER_WAY: &str = "edits_inprogress_0000000000000000001.epoch=2";
 
@@ -29,12 +31,12 @@ fn choices() -> [Choice; 4] {
     ]
 }
 
-fn new_disk(alloc: Global) -> UntoldDisk {
+pub fn new_disk(alloc: Global) -> UntoldDisk {
     UntoldDisk::new(MemDisk::new(alloc))
 }
 
 // A batch of one body.
-fn one(rt: &impl Abort, alloc: Global, first: u64, body: &[u8]) -> Result<Batch, AllocError>
+pub fn one(rt: &impl Abort, alloc: Global, first: u64, body: &[u8]) -> Result<Batch, AllocError>
     ensures first { IfOk result (λ b. b.first ≡ first) }
     ensures last { IfOk result (λ b. last_txid b ≡ first) }
 {
@@ -47,7 +49,7 @@ fn one(rt: &impl Abort, alloc: Global, first: u64, body: &[u8]) -> Result<Batch,
 }
 
 // A disk with the segment from txid 1 under epoch 1, in progress, that holds the edits 18 and 0a.
-fn two_edits(rt: &impl Abort, alloc: Global) -> Result<UntoldDisk, AllocError> {
+pub fn two_edits(rt: &impl Abort, alloc: Global) -> Result<UntoldDisk, AllocError> {
     let mut disk = new_disk(alloc);
     assert_eq!(rt; create(alloc, &mut disk, 1, 1), Put::Done);
     let first = one(rt, alloc, 1, b"\x18")?;

@@ -1,6 +1,6 @@
 //! Worked examples of names, bytes and sets of files, computed when the crate is checked.
-ghost use Rattle.std.specs.Prelude.{◌≡◌, ◌++◌, ◌∷◌, [], List, ℕ, None, codes};
-ghost use Rattle.journal_core.specs.Effects.{empty_segment, NewSegment, segments_after, Append, MakeFinal};
+ghost use Rattle.std.specs.Prelude.{◌≡◌, ◌∷◌, [], List, ℕ, Some, None, false, codes, if◌then◌else◌};
+ghost use Rattle.std.specs.Str.{bytes_eq};
 ghost use Rattle.segment_file.specs.Names.{name_of, InProgress, Final, Record, UnderWay, Fresh, FreshRecord};
 ghost use Rattle.segment_file.specs.Calls.{content_of};
 ghost use Rattle.segment_file.specs.Stands.{StandsFor};
@@ -24,4 +24,11 @@ pub fn file_of_a_new_segment()
 /// No files stand for no segments.
 pub fn no_files_stand_for_nothing()
     ensures { StandsFor (λ (name : List ℕ). None) [] }
+{}
+
+/// A file in progress with one edit, an OP_START_LOG_SEGMENT under epoch 2, stands for that one segment.
+pub fn one_file_stands_for_its_segment()
+    ensures { StandsFor
+        (λ (name : List ℕ). if bytes_eq name (name_of 1 InProgress) then Some (81 ∷ 74 ∷ 83 ∷ 71 ∷ 0 ∷ 0 ∷ 0 ∷ 1 ∷ 0 ∷ 0 ∷ 0 ∷ 0 ∷ 0 ∷ 0 ∷ 0 ∷ 1 ∷ 0 ∷ 0 ∷ 0 ∷ 0 ∷ 0 ∷ 0 ∷ 0 ∷ 2 ∷ 165 ∷ 0 ∷ 0 ∷ 0 ∷ 15 ∷ 0 ∷ 0 ∷ 0 ∷ 0 ∷ 0 ∷ 0 ∷ 0 ∷ 1 ∷ 0 ∷ 0 ∷ 0 ∷ 1 ∷ 0 ∷ 1 ∷ 24 ∷ 0 ∷ []) else None)
+        (record { start = 1; epoch = 2; bodies = (24 ∷ []) ∷ []; is_final = false; accepted = false } ∷ []) }
 {}

@@ -1,5 +1,5 @@
 -- What the answers on small files say.
-use Rattle.std.specs.Prelude.{◌≡◌, ℕ, List, Option, Some, None, Result, Ok, Err}
+use Rattle.std.specs.Prelude.{◌≡◌, ℕ, ◌≤◌, ◌^◌, List, Option, Some, None, Result, Ok, Err}
 use Rattle.qj_disk.specs.declared.disk.DiskFail.{DiskFail}
 use Rattle.qj_disk.specs.declared.disk.DiskFail.TheVariants as fail
 use Rattle.small_files.specs.Records.{IsNumber, Record, IsRecord}
@@ -36,6 +36,13 @@ GotOf name file (got.Value n) = IsNumber file n
 GotOf name file (got.BadFile bad) = (bad ≡ name) × ((n : ℕ) → IsNumber file n → ⊥)
 GotOf name file got.DiskFault = Unit {0}
 GotOf name file got.OutOfMemory = Unit {0}
+
+-- a number is at most 2^62, whatever the disk
+abbrev pub IsSmallGot : Got → Type 0
+IsSmallGot (got.Value n) = n ≤ 2 ^ 62
+IsSmallGot (got.BadFile name) = Unit {0}
+IsSmallGot got.DiskFault = Unit {0}
+IsSmallGot got.OutOfMemory = Unit {0}
 
 abbrev pub FoundIn : List ℕ → Option (List ℕ) → GotRecord → Type 0
 FoundIn name file (found.Found epoch end) = (bytes : List ℕ) × (file ≡ Some bytes) × IsRecord bytes (record { epoch = epoch; end = end })

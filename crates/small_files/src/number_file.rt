@@ -3,7 +3,7 @@ ghost use Rattle.std.specs.Prelude.{◌≡◌, ◌↔◌, ◌≤◌, ◌^◌, No
 ghost use Rattle.qj_disk.specs.Calls.{Effect, HasCause, Rests};
 ghost use Rattle.small_files.specs.Puts.{temporary, Disturbs, Puts, PutCut};
 ghost use Rattle.small_files.specs.Records.{number_bytes};
-ghost use Rattle.small_files.specs.Answers.{GotOf, got_result, put_result, IsBadNumber};
+ghost use Rattle.small_files.specs.Answers.{GotOf, IsSmallGot, got_result, put_result, IsBadNumber};
 
 use crate::answers::{Got, Put};
 use crate::grammar::{print_number, read_number};
@@ -22,6 +22,7 @@ impl NumberFile {
     pub fn get<D: Disk>(alloc: Global, disk: &mut D, name: &str) -> Got
         ensures tells { D.tells disk.old ↔ D.tells disk.new }
         ensures value { D.tells disk.old → GotOf name.now ((D.view disk.old).seen name.now) result }
+        ensures small { IsSmallGot result }
         ensures disk { D.tells disk.old → Rests (D.view disk.old) (D.view disk.new) }
         ensures cause { HasCause (D.faults disk.old) (D.faults disk.new) (D.steady disk.old) (D.steady disk.new) (got_result result) }
     {

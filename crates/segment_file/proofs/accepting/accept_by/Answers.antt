@@ -6,6 +6,7 @@ use Rattle.segment_file.proofs.FileBytes.{InRange}
 use Rattle.segment_file.proofs.GateLemmas.{passed_none, carried}
 use Rattle.segment_file.proofs.Counts.{passed_on, counted_on, counted_off, counted_put, counted_one, counted_as, on_ok}
 use Rattle.segment_file.proofs.AcceptLaws.{touches_then, stage_left, put_left, stage_touches, stage_fails, now_stands, put_touches, put_fails, put_all, put_quiet, settle_touches, settle_becomes, way_left}
+use Rattle.segment_file.proofs.AcceptFresh.{settle_fresh}
 use Rattle.segment_file.proofs.AcceptCuts.{cut_staging, cut_putting, cut_settling}
 use Rattle.segment_file.proofs.accepting.accept_by.Goals as goal
 
@@ -101,6 +102,12 @@ returns-clause-touches g c = λ t.
     let two = touches_then c.args.batch.now.first _ _ _ _ one (stage_left c.args.epoch c.args.batch.now range _ (g.met.D.Disk.sound _ t) _ (g.met.D.Disk.sound _ t1) (c.stage.ensures.quiet t)) (put_touches c.args.epoch c.args.batch.now _ _ _ (g.met.D.Disk.sound _ t2) (c.put_record.ensures.put t1)) in
     touches_then c.args.batch.now.first _ _ _ _ two (put_left c.args.epoch c.args.batch.now range _ (g.met.D.Disk.sound _ t) _ (g.met.D.Disk.sound _ t1) (c.stage.ensures.quiet t) _ (on_ok c.put_record.result _ ok2 (c.put_record.ensures.put t1).done))
     (settle_touches c.args.epoch c.args.batch.now _ _ (g.met.D.Disk.sound _ t2) (g.met.D.Disk.sound _ t3) c.settle.result (c.settle.ensures.moves t2))
+
+pub returns-clause-fresh : goal.returns-clause-fresh
+returns-clause-fresh g c = λ t.
+    let t2 = c.put_record.ensures.tells.0 (c.stage.ensures.tells.0 t) in
+    let ok2 : IsOk c.put_record.result = search rules in
+    settle_fresh c.args.epoch c.requires.epoch c.args.batch.now _ _ _ c.settle.result (on_ok c.put_record.result _ ok2 (c.put_record.ensures.put (c.stage.ensures.tells.0 t)).done) (c.settle.ensures.moves t2)
 
 pub returns-clause-counts : goal.returns-clause-counts
 returns-clause-counts g c =

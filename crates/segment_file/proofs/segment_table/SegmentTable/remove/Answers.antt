@@ -1,0 +1,10 @@
+use Rattle.std.proofs.Common.{List, sym, subst}
+use Rattle.segment_file.specs.declared.segment_row.SegmentRow.{SegmentRow}
+use Rattle.segment_file.specs.Rows.{AreSoundRows, IsRowAt}
+use Rattle.segment_file.proofs.RowLaws.{remove_sound}
+use Rattle.segment_file.proofs.segment_table.SegmentTable.remove.Goals as goal
+
+pub invariant_of-self : goal.invariant_of-self
+invariant_of-self c =
+    subst (λ (rows : List SegmentRow). AreSoundRows rows) (sym c.remove-row.ensures.items)
+    (remove_sound c.args.start c.in-Ok.place c.self.inside.rows.items c.remove-row.result c.self.invariant (subst (λ (rows : List SegmentRow). IsRowAt c.args.start c.in-Ok.place rows) c.deref.ensures.value c.in-Ok.ensures.found))

@@ -1,0 +1,152 @@
+//! The rows of a node's segments.
+ghost use Rattle.std.specs.Prelude.{◌≡◌, [], IfOk, IfErr, OnOk, OnErr, IfSome};
+ghost use Rattle.std.specs.Option.{option_copied};
+ghost use Rattle.segment_file.specs.Rows.{find_row, put_row, remove_row, newest_row, AreSoundRows, RowsRise, IsRowWithin, IsRowAt, IsRowGap, row_has_edit};
+
+use crate::segment_row::SegmentRow;
+use qj_num::OutOfMemory;
+use std::alloc::Global;
+use std::marker::Model;
+
+/// Rows by rising start, each of a segment whose start is from 1 on, and whose end is at least its start
+/// less one and at most 2^62.
+#[derive(Drop)]
+pub struct SegmentTable {
+    rows: Vec<SegmentRow>,
+}
+
+impl Model for SegmentTable {
+    ghost use Rattle.std.specs.Prelude.{List};
+    ghost use Rattle.segment_file.specs.declared.segment_row.SegmentRow.{SegmentRow};
+    ghost use Rattle.segment_file.specs.Rows.{AreSoundRows};
+
+    ghost Value = { List SegmentRow };
+
+    ghost view = { λ t. t.rows.items };
+
+    ghost invariant = { λ t. AreSoundRows t.rows.items };
+}
+
+// The place of the row with that start, or where it would stand.
+#[tactic(auto, using(crate::proofs::RowLaws::sides))]
+fn search(rows: &[SegmentRow], start: u64) -> Result<usize, usize>
+    requires { RowsRise rows.now }
+    ensures found { IfOk result (λ place. IsRowAt start place rows.now) }
+    ensures gap { IfErr result (λ place. IsRowGap start place rows.now) }
+{
+    let mut low = 0;
+    let mut high = rows.len();
+    while low < high {
+        let middle = low + (high - low) / 2;
+        let here = rows[middle].info.start;
+        if here == start {
+            return Ok(middle);
+        }
+        if here < start {
+            low = middle + 1;
+        } else {
+            high = middle;
+        }
+    }
+    Err(low)
+}
+
+// The same, with the last row tried first: requests mostly speak of it.
+#[tactic(auto, using(crate::proofs::RowLaws::sides))]
+fn place_in(rows: &[SegmentRow], start: u64) -> Result<usize, usize>
+    requires { RowsRise rows.now }
+    ensures found { IfOk result (λ place. IsRowAt start place rows.now) }
+    ensures gap { IfErr result (λ place. IsRowGap start place rows.now) }
+{
+    let count = rows.len();
+    if count == 0 {
+        return Err(0);
+    }
+    let last = rows[count - 1].info.start;
+    if last == start {
+        return Ok(count - 1);
+    }
+    if last < start {
+        return Err(count);
+    }
+    search(rows, start)
+}
+
+// The segment of the row holds an edit.
+fn has_edit(row: &SegmentRow) -> bool
+    ensures { result ≡ row_has_edit row.now }
+{
+    row.info.start <= row.info.end
+}
+
+impl SegmentTable {
+    /// No rows.
+    pub fn new(alloc: Global) -> SegmentTable
+        ensures { result ≡ [] }
+    {
+        SegmentTable {
+            rows: Vec::new(alloc),
+        }
+    }
+
+    /// The rows by rising start.
+    pub fn as_slice(&self) -> &[SegmentRow]
+        ensures rows { result.now ≡ self.now }
+        ensures sound { AreSoundRows self.now }
+    {
+        self.rows.as_slice()
+    }
+
+    /// The row with that start, by binary search.
+    #[tactic(auto, using(crate::proofs::RowLaws::places))]
+    pub fn find(&self, start: u64) -> Option<&SegmentRow>
+        ensures found { option_copied result ≡ find_row start self.now }
+        ensures within { IfSome result (λ row. IsRowWithin row.now) }
+    {
+        match place_in(&self.rows, start) {
+            Ok(place) => Some(&self.rows[place]),
+            Err(_) => None,
+        }
+    }
+
+    /// The greatest start of a row whose segment holds an edit.
+    #[tactic(auto, using(crate::proofs::RowLaws::newests))]
+    pub fn newest(&self) -> Option<u64>
+        ensures { result ≡ newest_row self.now }
+    {
+        let mut place = self.rows.len();
+        while place > 0 {
+            place -= 1;
+            let row = &self.rows[place];
+            if has_edit(row) {
+                return Some(row.info.start);
+            }
+        }
+        None
+    }
+
+    /// Puts a row in place of the one with its start. Its start is from 1 to 2^62, and its end at least one
+    /// less and at most 2^62. An `Err` leaves all as it was.
+    #[tactic(auto, using(crate::proofs::RowLaws::places))]
+    pub fn put(&mut self, row: SegmentRow) -> Result<(), OutOfMemory>
+        requires { IsRowWithin row }
+        ensures ok { OnOk result (self.new ≡ put_row row self.old) }
+        ensures err { OnErr result (self.new ≡ self.old) }
+    {
+        match place_in(&self.rows, row.info.start) {
+            Ok(place) => self.rows[place] = row,
+            Err(place) => self.rows.insert(place, row)?,
+        }
+        Ok(())
+    }
+
+    /// Removes the row with that start, if there is one.
+    #[tactic(auto, using(crate::proofs::RowLaws::places))]
+    pub fn remove(&mut self, start: u64)
+        ensures { self.new ≡ remove_row start self.old }
+    {
+        if let Ok(place) = place_in(&self.rows, start) {
+            let _row = self.rows.remove(place);
+        }
+    }
+}
