@@ -1,0 +1,15 @@
+pub mod Names
+pub mod Lists
+pub mod NumberLaws
+pub mod OneCall
+pub mod BeginLaws
+pub mod AppendLaws
+pub mod ClearLaws
+pub mod TwoCalls
+pub mod EndLaws
+pub mod AcceptLaws
+pub mod HoldsLaws
+pub mod OpenNumbers
+pub mod OpenQuiet
+pub mod OpenRows
+pub mod OpenHolds

@@ -1,0 +1,4 @@
+pub mod Durable
+pub mod Deeds
+pub mod Opening
+pub mod OpenSteps

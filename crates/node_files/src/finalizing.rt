@@ -1,0 +1,51 @@
+//! A segment becomes final.
+ghost use Rattle.std.specs.Prelude.{◌≡◌, ◌↔◌, ◌≤◌, ◌^◌, true, IsSome};
+ghost use Rattle.qj_disk.specs.Calls.{HasCause};
+ghost use Rattle.small_files.specs.Answers.{put_result};
+ghost use Rattle.journal_core.specs.declared.segment.Segment.{Segment};
+ghost use Rattle.journal_core.specs.declared.node_state.NodeState.{NodeState};
+ghost use Rattle.journal_core.specs.Effects.{MakeFinal, after_effect};
+ghost use Rattle.journal_core.specs.Cuts.{name_cost};
+ghost use Rattle.segment_file.specs.Names.{name_of, InProgress, Record};
+ghost use Rattle.segment_file.specs.Effects.{IsCounted};
+ghost use Rattle.segment_file.specs.Calls.{CanFinalize};
+ghost use Rattle.node_files.specs.Durable.{HoldsState};
+ghost use Rattle.node_files.specs.Deeds.{Does, IsCutAt, KeepsOthers};
+
+use crate::clearing::clear_record;
+use qj_disk::Disk;
+use segment_file::finalize;
+use small_files::Put;
+use std::alloc::Global;
+
+/// Makes the segment in progress with this start final, with this last txid, both from 1 to 2^62: one disk
+/// call renames its file, which is there, and decides. Where the segment was `accepted`, its record, which
+/// is there, no longer counts, and a second call removes it. A crash at any moment leaves files that stand
+/// for the state with the segment in progress or final, and once this answered Done only final. `DiskFault`
+/// and `OutOfMemory` leave either.
+pub fn finalize_segment<D: Disk>(
+    alloc: Global,
+    disk: &mut D,
+    start: u64,
+    end: u64,
+    accepted: bool,
+) -> Put
+    requires start { (1 ≤ start) × (start ≤ 2 ^ 62) }
+    requires end { end ≤ 2 ^ 62 }
+    requires there { D.tells disk.old → IsSome ((D.view disk.old).seen (name_of start InProgress)) }
+    requires record_ { D.tells disk.old → accepted ≡ true → IsSome ((D.view disk.old).seen (name_of start Record)) }
+
+    ensures tells { D.tells disk.old ↔ D.tells disk.new }
+    ensures effect { D.tells disk.old → (s : NodeState) (g : Segment) → HoldsState (D.view disk.old) s → CanFinalize start end s.segments g → g.accepted ≡ accepted
+        → Does s (after_effect s (MakeFinal start)) (put_result result) (D.view disk.old) (D.view disk.new) }
+    ensures others { D.tells disk.old → KeepsOthers start (D.view disk.old) (D.view disk.new) }
+    ensures counts { IsCounted (name_cost accepted).calls (D.left disk.old) (D.left disk.new) (put_result result) }
+    ensures cut { D.tells disk.old → (s : NodeState) (g : Segment) → HoldsState (D.view disk.old) s → CanFinalize start end s.segments g → g.accepted ≡ accepted
+        → IsCutAt (λ _. name_cost accepted) s (after_effect s (MakeFinal start)) (D.left disk.old) (put_result result) (D.view disk.new) }
+    ensures cause { HasCause (D.faults disk.old) (D.faults disk.new) (D.steady disk.old) (D.steady disk.new) (put_result result) }
+{
+    match finalize(alloc, disk, start, end) {
+        Put::Done => clear_record(alloc, disk, start, accepted),
+        failed => failed,
+    }
+}
