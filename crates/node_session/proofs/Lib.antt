@@ -1,0 +1,5 @@
+pub mod LineLaws
+pub mod ReaderLaws
+pub mod AnswerLaws
+pub mod SessionLaws
+pub mod EndLaws

@@ -1,0 +1,5 @@
+pub mod Answering
+pub mod Examples
+pub mod Lines
+pub mod Reader
+pub mod Session

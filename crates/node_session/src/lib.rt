@@ -1,0 +1,17 @@
+//! A session at a node: request lines come in, and each is answered with its reply line.
+#![tactic(auto)]
+
+mod answered;
+mod answering;
+mod line_reader;
+mod more;
+mod next;
+mod served;
+mod serving;
+#[cfg(test)]
+mod tests;
+mod worked;
+
+pub use served::Served;
+pub use serving::serve;
+pub use worked::{two_lines_are_all, two_lines_are_answered};
