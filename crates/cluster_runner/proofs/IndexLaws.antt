@@ -1,10 +1,10 @@
 -- An actor's index of its calls and of its marks goes along with its record.
-use Rattle.std.proofs.Common.{◌≡◌, ◌≢◌, ℕ, ◌+◌, ◌-◌, ◌<◌, ◌≤◌, ◌==◌, ◌&&◌, ◌||◌, nat_lt, List, [], ◌∷◌, ◌++◌, length, map, Bool, true, false, cond, refl, sym, ap, ◌∙◌, subst, Some, set, get_or, arith, inl, inr, append-nil}
+use Rattle.std.proofs.Common.{◌≡◌, ◌≢◌, ℕ, ◌+◌, ◌-◌, ◌<◌, ◌≤◌, ◌==◌, ◌&&◌, ◌||◌, zero, suc, nat_lt, List, [], ◌∷◌, ◌++◌, length, map, Bool, true, false, cond, refl, sym, ap, ◌∙◌, subst, Option, Some, None, set, get_or, arith, inl, inr, append-nil, slice_get}
 use Rattle.std.specs.Ordering.{nat_cmp, is_eq}
 use Rattle.std.specs.declared.cmp.Ordering.TheVariants.{Less, Equal, Greater}
 use Rattle.std.specs.BTreeSet.{BTreeSet, Updates, contains}
 use Rattle.std.proofs.lemmas.Bool.Decides.{eqb_tells, nat_tests}
-use Rattle.std.proofs.lemmas.List.{length-set, length-append, get_or-set_same, get_or-set_other, get_or_append_left}
+use Rattle.std.proofs.lemmas.List.{length-set, length-append, length-map, map-append, get_or-set_same, get_or-set_other, get_or_append_left}
 use Rattle.std.proofs.Math.Seq.{get_or-append_seam}
 use Rattle.std.proofs.Math.Arith.{lt_of_le-ne}
 use Rattle.std.proofs.lemmas.List.Folds.{list_any-append}
@@ -23,10 +23,11 @@ use Rattle.node_world.specs.declared.mark.MarkKind.{MarkKind}
 use Rattle.node_world.specs.declared.mark.MarkKind.TheVariants as kind
 use Rattle.mesh.specs.Marks.{calls_to, next_number, mark}
 use Rattle.mesh.specs.Sized.{Sized}
+use Rattle.mesh.proofs.Lists.{get_left}
 use Rattle.mesh.proofs.WriterRange.{new_sized, begun_sized, heard_sized, call_within}
 use Rattle.cluster_runner.specs.declared.calls_to.CallsTo.{CallsTo}
 use Rattle.cluster_runner.specs.Plays.{Delivery, Delivered, ReplyLost, NotDelivered, delivery, is_marked, same_kind}
-use Rattle.cluster_runner.specs.Shown.{IsIndex, AreIndexes}
+use Rattle.cluster_runner.specs.Shown.{asked_of, asked_at, IsIndex, AreIndexes}
 use Rattle.cluster_runner.proofs.KeptLists.{same_test, other_test}
 use Rattle.cluster_runner.proofs.MarkLaws.{calls_append}
 
@@ -73,6 +74,51 @@ other_mark marks k node n q a b e =
     ∙ ap (λ x. is_marked marks k q b || ((x && ((n == q) && same_kind a b)) || false)) (other_test node k e)
     ∙ join_none ((n == q) && same_kind a b) (is_marked marks k q b)
 
+-- ## Places of calls
+asked_more : (past more : List Record) (i : ℕ) (r : Request) → asked_at past i ≡ Some r → asked_at (past ++ more) i ≡ Some r
+asked_more past more i r h = by (slice_get past i) refl h
+  where
+    by : (o : Option Record) → slice_get past i ≡ o → asked_of o ≡ Some r → asked_at (past ++ more) i ≡ Some r
+    by (Some line) e g = ap asked_of (get_left past more i line e) ∙ g
+    by None e g = absurd (cc g)
+
+asked_heads : (f : ℕ → Option Request) (i : ℕ) (is : List ℕ) (r : Request) (rs : List Request) → map f (i ∷ is) ≡ map (λ r. Some r) (r ∷ rs) → (f i ≡ Some r) × (map f is ≡ map (λ r. Some r) rs)
+asked_heads f i is r rs e = (cc e, cc e)
+
+-- the places stay as the record grows
+places_more : (past more : List Record) (is : List ℕ) (rs : List Request) → map (asked_at past) is ≡ map (λ r. Some r) rs → map (asked_at (past ++ more)) is ≡ map (λ r. Some r) rs
+places_more past more [] [] e = refl
+places_more past more [] (r ∷ rs) e = absurd (cc e)
+places_more past more (i ∷ is) [] e = absurd (cc e)
+places_more past more (i ∷ is) (r ∷ rs) e =
+    let h = asked_heads (asked_at past) i is r rs e in
+    let a : asked_at (past ++ more) i ≡ Some r = asked_more past more i r h.0 in
+    let b : map (asked_at (past ++ more)) is ≡ map (λ r. Some r) rs = places_more past more is rs h.1 in
+    cc
+
+behind : (past : List Record) (x : Record) → slice_get (past ++ x ∷ []) (length past) ≡ Some x
+behind [] x = refl
+behind (y ∷ past) x = behind past x
+
+-- what the call at one place of the list asked
+abbrev asked_there : (ℕ → Option Request) → Option ℕ → Option Request
+asked_there f (Some i) = f i
+asked_there f None = None
+
+found_request : (f : ℕ → Option Request) (is : List ℕ) (rs : List Request) (n : ℕ) → map f is ≡ map (λ r. Some r) rs → slice_get rs n ≡ asked_there f (slice_get is n)
+found_request f [] [] n e = refl
+found_request f [] (r ∷ rs) n e = absurd (cc e)
+found_request f (i ∷ is) [] n e = absurd (cc e)
+found_request f (i ∷ is) (r ∷ rs) zero e = sym (asked_heads f i is r rs e).0
+found_request f (i ∷ is) (r ∷ rs) (suc n) e = found_request f is rs n (asked_heads f i is r rs e).1
+
+pub earlier_none : (node n : ℕ) (past : List Record) (marks : List Mark) (c : CallsTo) → slice_get c.places.items n ≡ None → IsIndex node past marks c → None ≡ slice_get (calls_to node past) n
+earlier_none node n past marks c e h = sym (found_request (asked_at past) c.places.items (calls_to node past) n h.requests ∙ ap (asked_there (asked_at past)) e)
+
+pub earlier_some : (node n place : ℕ) (past : List Record) (marks : List Mark) (c : CallsTo) (o : Option Request) → slice_get c.places.items n ≡ Some place → o ≡ asked_at past place → IsIndex node past marks c
+    → o ≡ slice_get (calls_to node past) n
+earlier_some node n place past marks c o e is h = is ∙ sym (found_request (asked_at past) c.places.items (calls_to node past) n h.requests ∙ ap (asked_there (asked_at past)) e)
+
 -- ## One node's calls
 pub drop_index : (node n : ℕ) (past : List Record) (marks : List Mark) (c : CallsTo) (s : BTreeSet ℕ) → Updates nat_cmp c.dropped s n true → IsIndex node past marks c
     → IsIndex node past (marks ++ mark node n kind.Dropped ∷ []) (record c { dropped = s })
@@ -108,23 +154,42 @@ one_call : (node : ℕ) (r : Request) (told : Told) → calls_to node (Call node
 unfolding calls_to
 one_call node r told = ap (λ b. cond b (r ∷ []) []) (same_test node node refl)
 
-pub push_index : (node : ℕ) (past : List Record) (marks : List Mark) (told : Told) (r : Request) (c d : CallsTo) → d.requests.items ≡ c.requests.items ++ r ∷ [] → d.dropped ≡ c.dropped → d.muted ≡ c.muted
-    → IsIndex node past marks c → IsIndex node (past ++ Call node r told ∷ []) marks d
-push_index node past marks told r c d e f g h =
+-- the requests of the calls to this node, where the record is longer by lines that are no calls to it
+longer : (k : ℕ) (past more : List Record) (is : List ℕ) → calls_to k more ≡ [] → map (asked_at past) is ≡ map (λ r. Some r) (calls_to k past)
+    → map (asked_at (past ++ more)) is ≡ map (λ r. Some r) (calls_to k (past ++ more))
+longer k past more is none h =
+    places_more past more is (calls_to k past) h
+    ∙ ap (λ rs. map (λ r. Some r) rs) (sym (calls_append k past more ∙ ap (λ xs. calls_to k past ++ xs) none ∙ append-nil (calls_to k past)))
+
+-- one more call to it
+called_places : (node : ℕ) (past : List Record) (told : Told) (r : Request) (is : List ℕ) → map (asked_at past) is ≡ map (λ r. Some r) (calls_to node past)
+    → map (asked_at (past ++ Call node r told ∷ [])) (is ++ length past ∷ []) ≡ map (λ r. Some r) (calls_to node (past ++ Call node r told ∷ []))
+called_places node past told r is h =
+    let line : List Record = Call node r told ∷ [] in
+    map-append (asked_at (past ++ line)) is (length past ∷ [])
+    ∙ ap (λ xs. xs ++ asked_at (past ++ line) (length past) ∷ []) (places_more past line is (calls_to node past) h)
+    ∙ ap (λ o. map (λ r. Some r) (calls_to node past) ++ asked_of o ∷ []) (behind past (Call node r told))
+    ∙ sym (map-append (λ r. Some r) (calls_to node past) (r ∷ []))
+    ∙ ap (λ rs. map (λ r. Some r) rs) (sym (calls_append node past line ∙ ap (λ xs. calls_to node past ++ xs) (one_call node r told)))
+
+pub push_index : (node place : ℕ) (past : List Record) (marks : List Mark) (told : Told) (r : Request) (c d : CallsTo) → d.places.items ≡ c.places.items ++ place ∷ [] → d.dropped ≡ c.dropped → d.muted ≡ c.muted
+    → place ≡ length past → IsIndex node past marks c → IsIndex node (past ++ Call node r told ∷ []) marks d
+push_index node place past marks told r c d e f g is h =
     record {
-      requests = e ∙ ap (λ xs. xs ++ r ∷ []) h.requests ∙ sym (calls_append node past (Call node r told ∷ []) ∙ ap (λ xs. calls_to node past ++ xs) (one_call node r told));
+      requests = ap (λ xs. map (asked_at (past ++ Call node r told ∷ [])) xs) (e ∙ ap (λ i. c.places.items ++ i ∷ []) is) ∙ called_places node past told r c.places.items h.requests;
       dropped = λ q. ap (λ s. contains nat_cmp s q) f ∙ h.dropped q;
       muted = λ q. ap (λ s. contains nat_cmp s q) g ∙ h.muted q;
     }
 
 -- how the next call goes
-goes : (node n : ℕ) (past : List Record) (marks : List Mark) (c : CallsTo) → n ≡ length c.requests.items + 1 → IsIndex node past marks c → n ≡ next_number node past
-goes node n past marks c e h = e ∙ ap (λ xs. length xs + 1) h.requests
+goes : (node n : ℕ) (past : List Record) (marks : List Mark) (c : CallsTo) → n ≡ length c.places.items + 1 → IsIndex node past marks c → n ≡ next_number node past
+goes node n past marks c e h =
+    e ∙ ap (λ m. m + 1) (sym (length-map c.places.items (asked_at past)) ∙ ap (λ xs. length xs) h.requests ∙ length-map (calls_to node past) (λ r. Some r))
 
 abbrev by_tests : Bool → Bool → Delivery
 by_tests a b = cond a NotDelivered (cond b ReplyLost Delivered)
 
-pub goes_by : (a b : Bool) (node n : ℕ) (past : List Record) (marks : List Mark) (c : CallsTo) → n ≡ length c.requests.items + 1 → contains nat_cmp c.dropped n ≡ a → contains nat_cmp c.muted n ≡ b
+pub goes_by : (a b : Bool) (node n : ℕ) (past : List Record) (marks : List Mark) (c : CallsTo) → n ≡ length c.places.items + 1 → contains nat_cmp c.dropped n ≡ a → contains nat_cmp c.muted n ≡ b
     → IsIndex node past marks c → by_tests a b ≡ delivery marks node (next_number node past)
 unfolding delivery
 goes_by a b node n past marks c e f g h =
@@ -133,7 +198,7 @@ goes_by a b node n past marks c e f g h =
     ∙ ap (λ m. by_tests (is_marked marks node m kind.Dropped) (is_marked marks node m kind.Muted)) (goes node n past marks c e h)
 
 -- a call that isn't delivered, whatever else is marked
-pub goes_dropped : (node n : ℕ) (past : List Record) (marks : List Mark) (c : CallsTo) → n ≡ length c.requests.items + 1 → contains nat_cmp c.dropped n ≡ true → IsIndex node past marks c
+pub goes_dropped : (node n : ℕ) (past : List Record) (marks : List Mark) (c : CallsTo) → n ≡ length c.places.items + 1 → contains nat_cmp c.dropped n ≡ true → IsIndex node past marks c
     → NotDelivered ≡ delivery marks node (next_number node past)
 goes_dropped node n past marks c e f h = goes_by true (contains nat_cmp c.muted n) node n past marks c e f refl h
 
@@ -194,24 +259,23 @@ own_at node past marks y low h =
 not_own : (j node : ℕ) → 1 ≤ node → (j ≡ node - 1 → ⊥) → node ≢ j + 1
 not_own j node low n e = n (omega (arith, low, e))
 
-other_call : (k node : ℕ) (past : List Record) (r : Request) (told : Told) → node ≢ k → calls_to k (past ++ Call node r told ∷ []) ≡ calls_to k past
+other_call : (k node : ℕ) (r : Request) (told : Told) → node ≢ k → calls_to k (Call node r told ∷ []) ≡ []
 unfolding calls_to
-other_call k node past r told n =
-    calls_append k past (Call node r told ∷ []) ∙ ap (λ b. calls_to k past ++ cond b (r ∷ []) []) (other_test node k n) ∙ append-nil (calls_to k past)
+other_call k node r told n = ap (λ b. cond b (r ∷ []) []) (other_test node k n)
 
-pub hear_indexes : (w v : WriterView) (past past2 : List Record) (marks : List Mark) (calls : List CallsTo) (node : ℕ) (r : Request) (told : Told) (heard : Heard) (turn : Turn) (x y : CallsTo)
+pub hear_indexes : (w v : WriterView) (past past2 : List Record) (marks : List Mark) (calls : List CallsTo) (node place : ℕ) (r : Request) (told : Told) (heard : Heard) (turn : Turn) (x y : CallsTo)
     → next_call w ≡ Some (node, r) → AreIndexes w past marks calls → x ≡ get_or calls (node - 1) x
-    → ((k : ℕ) (ps : List Record) (ms : List Mark) (t : Told) → IsIndex k ps ms x → IsIndex k (ps ++ Call k r t ∷ []) ms y)
+    → ((k : ℕ) (ps : List Record) (ms : List Mark) (q : Request) (t : Told) → place ≡ length ps → IsIndex k ps ms x → IsIndex k (ps ++ Call k q t ∷ []) ms y) → place ≡ length past
     → writer_heard w node heard ≡ record { writer = v; turn = turn } → past2 ≡ past ++ Call node r told ∷ [] → AreIndexes v past2 marks (set calls (node - 1) y)
-hear_indexes w v past past2 marks calls node r told heard turn x y next all is push e more =
+hear_indexes w v past past2 marks calls node place r told heard turn x y next all is push there e more =
     let s : (1 ≤ node) × (node ≤ length calls) = call_within (length calls) w node r all.sized next in
     let P : List Record → Type 0 = λ ps. AreIndexes v ps marks (set calls (node - 1) y) in
     let Q : WriterView → Type 0 = λ z. Sized (length calls) z in
     subst P (sym more)
     (set_indexes w v past (past ++ Call node r told ∷ []) marks marks calls (node - 1) y (omega (arith, s.0, s.1)) all
     (subst Q (ap (λ j. j.writer) e) (heard_sized (length calls) w node heard all.sized))
-    (own_at node (past ++ Call node r told ∷ []) marks y s.0 (push node past marks told (at_place w past marks calls node x s.0 s.1 all is)))
-    (λ j n z h. record { requests = h.requests ∙ sym (other_call (j + 1) node past r told (not_own j node s.0 n)); dropped = h.dropped; muted = h.muted }))
+    (own_at node (past ++ Call node r told ∷ []) marks y s.0 (push node past marks r told there (at_place w past marks calls node x s.0 s.1 all is)))
+    (λ j n z h. record { requests = longer (j + 1) past (Call node r told ∷ []) z.places.items (other_call (j + 1) node r told (not_own j node s.0 n)) h.requests; dropped = h.dropped; muted = h.muted }))
 
 pub mark_indexes : (w : WriterView) (past : List Record) (marks marks2 : List Mark) (calls : List CallsTo) (node n : ℕ) (a : MarkKind) (x y : CallsTo) → 1 ≤ node → node ≤ length w.left
     → AreIndexes w past marks calls → x ≡ get_or calls (node - 1) x → ((k : ℕ) (ps : List Record) (ms : List Mark) → IsIndex k ps ms x → IsIndex k ps (ms ++ mark k n a ∷ []) y)
@@ -239,8 +303,8 @@ say_indexes w past past2 marks calls texts all more =
     same_indexes w w past past2 marks marks calls all all.sized
     (λ j y h. record {
       requests =
-          h.requests
-          ∙ sym (ap (calls_to (j + 1)) more ∙ calls_append (j + 1) past (map (λ text. Outcome text) texts) ∙ ap (λ xs. calls_to (j + 1) past ++ xs) (no_results (j + 1) texts) ∙ append-nil (calls_to (j + 1) past));
+          subst (λ ps. map (asked_at ps) y.places.items ≡ map (λ r. Some r) (calls_to (j + 1) ps)) (sym more)
+          (longer (j + 1) past (map (λ text. Outcome text) texts) y.places.items (no_results (j + 1) texts) h.requests);
       dropped = h.dropped;
       muted = h.muted;
     })
@@ -268,8 +332,8 @@ copy_indexes w past past2 marks marks2 calls node n r all more most =
     same_indexes w w past past2 marks marks2 calls all all.sized
     (λ j y h. record {
       requests =
-          h.requests
-          ∙ sym (ap (calls_to (j + 1)) more ∙ calls_append (j + 1) past (Late node r ∷ []) ∙ ap (λ xs. calls_to (j + 1) past ++ xs) (no_copy (j + 1) node r) ∙ append-nil (calls_to (j + 1) past));
+          subst (λ ps. map (asked_at ps) y.places.items ≡ map (λ r. Some r) (calls_to (j + 1) ps)) (sym more)
+          (longer (j + 1) past (Late node r ∷ []) y.places.items (no_copy (j + 1) node r) h.requests);
       dropped = λ q. h.dropped q ∙ sym (ap (λ ms. is_marked ms (j + 1) q kind.Dropped) most ∙ (late_mark marks (j + 1) node n q).0);
       muted = λ q. h.muted q ∙ sym (ap (λ ms. is_marked ms (j + 1) q kind.Muted) most ∙ (late_mark marks (j + 1) node n q).1);
     })

@@ -153,7 +153,8 @@ impl Player {
             return Err(AllocError);
         }
         self.is_whole = false;
-        self.calls[node - 1].push(&request)?;
+        let place = self.past.as_slice().len();
+        self.calls[node - 1].push(place)?;
         self.past.push(Record::Call {
             node,
             request,
@@ -233,7 +234,8 @@ impl Player {
         if !self.is_whole {
             return Err(AllocError);
         }
-        self.calls[node - 1].earlier(call)
+        let request = self.calls[node - 1].earlier(self.past.as_slice(), call)?;
+        Ok(request)
     }
 
     /// Lists a copy of its `call`-th call to this node, and marks that call.

@@ -10,6 +10,9 @@ use request_text::print_cause;
 use std::alloc::Global;
 use writer_core::{Cause, Outcome, Turn};
 
+/// The room of most results.
+const ROOM: usize = 32;
+
 /// A text of one byte or more.
 fn bytes_of(alloc: Global, text: &[u8]) -> Result<Bytes, OutOfMemory>
     requires { text.now ≢ [] }
@@ -26,7 +29,7 @@ fn bytes_of(alloc: Global, text: &[u8]) -> Result<Bytes, OutOfMemory>
 fn numbered(alloc: Global, name: &[u8], number: u64) -> Result<Bytes, OutOfMemory>
     ensures { IfOk result (λ b. b ≡ word name.now number) }
 {
-    let mut text = Vec::new(alloc);
+    let mut text = Vec::with_capacity(alloc, ROOM)?;
     text.extend_from_slice(name)?;
     text.push(b' ')?;
     put_decimal(&mut text, number)?;
@@ -51,7 +54,7 @@ fn acked(alloc: Global, first: u64, count: u64) -> Result<Vec<Bytes>, OutOfMemor
     requires few { count ≤ 256 }
     ensures { IfOk result (λ texts. texts.items ≡ acked_texts first count) }
 {
-    let mut texts = Vec::new(alloc);
+    let mut texts = Vec::with_capacity(alloc, count as usize)?;
     for i in 0..count {
         texts.push(numbered(alloc, b"acked", first + i)?)?;
     }

@@ -135,7 +135,7 @@ fn is_read(from: u64, other: &Request) -> bool
 }
 
 /// Both are the same request.
-pub(crate) fn same(a: &Request, b: &Request) -> bool
+pub fn same(a: &Request, b: &Request) -> bool
     ensures { result ≡ same_request a.now b.now }
 {
     match a {

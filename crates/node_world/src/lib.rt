@@ -21,6 +21,7 @@ mod tests;
 mod world;
 
 pub use arming::Arming;
+pub use equality::same;
 pub use event::{Event, Fate};
 pub use history_line::{HistoryLine, HistoryList};
 pub use mark::{ActorPlan, Mark, MarkKind, Plan};

@@ -1,6 +1,6 @@
 -- Numbers in decimal.
 use Rattle.std.proofs.Common.{ℕ, ◌≡◌, ◌<◌, ◌≤◌, ◌+◌, ◌-◌, ◌^◌, List, [], ◌∷◌, ◌++◌, length, take, drop, replicate, refl, sym, ◌∙◌, ap, arith, append_assoc, append-nil, decimal, rules}
-use Rattle.std.proofs.lemmas.Fmt.{length-decimal-le}
+use Rattle.std.proofs.lemmas.Fmt.{length-decimal-le, decimal_digit}
 use Rattle.std.proofs.lemmas.List.{take_rest}
 use Rattle.request_text.specs.Texts.{spaced, numbers_text}
 
@@ -13,6 +13,9 @@ digits_piece n start buf size written =
     ap (λ k. take (k - start) (drop start buf)) (sym size) ∙ take_rest buf start ∙ written ∙ append-nil (decimal n)
 
 pub ruleset decimals = (decimal_short, digits_piece)
+
+pub one_digit : (out new : List ℕ) (n : ℕ) → n < 10 → new ≡ out ++ (48 + n) ∷ [] → new ≡ out ++ decimal n
+one_digit out new n l e = e ∙ ap (λ x. out ++ x) (sym (decimal_digit n l))
 
 pub numbers_one : (out space new : List ℕ) (n : ℕ) → space ≡ out ++ 32 ∷ [] → new ≡ space ++ decimal n → new ≡ out ++ numbers_text (n ∷ [])
 unfolding numbers_text

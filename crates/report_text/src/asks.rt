@@ -1,11 +1,12 @@
 // What was asked of a node, and what came of it.
-ghost use Rattle.std.specs.Prelude.{◌≡◌, ◌++◌, OnOk};
-ghost use Rattle.report_text.specs.Text.{choice_text, stop_text, late_text, ask_text, answer_text, heard_text, done_text};
+ghost use Rattle.std.specs.Prelude.{◌≡◌, ◌++◌, ◌∷◌, [], OnOk};
+ghost use Rattle.report_text.specs.Text.{arrow, choice_text, stop_text, late_text, ask_text, answer_text, heard_text, done_text};
 
 use crate::parts::{put_pair, put_spaced};
-use journal_core::{Cut, OutOfMemory};
+use crate::printed_requests::PrintedRequests;
+use journal_core::{Cut, OutOfMemory, Reply};
 use node_world::{NodeAnswer, NodeAsk, Stop, Told};
-use request_text::{print_reply, print_request};
+use request_text::print_reply;
 
 fn put_choice(out: &mut Vec<u8>, cut: Cut) -> Result<(), OutOfMemory>
     ensures { OnOk result (out.new.items ≡ out.old.items ++ choice_text cut) }
@@ -46,14 +47,17 @@ fn put_late(out: &mut Vec<u8>, late: bool) -> Result<(), OutOfMemory>
 
 /// What was asked.
 #[tactic(auto, unfolding(crate::specs::Text::ask_text))]
-pub fn put_ask(out: &mut Vec<u8>, ask: &NodeAsk) -> Result<(), OutOfMemory>
+pub(crate) fn put_ask(
+    out: &mut Vec<u8>,
+    printed: &mut PrintedRequests,
+    ask: &NodeAsk,
+) -> Result<(), OutOfMemory>
     ensures { OnOk result (out.new.items ≡ out.old.items ++ ask_text ask.now) }
 {
     match ask {
         NodeAsk::Act { late, request } => {
             put_late(out, *late)?;
-            print_request(request.get(), out)?;
-            Ok(())
+            printed.put(out, request)
         }
         NodeAsk::Kill => out.extend_from_slice(b"kill"),
         NodeAsk::Restart => out.extend_from_slice(b"restart"),
@@ -63,7 +67,7 @@ pub fn put_ask(out: &mut Vec<u8>, ask: &NodeAsk) -> Result<(), OutOfMemory>
 
 /// What the node answered.
 #[tactic(auto, unfolding(crate::specs::Text::answer_text))]
-pub fn put_answer(out: &mut Vec<u8>, answer: &NodeAnswer) -> Result<(), OutOfMemory>
+fn put_answer(out: &mut Vec<u8>, answer: &NodeAnswer) -> Result<(), OutOfMemory>
     ensures { OnOk result (out.new.items ≡ out.old.items ++ answer_text answer.now) }
 {
     match answer {
@@ -81,7 +85,7 @@ pub fn put_answer(out: &mut Vec<u8>, answer: &NodeAnswer) -> Result<(), OutOfMem
 
 /// What a caller heard.
 #[tactic(auto, unfolding(crate::specs::Text::heard_text))]
-pub fn put_heard(out: &mut Vec<u8>, told: &Told) -> Result<(), OutOfMemory>
+fn put_heard(out: &mut Vec<u8>, told: &Told) -> Result<(), OutOfMemory>
     ensures { OnOk result (out.new.items ≡ out.old.items ++ heard_text told.now) }
 {
     match told {
@@ -90,6 +94,34 @@ pub fn put_heard(out: &mut Vec<u8>, told: &Told) -> Result<(), OutOfMemory>
         Told::Muted => out.extend_from_slice(b"muted"),
         Told::Silent => out.extend_from_slice(b"silent"),
     }
+}
+
+/// What the node answered, behind an arrow, and the end of the line. Most answers are `ok`, which is added at once.
+#[tactic(auto, unfolding(crate::specs::Text::answer_text, request_text::specs::Texts::reply_text))]
+pub fn put_answer_end(out: &mut Vec<u8>, answer: &NodeAnswer) -> Result<(), OutOfMemory>
+    ensures { OnOk result (out.new.items ≡ out.old.items ++ arrow ++ answer_text answer.now ++ 10 ∷ []) }
+{
+    if let NodeAnswer::Replied(Reply::Ok) = answer {
+        return out.extend_from_slice(b" -> ok\n");
+    }
+    out.extend_from_slice(b" -> ")?;
+    put_answer(out, answer)?;
+    out.push(b'\n')?;
+    Ok(())
+}
+
+/// What a caller heard, behind an arrow, and the end of the line.
+#[tactic(auto, unfolding(crate::specs::Text::heard_text, request_text::specs::Texts::reply_text))]
+pub fn put_heard_end(out: &mut Vec<u8>, told: &Told) -> Result<(), OutOfMemory>
+    ensures { OnOk result (out.new.items ≡ out.old.items ++ arrow ++ heard_text told.now ++ 10 ∷ []) }
+{
+    if let Told::Reply(Reply::Ok) = told {
+        return out.extend_from_slice(b" -> ok\n");
+    }
+    out.extend_from_slice(b" -> ")?;
+    put_heard(out, told)?;
+    out.push(b'\n')?;
+    Ok(())
 }
 
 /// Whether what the operator did took place.

@@ -4,31 +4,37 @@ ghost use Rattle.mesh.specs.declared.end.End.{End};
 ghost use Rattle.report_text.specs.Limit.{longest_report};
 ghost use Rattle.report_text.specs.Text.{history_line_text, record_line_text, history_text, record_text};
 
-use crate::asks::{put_answer, put_ask, put_done, put_heard};
+use crate::asks::{put_answer_end, put_ask, put_done, put_heard_end};
 use crate::parts::{caller_name, put_number};
+use crate::printed_requests::PrintedRequests;
 use crate::unprinted::{Unprinted, within_limit};
 use journal_core::OutOfMemory;
 use mesh::End;
 use node_world::{HistoryLine, Record};
-use request_text::print_request;
 
 /// A line of a node's history.
 #[tactic(auto, unfolding(crate::specs::Text::history_line_text))]
-fn put_history_line(out: &mut Vec<u8>, ends: &[End], line: &HistoryLine) -> Result<(), OutOfMemory>
+fn put_history_line(
+    out: &mut Vec<u8>,
+    printed: &mut PrintedRequests,
+    ends: &[End],
+    line: &HistoryLine,
+) -> Result<(), OutOfMemory>
     ensures { OnOk result (out.new.items ≡ out.old.items ++ history_line_text ends.now line.now) }
 {
     out.extend_from_slice(caller_name(ends, line.caller))?;
     out.push(b' ')?;
-    put_ask(out, &line.ask)?;
-    out.extend_from_slice(b" -> ")?;
-    put_answer(out, &line.answer)?;
-    out.push(b'\n')?;
-    Ok(())
+    put_ask(out, printed, &line.ask)?;
+    put_answer_end(out, &line.answer)
 }
 
 /// A line of a caller's record.
 #[tactic(auto, unfolding(crate::specs::Text::record_line_text))]
-fn put_record_line(out: &mut Vec<u8>, line: &Record) -> Result<(), OutOfMemory>
+fn put_record_line(
+    out: &mut Vec<u8>,
+    printed: &mut PrintedRequests,
+    line: &Record,
+) -> Result<(), OutOfMemory>
     ensures { OnOk result (out.new.items ≡ out.old.items ++ record_line_text line.now) }
 {
     match line {
@@ -39,20 +45,19 @@ fn put_record_line(out: &mut Vec<u8>, line: &Record) -> Result<(), OutOfMemory>
         } => {
             put_number(out, *node as u64)?;
             out.push(b' ')?;
-            print_request(request.get(), out)?;
-            out.extend_from_slice(b" -> ")?;
-            put_heard(out, told)?;
+            printed.put(out, request)?;
+            return put_heard_end(out, told);
         }
         Record::Late { node, request } => {
             put_number(out, *node as u64)?;
             out.extend_from_slice(b" late ")?;
-            print_request(request.get(), out)?;
+            printed.put(out, request)?;
             out.extend_from_slice(b" -> gone")?;
         }
         Record::Operator { node, ask, done } => {
             put_number(out, *node as u64)?;
             out.push(b' ')?;
-            put_ask(out, ask)?;
+            put_ask(out, printed, ask)?;
             out.extend_from_slice(b" -> ")?;
             put_done(out, *done)?;
         }
@@ -67,12 +72,17 @@ fn put_record_line(out: &mut Vec<u8>, line: &Record) -> Result<(), OutOfMemory>
 
 /// A node's history, line by line.
 #[tactic(auto, using(crate::proofs::LimitLaws::histories))]
-pub fn put_history(out: &mut Vec<u8>, ends: &[End], lines: &[HistoryLine]) -> Result<(), Unprinted>
+pub(crate) fn put_history(
+    out: &mut Vec<u8>,
+    printed: &mut PrintedRequests,
+    ends: &[End],
+    lines: &[HistoryLine],
+) -> Result<(), Unprinted>
     ensures text { OnOk result (out.new.items ≡ out.old.items ++ history_text ends.now lines.now) }
     ensures long { result ≡ Err Unprinted.TooLong → longest_report < length (out.old.items ++ history_text ends.now lines.now) }
 {
     for line in lines {
-        put_history_line(out, ends, line)?;
+        put_history_line(out, printed, ends, line)?;
         within_limit(out)?;
     }
     Ok(())
@@ -80,12 +90,16 @@ pub fn put_history(out: &mut Vec<u8>, ends: &[End], lines: &[HistoryLine]) -> Re
 
 /// A caller's record, line by line.
 #[tactic(auto, using(crate::proofs::LimitLaws::records))]
-pub fn put_record(out: &mut Vec<u8>, lines: &[Record]) -> Result<(), Unprinted>
+pub(crate) fn put_record(
+    out: &mut Vec<u8>,
+    printed: &mut PrintedRequests,
+    lines: &[Record],
+) -> Result<(), Unprinted>
     ensures text { OnOk result (out.new.items ≡ out.old.items ++ record_text lines.now) }
     ensures long { result ≡ Err Unprinted.TooLong → longest_report < length (out.old.items ++ record_text lines.now) }
 {
     for line in lines {
-        put_record_line(out, line)?;
+        put_record_line(out, printed, line)?;
         within_limit(out)?;
     }
     Ok(())

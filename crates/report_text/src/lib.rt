@@ -6,8 +6,9 @@ mod asks;
 mod entries;
 mod examples;
 mod parts;
+mod printed;
+mod printed_requests;
 mod report;
-mod size;
 #[cfg(test)]
 mod tests;
 mod unprinted;

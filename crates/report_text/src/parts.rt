@@ -8,14 +8,26 @@ use itoa::write_digits;
 use journal_core::OutOfMemory;
 use mesh::End;
 
-/// A number in decimal.
+/// A number of several digits in decimal.
 #[tactic(auto, using(crate::proofs::PartLaws::decimals))]
-pub fn put_number(out: &mut Vec<u8>, number: u64) -> Result<(), OutOfMemory>
+fn put_digits(out: &mut Vec<u8>, number: u64) -> Result<(), OutOfMemory>
     ensures { OnOk result (out.new.items ≡ out.old.items ++ decimal number) }
 {
     let mut digits = [b' '; 20];
     let start = write_digits(number, &mut digits, 20);
     out.extend_from_slice(&digits[start..])
+}
+
+/// A number in decimal; a single digit, as most numbers of nodes are, at once.
+#[tactic(auto, using(crate::proofs::PartLaws::one_digit))]
+pub fn put_number(out: &mut Vec<u8>, number: u64) -> Result<(), OutOfMemory>
+    ensures { OnOk result (out.new.items ≡ out.old.items ++ decimal number) }
+{
+    if number < 10 {
+        out.push(b'0' + number as u8)?;
+        return Ok(());
+    }
+    put_digits(out, number)
 }
 
 /// A number behind a space.

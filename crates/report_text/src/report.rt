@@ -7,7 +7,7 @@ ghost use Rattle.report_text.specs.Text.{node_text, nodes_text, actor_text, acto
 use crate::answer::Report;
 use crate::entries::{put_history, put_record};
 use crate::parts::put_spaced;
-use crate::size::text_size;
+use crate::printed_requests::PrintedRequests;
 use crate::unprinted::{Unprinted, within_limit};
 use journal_core::OutOfMemory;
 use mesh::{End, EndList, Mesh};
@@ -18,6 +18,7 @@ use std::alloc::{AllocError, Global};
 #[tactic(auto, unfolding(crate::specs::Text::node_text))]
 fn put_node(
     out: &mut Vec<u8>,
+    printed: &mut PrintedRequests,
     ends: &[End],
     node: u64,
     lines: &[HistoryLine],
@@ -28,38 +29,52 @@ fn put_node(
     out.extend_from_slice(b"node")?;
     put_spaced(out, node)?;
     out.push(b'\n')?;
-    put_history(out, ends, lines)?;
+    put_history(out, printed, ends, lines)?;
     Ok(())
 }
 
 /// The nodes in order, from number 1 on.
 #[tactic(auto, using(crate::proofs::NodeLaws::node_steps))]
-fn put_nodes(out: &mut Vec<u8>, ends: &[End], histories: &[HistoryList]) -> Result<(), Unprinted>
+fn put_nodes(
+    out: &mut Vec<u8>,
+    printed: &mut PrintedRequests,
+    ends: &[End],
+    histories: &[HistoryList],
+) -> Result<(), Unprinted>
     ensures text { OnOk result (out.new.items ≡ out.old.items ++ nodes_text ends.now 1 histories.now) }
     ensures long { result ≡ Err Unprinted.TooLong → longest_report < length (out.old.items ++ nodes_text ends.now 1 histories.now) }
 {
     for (index, history) in histories.iter().enumerate() {
-        put_node(out, ends, index as u64 + 1, history.as_slice())?;
+        put_node(out, printed, ends, index as u64 + 1, history.as_slice())?;
     }
     Ok(())
 }
 
 /// A caller's name, and its record.
 #[tactic(auto, unfolding(crate::specs::Text::actor_text))]
-fn put_actor(out: &mut Vec<u8>, name: &[u8], lines: &[Record]) -> Result<(), Unprinted>
+fn put_actor(
+    out: &mut Vec<u8>,
+    printed: &mut PrintedRequests,
+    name: &[u8],
+    lines: &[Record],
+) -> Result<(), Unprinted>
     ensures text { OnOk result (out.new.items ≡ out.old.items ++ actor_text name.now lines.now) }
     ensures long { result ≡ Err Unprinted.TooLong → longest_report < length (out.old.items ++ actor_text name.now lines.now) }
 {
     out.extend_from_slice(b"actor ")?;
     out.extend_from_slice(name)?;
     out.push(b'\n')?;
-    put_record(out, lines)?;
+    put_record(out, printed, lines)?;
     Ok(())
 }
 
 /// The operator's record, where it isn't empty.
 #[tactic(auto, unfolding(crate::specs::Text::operator_text))]
-fn put_operator(out: &mut Vec<u8>, records: &[RecordList]) -> Result<(), Unprinted>
+fn put_operator(
+    out: &mut Vec<u8>,
+    printed: &mut PrintedRequests,
+    records: &[RecordList],
+) -> Result<(), Unprinted>
     ensures text { OnOk result (out.new.items ≡ out.old.items ++ operator_text records.now) }
     ensures long { result ≡ Err Unprinted.TooLong → longest_report < length (out.old.items ++ operator_text records.now) }
 {
@@ -70,12 +85,17 @@ fn put_operator(out: &mut Vec<u8>, records: &[RecordList]) -> Result<(), Unprint
     if lines.is_empty() {
         return Ok(());
     }
-    put_actor(out, b"ops", lines)
+    put_actor(out, printed, b"ops", lines)
 }
 
 /// The actors in order of declaration, and then the operator.
 #[tactic(auto, using(crate::proofs::NodeLaws::actor_steps))]
-fn put_actors(out: &mut Vec<u8>, ends: &[End], records: &[RecordList]) -> Result<(), Unprinted>
+fn put_actors(
+    out: &mut Vec<u8>,
+    printed: &mut PrintedRequests,
+    ends: &[End],
+    records: &[RecordList],
+) -> Result<(), Unprinted>
     ensures text { OnOk result (out.new.items ≡ out.old.items ++ actors_text ends.now records.now) }
     ensures long { result ≡ Err Unprinted.TooLong → longest_report < length (out.old.items ++ actors_text ends.now records.now) }
 {
@@ -84,16 +104,21 @@ fn put_actors(out: &mut Vec<u8>, ends: &[End], records: &[RecordList]) -> Result
         let Some((record, others)) = rest.split_first() else {
             return Ok(());
         };
-        put_actor(out, end.name.as_slice(), record.as_slice())?;
+        put_actor(out, printed, end.name.as_slice(), record.as_slice())?;
         rest = others;
     }
-    put_operator(out, rest)?;
+    put_operator(out, printed, rest)?;
     Ok(())
 }
 
 /// All of a report.
 #[tactic(auto, using(crate::proofs::LimitLaws::wholes), unfolding(crate::specs::Text::text_of))]
-fn put_report(out: &mut Vec<u8>, mesh: &Mesh, ends: &[End]) -> Result<(), Unprinted>
+fn put_report(
+    out: &mut Vec<u8>,
+    printed: &mut PrintedRequests,
+    mesh: &Mesh,
+    ends: &[End],
+) -> Result<(), Unprinted>
     ensures text { OnOk result (out.new.items ≡ out.old.items ++ text_of mesh.now ends.now) }
     ensures within { OnOk result (length out.new.items ≤ longest_report) }
     ensures long { result ≡ Err Unprinted.TooLong → longest_report < length (out.old.items ++ text_of mesh.now ends.now) }
@@ -101,10 +126,19 @@ fn put_report(out: &mut Vec<u8>, mesh: &Mesh, ends: &[End]) -> Result<(), Unprin
     out.extend_from_slice(b"nodes")?;
     put_spaced(out, mesh.nodes as u64)?;
     out.push(b'\n')?;
-    put_nodes(out, ends, mesh.histories.as_slice())?;
-    put_actors(out, ends, mesh.records.as_slice())?;
+    put_nodes(out, printed, ends, mesh.histories.as_slice())?;
+    put_actors(out, printed, ends, mesh.records.as_slice())?;
     out.extend_from_slice(b"end\n")?;
     within_limit(out)
+}
+
+/// How many lines the longest history has.
+fn longest_history(histories: &[HistoryList]) -> usize {
+    let mut longest = 0;
+    for history in histories {
+        longest = history.as_slice().len().max(longest);
+    }
+    longest
 }
 
 /// The report of what a play leaves: each node's history, and each actor's record and then the
@@ -114,8 +148,9 @@ pub fn report_of(alloc: Global, mesh: &Mesh, ends: &EndList) -> Result<Report, O
     ensures { IfOk result (λ report. Reports report (text_of mesh.now ends.now)) }
 {
     let ends = ends.as_slice();
-    let mut out = Vec::with_capacity(alloc, text_size(mesh))?;
-    match put_report(&mut out, mesh, ends) {
+    let mut out = Vec::new(alloc);
+    let mut printed = PrintedRequests::new(alloc, longest_history(mesh.histories.as_slice()))?;
+    match put_report(&mut out, &mut printed, mesh, ends) {
         Ok(()) => Ok(Report::Text(out)),
         Err(Unprinted::TooLong) => Ok(Report::TooLong),
         Err(Unprinted::OutOfMemory) => Err(AllocError),
