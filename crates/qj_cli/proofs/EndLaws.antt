@@ -1,5 +1,5 @@
 -- How the program ends, case by case.
-use Rattle.std.proofs.Common.{◌≡◌, ℕ, ◌<◌, ◌≤◌, ◌++◌, ◌∷◌, List, [], Option, Some, None, true, false, refl, sym, ap, ◌∙◌, subst, arith, inl, inr, ◌⊎◌, length, is_some, nat_lt}
+use Rattle.std.proofs.Common.{◌≡◌, ℕ, ◌<◌, ◌≤◌, ◌++◌, List, [], Option, Some, None, true, false, refl, sym, ap, subst, arith, inl, inr, length, is_some, nat_lt}
 use Rattle.std.specs.Prelude.{◌≢◌, codes, decimal, IfSome}
 use Rattle.std.specs.Io.KnownBytes.{Appends}
 use Rattle.qj_outside.specs.Faults.{Rose}
@@ -8,8 +8,7 @@ use Rattle.script_text.specs.Rules.{fault_of}
 use Rattle.qj_cli.specs.declared.status.Status.{Status}
 use Rattle.qj_cli.specs.declared.status.Status.TheVariants as status
 use Rattle.qj_cli.specs.Usage.{usage_of}
-use Rattle.qj_cli.specs.Report.{IsPrinted, HasLongReport}
-use Rattle.qj_cli.specs.Due.{due, due_by_rules, error_line, failed, IsDueOf, IsPlayedTo, IsDue, IsText, IsReadOut, IsOutcome, AreTold, Says, Ended, Ends, Writes, CameOf}
+use Rattle.qj_cli.specs.Due.{due, due_by_rules, error_line, failed, IsDueOf, IsDue, IsText, IsReadOut, IsOutcome, AreTold, Says, Ended, Ends, CameOf}
 
 -- ## What is due
 no_fewer : (m n : ℕ) → n ≤ m → nat_lt m n ≡ false
@@ -78,6 +77,7 @@ played words told left bytes f g status.BadScript text all l same u h = record {
   unwritten = λ e. cc e;
 }
 played words told left bytes f g status.Usage text all l same u h = absurd h
+played words told left bytes f g status.BadBytes text all l same u h = absurd h
 played words told left bytes f g status.Limit text all l same u h = record {
   due = λ a b. is_due words told left bytes None status.Limit all u l h.0 (inr (refl, h.1.1));
   text_is = (bytes, are_told told left bytes all, inr h.1);
@@ -90,6 +90,7 @@ played words told left bytes f g status.Limit text all l same u h = record {
 }
 played words told left bytes f g status.ReadFault text all l same u h = absurd h
 played words told left bytes f g status.WriteFault text all l same u h = absurd h
+played words told left bytes f g status.DiskFault text all l same u h = absurd h
 played words told left bytes f g status.OutOfMemory text all l same u h = absurd h
 
 limit_due : (words : List (List ℕ)) (told : Option (List ℕ)) → usage_of words ≡ None → IfSome told (λ bytes. 1048576 < length bytes) → IsDue words told status.Limit
@@ -208,9 +209,11 @@ not_written : (words : List (List ℕ)) (told left : Option (List ℕ)) (f g : �
 not_written words told left f g status.Ok text before now v w h front rose = report_lost words told left f g text before now v w h front rose
 not_written words told left f g status.Usage text before now v w h front rose = line_lost words told left f g status.Usage text before now v w (λ e. cc e) h front rose
 not_written words told left f g status.BadScript text before now v w h front rose = line_lost words told left f g status.BadScript text before now v w (λ e. cc e) h front rose
+not_written words told left f g status.BadBytes text before now v w h front rose = line_lost words told left f g status.BadBytes text before now v w (λ e. cc e) h front rose
 not_written words told left f g status.Limit text before now v w h front rose = line_lost words told left f g status.Limit text before now v w (λ e. cc e) h front rose
 not_written words told left f g status.ReadFault text before now v w h front rose = line_lost words told left f g status.ReadFault text before now v w (λ e. cc e) h front rose
 not_written words told left f g status.WriteFault text before now v w h front rose = line_lost words told left f g status.WriteFault text before now v w (λ e. cc e) h front rose
+not_written words told left f g status.DiskFault text before now v w h front rose = line_lost words told left f g status.DiskFault text before now v w (λ e. cc e) h front rose
 not_written words told left f g status.OutOfMemory text before now v w h front rose = line_lost words told left f g status.OutOfMemory text before now v w (λ e. cc e) h front rose
 
 pub ends : (words : List (List ℕ)) (told left : Option (List ℕ)) (f g : ℕ) (s r : Status) (text : List ℕ) (before now : Option (List ℕ)) (v w : ℕ)

@@ -18,7 +18,7 @@ use Rattle.report_text.specs.Limit.{longest_report, Reports}
 use Rattle.script_text.specs.Laws.{TextIsOfOneScript}
 use Rattle.cluster_runner.specs.Plays.{Play, Plays}
 use Rattle.cluster_runner.specs.Laws.{OnePlay}
-use Rattle.qj_cli.specs.Report.{IsReport, IsPrinted, HasLongReport, IsReportOf, ScriptsHaveOneReport}
+use Rattle.qj_cli.specs.Report.{IsReport, IsReportOf, ScriptsHaveOneReport}
 
 pub reported : (bytes text : List ℕ) (s : ScriptView) (m : Mesh) (ends : List End) → IsScriptText bytes s → IsPlayable s
     → IsPlayed s.nodes (lines_of s) m ends → text ≡ text_of m ends → PlaysAgree → PlaysFollow → PlaysAreRuns → EveryRunIsSafe → IsReport bytes text

@@ -1,5 +1,5 @@
 -- A script of the grammar can be played.
-use Rattle.std.proofs.Common.{◌≡◌, ℕ, ◌+◌, ◌<◌, ◌≤◌, List, [], ◌∷◌, ◌++◌, length, map, subst, arith}
+use Rattle.std.proofs.Common.{◌≡◌, ◌+◌, ◌≤◌, List, [], ◌∷◌, ◌++◌, length, map, subst, arith}
 use Rattle.std.proofs.lemmas.List.{length-append}
 use Rattle.node_world.specs.declared.stop.Stop.TheVariants as stop
 use Rattle.script_text.specs.declared.script_line.ScriptLine.{ScriptLine}

@@ -53,6 +53,7 @@ Says words bytes status.Limit text =
 Says words bytes status.ReadFault text = text ≡ error_line (codes "ReadFault")
 Says words bytes status.OutOfMemory text = text ≡ error_line (codes "OutOfMemory")
 Says words bytes status.WriteFault text = IsPrinted bytes text
+Says words bytes _ text = ⊥
 
 -- the bytes are those that the source told, where it told any
 abbrev pub AreTold : Option (List ℕ) → List ℕ → Type 0
@@ -124,9 +125,11 @@ abbrev pub failed : Status → Status
 failed status.Ok = status.WriteFault
 failed status.Usage = status.Usage
 failed status.BadScript = status.BadScript
+failed status.BadBytes = status.BadBytes
 failed status.Limit = status.Limit
 failed status.ReadFault = status.ReadFault
 failed status.WriteFault = status.WriteFault
+failed status.DiskFault = status.DiskFault
 failed status.OutOfMemory = status.OutOfMemory
 
 -- what came of writing

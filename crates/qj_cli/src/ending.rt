@@ -6,6 +6,7 @@ ghost use Rattle.qj_cli.specs.Due.{IsOutcome, IsPlayedTo, Ended, error_line};
 ghost use Rattle.qj_cli.specs.Report.{IsReportOf};
 
 use crate::laws::scripts_are_playable;
+use crate::outcome::{Outcome, fault_line};
 use crate::status::Status;
 use crate::usage::usage_fault;
 use cluster_runner::{a_play_agrees, a_play_follows, a_play_is_a_run, play};
@@ -19,13 +20,6 @@ use std::alloc::{AllocError, Global};
 
 /// The most bytes of a script.
 const LONGEST_SCRIPT: usize = 1_048_576;
-
-/// How the program is to end, and the whole text that it is to write.
-#[derive(Drop)]
-pub struct Outcome {
-    pub status: Status,
-    pub text: Vec<u8>,
-}
 
 fn usage_line(alloc: Global, place: u64) -> Result<Vec<u8>, OutOfMemory>
     ensures { IfOk result (λ text. text.items ≡ error_line (codes "Usage " ++ decimal place)) }
@@ -45,16 +39,6 @@ fn script_line(alloc: Global, line: u64, rule: u64) -> Result<Vec<u8>, OutOfMemo
     put_decimal(&mut text, rule)?;
     text.push(b'\n')?;
     Ok(text)
-}
-
-/// A fault line without numbers.
-fn fault_line(alloc: Global, status: Status, line: &[u8]) -> Result<Outcome, OutOfMemory>
-    ensures { IfOk result (λ e. (e.status ≡ status) × (e.text.items ≡ line.now)) }
-{
-    Ok(Outcome {
-        status,
-        text: line.to_vec(alloc)?,
-    })
 }
 
 /// The report of a script.

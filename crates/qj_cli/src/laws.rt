@@ -1,6 +1,8 @@
-// What holds of every script.
+// What holds of every script, of all words and of every file.
 ghost use Rattle.qj_cli.specs.Scripts.{ScriptsArePlayable, ScriptNumbersFit};
 ghost use Rattle.qj_cli.specs.Report.{ScriptsHaveOneReport};
+ghost use Rattle.qj_cli.specs.Words.{UsageIsOfFirstWrongWord};
+ghost use Rattle.qj_cli.specs.Listing.{FilesHaveOneListing};
 
 use cluster_runner::one_script_has_one_play;
 use script_text::text_is_of_one_script;
@@ -19,3 +21,13 @@ pub fn scripts_have_one_report()
     text_is_of_one_script();
     one_script_has_one_play();
 }
+
+/// The place that is told of wrong words is the first at which they stop being those that a command begins with.
+pub fn usage_is_of_first_wrong_word()
+    ensures { UsageIsOfFirstWrongWord }
+{}
+
+/// What is written of a file is one text for each status.
+pub fn files_have_one_listing()
+    ensures { FilesHaveOneListing }
+{}

@@ -1,8 +1,10 @@
-// The program over memory: reports, bad scripts, bad words, and ends that fail.
+// The program over memory: reports, bad scripts, listings, bad words, and ends that fail.
 mod bad;
 mod known;
+mod listings;
 
 use crate::{Status, qjm};
+use qj_disk::{Disk, MemDisk};
 use qj_outside::{MemSink, MemSource};
 use std::alloc::{AllocError, Global};
 use std::test::Fail;
@@ -20,9 +22,10 @@ struct Done {
     taken: Vec<u8>,
 }
 
-/// Runs it with these words over these bytes, where these calls of the source and of the sink fail.
-fn run(
+/// Runs it with these words over this disk and these bytes, where these calls of the source and of the sink fail.
+fn run_over<D: Disk>(
     alloc: Global,
+    disk: &mut D,
     words: &[&str],
     script: &[u8],
     lost_reads: &[u64],
@@ -34,11 +37,23 @@ fn run(
     }
     let mut source = MemSource::new(script.to_vec(alloc)?, lost_reads.to_vec(alloc)?);
     let mut sink = MemSink::new(alloc, 1_000_000, lost_writes.to_vec(alloc)?)?;
-    let status = qjm(alloc, &strings, &mut source, &mut sink);
+    let status = qjm(alloc, &strings, &mut source, &mut sink, disk);
     Ok(Done {
         status,
         taken: sink.bytes().to_vec(alloc)?,
     })
+}
+
+/// The same over an empty disk.
+fn run(
+    alloc: Global,
+    words: &[&str],
+    script: &[u8],
+    lost_reads: &[u64],
+    lost_writes: &[u64],
+) -> Result<Done, AllocError> {
+    let mut disk = MemDisk::new(alloc);
+    run_over(alloc, &mut disk, words, script, lost_reads, lost_writes)
 }
 
 /// Plays a script whose ends never fail.
@@ -69,10 +84,16 @@ fn scripts_without_a_writer_are_played(rt: HostRuntime) -> Result<(), Fail> {
 
 #[test]
 fn bad_words_are_told(rt: HostRuntime) -> Result<(), Fail> {
-    let cases: [(&[&str], &[u8]); 3] = [
+    let cases: [(&[&str], &[u8]); 9] = [
         (&[], b"error Usage 0\n"),
         (&["view"], b"error Usage 0\n"),
         (&["play", "twice"], b"error Usage 1\n"),
+        (&["oev"], b"error Usage 1\n"),
+        (&["oev", "x"], b"error Usage 1\n"),
+        (&["oev", "x", "a"], b"error Usage 1\n"),
+        (&["oev", "list"], b"error Usage 2\n"),
+        (&["oev", "list", "a", "b"], b"error Usage 3\n"),
+        (&["oev", "stats", "", "b", "c"], b"error Usage 3\n"),
     ];
     for (words, line) in cases.iter() {
         let done = run(rt.alloc(), words, FIRST, &[], &[])?;

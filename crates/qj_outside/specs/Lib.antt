@@ -1,5 +1,6 @@
 pub mod Examples
 pub mod Faults
+pub mod Folder
 pub mod Memory
 pub mod Outcome
 pub mod Plan

@@ -1,9 +1,11 @@
-//! What a program reads from and writes to. Each source and sink counts its faults.
+//! What a program reads from and writes to. Each source, sink and folder counts its faults.
 #![tactic(auto)]
 
 mod ends;
 mod examples;
 mod fault_plan;
+mod folder;
+mod folder_disk;
 mod mem_sink;
 mod mem_source;
 mod no_fault;
@@ -15,6 +17,7 @@ mod writing;
 
 pub use ends::{Failed, Sink, Source};
 pub use examples::{calls_fail_where_listed, counts_stand_still, full_sinks_fail};
+pub use folder_disk::FolderDisk;
 pub use mem_sink::MemSink;
 pub use mem_source::MemSource;
 pub use no_fault::{NoFaultSink, NoFaultSource};

@@ -1,5 +1,6 @@
 // Sources and sinks in memory with and without faults, the two loops over them, and the standard ends used once.
 mod broken;
+mod folder;
 mod recorder;
 
 use crate::{

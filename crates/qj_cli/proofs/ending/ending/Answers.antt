@@ -1,4 +1,4 @@
-use Rattle.std.proofs.Common.{◌≡◌, sym, ◌∙◌}
+use Rattle.std.proofs.Common.{sym, ◌∙◌}
 use Rattle.qj_cli.proofs.EndLaws.{unusual}
 use Rattle.qj_cli.proofs.ending.ending.Goals as goal
 

@@ -1,4 +1,4 @@
-use Rattle.std.proofs.Common.{◌≡◌, refl}
+use Rattle.std.proofs.Common.{refl}
 use Rattle.qj_cli.proofs.EndLaws.{played, too_long, unread}
 use Rattle.qj_cli.proofs.ending.ending_of_source.Goals as goal
 

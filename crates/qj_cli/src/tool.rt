@@ -1,0 +1,26 @@
+// The listings of a segment's file.
+ghost use Rattle.std.specs.Prelude.{◌≡◌, MatchOption};
+ghost use Rattle.qj_cli.specs.declared.tool.Tool.{Tool};
+ghost use Rattle.qj_cli.specs.Usage.{word_of};
+
+/// What is told of a segment's file.
+#[derive(Clone, Copy, Debug, PartialEq, Eq)]
+pub enum Tool {
+    /// A line for each edit.
+    List,
+    /// How many edits there are of each kind.
+    Stats,
+}
+
+/// The tool that has this word.
+pub fn tool_of(word: &str) -> Option<Tool>
+    ensures { MatchOption result ((of : Tool) → word.now ≡ word_of of → ⊥) (λ of. word.now ≡ word_of of) }
+{
+    if word == "list" {
+        Some(Tool::List)
+    } else if word == "stats" {
+        Some(Tool::Stats)
+    } else {
+        None
+    }
+}

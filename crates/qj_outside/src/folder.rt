@@ -1,0 +1,203 @@
+// A folder of the system, and the calls that are made of it.
+ghost use Rattle.std.specs.Prelude.{◌≤◌, length, IfOk};
+
+use std::alloc::AllocError;
+use std::fs::{File, Files, OpenFile, OpenOptions};
+use std::io::{ErrorKind, Read, Seek, SeekFrom, Write};
+use std::path::{Path, PathBuf};
+use std::{fs, io};
+
+/// The one subfolder that names reach into.
+const SUBFOLDER: &str = "paxos";
+
+/// What the names of its files begin with.
+const IN_SUBFOLDER: &str = "paxos/";
+
+/// A folder of the system. Its files are opened anew for each call.
+#[derive(Drop)]
+pub struct Folder<R: Files + Drop> {
+    rt: R,
+    path: String,
+}
+
+/// There is no file of such a name.
+fn is_absence(error: &io::Error) -> bool {
+    matches!(
+        error.kind(),
+        ErrorKind::NotFound | ErrorKind::NotADirectory | ErrorKind::InvalidFilename
+    )
+}
+
+/// The name is that of a file in the subfolder.
+fn is_below(name: &str) -> bool {
+    name.starts_with(IN_SUBFOLDER)
+}
+
+/// Reads until `into` is full or the file ends, and answers how many bytes.
+fn fill<F: Read>(file: &mut F, into: &mut [u8]) -> io::Result<usize>
+    ensures { IfOk result (λ n. n ≤ length into.new) }
+{
+    let mut at = 0;
+    while at < into.len() {
+        let (_, rest) = into.split_at_mut(at);
+        let count = file.read(rest)?;
+        if count == 0 {
+            return Ok(at);
+        }
+        at += count;
+    }
+    Ok(at)
+}
+
+impl<R: Files + AllocGlobal + Clone + Drop> Folder<R> {
+    pub fn new(rt: R, path: &str) -> Result<Folder<R>, AllocError> {
+        let path = String::from_str(rt.alloc(), path)?;
+        Ok(Folder { rt, path })
+    }
+
+    fn path_of(&self, name: &str) -> Result<PathBuf, AllocError> {
+        Path::new(self.path.as_str()).join(self.rt.alloc(), name)
+    }
+
+    /// The file's length; `None` where no file has that name.
+    pub fn length(&self, name: &str) -> io::Result<Option<u64>> {
+        let path = self.path_of(name)?;
+        match fs::metadata(&self.rt, path.as_path()) {
+            Ok(found) if found.is_file() => Ok(Some(found.len())),
+            Ok(_) => Ok(None),
+            Err(error) if is_absence(&error) => Ok(None),
+            Err(error) => Err(error),
+        }
+    }
+
+    /// There is a file of that name.
+    fn expect_file(&self, name: &str) -> io::Result<()> {
+        match self.length(name)? {
+            Some(_) => Ok(()),
+            None => Err(io::Error::from(ErrorKind::NotFound)),
+        }
+    }
+
+    /// The file has as many bytes; an absent one has none.
+    fn expect_length(&self, name: &str, least: u64) -> io::Result<()> {
+        match self.length(name)? {
+            Some(length) if least <= length => Ok(()),
+            None if least == 0 => Ok(()),
+            _ => Err(io::Error::from(ErrorKind::InvalidInput)),
+        }
+    }
+
+    pub fn read(&self, name: &str, at: u64, into: &mut [u8]) -> io::Result<usize>
+        ensures { IfOk result (λ n. n ≤ length into.new) }
+    {
+        if self.length(name)?.is_none() {
+            return Ok(0);
+        }
+        let path = self.path_of(name)?;
+        let mut file = File::open(&self.rt, path.as_path())?;
+        file.seek(SeekFrom::Start(at))?;
+        fill(&mut file, into)
+    }
+
+    pub fn write_at(&self, name: &str, at: u64, bytes: &[u8]) -> io::Result<()> {
+        self.expect_length(name, at)?;
+        self.make_subfolder(name)?;
+        let path = self.path_of(name)?;
+        let mut file = OpenOptions::new()
+            .write(true)
+            .create(true)
+            .open(&self.rt, path.as_path())?;
+        file.seek(SeekFrom::Start(at))?;
+        file.write_all(bytes)
+    }
+
+    pub fn cut(&self, name: &str, to: u64) -> io::Result<()> {
+        self.expect_length(name, to)?;
+        let path = self.path_of(name)?;
+        let file = OpenOptions::new()
+            .write(true)
+            .open(&self.rt, path.as_path())?;
+        file.set_len(to)
+    }
+
+    /// Syncs the file, and the folder that names it.
+    pub fn sync(&self, name: &str) -> io::Result<()> {
+        self.expect_file(name)?;
+        self.sync_path(name)?;
+        self.sync_folders(is_below(name))
+    }
+
+    pub fn rename(&self, from: &str, to: &str) -> io::Result<()> {
+        self.expect_file(from)?;
+        self.make_subfolder(to)?;
+        let (old, new) = (self.path_of(from)?, self.path_of(to)?);
+        fs::rename(&self.rt, old.as_path(), new.as_path())?;
+        self.sync_folders(is_below(from) || is_below(to))
+    }
+
+    pub fn remove(&self, name: &str) -> io::Result<()> {
+        let path = self.path_of(name)?;
+        fs::remove_file(&self.rt, path.as_path())?;
+        self.sync_folders(is_below(name))
+    }
+
+    /// The names of all files, in byte order.
+    pub fn list(&self) -> io::Result<Vec<String>> {
+        let mut names = Vec::new(self.rt.alloc());
+        self.list_folder("", "", &mut names)?;
+        if fs::exists(&self.rt, self.path_of(SUBFOLDER)?.as_path())? {
+            self.list_folder(SUBFOLDER, IN_SUBFOLDER, &mut names)?;
+        }
+        names.sort()?;
+        Ok(names)
+    }
+
+    /// Appends the names of the files in a folder, each behind `front`.
+    fn list_folder(&self, folder: &str, front: &str, names: &mut Vec<String>) -> io::Result<()> {
+        let path = self.path_of(folder)?;
+        for entry in fs::read_dir(&self.rt, path.as_path())? {
+            match entry {
+                Ok(entry) => self.list_file(front, entry.file_name(), names)?,
+                Err(error) if error.kind() == ErrorKind::InvalidFilename => {}
+                Err(error) => return Err(error),
+            }
+        }
+        Ok(())
+    }
+
+    /// Appends a name where it is that of a file.
+    fn list_file(&self, front: &str, name: &str, names: &mut Vec<String>) -> io::Result<()> {
+        let mut whole = String::from_str(self.rt.alloc(), front)?;
+        whole.push_str(name)?;
+        if self.length(whole.as_str())?.is_some() {
+            names.push(whole)?;
+        }
+        Ok(())
+    }
+
+    /// Makes the subfolder, where the name lies in it.
+    fn make_subfolder(&self, name: &str) -> io::Result<()> {
+        if !is_below(name) {
+            return Ok(());
+        }
+        let path = self.path_of(SUBFOLDER)?;
+        match fs::create_dir(&self.rt, path.as_path()) {
+            Err(error) if error.kind() == ErrorKind::AlreadyExists => Ok(()),
+            made => made,
+        }
+    }
+
+    /// Syncs the folder, and the subfolder where it is meant too.
+    fn sync_folders(&self, below: bool) -> io::Result<()> {
+        if below {
+            self.sync_path(SUBFOLDER)?;
+        }
+        self.sync_path("")
+    }
+
+    fn sync_path(&self, name: &str) -> io::Result<()> {
+        let path = self.path_of(name)?;
+        let file = File::open(&self.rt, path.as_path())?;
+        file.sync_all()
+    }
+}

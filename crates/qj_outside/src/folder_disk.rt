@@ -1,0 +1,121 @@
+// A disk over a folder of the system.
+ghost use Rattle.std.specs.Prelude.{◌≡◌, None, IfOk, Ok};
+ghost use Rattle.qj_disk.specs.Calls.{HasCause, Rose};
+
+use crate::OutOfMemory;
+use crate::folder::Folder;
+use qj_disk::{Disk, DiskFail};
+use std::fs::Files;
+use std::io;
+use std::io::ErrorKind;
+use std::marker::Model;
+
+/// The files of a folder and of its subfolder `paxos`, as `paxos/NAME`. The subfolder is made where a name in it is
+/// written or renamed to. It tells nothing of what the files hold, since other programs may change them: contracts see its
+/// counts of faults and of reads alone.
+///
+/// A name under which no file stands, be it nothing, a folder or too long for a file, is absent: it has no length and no
+/// bytes. A name that begins with `/` is one of the whole system. Names that aren't UTF-8 are left out. A file is opened
+/// anew for each call, and none is locked. A sync syncs the file and the folders that name it; a rename or a removal syncs
+/// those folders, and answers Failed where it can't: then it has happened, and a crash may undo it. What a device loses
+/// although it told that it had stored it, isn't seen.
+#[derive(Drop)]
+pub struct FolderDisk<R: Files + Drop> {
+    folder: Folder<R>,
+    faults: u64,
+    reads: u64,
+}
+
+impl<R: Files + Drop> Model for FolderDisk<R> {
+    ghost use Rattle.qj_outside.specs.Folder.{FolderView};
+
+    ghost Value = { FolderView };
+
+    ghost view = { λ d. record { faults = d.faults; reads = d.reads } };
+}
+
+impl<R: Files + AllocGlobal + Clone + Drop> FolderDisk<R> {
+    /// The files of this folder, which may be absent: then nothing is read, and each call that writes fails.
+    pub fn new(rt: R, folder: &str) -> Result<FolderDisk<R>, OutOfMemory>
+        ensures { IfOk result (λ d. (d.faults ≡ 0) × (d.reads ≡ 0)) }
+    {
+        Ok(FolderDisk {
+            folder: Folder::new(rt, folder)?,
+            faults: 0,
+            reads: 0,
+        })
+    }
+}
+
+/// What a call answers; a fault is counted.
+fn counted<T: Drop>(faults: &mut u64, answer: io::Result<T>) -> Result<T, DiskFail>
+    ensures value { IfOk result (λ v. answer ≡ Ok v) }
+    ensures cause { HasCause faults.old faults.new ⊥ ⊥ result }
+{
+    match answer {
+        Ok(value) => Ok(value),
+        Err(error) if error.kind() == ErrorKind::OutOfMemory => Err(DiskFail::OutOfMemory),
+        Err(_) => {
+            *faults = faults.saturating_add(1);
+            Err(DiskFail::Failed)
+        }
+    }
+}
+
+impl<R: Files + AllocGlobal + Clone + Drop> Disk for FolderDisk<R> {
+    ghost use Rattle.std.specs.Prelude.{None, false};
+    ghost use Rattle.qj_outside.specs.Folder.{untold};
+
+    ghost tells = { λ _. ⊥ };
+
+    ghost is_told = { λ _. false };
+
+    ghost view = { λ _. untold };
+
+    ghost faults = { λ d. d.faults };
+
+    ghost reads = { λ d. d.reads };
+
+    ghost steady = { λ _. ⊥ };
+
+    ghost left = { λ _. None };
+
+    ghost sound = { λ d t. absurd t };
+
+    ghost told = { λ d s. s };
+
+    ghost told_so = { λ _. (λ t. t, λ t. t) };
+
+    fn length(&mut self, name: &str) -> Result<Option<u64>, DiskFail> {
+        counted(&mut self.faults, self.folder.length(name))
+    }
+
+    fn read(&mut self, name: &str, at: u64, into: &mut [u8]) -> Result<usize, DiskFail> {
+        self.reads = self.reads.saturating_add(1);
+        counted(&mut self.faults, self.folder.read(name, at, into))
+    }
+
+    fn list(&mut self) -> Result<Vec<String>, DiskFail> {
+        counted(&mut self.faults, self.folder.list())
+    }
+
+    fn write_at(&mut self, name: &str, at: u64, bytes: &[u8]) -> Result<(), DiskFail> {
+        counted(&mut self.faults, self.folder.write_at(name, at, bytes))
+    }
+
+    fn cut(&mut self, name: &str, to: u64) -> Result<(), DiskFail> {
+        counted(&mut self.faults, self.folder.cut(name, to))
+    }
+
+    fn sync(&mut self, name: &str) -> Result<(), DiskFail> {
+        counted(&mut self.faults, self.folder.sync(name))
+    }
+
+    fn rename(&mut self, from: &str, to: &str) -> Result<(), DiskFail> {
+        counted(&mut self.faults, self.folder.rename(from, to))
+    }
+
+    fn remove(&mut self, name: &str) -> Result<(), DiskFail> {
+        counted(&mut self.faults, self.folder.remove(name))
+    }
+}
