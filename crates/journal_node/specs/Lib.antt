@@ -1,0 +1,10 @@
+pub mod Told
+pub mod Table
+pub mod Due
+pub mod Served
+pub mod Laws
+pub mod Decoded
+pub mod FileState
+pub mod Held
+pub mod Doing
+pub mod Done
