@@ -16,7 +16,7 @@ use Rattle.journal_node.specs.declared.deed.Deed.{Deed}
 use Rattle.journal_node.specs.declared.deed.Deed.TheVariants as deed
 
 -- the effect is on no segment but an append to this one, or no append where none is named
-abbrev Fits : Option ℕ → Effect → Type 0
+abbrev pub Fits : Option ℕ → Effect → Type 0
 Fits o (Promise epoch) = Unit {0}
 Fits o (WriterEpoch epoch) = Unit {0}
 Fits o (Commit txid) = Unit {0}
@@ -31,7 +31,7 @@ Fits (Some named) (Replace epoch batch) = ⊥
 Fits (Some named) (MakeFinal start) = ⊥
 Fits (Some named) (Remove start) = ⊥
 
-abbrev AllFit : Option ℕ → List Effect → Type 0
+abbrev pub AllFit : Option ℕ → List Effect → Type 0
 AllFit o [] = Unit {0}
 AllFit o (e ∷ es) = Fits o e × AllFit o es
 
@@ -54,7 +54,7 @@ spares r (Some named) (deed.Accept epoch again) fits = absurd fits
 spares r (Some named) (deed.Finalize start end accepted) fits = absurd fits
 spares r (Some named) (deed.Remove info) fits = absurd fits
 
-deeds_fit : (r : Request) (o : Option ℕ) (ds : List Deed) → AllFit o (effects_by r ds) → AppendWithin o ds
+pub deeds_fit : (r : Request) (o : Option ℕ) (ds : List Deed) → AllFit o (effects_by r ds) → AppendWithin o ds
 deeds_fit r o [] fit = tt
 deeds_fit r o (d ∷ ds) fit = (goes r o d fit.0, spares r o d fit.0, deeds_fit r o ds fit.1)
 
@@ -98,7 +98,7 @@ raised_fits : (o : Option ℕ) (epoch : ℕ) (rest : List Effect) (raised : Bool
 raised_fits o epoch rest true fit = (tt, fit)
 raised_fits o epoch rest false fit = fit
 
-front_fits : (o : Option ℕ) (s : NodeState) (h : Option HeadView) (rest : List Effect) → AllFit o rest → AllFit o (front_effects s h ++ rest)
+pub front_fits : (o : Option ℕ) (s : NodeState) (h : Option HeadView) (rest : List Effect) → AllFit o rest → AllFit o (front_effects s h ++ rest)
 front_fits o s None rest fit = fit
 front_fits o s (Some h) rest fit = raised_fits o h.epoch rest _ fit
 

@@ -20,3 +20,12 @@ pub mod DoneLaws
 pub mod DoneStops
 pub mod DoneCosts
 pub mod DoneAppends
+pub mod ActingReads
+pub mod ActingFront
+pub mod NodeStands
+pub mod ActingDone
+pub mod ActingAnswer
+pub mod ActingStops
+pub mod NodeOpens
+pub mod Filled
+pub mod Reopens

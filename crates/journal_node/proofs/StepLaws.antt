@@ -16,7 +16,7 @@ raised : (t : NodeState) (epoch : ℕ) (es : List Effect) → t.promised ≡ epo
 unfolding after_effects
 raised t epoch es e = ap (λ (p : ℕ). after_effects (record t { promised = p }) es) (sym e)
 
-front_done : (s t : NodeState) (h : Option HeadView) (es : List Effect) → t.promised ≡ front_promised s.promised h → after_effects t (front_effects s h ++ es) ≡ after_effects t es
+pub front_done : (s t : NodeState) (h : Option HeadView) (es : List Effect) → t.promised ≡ front_promised s.promised h → after_effects t (front_effects s h ++ es) ≡ after_effects t es
 front_done s t None es e = refl
 front_done s t (Some h) es e = by_raised (nat_lt s.promised h.epoch) refl
   where
@@ -24,7 +24,7 @@ front_done s t (Some h) es e = by_raised (nat_lt s.promised h.epoch) refl
     by_raised true lt = raised t h.epoch es (let l : s.promised < h.epoch = grind (arith, nat_tests) in omega arith)
     by_raised false lt = refl
 
-unless_none : (s : NodeState) (r : Request) (o : Option Refusal) → o ≡ None → effects_unless s r o ≡ front_effects s (head_of r) ++ effects_behind (fronted s r) r (row_refused (fronted s r) r)
+pub unless_none : (s : NodeState) (r : Request) (o : Option Refusal) → o ≡ None → effects_unless s r o ≡ front_effects s (head_of r) ++ effects_behind (fronted s r) r (row_refused (fronted s r) r)
 unless_none s r o e = rw e refl
 
 -- behind the front, the effects are those of the row

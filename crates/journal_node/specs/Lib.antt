@@ -8,3 +8,5 @@ pub mod FileState
 pub mod Held
 pub mod Doing
 pub mod Done
+pub mod Node
+pub mod Opening

@@ -1,6 +1,7 @@
 //! What a node serves, by its table: which row's file is to be read.
 ghost use Rattle.std.specs.Prelude.{◌≡◌, ◌≤◌, ◌<◌, ◌+◌, ◌-◌, None, List, MatchOption, IfSome, nat_lt, if◌then◌else◌};
 ghost use Rattle.journal_core.specs.declared.segment.Segment.{Segment};
+ghost use Rattle.journal_core.specs.Limits.{max_number};
 ghost use Rattle.journal_core.specs.Segments.{find_segment};
 ghost use Rattle.journal_core.specs.Reads.{serving, not_served, least_served};
 ghost use Rattle.segment_file.specs.Rows.{AreSoundRows, IsRowWithin};
@@ -138,7 +139,8 @@ pub fn not_served(memory: &NodeState, table: &SegmentTable, from: u64) -> Refusa
 
 /// The line of the segment with that start: a fetch reads its file.
 pub fn line_at(table: &SegmentTable, start: u64) -> Option<SegmentLine>
-    ensures { (gs : List Segment) → Tells gs table.now → MatchOption result (find_segment start gs ≡ None) (λ line. IsLineOf gs start line) }
+    ensures line { (gs : List Segment) → Tells gs table.now → MatchOption result (find_segment start gs ≡ None) (λ line. IsLineOf gs start line) }
+    ensures within { IfSome result (λ line. line.end ≤ max_number) }
 {
     match table.find(start) {
         Some(row) => Some(row_line(row)),

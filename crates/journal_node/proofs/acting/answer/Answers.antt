@@ -1,0 +1,21 @@
+use Rattle.std.proofs.Common.{refl, sym, ◌∙◌}
+use Rattle.journal_node.proofs.ActingDone.{once_same, once_up}
+use Rattle.journal_node.proofs.ActingAnswer.{answer_at_once, moments_none, stable_at_once, up_stands}
+use Rattle.journal_core.specs.Step.{refused_at_once}
+use Rattle.journal_node.proofs.acting.answer.Goals as goal
+
+pub returns-in-Some-clause-answer : goal.returns-in-Some-clause-answer
+returns-in-Some-clause-answer g c = λ t s has.
+    (s, has, answer_at_once s c.args.request.now c.in-Some.refusal (sym (once_same c.args.memory.now.up (g.D.Disk.view c.args.disk.now) c.args.memory.now c.args.table.now s c.args.request.now refl has) ∙ sym c.in-Some.ensures.refusal))
+
+pub returns-in-Some-clause-moments : goal.returns-in-Some-clause-moments
+returns-in-Some-clause-moments g c = λ t s up.
+    moments_none (g.D.Disk.view c.args.disk.now) s c.args.request.now (g.met.D.Disk.sound _ t) (up_stands (g.D.Disk.view c.args.disk.now) c.args.memory.now c.args.table.now s up)
+
+pub returns-in-Some-clause-stable : goal.returns-in-Some-clause-stable
+returns-in-Some-clause-stable g c = λ t s up own.
+    stable_at_once (g.D.Disk.view c.args.disk.now) c.args.memory.now c.args.table.now s c.args.request.now c.in-Some.refusal (sym (once_up (g.D.Disk.view c.args.disk.now) c.args.memory.now c.args.table.now s c.args.request.now up) ∙ sym c.in-Some.ensures.refusal) up
+
+pub returns-in-Err-clause-moments : goal.returns-in-Err-clause-moments
+returns-in-Err-clause-moments g c = λ t s up.
+    moments_none (g.D.Disk.view c.args.disk.now) s c.args.request.now (g.met.D.Disk.sound _ t) (up_stands (g.D.Disk.view c.args.disk.now) c.args.memory.now c.args.table.now s up)

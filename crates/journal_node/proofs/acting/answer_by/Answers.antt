@@ -1,0 +1,50 @@
+use Rattle.journal_core.specs.Step.{fronted}
+use Rattle.journal_core.specs.declared.reply.Reply.TheVariants.{Refused}
+use Rattle.journal_core.specs.declared.refusal.Refusal.TheVariants.{DiskFault, OutOfMemory}
+use Rattle.journal_node.proofs.NodeStands.{rests_up, rested}
+use Rattle.journal_node.proofs.ActingDone.{is_up, up_of}
+use Rattle.journal_node.proofs.ActingAnswer.{foretold_by, rests_then, rests_moments, up_stands, node_down, fault_down, memory_same}
+use Rattle.journal_node.proofs.acting.answer_by.Goals as goal
+
+pub returns-in-Ok-clause-answer : goal.returns-in-Ok-clause-answer
+returns-in-Ok-clause-answer g c = λ t s up.
+    c.finish.ensures.answer (c.foretell.ensures.tells.0 t) s (rests_up (g.D.Disk.view c.args.disk.now) (g.D.Disk.view c.foretell.new.disk) (c.foretell.ensures.disk t) c.args.memory.now c.args.table.now s up)
+    (foretold_by c.args.memory.now s c.args.request.now c.behind_front-front.result c.row_refusal-refusal.result c.in-Ok.reply up.held.memory c.behind_front-front.ensures (c.row_refusal-refusal.ensures s.segments up.held.told)
+    (c.in-Ok.ensures.reply t s.segments up.held.files.segments up.held.sound up.held.told))
+
+pub returns-in-Ok-clause-moments : goal.returns-in-Ok-clause-moments
+returns-in-Ok-clause-moments g c = λ t s up.
+    rests_then (g.D.Disk.view c.args.disk.now) (g.D.Disk.view c.foretell.new.disk) (g.D.Disk.view c.finish.new.disk) s c.args.request.now (g.met.D.Disk.sound _ t) (c.foretell.ensures.disk t) (up_stands (g.D.Disk.view c.args.disk.now) c.args.memory.now c.args.table.now s up)
+    (c.finish.ensures.moments (c.foretell.ensures.tells.0 t) s (rests_up (g.D.Disk.view c.args.disk.now) (g.D.Disk.view c.foretell.new.disk) (c.foretell.ensures.disk t) c.args.memory.now c.args.table.now s up))
+
+pub returns-in-Ok-clause-stable : goal.returns-in-Ok-clause-stable
+returns-in-Ok-clause-stable g c = λ t s up own.
+    c.finish.ensures.stable (c.foretell.ensures.tells.0 t) s (rests_up (g.D.Disk.view c.args.disk.now) (g.D.Disk.view c.foretell.new.disk) (c.foretell.ensures.disk t) c.args.memory.now c.args.table.now s up) own
+
+pub returns-in-Err-Failed-clause-node : goal.returns-in-Err-Failed-clause-node
+returns-in-Err-Failed-clause-node g c =
+    node_down (g.D.Disk.tells c.args.disk.now) (g.D.Disk.tells c.foretell.new.disk) (g.D.Disk.view c.foretell.new.disk) c.args.memory.now c.go_down.new.memory c.args.table.now c.args.request.now c.foretell.ensures.tells c.requires.node.told c.go_down.ensures.memory
+    (λ t. let s = c.requires.node.stands t in (
+      s.0,
+      rests_up (g.D.Disk.view c.args.disk.now) (g.D.Disk.view c.foretell.new.disk) (c.foretell.ensures.disk t) c.args.memory.now c.args.table.now s.0
+          (up_of (g.D.Disk.view c.args.disk.now) c.args.memory.now c.args.table.now s.0 (is_up c.args.memory.now c.args.request.now c.requires.at_once) s.1),
+    ))
+    (λ t. (g.met.D.Disk.sound _ t).seen_now) c.go_down.ensures.rise
+
+pub returns-in-Err-Failed-clause-answer : goal.returns-in-Err-Failed-clause-answer
+returns-in-Err-Failed-clause-answer g c = λ t s up.
+    fault_down (g.D.Disk.view c.foretell.new.disk) c.args.memory.now c.go_down.new.memory c.args.table.now s c.args.request.now (g.met.D.Disk.sound _ (c.foretell.ensures.tells.0 t)).seen_now
+    (rests_up (g.D.Disk.view c.args.disk.now) (g.D.Disk.view c.foretell.new.disk) (c.foretell.ensures.disk t) c.args.memory.now c.args.table.now s up) c.go_down.ensures.memory c.go_down.ensures.rise
+
+pub returns-in-Err-Failed-clause-moments : goal.returns-in-Err-Failed-clause-moments
+returns-in-Err-Failed-clause-moments g c = λ t s up.
+    rests_moments (g.D.Disk.view c.args.disk.now) (g.D.Disk.view c.foretell.new.disk) s c.args.request.now (g.met.D.Disk.sound _ t) (c.foretell.ensures.disk t) (up_stands (g.D.Disk.view c.args.disk.now) c.args.memory.now c.args.table.now s up)
+
+pub returns-clause-answer : goal.returns-clause-answer
+returns-clause-answer g c = λ t s up.
+    memory_same (g.D.Disk.view c.foretell.new.disk) c.args.memory.now c.args.table.now s c.args.request.now (is_up c.args.memory.now c.args.request.now c.requires.at_once)
+    (rests_up (g.D.Disk.view c.args.disk.now) (g.D.Disk.view c.foretell.new.disk) (c.foretell.ensures.disk t) c.args.memory.now c.args.table.now s up)
+
+pub returns-clause-moments : goal.returns-clause-moments
+returns-clause-moments g c = λ t s up.
+    rests_moments (g.D.Disk.view c.args.disk.now) (g.D.Disk.view c.foretell.new.disk) s c.args.request.now (g.met.D.Disk.sound _ t) (c.foretell.ensures.disk t) (up_stands (g.D.Disk.view c.args.disk.now) c.args.memory.now c.args.table.now s up)

@@ -1,0 +1,34 @@
+use Rattle.std.proofs.Common.{refl, sym, ◌∙◌, arith}
+use Rattle.journal_node.proofs.ActingDone.{once_same, up_of, is_up, are_of}
+use Rattle.journal_node.proofs.ActingStops.{node_goes_down, stops_at_once, stops_done, stops_fault, stops_memory}
+use Rattle.journal_node.proofs.acting_stops.stop.Goals as goal
+
+pub returns-in-Some-clause-node : goal.returns-in-Some-clause-node
+returns-in-Some-clause-node g c =
+    node_goes_down (g.D.Disk.tells c.args.disk.now) (g.D.Disk.view c.args.disk.now) c.args.memory.now c.go_down.new.memory c.args.table.now (λ t. (g.met.D.Disk.sound _ t).seen_now) c.requires c.go_down.ensures.memory c.go_down.ensures.rise
+
+pub returns-in-Some-clause-stop : goal.returns-in-Some-clause-stop
+returns-in-Some-clause-stop g c = λ t s has.
+    stops_at_once (g.D.Disk.view c.args.disk.now) c.args.memory.now c.go_down.new.memory c.args.table.now s c.args.request.now c.in-Some.field-0 c.args.keep (g.met.D.Disk.sound _ t).seen_now has c.go_down.ensures.memory c.go_down.ensures.rise
+    (sym (once_same c.args.memory.now.up (g.D.Disk.view c.args.disk.now) c.args.memory.now c.args.table.now s c.args.request.now refl has) ∙ sym c.in-Some.ensures.refusal)
+
+pub returns-in-Ok-stop_behind-clause-stop : goal.returns-in-Ok-stop_behind-clause-stop
+returns-in-Ok-stop_behind-clause-stop g c = λ t s has.
+    let v = g.D.Disk.view c.args.disk.now in
+    let none = sym c.in-None.ensures.refusal in
+    let up = up_of v c.args.memory.now c.args.table.now s (is_up c.args.memory.now c.args.request.now none) has in
+    stops_done (g.D.Disk.view c.stop_behind.new.disk) c.stop_behind.new.memory c.stop_behind.new.table s c.args.request.now c.in-Ok.deeds.items c.args.keep c.min-count.result c.stop_behind.ensures.down
+    (are_of v c.args.memory.now c.args.table.now s c.args.request.now c.in-Ok.deeds.items up none c.in-Ok.ensures.effects c.in-Ok.ensures.due)
+    (omega (arith, c.min-count.ensures, c.len.ensures)) (c.in-Ok-stop_behind.ensures.done t s up)
+
+pub returns-in-Err-Failed-clause-stop : goal.returns-in-Err-Failed-clause-stop
+returns-in-Err-Failed-clause-stop g c = λ t s has.
+    let v = g.D.Disk.view c.args.disk.now in
+    let up = up_of v c.args.memory.now c.args.table.now s (is_up c.args.memory.now c.args.request.now (sym c.in-None.ensures.refusal)) has in
+    stops_fault (g.D.Disk.view c.stop_behind.new.disk) c.stop_behind.new.memory c.stop_behind.new.table s c.args.request.now c.args.keep c.stop_behind.ensures.down (c.in-Err-Failed.ensures.stopped t s up)
+
+pub returns-in-Ok-clause-stop : goal.returns-in-Ok-clause-stop
+returns-in-Ok-clause-stop g c = λ t s has.
+    let v = g.D.Disk.view c.args.disk.now in
+    let up = up_of v c.args.memory.now c.args.table.now s (is_up c.args.memory.now c.args.request.now (sym c.in-None.ensures.refusal)) has in
+    stops_memory (g.D.Disk.view c.stop_behind.new.disk) c.stop_behind.new.memory c.stop_behind.new.table s c.args.request.now c.args.keep c.stop_behind.ensures.down (c.in-Err-OutOfMemory.ensures.stopped t s up)

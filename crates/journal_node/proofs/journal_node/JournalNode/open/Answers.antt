@@ -1,0 +1,11 @@
+use Rattle.journal_node.proofs.NodeOpens.{opened_up, opened_node}
+use Rattle.journal_node.proofs.journal_node.JournalNode.open.Goals as goal
+
+pub invariant_of-result : goal.invariant_of-result
+invariant_of-result g c =
+    opened_node (g.D.Disk.tells c.open_files.new.disk) (g.D.Disk.view c.args.disk).seen (g.D.Disk.view c.open_files.new.disk) c.in-Files.files c.memory_of-memory.result c.memory_of-memory.ensures c.in-Files.ensures.rows.2 c.in-Files.ensures.rows.3
+    (λ t. c.in-Files.ensures.files (c.open_files.ensures.tells.1 t))
+
+pub returns-in-Files-clause-opened : goal.returns-in-Files-clause-opened
+returns-in-Files-clause-opened g c = λ t.
+    opened_up (g.D.Disk.view c.args.disk).seen (g.D.Disk.view c.open_files.new.disk) c.in-Files.files c.memory_of-memory.result c.memory_of-memory.ensures (c.in-Files.ensures.files t)

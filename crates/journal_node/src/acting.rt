@@ -1,0 +1,239 @@
+//! A request is answered: its reply is found, its deeds are done, and memory follows.
+ghost use Rattle.std.specs.Prelude.{◌≡◌, ◌≢◌, ◌≤◌, ◌↔◌, None, Some, List, Option, true, false, [], IfOk, OnOk, OnErr};
+ghost use Rattle.qj_disk.specs.View.{LeavesOnly, AllLeave};
+ghost use Rattle.qj_disk.specs.Calls.{HasCause, Rests};
+ghost use Rattle.journal_core.specs.declared.segment.Segment.{Segment};
+ghost use Rattle.journal_core.specs.declared.node_state.NodeState.{NodeState as AnyState};
+ghost use Rattle.journal_core.specs.Limits.{limit_of};
+ghost use Rattle.journal_core.specs.Segments.{AreSound};
+ghost use Rattle.journal_core.specs.Effects.{after_effects};
+ghost use Rattle.journal_core.specs.Step.{crashed, fronted, refused_at_once, row_refused, effects_of};
+ghost use Rattle.journal_core.specs.Answers.{IsAnswer, FitsRequest, Rose};
+ghost use Rattle.segment_file.specs.Effects.{IsReady};
+ghost use Rattle.segment_file.specs.Rows.{RowsRise};
+ghost use Rattle.node_files.specs.Durable.{StandsAs};
+ghost use Rattle.journal_node.specs.Told.{Tells, state_with};
+ghost use Rattle.journal_node.specs.Due.{AreDue};
+ghost use Rattle.journal_node.specs.Done.{effects_by};
+ghost use Rattle.journal_node.specs.Held.{StandsStopped};
+ghost use Rattle.journal_node.specs.Node.{BringsEdits, IsUp, HasState, IsNode, IsNoFault, IsCaused, IsStoppedIn, settled, state_behind, foretold};
+
+use crate::acting_reads::{fetch, read_served};
+use crate::deed::Deed;
+use crate::deeds::deeds_of;
+use crate::deeds_done::do_deeds;
+use crate::memory::{behind_front, follow};
+use crate::refusals::row_refusal;
+use crate::replies::plain_reply;
+use journal_core::{NodeState, Refusal, Reply, Request};
+use qj_disk::{Disk, DiskFail};
+use segment_file::SegmentTable;
+use std::alloc::Global;
+
+// An acceptance has an edit.
+#[tactic(auto, using(node_files::proofs::Lists::any_some))]
+pub(crate) fn look_at(request: &Request)
+    ensures { BringsEdits request.now }
+{
+    if let Request::Accept { batch, .. } = request {
+        let _bodies = batch.bodies();
+    }
+}
+
+/// A node goes down: its memory forgets what isn't durable.
+pub(crate) fn go_down(memory: &mut NodeState, table: &SegmentTable)
+    ensures memory { memory.new ≡ crashed memory.old }
+    ensures rise { RowsRise table.now }
+{
+    let _rows = table.as_slice();
+    memory.crash();
+}
+
+// What follows the deeds of a request. `front` is memory behind the request's front.
+fn settle(memory: &mut NodeState, front: &NodeState, request: &Request, refusal: Option<Refusal>)
+    ensures { memory.new ≡ settled refusal memory.old front.now request.now }
+{
+    memory.known = front.known;
+    memory.opened = front.opened;
+    memory.serial = front.serial;
+    if refusal.is_none() {
+        follow(memory, request);
+    }
+}
+
+// The reply, before anything is done. `front` is memory behind the request's front.
+fn foretell<D: Disk>(
+    alloc: Global,
+    disk: &mut D,
+    front: &NodeState,
+    table: &SegmentTable,
+    request: &Request,
+    refusal: Option<Refusal>,
+) -> Result<Reply, DiskFail>
+    requires told { (gs : List Segment) × Tells gs table.now }
+    requires refused { (gs : List Segment) → Tells gs table.now → refusal ≡ row_refused (state_with front.now gs) request.now }
+
+    ensures tells { D.tells disk.old ↔ D.tells disk.new }
+    ensures reply { D.tells disk.old → (gs : List Segment) → IsReady (D.view disk.old) gs → AreSound gs → Tells gs table.now → IfOk result (λ reply. reply ≡ foretold refusal (state_with front.now gs) request.now) }
+    ensures fits { IfOk result (FitsRequest request.now) }
+    ensures own { IfOk result IsNoFault }
+    ensures disk { D.tells disk.old → Rests (D.view disk.old) (D.view disk.new) }
+    ensures cause { HasCause (D.faults disk.old) (D.faults disk.new) (D.steady disk.old) (D.steady disk.new) result }
+{
+    if let Some(refusal) = refusal {
+        return Ok(Reply::Refused(refusal));
+    }
+    match request {
+        Request::Read { from } => read_served(alloc, disk, front, table, *from),
+        Request::Fetch { start, from, .. } => fetch(alloc, disk, table, *start, *from),
+        _ => match plain_reply(alloc, front, table, request) {
+            Ok(Some(reply)) => Ok(reply),
+            _ => Err(DiskFail::OutOfMemory),
+        },
+    }
+}
+
+/// Does the deeds of a request, and what follows them. An `Err` leaves the node down.
+pub(crate) fn carry_out<D: Disk>(
+    alloc: Global,
+    disk: &mut D,
+    memory: &mut NodeState,
+    table: &mut SegmentTable,
+    request: &Request,
+    deeds: &[Deed],
+    refusal: Option<Refusal>,
+) -> Result<(), DiskFail>
+    requires node { IsNode (D.tells disk.old) (D.view disk.old) memory.old table.old }
+    requires at_once { refused_at_once memory.old request.now ≡ None }
+    requires limits { limit_of request.now ≡ None }
+    requires brings { BringsEdits request.now }
+    requires refused { (gs : List Segment) → Tells gs table.old → refusal ≡ row_refused (state_with (fronted memory.old request.now) gs) request.now }
+    requires effects { (gs : List Segment) → Tells gs table.old → effects_by request.now deeds.now ≡ effects_of (state_with memory.old gs) request.now }
+    requires due { (gs : List Segment) → Tells gs table.old → AreDue gs table.old request.now deeds.now }
+
+    ensures tells { D.tells disk.old ↔ D.tells disk.new }
+    ensures node { IsNode (D.tells disk.new) (D.view disk.new) memory.new table.new }
+    ensures up { OnOk result (memory.new.up ≡ true) }
+    ensures down { OnErr result (memory.new.up ≡ false) }
+    ensures done { D.tells disk.old → (s : AnyState) → IsUp (D.view disk.old) memory.old table.old s → OnOk result (IsUp (D.view disk.new) memory.new table.new (state_behind s request.now)) }
+    ensures stopped { D.tells disk.old → (s : AnyState) → IsUp (D.view disk.old) memory.old table.old s → OnErr result (IsStoppedIn (D.view disk.new) memory.new table.new s request.now) }
+    ensures moments { D.tells disk.old → (s : AnyState) → IsUp (D.view disk.old) memory.old table.old s → LeavesOnly (D.view disk.old) (D.view disk.new) (StandsStopped s (effects_of s request.now)) }
+    ensures cause { HasCause (D.faults disk.old) (D.faults disk.new) (D.steady disk.old) (D.steady disk.new) result }
+{
+    let front = behind_front(alloc, memory, request);
+    match do_deeds(alloc, disk, memory, table, request, deeds) {
+        Ok(()) => {
+            settle(memory, &front, request, refusal);
+            Ok(())
+        }
+        Err(fail) => {
+            go_down(memory, table);
+            Err(fail)
+        }
+    }
+}
+
+// The same for a reply that is found.
+fn finish<D: Disk>(
+    alloc: Global,
+    disk: &mut D,
+    memory: &mut NodeState,
+    table: &mut SegmentTable,
+    request: &Request,
+    deeds: &[Deed],
+    refusal: Option<Refusal>,
+    reply: Reply,
+) -> Reply
+    requires node { IsNode (D.tells disk.old) (D.view disk.old) memory.old table.old }
+    requires at_once { refused_at_once memory.old request.now ≡ None }
+    requires limits { limit_of request.now ≡ None }
+    requires brings { BringsEdits request.now }
+    requires refused { (gs : List Segment) → Tells gs table.old → refusal ≡ row_refused (state_with (fronted memory.old request.now) gs) request.now }
+    requires effects { (gs : List Segment) → Tells gs table.old → effects_by request.now deeds.now ≡ effects_of (state_with memory.old gs) request.now }
+    requires due { (gs : List Segment) → Tells gs table.old → AreDue gs table.old request.now deeds.now }
+    requires fits { FitsRequest request.now reply }
+    requires own { IsNoFault reply }
+
+    ensures tells { D.tells disk.old ↔ D.tells disk.new }
+    ensures node { IsNode (D.tells disk.new) (D.view disk.new) memory.new table.new }
+    ensures answer { D.tells disk.old → (s : AnyState) → IsUp (D.view disk.old) memory.old table.old s → reply ≡ foretold (row_refused (fronted s request.now) request.now) (fronted s request.now) request.now
+        → (t : AnyState) × HasState memory.new.up (D.view disk.new) memory.new table.new t × IsAnswer s request.now result t }
+    ensures fits { FitsRequest request.now result }
+    ensures moments { D.tells disk.old → (s : AnyState) → IsUp (D.view disk.old) memory.old table.old s → LeavesOnly (D.view disk.old) (D.view disk.new) (StandsStopped s (effects_of s request.now)) }
+    ensures stable { D.tells disk.old → (s : AnyState) → IsUp (D.view disk.old) memory.old table.old s → IsNoFault result → AllLeave (D.view disk.new) (λ c. StandsAs c (after_effects s (effects_of s request.now))) }
+    ensures cause { IsCaused (D.faults disk.old) (D.faults disk.new) (D.steady disk.old) (D.steady disk.new) result }
+{
+    match carry_out(alloc, disk, memory, table, request, deeds, refusal) {
+        Ok(()) => reply,
+        Err(DiskFail::Failed) => Reply::Refused(Refusal::DiskFault),
+        Err(DiskFail::OutOfMemory) => Reply::Refused(Refusal::OutOfMemory),
+    }
+}
+
+// The same for a request that isn't refused at once.
+fn answer_by<D: Disk>(
+    alloc: Global,
+    disk: &mut D,
+    memory: &mut NodeState,
+    table: &mut SegmentTable,
+    request: &Request,
+    deeds: &[Deed],
+) -> Reply
+    requires node { IsNode (D.tells disk.old) (D.view disk.old) memory.old table.old }
+    requires at_once { refused_at_once memory.old request.now ≡ None }
+    requires limits { limit_of request.now ≡ None }
+    requires brings { BringsEdits request.now }
+    requires effects { (gs : List Segment) → Tells gs table.old → effects_by request.now deeds.now ≡ effects_of (state_with memory.old gs) request.now }
+    requires due { (gs : List Segment) → Tells gs table.old → AreDue gs table.old request.now deeds.now }
+
+    ensures tells { D.tells disk.old ↔ D.tells disk.new }
+    ensures node { IsNode (D.tells disk.new) (D.view disk.new) memory.new table.new }
+    ensures answer { D.tells disk.old → (s : AnyState) → IsUp (D.view disk.old) memory.old table.old s
+        → (t : AnyState) × HasState memory.new.up (D.view disk.new) memory.new table.new t × IsAnswer s request.now result t }
+    ensures fits { FitsRequest request.now result }
+    ensures moments { D.tells disk.old → (s : AnyState) → IsUp (D.view disk.old) memory.old table.old s → LeavesOnly (D.view disk.old) (D.view disk.new) (StandsStopped s (effects_of s request.now)) }
+    ensures stable { D.tells disk.old → (s : AnyState) → IsUp (D.view disk.old) memory.old table.old s → IsNoFault result → AllLeave (D.view disk.new) (λ c. StandsAs c (after_effects s (effects_of s request.now))) }
+    ensures cause { IsCaused (D.faults disk.old) (D.faults disk.new) (D.steady disk.old) (D.steady disk.new) result }
+{
+    let front = behind_front(alloc, memory, request);
+    let refusal = row_refusal(&front, table, request);
+    match foretell(alloc, disk, &front, table, request, refusal) {
+        Ok(reply) => finish(alloc, disk, memory, table, request, deeds, refusal, reply),
+        Err(DiskFail::Failed) => {
+            go_down(memory, table);
+            Reply::Refused(Refusal::DiskFault)
+        }
+        Err(DiskFail::OutOfMemory) => Reply::Refused(Refusal::OutOfMemory),
+    }
+}
+
+/// Answers one request at a node over a disk, of which memory and the table are given. The reply is found
+/// before anything is done, so that want of memory for it changes nothing; where the disk fails, or where
+/// memory is wanted among the deeds, the node goes down.
+pub(crate) fn answer<D: Disk>(
+    alloc: Global,
+    disk: &mut D,
+    memory: &mut NodeState,
+    table: &mut SegmentTable,
+    request: &Request,
+) -> Reply
+    requires { IsNode (D.tells disk.old) (D.view disk.old) memory.old table.old }
+
+    ensures tells { D.tells disk.old ↔ D.tells disk.new }
+    ensures node { IsNode (D.tells disk.new) (D.view disk.new) memory.new table.new }
+    ensures answer { D.tells disk.old → (s : AnyState) → HasState memory.old.up (D.view disk.old) memory.old table.old s
+        → (t : AnyState) × HasState memory.new.up (D.view disk.new) memory.new table.new t × IsAnswer s request.now result t }
+    ensures fits { FitsRequest request.now result }
+    ensures moments { D.tells disk.old → (s : AnyState) → IsUp (D.view disk.old) memory.old table.old s → LeavesOnly (D.view disk.old) (D.view disk.new) (StandsStopped s (effects_of s request.now)) }
+    ensures stable { D.tells disk.old → (s : AnyState) → IsUp (D.view disk.old) memory.old table.old s → IsNoFault result → AllLeave (D.view disk.new) (λ c. StandsAs c (after_effects s (effects_of s request.now))) }
+    ensures cause { IsCaused (D.faults disk.old) (D.faults disk.new) (D.steady disk.old) (D.steady disk.new) result }
+{
+    look_at(request);
+    match memory.refused_at_once(request) {
+        Some(refusal) => Reply::Refused(refusal),
+        None => match deeds_of(alloc, memory, table, request) {
+            Ok(deeds) => answer_by(alloc, disk, memory, table, request, deeds.as_slice()),
+            Err(_) => Reply::Refused(Refusal::OutOfMemory),
+        },
+    }
+}

@@ -1,0 +1,121 @@
+//! The replies that need a file of a segment.
+ghost use Rattle.std.specs.Prelude.{◌≡◌, ◌≤◌, ◌<◌, ◌-◌, ◌↔◌, None, Some, List, take, drop, IfOk};
+ghost use Rattle.qj_disk.specs.Calls.{HasCause, Rests};
+ghost use Rattle.journal_core.specs.Views.{last_txid};
+ghost use Rattle.journal_core.specs.declared.segment.Segment.{Segment};
+ghost use Rattle.journal_core.specs.Limits.{max_number};
+ghost use Rattle.journal_core.specs.Segments.{find_segment, AreSound};
+ghost use Rattle.journal_core.specs.Step.{fetch_refused};
+ghost use Rattle.journal_core.specs.Reads.{edits_from, piece_of};
+ghost use Rattle.journal_core.specs.Answers.{AreEdits};
+ghost use Rattle.segment_file.specs.Effects.{IsReady};
+ghost use Rattle.segment_file.specs.Reads.{given_result};
+ghost use Rattle.journal_node.specs.Told.{Tells, state_with, line_of};
+ghost use Rattle.journal_node.specs.Node.{IsNoFault};
+
+use crate::serving::{line_at, not_served, serving_row};
+use journal_core::{Batch, MAX_BATCH, MAX_NUMBER, NodeState, Refusal, Reply, SegmentLine};
+use qj_disk::{Disk, DiskFail};
+use qj_num::OutOfMemory;
+use segment_file::{Given, SegmentTable, read_from};
+use std::alloc::Global;
+
+// The first bodies of a batch, at most `most`, as edits from that txid on. BadFile comes where one would
+// have a txid above 2^62.
+fn edits(alloc: Global, batch: &Batch, from: u64, most: usize) -> Result<Reply, OutOfMemory>
+    requires { 0 < most }
+    ensures edits { last_txid (record { first = from; bodies = take most batch.now.bodies }) ≤ max_number → IfOk result (λ reply. reply ≡ Reply.Edits (record { first = from; bodies = take most batch.now.bodies })) }
+    ensures fits { IfOk result (AreEdits from) }
+    ensures own { IfOk result IsNoFault }
+{
+    let bodies = batch.bodies().share_piece(alloc, 0, most)?;
+    let piece = Batch::new(from, bodies);
+    if piece.last_within(MAX_NUMBER).is_none() {
+        return Ok(Reply::Refused(Refusal::BadFile));
+    }
+    Ok(Reply::Edits(piece))
+}
+
+// The edits of a segment from a txid on, which lies in it: at most `most`, and at most 256. BadFile comes
+// where its file doesn't hold them, which is never so on a disk whose files stand for the segment.
+fn edits_of<D: Disk>(
+    alloc: Global,
+    disk: &mut D,
+    line: &SegmentLine,
+    from: u64,
+    most: usize,
+) -> Result<Reply, DiskFail>
+    requires start { line.now.start ≤ from }
+    requires end { from ≤ line.now.end }
+    requires end_within { line.now.end ≤ max_number }
+    requires most { 0 < most }
+
+    ensures tells { D.tells disk.old ↔ D.tells disk.new }
+    ensures edits { D.tells disk.old → (gs : List Segment) (g : Segment) → IsReady (D.view disk.old) gs → AreSound gs → 1 ≤ line.now.start → find_segment line.now.start gs ≡ Some g → line.now ≡ line_of g
+        → IfOk result (λ reply. reply ≡ Reply.Edits (record { first = from; bodies = take most (take 256 (drop (from - g.start) g.bodies)) })) }
+    ensures fits { IfOk result (AreEdits from) }
+    ensures own { IfOk result IsNoFault }
+    ensures disk { D.tells disk.old → Rests (D.view disk.old) (D.view disk.new) }
+    ensures cause { HasCause (D.faults disk.old) (D.faults disk.new) (D.steady disk.old) (D.steady disk.new) result }
+{
+    match read_from(alloc, disk, line, from) {
+        Given::Edits(batch) => {
+            let reply = edits(alloc, &batch, from, most)?;
+            Ok(reply)
+        }
+        Given::BadFile { .. } => Ok(Reply::Refused(Refusal::BadFile)),
+        Given::DiskFault => Err(DiskFail::Failed),
+        Given::OutOfMemory => Err(DiskFail::OutOfMemory),
+    }
+}
+
+/// The reply to a read: the served edits from a txid on. `memory` is the node's, and the table has the rows
+/// of its segments.
+pub(crate) fn read_served<D: Disk>(
+    alloc: Global,
+    disk: &mut D,
+    memory: &NodeState,
+    table: &SegmentTable,
+    from: u64,
+) -> Result<Reply, DiskFail>
+    requires told { (gs : List Segment) × Tells gs table.now }
+
+    ensures tells { D.tells disk.old ↔ D.tells disk.new }
+    ensures reply { D.tells disk.old → (gs : List Segment) → IsReady (D.view disk.old) gs → AreSound gs → Tells gs table.now → IfOk result (λ reply. reply ≡ edits_from (state_with memory.now gs) from) }
+    ensures fits { IfOk result (AreEdits from) }
+    ensures own { IfOk result IsNoFault }
+    ensures disk { D.tells disk.old → Rests (D.view disk.old) (D.view disk.new) }
+    ensures cause { HasCause (D.faults disk.old) (D.faults disk.new) (D.steady disk.old) (D.steady disk.new) result }
+{
+    match serving_row(memory, table, from) {
+        Some((line, count)) => {
+            let most = count - (from - line.start);
+            edits_of(alloc, disk, &line, from, most as usize)
+        }
+        None => Ok(Reply::Refused(not_served(memory, table, from))),
+    }
+}
+
+/// The reply to a fetch that isn't refused: edits of a segment from a txid on.
+pub(crate) fn fetch<D: Disk>(
+    alloc: Global,
+    disk: &mut D,
+    table: &SegmentTable,
+    start: u64,
+    from: u64,
+) -> Result<Reply, DiskFail>
+    requires told { (gs : List Segment) × Tells gs table.now }
+    requires refused { (gs : List Segment) → Tells gs table.now → fetch_refused from (find_segment start gs) ≡ None }
+
+    ensures tells { D.tells disk.old ↔ D.tells disk.new }
+    ensures reply { D.tells disk.old → (gs : List Segment) → IsReady (D.view disk.old) gs → AreSound gs → Tells gs table.now → IfOk result (λ reply. reply ≡ Reply.Edits (record { first = from; bodies = piece_of (find_segment start gs) from })) }
+    ensures fits { IfOk result (AreEdits from) }
+    ensures own { IfOk result IsNoFault }
+    ensures disk { D.tells disk.old → Rests (D.view disk.old) (D.view disk.new) }
+    ensures cause { HasCause (D.faults disk.old) (D.faults disk.new) (D.steady disk.old) (D.steady disk.new) result }
+{
+    match line_at(table, start) {
+        Some(line) => edits_of(alloc, disk, &line, from, MAX_BATCH),
+        None => Ok(Reply::Refused(Refusal::NoSegment)),
+    }
+}

@@ -1,0 +1,101 @@
+//! A node is stopped inside a request, behind the first of its effects.
+ghost use Rattle.std.specs.Prelude.{◌≡◌, ◌≢◌, ◌≤◌, ◌↔◌, None, Some, List, length, false, OnOk, OnErr};
+ghost use Rattle.qj_disk.specs.Calls.{HasCause};
+ghost use Rattle.journal_core.specs.declared.segment.Segment.{Segment};
+ghost use Rattle.journal_core.specs.declared.node_state.NodeState.{NodeState as AnyState};
+ghost use Rattle.journal_core.specs.Limits.{limit_of};
+ghost use Rattle.journal_core.specs.Step.{refused_at_once, effects_of, stopped};
+ghost use Rattle.journal_core.specs.Stops.{Stops};
+ghost use Rattle.journal_core.specs.Answers.{Rose};
+ghost use Rattle.journal_node.specs.Told.{Tells, state_with};
+ghost use Rattle.journal_node.specs.Due.{AreDue};
+ghost use Rattle.journal_node.specs.Done.{effects_by};
+ghost use Rattle.journal_node.specs.Node.{BringsEdits, IsUp, IsDown, HasState, IsNode, IsStoppedIn};
+
+use crate::acting::{go_down, look_at};
+use crate::deed::Deed;
+use crate::deeds::deeds_of;
+use crate::deeds_done::do_deeds;
+use journal_core::{NodeFail, NodeState, Request};
+use qj_disk::{Disk, DiskFail};
+use segment_file::SegmentTable;
+use std::alloc::Global;
+
+// Does the first `count` deeds of a request, and goes down.
+fn stop_behind<D: Disk>(
+    alloc: Global,
+    disk: &mut D,
+    memory: &mut NodeState,
+    table: &mut SegmentTable,
+    request: &Request,
+    deeds: &[Deed],
+    count: usize,
+) -> Result<(), DiskFail>
+    requires node { IsNode (D.tells disk.old) (D.view disk.old) memory.old table.old }
+    requires at_once { refused_at_once memory.old request.now ≡ None }
+    requires limits { limit_of request.now ≡ None }
+    requires brings { BringsEdits request.now }
+    requires effects { (gs : List Segment) → Tells gs table.old → effects_by request.now deeds.now ≡ effects_of (state_with memory.old gs) request.now }
+    requires due { (gs : List Segment) → Tells gs table.old → AreDue gs table.old request.now deeds.now }
+    requires count { count ≤ length deeds.now }
+
+    ensures tells { D.tells disk.old ↔ D.tells disk.new }
+    ensures node { IsNode (D.tells disk.new) (D.view disk.new) memory.new table.new }
+    ensures down { memory.new.up ≡ false }
+    ensures done { D.tells disk.old → (s : AnyState) → IsUp (D.view disk.old) memory.old table.old s → OnOk result (IsDown (D.view disk.new) memory.new table.new (stopped s request.now count)) }
+    ensures stopped { D.tells disk.old → (s : AnyState) → IsUp (D.view disk.old) memory.old table.old s → OnErr result (IsStoppedIn (D.view disk.new) memory.new table.new s request.now) }
+    ensures cause { HasCause (D.faults disk.old) (D.faults disk.new) (D.steady disk.old) (D.steady disk.new) result }
+{
+    let done = do_deeds(alloc, disk, memory, table, request, &deeds[..count]);
+    go_down(memory, table);
+    done
+}
+
+/// Does the first durable effects of a request, at most `keep`, at a node over a disk of which memory and
+/// the table are given, and goes down; answers how many it did. Want of memory before the first of them
+/// changes nothing.
+pub(crate) fn stop<D: Disk>(
+    alloc: Global,
+    disk: &mut D,
+    memory: &mut NodeState,
+    table: &mut SegmentTable,
+    request: &Request,
+    keep: u64,
+) -> Result<u64, NodeFail>
+    requires { IsNode (D.tells disk.old) (D.view disk.old) memory.old table.old }
+
+    ensures tells { D.tells disk.old ↔ D.tells disk.new }
+    ensures node { IsNode (D.tells disk.new) (D.view disk.new) memory.new table.new }
+    ensures stop { D.tells disk.old → (s : AnyState) → HasState memory.old.up (D.view disk.old) memory.old table.old s
+        → (t : AnyState) × HasState memory.new.up (D.view disk.new) memory.new table.new t × Stops (Some s) request.now keep result (Some t) }
+    ensures later { D.faults disk.old ≤ D.faults disk.new }
+    ensures fault { result ≡ Err NodeFail.DiskFault → Rose (D.faults disk.old) (D.faults disk.new) }
+    ensures steady { D.steady disk.old → D.steady disk.new × (result ≢ Err NodeFail.DiskFault) }
+{
+    look_at(request);
+    match memory.refused_at_once(request) {
+        Some(_) => {
+            go_down(memory, table);
+            Ok(0)
+        }
+        None => match deeds_of(alloc, memory, table, request) {
+            Ok(deeds) => {
+                let count = keep.min(deeds.len() as u64);
+                match stop_behind(
+                    alloc,
+                    disk,
+                    memory,
+                    table,
+                    request,
+                    deeds.as_slice(),
+                    count as usize,
+                ) {
+                    Ok(()) => Ok(count),
+                    Err(DiskFail::Failed) => Err(NodeFail::DiskFault),
+                    Err(DiskFail::OutOfMemory) => Err(NodeFail::OutOfMemory),
+                }
+            }
+            Err(_) => Err(NodeFail::OutOfMemory),
+        },
+    }
+}

@@ -1,0 +1,121 @@
+//! A node of the journal over a disk.
+ghost use Rattle.std.specs.Prelude.{◌≡◌, ◌≢◌, ◌≤◌};
+ghost use Rattle.qj_disk.specs.View.{LeavesOnly, AllLeave};
+ghost use Rattle.journal_core.specs.declared.node_state.NodeState.{NodeState as AnyState};
+ghost use Rattle.journal_core.specs.Effects.{after_effects};
+ghost use Rattle.journal_core.specs.Step.{effects_of};
+ghost use Rattle.journal_core.specs.Answers.{Answers, FitsRequest, Rose};
+ghost use Rattle.journal_core.specs.Stops.{Stops, Kills, Restarts};
+ghost use Rattle.node_files.specs.Durable.{StandsAs};
+ghost use Rattle.journal_node.specs.Held.{StandsStopped};
+ghost use Rattle.journal_node.specs.Node.{IsUp, IsNoFault, told_state};
+
+use crate::acting::{answer, go_down};
+use crate::acting_stops::stop;
+use crate::node_opening::come_up;
+use journal_core::{NodeFail, NodeState, Refusal, Reply, Request};
+use qj_disk::Disk;
+use segment_file::SegmentTable;
+use std::alloc::Global;
+use std::marker::Model;
+
+/// A node that keeps its state in the files of its own disk. In memory it has its numbers and a table of
+/// its segments, and no edits.
+#[derive(Drop)]
+pub struct JournalNode<D: Disk> {
+    pub(crate) disk: D,
+    pub(crate) memory: NodeState,
+    pub(crate) table: SegmentTable,
+}
+
+impl<D: Disk> Model for JournalNode<D> {
+    ghost use Rattle.journal_node.specs.Node.{NodeParts, IsNode};
+
+    ghost Value = { NodeParts D };
+
+    ghost view = { λ n. record { disk = n.disk; memory = n.memory; rows = n.table } };
+
+    ghost invariant = { λ n. IsNode (D.tells n.disk) (D.view n.disk) n.memory n.table };
+}
+
+impl<D: Disk> JournalNode<D> {
+    /// Its disk, as it is.
+    pub fn into_disk(self) -> D
+        ensures { result ≡ self.disk }
+    {
+        self.disk
+    }
+
+    /// Answers one request. The reply is found before anything is done: want of memory for it changes
+    /// nothing. Where the disk fails, or where memory is wanted among the durable effects, the node goes
+    /// down. A crash at any moment of the call leaves files that stand for the state behind the first of
+    /// the request's effects, some number of them, and one behind an answer that is neither DiskFault nor
+    /// OutOfMemory leaves all of them.
+    pub fn act(&mut self, alloc: Global, request: &Request) -> Reply
+        ensures step { Answers (told_state (D.is_told self.old.disk) (D.view self.old.disk).seen self.old.memory self.old.rows) request.now result (told_state (D.is_told self.new.disk) (D.view self.new.disk).seen self.new.memory self.new.rows) }
+        ensures fits { FitsRequest request.now result }
+        ensures moments { D.tells self.old.disk → (s : AnyState) → IsUp (D.view self.old.disk) self.old.memory self.old.rows s → LeavesOnly (D.view self.old.disk) (D.view self.new.disk) (StandsStopped s (effects_of s request.now)) }
+        ensures stable { D.tells self.old.disk → (s : AnyState) → IsUp (D.view self.old.disk) self.old.memory self.old.rows s → IsNoFault result → AllLeave (D.view self.new.disk) (λ c. StandsAs c (after_effects s (effects_of s request.now))) }
+        ensures later { D.faults self.old.disk ≤ D.faults self.new.disk }
+        ensures fault { result ≡ Reply.Refused Refusal.DiskFault → Rose (D.faults self.old.disk) (D.faults self.new.disk) }
+        ensures steady { D.steady self.old.disk → D.steady self.new.disk × (result ≢ Reply.Refused Refusal.DiskFault) }
+    {
+        answer(
+            alloc,
+            &mut self.disk,
+            &mut self.memory,
+            &mut self.table,
+            request,
+        )
+    }
+
+    /// Does the first durable effects of a request, at most `keep`, and goes down; answers how many it did.
+    /// Want of memory before the first of them changes nothing.
+    pub fn act_stopped(
+        &mut self,
+        alloc: Global,
+        request: &Request,
+        keep: u64,
+    ) -> Result<u64, NodeFail>
+        ensures stop { Stops (told_state (D.is_told self.old.disk) (D.view self.old.disk).seen self.old.memory self.old.rows) request.now keep result (told_state (D.is_told self.new.disk) (D.view self.new.disk).seen self.new.memory self.new.rows) }
+        ensures later { D.faults self.old.disk ≤ D.faults self.new.disk }
+        ensures fault { result ≡ Err NodeFail.DiskFault → Rose (D.faults self.old.disk) (D.faults self.new.disk) }
+        ensures steady { D.steady self.old.disk → D.steady self.new.disk × (result ≢ Err NodeFail.DiskFault) }
+    {
+        stop(
+            alloc,
+            &mut self.disk,
+            &mut self.memory,
+            &mut self.table,
+            request,
+            keep,
+        )
+    }
+
+    /// Goes down; false where it already was, and then nothing changes.
+    pub fn kill(&mut self) -> bool
+        ensures kill { Kills (told_state (D.is_told self.old.disk) (D.view self.old.disk).seen self.old.memory self.old.rows) result (told_state (D.is_told self.new.disk) (D.view self.new.disk).seen self.new.memory self.new.rows) }
+        ensures disk { self.new.disk ≡ self.old.disk }
+    {
+        if !self.memory.up {
+            return false;
+        }
+        go_down(&mut self.memory, &self.table);
+        true
+    }
+
+    /// Comes up; false where it already was, and then nothing changes. What a crash left half done in its
+    /// files is repaired. `DiskFault` comes where the disk failed, `OutOfMemory` for want of memory, and
+    /// `BadFile` only on a disk that doesn't tell its bytes; each leaves the node down.
+    pub fn restart(&mut self, alloc: Global) -> Result<bool, NodeFail>
+        ensures restart { Restarts (told_state (D.is_told self.old.disk) (D.view self.old.disk).seen self.old.memory self.old.rows) result (told_state (D.is_told self.new.disk) (D.view self.new.disk).seen self.new.memory self.new.rows) }
+        ensures later { D.faults self.old.disk ≤ D.faults self.new.disk }
+        ensures fault { result ≡ Err NodeFail.DiskFault → Rose (D.faults self.old.disk) (D.faults self.new.disk) }
+        ensures steady { D.steady self.old.disk → D.steady self.new.disk × (result ≢ Err NodeFail.DiskFault) }
+    {
+        if self.memory.up {
+            return Ok(false);
+        }
+        come_up(alloc, &mut self.disk, &mut self.memory, &mut self.table)
+    }
+}
