@@ -1,30 +1,29 @@
 -- What a node answers is the step's answer.
-use Rattle.std.proofs.Common.{inl, inr, ⊎_elim, ℕ, ◌≡◌, ◌≢◌, ◌⊎◌, ◌↔◌, Bool, true, false, cond, List, [], ◌∷◌, take, length, Option, Some, None, zero, refl, sym, ap, subst, ◌∙◌, arith}
+use Rattle.std.proofs.Common.{inl, inr, ⊎_elim, ℕ, ◌≡◌, ◌≢◌, ◌⊎◌, ◌↔◌, Bool, true, false, cond, List, [], Option, Some, None, refl, sym, ap, subst, ◌∙◌, arith}
 use Rattle.std.proofs.lemmas.Bool.Decides.{nat_tests}
 use Rattle.std.proofs.lemmas.Option.{same_Some}
 use Rattle.qj_disk.specs.Runs.{joined, weaker}
-use Rattle.std.specs.Prelude.{Result, Ok, Err, OnOk, OnErr, IfOk, IsErrOf, ◌≤◌}
+use Rattle.std.specs.Prelude.{Result, IsErrOf}
 use Rattle.qj_disk.specs.Files.{Files}
 use Rattle.qj_disk.specs.View.{View, IsSound, LeavesOnly, AllLeave}
-use Rattle.qj_disk.specs.Calls.{Rests, HasCause, Rose}
+use Rattle.qj_disk.specs.Calls.{Rests, HasCause}
 use Rattle.qj_disk.specs.Moments.{started, goes_on}
 use Rattle.qj_disk.specs.declared.disk.DiskFail.{DiskFail}
 use Rattle.qj_disk.specs.declared.disk.DiskFail.TheVariants.{Failed}
-use Rattle.qj_disk.specs.declared.disk.DiskFail.TheVariants as fail
 use Rattle.journal_core.specs.Views.{HeadView, BatchView}
 use Rattle.journal_core.specs.declared.segment.Segment.{Segment}
 use Rattle.journal_core.specs.declared.node_state.NodeState.{NodeState}
 use Rattle.journal_core.specs.declared.refusal.Refusal.{Refusal}
 use Rattle.journal_core.specs.declared.refusal.Refusal.TheVariants.{DiskFault, OutOfMemory, BadFile, Down}
 use Rattle.journal_core.specs.declared.reply.Reply.{Reply}
-use Rattle.journal_core.specs.declared.reply.Reply.TheVariants.{Refused, Edits}
+use Rattle.journal_core.specs.declared.reply.Reply.TheVariants.{Refused}
 use Rattle.journal_core.specs.declared.request.Request.{Request}
 use Rattle.journal_core.specs.declared.request.Request.TheVariants.{State, NewEpoch, Start, Journal, Finalize, Prepare, Fetch, Accept, Purge, Read, Manifest}
 use Rattle.journal_core.specs.Limits.{head_of, limit_of}
 use Rattle.journal_core.specs.Effects.{after_effects}
 use Rattle.journal_core.specs.Reads.{edits_from, answer_from, serving}
-use Rattle.journal_core.specs.Step.{Stepped, node_step, unless_refused, refused_at_once, front_refused, unless_limited, row_refused, start_refused, journal_refused, open_refused, finalize_refused, fetch_refused, accept_refused, row_reply, fronted, effects_of, crashed, stopped}
-use Rattle.journal_core.specs.Answers.{IsAnswer, IsStopOf}
+use Rattle.journal_core.specs.Step.{Stepped, refused_at_once, front_refused, unless_limited, row_refused, start_refused, open_refused, finalize_refused, fetch_refused, accept_refused, row_reply, fronted, effects_of, crashed, stopped}
+use Rattle.journal_core.specs.Answers.{IsAnswer}
 use Rattle.journal_core.proofs.NodeLaws.{idle_step, stop_nothing}
 use Rattle.segment_file.specs.Rows.{RowsRise}
 use Rattle.segment_file.specs.declared.segment_row.SegmentRow.{SegmentRow}
@@ -34,14 +33,14 @@ use Rattle.node_files.specs.declared.node_number.NodeNumber.TheVariants.{Promise
 use Rattle.small_files.specs.Records.{IsNumber}
 use Rattle.journal_core.specs.Effects.{Effect}
 use Rattle.journal_core.specs.Step.{effects_unless}
-use Rattle.journal_node.specs.Told.{Tells, state_with}
+use Rattle.node_deeds.specs.Told.{Tells, state_with}
 use Rattle.journal_node.specs.FileState.{without_segments}
 use Rattle.journal_node.specs.Held.{StandsStopped}
 use Rattle.journal_node.specs.Node.{IsUp, IsDown, HasState, IsNode, IsNoFault, IsCaused, IsStoppedIn, foretold, settled, state_behind}
 use Rattle.journal_node.proofs.DoingRows.{tells_covers}
 use Rattle.journal_node.proofs.DoingDeed.{stands_now}
 use Rattle.journal_node.proofs.ActingFront.{step_done}
-use Rattle.journal_node.proofs.ActingDone.{fronted_apart, has_up, has_down, up_of}
+use Rattle.journal_node.proofs.ActingDone.{fronted_apart, has_up, has_down}
 
 -- ## No answer of the step is a bad file
 start_whole : (o : Option Segment) → start_refused o ≢ Some BadFile

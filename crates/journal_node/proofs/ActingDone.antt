@@ -1,35 +1,32 @@
 -- The deeds of a request, done at a node that is up.
-use Rattle.std.proofs.Common.{inl, inr, ⊎_elim, ℕ, ◌≡◌, ◌≢◌, ◌⊎◌, ◌↔◌, ◌≤◌, ◌++◌, ◌==◌, Bool, true, false, cond, List, [], ◌∷◌, take, map, length, Option, Some, None, refl, sym, ap, subst, ◌∙◌, arith}
-use Rattle.std.specs.Prelude.{Result, Ok, Err, OnOk, OnErr}
+use Rattle.std.proofs.Common.{ℕ, ◌≡◌, ◌↔◌, ◌≤◌, ◌++◌, ◌==◌, Bool, true, false, cond, List, [], take, Option, Some, None, refl, sym, ap, subst, ◌∙◌, arith}
 use Rattle.qj_disk.specs.Files.{Files}
-use Rattle.qj_disk.specs.View.{View, LeavesOnly, AllLeave}
+use Rattle.qj_disk.specs.View.{View, LeavesOnly}
 use Rattle.std.proofs.lemmas.Bool.Decides.{nat_tests}
 use Rattle.journal_core.specs.Views.{HeadView, BatchView}
 use Rattle.journal_core.specs.declared.segment.Segment.{Segment}
 use Rattle.journal_core.specs.declared.node_state.NodeState.{NodeState}
 use Rattle.journal_core.specs.declared.refusal.Refusal.{Refusal}
-use Rattle.journal_core.specs.declared.refusal.Refusal.TheVariants.{NotWriter, Down}
+use Rattle.journal_core.specs.declared.refusal.Refusal.TheVariants.{Down}
 use Rattle.journal_core.specs.declared.request.Request.{Request}
 use Rattle.journal_core.specs.declared.request.Request.TheVariants.{State, NewEpoch, Start, Journal, Finalize, Prepare, Fetch, Accept, Purge, Read, Manifest}
 use Rattle.journal_core.specs.Limits.{head_of, limit_of, max_number}
-use Rattle.journal_core.specs.Effects.{Effect, Promise, after_effects}
-use Rattle.journal_core.specs.Step.{refused_at_once, row_refused, row_then, fronted, front_opened, front_effects, front_known, open_refused, effects_of, effects_behind, crashed, closes_segment, bodies_in, front_refused, unless_limited}
-use Rattle.journal_core.specs.Segments.{find_segment}
+use Rattle.journal_core.specs.Effects.{Effect, after_effects}
+use Rattle.journal_core.specs.Step.{refused_at_once, row_refused, fronted, front_opened, front_effects, front_known, open_refused, effects_of, effects_behind, crashed, front_refused, unless_limited}
 use Rattle.segment_file.specs.Rows.{RowsRise}
 use Rattle.segment_file.specs.declared.segment_row.SegmentRow.{SegmentRow}
-use Rattle.node_files.specs.declared.node_number.NodeNumber.{NodeNumber}
 use Rattle.node_files.specs.declared.node_number.NodeNumber.TheVariants.{Promised, Writer, Committed}
-use Rattle.node_files.specs.Durable.{number_of, HaveNumbers, HoldsState}
-use Rattle.journal_node.specs.Told.{Tells, state_with}
+use Rattle.node_files.specs.Durable.{HaveNumbers, HoldsState}
+use Rattle.node_deeds.specs.Told.{Tells, state_with}
 use Rattle.journal_node.specs.FileState.{without_segments}
-use Rattle.journal_node.specs.Due.{AreDue}
+use Rattle.node_deeds.specs.Due.{AreDue}
 use Rattle.journal_node.specs.Held.{IsHeld, OpenedAt, StandsStopped}
 use Rattle.journal_node.specs.Done.{effects_by, CanDoAll, EndOpen, AppendWithin, append_start, LeftStopped}
 use Rattle.node_files.specs.Durable.{AreFilled}
 use Rattle.journal_node.proofs.Filled.{stopped_filled}
-use Rattle.journal_node.specs.Node.{BringsEdits, IsUp, IsDown, HasState, IsNode, IsStoppedIn, carried, settled, state_behind}
-use Rattle.journal_node.specs.declared.deed.Deed.{Deed}
-use Rattle.journal_node.proofs.LimitLaws.{IsHeadWithin, head_fits}
+use Rattle.journal_node.specs.Node.{BringsEdits, IsUp, IsDown, HasState, IsNode, IsStoppedIn, settled, state_behind}
+use Rattle.node_deeds.specs.declared.deed.Deed.{Deed}
+use Rattle.node_deeds.proofs.LimitLaws.{IsHeadWithin, head_fits}
 use Rattle.journal_node.proofs.DoneAppends.{AllFit, deeds_fit, front_fits, appends_within}
 use Rattle.journal_node.proofs.DoneLaws.{SameRest, rest_noted}
 use Rattle.journal_node.proofs.ActingFront.{effects_are, ends_open}

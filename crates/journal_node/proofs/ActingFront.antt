@@ -1,29 +1,28 @@
 -- What follows the deeds of a request, and which segment is open behind it.
-use Rattle.std.proofs.Common.{inl, inr, ⊎_elim, ℕ, ◌≡◌, ◌≢◌, ◌⊎◌, ◌≤◌, ◌<◌, ◌+◌, ◌++◌, ◌==◌, ◌&&◌, ◌||◌, Bool, true, false, not, max, nat_lt, cond, List, [], ◌∷◌, map, filter, Option, Some, None, refl, sym, ap, subst, ◌∙◌, arith}
+use Rattle.std.proofs.Common.{inl, inr, ℕ, ◌≡◌, ◌≢◌, ◌⊎◌, ◌≤◌, ◌<◌, ◌++◌, ◌==◌, ◌&&◌, ◌||◌, Bool, true, false, not, max, nat_lt, cond, List, [], ◌∷◌, map, filter, Option, Some, None, refl, sym, ap, subst, ◌∙◌, arith}
 use Rattle.std.proofs.lemmas.Bool.Decides.{nat_tests}
 use Rattle.std.proofs.lemmas.Option.{same_Some}
 use Rattle.node_files.specs.declared.node_number.NodeNumber.{NodeNumber}
 use Rattle.node_files.specs.declared.node_number.NodeNumber.TheVariants.{Promised, Writer, Committed}
 use Rattle.node_files.specs.Deeds.{number_effect}
-use Rattle.journal_core.specs.Views.{HeadView, BatchView}
+use Rattle.journal_core.specs.Views.{HeadView}
 use Rattle.journal_core.specs.declared.segment.Segment.{Segment}
 use Rattle.journal_core.specs.declared.node_state.NodeState.{NodeState}
 use Rattle.journal_core.specs.declared.refusal.Refusal.{Refusal}
 use Rattle.journal_core.specs.declared.request.Request.{Request}
 use Rattle.journal_core.specs.declared.request.Request.TheVariants.{State, NewEpoch, Start, Journal, Finalize, Prepare, Fetch, Accept, Purge, Read, Manifest}
 use Rattle.journal_core.specs.Limits.{head_of}
-use Rattle.journal_core.specs.Segments.{newest, has_edit}
 use Rattle.journal_core.specs.Effects.{Effect, Promise, WriterEpoch, Commit, NewSegment, Append, Replace, MakeFinal, Remove, after_effects}
-use Rattle.journal_core.specs.Step.{Stepped, node_step, refused_at_once, row_refused, row_effects, row_then, row_reply, fronted, front_effects, front_promised, front_opened, closes_segment, opened_then, effects_of, effects_behind, is_one, may_go, last_or_start, finalize_effects, is_final_one}
+use Rattle.journal_core.specs.Step.{Stepped, node_step, refused_at_once, row_refused, row_effects, row_then, row_reply, fronted, front_effects, front_promised, front_opened, closes_segment, opened_then, effects_of, effects_behind, is_one, may_go, finalize_effects, is_final_one}
 use Rattle.journal_core.specs.Segments.{find_segment}
 use Rattle.journal_core.proofs.NodeLaws.{after-append}
 use Rattle.journal_node.specs.Node.{carried, settled, state_behind, foretold}
-use Rattle.journal_node.specs.Due.{effect_of}
+use Rattle.node_deeds.specs.Due.{effect_of}
 use Rattle.journal_node.specs.Held.{Opens, Spares}
 use Rattle.journal_node.specs.Done.{effects_by, EndOpen}
-use Rattle.journal_node.specs.declared.deed.Deed.{Deed}
-use Rattle.journal_node.specs.declared.deed.Deed.TheVariants as deed
-use Rattle.journal_node.proofs.StepLaws.{front_done, unless_none, step_deeds, refused_front}
+use Rattle.node_deeds.specs.declared.deed.Deed.{Deed}
+use Rattle.node_deeds.specs.declared.deed.Deed.TheVariants as deed
+use Rattle.node_deeds.proofs.StepLaws.{front_done, unless_none, step_deeds, refused_front}
 
 -- ## The front's part in memory comes behind the effects
 carried_kept : (es : List Effect) (a b : NodeState) → after_effects (carried a b) es ≡ carried (after_effects a es) b

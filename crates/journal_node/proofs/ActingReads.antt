@@ -1,8 +1,7 @@
 -- A segment's file has the edits that are to be told.
-use Rattle.std.proofs.Common.{inl, inr, ⊎_elim, ℕ, ◌≡◌, ◌⊎◌, ◌≤◌, ◌<◌, ◌+◌, ◌-◌, ◌*◌, Bool, true, false, List, [], ◌∷◌, length, take, drop, Option, Some, None, min, refl, sym, ap, subst, ◌∙◌, arith, zero, suc, length-take, length-drop}
-use Rattle.std.proofs.lemmas.Bool.{false≢true}
+use Rattle.std.proofs.Common.{inl, inr, ℕ, ◌≡◌, ◌⊎◌, ◌≤◌, ◌-◌, Bool, List, [], ◌∷◌, take, drop, Option, Some, None, refl, sym, ap, subst, ◌∙◌, arith, zero, suc, length-take, length-drop}
 use Rattle.std.proofs.lemmas.Bool.Decides.{eqb_tells}
-use Rattle.std.proofs.lemmas.List.{drop-take, take-take}
+use Rattle.std.proofs.lemmas.List.{take-take}
 use Rattle.std.proofs.lemmas.Option.{same_Some}
 use Rattle.qj_disk.specs.View.{View, IsSound}
 use Rattle.journal_core.specs.Views.{BatchView, last_txid}
@@ -10,28 +9,27 @@ use Rattle.journal_core.specs.declared.segment.Segment.{Segment}
 use Rattle.journal_core.specs.declared.segment_line.SegmentLine.{SegmentLine}
 use Rattle.journal_core.specs.declared.node_state.NodeState.{NodeState}
 use Rattle.journal_core.specs.declared.reply.Reply.{Reply}
-use Rattle.journal_core.specs.declared.reply.Reply.TheVariants.{Edits, Refused}
+use Rattle.journal_core.specs.declared.reply.Reply.TheVariants.{Edits}
 use Rattle.journal_core.specs.Limits.{max_number}
 use Rattle.journal_core.specs.Segments.{find_segment, end_of, IsWithin, AreWithin, AreSound}
 use Rattle.std.specs.Prelude.{Result, Ok, Err, IfOk}
 use Rattle.qj_disk.specs.declared.disk.DiskFail.{DiskFail}
-use Rattle.journal_node.specs.Told.{state_with}
-use Rattle.journal_node.specs.Served.{IsServedBy, IsLineOf}
+use Rattle.node_deeds.specs.Told.{state_with}
+use Rattle.node_deeds.specs.Served.{IsServedBy, IsLineOf}
 use Rattle.journal_core.specs.Reads.{piece_of as fetched_piece}
 use Rattle.journal_core.specs.Reads.{served, serving, edits_from, answer_from, not_served, least_served}
 use Rattle.journal_core.specs.Answers.{Serves as NodeServes}
-use Rattle.batch_frame.specs.Segments.{IsSegmentFile}
-use Rattle.segment_file.specs.Names.{Kind, InProgress, Final, UnderWay, name_of, kind_of, IsKind}
-use Rattle.segment_file.specs.Stands.{HoldsEdits, Holds, IsFinalOf, IsProgressOf, CountsUnderWay, CountsPlain, slot_of, SlotStands}
+use Rattle.segment_file.specs.Names.{Kind, InProgress, Final, name_of, kind_of}
+use Rattle.segment_file.specs.Stands.{HoldsEdits, Holds, IsFinalOf, IsProgressOf, CountsUnderWay, CountsPlain, slot_of}
 use Rattle.segment_file.specs.Effects.{IsReady, IsTidy}
 use Rattle.segment_file.specs.Reads.{Serves, IsGiven, piece_of}
 use Rattle.segment_file.specs.declared.given.Given.TheVariants as given
-use Rattle.journal_node.specs.Told.{Tells, line_of}
+use Rattle.node_deeds.specs.Told.{Tells, line_of}
 use Rattle.journal_node.specs.Decoded.{bodies_in}
 use Rattle.journal_node.proofs.Decodes.{segment_file_decoded}
 use Rattle.segment_file.specs.Rows.{find_row}
 use Rattle.segment_file.specs.declared.segment_row.SegmentRow.{SegmentRow}
-use Rattle.journal_node.proofs.ToldLaws.{IsTold, found}
+use Rattle.node_deeds.proofs.ToldLaws.{IsTold, found}
 
 within_at : (start : ℕ) (gs : List Segment) (g : Segment) → AreWithin gs → find_segment start gs ≡ Some g → IsWithin g
 unfolding find_segment

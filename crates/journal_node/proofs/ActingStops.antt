@@ -1,33 +1,33 @@
 -- A request of which the first effects are done.
-use Rattle.std.proofs.Common.{inl, inr, ⊎_elim, ℕ, ◌≡◌, ◌≢◌, ◌⊎◌, ◌↔◌, ◌≤◌, min, Bool, true, false, cond, List, [], ◌∷◌, take, map, length, Option, Some, None, zero, suc, refl, sym, ap, subst, ◌∙◌, arith}
+use Rattle.std.proofs.Common.{inr, ℕ, ◌≡◌, ◌↔◌, ◌≤◌, min, Bool, true, false, cond, List, [], ◌∷◌, take, length, Option, Some, None, zero, suc, refl, sym, ap, subst, ◌∙◌, arith}
 use Rattle.std.specs.Prelude.{Result, Ok, Err, OnOk, OnErr}
 use Rattle.std.specs.List.{take-map}
-use Rattle.std.proofs.lemmas.List.{length-map, take-take, take_all}
-use Rattle.qj_disk.specs.View.{View, IsSound}
+use Rattle.std.proofs.lemmas.List.{length-map}
+use Rattle.qj_disk.specs.Files.{Files}
+use Rattle.qj_disk.specs.View.{View, IsSound, LeavesOnly, AllLeave}
+use Rattle.qj_disk.specs.Moments.{started}
 use Rattle.qj_disk.specs.declared.disk.DiskFail.{DiskFail}
 use Rattle.journal_core.specs.declared.segment.Segment.{Segment}
 use Rattle.journal_core.specs.declared.node_state.NodeState.{NodeState}
-use Rattle.journal_core.specs.declared.node_fail.NodeFail.{NodeFail}
 use Rattle.journal_core.specs.declared.node_fail.NodeFail.TheVariants.{DiskFault, OutOfMemory}
 use Rattle.journal_core.specs.declared.refusal.Refusal.{Refusal}
 use Rattle.journal_core.specs.declared.request.Request.{Request}
 use Rattle.journal_core.specs.Effects.{Effect, segments_after, after_effects}
 use Rattle.journal_core.specs.Step.{refused_at_once, effects_of, effects_unless, crashed, stopped}
-use Rattle.journal_core.specs.Answers.{IsStopOf}
-use Rattle.journal_core.specs.Stops.{Stops, IsStop, Kills, IsKill}
+use Rattle.journal_core.specs.Stops.{Stops, Kills}
 use Rattle.segment_file.specs.Rows.{RowsRise}
 use Rattle.segment_file.specs.declared.segment_row.SegmentRow.{SegmentRow}
-use Rattle.journal_node.specs.Told.{Tells}
-use Rattle.journal_node.specs.Due.{effect_of, AreDue, rows_after}
-use Rattle.journal_node.specs.Held.{IsHeld}
+use Rattle.node_deeds.specs.Told.{Tells}
+use Rattle.node_deeds.specs.Due.{effect_of, AreDue, rows_after}
+use Rattle.journal_node.specs.Held.{IsHeld, StandsStopped}
 use Rattle.journal_node.specs.Done.{effects_by, CanDoAll, AppendWithin, LeftStopped}
-use Rattle.node_files.specs.Durable.{AreFilled}
+use Rattle.node_files.specs.Durable.{AreFilled, StandsAs}
 use Rattle.journal_node.proofs.Filled.{stopped_filled}
 use Rattle.journal_node.specs.Node.{BringsEdits, IsUp, IsDown, HasState, IsNode, IsStoppedIn}
-use Rattle.journal_node.specs.declared.deed.Deed.{Deed}
+use Rattle.node_deeds.specs.declared.deed.Deed.{Deed}
 use Rattle.journal_node.proofs.DoingRows.{tells_covers}
 use Rattle.journal_node.proofs.DoingDeed.{stands_now}
-use Rattle.journal_node.proofs.ActingDone.{has_down, has_up, up_of, is_up}
+use Rattle.journal_node.proofs.ActingDone.{has_down, up_of, is_up}
 
 -- ## The first deeds
 pub due_first : (n : ℕ) (gs : List Segment) (rows : List SegmentRow) (r : Request) (ds : List Deed) → AreDue gs rows r ds → AreDue gs rows r (take n ds)
@@ -47,6 +47,10 @@ can_first v m rows s r ds n can = record { held = can.held; due = due_first n s.
 
 first_effects : (s : NodeState) (r : Request) (ds : List Deed) (n : ℕ) → effects_by r ds ≡ effects_of s r → effects_by r (take n ds) ≡ take n (effects_of s r)
 first_effects s r ds n are = sym (take-map (effect_of r) n ds) ∙ ap (take n) are
+
+-- at every moment
+pub first_moments : (v0 v1 : View) (s : NodeState) (r : Request) (ds : List Deed) (n : ℕ) → effects_by r ds ≡ effects_of s r → LeavesOnly v0 v1 (StandsStopped s (effects_by r (take n ds))) → LeavesOnly v0 v1 (StandsStopped s (take n (effects_of s r)))
+first_moments v0 v1 s r ds n are leaves = subst (λ (es : List Effect). LeavesOnly v0 v1 (StandsStopped s es)) (first_effects s r ds n are) leaves
 
 -- ## The node goes down
 pub held_down : (v : View) (m0 m1 m : NodeState) (rows : List SegmentRow) (s : NodeState) (r : Request) (ds : List Deed) (n : ℕ) → v.may_leave v.seen → effects_by r ds ≡ effects_of s r → m ≡ crashed m1 → RowsRise rows
@@ -111,6 +115,17 @@ pub stops_done : (v : View) (m : NodeState) (rows : List SegmentRow) (s : NodeSt
 stops_done v m rows s r ds keep n down are is stop =
     let count : n ≡ min keep (length (effects_of s r)) = is ∙ ap (min keep) (sym (length-map ds (effect_of r)) ∙ ap length are) in
     (stopped s r n, has_down v m rows (stopped s r n) down stop, record { count = count; state = ap (λ (es : List Effect). crashed (after_effects s es)) (all_taken keep n (effects_of s r) count) })
+
+pub kept_moments : (v0 v1 : View) (s : NodeState) (r : Request) (ds : List Deed) (keep n : ℕ) → effects_by r ds ≡ effects_of s r → n ≡ min keep (length ds) → LeavesOnly v0 v1 (StandsStopped s (take n (effects_of s r)))
+    → LeavesOnly v0 v1 (StandsStopped s (take keep (effects_of s r)))
+kept_moments v0 v1 s r ds keep n are is leaves =
+    let count : n ≡ min keep (length (effects_of s r)) = is ∙ ap (min keep) (sym (length-map ds (effect_of r)) ∙ ap length are) in
+    subst (λ (es : List Effect). LeavesOnly v0 v1 (StandsStopped s es)) (all_taken keep n (effects_of s r) count) leaves
+
+-- nothing was done
+pub no_moments : (v : View) (s : NodeState) (r : Request) (keep : ℕ) → IsSound v → AllLeave v (λ (c : Files). StandsAs c s) → LeavesOnly v v (StandsStopped s (take keep (effects_of s r)))
+unfolding after_effects
+no_moments v s r keep sound stands = started v (StandsStopped s (take keep (effects_of s r))) sound (λ c now. record { count = 0; within = omega arith; stands = stands c now })
 
 pub stops_fault : (v : View) (m : NodeState) (rows : List SegmentRow) (s : NodeState) (r : Request) (keep : ℕ) → m.up ≡ false → IsStoppedIn v m rows s r → (t : NodeState) × HasState m.up v m rows t × Stops (Some s) r keep (Err DiskFault) (Some t)
 stops_fault v m rows s r keep down stop = (stopped s r stop.keep, has_down v m rows (stopped s r stop.keep) down stop.down, (stop.keep, refl))

@@ -1,10 +1,9 @@
 -- What the disk calls of each deed ask, and that they do it.
-use Rattle.std.proofs.Common.{inl, inr, ◌≡◌, ◌≢◌, ◌⊎◌, ℕ, suc, ◌≤◌, ◌<◌, ◌+◌, ◌-◌, ◌^◌, ◌++◌, Bool, true, false, List, length, Option, Some, None, refl, sym, ap, subst, ◌∙◌, arith}
+use Rattle.std.proofs.Common.{inl, inr, ◌≡◌, ◌⊎◌, ℕ, ◌≤◌, ◌+◌, ◌^◌, ◌++◌, Bool, true, false, List, length, Option, Some, refl, sym, ap, subst, ◌∙◌, arith}
 use Rattle.std.specs.Prelude.{IsSome, Result, Ok, Err, OnOk, IsOk, IsErr, IsErrOf}
 use Rattle.std.proofs.lemmas.Option.{same_Some}
 use Rattle.std.proofs.lemmas.Result.{on_ok_weaker}
-use Rattle.qj_disk.specs.View.{View, IsSound, IsStable, LeavesOnly}
-use Rattle.qj_disk.specs.Files.{Files}
+use Rattle.qj_disk.specs.View.{View, IsSound, IsStable}
 use Rattle.qj_disk.specs.Moments.{started}
 use Rattle.qj_disk.specs.declared.disk.DiskFail.{DiskFail}
 use Rattle.qj_disk.specs.declared.disk.DiskFail.TheVariants.{Failed}
@@ -15,36 +14,35 @@ use Rattle.journal_core.specs.declared.segment.Segment.{Segment}
 use Rattle.journal_core.specs.declared.segment_info.SegmentInfo.{SegmentInfo}
 use Rattle.journal_core.specs.declared.node_state.NodeState.{NodeState}
 use Rattle.journal_core.specs.declared.request.Request.{Request}
-use Rattle.journal_core.specs.Segments.{find_segment, info_of, end_of}
+use Rattle.journal_core.specs.Segments.{find_segment, end_of}
 use Rattle.journal_core.specs.Effects.{NewSegment, Append, Replace, MakeFinal, Remove, after_effect, empty_segment}
 use Rattle.journal_core.specs.Cuts.{number_cost, segment_cost, append_cost, accept_cost, name_cost, has_record, has_record_of, cost_of}
 use Rattle.journal_core.proofs.SegmentLists.{find-start}
 use Rattle.batch_frame.specs.Frames.{frame_bytes}
 use Rattle.segment_file.specs.Gate.{IsShut}
-use Rattle.segment_file.specs.Names.{InProgress, Final, Record, FreshRecord, name_of, kind_of, IsKind}
+use Rattle.segment_file.specs.Names.{InProgress, Final, Record, name_of, kind_of, IsKind}
 use Rattle.segment_file.specs.Stands.{Holds, slot_of}
 use Rattle.segment_file.specs.Effects.{AppendsAt, IsCounted}
 use Rattle.segment_file.specs.Calls.{NotFinal, CanAppend, CanFinalize, CanDiscard}
 use Rattle.segment_file.specs.Answers.{appended_result}
 use Rattle.segment_file.specs.declared.appended.Appended.{Appended}
 use Rattle.segment_file.specs.declared.appended.Appended.TheVariants as appended
-use Rattle.segment_file.specs.Rows.{find_row, RowsWithin, AreSoundRows}
+use Rattle.segment_file.specs.Rows.{AreSoundRows}
 use Rattle.segment_file.specs.declared.segment_row.SegmentRow.{SegmentRow}
 use Rattle.segment_file.specs.Opened.{AreStarts}
 use Rattle.node_files.specs.Durable.{StandsAs, HoldsState}
 use Rattle.node_files.specs.declared.node_number.NodeNumber.{NodeNumber}
 use Rattle.node_files.specs.declared.node_number.NodeNumber.TheVariants.{Promised, Writer, Committed}
-use Rattle.node_files.specs.Deeds.{number_effect, Does, IsCutAt, KeepsOthers, CanBegin, CanAccept}
+use Rattle.node_files.specs.Deeds.{number_effect, Does, IsCutAt, KeepsOthers, CanAccept}
 use Rattle.node_files.proofs.OneCall.{on_ok_always}
 use Rattle.node_files.proofs.Lists.{starts_of}
 use Rattle.node_files.proofs.HoldsLaws.{progress_there, final_there, accepted_there, appends_shut}
-use Rattle.journal_node.specs.Told.{Tells}
+use Rattle.node_deeds.specs.Told.{Tells}
 use Rattle.journal_node.specs.FileState.{without_segments}
-use Rattle.journal_node.specs.Held.{AppendsTo}
-use Rattle.journal_node.specs.Due.{batch_of, effect_of, IsDue, IsAppendDue, IsFinalizeDue, IsRemoveDue}
+use Rattle.node_deeds.specs.Due.{batch_of, effect_of, IsAppendDue, IsFinalizeDue, IsRemoveDue}
 use Rattle.journal_node.specs.Doing.{CanDo, DoesDeed}
-use Rattle.journal_node.specs.declared.deed.Deed.{Deed}
-use Rattle.journal_node.specs.declared.deed.Deed.TheVariants as deed
+use Rattle.node_deeds.specs.declared.deed.Deed.{Deed}
+use Rattle.node_deeds.specs.declared.deed.Deed.TheVariants as deed
 use Rattle.journal_node.proofs.DoingRows.{row_of, row_within}
 
 -- ## What is asked of any disk

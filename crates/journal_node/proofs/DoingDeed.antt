@@ -1,9 +1,8 @@
 -- What a deed that was done leaves: at the disk, in the table and in memory.
-use Rattle.std.proofs.Common.{inl, inr, ⊎_elim, ◌≡◌, ◌≢◌, ◌⊎◌, ℕ, ◌+◌, ◌++◌, Bool, true, false, List, [], length, Option, Some, None, refl, sym, ap, subst, ◌∙◌}
+use Rattle.std.proofs.Common.{inl, inr, ⊎_elim, ◌≡◌, ◌≢◌, ◌⊎◌, ℕ, ◌+◌, ◌++◌, true, false, List, [], length, Option, Some, None, refl, sym, ap, subst, ◌∙◌}
 use Rattle.std.specs.Prelude.{Result, Ok, Err, OnOk, OnErr, IsOk, IsErrOf}
 use Rattle.std.proofs.lemmas.Bool.{cases_eq}
 use Rattle.std.proofs.lemmas.Option.{same_Some}
-use Rattle.qj_disk.specs.Files.{Files}
 use Rattle.qj_disk.specs.View.{View, IsSound, LeavesOnly, AllLeave}
 use Rattle.qj_disk.specs.declared.disk.DiskFail.{DiskFail}
 use Rattle.qj_disk.specs.declared.disk.DiskFail.TheVariants.{Failed}
@@ -14,7 +13,7 @@ use Rattle.journal_core.specs.declared.segment.Segment.{Segment}
 use Rattle.journal_core.specs.declared.node_state.NodeState.{NodeState}
 use Rattle.journal_core.specs.declared.request.Request.{Request}
 use Rattle.journal_core.specs.Segments.{find_segment, put_segment, AreSound}
-use Rattle.journal_core.specs.Effects.{Effect, after_effect, segments_after, appended, finalized, empty_segment}
+use Rattle.journal_core.specs.Effects.{after_effect, segments_after, appended, finalized, empty_segment}
 use Rattle.journal_core.proofs.SegmentLists.{find-start, find-put_same, find-put_other, find-remove_other}
 use Rattle.batch_frame.specs.Frames.{frame_bytes}
 use Rattle.segment_file.specs.Effects.{AppendsAt}
@@ -22,17 +21,16 @@ use Rattle.segment_file.proofs.Counts.{on_ok}
 use Rattle.segment_file.specs.Rows.{find_row, put_row}
 use Rattle.segment_file.specs.declared.segment_row.SegmentRow.{SegmentRow}
 use Rattle.node_files.specs.Durable.{StandsAs, HoldsState}
-use Rattle.node_files.specs.declared.node_number.NodeNumber.{NodeNumber}
-use Rattle.node_files.specs.Deeds.{number_effect, IsCutAt}
-use Rattle.journal_node.specs.Told.{Tells, state_with}
+use Rattle.node_files.specs.Deeds.{IsCutAt}
+use Rattle.node_deeds.specs.Told.{Tells, state_with}
 use Rattle.journal_node.specs.FileState.{Covers, without_segments}
-use Rattle.journal_node.specs.Due.{batch_of, effect_of, IsDue, IsAppendDue, begun_row, appended_row, final_row, changed, rows_after}
-use Rattle.journal_node.specs.Held.{IsHeld, AppendsTo, OpenedAt, IsLeft, MayLeave, numbers_after, Opens, Spares}
+use Rattle.node_deeds.specs.Due.{batch_of, effect_of, IsDue, IsAppendDue, begun_row, appended_row, final_row, changed, rows_after}
+use Rattle.journal_node.specs.Held.{IsHeld, AppendsTo, OpenedAt, MayLeave, numbers_after, Opens, Spares}
 use Rattle.journal_node.specs.Doing.{place_after, CanDo, Passes, AppendsBehind, DoesDeed, NotedAtFault}
-use Rattle.journal_node.specs.declared.deed.Deed.{Deed}
-use Rattle.journal_node.specs.declared.deed.Deed.TheVariants as deed
-use Rattle.journal_node.proofs.ToldLaws.{start_told}
-use Rattle.journal_node.proofs.ApplyLaws.{after_told}
+use Rattle.node_deeds.specs.declared.deed.Deed.{Deed}
+use Rattle.node_deeds.specs.declared.deed.Deed.TheVariants as deed
+use Rattle.node_deeds.proofs.ToldLaws.{start_told}
+use Rattle.node_deeds.proofs.ApplyLaws.{after_told}
 use Rattle.journal_node.proofs.DoingRows.{find_put_same, find_put_other, find_remove_other, row_of, tells_covers, IsNotedBehind, IsNotedBefore, number_same, covers_behind, covers_before, sound_after}
 
 -- ## What a crash leaves

@@ -1,9 +1,8 @@
 -- A table that covers segments, before a deed and behind it.
-use Rattle.std.proofs.Common.{inl, inr, ◌≡◌, ◌≢◌, ℕ, ◌≤◌, ◌==◌, true, false, List, [], ◌∷◌, ◌++◌, length, Option, Some, None, refl, sym, ap, subst, ◌∙◌, arith, cond, nat_lt, length-append}
+use Rattle.std.proofs.Common.{inl, inr, ◌≡◌, ◌≢◌, ℕ, ◌==◌, true, false, List, [], ◌∷◌, ◌++◌, Option, Some, None, refl, sym, ap, subst, ◌∙◌, arith, cond, nat_lt, length-append}
 use Rattle.std.proofs.lemmas.Bool.{cases_eq, cond_both, cond-true, cond-false, eq-eqb, eqb-true, ne_eqb}
 use Rattle.std.proofs.lemmas.Option.{same_Some}
 use Rattle.journal_core.specs.declared.segment.Segment.{Segment}
-use Rattle.journal_core.specs.declared.segment_info.SegmentInfo.{SegmentInfo}
 use Rattle.journal_core.specs.declared.request.Request.{Request}
 use Rattle.journal_core.specs.Segments.{find_segment, put_segment, remove_segment, end_of, info_of, IsWithin, AreWithin, AreSound}
 use Rattle.journal_core.specs.Effects.{segments_after, appended, finalized, empty_segment, accepted_segment}
@@ -15,12 +14,12 @@ use Rattle.segment_file.specs.Calls.{NotFinal}
 use Rattle.node_files.specs.declared.node_number.NodeNumber.{NodeNumber}
 use Rattle.node_files.specs.declared.node_number.NodeNumber.TheVariants.{Promised, Writer, Committed}
 use Rattle.node_files.specs.Deeds.{number_effect}
-use Rattle.journal_node.specs.Told.{Tells}
+use Rattle.node_deeds.specs.Told.{Tells}
 use Rattle.journal_node.specs.FileState.{Covers}
-use Rattle.journal_node.specs.Due.{batch_of, effect_of, IsDue, IsBeginDue, IsAppendDue, IsAcceptDue, IsFinalizeDue, begun_row, accepted_row, rows_after}
-use Rattle.journal_node.specs.declared.deed.Deed.{Deed}
-use Rattle.journal_node.specs.declared.deed.Deed.TheVariants as deed
-use Rattle.journal_node.proofs.ToldLaws.{IsTold, found, end_told}
+use Rattle.node_deeds.specs.Due.{batch_of, effect_of, IsDue, IsAppendDue, begun_row, accepted_row, rows_after}
+use Rattle.node_deeds.specs.declared.deed.Deed.{Deed}
+use Rattle.node_deeds.specs.declared.deed.Deed.TheVariants as deed
+use Rattle.node_deeds.proofs.ToldLaws.{IsTold, found, end_told}
 
 -- ## Rows that are found
 pub find_put_same : (new : SegmentRow) (rows : List SegmentRow) → find_row new.info.start (put_row new rows) ≡ Some new

@@ -9,11 +9,11 @@ use Rattle.journal_core.specs.declared.request.Request.TheVariants.{State, NewEp
 use Rattle.journal_core.specs.Limits.{head_of}
 use Rattle.journal_core.specs.Effects.{Effect, Promise, WriterEpoch, Commit, NewSegment, Append, Replace, MakeFinal, Remove}
 use Rattle.journal_core.specs.Step.{refused_at_once, front_effects, fronted, row_refused, may_go, row_effects, effects_behind, effects_unless, effects_of}
-use Rattle.journal_node.specs.Due.{effect_of}
+use Rattle.node_deeds.specs.Due.{effect_of}
 use Rattle.journal_node.specs.Held.{Spares}
 use Rattle.journal_node.specs.Done.{effects_by, GoesTo, AppendWithin, append_start, AppendsAreWithin}
-use Rattle.journal_node.specs.declared.deed.Deed.{Deed}
-use Rattle.journal_node.specs.declared.deed.Deed.TheVariants as deed
+use Rattle.node_deeds.specs.declared.deed.Deed.{Deed}
+use Rattle.node_deeds.specs.declared.deed.Deed.TheVariants as deed
 
 -- the effect is on no segment but an append to this one, or no append where none is named
 abbrev pub Fits : Option ℕ → Effect → Type 0

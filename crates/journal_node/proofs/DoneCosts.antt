@@ -1,6 +1,5 @@
 -- The effects of a request leave the costs of those behind them as they are.
-use Rattle.std.proofs.Common.{◌≡◌, ◌≢◌, ℕ, ◌<◌, ◌++◌, Bool, true, false, List, [], ◌∷◌, map, filter, Option, Some, None, refl, ap, ◌∙◌, cond, arith}
-use Rattle.std.proofs.lemmas.Bool.{cond_both}
+use Rattle.std.proofs.Common.{◌≡◌, ◌≢◌, ℕ, ◌++◌, Bool, true, false, List, [], ◌∷◌, map, filter, Option, Some, None, refl, cond, arith}
 use Rattle.journal_core.specs.Views.{HeadView}
 use Rattle.journal_core.specs.declared.cut.Cut.{Cut}
 use Rattle.journal_core.specs.declared.refusal.Refusal.{Refusal}
@@ -9,9 +8,9 @@ use Rattle.journal_core.specs.declared.node_state.NodeState.{NodeState}
 use Rattle.journal_core.specs.declared.request.Request.{Request}
 use Rattle.journal_core.specs.declared.request.Request.TheVariants.{State, NewEpoch, Start, Journal, Finalize, Prepare, Fetch, Accept, Purge, Read, Manifest}
 use Rattle.journal_core.specs.Limits.{head_of}
-use Rattle.journal_core.specs.Segments.{find_segment, remove_segment, AreAbove, AreRising, AreSound}
-use Rattle.journal_core.specs.Effects.{Effect, Promise, WriterEpoch, Commit, NewSegment, Append, Replace, MakeFinal, Remove}
-use Rattle.journal_core.specs.Step.{refused_at_once, front_effects, fronted, row_refused, is_final_one, may_go, start_effects, finalize_effects, row_effects, effects_behind, effects_unless, effects_of}
+use Rattle.journal_core.specs.Segments.{remove_segment, AreAbove, AreRising, AreSound}
+use Rattle.journal_core.specs.Effects.{Effect, Promise, WriterEpoch, Commit, NewSegment, Replace, MakeFinal, Remove}
+use Rattle.journal_core.specs.Step.{refused_at_once, front_effects, fronted, row_refused, may_go, row_effects, effects_behind, effects_unless, effects_of}
 use Rattle.journal_core.specs.Cuts.{name_cost, has_record, cost_of}
 use Rattle.journal_core.proofs.SegmentLists.{find-remove_other}
 use Rattle.journal_core.proofs.PurgeLaws.{filter_sound}

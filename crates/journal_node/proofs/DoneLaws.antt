@@ -1,16 +1,15 @@
 -- Deeds done one after the other, as far as they are done.
-use Rattle.std.proofs.Common.{inl, inr, ⊎_elim, ◌≡◌, ◌⊎◌, ◌↔◌, ℕ, ◌≤◌, ◌<◌, ◌+◌, ◌++◌, List, [], ◌∷◌, length, take, drop, map, Option, Some, None, refl, sym, ap, subst, ◌∙◌, arith, suc, get_or, drop-cons, length-append, append_assoc, append-nil}
-use Rattle.std.specs.Prelude.{Result, IsOk, IsErrOf}
+use Rattle.std.proofs.Common.{inl, inr, ⊎_elim, ◌≡◌, ◌⊎◌, ◌↔◌, ℕ, ◌≤◌, ◌<◌, ◌+◌, ◌++◌, List, [], ◌∷◌, length, take, drop, map, Option, refl, sym, ap, subst, ◌∙◌, arith, suc, get_or, drop-cons, length-append, append_assoc}
+use Rattle.std.specs.Prelude.{Result, IsOk}
 use Rattle.std.specs.List.{take-map}
 use Rattle.std.proofs.Math.Seq.{take-append_seam}
 use Rattle.std.proofs.lemmas.List.{length-map, map-append, take_more}
 use Rattle.qj_disk.specs.Files.{Files}
-use Rattle.qj_disk.specs.View.{View, IsSound, LeavesOnly, AllLeave}
-use Rattle.qj_disk.specs.Calls.{HasCause, Rose}
+use Rattle.qj_disk.specs.View.{View, IsSound, LeavesOnly}
+use Rattle.qj_disk.specs.Calls.{HasCause}
 use Rattle.qj_disk.specs.Runs.{joined, weaker}
 use Rattle.qj_disk.specs.Moments.{started}
 use Rattle.qj_disk.specs.declared.disk.DiskFail.{DiskFail}
-use Rattle.qj_disk.specs.declared.disk.DiskFail.TheVariants.{Failed}
 use Rattle.journal_core.specs.declared.cut.Cut.{Cut}
 use Rattle.journal_core.specs.declared.segment.Segment.{Segment}
 use Rattle.journal_core.specs.declared.node_state.NodeState.{NodeState}
@@ -24,13 +23,13 @@ use Rattle.segment_file.proofs.GateLemmas.{Passed, passed_none}
 use Rattle.segment_file.proofs.Counts.{passed_on}
 use Rattle.node_files.specs.Durable.{StandsAs}
 use Rattle.node_files.specs.Deeds.{Does}
-use Rattle.journal_node.specs.Told.{Tells, state_with}
-use Rattle.journal_node.specs.Due.{effect_of, IsDue, AreDue, rows_after}
-use Rattle.journal_node.specs.Held.{IsHeld, OpenedAt, StandsStopped, MayLeave, numbers_after, Opens, Spares}
+use Rattle.node_deeds.specs.Told.{Tells, state_with}
+use Rattle.node_deeds.specs.Due.{effect_of, IsDue, AreDue, rows_after}
+use Rattle.journal_node.specs.Held.{IsHeld, OpenedAt, StandsStopped, numbers_after, Opens, Spares}
 use Rattle.journal_node.specs.Doing.{place_after, HasPlace, CanDo}
 use Rattle.journal_node.specs.Done.{effects_by, GoesTo, AppendWithin, CanDoAll, EndOpen, KeepCosts, calls_of}
-use Rattle.journal_node.specs.declared.deed.Deed.{Deed}
-use Rattle.journal_node.specs.declared.deed.Deed.TheVariants as deed
+use Rattle.node_deeds.specs.declared.deed.Deed.{Deed}
+use Rattle.node_deeds.specs.declared.deed.Deed.TheVariants as deed
 use Rattle.journal_node.proofs.DoingDeed.{stands_now}
 
 -- the calls of the deeds that are done, and the costs of the others

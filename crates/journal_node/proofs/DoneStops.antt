@@ -1,13 +1,11 @@
 -- A run of deeds that failed at one of them, and one that ended.
-use Rattle.std.proofs.Common.{inl, inr, ⊎_elim, ◌≡◌, ◌⊎◌, ◌↔◌, ℕ, suc, ◌≤◌, ◌<◌, ◌+◌, ◌-◌, ◌++◌, Bool, true, false, List, [], ◌∷◌, length, take, map, Option, Some, refl, sym, ap, subst, ◌∙◌, arith, length-append, append_assoc, append-nil}
+use Rattle.std.proofs.Common.{inl, inr, ⊎_elim, ◌≡◌, ◌⊎◌, ℕ, suc, ◌≤◌, ◌<◌, ◌+◌, ◌-◌, ◌++◌, Bool, true, false, List, [], ◌∷◌, length, take, map, Option, Some, refl, sym, ap, subst, ◌∙◌, arith, length-append, append_assoc, append-nil}
 use Rattle.std.specs.Prelude.{Result, Ok, Err, OnErr, IsErr, IsErrOf, nat_le, if◌then◌else◌}
 use Rattle.std.proofs.lemmas.Bool.{cases_lt, le-leb}
 use Rattle.qj_disk.specs.Files.{Files}
-use Rattle.qj_disk.specs.View.{View, IsSound, LeavesOnly, AllLeave}
-use Rattle.qj_disk.specs.Calls.{HasCause}
+use Rattle.qj_disk.specs.View.{View, LeavesOnly, AllLeave}
 use Rattle.qj_disk.specs.declared.disk.DiskFail.{DiskFail}
 use Rattle.qj_disk.specs.declared.disk.DiskFail.TheVariants.{Failed}
-use Rattle.journal_core.specs.Views.{BatchView}
 use Rattle.journal_core.specs.declared.cut.Cut.{Cut}
 use Rattle.journal_core.specs.declared.cut.Cut.TheVariants as cuts
 use Rattle.journal_core.specs.declared.segment.Segment.{Segment}
@@ -16,19 +14,19 @@ use Rattle.journal_core.specs.declared.request.Request.{Request}
 use Rattle.journal_core.specs.Segments.{find_segment, AreSound}
 use Rattle.journal_core.specs.Effects.{Effect, Promise, WriterEpoch, Commit, NewSegment, Append, Replace, MakeFinal, Remove, after_effect, after_effects, segments_after}
 use Rattle.journal_core.specs.Cuts.{Cost, accept_cost, name_cost, has_record, has_record_of, cost_of, standing}
-use Rattle.segment_file.specs.Effects.{choice_of, IsLeft, IsCounted}
+use Rattle.segment_file.specs.Effects.{IsCounted}
 use Rattle.segment_file.specs.declared.segment_row.SegmentRow.{SegmentRow}
 use Rattle.segment_file.proofs.Counts.{counted_off}
 use Rattle.node_files.specs.Durable.{StandsAs}
 use Rattle.node_files.specs.Deeds.{Does, IsCutAt}
-use Rattle.journal_node.specs.Told.{Tells, state_with}
-use Rattle.journal_node.specs.Due.{effect_of, IsDue}
+use Rattle.node_deeds.specs.Told.{Tells, state_with}
+use Rattle.node_deeds.specs.Due.{effect_of, IsDue}
 use Rattle.journal_node.specs.Held as held
 use Rattle.journal_node.specs.Held.{IsHeld, OpenedAt, StandsStopped, MayLeave}
 use Rattle.journal_node.specs.FileState.{Covers}
 use Rattle.journal_node.specs.Doing.{CanDo}
 use Rattle.journal_node.specs.Done.{effects_by, CanDoAll, EndOpen, LeftStopped, KeepCosts, calls_of, IsCutAmong}
-use Rattle.journal_node.specs.declared.deed.Deed.{Deed}
+use Rattle.node_deeds.specs.declared.deed.Deed.{Deed}
 use Rattle.journal_node.proofs.DoingRows.{sound_after}
 use Rattle.journal_node.proofs.DoneLaws.{SoFar, CostSoFar, IsUnderWay, front_is, front_within, rest_noted, behind_next, can_now, next_all, next_is, moments_then, head_cost}
 

@@ -1,14 +1,14 @@
 -- No effect leaves an accepted segment without an edit.
-use Rattle.std.proofs.Common.{ℕ, ◌≡◌, ◌≤◌, ◌<◌, ◌++◌, ◌==◌, Bool, true, false, cond, List, [], ◌∷◌, map, filter, take, Option, Some, None, zero, suc, refl, sym, ap, subst, ◌∙◌, nat_lt}
+use Rattle.std.proofs.Common.{ℕ, ◌≡◌, ◌++◌, Bool, true, false, cond, List, [], ◌∷◌, map, filter, take, Option, Some, None, zero, suc, refl}
 use Rattle.std.proofs.lemmas.Bool.{false≢true}
-use Rattle.journal_core.specs.Views.{HeadView, BatchView}
+use Rattle.journal_core.specs.Views.{HeadView}
 use Rattle.journal_core.specs.declared.segment.Segment.{Segment}
 use Rattle.journal_core.specs.declared.node_state.NodeState.{NodeState}
 use Rattle.journal_core.specs.declared.refusal.Refusal.{Refusal}
 use Rattle.journal_core.specs.declared.request.Request.{Request}
 use Rattle.journal_core.specs.declared.request.Request.TheVariants.{State, NewEpoch, Start, Journal, Finalize, Prepare, Fetch, Accept, Purge, Read, Manifest}
 use Rattle.journal_core.specs.Limits.{head_of}
-use Rattle.journal_core.specs.Segments.{find_segment, any_body, has_edit}
+use Rattle.journal_core.specs.Segments.{find_segment, any_body}
 use Rattle.journal_core.specs.Effects.{Effect, Promise, WriterEpoch, Commit, NewSegment, Append, Replace, MakeFinal, Remove, after_effect, after_effects, segments_after, appended, finalized, empty_segment, accepted_segment}
 use Rattle.journal_core.specs.Step.{refused_at_once, front_effects, fronted, row_refused, may_go, row_effects, effects_behind, effects_unless, effects_of}
 use Rattle.node_files.specs.Durable.{AreFilled}

@@ -1,14 +1,3 @@
-pub mod ToldLaws
-pub mod RefusalLaws
-pub mod LimitLaws
-pub mod DeedLaws
-pub mod DueLaws
-pub mod PurgeLaws
-pub mod ApplyLaws
-pub mod ServedLaws
-pub mod ServingTold
-pub mod ReplyLaws
-pub mod StepLaws
 pub mod Decodes
 pub mod SegmentAt
 pub mod RowLists
@@ -29,3 +18,4 @@ pub mod ActingStops
 pub mod NodeOpens
 pub mod Filled
 pub mod Reopens
+pub mod CuttingLaws

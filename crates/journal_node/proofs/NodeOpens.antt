@@ -1,7 +1,8 @@
 -- A node that is opened is up.
-use Rattle.std.proofs.Common.{inl, inr, ⊎_elim, ℕ, ◌≡◌, ◌⊎◌, ◌≤◌, Bool, true, false, List, [], ◌∷◌, Option, Some, None, refl, sym, ap, subst, ◌∙◌}
+use Rattle.std.proofs.Common.{ℕ, ◌≡◌, ◌≤◌, Bool, true, List, [], ◌∷◌, None, sym, ap, subst, ◌∙◌}
 use Rattle.qj_disk.specs.Files.{Files}
-use Rattle.qj_disk.specs.View.{View}
+use Rattle.qj_disk.specs.View.{View, LeavesOnly}
+use Rattle.qj_disk.specs.Runs.{weaker}
 use Rattle.journal_core.specs.declared.segment.Segment.{Segment}
 use Rattle.journal_core.specs.declared.node_state.NodeState.{NodeState}
 use Rattle.journal_core.specs.Limits.{max_number}
@@ -12,10 +13,8 @@ use Rattle.node_files.specs.declared.node_number.NodeNumber.TheVariants.{Promise
 use Rattle.node_files.specs.declared.files.NodeFiles.{NodeFiles}
 use Rattle.node_files.specs.Durable.{HaveNumbers, HoldsState}
 use Rattle.node_files.specs.Opening.{HoldsFiles}
-use Rattle.journal_node.specs.Told.{Tells}
-use Rattle.journal_node.specs.FileState.{without_segments}
 use Rattle.journal_node.specs.Node.{IsUp, HasState, IsNode}
-use Rattle.journal_node.specs.Opening.{IsOpenedNode}
+use Rattle.journal_node.specs.Opening.{Keeps, StandsAsBefore, IsOpenedNode}
 
 infos_of : (seen : Files) (gs : List Segment) (rows : List SegmentRow) → AreRowsOf seen gs rows → AreInfos gs rows
 infos_of seen [] [] are = tt
@@ -65,3 +64,7 @@ opened_node A old v f m is small tells holds = record {
       let opened = opened_up old v f m is (holds t) in
       (restarted opened.state, subst (λ (b : Bool). HasState b v m f.table (restarted opened.state)) (sym (ap (λ (x : NodeState). x.up) is)) opened.up);
 }
+
+-- ## Moments
+pub as_before : (v0 v1 : View) → LeavesOnly v0 v1 (λ c. (d : Files) × v0.may_leave d × Keeps d c) → LeavesOnly v0 v1 (StandsAsBefore v0)
+as_before v0 v1 leaves = weaker v0 v1 (λ c. (d : Files) × v0.may_leave d × Keeps d c) (StandsAsBefore v0) (λ c was. record { before = was.0; left = was.1; kept = was.2 }) leaves

@@ -1,29 +1,26 @@
 -- What a node stands for, by its files, its memory and its table.
-use Rattle.std.proofs.Common.{inl, inr, ⊎_elim, ℕ, ◌≡◌, ◌⊎◌, ◌↔◌, ◌≤◌, ◌^◌, Bool, true, false, cond, List, [], ◌∷◌, Option, Some, None, refl, sym, ap, subst, ◌∙◌, arith}
+use Rattle.std.proofs.Common.{ℕ, ◌≡◌, ◌↔◌, ◌≤◌, ◌^◌, Bool, true, false, cond, List, [], ◌∷◌, Option, Some, None, refl, sym, ap, subst, ◌∙◌}
 use Rattle.std.specs.Prelude.{T}
 use Rattle.qj_disk.specs.Files.{Files}
-use Rattle.qj_disk.specs.View.{View, AllLeave}
+use Rattle.qj_disk.specs.View.{View}
 use Rattle.qj_disk.specs.Calls.{Rests}
 use Rattle.journal_core.specs.declared.segment.Segment.{Segment}
 use Rattle.journal_core.specs.declared.node_state.NodeState.{NodeState}
-use Rattle.journal_core.specs.Segments.{AreRising, AreAbove, find_segment}
-use Rattle.journal_core.specs.Step.{crashed}
-use Rattle.segment_file.specs.Effects.{AppendsAt, IsReady, IsTidy}
+use Rattle.journal_core.specs.Segments.{AreRising, AreAbove}
+use Rattle.segment_file.specs.Effects.{AppendsAt, IsTidy}
 use Rattle.segment_file.specs.Names.{name_of, InProgress}
 use Rattle.segment_file.specs.Rows.{RowsAbove, RowsRise}
 use Rattle.segment_file.specs.declared.segment_row.SegmentRow.{SegmentRow}
-use Rattle.node_files.specs.declared.node_number.NodeNumber.{NodeNumber}
-use Rattle.node_files.specs.declared.node_number.NodeNumber.TheVariants.{Promised, Writer, Committed}
-use Rattle.node_files.specs.Durable.{number_of, HaveNumbers, HoldsState, StandsAs}
+use Rattle.node_files.specs.Durable.{HoldsState}
 use Rattle.segment_file.specs.Opened.{OnlyAccepted, AreStarts, AreInfos}
 use Rattle.small_files.specs.Puts.{temporary}
 use Rattle.node_files.specs.Durable.{number_name}
 use Rattle.segment_file.specs.Names.{FreshRecord}
-use Rattle.journal_node.specs.Told.{Tells}
-use Rattle.journal_node.specs.FileState.{state_of, without_segments, AreRowStarts, Covers}
-use Rattle.journal_node.specs.Held.{IsHeld, IsLeft, AppendsTo, OpenedAt}
+use Rattle.node_deeds.specs.Told.{Tells}
+use Rattle.journal_node.specs.FileState.{state_of, AreRowStarts}
+use Rattle.journal_node.specs.Held.{IsLeft, OpenedAt}
 use Rattle.journal_node.specs.Node.{IsUp, IsDown, HasState, IsNode, told_state}
-use Rattle.journal_node.proofs.ToldLaws.{start_told}
+use Rattle.node_deeds.proofs.ToldLaws.{start_told}
 use Rattle.journal_node.proofs.StateLaws.{up_decoded, down_decoded}
 use Rattle.journal_node.proofs.DoingDeed.{stands_now}
 use Rattle.journal_node.proofs.DoingRows.{tells_covers}

@@ -1,12 +1,12 @@
 -- A node that comes up again has the state that it had.
-use Rattle.std.proofs.Common.{inl, inr, ⊎_elim, ℕ, ◌≡◌, ◌≢◌, ◌⊎◌, ◌↔◌, ◌≤◌, ◌<◌, ◌^◌, ◌==◌, ◌++◌, Bool, true, false, not, cond, List, [], ◌∷◌, Option, Some, None, refl, sym, ap, subst, ◌∙◌, arith}
+use Rattle.std.proofs.Common.{inl, inr, ⊎_elim, ℕ, ◌≡◌, ◌⊎◌, ◌↔◌, ◌≤◌, ◌<◌, ◌^◌, ◌++◌, Bool, true, false, not, cond, List, [], ◌∷◌, Some, None, refl, sym, ap, subst, ◌∙◌, arith}
 use Rattle.std.proofs.lemmas.Bool.Decides.{eqb_tells}
 use Rattle.qj_disk.specs.Files.{Files}
 use Rattle.qj_disk.specs.View.{View}
 use Rattle.journal_core.specs.declared.segment.Segment.{Segment}
 use Rattle.journal_core.specs.declared.node_state.NodeState.{NodeState}
 use Rattle.journal_core.specs.Segments.{find_segment, has_edit, AreAbove, AreRising, AreSound}
-use Rattle.journal_core.specs.Step.{crashed, restarted}
+use Rattle.journal_core.specs.Step.{restarted}
 use Rattle.segment_file.specs.Rows.{find_row}
 use Rattle.segment_file.specs.declared.segment_row.SegmentRow.{SegmentRow}
 use Rattle.segment_file.specs.Opened.{AreStarts}
@@ -15,7 +15,7 @@ use Rattle.segment_file.proofs.HeldOnce.{found_once, one_list}
 use Rattle.node_files.specs.declared.node_number.NodeNumber.{NodeNumber}
 use Rattle.node_files.specs.declared.node_number.NodeNumber.TheVariants.{Promised, Writer, Committed}
 use Rattle.node_files.specs.Durable.{number_of, number_name, StandsAs, AreFilled}
-use Rattle.std.specs.Prelude.{Result, Ok, Err}
+use Rattle.std.specs.Prelude.{Result, Ok}
 use Rattle.journal_core.specs.declared.node_fail.NodeFail.{NodeFail}
 use Rattle.journal_core.specs.Stops.{Restarts}
 use Rattle.node_files.specs.declared.files.NodeFiles.{NodeFiles}
@@ -23,10 +23,9 @@ use Rattle.node_files.specs.Opening.{IsUnfilled, IsFirstBad, HoldsFiles}
 use Rattle.journal_node.proofs.NodeOpens.{memory_in, files_up}
 use Rattle.journal_node.proofs.ActingDone.{has_up, has_down}
 use Rattle.journal_node.proofs.ActingStops.{was_up}
-use Rattle.journal_node.specs.FileState.{AreRowStarts, Covers}
+use Rattle.journal_node.specs.FileState.{AreRowStarts}
 use Rattle.journal_node.specs.Held.{IsLeft}
 use Rattle.journal_node.specs.Node.{IsUp, IsDown, HasState, IsNode}
-use Rattle.journal_node.specs.Opening.{IsOpenedNode}
 use Rattle.journal_node.proofs.Decodes.{number_decoded}
 
 row_start : (start : ℕ) (rows : List SegmentRow) (row : SegmentRow) → AreRowStarts rows → find_row start rows ≡ Some row → (1 ≤ start) × (start ≤ 2 ^ 62)

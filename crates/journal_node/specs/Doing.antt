@@ -13,10 +13,10 @@ use Rattle.batch_frame.specs.Frames.{frame_bytes}
 use Rattle.segment_file.specs.Effects.{AppendsAt, IsCounted}
 use Rattle.segment_file.specs.declared.segment_row.SegmentRow.{SegmentRow}
 use Rattle.node_files.specs.Deeds.{Does, IsCutAt}
-use Rattle.journal_node.specs.Due.{batch_of, effect_of, IsDue, rows_after}
+use Rattle.node_deeds.specs.Due.{batch_of, effect_of, IsDue, rows_after}
 use Rattle.journal_node.specs.Held.{IsHeld, AppendsTo}
-use Rattle.journal_node.specs.declared.deed.Deed.{Deed}
-use Rattle.journal_node.specs.declared.deed.Deed.TheVariants as deed
+use Rattle.node_deeds.specs.declared.deed.Deed.{Deed}
+use Rattle.node_deeds.specs.declared.deed.Deed.TheVariants as deed
 
 -- where the frames of the segment's file end behind an append
 abbrev pub place_after : Request → Deed → ℕ

@@ -15,11 +15,11 @@ use Rattle.journal_core.specs.Effects.{Effect, segments_after, after_effects}
 use Rattle.journal_core.specs.Cuts.{Cost, cost_of, standing}
 use Rattle.segment_file.specs.Effects.{choice_of, IsLeft}
 use Rattle.segment_file.specs.declared.segment_row.SegmentRow.{SegmentRow}
-use Rattle.journal_node.specs.Due.{effect_of, AreDue}
+use Rattle.node_deeds.specs.Due.{effect_of, AreDue}
 use Rattle.journal_node.specs.Held.{IsHeld, OpenedAt, Opens, Spares}
 use Rattle.journal_node.specs.Held as held
-use Rattle.journal_node.specs.declared.deed.Deed.{Deed}
-use Rattle.journal_node.specs.declared.deed.Deed.TheVariants as deed
+use Rattle.node_deeds.specs.declared.deed.Deed.{Deed}
+use Rattle.node_deeds.specs.declared.deed.Deed.TheVariants as deed
 
 abbrev pub effects_by : Request → List Deed → List Effect
 effects_by r ds = map (effect_of r) ds

@@ -1,21 +1,19 @@
 -- What a node over a disk keeps: memory, a table, and files that stand for its state.
-use Rattle.std.specs.Prelude.{ℕ, ◌≡◌, ◌≢◌, ◌⊎◌, ◌≤◌, ◌^◌, Bool, true, false, List, [], ◌∷◌, length, take, Option, Some, None, Result, OnOk, OnErr}
+use Rattle.std.specs.Prelude.{ℕ, ◌≡◌, ◌≢◌, ◌⊎◌, ◌≤◌, false, List, length, take, Option, Some, None}
 use Rattle.qj_disk.specs.Files.{Files}
-use Rattle.qj_disk.specs.View.{View, LeavesOnly}
+use Rattle.qj_disk.specs.View.{View}
 use Rattle.journal_core.specs.declared.segment.Segment.{Segment}
 use Rattle.journal_core.specs.declared.node_state.NodeState.{NodeState}
-use Rattle.journal_core.specs.declared.request.Request.{Request}
 use Rattle.journal_core.specs.Segments.{find_segment, AreSound}
-use Rattle.journal_core.specs.Effects.{Effect, promised_after, writer_after, committed_after, after_effect, after_effects}
+use Rattle.journal_core.specs.Effects.{Effect, promised_after, writer_after, committed_after, after_effects}
 use Rattle.segment_file.specs.Effects.{AppendsAt}
 use Rattle.segment_file.specs.Rows.{find_row}
 use Rattle.segment_file.specs.declared.segment_row.SegmentRow.{SegmentRow}
 use Rattle.node_files.specs.Durable.{StandsAs, HoldsState}
 use Rattle.journal_node.specs.FileState.{Covers, without_segments}
-use Rattle.journal_node.specs.Told.{Tells}
-use Rattle.journal_node.specs.Due.{effect_of}
-use Rattle.journal_node.specs.declared.deed.Deed.{Deed}
-use Rattle.journal_node.specs.declared.deed.Deed.TheVariants as deed
+use Rattle.node_deeds.specs.Told.{Tells}
+use Rattle.node_deeds.specs.declared.deed.Deed.{Deed}
+use Rattle.node_deeds.specs.declared.deed.Deed.TheVariants as deed
 
 -- The files and those that each crash now would leave stand for the state, memory has its numbers, and the rows tell its segments.
 pub record IsHeld (v : View) (m : NodeState) (rows : List SegmentRow) (s : NodeState) : Type 0 where

@@ -1,8 +1,3 @@
-pub mod Told
-pub mod Table
-pub mod Due
-pub mod Served
-pub mod Laws
 pub mod Decoded
 pub mod FileState
 pub mod Held
@@ -10,3 +5,4 @@ pub mod Doing
 pub mod Done
 pub mod Node
 pub mod Opening
+pub mod Cutting

@@ -1,5 +1,5 @@
 -- A node over a disk: its parts, and the state that they stand for.
-use Rattle.std.specs.Prelude.{ℕ, ◌≡◌, ◌≢◌, ◌≤◌, Bool, true, false, List, [], take, Option, Some, None, if◌then◌else◌}
+use Rattle.std.specs.Prelude.{ℕ, ◌≡◌, ◌≢◌, ◌≤◌, Bool, true, false, List, take, Option, Some, None, if◌then◌else◌}
 use Rattle.qj_disk.specs.Files.{Files}
 use Rattle.qj_disk.specs.View.{View}
 use Rattle.journal_core.specs.declared.segment.Segment.{Segment}
@@ -18,7 +18,7 @@ use Rattle.journal_core.specs.Answers.{Rose}
 use Rattle.segment_file.specs.Rows.{RowsRise}
 use Rattle.segment_file.specs.declared.segment_row.SegmentRow.{SegmentRow}
 use Rattle.node_files.specs.Durable.{AreFilled}
-use Rattle.journal_node.specs.Told.{Tells}
+use Rattle.node_deeds.specs.Told.{Tells}
 use Rattle.journal_node.specs.FileState.{state_of}
 use Rattle.journal_node.specs.Held.{IsHeld, IsLeft, OpenedAt}
 

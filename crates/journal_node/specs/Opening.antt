@@ -18,6 +18,16 @@ pub record IsOpenedNode (old : Files) (v : View) (m : NodeState) (rows : List Se
   pub stood : StandsAs old state
   pub up : IsUp v m rows (restarted state)
 
+-- the files stand for each state for which the others stand
+abbrev pub Keeps : Files → Files → Type 0
+Keeps old new = (s : NodeState) → StandsAs old s → StandsAs new s
+
+-- the files stand for what a crash earlier could have left
+pub record StandsAsBefore (old : View) (files : Files) : Type 0 where
+  pub before : Files
+  pub left : old.may_leave before
+  pub kept : Keeps before files
+
 abbrev pub disk_in : {D : Type 0} → OpenFail D → D
 disk_in (fail.DiskFault disk) = disk
 disk_in (fail.BadFile disk name) = disk

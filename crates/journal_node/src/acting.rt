@@ -12,20 +12,16 @@ ghost use Rattle.journal_core.specs.Answers.{IsAnswer, FitsRequest, Rose};
 ghost use Rattle.segment_file.specs.Effects.{IsReady};
 ghost use Rattle.segment_file.specs.Rows.{RowsRise};
 ghost use Rattle.node_files.specs.Durable.{StandsAs};
-ghost use Rattle.journal_node.specs.Told.{Tells, state_with};
-ghost use Rattle.journal_node.specs.Due.{AreDue};
+ghost use Rattle.node_deeds.specs.Told.{Tells, state_with};
+ghost use Rattle.node_deeds.specs.Due.{AreDue};
 ghost use Rattle.journal_node.specs.Done.{effects_by};
 ghost use Rattle.journal_node.specs.Held.{StandsStopped};
 ghost use Rattle.journal_node.specs.Node.{BringsEdits, IsUp, HasState, IsNode, IsNoFault, IsCaused, IsStoppedIn, settled, state_behind, foretold};
 
 use crate::acting_reads::{fetch, read_served};
-use crate::deed::Deed;
-use crate::deeds::deeds_of;
 use crate::deeds_done::do_deeds;
-use crate::memory::{behind_front, follow};
-use crate::refusals::row_refusal;
-use crate::replies::plain_reply;
 use journal_core::{NodeState, Refusal, Reply, Request};
+use node_deeds::{Deed, behind_front, deeds_of, follow, plain_reply, row_refusal};
 use qj_disk::{Disk, DiskFail};
 use segment_file::SegmentTable;
 use std::alloc::Global;
@@ -226,6 +222,7 @@ pub(crate) fn answer<D: Disk>(
     ensures fits { FitsRequest request.now result }
     ensures moments { D.tells disk.old → (s : AnyState) → IsUp (D.view disk.old) memory.old table.old s → LeavesOnly (D.view disk.old) (D.view disk.new) (StandsStopped s (effects_of s request.now)) }
     ensures stable { D.tells disk.old → (s : AnyState) → IsUp (D.view disk.old) memory.old table.old s → IsNoFault result → AllLeave (D.view disk.new) (λ c. StandsAs c (after_effects s (effects_of s request.now))) }
+    ensures idle { memory.old.up ≡ false → disk.new ≡ disk.old }
     ensures cause { IsCaused (D.faults disk.old) (D.faults disk.new) (D.steady disk.old) (D.steady disk.new) result }
 {
     look_at(request);

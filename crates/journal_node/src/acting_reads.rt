@@ -10,11 +10,11 @@ ghost use Rattle.journal_core.specs.Reads.{edits_from, piece_of};
 ghost use Rattle.journal_core.specs.Answers.{AreEdits};
 ghost use Rattle.segment_file.specs.Effects.{IsReady};
 ghost use Rattle.segment_file.specs.Reads.{given_result};
-ghost use Rattle.journal_node.specs.Told.{Tells, state_with, line_of};
+ghost use Rattle.node_deeds.specs.Told.{Tells, state_with, line_of};
 ghost use Rattle.journal_node.specs.Node.{IsNoFault};
 
-use crate::serving::{line_at, not_served, serving_row};
 use journal_core::{Batch, MAX_BATCH, MAX_NUMBER, NodeState, Refusal, Reply, SegmentLine};
+use node_deeds::{line_at, not_served, serving_row};
 use qj_disk::{Disk, DiskFail};
 use qj_num::OutOfMemory;
 use segment_file::{Given, SegmentTable, read_from};

@@ -1,5 +1,6 @@
 //! A node is stopped inside a request, behind the first of its effects.
-ghost use Rattle.std.specs.Prelude.{◌≡◌, ◌≢◌, ◌≤◌, ◌↔◌, None, Some, List, length, false, OnOk, OnErr};
+ghost use Rattle.std.specs.Prelude.{◌≡◌, ◌≢◌, ◌≤◌, ◌↔◌, None, Some, List, length, take, false, OnOk, OnErr};
+ghost use Rattle.qj_disk.specs.View.{LeavesOnly};
 ghost use Rattle.qj_disk.specs.Calls.{HasCause};
 ghost use Rattle.journal_core.specs.declared.segment.Segment.{Segment};
 ghost use Rattle.journal_core.specs.declared.node_state.NodeState.{NodeState as AnyState};
@@ -7,16 +8,16 @@ ghost use Rattle.journal_core.specs.Limits.{limit_of};
 ghost use Rattle.journal_core.specs.Step.{refused_at_once, effects_of, stopped};
 ghost use Rattle.journal_core.specs.Stops.{Stops};
 ghost use Rattle.journal_core.specs.Answers.{Rose};
-ghost use Rattle.journal_node.specs.Told.{Tells, state_with};
-ghost use Rattle.journal_node.specs.Due.{AreDue};
+ghost use Rattle.node_deeds.specs.Told.{Tells, state_with};
+ghost use Rattle.node_deeds.specs.Due.{AreDue};
 ghost use Rattle.journal_node.specs.Done.{effects_by};
+ghost use Rattle.journal_node.specs.Held.{StandsStopped};
 ghost use Rattle.journal_node.specs.Node.{BringsEdits, IsUp, IsDown, HasState, IsNode, IsStoppedIn};
 
 use crate::acting::{go_down, look_at};
-use crate::deed::Deed;
-use crate::deeds::deeds_of;
 use crate::deeds_done::do_deeds;
 use journal_core::{NodeFail, NodeState, Request};
+use node_deeds::{Deed, deeds_of};
 use qj_disk::{Disk, DiskFail};
 use segment_file::SegmentTable;
 use std::alloc::Global;
@@ -44,6 +45,7 @@ fn stop_behind<D: Disk>(
     ensures down { memory.new.up ≡ false }
     ensures done { D.tells disk.old → (s : AnyState) → IsUp (D.view disk.old) memory.old table.old s → OnOk result (IsDown (D.view disk.new) memory.new table.new (stopped s request.now count)) }
     ensures stopped { D.tells disk.old → (s : AnyState) → IsUp (D.view disk.old) memory.old table.old s → OnErr result (IsStoppedIn (D.view disk.new) memory.new table.new s request.now) }
+    ensures moments { D.tells disk.old → (s : AnyState) → IsUp (D.view disk.old) memory.old table.old s → LeavesOnly (D.view disk.old) (D.view disk.new) (StandsStopped s (take count (effects_of s request.now))) }
     ensures cause { HasCause (D.faults disk.old) (D.faults disk.new) (D.steady disk.old) (D.steady disk.new) result }
 {
     let done = do_deeds(alloc, disk, memory, table, request, &deeds[..count]);
@@ -68,6 +70,8 @@ pub(crate) fn stop<D: Disk>(
     ensures node { IsNode (D.tells disk.new) (D.view disk.new) memory.new table.new }
     ensures stop { D.tells disk.old → (s : AnyState) → HasState memory.old.up (D.view disk.old) memory.old table.old s
         → (t : AnyState) × HasState memory.new.up (D.view disk.new) memory.new table.new t × Stops (Some s) request.now keep result (Some t) }
+    ensures moments { D.tells disk.old → (s : AnyState) → IsUp (D.view disk.old) memory.old table.old s → LeavesOnly (D.view disk.old) (D.view disk.new) (StandsStopped s (take keep (effects_of s request.now))) }
+    ensures idle { memory.old.up ≡ false → disk.new ≡ disk.old }
     ensures later { D.faults disk.old ≤ D.faults disk.new }
     ensures fault { result ≡ Err NodeFail.DiskFault → Rose (D.faults disk.old) (D.faults disk.new) }
     ensures steady { D.steady disk.old → D.steady disk.new × (result ≢ Err NodeFail.DiskFault) }

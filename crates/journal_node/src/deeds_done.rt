@@ -9,14 +9,14 @@ ghost use Rattle.journal_core.specs.Limits.{limit_of};
 ghost use Rattle.journal_core.specs.Effects.{after_effects};
 ghost use Rattle.journal_core.specs.Cuts.{cost_of};
 ghost use Rattle.segment_file.specs.Effects.{IsCounted};
-ghost use Rattle.journal_node.specs.Told.{Tells, state_with};
-ghost use Rattle.journal_node.specs.Due.{AreDue};
+ghost use Rattle.node_deeds.specs.Told.{Tells, state_with};
+ghost use Rattle.node_deeds.specs.Due.{AreDue};
 ghost use Rattle.journal_node.specs.Held.{IsHeld, OpenedAt, StandsStopped};
 ghost use Rattle.journal_node.specs.Done.{effects_by, CanDoAll, EndOpen, LeftStopped, KeepCosts, calls_of, IsCutAmong};
 
-use crate::deed::Deed;
 use crate::doing::do_deed;
 use journal_core::{NodeState, Request};
+use node_deeds::Deed;
 use qj_disk::{Disk, DiskFail};
 use segment_file::SegmentTable;
 use std::alloc::Global;

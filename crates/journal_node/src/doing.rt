@@ -11,16 +11,14 @@ ghost use Rattle.journal_core.specs.Effects.{segments_after, after_effect};
 ghost use Rattle.journal_core.specs.Cuts.{cost_of};
 ghost use Rattle.segment_file.specs.Effects.{IsCounted};
 ghost use Rattle.node_files.specs.Deeds.{Does, IsCutAt};
-ghost use Rattle.journal_node.specs.Told.{Tells};
-ghost use Rattle.journal_node.specs.Due.{batch_of, effect_of, IsDue, IsInRange};
+ghost use Rattle.node_deeds.specs.Told.{Tells};
+ghost use Rattle.node_deeds.specs.Due.{batch_of, effect_of, IsDue, IsInRange};
 ghost use Rattle.journal_node.specs.FileState.{Covers, without_segments};
 ghost use Rattle.journal_node.specs.Held.{IsHeld, OpenedAt, MayLeave, numbers_after, Opens, Spares};
 ghost use Rattle.journal_node.specs.Doing.{place_after, CanDo, DoesDeed, IsNoted, NotedAtFault};
 
-use crate::applying::apply;
-use crate::deed::Deed;
-use crate::memory::note;
 use journal_core::{Batch, NodeState, Request, SegmentInfo, SegmentLine};
+use node_deeds::{Deed, apply, note};
 use node_files::{
     NodeNumber, accept_edits, append_edits, begin_segment, finalize_segment, put_number,
     remove_segment,

@@ -1,5 +1,5 @@
 //! A node of the journal over a disk.
-ghost use Rattle.std.specs.Prelude.{◌≡◌, ◌≢◌, ◌≤◌};
+ghost use Rattle.std.specs.Prelude.{◌≡◌, ◌≢◌, ◌≤◌, take, true, false};
 ghost use Rattle.qj_disk.specs.View.{LeavesOnly, AllLeave};
 ghost use Rattle.journal_core.specs.declared.node_state.NodeState.{NodeState as AnyState};
 ghost use Rattle.journal_core.specs.Effects.{after_effects};
@@ -9,6 +9,7 @@ ghost use Rattle.journal_core.specs.Stops.{Stops, Kills, Restarts};
 ghost use Rattle.node_files.specs.Durable.{StandsAs};
 ghost use Rattle.journal_node.specs.Held.{StandsStopped};
 ghost use Rattle.journal_node.specs.Node.{IsUp, IsNoFault, told_state};
+ghost use Rattle.journal_node.specs.Opening.{StandsAsBefore};
 
 use crate::acting::{answer, go_down};
 use crate::acting_stops::stop;
@@ -50,12 +51,13 @@ impl<D: Disk> JournalNode<D> {
     /// nothing. Where the disk fails, or where memory is wanted among the durable effects, the node goes
     /// down. A crash at any moment of the call leaves files that stand for the state behind the first of
     /// the request's effects, some number of them, and one behind an answer that is neither DiskFault nor
-    /// OutOfMemory leaves all of them.
+    /// OutOfMemory leaves all of them. Of a node that is down no disk call is made.
     pub fn act(&mut self, alloc: Global, request: &Request) -> Reply
         ensures step { Answers (told_state (D.is_told self.old.disk) (D.view self.old.disk).seen self.old.memory self.old.rows) request.now result (told_state (D.is_told self.new.disk) (D.view self.new.disk).seen self.new.memory self.new.rows) }
         ensures fits { FitsRequest request.now result }
         ensures moments { D.tells self.old.disk → (s : AnyState) → IsUp (D.view self.old.disk) self.old.memory self.old.rows s → LeavesOnly (D.view self.old.disk) (D.view self.new.disk) (StandsStopped s (effects_of s request.now)) }
         ensures stable { D.tells self.old.disk → (s : AnyState) → IsUp (D.view self.old.disk) self.old.memory self.old.rows s → IsNoFault result → AllLeave (D.view self.new.disk) (λ c. StandsAs c (after_effects s (effects_of s request.now))) }
+        ensures idle { self.old.memory.up ≡ false → self.new.disk ≡ self.old.disk }
         ensures later { D.faults self.old.disk ≤ D.faults self.new.disk }
         ensures fault { result ≡ Reply.Refused Refusal.DiskFault → Rose (D.faults self.old.disk) (D.faults self.new.disk) }
         ensures steady { D.steady self.old.disk → D.steady self.new.disk × (result ≢ Reply.Refused Refusal.DiskFault) }
@@ -70,7 +72,9 @@ impl<D: Disk> JournalNode<D> {
     }
 
     /// Does the first durable effects of a request, at most `keep`, and goes down; answers how many it did.
-    /// Want of memory before the first of them changes nothing.
+    /// Want of memory before the first of them changes nothing. A crash at any moment of the call leaves
+    /// files that stand for the state behind the first of these, some number of them. Of a node that is
+    /// down no disk call is made.
     pub fn act_stopped(
         &mut self,
         alloc: Global,
@@ -78,6 +82,8 @@ impl<D: Disk> JournalNode<D> {
         keep: u64,
     ) -> Result<u64, NodeFail>
         ensures stop { Stops (told_state (D.is_told self.old.disk) (D.view self.old.disk).seen self.old.memory self.old.rows) request.now keep result (told_state (D.is_told self.new.disk) (D.view self.new.disk).seen self.new.memory self.new.rows) }
+        ensures moments { D.tells self.old.disk → (s : AnyState) → IsUp (D.view self.old.disk) self.old.memory self.old.rows s → LeavesOnly (D.view self.old.disk) (D.view self.new.disk) (StandsStopped s (take keep (effects_of s request.now))) }
+        ensures idle { self.old.memory.up ≡ false → self.new.disk ≡ self.old.disk }
         ensures later { D.faults self.old.disk ≤ D.faults self.new.disk }
         ensures fault { result ≡ Err NodeFail.DiskFault → Rose (D.faults self.old.disk) (D.faults self.new.disk) }
         ensures steady { D.steady self.old.disk → D.steady self.new.disk × (result ≢ Err NodeFail.DiskFault) }
@@ -106,9 +112,13 @@ impl<D: Disk> JournalNode<D> {
 
     /// Comes up; false where it already was, and then nothing changes. What a crash left half done in its
     /// files is repaired. `DiskFault` comes where the disk failed, `OutOfMemory` for want of memory, and
-    /// `BadFile` only on a disk that doesn't tell its bytes; each leaves the node down.
+    /// `BadFile` only on a disk that doesn't tell its bytes; each leaves the node down. A crash at any moment
+    /// of the call leaves files that stand for what a crash before it could have left. Of a node that is up
+    /// no disk call is made.
     pub fn restart(&mut self, alloc: Global) -> Result<bool, NodeFail>
         ensures restart { Restarts (told_state (D.is_told self.old.disk) (D.view self.old.disk).seen self.old.memory self.old.rows) result (told_state (D.is_told self.new.disk) (D.view self.new.disk).seen self.new.memory self.new.rows) }
+        ensures moments { D.tells self.old.disk → LeavesOnly (D.view self.old.disk) (D.view self.new.disk) (StandsAsBefore (D.view self.old.disk)) }
+        ensures idle { self.old.memory.up ≡ true → self.new.disk ≡ self.old.disk }
         ensures later { D.faults self.old.disk ≤ D.faults self.new.disk }
         ensures fault { result ≡ Err NodeFail.DiskFault → Rose (D.faults self.old.disk) (D.faults self.new.disk) }
         ensures steady { D.steady self.old.disk → D.steady self.new.disk × (result ≢ Err NodeFail.DiskFault) }

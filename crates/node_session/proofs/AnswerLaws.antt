@@ -1,5 +1,5 @@
 -- What a node answered to a line.
-use Rattle.std.proofs.Common.{◌≡◌, ◌⊎◌, ℕ, List, [], ◌∷◌, ◌++◌, Option, Some, None, refl, sym, ap, ◌∙◌, append_assoc, inl, inr, subst}
+use Rattle.std.proofs.Common.{◌≡◌, ◌⊎◌, ℕ, List, [], ◌∷◌, ◌++◌, Option, Some, None, is_some, refl, sym, ap, ◌∙◌, append_assoc, inl, inr, subst}
 use Rattle.journal_core.specs.declared.node_state.NodeState.{NodeState}
 use Rattle.journal_core.specs.declared.request.Request.{Request}
 use Rattle.journal_core.specs.declared.reply.Reply.{Reply}
@@ -55,3 +55,10 @@ answered_more s t (l ∷ ls) line text r h e = (
   ap (λ xs. xs ++ reply_line t r) h.3 ∙ append_assoc (reply_text (node_step s h.0).reply) (10 ∷ h.2) (reply_line t r),
   answered_more (node_step s h.0).state t ls line h.2 r h.4 e,
 )
+
+-- a node tells its state behind an answer exactly where it did before
+pub tells_still : (old new : Option NodeState) (r : Request) (a : Reply) → Answers old r a new → is_some new ≡ is_some old
+tells_still None None r a h = refl
+tells_still None (Some t) r a h = absurd h
+tells_still (Some s) None r a h = absurd h
+tells_still (Some s) (Some t) r a h = refl

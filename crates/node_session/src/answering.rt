@@ -1,5 +1,5 @@
 // A line at a node.
-ghost use Rattle.std.specs.Prelude.{◌≡◌, ◌≢◌, ◌≤◌, ◌↔◌, ◌++◌, ◌∷◌, [], OnOk, IsTrue, List, ℕ};
+ghost use Rattle.std.specs.Prelude.{◌≡◌, ◌≢◌, ◌≤◌, ◌↔◌, ◌++◌, ◌∷◌, [], OnOk, IsTrue, is_some, List, ℕ};
 ghost use Rattle.journal_core.specs.Answers.{Rose};
 ghost use Rattle.request_text.specs.Reading.{reading_of};
 ghost use Rattle.request_text.specs.Texts.{reply_text};
@@ -57,6 +57,7 @@ fn answer_request<N: Node>(
     out: &mut Vec<u8>,
 ) -> Answered
     ensures answer { (line : List ℕ) → reading_of line ≡ ReadRequest.Read request.now → IsAnsweredOf result line (N.state node.old) (N.state node.new) out.new.items }
+    ensures told { is_some (N.state node.new) ≡ is_some (N.state node.old) }
     ensures later { N.faults node.old ≤ N.faults node.new }
     ensures fault { result ≡ Answered.DiskFault → Rose (N.faults node.old) (N.faults node.new) }
     ensures steady { N.steady node.old → N.steady node.new × (result ≢ Answered.DiskFault) }
@@ -73,6 +74,7 @@ pub(crate) fn answer_line<N: Node>(
     out: &mut Vec<u8>,
 ) -> Answered
     ensures answer { IsAnsweredOf result line.now (N.state node.old) (N.state node.new) out.new.items }
+    ensures told { is_some (N.state node.new) ≡ is_some (N.state node.old) }
     ensures later { N.faults node.old ≤ N.faults node.new }
     ensures fault { result ≡ Answered.DiskFault → Rose (N.faults node.old) (N.faults node.new) }
     ensures steady { N.steady node.old → N.steady node.new × (result ≢ Answered.DiskFault) }

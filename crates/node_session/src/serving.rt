@@ -1,5 +1,5 @@
 // A session at a node.
-ghost use Rattle.std.specs.Prelude.{◌≡◌, ◌≢◌, ◌≤◌, Some};
+ghost use Rattle.std.specs.Prelude.{◌≡◌, ◌≢◌, ◌≤◌, Some, is_some};
 ghost use Rattle.qj_outside.specs.Faults.{Rose};
 ghost use Rattle.journal_core.specs.Answers.{Rose as NodeRose};
 ghost use Rattle.node_session.specs.Answering.{IsServedOf};
@@ -24,6 +24,7 @@ fn serve_line<N: Node, K: Sink>(
     reply: &mut Vec<u8>,
 ) -> Option<Served>
     ensures served { IsServedOf result number line.now (N.state node.old) (N.state node.new) (K.taken sink.old) (K.taken sink.new) }
+    ensures told { is_some (N.state node.new) ≡ is_some (N.state node.old) }
     ensures write_fault { result ≡ Some Served.WriteFault → Rose (K.faults sink.old) (K.faults sink.new) }
     ensures no_write_fault { result ≢ Some Served.WriteFault → K.faults sink.new ≡ K.faults sink.old }
     ensures later { N.faults node.old ≤ N.faults node.new }
@@ -49,7 +50,8 @@ fn serve_line<N: Node, K: Sink>(
 /// `BadLine`: a line that isn't a request, with its number from 1 and the first rule that it breaks. `LongLine`: a line
 /// of more than 1,048,576 bytes. `LongInput`: the source has more than 1,073,741,824 bytes. `ReadFault`, `WriteFault`:
 /// the source or the sink failed. `DiskFault`: the node answered that its disk failed. `OutOfMemory`: there was no
-/// memory, here or at the node. The lines before were answered.
+/// memory, here or at the node. The lines before were answered. A node that tells its state tells it behind the session,
+/// and one that doesn't tell it doesn't begin to.
 pub fn serve<N: Node, S: Source, K: Sink>(
     alloc: Global,
     node: &mut N,
@@ -57,6 +59,7 @@ pub fn serve<N: Node, S: Source, K: Sink>(
     sink: &mut K,
 ) -> Served
     ensures session { IsSessionOf result (S.left source.old) (S.left source.new) (N.state node.old) (N.state node.new) (K.taken sink.old) (K.taken sink.new) }
+    ensures told { is_some (N.state node.new) ≡ is_some (N.state node.old) }
     ensures read_fault { result ≡ Served.ReadFault → Rose (S.faults source.old) (S.faults source.new) }
     ensures no_read_fault { result ≢ Served.ReadFault → S.faults source.new ≡ S.faults source.old }
     ensures write_fault { result ≡ Served.WriteFault → Rose (K.faults sink.old) (K.faults sink.new) }

@@ -1,7 +1,6 @@
 use Rattle.std.proofs.Common.{refl, sym, ◌∙◌}
 use Rattle.journal_node.proofs.ActingDone.{once_same, once_up}
 use Rattle.journal_node.proofs.ActingAnswer.{answer_at_once, moments_none, stable_at_once, up_stands}
-use Rattle.journal_core.specs.Step.{refused_at_once}
 use Rattle.journal_node.proofs.acting.answer.Goals as goal
 
 pub returns-in-Some-clause-answer : goal.returns-in-Some-clause-answer

@@ -1,7 +1,4 @@
-use Rattle.journal_core.specs.Step.{fronted}
-use Rattle.journal_core.specs.declared.reply.Reply.TheVariants.{Refused}
-use Rattle.journal_core.specs.declared.refusal.Refusal.TheVariants.{DiskFault, OutOfMemory}
-use Rattle.journal_node.proofs.NodeStands.{rests_up, rested}
+use Rattle.journal_node.proofs.NodeStands.{rests_up}
 use Rattle.journal_node.proofs.ActingDone.{is_up, up_of}
 use Rattle.journal_node.proofs.ActingAnswer.{foretold_by, rests_then, rests_moments, up_stands, node_down, fault_down, memory_same}
 use Rattle.journal_node.proofs.acting.answer_by.Goals as goal

@@ -1,4 +1,4 @@
-use Rattle.journal_node.specs.Told.{state_with}
+use Rattle.node_deeds.specs.Told.{state_with}
 use Rattle.journal_node.proofs.ActingReads.{read_reply, none_told}
 use Rattle.journal_core.specs.declared.reply.Reply.TheVariants.{Refused}
 use Rattle.journal_node.proofs.acting_reads.read_served.Goals as goal

@@ -1,6 +1,7 @@
 use Rattle.std.proofs.Common.{refl, sym, ◌∙◌, arith}
 use Rattle.journal_node.proofs.ActingDone.{once_same, up_of, is_up, are_of}
-use Rattle.journal_node.proofs.ActingStops.{node_goes_down, stops_at_once, stops_done, stops_fault, stops_memory}
+use Rattle.journal_node.proofs.ActingAnswer.{up_stands}
+use Rattle.journal_node.proofs.ActingStops.{kept_moments, no_moments, node_goes_down, stops_at_once, stops_done, stops_fault, stops_memory}
 use Rattle.journal_node.proofs.acting_stops.stop.Goals as goal
 
 pub returns-in-Some-clause-node : goal.returns-in-Some-clause-node
@@ -32,3 +33,32 @@ returns-in-Ok-clause-stop g c = λ t s has.
     let v = g.D.Disk.view c.args.disk.now in
     let up = up_of v c.args.memory.now c.args.table.now s (is_up c.args.memory.now c.args.request.now (sym c.in-None.ensures.refusal)) has in
     stops_memory (g.D.Disk.view c.stop_behind.new.disk) c.stop_behind.new.memory c.stop_behind.new.table s c.args.request.now c.args.keep c.stop_behind.ensures.down (c.in-Err-OutOfMemory.ensures.stopped t s up)
+
+pub returns-in-Some-clause-moments : goal.returns-in-Some-clause-moments
+returns-in-Some-clause-moments g c = λ t s up.
+    no_moments (g.D.Disk.view c.args.disk.now) s c.args.request.now c.args.keep (g.met.D.Disk.sound _ t) (up_stands (g.D.Disk.view c.args.disk.now) c.args.memory.now c.args.table.now s up)
+
+pub returns-in-Ok-stop_behind-clause-moments : goal.returns-in-Ok-stop_behind-clause-moments
+returns-in-Ok-stop_behind-clause-moments g c = λ t s up.
+    let v = g.D.Disk.view c.args.disk.now in
+    kept_moments v (g.D.Disk.view c.stop_behind.new.disk) s c.args.request.now c.in-Ok.deeds.items c.args.keep c.min-count.result
+    (are_of v c.args.memory.now c.args.table.now s c.args.request.now c.in-Ok.deeds.items up (sym c.in-None.ensures.refusal) c.in-Ok.ensures.effects c.in-Ok.ensures.due)
+    (omega (arith, c.min-count.ensures, c.len.ensures)) (c.stop_behind.ensures.moments t s up)
+
+pub returns-in-Err-Failed-clause-moments : goal.returns-in-Err-Failed-clause-moments
+returns-in-Err-Failed-clause-moments g c = λ t s up.
+    let v = g.D.Disk.view c.args.disk.now in
+    kept_moments v (g.D.Disk.view c.stop_behind.new.disk) s c.args.request.now c.in-Ok.deeds.items c.args.keep c.min-count.result
+    (are_of v c.args.memory.now c.args.table.now s c.args.request.now c.in-Ok.deeds.items up (sym c.in-None.ensures.refusal) c.in-Ok.ensures.effects c.in-Ok.ensures.due)
+    (omega (arith, c.min-count.ensures, c.len.ensures)) (c.stop_behind.ensures.moments t s up)
+
+pub returns-in-Ok-clause-moments : goal.returns-in-Ok-clause-moments
+returns-in-Ok-clause-moments g c = λ t s up.
+    let v = g.D.Disk.view c.args.disk.now in
+    kept_moments v (g.D.Disk.view c.stop_behind.new.disk) s c.args.request.now c.in-Ok.deeds.items c.args.keep c.min-count.result
+    (are_of v c.args.memory.now c.args.table.now s c.args.request.now c.in-Ok.deeds.items up (sym c.in-None.ensures.refusal) c.in-Ok.ensures.effects c.in-Ok.ensures.due)
+    (omega (arith, c.min-count.ensures, c.len.ensures)) (c.stop_behind.ensures.moments t s up)
+
+pub returns-clause-moments : goal.returns-clause-moments
+returns-clause-moments g c = λ t s up.
+    no_moments (g.D.Disk.view c.args.disk.now) s c.args.request.now c.args.keep (g.met.D.Disk.sound _ t) (up_stands (g.D.Disk.view c.args.disk.now) c.args.memory.now c.args.table.now s up)

@@ -6,7 +6,7 @@ use Rattle.journal_node.specs.Done.{effects_by, LeftStopped}
 use Rattle.journal_node.specs.Held.{IsHeld}
 use Rattle.journal_node.specs.Node.{IsDown, IsStoppedIn}
 use Rattle.journal_node.proofs.ActingDone.{up_of, is_up, are_of, can_of}
-use Rattle.journal_node.proofs.ActingStops.{due_first, can_first, held_down, left_down, node_stops, ok_to, err_to}
+use Rattle.journal_node.proofs.ActingStops.{due_first, first_moments, can_first, held_down, left_down, node_stops, ok_to, err_to}
 use Rattle.journal_node.proofs.acting_stops.stop_behind.Goals as goal
 
 pub do_deeds-done-requires-clause-due : goal.do_deeds-done-requires-clause-due
@@ -33,6 +33,14 @@ returns-clause-done g c = λ t s up.
     (λ held. held_down v1 c.do_deeds-done.new.memory c.do_deeds-done.new.memory c.go_down.new.memory c.do_deeds-done.new.table s r c.args.deeds.now c.args.count (g.met.D.Disk.sound _ (c.do_deeds-done.ensures.tells.0 t)).seen_now
     (are_of v c.args.memory.now c.args.table.now s r c.args.deeds.now up c.requires.at_once c.requires.effects c.requires.due) c.go_down.ensures.memory c.go_down.ensures.rise held)
     (c.do_deeds-done.ensures.held t s (can_first v c.args.memory.now c.args.table.now s r c.args.deeds.now c.args.count can))
+
+pub returns-clause-moments : goal.returns-clause-moments
+returns-clause-moments g c = λ t s up.
+    let v = g.D.Disk.view c.args.disk.now in
+    let r = c.args.request.now in
+    let can = can_of v c.args.memory.now c.args.table.now s r c.args.deeds.now up c.requires.at_once c.requires.effects c.requires.due in
+    first_moments v (g.D.Disk.view c.do_deeds-done.new.disk) s r c.args.deeds.now c.args.count (are_of v c.args.memory.now c.args.table.now s r c.args.deeds.now up c.requires.at_once c.requires.effects c.requires.due)
+    (c.do_deeds-done.ensures.moments t s (can_first v c.args.memory.now c.args.table.now s r c.args.deeds.now c.args.count can))
 
 pub returns-clause-stopped : goal.returns-clause-stopped
 returns-clause-stopped g c = λ t s up.

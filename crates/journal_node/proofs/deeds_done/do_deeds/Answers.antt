@@ -4,7 +4,7 @@ use Rattle.std.specs.Prelude.{IsErr}
 use Rattle.segment_file.proofs.GateLemmas.{carried}
 use Rattle.segment_file.proofs.Counts.{counted_as}
 use Rattle.node_files.specs.declared.node_number.NodeNumber.TheVariants.{Promised}
-use Rattle.journal_node.specs.declared.deed.Deed.TheVariants.{Number}
+use Rattle.node_deeds.specs.declared.deed.Deed.TheVariants.{Number}
 use Rattle.journal_node.proofs.DoneLaws.{begun, way_here, way_next, next_way}
 use Rattle.journal_node.proofs.DoneStops.{failed_rows, failed_rest, can_here, run_moments, failed_leaves, failed_counts, failed_cut, ended_rest, ended_moments, ended_held, ended_opened, on_err_always, among_carried, ended_counts}
 use Rattle.journal_node.proofs.deeds_done.do_deeds.Goals as goal

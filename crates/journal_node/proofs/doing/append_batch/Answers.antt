@@ -2,9 +2,9 @@ use Rattle.std.proofs.Common.{ap, sym}
 use Rattle.std.specs.Prelude.{Err}
 use Rattle.qj_disk.specs.declared.disk.DiskFail.TheVariants.{Failed, OutOfMemory}
 use Rattle.segment_file.specs.Answers.{appended_result}
-use Rattle.journal_node.specs.Due.{batch_of}
-use Rattle.journal_node.specs.declared.deed.Deed.TheVariants as deed
-use Rattle.journal_node.proofs.ApplyLaws.{due_in_range}
+use Rattle.node_deeds.specs.Due.{batch_of}
+use Rattle.node_deeds.specs.declared.deed.Deed.TheVariants as deed
+use Rattle.node_deeds.proofs.ApplyLaws.{due_in_range}
 use Rattle.journal_node.proofs.DoingCalls.{append_range, appends_at, append_shut, can_append, append_does, does_as, noted_behind, appended_ok}
 use Rattle.journal_node.proofs.DoingDeed.{failed_behind, done_behind}
 use Rattle.journal_node.proofs.doing.append_batch.Goals as goal

@@ -1,6 +1,6 @@
 use Rattle.small_files.specs.Answers.{put_result}
-use Rattle.journal_node.specs.declared.deed.Deed.TheVariants as deed
-use Rattle.journal_node.proofs.ApplyLaws.{due_in_range}
+use Rattle.node_deeds.specs.declared.deed.Deed.TheVariants as deed
+use Rattle.node_deeds.proofs.ApplyLaws.{due_in_range}
 use Rattle.journal_node.proofs.DoingCalls.{begin_does, does_as}
 use Rattle.journal_node.proofs.DoingDeed.{left_not_begun, done_before}
 use Rattle.journal_node.proofs.doing.do_begin.Goals as goal

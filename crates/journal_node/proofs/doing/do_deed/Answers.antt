@@ -1,7 +1,7 @@
 use Rattle.segment_file.proofs.GateLemmas.{carried}
 use Rattle.journal_core.specs.Cuts.{cost_of}
 use Rattle.journal_core.specs.Effects.{after_effect}
-use Rattle.journal_node.specs.Due.{effect_of}
+use Rattle.node_deeds.specs.Due.{effect_of}
 use Rattle.journal_node.proofs.DoingDeed.{rows_then, told_either, covers_fault, cut_carried, numbers_noted, held_then, can_apart, opened_then}
 use Rattle.journal_node.proofs.doing.do_deed.Goals as goal
 

@@ -1,5 +1,5 @@
 use Rattle.small_files.specs.Answers.{put_result}
-use Rattle.journal_node.specs.declared.deed.Deed.TheVariants as deed
+use Rattle.node_deeds.specs.declared.deed.Deed.TheVariants as deed
 use Rattle.journal_node.proofs.DoingCalls.{number_does, does_as}
 use Rattle.journal_node.proofs.DoingDeed.{failed_behind}
 use Rattle.journal_node.proofs.doing.do_number.Goals as goal

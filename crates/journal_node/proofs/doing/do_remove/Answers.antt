@@ -1,6 +1,6 @@
 use Rattle.small_files.specs.Answers.{put_result}
 use Rattle.node_files.proofs.TwoCalls.{done_is_ok}
-use Rattle.journal_node.specs.declared.deed.Deed.TheVariants as deed
+use Rattle.node_deeds.specs.declared.deed.Deed.TheVariants as deed
 use Rattle.journal_node.proofs.DoingCalls.{remove_range, remove_end, remove_there, remove_record, remove_accepted, can_discard, remove_does, does_as, noted_behind}
 use Rattle.journal_node.proofs.DoingDeed.{failed_behind, done_behind}
 use Rattle.journal_node.proofs.doing.do_remove.Goals as goal

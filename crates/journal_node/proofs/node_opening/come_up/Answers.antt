@@ -1,6 +1,6 @@
 use Rattle.std.proofs.Common.{refl}
 use Rattle.journal_node.proofs.NodeStands.{rows_start}
-use Rattle.journal_node.proofs.NodeOpens.{opened_node}
+use Rattle.journal_node.proofs.NodeOpens.{as_before, opened_node}
 use Rattle.journal_node.proofs.Reopens.{node_stays, state_stays, restarted_up, never_bad}
 use Rattle.journal_node.proofs.node_opening.come_up.Goals as goal
 
@@ -36,3 +36,15 @@ returns-in-OutOfMemory-clause-node g c =
 pub returns-in-OutOfMemory-clause-restart : goal.returns-in-OutOfMemory-clause-restart
 returns-in-OutOfMemory-clause-restart g c = λ t s has.
     (s, state_stays (g.D.Disk.view c.args.disk.now) (g.D.Disk.view c.open_files.new.disk) c.args.memory.now c.args.table.now s c.requires.down (c.open_files.ensures.seen t) has, refl)
+
+pub returns-in-Files-clause-moments : goal.returns-in-Files-clause-moments
+returns-in-Files-clause-moments g c = λ t. as_before (g.D.Disk.view c.args.disk.now) (g.D.Disk.view c.open_files.new.disk) (c.open_files.ensures.moments t)
+
+pub returns-in-BadFile-clause-moments : goal.returns-in-BadFile-clause-moments
+returns-in-BadFile-clause-moments g c = λ t. as_before (g.D.Disk.view c.args.disk.now) (g.D.Disk.view c.open_files.new.disk) (c.open_files.ensures.moments t)
+
+pub returns-in-DiskFault-clause-moments : goal.returns-in-DiskFault-clause-moments
+returns-in-DiskFault-clause-moments g c = λ t. as_before (g.D.Disk.view c.args.disk.now) (g.D.Disk.view c.open_files.new.disk) (c.open_files.ensures.moments t)
+
+pub returns-in-OutOfMemory-clause-moments : goal.returns-in-OutOfMemory-clause-moments
+returns-in-OutOfMemory-clause-moments g c = λ t. as_before (g.D.Disk.view c.args.disk.now) (g.D.Disk.view c.open_files.new.disk) (c.open_files.ensures.moments t)

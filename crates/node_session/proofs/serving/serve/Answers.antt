@@ -14,6 +14,7 @@ loop-node-init g c = record {
   number = omega arith;
   read = refl;
   wrote = refl;
+  told = refl;
   later = omega arith;
   steady = λ h. h;
 }
@@ -40,6 +41,7 @@ loop-node-preserved g c = record {
   number = omega (arith, c.in-Line.ensures.next.taken, length-append c.next_line.new.line.items (10 ∷ []));
   read = c.in-Line.ensures.no_fault (λ e. absurd (cc)) ∙ c.loop-node.invariant.read;
   wrote = c.in_default-serve_line.ensures.no_write_fault (λ e. absurd (cc)) ∙ c.loop-node.invariant.wrote;
+  told = c.in_default-serve_line.ensures.told ∙ c.loop-node.invariant.told;
   later = omega (arith, c.loop-node.invariant.later, c.in_default-serve_line.ensures.later);
   steady = λ h. (c.in_default-serve_line.ensures.steady (c.loop-node.invariant.steady h)).0;
 }

@@ -1,4 +1,4 @@
-use Rattle.std.proofs.Common.{◌≡◌, ◌≤◌, ◌+◌, ◌-◌}
+use Rattle.std.proofs.Common.{◌≡◌, ◌≤◌, ◌+◌, ◌-◌, is_some}
 use Rattle.node_session.specs.Lines.{longest_input}
 use Rattle.node_session.specs.Reader.{to_come}
 use Rattle.node_session.proofs.SessionLaws.{SoFar}
@@ -13,6 +13,7 @@ invariant-loop-node g l = record {
   number : l.number ≤ l.reader.taken + 1;
   read : g.S.Source.faults l.source ≡ g.S.Source.faults l.fn.source;
   wrote : g.K.Sink.faults l.sink ≡ g.K.Sink.faults l.fn.sink;
+  told : is_some (g.N.Node.state l.node) ≡ is_some (g.N.Node.state l.fn.node);
   later : g.N.Node.faults l.fn.node ≤ g.N.Node.faults l.node;
   steady : g.N.Node.steady l.fn.node → g.N.Node.steady l.node;
 }

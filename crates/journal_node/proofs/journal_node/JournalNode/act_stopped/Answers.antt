@@ -1,4 +1,4 @@
-use Rattle.std.proofs.Common.{subst, Option, ◌≡◌, false, true}
+use Rattle.std.proofs.Common.{subst, Option}
 use Rattle.journal_core.specs.declared.node_state.NodeState.{NodeState}
 use Rattle.journal_node.specs.Node.{told_state}
 use Rattle.journal_node.proofs.NodeStands.{told_both}

@@ -1,4 +1,4 @@
-use Rattle.journal_node.proofs.NodeOpens.{opened_up, opened_node}
+use Rattle.journal_node.proofs.NodeOpens.{as_before, opened_up, opened_node}
 use Rattle.journal_node.proofs.journal_node.JournalNode.open.Goals as goal
 
 pub invariant_of-result : goal.invariant_of-result
@@ -9,3 +9,15 @@ invariant_of-result g c =
 pub returns-in-Files-clause-opened : goal.returns-in-Files-clause-opened
 returns-in-Files-clause-opened g c = λ t.
     opened_up (g.D.Disk.view c.args.disk).seen (g.D.Disk.view c.open_files.new.disk) c.in-Files.files c.memory_of-memory.result c.memory_of-memory.ensures (c.in-Files.ensures.files t)
+
+pub returns-in-Files-clause-moments_ok : goal.returns-in-Files-clause-moments_ok
+returns-in-Files-clause-moments_ok g c = λ t. as_before (g.D.Disk.view c.args.disk) (g.D.Disk.view c.open_files.new.disk) (c.open_files.ensures.moments t)
+
+pub returns-in-BadFile-clause-moments_err : goal.returns-in-BadFile-clause-moments_err
+returns-in-BadFile-clause-moments_err g c = λ t. as_before (g.D.Disk.view c.args.disk) (g.D.Disk.view c.open_files.new.disk) (c.open_files.ensures.moments t)
+
+pub returns-in-DiskFault-clause-moments_err : goal.returns-in-DiskFault-clause-moments_err
+returns-in-DiskFault-clause-moments_err g c = λ t. as_before (g.D.Disk.view c.args.disk) (g.D.Disk.view c.open_files.new.disk) (c.open_files.ensures.moments t)
+
+pub returns-in-OutOfMemory-clause-moments_err : goal.returns-in-OutOfMemory-clause-moments_err
+returns-in-OutOfMemory-clause-moments_err g c = λ t. as_before (g.D.Disk.view c.args.disk) (g.D.Disk.view c.open_files.new.disk) (c.open_files.ensures.moments t)

@@ -1,5 +1,5 @@
 use Rattle.std.proofs.Common.{subst, Option, ◌≡◌, Bool, false, true}
-use Rattle.std.specs.Prelude.{Result, Ok, Err}
+use Rattle.std.specs.Prelude.{Result, Ok}
 use Rattle.journal_core.specs.declared.node_fail.NodeFail.{NodeFail}
 use Rattle.journal_core.specs.declared.node_state.NodeState.{NodeState}
 use Rattle.journal_core.specs.Stops.{Restarts}

@@ -1,6 +1,0 @@
-use Rattle.std.proofs.Common.{◌∙◌}
-use Rattle.journal_node.proofs.RefusalLaws.{refusal_same}
-use Rattle.journal_node.proofs.refusals.row_refusal.Goals as goal
-
-pub returns : goal.returns
-returns c = λ gs t. c.refusal_by.ensures ∙ refusal_same c.args.memory.now c.args.request.now gs c.args.table.now t

@@ -1,0 +1,274 @@
+//! A node over a disk in memory is cut between two disk calls of a request.
+ghost use Rattle.std.specs.Prelude.{◌≡◌, ◌≢◌, ◌≤◌, ◌==◌, ℕ, true, false, None, Some, List, map, OnOk, OnErr};
+ghost use Rattle.std.specs.List.{list_any};
+ghost use Rattle.qj_disk.specs.Files.{IsSame};
+ghost use Rattle.qj_disk.specs.View.{AllLeave};
+ghost use Rattle.qj_disk.specs.MemDisk.{disk_view, faults_of, CannotFail, calls_left, is_listed_at};
+ghost use Rattle.journal_core.specs.declared.segment.Segment.{Segment};
+ghost use Rattle.journal_core.specs.declared.node_state.NodeState.{NodeState as AnyState};
+ghost use Rattle.journal_core.specs.Limits.{limit_of};
+ghost use Rattle.journal_core.specs.Step.{refused_at_once, effects_of, stopped, crashed};
+ghost use Rattle.journal_core.specs.Cuts.{append_cost, accept_cost, name_cost, standing, effects_standing, Cuts};
+ghost use Rattle.segment_file.specs.Effects.{choice_of, IsLeft};
+ghost use Rattle.segment_file.specs.Rows.{RowsRise};
+ghost use Rattle.node_deeds.specs.Told.{Tells, state_with};
+ghost use Rattle.node_deeds.specs.Due.{AreDue};
+ghost use Rattle.journal_node.specs.Done.{effects_by};
+ghost use Rattle.journal_node.specs.Node.{BringsEdits, IsUp, IsDown, HasState, IsNode, IsStoppedIn};
+ghost use Rattle.journal_node.specs.Cutting.{deed_cost, state_in, IsSameNodeBut};
+
+use crate::acting::{go_down, look_at};
+use crate::deeds_done::do_deeds;
+use crate::journal_node::JournalNode;
+use journal_core::{Cut, NodeState, OutOfMemory, Request};
+use node_deeds::{Deed, deeds_of};
+use qj_disk::{Choice, DiskFail, MemDisk};
+use segment_file::SegmentTable;
+use std::alloc::{AllocError, Global};
+
+// How many disk calls a deed has, and at which of them its effect stands.
+#[derive(Clone, Copy)]
+struct DeedCost {
+    calls: u64,
+    decides: u64,
+}
+
+fn append_cost(cut: Cut) -> DeedCost
+    ensures { record { calls = result.calls; decides = result.decides } ≡ append_cost cut }
+{
+    match cut {
+        Cut::Old => DeedCost {
+            calls: 4,
+            decides: 4,
+        },
+        Cut::New | Cut::A5 => DeedCost {
+            calls: 4,
+            decides: 3,
+        },
+    }
+}
+
+fn accept_cost(again: bool) -> DeedCost
+    ensures { record { calls = result.calls; decides = result.decides } ≡ accept_cost again }
+{
+    if again {
+        DeedCost {
+            calls: 3,
+            decides: 3,
+        }
+    } else {
+        DeedCost {
+            calls: 6,
+            decides: 5,
+        }
+    }
+}
+
+// That of a rename or a removal.
+fn name_cost(accepted: bool) -> DeedCost
+    ensures { record { calls = result.calls; decides = result.decides } ≡ name_cost accepted }
+{
+    DeedCost {
+        calls: if accepted { 2 } else { 1 },
+        decides: 1,
+    }
+}
+
+fn deed_cost(deed: Deed, cut: Cut) -> DeedCost
+    ensures { record { calls = result.calls; decides = result.decides } ≡ deed_cost cut deed }
+{
+    match deed {
+        Deed::Number { .. } | Deed::Begin { .. } => DeedCost {
+            calls: 3,
+            decides: 3,
+        },
+        Deed::Append { .. } => append_cost(cut),
+        Deed::Accept { again, .. } => accept_cost(again),
+        Deed::Finalize { accepted, .. } => name_cost(accepted),
+        Deed::Remove { info } => name_cost(info.accepted),
+    }
+}
+
+// How many of the deeds stand after a cut behind so many disk calls.
+fn deeds_standing(deeds: &[Deed], cut: Cut, calls: u64) -> u64
+    ensures { result ≡ standing calls (map (deed_cost cut) deeds.now) }
+{
+    let mut left = calls;
+    let mut count = 0;
+    for deed in deeds {
+        let cost = deed_cost(*deed, cut);
+        if cost.decides > left {
+            return count;
+        }
+        left = left.saturating_sub(cost.calls);
+        count += 1;
+    }
+    count
+}
+
+fn choice_of(cut: Cut) -> Choice
+    ensures { result ≡ choice_of cut }
+{
+    match cut {
+        Cut::Old => Choice::Old,
+        Cut::New => Choice::New,
+        Cut::A5 => Choice::Fill(0xA5),
+    }
+}
+
+// The disk crashes by the choice of the cut, and the node is down.
+fn crash_down(disk: &mut MemDisk, memory: &mut NodeState, table: &SegmentTable, cut: Cut)
+    ensures left { IsLeft (choice_of cut) (disk_view disk.old) (disk_view disk.new).seen }
+    ensures memory { memory.new ≡ crashed memory.old }
+    ensures rise { RowsRise table.now }
+    ensures stable { AllLeave (disk_view disk.new) (IsSame (disk_view disk.new).seen) }
+    ensures steady { CannotFail disk.new }
+    ensures faults { faults_of disk.new ≡ faults_of disk.old }
+{
+    disk.crash(choice_of(cut));
+    go_down(memory, table);
+}
+
+// A disk that failed was cut, as it was to be. Want of memory is told.
+fn cut_short(done: Result<(), DiskFail>) -> Result<(), OutOfMemory>
+    ensures ok { OnOk result (done ≢ Err DiskFail.OutOfMemory) }
+    ensures err { OnErr result (done ≡ Err DiskFail.OutOfMemory) }
+{
+    match done {
+        Ok(()) | Err(DiskFail::Failed) => Ok(()),
+        Err(DiskFail::OutOfMemory) => Err(AllocError),
+    }
+}
+
+// Does the deeds of a request until the disk stops after so many calls, and crashes.
+fn cut_deeds(
+    alloc: Global,
+    disk: &mut MemDisk,
+    memory: &mut NodeState,
+    table: &mut SegmentTable,
+    request: &Request,
+    deeds: &[Deed],
+    calls: u64,
+    cut: Cut,
+) -> Result<(), OutOfMemory>
+    requires node { IsNode (Unit {0}) (disk_view disk.old) memory.old table.old }
+    requires steady { CannotFail disk.old }
+    requires at_once { refused_at_once memory.old request.now ≡ None }
+    requires limits { limit_of request.now ≡ None }
+    requires brings { BringsEdits request.now }
+    requires effects { (gs : List Segment) → Tells gs table.old → effects_by request.now deeds.now ≡ effects_of (state_with memory.old gs) request.now }
+    requires due { (gs : List Segment) → Tells gs table.old → AreDue gs table.old request.now deeds.now }
+
+    ensures node { IsNode (Unit {0}) (disk_view disk.new) memory.new table.new }
+    ensures down { memory.new.up ≡ false }
+    ensures done { (s : AnyState) → IsUp (disk_view disk.old) memory.old table.old s
+        → OnOk result (IsDown (disk_view disk.new) memory.new table.new (stopped s request.now (effects_standing cut s request.now calls))) }
+    ensures stopped { (s : AnyState) → IsUp (disk_view disk.old) memory.old table.old s → OnErr result (IsStoppedIn (disk_view disk.new) memory.new table.new s request.now) }
+    ensures stable { AllLeave (disk_view disk.new) (IsSame (disk_view disk.new).seen) }
+    ensures later { faults_of disk.old ≤ faults_of disk.new }
+    ensures steady { CannotFail disk.new }
+{
+    disk.stop_after(calls);
+    let done = do_deeds(alloc, disk, memory, table, request, deeds);
+    crash_down(disk, memory, table, cut);
+    cut_short(done)
+}
+
+// The node of that disk, of which memory and the table are given, is cut in a request and is down; answers
+// how many of the request's effects stand. Want of memory before the first disk call changes nothing.
+fn cut_in(
+    alloc: Global,
+    disk: &mut MemDisk,
+    memory: &mut NodeState,
+    table: &mut SegmentTable,
+    request: &Request,
+    calls: u64,
+    cut: Cut,
+) -> Result<u64, OutOfMemory>
+    requires node { IsNode (Unit {0}) (disk_view disk.old) memory.old table.old }
+    requires steady { CannotFail disk.old }
+    requires up { memory.old.up ≡ true }
+
+    ensures node { IsNode (Unit {0}) (disk_view disk.new) memory.new table.new }
+    ensures cut { (s : AnyState) → HasState memory.old.up (disk_view disk.old) memory.old table.old s
+        → (t : AnyState) × HasState memory.new.up (disk_view disk.new) memory.new table.new t × Cuts (Some s) request.now calls cut result (Some t) }
+    ensures stable { OnOk result (AllLeave (disk_view disk.new) (IsSame (disk_view disk.new).seen)) }
+    ensures later { faults_of disk.old ≤ faults_of disk.new }
+    ensures steady { CannotFail disk.new }
+{
+    look_at(request);
+    match memory.refused_at_once(request) {
+        Some(_) => {
+            crash_down(disk, memory, table, cut);
+            Ok(0)
+        }
+        None => match deeds_of(alloc, memory, table, request) {
+            Ok(deeds) => {
+                let standing = deeds_standing(deeds.as_slice(), cut, calls);
+                match cut_deeds(
+                    alloc,
+                    disk,
+                    memory,
+                    table,
+                    request,
+                    deeds.as_slice(),
+                    calls,
+                    cut,
+                ) {
+                    Ok(()) => Ok(standing),
+                    Err(_) => Err(AllocError),
+                }
+            }
+            Err(_) => Err(AllocError),
+        },
+    }
+}
+
+impl JournalNode<MemDisk> {
+    /// The disk calls of these numbers from now, of which 0 is the next, answer Failed and do nothing. The
+    /// node's state stays as it is.
+    pub fn fail_at(&mut self, calls: Vec<u64>)
+        ensures listed { (n : ℕ) → is_listed_at self.new.disk n ≡ list_any (λ k. k == n) calls.items }
+        ensures same { IsSameNodeBut self.old self.new }
+    {
+        self.disk.fail_at(calls);
+    }
+
+    /// Every disk call after so many more answers Failed and does nothing. The node's state stays as it is.
+    pub fn stop_after(&mut self, calls: u64)
+        ensures left { CannotFail self.old.disk → calls_left self.new.disk ≡ Some calls }
+        ensures same { IsSameNodeBut self.old self.new }
+    {
+        self.disk.stop_after(calls);
+    }
+
+    /// Is cut after that many disk calls of the request, or after all if there are fewer: its disk crashes by
+    /// the choice of `cut`, so that each later crash leaves the same files, and the node is down. Answers how
+    /// many of the request's durable effects stand. The node is up before, and no disk call is set to fail,
+    /// nor is one behind it. `OutOfMemory` comes for want of memory: before the first disk call it leaves all
+    /// as it was, and behind that the node is down with the first effects, some number of them.
+    pub fn act_cut(
+        &mut self,
+        alloc: Global,
+        request: &Request,
+        calls: u64,
+        cut: Cut,
+    ) -> Result<u64, OutOfMemory>
+        requires steady { CannotFail self.old.disk }
+        requires up { self.old.memory.up ≡ true }
+        ensures cut { Cuts (Some (state_in self.old)) request.now calls cut result (Some (state_in self.new)) }
+        ensures stable { OnOk result (AllLeave (disk_view self.new.disk) (IsSame (disk_view self.new.disk).seen)) }
+        ensures later { faults_of self.old.disk ≤ faults_of self.new.disk }
+        ensures steady { CannotFail self.new.disk }
+    {
+        cut_in(
+            alloc,
+            &mut self.disk,
+            &mut self.memory,
+            &mut self.table,
+            request,
+            calls,
+            cut,
+        )
+    }
+}

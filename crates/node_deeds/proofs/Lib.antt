@@ -1,0 +1,11 @@
+pub mod ToldLaws
+pub mod RefusalLaws
+pub mod LimitLaws
+pub mod DeedLaws
+pub mod DueLaws
+pub mod PurgeLaws
+pub mod ApplyLaws
+pub mod ServedLaws
+pub mod ServingTold
+pub mod ReplyLaws
+pub mod StepLaws

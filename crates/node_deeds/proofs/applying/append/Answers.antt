@@ -1,0 +1,6 @@
+use Rattle.std.proofs.Common.{sym}
+use Rattle.node_deeds.proofs.ApplyLaws.{appended_within}
+use Rattle.node_deeds.proofs.applying.append.Goals as goal
+
+pub put-requires : goal.put-requires
+put-requires c = appended_within c.args.start c.args.end c.args.place c.in-Some.row.now c.args.table.now (sym c.in-Some.ensures.found) c.in-Some.ensures.within c.requires.range c.requires.small
