@@ -19,3 +19,4 @@ pub mod NodeOpens
 pub mod Filled
 pub mod Reopens
 pub mod CuttingLaws
+pub mod HandedBack

@@ -7,6 +7,7 @@ ghost use Rattle.journal_core.specs.Step.{effects_of};
 ghost use Rattle.journal_core.specs.Answers.{Answers, FitsRequest, Rose};
 ghost use Rattle.journal_core.specs.Stops.{Stops, Kills, Restarts};
 ghost use Rattle.node_files.specs.Durable.{StandsAs};
+ghost use Rattle.journal_node.specs.FileState.{state_of};
 ghost use Rattle.journal_node.specs.Held.{StandsStopped};
 ghost use Rattle.journal_node.specs.Node.{IsUp, IsNoFault, told_state};
 ghost use Rattle.journal_node.specs.Opening.{StandsAsBefore};
@@ -40,9 +41,12 @@ impl<D: Disk> Model for JournalNode<D> {
 }
 
 impl<D: Disk> JournalNode<D> {
-    /// Its disk, as it is.
+    /// Its disk, as it is. Its files stand for the node's state, and of a node that is up each crash now leaves
+    /// files that do.
     pub fn into_disk(self) -> D
-        ensures { result ≡ self.disk }
+        ensures disk { result ≡ self.disk }
+        ensures stands { D.tells self.disk → StandsAs (D.view self.disk).seen (state_of (D.view self.disk).seen self.memory self.rows) }
+        ensures lasting { D.tells self.disk → self.memory.up ≡ true → AllLeave (D.view self.disk) (λ c. StandsAs c (state_of (D.view self.disk).seen self.memory self.rows)) }
     {
         self.disk
     }

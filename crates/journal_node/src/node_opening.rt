@@ -69,6 +69,8 @@ impl<D: Disk> JournalNode<D> {
     /// gives the disk back, with files that stand for what they stood for. A crash at any moment of the call
     /// leaves files that stand for what a crash before it could have left.
     pub fn open(alloc: Global, disk: D) -> Result<JournalNode<D>, OpenFail<D>>
+        ensures tells_ok { IfOk result (λ n. D.tells disk ↔ D.tells n.disk) }
+        ensures tells_err { IfErr result (λ e. D.tells disk ↔ D.tells (disk_in e)) }
         ensures opened { D.tells disk → IfOk result (λ n. IsOpenedNode (D.view disk).seen (D.view n.disk) n.memory n.rows) }
         ensures bad { D.tells disk → IfErr result (λ e. IsRefusedOpening (D.view disk).seen e) }
         ensures moments_ok { D.tells disk → IfOk result (λ n. LeavesOnly (D.view disk) (D.view n.disk) (StandsAsBefore (D.view disk))) }

@@ -1,6 +1,7 @@
 //! Requests over a table of three segments: what is refused, the deeds, what they leave, and the replies.
 ghost use Rattle.std.specs.Prelude.{◌≡◌, ◌≤◌, IfOk, None};
 ghost use Rattle.journal_core.specs.Limits.{limit_of, max_number};
+ghost use Rattle.segment_file.specs.Rows.{IsRowWithin};
 ghost use Rattle.node_deeds.specs.Due.{IsInRange};
 
 use crate::{
@@ -18,7 +19,8 @@ use std::process::Abort;
 use std::test::Fail;
 
 fn info(start: u64, end: u64, is_final: bool) -> SegmentInfo
-    ensures { result.end ≡ end }
+    ensures start { result.start ≡ start }
+    ensures end { result.end ≡ end }
 {
     SegmentInfo {
         start,
@@ -29,21 +31,25 @@ fn info(start: u64, end: u64, is_final: bool) -> SegmentInfo
     }
 }
 
+/// A segment with an edit, of epoch 1.
+fn row(start: u64, end: u64, is_final: bool, whole_length: u64) -> SegmentRow
+    requires first { 1 ≤ start }
+    requires order { start ≤ end }
+    requires small { end ≤ 100 }
+    ensures { IsRowWithin result }
+{
+    SegmentRow {
+        info: info(start, end, is_final),
+        whole_length,
+    }
+}
+
 /// Final segments from 1 to 3 and from 4 to 6, and one in progress from 7 to 8, all of epoch 1.
 fn table(alloc: Global) -> Result<SegmentTable, Fail> {
     let mut table = SegmentTable::new(alloc);
-    table.put(SegmentRow {
-        info: info(1, 3, true),
-        whole_length: 84,
-    })?;
-    table.put(SegmentRow {
-        info: info(4, 6, true),
-        whole_length: 84,
-    })?;
-    table.put(SegmentRow {
-        info: info(7, 8, false),
-        whole_length: 64,
-    })?;
+    table.put(row(1, 3, true, 84))?;
+    table.put(row(4, 6, true, 84))?;
+    table.put(row(7, 8, false, 64))?;
     Ok(table)
 }
 
@@ -149,11 +155,7 @@ fn a_batch_is_appended(rt: HostRuntime) -> Result<(), Fail> {
     let deed = Deed::Append { start: 7, at: 64 };
     is_refused(&rt, alloc, &request, None)?;
     has_deeds(&rt, alloc, &memory(alloc), &request, &[deed])?;
-    let row = SegmentRow {
-        info: info(7, 9, false),
-        whole_length: 84,
-    };
-    leaves(&rt, alloc, &request, deed, row)
+    leaves(&rt, alloc, &request, deed, row(7, 9, false, 84))
 }
 
 #[test]
@@ -202,11 +204,7 @@ fn a_segment_is_finalized(rt: HostRuntime) -> Result<(), Fail> {
         value: 8,
     };
     has_deeds(&rt, alloc, &memory(alloc), &request, &[deed, commit])?;
-    let row = SegmentRow {
-        info: info(7, 8, true),
-        whole_length: 64,
-    };
-    leaves(&rt, alloc, &request, deed, row)?;
+    leaves(&rt, alloc, &request, deed, row(7, 8, true, 64))?;
     let longer = Request::Finalize {
         head: head(1, 8)?,
         start: 7,
@@ -266,11 +264,7 @@ fn old_segments_are_removed(rt: HostRuntime) -> Result<(), Fail> {
         info: info(1, 3, true),
     };
     has_deeds(&rt, alloc, &memory(alloc), &request, &[deed])?;
-    let row = SegmentRow {
-        info: info(4, 6, true),
-        whole_length: 84,
-    };
-    leaves(&rt, alloc, &request, deed, row)
+    leaves(&rt, alloc, &request, deed, row(4, 6, true, 84))
 }
 
 #[test]
@@ -314,6 +308,32 @@ fn segments_are_told(rt: HostRuntime) -> Result<(), Fail> {
         Some(Reply::Segments(lines)) => assert_eq!(rt; lines.as_slice().len(), 3),
         _ => return Err("another reply".into()),
     }
+    Ok(())
+}
+
+/// The reply to the request, which is found without a file.
+fn reply_to(alloc: Global, request: &Request) -> Result<Option<Reply>, Fail> {
+    let reply = plain_reply(alloc, &memory(alloc), &table(alloc)?, request)?;
+    Ok(reply)
+}
+
+#[test]
+fn edits_need_a_file(rt: HostRuntime) -> Result<(), Fail> {
+    let alloc = rt.alloc();
+    let fetch = Request::Fetch {
+        head: head(1, 8)?,
+        start: 7,
+        from: 8,
+    };
+    assert!(rt; reply_to(alloc, &fetch)?.is_none());
+    assert!(rt; reply_to(alloc, &Request::Read { from: 7 })?.is_none());
+    let state = reply_to(alloc, &Request::State)?;
+    assert!(rt; matches!(state, Some(Reply::State { promised: 1 })));
+    let purge = Request::Purge {
+        head: head(1, 5)?,
+        min: 9,
+    };
+    assert!(rt; matches!(reply_to(alloc, &purge)?, Some(Reply::Ok)));
     Ok(())
 }
 

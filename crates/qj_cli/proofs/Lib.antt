@@ -4,3 +4,6 @@ pub mod EndLaws
 pub mod WordLaws
 pub mod ListLaws
 pub mod OneListing
+pub mod ServingLaws
+pub mod NodeLaws
+pub mod EndedLaws

@@ -5,7 +5,7 @@ use Rattle.std.specs.Str.{bytes_eq}
 use Rattle.std.proofs.lemmas.Slice.Eq.{bytes_eq-Decides}
 use Rattle.qj_cli.specs.declared.tool.Tool.{Tool}
 use Rattle.qj_cli.specs.declared.tool.Tool.TheVariants as tool
-use Rattle.qj_cli.specs.Usage.{word_of, oev_words, behind_play, behind_tool, behind_oev, usage_of}
+use Rattle.qj_cli.specs.Usage.{word_of, oev_words, behind_one, behind_tool, behind_oev, usage_of}
 use Rattle.qj_cli.specs.Words.{IsCommand, StopAt, UsageIsOfFirstWrongWord}
 
 -- they ask for one
@@ -29,41 +29,66 @@ neither_tool w a b tool.Stats is = bytes_other w (codes "stats") b is
 -- words that aren't a command's stay none, whatever stands behind them
 no_words : (others : List (List ℕ)) → IsCommand others → others ≡ [] → ⊥
 no_words others (inl e) n = cc (e, n)
-no_words others (inr (of, name, e)) n = cc (e, n)
+no_words others (inr (inl e)) n = cc (e, n)
+no_words others (inr (inr (of, name, e))) n = cc (e, n)
 
 -- the first word of a command
-first_word : (word : List ℕ) (words : List (List ℕ)) → IsCommand (word ∷ words) → (word ≡ codes "play") ⊎ (word ≡ codes "oev")
+first_word : (word : List ℕ) (words : List (List ℕ)) → IsCommand (word ∷ words) → (word ≡ codes "play") ⊎ ((word ≡ codes "node") ⊎ (word ≡ codes "oev"))
 first_word word words (inl e) = inl (cc e)
-first_word word words (inr (of, name, e)) = inr (cc e)
+first_word word words (inr (inl e)) = inr (inl (cc e))
+first_word word words (inr (inr (of, name, e))) = inr (inr (cc e))
 
--- what stands behind `play` and behind `oev`
+-- words of one length
+play_node : codes "play" ≡ codes "node" → ⊥
+play_node = bytes_other (codes "play") (codes "node") refl
+
+heads : (a b : List ℕ) (xs ys : List (List ℕ)) → a ∷ xs ≡ b ∷ ys → a ≡ b
+heads a b xs ys e = cc e
+
+-- what stands behind `play`, behind `node` and behind `oev`
 behind_play_is : (words : List (List ℕ)) → IsCommand (codes "play" ∷ words) → words ≡ []
 behind_play_is words (inl e) = cc e
-behind_play_is words (inr (of, name, e)) = absurd (cc e)
+behind_play_is words (inr (inl e)) = absurd (play_node (heads (codes "play") (codes "node") words [] e))
+behind_play_is words (inr (inr (of, name, e))) = absurd (cc e)
+
+behind_node_is : (words : List (List ℕ)) → IsCommand (codes "node" ∷ words) → words ≡ []
+behind_node_is words (inl e) = absurd (play_node (sym (heads (codes "node") (codes "play") words [] e)))
+behind_node_is words (inr (inl e)) = cc e
+behind_node_is words (inr (inr (of, name, e))) = absurd (cc e)
 
 behind_oev_is : (words : List (List ℕ)) → IsCommand (codes "oev" ∷ words) → (of : Tool) × (name : List ℕ) × (words ≡ word_of of ∷ name ∷ [])
 behind_oev_is words (inl e) = absurd (cc e)
-behind_oev_is words (inr (of, name, e)) = (of, name, cc e)
+behind_oev_is words (inr (inl e)) = absurd (cc e)
+behind_oev_is words (inr (inr (of, name, e))) = (of, name, cc e)
 
 is_oev : (of : Tool) (name : List ℕ) → IsCommand (codes "oev" ∷ word_of of ∷ name ∷ [])
-is_oev of name = inr (of, name, refl)
+is_oev of name = inr (inr (of, name, refl))
 
 -- with a wrong first word
-wrong_first : (word : List ℕ) (words : List (List ℕ)) → (word ≡ codes "play" → ⊥) → (word ≡ codes "oev" → ⊥) → StopAt (word ∷ words) 0
-wrong_first word words p o = record {
-  none = λ c. ⊎_elim p o (first_word word words c);
+wrong_first : (word : List ℕ) (words : List (List ℕ)) → (word ≡ codes "play" → ⊥) → (word ≡ codes "node" → ⊥) → (word ≡ codes "oev" → ⊥) → StopAt (word ∷ words) 0
+wrong_first word words p n o = record {
+  none = λ c. ⊎_elim p (⊎_elim n o) (first_word word words c);
   within = omega arith;
   before = (codes "play" ∷ [], inl refl);
-  further = λ l b. ⊎_elim p o (first_word word b.0 b.1);
+  further = λ l b. ⊎_elim p (⊎_elim n o) (first_word word b.0 b.1);
 }
 
-play_first : (words : List (List ℕ)) → MatchOption (behind_play words) (IsCommand (codes "play" ∷ words)) (StopAt (codes "play" ∷ words))
+play_first : (words : List (List ℕ)) → MatchOption (behind_one words) (IsCommand (codes "play" ∷ words)) (StopAt (codes "play" ∷ words))
 play_first [] = inl refl
 play_first (word ∷ words) = record {
   none = λ c. absurd (cc (behind_play_is (word ∷ words) c));
   within = omega arith;
   before = ([], inl refl);
   further = λ l b. absurd (cc (behind_play_is (word ∷ b.0) b.1));
+}
+
+node_first : (words : List (List ℕ)) → MatchOption (behind_one words) (IsCommand (codes "node" ∷ words)) (StopAt (codes "node" ∷ words))
+node_first [] = inr (inl refl)
+node_first (word ∷ words) = record {
+  none = λ c. absurd (cc (behind_node_is (word ∷ words) c));
+  within = omega arith;
+  before = ([], inr (inl refl));
+  further = λ l b. absurd (cc (behind_node_is (word ∷ b.0) b.1));
 }
 
 -- behind a tool's word
@@ -112,14 +137,17 @@ unfolding behind_oev
 oev_first [] = no_tool
 oev_first (word ∷ words) = oev_by word words (bytes_eq word (codes "list")) (bytes_eq word (codes "stats")) refl refl
 
-first_by : (word : List ℕ) (words : List (List ℕ)) (p o : Bool) → bytes_eq word (codes "play") ≡ p → bytes_eq word (codes "oev") ≡ o
+first_by : (word : List ℕ) (words : List (List ℕ)) (p n o : Bool) → bytes_eq word (codes "play") ≡ p → bytes_eq word (codes "node") ≡ n → bytes_eq word (codes "oev") ≡ o
     → MatchOption (usage_of (word ∷ words)) (IsCommand (word ∷ words)) (StopAt (word ∷ words))
 unfolding usage_of
-first_by word words true o e f =
-    rw e (subst (λ w. MatchOption (behind_play words) (IsCommand (w ∷ words)) (StopAt (w ∷ words))) (sym (bytes_same word (codes "play") e)) (play_first words))
-first_by word words false true e f =
-    rw (e, f) (subst (λ w. MatchOption (behind_oev words) (IsCommand (w ∷ words)) (StopAt (w ∷ words))) (sym (bytes_same word (codes "oev") f)) (oev_first words))
-first_by word words false false e f = rw (e, f) (wrong_first word words (bytes_other word (codes "play") e) (bytes_other word (codes "oev") f))
+first_by word words true n o e f h =
+    rw e (subst (λ w. MatchOption (behind_one words) (IsCommand (w ∷ words)) (StopAt (w ∷ words))) (sym (bytes_same word (codes "play") e)) (play_first words))
+first_by word words false true o e f h =
+    rw (e, f) (subst (λ w. MatchOption (behind_one words) (IsCommand (w ∷ words)) (StopAt (w ∷ words))) (sym (bytes_same word (codes "node") f)) (node_first words))
+first_by word words false false true e f h =
+    rw (e, f, h) (subst (λ w. MatchOption (behind_oev words) (IsCommand (w ∷ words)) (StopAt (w ∷ words))) (sym (bytes_same word (codes "oev") h)) (oev_first words))
+first_by word words false false false e f h =
+    rw (e, f, h) (wrong_first word words (bytes_other word (codes "play") e) (bytes_other word (codes "node") f) (bytes_other word (codes "oev") h))
 
 no_word : StopAt [] 0
 no_word = record {
@@ -132,4 +160,4 @@ no_word = record {
 pub first_wrong_word : UsageIsOfFirstWrongWord
 unfolding usage_of
 first_wrong_word [] = no_word
-first_wrong_word (word ∷ words) = first_by word words (bytes_eq word (codes "play")) (bytes_eq word (codes "oev")) refl refl
+first_wrong_word (word ∷ words) = first_by word words (bytes_eq word (codes "play")) (bytes_eq word (codes "node")) (bytes_eq word (codes "oev")) refl refl refl

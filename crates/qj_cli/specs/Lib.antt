@@ -4,4 +4,6 @@ pub mod Report
 pub mod Due
 pub mod Listing
 pub mod Found
+pub mod Serving
+pub mod NodeEnds
 pub mod Scripts

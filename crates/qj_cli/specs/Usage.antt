@@ -26,11 +26,20 @@ AskNoListing words = (of : Tool) (name : List ℕ) → words ≡ oev_words of na
 abbrev pub AskNoTool : List (List ℕ) → Type 0
 AskNoTool words = (of : Tool) (name : List ℕ) → words ≡ word_of of ∷ name ∷ [] → ⊥
 
+-- ## A node
+-- the words that ask for a node
+abbrev pub node_words : List (List ℕ)
+node_words = codes "node" ∷ []
+
+-- they are others
+abbrev pub AskNoNode : List (List ℕ) → Type 0
+AskNoNode words = words ≡ node_words → ⊥
+
 -- ## The first wrong word
--- `play` takes no words
-abbrev pub behind_play : List (List ℕ) → Option ℕ
-behind_play [] = None
-behind_play (word ∷ words) = Some 1
+-- `play` and `node` take no words
+abbrev pub behind_one : List (List ℕ) → Option ℕ
+behind_one [] = None
+behind_one (word ∷ words) = Some 1
 
 -- `oev` takes a tool and one name
 abbrev pub behind_tool : List (List ℕ) → Option ℕ
@@ -46,4 +55,5 @@ behind_oev (word ∷ words) = if bytes_eq word (codes "list") || bytes_eq word (
 unfoldable pub usage_of : List (List ℕ) → Option ℕ
 usage_of [] = Some 0
 usage_of (word ∷ words) =
-    if bytes_eq word (codes "play") then behind_play words else (if bytes_eq word (codes "oev") then behind_oev words else Some 0)
+    if bytes_eq word (codes "play") || bytes_eq word (codes "node") then behind_one words
+    else (if bytes_eq word (codes "oev") then behind_oev words else Some 0)

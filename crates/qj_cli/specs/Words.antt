@@ -1,10 +1,10 @@
 -- Which words are a command, and where others stop being one.
 use Rattle.std.specs.Prelude.{ℕ, ◌≡◌, ◌⊎◌, ◌+◌, ◌<◌, ◌≤◌, List, [], ◌∷◌, ◌++◌, MatchOption, codes, length, take}
 use Rattle.qj_cli.specs.declared.tool.Tool.{Tool}
-use Rattle.qj_cli.specs.Usage.{oev_words, usage_of}
+use Rattle.qj_cli.specs.Usage.{oev_words, node_words, usage_of}
 
 abbrev pub IsCommand : List (List ℕ) → Type 0
-IsCommand words = (words ≡ codes "play" ∷ []) ⊎ ((of : Tool) × (name : List ℕ) × (words ≡ oev_words of name))
+IsCommand words = (words ≡ codes "play" ∷ []) ⊎ ((words ≡ node_words) ⊎ ((of : Tool) × (name : List ℕ) × (words ≡ oev_words of name)))
 
 -- a command begins with these words
 abbrev pub BeginCommand : List (List ℕ) → Type 0

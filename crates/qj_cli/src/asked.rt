@@ -1,6 +1,6 @@
-// The listing that the words ask for.
-ghost use Rattle.std.specs.Prelude.{◌≡◌, ◌∷◌, [], ℕ, List, MatchOption};
-ghost use Rattle.qj_cli.specs.Usage.{bytes_of, word_of, oev_words, AskNoListing, AskNoTool};
+// What the words ask for: a listing, or a node.
+ghost use Rattle.std.specs.Prelude.{◌≡◌, ◌↔◌, ◌∷◌, [], ℕ, List, MatchOption, IsTrue};
+ghost use Rattle.qj_cli.specs.Usage.{bytes_of, word_of, oev_words, node_words, AskNoListing, AskNoTool};
 
 use crate::tool::{Tool, tool_of};
 
@@ -11,13 +11,13 @@ pub struct Asked<'a> {
     pub name: &'a str,
 }
 
-/// The name, where there is one and no more.
-fn only_name(words: &[String]) -> Option<&str>
-    ensures { MatchOption result ((name : List ℕ) → bytes_of words.now ≡ name ∷ [] → ⊥) (λ n. bytes_of words.now ≡ n.now ∷ []) }
+/// The word, where there is one and no more.
+fn only_word(words: &[String]) -> Option<&str>
+    ensures { MatchOption result ((word : List ℕ) → bytes_of words.now ≡ word ∷ [] → ⊥) (λ w. bytes_of words.now ≡ w.now ∷ []) }
 {
-    let (name, others) = words.split_first()?;
+    let (word, others) = words.split_first()?;
     if others.is_empty() {
-        Some(name.as_str())
+        Some(word.as_str())
     } else {
         None
     }
@@ -29,7 +29,7 @@ fn tool_asked(words: &[String]) -> Option<Asked<'_>>
 {
     let (word, names) = words.split_first()?;
     let tool = tool_of(word.as_str())?;
-    let name = only_name(names)?;
+    let name = only_word(names)?;
     Some(Asked { tool, name })
 }
 
@@ -42,4 +42,14 @@ pub fn listing_asked(words: &[String]) -> Option<Asked<'_>>
         return None;
     }
     tool_asked(others)
+}
+
+/// The words ask for a node: they are `node` alone.
+pub fn asks_node(words: &[String]) -> bool
+    ensures { IsTrue result ↔ (bytes_of words.now ≡ node_words) }
+{
+    match only_word(words) {
+        Some(word) => word == "node",
+        None => false,
+    }
 }

@@ -30,7 +30,8 @@ fn usage_line(alloc: Global, place: u64) -> Result<Vec<u8>, OutOfMemory>
     Ok(text)
 }
 
-fn script_line(alloc: Global, line: u64, rule: u64) -> Result<Vec<u8>, OutOfMemory>
+/// That a line breaks a rule, its first.
+pub fn script_line(alloc: Global, line: u64, rule: u64) -> Result<Vec<u8>, OutOfMemory>
     ensures { IfOk result (λ text. text.items ≡ error_line (codes "BadScript " ++ decimal line ++ 32 ∷ decimal rule)) }
 {
     let mut text = b"error BadScript ".to_vec(alloc)?;

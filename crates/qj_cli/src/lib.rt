@@ -1,19 +1,24 @@
-//! The top call of the program: words and a script's bytes, or a file of a disk, come in; a report, a listing or a fault line goes out.
+//! The top call of the program: words and a script's bytes, a file of a disk, or requests to a node come in; a report, a listing,
+//! replies or a fault line go out.
 #![tactic(auto)]
 
 mod asked;
 mod ending;
+mod exit;
 mod found;
 mod laws;
 mod listing;
 mod outcome;
+mod serving;
 mod status;
 #[cfg(test)]
 mod tests;
 mod tool;
 mod top;
 mod usage;
+mod writing;
 
+pub use exit::Exit;
 pub use laws::{
     files_have_one_listing, scripts_are_playable, scripts_have_one_report,
     usage_is_of_first_wrong_word,

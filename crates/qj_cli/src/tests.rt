@@ -1,7 +1,9 @@
-// The program over memory: reports, bad scripts, listings, bad words, and ends that fail.
+// The program over memory: reports, bad scripts, listings, nodes, bad words, and ends that fail.
 mod bad;
 mod known;
 mod listings;
+mod node;
+mod node_faults;
 
 use crate::{Status, qjm};
 use qj_disk::{Disk, MemDisk};
@@ -37,7 +39,7 @@ fn run_over<D: Disk>(
     }
     let mut source = MemSource::new(script.to_vec(alloc)?, lost_reads.to_vec(alloc)?);
     let mut sink = MemSink::new(alloc, 1_000_000, lost_writes.to_vec(alloc)?)?;
-    let status = qjm(alloc, &strings, &mut source, &mut sink, disk);
+    let status = qjm(alloc, &strings, &mut source, &mut sink, disk).status;
     Ok(Done {
         status,
         taken: sink.bytes().to_vec(alloc)?,
@@ -84,10 +86,12 @@ fn scripts_without_a_writer_are_played(rt: HostRuntime) -> Result<(), Fail> {
 
 #[test]
 fn bad_words_are_told(rt: HostRuntime) -> Result<(), Fail> {
-    let cases: [(&[&str], &[u8]); 9] = [
+    let cases: [(&[&str], &[u8]); 11] = [
         (&[], b"error Usage 0\n"),
         (&["view"], b"error Usage 0\n"),
         (&["play", "twice"], b"error Usage 1\n"),
+        (&["node", "x"], b"error Usage 1\n"),
+        (&["nodes"], b"error Usage 0\n"),
         (&["oev"], b"error Usage 1\n"),
         (&["oev", "x"], b"error Usage 1\n"),
         (&["oev", "x", "a"], b"error Usage 1\n"),

@@ -1,48 +1,24 @@
 // The top call.
-ghost use Rattle.std.specs.Prelude.{◌≡◌, ◌≢◌, ◌↔◌, ℕ, List};
-ghost use Rattle.qj_outside.specs.Whole.{TakesFront};
+ghost use Rattle.std.specs.Prelude.{◌≡◌, ◌↔◌, ℕ, List};
 ghost use Rattle.qj_disk.specs.Calls.{HasCause, Rests};
+ghost use Rattle.journal_node.specs.Opening.{IsCauseOf};
 ghost use Rattle.qj_cli.specs.declared.tool.Tool.{Tool};
-ghost use Rattle.qj_cli.specs.Usage.{bytes_of, oev_words, AskNoListing};
-ghost use Rattle.qj_cli.specs.Due.{Ends, CameOf, failed};
+ghost use Rattle.qj_cli.specs.Usage.{bytes_of, oev_words, node_words, AskNoListing, AskNoNode};
+ghost use Rattle.qj_cli.specs.Due.{Ends};
 ghost use Rattle.qj_cli.specs.Listing.{Lists, disk_answer};
+ghost use Rattle.qj_cli.specs.Serving.{Serves, is_disk_fault};
 
-use crate::asked::{Asked, listing_asked};
+use crate::asked::{Asked, asks_node, listing_asked};
 use crate::ending::ending;
+use crate::exit::Exit;
 use crate::listing::listing_ending;
 use crate::outcome::Outcome;
+use crate::serving::serve_node;
 use crate::status::Status;
+use crate::writing::write_ending;
 use qj_disk::Disk;
-use qj_outside::{Sink, Source, write_all};
+use qj_outside::{Sink, Source};
 use std::alloc::Global;
-
-/// The status after a write that failed.
-fn after_fault(status: Status) -> Status
-    ensures { result ≡ failed status }
-{
-    match status {
-        Status::Ok => Status::WriteFault,
-        Status::Usage => Status::Usage,
-        Status::BadScript => Status::BadScript,
-        Status::BadBytes => Status::BadBytes,
-        Status::Limit => Status::Limit,
-        Status::ReadFault => Status::ReadFault,
-        Status::WriteFault => Status::WriteFault,
-        Status::DiskFault => Status::DiskFault,
-        Status::OutOfMemory => Status::OutOfMemory,
-    }
-}
-
-/// Writes the text that is due. A fault line's own failure changes no status.
-fn write_ending<K: Sink>(sink: &mut K, status: Status, text: &[u8]) -> Status
-    ensures front { TakesFront (K.taken sink.old) (K.taken sink.new) text.now }
-    ensures came { CameOf status result text.now (K.taken sink.old) (K.taken sink.new) (K.faults sink.old) (K.faults sink.new) }
-{
-    match write_all(sink, text) {
-        Ok(()) => status,
-        Err(_) => after_fault(status),
-    }
-}
 
 /// Plays the script that the source gives, where the words are in order, and writes what is due.
 fn play_script<S: Source, K: Sink>(
@@ -79,20 +55,8 @@ fn list_file<K: Sink, D: Disk>(
     }
 }
 
-/// Plays a script or lists the edits of a segment's file. `words` are those behind the program's name:
-///
-/// - `play` plays the script that the source gives, and writes the report to the sink. The disk isn't called.
-/// - `oev list NAME` and `oev stats NAME` read the disk's file of that name, and write a line for each of its edits, or
-///   how many there are of each kind. The source isn't read, and the disk isn't changed.
-///
-/// All is read and computed before anything is written. `Usage`: other words, with the place, from 0, of the first word
-/// that is missing or wrong; nothing is read. `Limit`: the source has more than 1,048,576 bytes, the report would have
-/// more than 268,435,456, or the file has more than 134,217,728. `BadScript`: the first line, from 1, that breaks a rule,
-/// and the rule. `BadBytes`: the place of the file's first damage and its cause, `0 NoFile` where there is no such file.
-/// `ReadFault`: the source failed. `DiskFault`: the disk failed. `WriteFault`: the sink failed while the report or the
-/// listing was written; a prefix was. `OutOfMemory`: memory ran out before anything was written. Each but `WriteFault`
-/// writes its line `error NAME ..`, and stays the status where that line's writing fails.
-pub fn qjm<S: Source, K: Sink, D: Disk>(
+/// Plays a script, or lists the edits of a segment's file.
+fn play_or_list<S: Source, K: Sink, D: Disk>(
     alloc: Global,
     words: &[String],
     source: &mut S,
@@ -111,7 +75,6 @@ pub fn qjm<S: Source, K: Sink, D: Disk>(
         result (K.taken sink.old) (K.taken sink.new) (K.faults sink.old) (K.faults sink.new) }
     ensures no_source { (of : Tool) (name : List ℕ) → bytes_of words.now ≡ oev_words of name → source.new ≡ source.old }
 
-    // The disk isn't changed, and a disk fault comes only of a disk that failed.
     ensures tells { D.tells disk.old ↔ D.tells disk.new }
     ensures disk { D.tells disk.old → Rests (D.view disk.old) (D.view disk.new) }
     ensures cause { HasCause (D.faults disk.old) (D.faults disk.new) (D.steady disk.old) (D.steady disk.new) (disk_answer result) }
@@ -120,4 +83,61 @@ pub fn qjm<S: Source, K: Sink, D: Disk>(
         Some(asked) => list_file(alloc, asked, sink, disk),
         None => play_script(alloc, words, source, sink),
     }
+}
+
+/// Plays a script, lists the edits of a segment's file, or serves a node. `words` are those behind the program's name:
+///
+/// - `play` plays the script that the source gives, and writes the report to the sink. The disk isn't called.
+/// - `oev list NAME` and `oev stats NAME` read the disk's file of that name, and write a line for each of its edits, or
+///   how many there are of each kind. The source isn't read, and the disk isn't changed.
+/// - `node` opens a JournalNode on the disk, which keeps its state in the disk's files, and answers each request line of the
+///   source with its reply line. Each reply is written, and the sink flushed, before the source is read again.
+///
+/// A report and a listing are computed before any of it is written. `Usage`: other words, with the place, from 0, of the first
+/// word that is missing or wrong; nothing is read. `Limit`: the source has more than 1,048,576 bytes, the report would have
+/// more than 268,435,456, or the file has more than 134,217,728; of a node a line with more than 1,048,576, or a source with
+/// more than 1,073,741,824. `BadScript`: the first line, from 1, that breaks a rule, and the rule; of a node the first that
+/// isn't a request. `BadBytes`: the place of the file's first damage and its cause, `0 NoFile` where there is no such file;
+/// of a node `0 BadFile NAME` where this file isn't in its format, so that the node isn't opened. `ReadFault`: the source
+/// failed. `DiskFault`: the disk failed. `WriteFault`: the sink failed while the report, the listing or a reply was written;
+/// a prefix was. `OutOfMemory`: memory ran out. Each but `WriteFault` writes its line `error NAME ..`, behind the replies of a
+/// node to the lines before, and stays the status where that line's writing fails. The disk is given back.
+pub fn qjm<S: Source, K: Sink, D: Disk>(
+    alloc: Global,
+    words: &[String],
+    source: &mut S,
+    sink: &mut K,
+    disk: D,
+) -> Exit<D>
+    // A script is played, or the words are wrong.
+    ensures played { AskNoListing (bytes_of words.now) → AskNoNode (bytes_of words.now)
+        → Ends (bytes_of words.now) (S.left source.old) (S.left source.new) (S.faults source.old) (S.faults source.new)
+        result.status (K.taken sink.old) (K.taken sink.new) (K.faults sink.old) (K.faults sink.new) }
+    ensures no_disk { AskNoListing (bytes_of words.now) → AskNoNode (bytes_of words.now) → result.disk ≡ disk }
+
+    // A file is listed.
+    ensures listed { (of : Tool) (name : List ℕ) → bytes_of words.now ≡ oev_words of name
+        → Lists of (D.tells disk) (D.left disk) ((D.view disk).seen name)
+        result.status (K.taken sink.old) (K.taken sink.new) (K.faults sink.old) (K.faults sink.new) }
+    ensures no_source { (of : Tool) (name : List ℕ) → bytes_of words.now ≡ oev_words of name → source.new ≡ source.old }
+
+    // Neither changes the disk, and a disk fault comes only of a disk that failed.
+    ensures disk { AskNoNode (bytes_of words.now) → D.tells disk → Rests (D.view disk) (D.view result.disk) }
+    ensures cause { AskNoNode (bytes_of words.now) → HasCause (D.faults disk) (D.faults result.disk) (D.steady disk) (D.steady result.disk) (disk_answer result.status) }
+
+    // A node is served.
+    ensures served { bytes_of words.now ≡ node_words
+        → Serves (D.tells disk) (D.view disk) (D.view result.disk) (S.left source.old) (S.left source.new) (S.faults source.old) (S.faults source.new)
+        result.status (K.taken sink.old) (K.taken sink.new) (K.faults sink.old) (K.faults sink.new) }
+    ensures node_cause { bytes_of words.now ≡ node_words
+        → IsCauseOf (D.faults disk) (D.faults result.disk) (D.steady disk) (D.steady result.disk) (is_disk_fault result.status) }
+
+    ensures tells { D.tells disk ↔ D.tells result.disk }
+{
+    if asks_node(words) {
+        return serve_node(alloc, source, sink, disk);
+    }
+    let mut disk = disk;
+    let status = play_or_list(alloc, words, source, sink, &mut disk);
+    Exit { status, disk }
 }

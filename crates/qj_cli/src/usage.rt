@@ -2,7 +2,7 @@
 ghost use Rattle.std.specs.Prelude.{◌≡◌};
 ghost use Rattle.qj_cli.specs.Usage.{usage_of, behind_oev, bytes_of};
 
-/// The place, from 0, of the first word that is missing or wrong; `None` for `play`, `oev list NAME` and
+/// The place, from 0, of the first word that is missing or wrong; `None` for `play`, `node`, `oev list NAME` and
 /// `oev stats NAME`, whatever NAME is.
 #[tactic(auto, unfolding(crate::specs::Usage::usage_of))]
 pub fn usage_fault(words: &[String]) -> Option<u64>
@@ -14,7 +14,7 @@ pub fn usage_fault(words: &[String]) -> Option<u64>
     if first.as_str() == "oev" {
         return oev_fault(others);
     }
-    if first.as_str() != "play" {
+    if first.as_str() != "play" && first.as_str() != "node" {
         return Some(0);
     }
     if others.is_empty() { None } else { Some(1) }

@@ -1,7 +1,7 @@
 use Rattle.std.proofs.Common.{sym, ◌∙◌}
 use Rattle.qj_cli.proofs.WordLaws.{one_listing}
 use Rattle.qj_cli.proofs.ListLaws.{lists_for}
-use Rattle.qj_cli.proofs.top.qjm.Goals as goal
+use Rattle.qj_cli.proofs.top.play_or_list.Goals as goal
 
 pub returns-in-Some-clause-listed : goal.returns-in-Some-clause-listed
 returns-in-Some-clause-listed g c =

@@ -1,0 +1,38 @@
+use Rattle.std.proofs.Common.{sym, subst, ◌↔◌}
+use Rattle.journal_node.specs.FileState.{state_of}
+use Rattle.journal_node.specs.Node.{told_state}
+use Rattle.qj_cli.specs.NodeEnds.{IsKept, ServesFrom}
+use Rattle.qj_cli.proofs.NodeLaws.{kept_state, kept_told, tells_on}
+use Rattle.qj_cli.proofs.EndedLaws.{session_told}
+use Rattle.qj_cli.proofs.serving.serve_opened.Goals as goal
+
+pub returns-clause-session : goal.returns-clause-session
+returns-clause-session g c =
+    let disk = c.serve-served.new.node.disk in
+    let v = g.D.Disk.view disk in
+    let m = c.serve-served.new.node.memory in
+    let rows = c.serve-served.new.node.rows in
+    let old = told_state (g.D.Disk.is_told c.args.node.disk) (g.D.Disk.view c.args.node.disk).seen c.args.node.memory c.args.node.rows in
+    let kept : g.D.Disk.tells disk → IsKept v (state_of v.seen m rows) = λ t. kept_state v m rows (c.into_disk.ensures.stands t) (c.into_disk.ensures.lasting t) in
+    subst
+    (λ d. ServesFrom old (g.D.Disk.tells d) (g.D.Disk.view d) (g.S.Source.left c.args.source.now) (g.S.Source.left c.serve-served.new.source)
+    (g.S.Source.faults c.args.source.now) (g.S.Source.faults c.serve-served.new.source) c.end_session-status.result
+    (g.K.Sink.taken c.args.sink.now) (g.K.Sink.taken c.end_session-status.new.sink) (g.K.Sink.faults c.args.sink.now) (g.K.Sink.faults c.end_session-status.new.sink))
+    (sym c.into_disk.ensures.disk)
+    (session_told c.serve-served.result c.end_session-status.result (g.K.Sink.taken c.serve-served.new.sink) (g.K.Sink.taken c.end_session-status.new.sink)
+    (g.K.Sink.faults c.serve-served.new.sink) (g.K.Sink.faults c.end_session-status.new.sink) c.end_session-status.ensures
+    (g.S.Source.left c.args.source.now) (g.S.Source.left c.serve-served.new.source) old (told_state (g.D.Disk.is_told disk) v.seen m rows)
+    (g.S.Source.faults c.args.source.now) (g.S.Source.faults c.serve-served.new.source) (g.K.Sink.taken c.args.sink.now) (g.K.Sink.faults c.args.sink.now)
+    (g.D.Disk.tells disk) v
+    c.serve-served.ensures.session c.serve-served.ensures.read_fault c.serve-served.ensures.no_read_fault c.serve-served.ensures.write_fault c.serve-served.ensures.no_write_fault
+    (kept_told (g.D.Disk.is_told disk) v m rows (λ t. kept ((g.met.D.Disk.told_so disk).1 t)))
+    (λ t. (state_of v.seen m rows, kept t)))
+
+pub returns-clause-tells : goal.returns-clause-tells
+returns-clause-tells g c =
+    let disk = c.serve-served.new.node.disk in
+    subst (λ d. g.D.Disk.tells c.args.node.disk ↔ g.D.Disk.tells d) (sym c.into_disk.ensures.disk)
+    (tells_on (g.D.Disk.tells c.args.node.disk) (g.D.Disk.tells disk) (g.D.Disk.is_told c.args.node.disk) (g.D.Disk.is_told disk)
+    (state_of (g.D.Disk.view c.args.node.disk).seen c.args.node.memory c.args.node.rows)
+    (state_of (g.D.Disk.view disk).seen c.serve-served.new.node.memory c.serve-served.new.node.rows)
+    (g.met.D.Disk.told_so c.args.node.disk) (g.met.D.Disk.told_so disk) c.serve-served.ensures.told)
