@@ -1,15 +1,14 @@
 -- The files of a node stand for its state.
-use Rattle.std.proofs.Common.{◌≡◌, Bool, List, true, false, refl, sym, ap, subst, ◌∙◌}
+use Rattle.std.proofs.Common.{◌≡◌, Bool, List, true, false, refl, sym, subst}
 use Rattle.qj_disk.specs.Files.{Files}
 use Rattle.qj_disk.specs.View.{View, AllLeave}
 use Rattle.journal_core.specs.declared.node_state.NodeState.{NodeState}
 use Rattle.journal_core.specs.Step.{crashed}
 use Rattle.segment_file.specs.declared.segment_row.SegmentRow.{SegmentRow}
-use Rattle.node_files.specs.declared.node_number.NodeNumber.{NodeNumber}
 use Rattle.node_files.specs.declared.node_number.NodeNumber.TheVariants.{Promised, Writer, Committed}
 use Rattle.node_files.specs.Durable.{HaveNumbers, StandsAs}
 use Rattle.journal_node.specs.FileState.{state_of}
-use Rattle.journal_node.specs.Node.{IsUp, HasState, IsNode}
+use Rattle.journal_node.specs.Node.{HasState, IsNode}
 use Rattle.journal_node.proofs.DoingDeed.{stands_now}
 use Rattle.journal_node.proofs.NodeStands.{state_told, rows_start}
 use Rattle.journal_node.proofs.ActingDone.{up_of}

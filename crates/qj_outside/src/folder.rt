@@ -18,6 +18,8 @@ const IN_SUBFOLDER: &str = "paxos/";
 pub struct Folder<R: Files + Drop> {
     rt: R,
     path: String,
+    // no name changed since the folders were synced
+    are_names_synced: bool,
 }
 
 /// There is no file of such a name.
@@ -52,7 +54,11 @@ fn fill<F: Read>(file: &mut F, into: &mut [u8]) -> io::Result<usize>
 impl<R: Files + AllocGlobal + Clone + Drop> Folder<R> {
     pub fn new(rt: R, path: &str) -> Result<Folder<R>, AllocError> {
         let path = String::from_str(rt.alloc(), path)?;
-        Ok(Folder { rt, path })
+        Ok(Folder {
+            rt,
+            path,
+            are_names_synced: false,
+        })
     }
 
     fn path_of(&self, name: &str) -> Result<PathBuf, AllocError> {
@@ -78,11 +84,11 @@ impl<R: Files + AllocGlobal + Clone + Drop> Folder<R> {
         }
     }
 
-    /// The file has as many bytes; an absent one has none.
-    fn expect_length(&self, name: &str, least: u64) -> io::Result<()> {
+    /// The file has as many bytes; an absent one has none. Answers whether it is there.
+    fn expect_length(&self, name: &str, least: u64) -> io::Result<bool> {
         match self.length(name)? {
-            Some(length) if least <= length => Ok(()),
-            None if least == 0 => Ok(()),
+            Some(length) if least <= length => Ok(true),
+            None if least == 0 => Ok(false),
             _ => Err(io::Error::from(ErrorKind::InvalidInput)),
         }
     }
@@ -99,8 +105,10 @@ impl<R: Files + AllocGlobal + Clone + Drop> Folder<R> {
         fill(&mut file, into)
     }
 
-    pub fn write_at(&self, name: &str, at: u64, bytes: &[u8]) -> io::Result<()> {
-        self.expect_length(name, at)?;
+    pub fn write_at(&mut self, name: &str, at: u64, bytes: &[u8]) -> io::Result<()> {
+        if !self.expect_length(name, at)? {
+            self.are_names_synced = false;
+        }
         self.make_subfolder(name)?;
         let path = self.path_of(name)?;
         let mut file = OpenOptions::new()
@@ -112,7 +120,7 @@ impl<R: Files + AllocGlobal + Clone + Drop> Folder<R> {
     }
 
     pub fn cut(&self, name: &str, to: u64) -> io::Result<()> {
-        self.expect_length(name, to)?;
+        let _there = self.expect_length(name, to)?;
         let path = self.path_of(name)?;
         let file = OpenOptions::new()
             .write(true)
@@ -120,25 +128,33 @@ impl<R: Files + AllocGlobal + Clone + Drop> Folder<R> {
         file.set_len(to)
     }
 
-    /// Syncs the file, and the folder that names it.
-    pub fn sync(&self, name: &str) -> io::Result<()> {
+    /// Syncs the file, and the folders where a name changed since they were synced.
+    pub fn sync(&mut self, name: &str) -> io::Result<()> {
         self.expect_file(name)?;
-        self.sync_path(name)?;
-        self.sync_folders(is_below(name))
+        self.sync_file(name)?;
+        self.sync_names()
     }
 
-    pub fn rename(&self, from: &str, to: &str) -> io::Result<()> {
+    fn sync_file(&self, name: &str) -> io::Result<()> {
+        let path = self.path_of(name)?;
+        let file = File::open(&self.rt, path.as_path())?;
+        file.sync_data()
+    }
+
+    pub fn rename(&mut self, from: &str, to: &str) -> io::Result<()> {
         self.expect_file(from)?;
         self.make_subfolder(to)?;
         let (old, new) = (self.path_of(from)?, self.path_of(to)?);
+        self.are_names_synced = false;
         fs::rename(&self.rt, old.as_path(), new.as_path())?;
-        self.sync_folders(is_below(from) || is_below(to))
+        self.sync_names()
     }
 
-    pub fn remove(&self, name: &str) -> io::Result<()> {
+    pub fn remove(&mut self, name: &str) -> io::Result<()> {
         let path = self.path_of(name)?;
+        self.are_names_synced = false;
         fs::remove_file(&self.rt, path.as_path())?;
-        self.sync_folders(is_below(name))
+        self.sync_names()
     }
 
     /// The names of all files, in byte order.
@@ -188,14 +204,19 @@ impl<R: Files + AllocGlobal + Clone + Drop> Folder<R> {
     }
 
     /// Syncs the folder, and the subfolder where it is meant too.
-    fn sync_folders(&self, below: bool) -> io::Result<()> {
-        if below {
-            self.sync_path(SUBFOLDER)?;
+    fn sync_names(&mut self) -> io::Result<()> {
+        if self.are_names_synced {
+            return Ok(());
         }
-        self.sync_path("")
+        if fs::exists(&self.rt, self.path_of(SUBFOLDER)?.as_path())? {
+            self.sync_folder(SUBFOLDER)?;
+        }
+        self.sync_folder("")?;
+        self.are_names_synced = true;
+        Ok(())
     }
 
-    fn sync_path(&self, name: &str) -> io::Result<()> {
+    fn sync_folder(&self, name: &str) -> io::Result<()> {
         let path = self.path_of(name)?;
         let file = File::open(&self.rt, path.as_path())?;
         file.sync_all()

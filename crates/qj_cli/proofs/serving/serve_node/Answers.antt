@@ -1,5 +1,5 @@
 use Rattle.std.proofs.Common.{sym, subst, refl}
-use Rattle.qj_cli.specs.Serving.{Serves, OpensNone, unopened}
+use Rattle.qj_cli.specs.Serving.{Serves, unopened}
 use Rattle.qj_cli.proofs.ServingLaws.{unopened_is}
 use Rattle.qj_cli.proofs.NodeLaws.{serves_opened}
 use Rattle.qj_cli.proofs.serving.serve_node.Goals as goal
