@@ -46,7 +46,8 @@ fn bytes_of(alloc: Global, first: u64, bodies: &[Bytes]) -> Result<Vec<u8>, OutO
     ensures some { IfOk result (λ v. AllByRecursion (λ body. body ≢ []) bodies.now) }
 {
     let inner = 12 + entries_length(bodies);
-    let mut out = Vec::with_capacity(alloc, 5 + inner)?;
+    // with room for the closed gate that is going to stand behind it
+    let mut out = Vec::with_capacity(alloc, 6 + inner)?;
     out.push(GATE)?;
     out.extend_from_slice(&(inner as u32).to_be_bytes())?;
     out.extend_from_slice(&first.to_be_bytes())?;

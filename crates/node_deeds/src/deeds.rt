@@ -28,6 +28,9 @@ fn one(alloc: Global, deed: Deed) -> Result<Vec<Deed>, OutOfMemory>
 fn joined(front: Vec<Deed>, rest: Vec<Deed>) -> Result<Vec<Deed>, OutOfMemory>
     ensures { IfOk result (λ v. v.items ≡ front.items ++ rest.items) }
 {
+    if front.is_empty() {
+        return Ok(rest);
+    }
     let mut deeds = front;
     let mut rest = rest;
     deeds.append(&mut rest)?;

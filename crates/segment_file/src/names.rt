@@ -7,6 +7,9 @@ use qj_num::print19;
 use std::alloc::{AllocError, Global};
 use std::fmt::Write;
 
+// Room for each of these names: the longest is that of an acceptance under way.
+const NAME_ROOM: usize = 64;
+
 // Adds a number of at most 2^62 as 19 digits.
 fn push_padded(name: &mut String, value: u64) -> Result<(), AllocError>
     requires { value ≤ 2 ^ 62 }
@@ -25,7 +28,8 @@ fn front_name(alloc: Global, front: &str, start: u64) -> Result<String, AllocErr
     requires { start ≤ 2 ^ 62 }
     ensures { IfOk result (λ name. string_bytes name ≡ front.now ++ padded 19 start) }
 {
-    let mut name = String::from_str(alloc, front)?;
+    let mut name = String::with_capacity(alloc, NAME_ROOM)?;
+    name.push_str(front)?;
     push_padded(&mut name, start)?;
     Ok(name)
 }
