@@ -14,7 +14,7 @@ use Rattle.journal_core.proofs.NodeLaws.{after-append}
 use Rattle.journal_core.proofs.Steps.{Acted, at_once, by_row, done, acted, append_nil}
 
 -- the first effects of a row
-rows_kept : (P : NodeState → Type 0) → IsKept P → (s : NodeState) (r : Request) → refused_at_once s r ≡ None → row_refused (fronted s r) r ≡ None
+pub rows_kept : (P : NodeState → Type 0) → IsKept P → (s : NodeState) (r : Request) → refused_at_once s r ≡ None → row_refused (fronted s r) r ≡ None
     → (k : ℕ) (before later : List Effect) → row_effects (fronted s r) r ≡ before ++ later → P (after_effects (fronted s r) before) → P (after_effects (fronted s r) (before ++ take k later))
 unfolding after_effects
 rows_kept P kept s r a b zero before later is p = subst (λ es. P (after_effects (fronted s r) es)) (sym (append_nil before)) p
@@ -45,21 +45,25 @@ front_short : (s : NodeState) (o : Option HeadView) → length (front_effects s 
 front_short s None = omega arith
 front_short s (Some h) = cond_both (nat_lt s.promised h.epoch) (Promise h.epoch ∷ []) [] (λ es. length es ≤ 1) (λ t. omega arith) (λ f. omega arith)
 
+pub stop_from_front : (s : NodeState) (r : Request) (ys : List Effect) → refused_at_once s r ≡ None → (k : ℕ)
+    → (j : ℕ) × (crashed (after_effects s (take (suc k) (front_effects s (head_of r) ++ ys))) ≡ crashed (after_effects (fronted s r) (take j ys)))
+unfolding after_effects
+stop_from_front s r ys a k =
+    let front = front_effects s (head_of r) in
+    let short : length front ≤ 1 = front_short s (head_of r) in
+    let after : take (suc k) (front ++ ys) ≡ front ++ take (suc k - length front) ys = take_behind front ys (suc k) (omega arith) in (
+      suc k - length front,
+      ap (λ es. crashed (after_effects s es)) after ∙ sym (front_crash s (fronted s r) (head_of r) (take (suc k - length front) ys) (front_passed s r a) refl refl refl refl),
+    )
+
 stop_split : (s : NodeState) (r : Request) (ys : List Effect) → refused_at_once s r ≡ None → (k : ℕ)
     → (crashed (after_effects s (take k (front_effects s (head_of r) ++ ys))) ≡ crashed s)
     ⊎ ((j : ℕ) × (crashed (after_effects s (take k (front_effects s (head_of r) ++ ys))) ≡ crashed (after_effects (fronted s r) (take j ys))))
 unfolding after_effects
 stop_split s r ys a zero = inl refl
-stop_split s r ys a (suc k) =
-    let front = front_effects s (head_of r) in
-    let short : length front ≤ 1 = front_short s (head_of r) in
-    let behind : take (suc k) (front ++ ys) ≡ front ++ take (suc k - length front) ys = take_behind front ys (suc k) (omega arith) in
-    inr (
-      suc k - length front,
-      ap (λ es. crashed (after_effects s es)) behind ∙ sym (front_crash s (fronted s r) (head_of r) (take (suc k - length front) ys) (front_passed s r a) refl refl refl refl),
-    )
+stop_split s r ys a (suc k) = inr (stop_from_front s r ys a k)
 
-take_nothing : (k : ℕ) → take k (let es : List Effect = [] in es) ≡ []
+pub take_nothing : (k : ℕ) → take k (let es : List Effect = [] in es) ≡ []
 take_nothing zero = refl
 take_nothing (suc k) = refl
 

@@ -10,11 +10,11 @@ use Rattle.journal_core.specs.Views.{HeadView}
 use Rattle.journal_core.specs.Limits.{head_of}
 use Rattle.journal_core.specs.Segments.{find_segment, has_edit, any_body, newest}
 use Rattle.journal_core.specs.Effects.{after_effects}
-use Rattle.journal_core.specs.Step.{node_step, refused_at_once, effects_of, fronted, front_promised, row_effects, row_then, stopped, fresh_state}
+use Rattle.journal_core.specs.Step.{node_step, refused_at_once, effects_of, front_effects, fronted, front_promised, row_effects, row_then, crashed, stopped, fresh_state}
 use Rattle.journal_core.specs.Laws.{Event, Asked, Stopped, Killed, Restarted, after_event, IsStored, OpenIsLed, IsSound, SoundStays, OpenSegmentIsLed, PromiseNeverFalls, epoch_of, AnsweredIsPromised, IsPurge, FinalStays, HeaderNeverFalls, HasEdit, NewestNeverFalls, RefusedBehindLeavesFront, IsQuestion, QuestionsAreIdle}
 use Rattle.journal_core.proofs.SegmentLists.{newest-above, newest-found}
-use Rattle.journal_core.proofs.Steps.{Acted, at_once, by_row, done, acted, front_le, none≢some, segments_all, segments-after}
-use Rattle.journal_core.proofs.KeptLaws.{event_kept, all_events}
+use Rattle.journal_core.proofs.Steps.{Acted, at_once, by_row, done, acted, append_nil, front_le, none≢some, segments_all, segments-after}
+use Rattle.journal_core.proofs.KeptLaws.{rows_kept, stop_from_front, take_nothing, event_kept, all_events}
 use Rattle.journal_core.proofs.Stored.{any_body_append, stored_kept, stored_fresh, promise_kept}
 use Rattle.journal_core.proofs.Changes.{Change, same, created, grown, made_final, replaced, removed, NoEdit, NotFinal, change_stopped, change_answered}
 use Rattle.journal_core.proofs.Opened.{open_acted, IsProposal, promise_done}
@@ -26,10 +26,10 @@ open_event s (Stopped r k) x = λ m f. none≢some m f
 open_event s Killed x = λ m f. none≢some m f
 open_event s Restarted x = λ m f. none≢some m f
 
-sound_event : (s : NodeState) (e : Event) → IsSound s → IsSound (after_event s e)
+pub sound_event : (s : NodeState) (e : Event) → IsSound s → IsSound (after_event s e)
 sound_event s e x = record { stored = event_kept IsStored stored_kept s e x.stored; led = open_event s e x }
 
-sound_fresh : IsSound fresh_state
+pub sound_fresh : IsSound fresh_state
 sound_fresh = record { stored = stored_fresh; led = λ m f. none≢some m f }
 
 pub sound_stays : SoundStays
@@ -75,6 +75,26 @@ answered_is_promised s r epoch is told = go (acted s r)
     go (at_once x a n e) = absurd (told (rw n tt))
     go (by_row x a b n e) = absurd (told (rw n tt))
     go (done a b n e) = ap (λ z. z.state.promised) n ∙ done_promise r s epoch is a
+
+-- stopped after at least one effect of a request that wasn't refused at once, a node has the request's epoch as a promise, or a higher one
+pub stopped_is_promised : (s : NodeState) (r : Request) (h : HeadView) (k : ℕ) → head_of r ≡ Some h → refused_at_once s r ≡ None → h.epoch ≤ (stopped s r (suc k)).promised
+unfolding after_effects
+stopped_is_promised s r h k is a = go (acted s r)
+  where
+    front : h.epoch ≤ (fronted s r).promised
+    front = let most : max s.promised h.epoch ≡ front_promised s.promised (head_of r) = ap (λ o. front_promised s.promised o) (sym is) in omega arith
+
+    go : Acted s r → h.epoch ≤ (stopped s r (suc k)).promised
+    go (at_once x b n e) = none≢some x (sym a ∙ b)
+    go (by_row x b c n e) =
+        let split = stop_from_front s r [] a k in
+        subst (λ es. h.epoch ≤ (crashed (after_effects s (take (suc k) es))).promised) (sym (e ∙ sym (append_nil (front_effects s (head_of r)))))
+        (subst (λ t. h.epoch ≤ t.promised) (sym split.1) (subst (λ es. h.epoch ≤ (after_effects (fronted s r) es).promised) (sym (take_nothing split.0)) front))
+    go (done b c n e) =
+        let split = stop_from_front s r (row_effects (fronted s r) r) a k in
+        subst (λ es. h.epoch ≤ (crashed (after_effects s (take (suc k) es))).promised) (sym e)
+        (subst (λ t. h.epoch ≤ t.promised) (sym split.1)
+        (rows_kept (λ t. h.epoch ≤ t.promised) (promise_kept h.epoch) s r b c split.0 [] (row_effects (fronted s r) r) refl front))
 
 -- ## The segment at one start
 stop_change : (s : NodeState) (r : Request) (k m : ℕ) → IsSound s → Change s r m (find_segment m s.segments) (find_segment m (stopped s r k).segments)

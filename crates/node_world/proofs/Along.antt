@@ -1,6 +1,7 @@
 -- One node along a run: what an entry may change at one start, and what stays from one place to a later one.
 use Rattle.std.proofs.Common.{◌≡◌, ◌≢◌, ℕ, zero, suc, ◌<◌, ◌≤◌, ◌⊎◌, ◌==◌, Bool, List, [], ◌∷◌, take, Option, Some, None, refl, inl, inr, arith, subst, sym, ap, ◌∙◌}
 use Rattle.std.proofs.lemmas.Bool.{cases_eq, cond-true, cond-false, eq-eqb, ne_eqb}
+use Rattle.journal_core.specs.Laws.{IsStored, OpenIsLed}
 use Rattle.journal_core.specs.Effects.{Effect}
 use Rattle.journal_core.specs.Limits.{head_of}
 use Rattle.journal_core.specs.Segments.{find_segment}
@@ -10,10 +11,9 @@ use Rattle.journal_core.specs.declared.reply.Reply.{Reply}
 use Rattle.journal_core.specs.declared.request.Request.{Request}
 use Rattle.journal_core.specs.declared.segment.Segment.{Segment}
 use Rattle.node_world.specs.Entries.{Entry, Move, Answer, Stop, Kill, Restart, Way, moved, node_after, Earlier, now, before}
-use Rattle.node_world.proofs.Steps.{Acted, at_once, by_row, done, acted, front_le, none≢some, segments_all, segments-after}
-use Rattle.node_world.proofs.Durable.{Durable, Durable-after, promise_earlier}
-use Rattle.node_world.proofs.Changes.{Change, same, created, grown, made_final, replaced, removed, OpenSound, change_stopped, change_answered}
-use Rattle.node_world.proofs.Opened.{open_sound}
+use Rattle.journal_core.proofs.Steps.{Acted, at_once, by_row, done, acted, front_le, none≢some, segments_all, segments-after}
+use Rattle.node_world.proofs.SoundNodes.{stored_after, promise_earlier, led_after}
+use Rattle.journal_core.proofs.Changes.{Change, same, created, grown, made_final, replaced, removed, change_stopped, change_answered}
 
 pub node_here : (i : ℕ) (e : Entry) (old : List Entry) → e.node ≡ i → node_after i (e ∷ old) ≡ moved (node_after i old) e.move
 unfolding node_after
@@ -50,13 +50,13 @@ passed_or s r = go (acted s r)
     go (by_row x a b n e) = inr a
     go (done a b n e) = inr a
 
-answer_change : (s : NodeState) (r : Request) (m : ℕ) → OpenSound s → Durable s → Acted s r →
+answer_change : (s : NodeState) (r : Request) (m : ℕ) → OpenIsLed s → IsStored s → Acted s r →
     (find_segment m (node_step s r).state.segments ≡ find_segment m s.segments) ⊎ ((refused_at_once s r ≡ None) × Change s r m (find_segment m s.segments) (find_segment m (node_step s r).state.segments))
 answer_change s r m sound d (at_once x a n e) = inl (ap (λ z. find_segment m z.state.segments) n)
 answer_change s r m sound d (by_row x a b n e) = inr (a, change_answered s r sound d m)
 answer_change s r m sound d (done a b n e) = inr (a, change_answered s r sound d m)
 
-stop_change : (s : NodeState) (caller : ℕ) (late : Bool) (r : Request) (k m : ℕ) → OpenSound s → Durable s →
+stop_change : (s : NodeState) (caller : ℕ) (late : Bool) (r : Request) (k m : ℕ) → OpenIsLed s → IsStored s →
     (find_segment m (moved s (Stop caller late r k)).segments ≡ find_segment m s.segments) ⊎ ChangedBy s (Stop caller late r k) m (find_segment m s.segments) (find_segment m (moved s (Stop caller late r k)).segments)
 stop_change s caller late r zero m sound d = inl (ap (λ zs. find_segment m zs) (segments-after s []))
 stop_change s caller late r (suc k) m sound d = elim (passed_or s r) [
@@ -74,7 +74,7 @@ stop_change s caller late r (suc k) m sound d = elim (passed_or s r) [
       change = subst (λ zs. Change s r m (find_segment m s.segments) (find_segment m zs)) (sym (segments-after s (take (suc k) (effects_of s r)))) (change_stopped s r sound d (suc k) m);
     })
 
-pub move_change : (s : NodeState) (move : Move) (m : ℕ) → OpenSound s → Durable s →
+pub move_change : (s : NodeState) (move : Move) (m : ℕ) → OpenIsLed s → IsStored s →
     (find_segment m (moved s move).segments ≡ find_segment m s.segments) ⊎ ChangedBy s move m (find_segment m s.segments) (find_segment m (moved s move).segments)
 move_change s (Answer caller way r reply) m sound d = elim (answer_change s r m sound d (acted s r)) [
   | inl e ↦ inl e
@@ -92,7 +92,7 @@ pub record Changes (i : ℕ) (e : Entry) (old : List Entry) (m : ℕ) : Type 0 w
 pub entry_change : (i : ℕ) (e : Entry) (old : List Entry) (m : ℕ) → (find_segment m (node_after i (e ∷ old)).segments ≡ find_segment m (node_after i old).segments) ⊎ Changes i e old m
 entry_change i e old m = elim (cases_eq e.node i) [
   | inr other ↦ inl (ap (λ z. find_segment m z.segments) (node_elsewhere i e old other))
-  | inl is ↦ elim (move_change (node_after i old) e.move m (open_sound i old) (Durable-after i old)) [
+  | inl is ↦ elim (move_change (node_after i old) e.move m (led_after i old) (stored_after i old)) [
     | inl unchanged ↦ inl (ap (λ z. find_segment m z.segments) (node_here i e old is) ∙ unchanged)
     | inr c ↦ inr (record { node = is; by = subst (λ z. ChangedBy (node_after i old) e.move m (find_segment m (node_after i old).segments) (find_segment m z.segments)) (sym (node_here i e old is)) c })
   ]

@@ -16,8 +16,8 @@ use Rattle.node_world.specs.Safe.{IsOnLine, IsOf, IsStart}
 use Rattle.node_world.specs.Parts.{IsJournaled, IsAuthor}
 use Rattle.node_world.proofs.Places.{Earlier-trans, Earlier-tail, Follows-earlier}
 use Rattle.node_world.proofs.Majorities.{majorities_share}
-use Rattle.node_world.proofs.SegmentLists.{find-start}
-use Rattle.node_world.proofs.Changes.{Change, same, created, grown, made_final, replaced, removed}
+use Rattle.journal_core.proofs.SegmentLists.{find-start}
+use Rattle.journal_core.proofs.Changes.{Change, same, created, grown, made_final, replaced, removed}
 use Rattle.node_world.proofs.Along.{Requested, entry_change}
 use Rattle.node_world.proofs.Slots.{none≢some, some_same}
 use Rattle.node_world.proofs.SeenLaws.{Round, Propose, Ask, Get, Recover, Seal, Open, Write, Clean, Other, Writer, seen_at, seen_first, asked}

@@ -20,11 +20,11 @@ use Rattle.node_world.specs.Run.{Story, Follows}
 use Rattle.node_world.proofs.SeenLaws.{Seal, Open, Clean, Writer, seen_at, seen_first}
 use Rattle.node_world.proofs.Places.{Earlier-trans, Earlier-tail, Follows-earlier}
 use Rattle.node_world.proofs.Majorities.{majorities_share}
-use Rattle.node_world.proofs.SegmentLists.{find-start}
-use Rattle.node_world.proofs.Steps.{front_le, none≢some}
-use Rattle.node_world.proofs.Durable.{Durable-after, promise_earlier}
-use Rattle.node_world.proofs.Opened.{promise_done}
-use Rattle.node_world.proofs.Changes.{Change, same, created, grown, made_final, replaced, removed, NoEdit, NotFinal}
+use Rattle.journal_core.proofs.SegmentLists.{find-start}
+use Rattle.journal_core.proofs.Steps.{front_le, none≢some}
+use Rattle.node_world.proofs.SoundNodes.{stored_after, promise_earlier}
+use Rattle.journal_core.proofs.Opened.{promise_done}
+use Rattle.journal_core.proofs.Changes.{Change, same, created, grown, made_final, replaced, removed, NoEdit, NotFinal}
 use Rattle.node_world.proofs.Along.{along}
 use Rattle.node_world.proofs.Slots.{some_same, true≢false, RankLe, IsTop, best_is_top}
 use Rattle.node_world.proofs.Frames.{Framed, IsWriting, IsGet}
@@ -88,7 +88,7 @@ module _ (n : ℕ) (story : Story) (past : List Entry) (run : Follows n story pa
   -- what a node that answers holds has a lower epoch
   pub lower_header : (i : ℕ) (y : AnswerAt n story past run f m x i) (g : Segment) → find_segment m (node_after i y.old).segments ≡ Some g → g.epoch < f
   lower_header i y g is = elim (cases_eq g.epoch f) [
-    | inr other ↦ (let h : g.epoch ≤ (node_after i y.old).promised = ((Durable-after i y.old).segments m g is).header in omega (arith, y.promise))
+    | inr other ↦ (let h : g.epoch ≤ (node_after i y.old).promised = ((stored_after i y.old).segments m g is).header in omega (arith, y.promise))
     | inl at_f ↦ absurd (go at_f (shaped n story y.old (Follows-earlier n story (Earlier-tail y.within) run) i m g is).shape)
   ]
     where

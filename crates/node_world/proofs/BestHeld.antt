@@ -20,7 +20,7 @@ use Rattle.node_world.specs.Entries.{Entry, Heard, Earlier, now, node_after}
 use Rattle.node_world.specs.Run.{Story, Follows, WasHeard, IsNext}
 use Rattle.node_world.specs.Safe.{IsHeld}
 use Rattle.node_world.proofs.Places.{Earlier-trans, Earlier-tail, next_of}
-use Rattle.node_world.proofs.SegmentLists.{find-start}
+use Rattle.journal_core.proofs.SegmentLists.{find-start}
 use Rattle.node_world.proofs.Slots.{none≢some, some_same}
 use Rattle.node_world.proofs.SeenLaws.{Round, Propose, Ask, Get, Recover, Seal, Open, Write, Clean, Other, asked}
 use Rattle.node_world.proofs.Frames.{Getting}

@@ -14,10 +14,10 @@ use Rattle.journal_core.specs.declared.segment.Segment.{Segment}
 use Rattle.writer_core.specs.Whole.{Takeover}
 use Rattle.node_world.specs.Entries.{Entry, Move, Answer, Stop, Way, moved, node_after, Earlier, now, before}
 use Rattle.node_world.proofs.SeenLaws.{Round, Propose, Ask, Get, Open, Other, Recover, Seal, Write, Clean, Writer, seen_at}
-use Rattle.node_world.proofs.Steps.{Acted, at_once, by_row, done, acted, none≢some, append_nil}
-use Rattle.node_world.proofs.Durable.{promise_take, AllAllowed, effects_allowed}
-use Rattle.node_world.proofs.Changes.{Change, same, created, grown, made_final, replaced, removed}
-use Rattle.node_world.proofs.Opened.{promise_done, IsProposal}
+use Rattle.journal_core.proofs.Steps.{Acted, at_once, by_row, done, acted, none≢some, append_nil}
+use Rattle.journal_core.proofs.SegmentLaws.{stopped_is_promised}
+use Rattle.journal_core.proofs.Changes.{Change, same, created, grown, made_final, replaced, removed}
+use Rattle.journal_core.proofs.Opened.{promise_done, IsProposal}
 use Rattle.node_world.proofs.Along.{Requested, entry_change, frozen}
 use Rattle.node_world.proofs.Slots.{some_same}
 use Rattle.node_world.proofs.Rounds.{frame, Comes, comes}
@@ -47,29 +47,13 @@ head_answer s r h is a (done b c n e) = rw n
     not_proposal (Read f) i x = x
     not_proposal Manifest i x = x
 
--- at least one effect of a request that passed
-head_stop : (s : NodeState) (h : HeadView) (k : ℕ) (rows : List Effect) → AllAllowed s (front_effects s (Some h) ++ rows) → h.epoch ≤ (after_effects s (take (suc k) (front_effects s (Some h) ++ rows))).promised
-unfolding after_effects
-head_stop s h k rows a = cond_both (nat_lt s.promised h.epoch) (Promise h.epoch ∷ []) [] (λ es. AllAllowed s (es ++ rows) → h.epoch ≤ (after_effects s (take (suc k) (es ++ rows))).promised)
-    (λ t b. promise_take k (after_effect s (Promise h.epoch)) rows b.1)
-    (λ f b. (let le : h.epoch ≤ s.promised = ltb-false s.promised h.epoch f in let up : s.promised ≤ (after_effects s (take (suc k) rows)).promised = promise_take (suc k) s rows b in omega arith)) a
-
-head_stopped : (s : NodeState) (r : Request) (h : HeadView) (k : ℕ) → head_of r ≡ Some h → refused_at_once s r ≡ None → Acted s r → h.epoch ≤ (after_effects s (take (suc k) (effects_of s r))).promised
-head_stopped s r h k is a (at_once x b n e) = none≢some x (sym a ∙ b)
-head_stopped s r h k is a (by_row x b c n e) =
-    let eq : effects_of s r ≡ front_effects s (Some h) ++ [] = e ∙ (ap (λ o. front_effects s o) is ∙ sym (append_nil (front_effects s (Some h)))) in
-    to (λ es. h.epoch ≤ (after_effects s (take (suc k) es)).promised) (sym eq) (head_stop s h k [] (to (λ es. AllAllowed s es) eq (effects_allowed s r)))
-head_stopped s r h k is a (done b c n e) =
-    let eq : effects_of s r ≡ front_effects s (Some h) ++ row_effects (fronted s r) r = e ∙ ap (λ o. front_effects s o ++ row_effects (fronted s r) r) is in
-    to (λ es. h.epoch ≤ (after_effects s (take (suc k) es)).promised) (sym eq) (head_stop s h k (row_effects (fronted s r) r) (to (λ es. AllAllowed s es) eq (effects_allowed s r)))
-
 pub head_promise : (s : NodeState) (move : Move) (r : Request) (h : HeadView) → Requested s move r → refused_at_once s r ≡ None → head_of r ≡ Some h → h.epoch ≤ (moved s move).promised
 head_promise s move r h (inl x) a is = to (λ m. h.epoch ≤ (moved s m).promised) (sym x.3) (head_answer s r h is a (acted s r))
 head_promise s move r h (inr x) a is = to (λ m. h.epoch ≤ (moved s m).promised) (sym x.3) (go x.2 x.4)
   where
     go : (k : ℕ) → 0 < k → h.epoch ≤ (moved s (Stop x.0 x.1 r k)).promised
     go zero lt = absurd (omega arith)
-    go (suc k) lt = head_stopped s r h k is a (acted s r)
+    go (suc k) lt = stopped_is_promised s r h k is a
 
 -- ## A proposal, a prepare and a fetch leave the segments
 abbrev pub OnlyAsks : Request → Type 0

@@ -12,7 +12,7 @@ use Rattle.node_world.specs.Run.{Story, Follows}
 use Rattle.node_world.proofs.SeenLaws.{seen_first, Round, Propose, Recover, Seal, Open, Write, Writer, seen_at}
 use Rattle.node_world.proofs.Places.{Follows-earlier}
 use Rattle.node_world.proofs.Majorities.{majorities_share}
-use Rattle.node_world.proofs.SegmentLists.{find-start}
+use Rattle.journal_core.proofs.SegmentLists.{find-start}
 use Rattle.node_world.proofs.Slots.{some_same}
 use Rattle.node_world.proofs.Rounds.{frame, below_later}
 use Rattle.node_world.proofs.Frames.{Framed, low_of, end_below, IsWriting}

@@ -15,10 +15,10 @@ use Rattle.node_world.specs.Run.{Story, Follows}
 use Rattle.node_world.proofs.SeenLaws.{Round, Propose, Ask, Get, Other, Recover, Seal, Open, Write, Clean, Writer, asked, is_ok_kind}
 use Rattle.node_world.proofs.Places.{Earlier-trans, Follows-earlier}
 use Rattle.node_world.proofs.Majorities.{majorities_share}
-use Rattle.node_world.proofs.SegmentLists.{find-start}
-use Rattle.node_world.proofs.Steps.{front_le}
-use Rattle.node_world.proofs.Durable.{Durable-after}
-use Rattle.node_world.proofs.Opened.{open_sound, promise_done}
+use Rattle.journal_core.proofs.SegmentLists.{find-start}
+use Rattle.journal_core.proofs.Steps.{front_le}
+use Rattle.node_world.proofs.SoundNodes.{stored_after, led_after}
+use Rattle.journal_core.proofs.Opened.{promise_done}
 use Rattle.node_world.proofs.Along.{node_here}
 use Rattle.node_world.proofs.Slots.{some_same}
 use Rattle.node_world.proofs.Frames.{Frame, Framed}
@@ -99,7 +99,7 @@ module _ (n : ℕ) (story : Story) (past : List Entry) (run : Follows n story pa
   pub journal_keeps : (x : ℕ) (a k : ℕ) (w : Writer) (old : List Entry) (i m l : ℕ) (b : BatchView) → Earlier old past → (story.takeover a).epoch ≡ x → l < b.first + length b.bodies →
       OkAt old i (asked (story.takeover a).epoch k w.committed (Write m b)) → (q : List Entry) × (g : Segment) × Earlier q past × (find_segment m (node_after i q).segments ≡ Some g) × (g.epoch ≡ x) × (l < m + length g.bodies)
   journal_keeps x a k w old i m l b p epoch lt ok =
-      let h : JournalHeld (node_after i ok.old) (record { epoch = (story.takeover a).epoch; serial = k; committed = w.committed }) m b = journal_held (node_after i ok.old) _ m b (open_sound i ok.old) ok.passed_by in
+      let h : JournalHeld (node_after i ok.old) (record { epoch = (story.takeover a).epoch; serial = k; committed = w.committed }) m b = journal_held (node_after i ok.old) _ m b (led_after i ok.old) ok.passed_by in
       let found : find_segment m (node_after i (ok.entry ∷ ok.old)).segments ≡ Some h.held = ap (λ z. find_segment m z.segments) ok.state ∙ h.found in
       let start : h.held.start ≡ m = find-start m (node_after i (ok.entry ∷ ok.old)).segments h.held found in
       (ok.entry ∷ ok.old, h.held, Earlier-trans ok.within p, found, h.header ∙ epoch, omega (arith, h.ends))
@@ -133,7 +133,7 @@ module _ (n : ℕ) (story : Story) (past : List Entry) (run : Follows n story pa
       below = front_le (node_after i ok.old) (Accept head b) head refl ok.passed_by.at_once
 
       header_le : h.held.epoch ≤ e
-      header_le = let x : h.held.epoch ≤ (node_after i q).promised = ((Durable-after i q).segments m h.held found).header in omega (arith, promise, below, epoch)
+      header_le = let x : h.held.epoch ≤ (node_after i q).promised = ((stored_after i q).segments m h.held found).header in omega (arith, promise, below, epoch)
 
       go : ((h.held.epoch ≡ head.epoch) × (h.held.bodies ≡ b.bodies)) ⊎ ((h.held.is_final ≡ true) × (end_of h.held ≡ last_txid b)) → Keeps e m l i ⊎ Lower e m l
       go (inl x) = inl (keeps_same e m l i q h.held inside found (x.0 ∙ epoch) (let len : length h.held.bodies ≡ length b.bodies = ap length x.1 in omega (arith, first, last, long)))

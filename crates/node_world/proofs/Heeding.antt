@@ -3,6 +3,7 @@ use Rattle.std.proofs.Common.{◌≡◌, ℕ, ◌+◌, ◌<◌, ◌≤◌, ◌==
 use Rattle.std.specs.List.{list_all}
 use Rattle.std.proofs.lemmas.Bool.{cases_Bool, cond-true, cond-false, ltb-true, leb-true, eqb-true, eq-eqb, lt-ltb}
 use Rattle.std.proofs.lemmas.Bool.Decides.{nat_tests}
+use Rattle.journal_core.specs.Laws.{IsStored, OpenIsLed}
 use Rattle.journal_core.specs.Views.{HeadView, BatchView, last_txid}
 use Rattle.journal_core.specs.Limits.{head_of, numbers_of, max_number, limit_of}
 use Rattle.journal_core.specs.Segments.{find_segment, newest, has_edit, end_of}
@@ -18,11 +19,10 @@ use Rattle.journal_core.specs.declared.refusal.Refusal.TheVariants.{Down, Limit,
 use Rattle.journal_core.specs.declared.reply.Reply.TheVariants as reply
 use Rattle.writer_core.specs.Answers.{fits}
 use Rattle.node_world.specs.Complete.{IsHeeded}
-use Rattle.node_world.proofs.Steps.{Acted, at_once, by_row, done, acted, AllQuiet, quiet_first}
-use Rattle.node_world.proofs.SegmentLists.{find-start, find-put_same}
+use Rattle.journal_core.proofs.Steps.{Acted, at_once, by_row, done, acted, AllQuiet, quiet_first}
+use Rattle.journal_core.proofs.SegmentLists.{find-start, find-put_same}
 use Rattle.node_world.proofs.Slots.{none≢some, true≢false}
-use Rattle.node_world.proofs.Durable.{Durable}
-use Rattle.node_world.proofs.Changes.{OpenSound, Change, same, created, grown, made_final, replaced, removed, change_answered}
+use Rattle.journal_core.proofs.Changes.{Change, same, created, grown, made_final, replaced, removed, change_answered}
 use Rattle.node_world.proofs.Oks.{Passed, passed_segments}
 use Rattle.node_world.proofs.Requests.{Fronted, behind}
 use Rattle.node_world.proofs.Ranges.{AllSmall, numbers_small}
@@ -134,7 +134,7 @@ up_to_by s r m t (Some x) new (made_final y l q edit f header ends) up h g is e 
 up_to_by s r m t o new (replaced y b q first f) up h g is e = let low : b.first ≤ m = subst (λ (z : Request). IsUpTo m z) q up in omega (arith, low, first)
 up_to_by s r m t (Some x) new (removed y l q newer le shut) up h g is e = none≢some g is
 
-pub up_to_kept : (s : NodeState) (r : Request) (m : ℕ) → OpenSound s → Durable s → IsUpTo m r → UpTo m s → UpTo m (node_step s r).state
+pub up_to_kept : (s : NodeState) (r : Request) (m : ℕ) → OpenIsLed s → IsStored s → IsUpTo m r → UpTo m s → UpTo m (node_step s r).state
 up_to_kept s r m sound d up h t g is e = up_to_by s r m t (find_segment t s.segments) (find_segment t (node_step s r).state.segments) (change_answered s r sound d t) up (h t) g is e
 
 -- ## A proposal

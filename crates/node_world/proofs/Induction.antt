@@ -21,7 +21,7 @@ use Rattle.node_world.proofs.SeenLaws.{Propose, Recover, Seal, Open, Write, Writ
 use Rattle.node_world.proofs.Slots.{some_same, true≢false, AtLeast, told_newest, IsTop}
 use Rattle.node_world.proofs.Places.{Earlier-trans, Earlier-tail, Follows-earlier}
 use Rattle.node_world.proofs.Majorities.{majorities_share}
-use Rattle.node_world.proofs.SegmentLists.{find-start, newest-above}
+use Rattle.journal_core.proofs.SegmentLists.{find-start, newest-above}
 use Rattle.node_world.proofs.Rounds.{Comes, comes, frame}
 use Rattle.node_world.proofs.Frames.{OkHeard, Newest, Counted, Framed, IsGet, IsAsking}
 use Rattle.node_world.proofs.Before.{proposal_first, open_before, OpenedBy, at_one, found_none, after_seal_of, recover_before, RecoveredBy, ask_before, asked_at, OpenedAt, opened_at}

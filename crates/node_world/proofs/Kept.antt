@@ -1,6 +1,8 @@
 -- The parts of what every run keeps, in the terms of specs/Parts.
 use Rattle.std.proofs.Common.{◌≡◌, ℕ, zero, suc, ◌<◌, ◌≤◌, ◌⊎◌, List, ◌∷◌, length, Option, Some, None, refl, inl, inr, arith, sym, ap, ◌∙◌}
-use Rattle.std.specs.Prelude.{slice_get}
+use Rattle.std.specs.Prelude.{◌+◌, slice_get}
+use Rattle.std.proofs.lemmas.Bool.{cases_order}
+use Rattle.journal_core.specs.Laws.{IsStored}
 use Rattle.journal_core.specs.Views.{HeadView, BatchView}
 use Rattle.journal_core.specs.Limits.{head_of}
 use Rattle.journal_core.specs.Segments.{find_segment, HasAt}
@@ -18,16 +20,18 @@ use Rattle.node_world.specs.Run.{Story, Follows, IsNext, takeover_at}
 use Rattle.node_world.specs.Safe.{IsHeld, IsChosen, IsOf, IsStart}
 use Rattle.node_world.specs.Parts.{KeepsPromise, IsRefused, IsBehindFinalised, ToldPrepare, IsNotAbove, IsWhole}
 use Rattle.node_world.proofs.Places.{Earlier-trans, Earlier-tail, Follows-earlier, next_of}
-use Rattle.node_world.proofs.Durable.{Durable, Durable-after}
-use Rattle.node_world.proofs.Opened.{open_sound}
+use Rattle.node_world.proofs.SoundNodes.{stored_after, led_after}
 use Rattle.node_world.proofs.Along.{node_here}
-use Rattle.node_world.proofs.Slots.{none≢some, not_above, IsTop, best_is_top}
-use Rattle.node_world.proofs.SeenLaws.{Propose, Recover, Writer, seen, seen_at, seen_first, asked}
+use Rattle.node_world.proofs.Slots.{none≢some, some_same, not_above, IsTop, best_is_top}
+use Rattle.node_world.proofs.SeenLaws.{Propose, Recover, Open, Writer, seen, seen_at, seen_first, asked}
 use Rattle.node_world.proofs.Sent.{made_of, made_at, made_asks, Sent, OfRound, round_within, one_owner, to}
 use Rattle.node_world.proofs.Values.{Wrote, wrote_once, start_round, accept_round, finalize_round}
 use Rattle.node_world.proofs.Oks.{Passed, passed, NotRefused}
 use Rattle.node_world.proofs.Shapes.{Shape, by_recovery, by_opening, shaped, Shaped-later, HeldAt, Maj}
-use Rattle.node_world.proofs.Epochs.{Fin, Rec, Opn, After, held_wrote}
+use Rattle.node_world.proofs.Frames.{Framed, end_below, low_of}
+use Rattle.node_world.proofs.Rounds.{frame, below_later}
+use Rattle.node_world.proofs.Before.{stage, StageLater, stage_later}
+use Rattle.node_world.proofs.Epochs.{Fin, Rec, Opn, After, held_wrote, owner_same, not_first}
 use Rattle.node_world.proofs.Finals.{Sealed, sealed}
 use Rattle.node_world.proofs.Between.{head_promise}
 use Rattle.node_world.proofs.Prepares.{Asking, AnswerAt, answer_at, answers}
@@ -38,8 +42,8 @@ use Rattle.node_world.proofs.Served.{head_round}
 
 pub keeps_promise : (i : ℕ) (past : List Entry) → KeepsPromise (node_after i past)
 keeps_promise i past =
-    let d : Durable (node_after i past) = Durable-after i past in
-    record { writer = d.writer; headers = λ m g is. (d.segments m g is).header; opened = open_sound i past }
+    let d : IsStored (node_after i past) = stored_after i past in
+    record { writer = d.writer; headers = λ m g is. (d.segments m g is).header; opened = led_after i past }
 
 not_refused : (y : Reply) → (IsRefused y → ⊥) → NotRefused y
 not_refused Ok r = tt
@@ -159,17 +163,17 @@ module _ (n : ℕ) (story : Story) (past : List Entry) (run : Follows n story pa
     not_higher i y best is (Some info) at = not_above info best.info (to (λ o. IsTop info o) is
         (best_is_top m 1 x.slots i (Told (AnswerHeard (Prepared y.writer y.known y.segment))) info y.at (ap (λ z. segment_told z (Prepared y.writer y.known y.segment)) y.fits ∙ at)))
 
+  accepting : (old : List Entry) (e : Entry) (h : HeadView) (b : BatchView) → Earlier (e ∷ old) past → IsOf e (Accept h b) → Rec n story past run h.epoch b
+  accepting old e h b p is =
+      let z : OfRound n story past (Accept h b) = round_within n story past old e (Accept h b) run p is in
+      let r : (z.w.round ≡ Recover b) × (h.epoch ≡ (story.takeover z.a).epoch) = accept_round (story.takeover z.a).epoch z.s z.w.committed z.w.round h b z.is in
+      record { a = z.a; s = z.s; w = z.w; sent = z.sent; epoch = sym r.1; is = r.0 }
+
   pub recovery_whole : (old : List Entry) (e : Entry) (h : HeadView) (b : BatchView) → Earlier (e ∷ old) past → IsOf e (Accept h b) → IsWhole n past h.epoch b
   recovery_whole old e h b p is = by (from_best n story past run h.epoch b rec)
     where
-      z : OfRound n story past (Accept h b)
-      z = round_within n story past old e (Accept h b) run p is
-
-      r : (z.w.round ≡ Recover b) × (h.epoch ≡ (story.takeover z.a).epoch)
-      r = accept_round (story.takeover z.a).epoch z.s z.w.committed z.w.round h b z.is
-
       rec : Rec n story past run h.epoch b
-      rec = record { a = z.a; s = z.s; w = z.w; sent = z.sent; epoch = sym r.1; is = r.0 }
+      rec = accepting old e h b p is
 
       by : FromBest n story past run h.epoch b → IsWhole n past h.epoch b
       by fb = with_answer (best_answer n story past run h.epoch b.first fb.asking fb.best fb.is_best)
@@ -187,3 +191,29 @@ module _ (n : ℕ) (story : Story) (past : List Entry) (run : Follows n story pa
             is_best = λ i mem. (let y : AnswerAt n story past run h.epoch b.first fb.asking i = answer_at n story past run h.epoch b.first fb.asking i mem in
                 (y.answered.old, y.segment, told_at h.epoch b.first fb.asking i y, to (λ q. IsNotAbove y.segment q) (sym a.info) (not_higher h.epoch b.first fb.asking i y fb.best fb.is_best y.segment refl)));
           }
+
+  -- ## A segment is opened or accepted
+  rounds_apart : (e : ℕ) (b : BatchView) → (o : Opn n story past run e b.first) → (r : Rec n story past run e b) → o.a ≡ r.a → ⊥
+  rounds_apart e b o r one = elim (cases_order o.s r.s) [
+    | inl same ↦ (let w : o.w ≡ r.w = some_same (sym o.sent.at ∙ (ap (λ s. seen_at n (story.takeover o.a) s) same ∙ at)) in
+        let no : Open b.first ≡ Recover b = sym o.is ∙ (ap (λ z. z.round) w ∙ r.is) in cc)
+    | inr other ↦ elim other [
+      | inl lt ↦ first_opened (to (λ q. StageLater (stage o.w.round) (stage q)) r.is (stage_later n (story.takeover o.a) o.s r.s o.w r.w lt o.sent.at at))
+      | inr gt ↦ (let below : end_below r.w r.w.round ≤ low_of o.w o.w.round = below_later n (story.takeover o.a) r.s o.s r.w o.w gt at o.sent.at in
+          let all : b.first + length b.bodies ≤ b.first = to (λ q. end_below r.w (Recover b) ≤ low_of o.w q) o.is (to (λ q. end_below r.w q ≤ low_of o.w o.w.round) r.is below) in
+          let some = to (λ q. Framed r.w q) r.is (frame n (story.takeover o.a) r.s r.w at) in
+          absurd (omega (arith, all, some.2)))
+    ]
+  ]
+    where
+      at : seen_at n (story.takeover o.a) r.s ≡ Some r.w
+      at = ap (λ z. seen_at n (story.takeover z) r.s) one ∙ r.sent.at
+
+      first_opened : StageLater (stage o.w.round) 3 → ⊥
+      first_opened x = elim (to (λ q. StageLater (stage q) 3) o.is x) [ inl lt ↦ omega (arith, lt) | inr y ↦ omega (arith, y.0) ]
+
+  pub opened_or_accepted : (xs ys : List Entry) (x y : Entry) (e : ℕ) (h : HeadView) (b : BatchView) → Earlier (x ∷ xs) past → Earlier (y ∷ ys) past → IsStart x e b.first → IsOf y (Accept h b) → h.epoch ≡ e → ⊥
+  opened_or_accepted xs ys x y e h b p q is of same =
+      let o : Opn n story past run e b.first = opening xs x e b.first p is in
+      let r : Rec n story past run e b = to (λ z. Rec n story past run z b) same (accepting ys y h b q of) in
+      rounds_apart e b o r (owner_same n story past run e (Open b.first) (Recover b) o r (not_first n story past run e (Open b.first) o (λ z. cc z)) (not_first n story past run e (Recover b) r (λ z. cc z)))

@@ -1,10 +1,6 @@
 pub mod Majorities
 pub mod Places
-pub mod SegmentLists
-pub mod Steps
-pub mod Durable
-pub mod Changes
-pub mod Opened
+pub mod SoundNodes
 pub mod Along
 pub mod Slots
 pub mod SeenLaws
@@ -32,6 +28,8 @@ pub mod Committed
 pub mod Served
 pub mod Kept
 pub mod Authors
+pub mod Journals
+pub mod Proposals
 pub mod Checker
 pub mod Worked
 pub mod Fronts

@@ -16,7 +16,7 @@ use Rattle.journal_core.specs.declared.refusal.Refusal.TheVariants as refusal
 use Rattle.journal_core.specs.declared.reply.Reply.{Reply}
 use Rattle.journal_core.specs.declared.reply.Reply.TheVariants as reply
 use Rattle.node_world.specs.Moving.{epoch_of, is_at_once, is_refused_at_once, moves}
-use Rattle.node_world.proofs.Steps.{Acted, at_once, by_row, done, acted}
+use Rattle.journal_core.proofs.Steps.{Acted, at_once, by_row, done, acted}
 
 -- ## Three kinds of requests: those that read, the proposal of an epoch, and those with a head
 pub data Kind (r : Request) : Type 0 where

@@ -17,10 +17,9 @@ use Rattle.node_world.specs.Complete.{IsHeeded, IsAnswered}
 use Rattle.node_world.specs.Entries.{now, node_after}
 use Rattle.node_world.specs.Parts.{IsBehindFinalised}
 use Rattle.node_world.specs.World.{World, cell_at, stopping, taken_at, node_asked, heard_of, call_heard, call_reached}
-use Rattle.node_world.proofs.Durable.{Durable-after}
-use Rattle.node_world.proofs.Opened.{open_sound}
+use Rattle.node_world.proofs.SoundNodes.{stored_after, led_after}
 use Rattle.node_world.proofs.Kept.{segments_chained}
-use Rattle.node_world.proofs.SegmentLists.{find-start}
+use Rattle.journal_core.proofs.SegmentLists.{find-start}
 use Rattle.node_world.proofs.Slots.{true≢false}
 use Rattle.node_world.proofs.Ranges.{small_after, ends_after}
 use Rattle.node_world.proofs.CellLaws.{promise}
@@ -40,8 +39,8 @@ first_body (b ∷ bodies) e = (b, refl)
 
 pub sane : (n : ℕ) (w : World) (i : ℕ) → Runs n w → 1 ≤ i → i ≤ n → Sane (state w i)
 sane n w i h low high = subst Sane (sym (state_at n w i h.agree low high)) (record {
-  sound = open_sound i (entries w.trace);
-  durable = Durable-after i (entries w.trace);
+  sound = led_after i (entries w.trace);
+  durable = stored_after i (entries w.trace);
   small = small_after i (entries w.trace);
   ends = λ t. ends_after i t (entries w.trace);
   starts = starts;

@@ -2,6 +2,7 @@
 use Rattle.std.proofs.Common.{◌≡◌, ℕ, suc, ◌+◌, ◌≤◌, ◌⊎◌, ◌==◌, ◌&&◌, Bool, true, false, not, List, [], ◌∷◌, ◌++◌, length, length-append, Option, Some, None, refl, inl, inr, arith, subst, sym, ap, ◌∙◌, if◌then◌else◌}
 use Rattle.std.specs.Prelude.{slice_get}
 use Rattle.std.proofs.lemmas.Bool.{cond_both, cases_Bool, cond-true, eqb-true}
+use Rattle.journal_core.specs.Laws.{OpenIsLed}
 use Rattle.journal_core.specs.Effects.{Effect, Commit, Replace, MakeFinal as SealIt, after_effects, appended, finalized, segments_after}
 use Rattle.journal_core.specs.Reads.{told_of}
 use Rattle.journal_core.specs.Segments.{find_segment, put_segment, newest, has_edit, any_body, end_of, HasAt}
@@ -18,10 +19,11 @@ use Rattle.journal_core.specs.declared.segment_info.SegmentInfo.{SegmentInfo}
 use Rattle.node_world.specs.Entries.{Entry, node_after, Earlier, now, before}
 use Rattle.node_world.specs.Run.{Story, Follows}
 use Rattle.node_world.proofs.Places.{Earlier-tail}
-use Rattle.node_world.proofs.SegmentLists.{find-start, find-put_same, newest-above, newest-found}
-use Rattle.node_world.proofs.Steps.{Acted, at_once, by_row, done, acted, front_le, none≢some, segments-after, segments_all, AllQuiet, quiet_whole}
-use Rattle.node_world.proofs.Durable.{Durable-after, any_body_append}
-use Rattle.node_world.proofs.Changes.{Change, same, created, grown, made_final, replaced, removed, OpenSound, NoEdit, JournalPassed, journal_passed, FinalizePassed, finalize_passed, open_kept}
+use Rattle.journal_core.proofs.SegmentLists.{find-start, find-put_same, newest-above, newest-found}
+use Rattle.journal_core.proofs.Steps.{Acted, at_once, by_row, done, acted, front_le, none≢some, segments-after, segments_all, AllQuiet, quiet_whole}
+use Rattle.journal_core.proofs.Stored.{any_body_append}
+use Rattle.node_world.proofs.SoundNodes.{stored_after}
+use Rattle.journal_core.proofs.Changes.{Change, same, created, grown, made_final, replaced, removed, NoEdit, JournalPassed, journal_passed, FinalizePassed, finalize_passed, open_kept}
 use Rattle.node_world.proofs.Along.{Requested, entry_change}
 use Rattle.node_world.proofs.Slots.{some_same, true≢false}
 use Rattle.node_world.proofs.Frames.{Framed}
@@ -64,7 +66,7 @@ pub record JournalHeld (s : NodeState) (h : HeadView) (m : ℕ) (b : BatchView) 
   pub has : (k : ℕ) (body : List ℕ) → slice_get b.bodies k ≡ Some body → HasAt held (b.first + k) body
   pub ends : held.start + length held.bodies ≡ b.first + length b.bodies
 
-pub journal_held : (s : NodeState) (h : HeadView) (m : ℕ) (b : BatchView) → OpenSound s → Passed s (Journal h m b) → JournalHeld s h m b
+pub journal_held : (s : NodeState) (h : HeadView) (m : ℕ) (b : BatchView) → OpenIsLed s → Passed s (Journal h m b) → JournalHeld s h m b
 journal_held s h m b sound p =
     let jp : JournalPassed (fronted s (Journal h m b)) h m b = journal_passed (fronted s (Journal h m b)) h m b p.row in
     let kept : (s.opened ≡ Some m) × (h.epoch ≤ s.promised) = open_kept s (Journal h m b) h m jp.opened in
@@ -198,7 +200,7 @@ keeps_edit n story past s m (Some x) new r (removed h l q newer le shut) y top g
 pub newest_step : (n : ℕ) (story : Story) (past : List Entry) → Follows n story past → (i k : ℕ) (e : Entry) (old : List Entry) → Earlier (e ∷ old) past → newest (node_after i old).segments ≡ Some k →
     (j : ℕ) × (newest (node_after i (e ∷ old)).segments ≡ Some j) × (k ≤ j)
 newest_step n story past f i k e old p is =
-    let there : (g : Segment) × (find_segment k (node_after i old).segments ≡ Some g) × (has_edit g ≡ true) = newest-found k (node_after i old).segments (Durable-after i old).rising is in
+    let there : (g : Segment) × (find_segment k (node_after i old).segments ≡ Some g) × (has_edit g ≡ true) = newest-found k (node_after i old).segments (stored_after i old).rising is in
     elim (entry_change i e old k) [
       | inl same_one ↦ newest-above k (node_after i (e ∷ old)).segments there.0 (same_one ∙ there.1) there.2
       | inr c ↦

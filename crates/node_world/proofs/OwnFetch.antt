@@ -26,7 +26,7 @@ use Rattle.writer_core.specs.Rounds.{head_now, numbers_fit, next_serial, taken_o
 use Rattle.node_world.specs.Majority.{Member, IsMajority}
 use Rattle.node_world.specs.World.{CallMade}
 use Rattle.node_world.proofs.Majorities.{Member_or}
-use Rattle.node_world.proofs.SegmentLists.{find-start}
+use Rattle.journal_core.proofs.SegmentLists.{find-start}
 use Rattle.node_world.proofs.Slots.{none≢some, some_same, true≢false, At, best_told, TellsSegment}
 use Rattle.node_world.proofs.Answers.{segment_slot}
 use Rattle.node_world.proofs.Enough.{At-one, At-other}

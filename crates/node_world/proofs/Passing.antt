@@ -2,6 +2,7 @@
 use Rattle.std.proofs.Common.{◌≡◌, ◌≢◌, ℕ, zero, suc, ◌+◌, ◌-◌, ◌<◌, ◌≤◌, ◌&&◌, ◌⊎◌, inl, inr, List, [], ◌∷◌, Bool, true, false, cond, refl, sym, ap, ◌∙◌, subst, arith, length, Option, Some, None, nat_lt}
 use Rattle.std.specs.Prelude.{slice_set, ◌*◌}
 use Rattle.std.proofs.lemmas.Bool.{cond-true, ltb-true, ltb-false}
+use Rattle.journal_core.specs.Laws.{IsStored}
 use Rattle.journal_core.specs.Views.{BatchView, last_txid}
 use Rattle.journal_core.specs.Limits.{max_number}
 use Rattle.journal_core.specs.Reads.{told_of}
@@ -25,10 +26,9 @@ use Rattle.writer_core.specs.Best.{Best, best_of, segment_in, segment_told, newe
 use Rattle.writer_core.specs.Rounds.{numbers_fit, Judged, going, next_serial, judged_by, judged, with_causes, done_in, after_propose, recovering, starting, asking_all, pieced, to_all}
 use Rattle.node_world.specs.Majority.{Member, IsMajority}
 use Rattle.node_world.specs.World.{CallMade}
-use Rattle.node_world.proofs.SegmentLists.{newest-above}
+use Rattle.journal_core.proofs.SegmentLists.{newest-above}
 use Rattle.node_world.proofs.Slots.{true≢false, At, best_told, TellsSegment, IsTop, RankLe, best_is_top, AtLeast, newest_told_least}
 use Rattle.node_world.proofs.Answers.{segment_slot, fits_info}
-use Rattle.node_world.proofs.Durable.{Durable}
 use Rattle.node_world.proofs.Heeding.{UpTo, Below, MayAccept}
 use Rattle.node_world.proofs.Duties.{Off, AreOld, Tells, After, Part, waits, told, Voted}
 use Rattle.node_world.proofs.Enough.{At-one, enough, all_wait, IsIn, others_wait, missed_in}
@@ -161,7 +161,7 @@ module _ (n : ℕ) (nodes : List ℕ) (majority : IsMajority n nodes) (state : �
   segment_of m writer known o e = ap (λ b. segment_told b (reply.Prepared writer known o)) e
 
   -- none has the segment
-  none_told : (m : ℕ) (v : WriterView) (i : ℕ) → best_of m v.slots ≡ None → Durable (state i) → (t : Telling m v i) → UpTo m (state i) → Tells m (state i) t.reply → Below m (state i)
+  none_told : (m : ℕ) (v : WriterView) (i : ℕ) → best_of m v.slots ≡ None → IsStored (state i) → (t : Telling m v i) → UpTo m (state i) → Tells m (state i) t.reply → Below m (state i)
   none_told m v i none durable t up tells k g found edit = by (has_edit g) refl
     where
       low : k ≤ m
@@ -184,7 +184,7 @@ module _ (n : ℕ) (nodes : List ℕ) (majority : IsMajority n nodes) (state : �
       off : Waiting ≡ Told (Answer (each i k).reply) → ⊥
       off e = cc e
 
-  recovers_by : (v : WriterView) (m : ℕ) (o : Option Best) → best_of m v.slots ≡ o → length v.left ≡ n → v.aim ≡ aim.Takeover → 0 < v.serial → AreIn nodes v.left → ((i : ℕ) → Member i nodes → Durable (state i)) → ((i : ℕ) → Member i nodes → Telling m v i)
+  recovers_by : (v : WriterView) (m : ℕ) (o : Option Best) → best_of m v.slots ≡ o → length v.left ≡ n → v.aim ≡ aim.Takeover → 0 < v.serial → AreIn nodes v.left → ((i : ℕ) → Member i nodes → IsStored (state i)) → ((i : ℕ) → Member i nodes → Telling m v i)
       → Passes (recovering m o v)
   recovers_by v m None e size is pos left durable each = start_next (record v { committed = m - 1 }) m size is pos (λ i k. let t = each i k in
       off_or _ _ v.epoch (state i) t.part (λ x. (x.0, x.1, none_told m v i e (durable i k) t x.2 x.3, x.4)))
@@ -207,7 +207,7 @@ module _ (n : ℕ) (nodes : List ℕ) (majority : IsMajority n nodes) (state : �
         (off_or _ _ v.epoch (state i) t.part (λ x. (x.0, omega (arith, x.1, up), x.2, x.3, x.4)));
   }
 
-  pub prepared : (v : WriterView) (m : ℕ) → length v.left ≡ n → length v.slots ≡ n → v.aim ≡ aim.Takeover → AreIn nodes v.left → ((i : ℕ) → Member i nodes → Durable (state i)) → ((i : ℕ) → Member i nodes → Spoken (round.Prepare m) v i)
+  pub prepared : (v : WriterView) (m : ℕ) → length v.left ≡ n → length v.slots ≡ n → v.aim ≡ aim.Takeover → AreIn nodes v.left → ((i : ℕ) → Member i nodes → IsStored (state i)) → ((i : ℕ) → Member i nodes → Spoken (round.Prepare m) v i)
       → Passes (judged (round.Prepare m) v).writer
   prepared v m size slots is left durable each =
       subst (λ (j : Judged). Passes j.writer) (sym (spoken_done (round.Prepare m) v slots each))
@@ -219,7 +219,7 @@ module _ (n : ℕ) (nodes : List ℕ) (majority : IsMajority n nodes) (state : �
       }))
 
   -- a node was taken out of the count; those of the majority are still there
-  pub lost : (v : WriterView) (m : ℕ) → length v.left ≡ n → length v.slots ≡ n → v.aim ≡ aim.Takeover → AreIn nodes v.left → ((i : ℕ) → Member i nodes → Durable (state i)) → ((i : ℕ) → Member i nodes → Telling m v i)
+  pub lost : (v : WriterView) (m : ℕ) → length v.left ≡ n → length v.slots ≡ n → v.aim ≡ aim.Takeover → AreIn nodes v.left → ((i : ℕ) → Member i nodes → IsStored (state i)) → ((i : ℕ) → Member i nodes → Telling m v i)
       → Passes (judged_by (has_majority (round.Prepare m) v.slots) (round.Prepare m) v).writer
   lost v m size slots is left durable each =
       subst (λ (b : Bool). Passes (judged_by b (round.Prepare m) v).writer)
@@ -230,7 +230,7 @@ module _ (n : ℕ) (nodes : List ℕ) (majority : IsMajority n nodes) (state : �
   abbrev pub Agreed : ℕ → SegmentInfo → Type 0
   Agreed m info = (i : ℕ) → Member i nodes → (g : Segment) → find_segment m (state i).segments ≡ Some g → g.is_final ≡ true → info.is_final ≡ true → end_of g ≡ info.end
 
-  may_accept : (v : WriterView) (m : ℕ) (b : Best) (bs : List (List ℕ)) (i : ℕ) → Member i nodes → best_of m v.slots ≡ Some b → Agreed m b.info → m + length bs ≡ b.info.end + 1 → Durable (state i) → (t : Telling m v i) → Tells m (state i) t.reply
+  may_accept : (v : WriterView) (m : ℕ) (b : Best) (bs : List (List ℕ)) (i : ℕ) → Member i nodes → best_of m v.slots ≡ Some b → Agreed m b.info → m + length bs ≡ b.info.end + 1 → IsStored (state i) → (t : Telling m v i) → Tells m (state i) t.reply
       → MayAccept (record { first = m; bodies = bs }) (find_segment m (state i).segments)
   may_accept v m b bs i k best agreed len durable t tells = by (find_segment m (state i).segments) refl
     where
@@ -253,7 +253,7 @@ module _ (n : ℕ) (nodes : List ℕ) (majority : IsMajority n nodes) (state : �
   some_body (b ∷ bs) l = refl
 
   pub pieces : (v : WriterView) (m : ℕ) (b : Best) (bs : List (List ℕ)) → best_of m v.slots ≡ Some b → m ≤ b.info.end → m + length bs ≤ b.info.end + 1 → length v.left ≡ n → v.aim ≡ aim.Takeover → 0 < v.serial → AreIn nodes v.left → Agreed m b.info
-      → ((i : ℕ) → Member i nodes → Durable (state i)) → ((i : ℕ) → Member i nodes → Telling m v i) → Passes (pieced b.node m b.info.end bs v)
+      → ((i : ℕ) → Member i nodes → IsStored (state i)) → ((i : ℕ) → Member i nodes → Telling m v i) → Passes (pieced b.node m b.info.end bs v)
   pieces v m b bs best low le size is pos left agreed durable each = by (nat_lt b.info.end (m + length bs)) refl
     where
       by : (x : Bool) → nat_lt b.info.end (m + length bs) ≡ x → Passes (cond x (asking_all (round.Accept (record { first = m; bodies = bs })) v) (record v { phase = phase.InRound (round.Fetch b.node m b.info.end bs) }))

@@ -17,10 +17,10 @@ use Rattle.journal_core.specs.declared.segment.Segment.{Segment}
 use Rattle.node_world.specs.Entries.{Entry, Answer, Heard, node_after, Earlier}
 use Rattle.node_world.specs.Run.{Story, Follows, IsNext, IsMade, WasHeard}
 use Rattle.node_world.proofs.Places.{Earlier-trans, Earlier-tail, Follows-earlier, next_of}
-use Rattle.node_world.proofs.SegmentLists.{find-start}
-use Rattle.node_world.proofs.Steps.{front_le, append_nil}
-use Rattle.node_world.proofs.Durable.{promise_earlier}
-use Rattle.node_world.proofs.Changes.{Change, same, created, grown, made_final, replaced, removed}
+use Rattle.journal_core.proofs.SegmentLists.{find-start}
+use Rattle.journal_core.proofs.Steps.{front_le, append_nil}
+use Rattle.node_world.proofs.SoundNodes.{promise_earlier}
+use Rattle.journal_core.proofs.Changes.{Change, same, created, grown, made_final, replaced, removed}
 use Rattle.node_world.proofs.Along.{Requested, Changes, along, node_here}
 use Rattle.node_world.proofs.Slots.{some_same}
 use Rattle.node_world.proofs.SeenLaws.{Propose, Ask, Get, Writer, is_ok_kind, seen_at, seen_first, asked}

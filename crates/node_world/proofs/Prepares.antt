@@ -23,7 +23,7 @@ use Rattle.node_world.proofs.SeenLaws.{seen_first, Propose, Ask, Writer, seen_at
 use Rattle.node_world.proofs.Slots.{some_same, true≢false, At, At-range, AtLeast, told_newest, ok_from, in_ok, ok_slot, ok_majority}
 use Rattle.node_world.proofs.Places.{Earlier-trans, Earlier-tail, Follows-earlier, next_of}
 use Rattle.node_world.proofs.Majorities.{majorities_share}
-use Rattle.node_world.proofs.SegmentLists.{newest-above}
+use Rattle.journal_core.proofs.SegmentLists.{newest-above}
 use Rattle.node_world.proofs.Along.{node_here}
 use Rattle.node_world.proofs.Rounds.{Comes, comes}
 use Rattle.node_world.proofs.Frames.{OkHeard, Newest, Counted, IsGet}

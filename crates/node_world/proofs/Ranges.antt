@@ -14,10 +14,10 @@ use Rattle.journal_core.specs.declared.request.Request.TheVariants as request
 use Rattle.journal_core.specs.declared.refusal.Refusal.{Refusal}
 use Rattle.journal_core.specs.declared.refusal.Refusal.TheVariants as refusal
 use Rattle.node_world.specs.Entries.{Move, Answer, Stop, Kill, Restart, Entry, moved, node_after}
-use Rattle.node_world.proofs.Steps.{Acted, at_once, by_row, done, acted}
-use Rattle.node_world.proofs.SegmentLists.{find-start}
+use Rattle.journal_core.proofs.Steps.{Acted, at_once, by_row, done, acted}
+use Rattle.journal_core.proofs.SegmentLists.{find-start}
 use Rattle.node_world.proofs.Slots.{none≢some, some_same, true≢false}
-use Rattle.node_world.proofs.Changes.{Change, same, created, grown, made_final, replaced, removed}
+use Rattle.journal_core.proofs.Changes.{Change, same, created, grown, made_final, replaced, removed}
 use Rattle.node_world.proofs.Along.{Changes, entry_change, node_here, node_elsewhere}
 use Rattle.std.proofs.lemmas.Bool.{cases_eq}
 

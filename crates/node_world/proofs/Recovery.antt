@@ -14,10 +14,10 @@ use Rattle.node_world.specs.Entries.{Entry, node_after, Earlier}
 use Rattle.node_world.specs.Run.{Story, Follows}
 use Rattle.node_world.proofs.SeenLaws.{Round, Propose, Ask, Get, Recover, Seal, Open, Write, Clean, Writer, seen_at, asked, seen_first}
 use Rattle.node_world.proofs.Places.{Earlier-trans, Earlier-tail, Follows-earlier}
-use Rattle.node_world.proofs.SegmentLists.{newest-above}
-use Rattle.node_world.proofs.Steps.{front_le}
-use Rattle.node_world.proofs.Durable.{Durable-after, promise_earlier}
-use Rattle.node_world.proofs.Changes.{Change, same, created, grown, made_final, replaced, removed, NoEdit}
+use Rattle.journal_core.proofs.SegmentLists.{newest-above}
+use Rattle.journal_core.proofs.Steps.{front_le}
+use Rattle.node_world.proofs.SoundNodes.{stored_after, promise_earlier}
+use Rattle.journal_core.proofs.Changes.{Change, same, created, grown, made_final, replaced, removed, NoEdit}
 use Rattle.node_world.proofs.Along.{Requested, Changes, along, node_here}
 use Rattle.node_world.proofs.Slots.{some_same, true≢false}
 use Rattle.node_world.proofs.Frames.{Framed, IsWriting, IsGet}
@@ -148,7 +148,7 @@ module _ (n : ℕ) (story : Story) (past : List Entry) (run : Follows n story pa
         sent_z = Sent-later n story z.a z.s z.w inside z.sent
 
         header : g.epoch ≤ (node_after i old).promised
-        header = ((Durable-after i old).segments m g is).header
+        header = ((stored_after i old).segments m g is).header
 
         ends : (u ≤ end_of g) × (last_or_start g ≡ end_of g)
         ends = end_at g u body has
@@ -236,7 +236,7 @@ module _ (n : ℕ) (story : Story) (past : List Entry) (run : Follows n story pa
         h_up = up h (ap head_of q)
 
         header : g.epoch ≤ (node_after i old).promised
-        header = ((Durable-after i old).segments m g (is ∙ at)).header
+        header = ((stored_after i old).segments m g (is ∙ at)).header
     kept_change i y old p (Some k) new r (removed h l q newer low shut) z lt up is g at le has =
         let one : g ≡ k = sym (some_same at) in
         let pr = purge_round (story.takeover z.a).epoch z.s z.w.committed z.w.round h l (sym q ∙ z.is) in

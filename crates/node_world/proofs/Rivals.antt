@@ -24,7 +24,7 @@ use Rattle.node_world.proofs.Slots.{none≢some, At, IsFresh, all_fresh}
 use Rattle.node_world.proofs.SeenLaws.{Propose, Writer, seen, seen_at, seen_first, seen_here, asked, asked_seen}
 use Rattle.node_world.proofs.Frames.{Sound}
 use Rattle.node_world.proofs.Table.{sound_at}
-use Rattle.node_world.proofs.Durable.{promise_earlier}
+use Rattle.node_world.proofs.SoundNodes.{promise_earlier}
 use Rattle.node_world.proofs.Sent.{Sent, one_owner, answered_of, Vote, vote_of, Votes, votes_of, one_vote, order_of, to}
 use Rattle.node_world.proofs.Served.{head_round}
 use Rattle.node_world.proofs.Tales.{Tale, IsTold, IsMadeAt}

@@ -14,8 +14,8 @@ use Rattle.node_world.specs.Run.{Story, Follows, IsNextEntry, IsNext}
 use Rattle.node_world.specs.Safe.{IsHeld, IsChosen, IsOnLine, IsAcknowledged, Reaches, there, segment, AcknowledgedSurvive, FinalisedAgree}
 use Rattle.node_world.proofs.Places.{Earlier-trans, Earlier-tail, next_of}
 use Rattle.node_world.proofs.Majorities.{majorities_share}
-use Rattle.node_world.proofs.SegmentLists.{find-start}
-use Rattle.node_world.proofs.Opened.{open_sound}
+use Rattle.journal_core.proofs.SegmentLists.{find-start}
+use Rattle.node_world.proofs.SoundNodes.{led_after}
 use Rattle.node_world.proofs.Along.{node_here}
 use Rattle.node_world.proofs.Slots.{some_same}
 use Rattle.node_world.proofs.Sent.{OfRound, round_within, to}
@@ -164,7 +164,7 @@ module _ (n : ℕ) (story : Story) (past : List Entry) (run : Follows n story pa
           let next : IsNextEntry n story c.0 y = next_of n story c.2 run in
           let said = to (λ z. IsNext n story c.0 y.node (node_after y.node c.0) z) c.4.1 next.is_next in
           let reply : (node_step (node_after i c.0) req).reply ≡ Ok = to (λ z. (node_step (node_after z c.0) req).reply ≡ Ok) c.3 said.1 in
-          let h : JournalHeld (node_after i c.0) k.0 k.1 k.2 = journal_held (node_after i c.0) k.0 k.1 k.2 (open_sound i c.0) (passed (node_after i c.0) req Ok reply tt) in
+          let h : JournalHeld (node_after i c.0) k.0 k.1 k.2 = journal_held (node_after i c.0) k.0 k.1 k.2 (led_after i c.0) (passed (node_after i c.0) req Ok reply tt) in
           record {
             old = y ∷ c.0;
             within = c.2;

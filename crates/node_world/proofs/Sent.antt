@@ -17,8 +17,8 @@ use Rattle.writer_core.specs.Whole.{Takeover}
 use Rattle.node_world.proofs.SeenLaws.{Propose, Writer, is_ok_kind, seen, seen_at, seen_here, asked, asked_seen, seen_first}
 use Rattle.node_world.proofs.Places.{Follows-earlier, next_of, Earlier-trans, Earlier-tail}
 use Rattle.node_world.proofs.Majorities.{majorities_share}
-use Rattle.node_world.proofs.Steps.{Acted, at_once, by_row, done, acted}
-use Rattle.node_world.proofs.Durable.{promise_earlier}
+use Rattle.journal_core.proofs.Steps.{Acted, at_once, by_row, done, acted}
+use Rattle.node_world.proofs.SoundNodes.{promise_earlier}
 use Rattle.node_world.proofs.Along.{Requested, node_here}
 use Rattle.node_world.proofs.Slots.{none≢some, some_same}
 use Rattle.node_world.proofs.Rounds.{earlier_round, RoundBefore}

@@ -16,12 +16,11 @@ use Rattle.std.specs.List.{filter}
 use Rattle.std.proofs.lemmas.List.{take_all}
 use Rattle.node_world.specs.Entries.{Entry, Move, Answer, Stop, Kill, Restart, moved, node_after, Earlier, now, before}
 use Rattle.node_world.specs.Run.{Story, Follows}
-use Rattle.node_world.specs.Safe.{IsOnLine, IsOf}
+use Rattle.node_world.specs.Safe.{IsChosen, IsOnLine, IsOf}
 use Rattle.node_world.proofs.SeenLaws.{Round, Propose, Ask, Get, Other, Recover, Seal, Open, Write, Clean, asked}
 use Rattle.node_world.proofs.Places.{Earlier-trans}
-use Rattle.node_world.proofs.Steps.{Acted, at_once, by_row, done, acted, none≢some}
-use Rattle.node_world.proofs.Durable.{promise_moved}
-use Rattle.node_world.proofs.Opened.{open_sound}
+use Rattle.journal_core.proofs.Steps.{Acted, at_once, by_row, done, acted, none≢some}
+use Rattle.node_world.proofs.SoundNodes.{promise_moved, led_after}
 use Rattle.node_world.proofs.Along.{Requested, node_here, node_elsewhere}
 use Rattle.node_world.proofs.Slots.{some_same}
 use Rattle.node_world.proofs.Sent.{OfRound, round_within, to}
@@ -32,7 +31,7 @@ use Rattle.node_world.proofs.Finals.{Sealed, sealed}
 use Rattle.node_world.proofs.ToldLaws.{final_fin, has_chosen}
 use Rattle.node_world.proofs.Between.{head_promise}
 use Rattle.node_world.proofs.Induction.{good}
-use Rattle.node_world.proofs.Safety.{on_line}
+use Rattle.node_world.proofs.Safety.{on_line, maj_chosen}
 use Rattle.node_world.proofs.Committed.{UpTo, UpTo-more, head_upto}
 
 known_after : (s : NodeState) (es : List Effect) → (after_effects s es).known ≡ s.known
@@ -223,7 +222,7 @@ module _ (n : ℕ) (story : Story) (past : List Entry) (run : Follows n story pa
       above = wrote_above n story past run g.epoch g.start (g.start + k) x own
 
       header : g.epoch ≡ (node_after i past).promised
-      header = (let there = open_sound i past g.start opened in let one : there.0 ≡ g = some_same (sym there.1 ∙ is) in ap (λ z. z.epoch) (sym one) ∙ there.2)
+      header = (let there = led_after i past g.start opened in let one : there.0 ≡ g = some_same (sym there.1 ∙ is) in ap (λ z. z.epoch) (sym one) ∙ there.2)
 
       c : (f : ℕ) × (m : ℕ) × (b : List ℕ) × (f ≤ (node_after i past).promised) × Maj n past f m (g.start + k) b
       c = (knows i past now).0 (g.start + k) (omega (arith, above.0)) le
@@ -275,3 +274,17 @@ module _ (n : ℕ) (story : Story) (past : List Entry) (run : Follows n story pa
       let z : OfRound n story past r = round_within n story past old e r run p q in
       let k = head_round (story.takeover z.a).epoch z.s z.w.committed z.w.round r h z.is is in
       up_line (story.takeover z.a).epoch z.w.committed t (head_upto n story past run z.a z.s z.w z.sent) one (omega (arith, k.1))
+
+  -- ## and chosen, under epochs that are not above the promise, or the request's
+  up_chosen : (e c t : ℕ) → Up e c → 1 ≤ t → t ≤ c → (f : ℕ) × (body : List ℕ) × (f ≤ e) × IsChosen n past f t body
+  up_chosen e c t up one le = (let y = up t one le in (y.0, y.2, y.3, maj_chosen n story past run y.0 y.1 t y.2 y.4))
+
+  pub known_chosen : (i t : ℕ) → 1 ≤ t → t ≤ (node_after i past).known → (f : ℕ) × (body : List ℕ) × (f ≤ (node_after i past).promised) × IsChosen n past f t body
+  known_chosen i t one le = up_chosen (node_after i past).promised (node_after i past).known t (knows i past now).0 one le
+
+  pub carried_chosen : (old : List Entry) (e : Entry) (r : Request) (h : HeadView) (t : ℕ) → Earlier (e ∷ old) past → IsOf e r → head_of r ≡ Some h → 1 ≤ t → t ≤ h.committed → (f : ℕ) × (body : List ℕ) × (f ≤ h.epoch) × IsChosen n past f t body
+  carried_chosen old e r h t p q is one le =
+      let z : OfRound n story past r = round_within n story past old e r run p q in
+      let k = head_round (story.takeover z.a).epoch z.s z.w.committed z.w.round r h z.is is in
+      let y = up_chosen (story.takeover z.a).epoch z.w.committed t (head_upto n story past run z.a z.s z.w z.sent) one (omega (arith, k.1)) in
+      (y.0, y.1, omega (arith, y.2, k.0), y.3)

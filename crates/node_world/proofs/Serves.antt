@@ -2,6 +2,7 @@
 use Rattle.std.proofs.Common.{◌≡◌, ℕ, ◌<◌, ◌≤◌, ◌==◌, ◌&&◌, inl, inr, List, [], ◌∷◌, ◌++◌, Bool, true, false, cond, refl, sym, ap, ◌∙◌, subst, arith, length, Option, Some, None, nat_lt, nat_le}
 use Rattle.std.proofs.lemmas.Bool.{eq-eqb, lt-ltb}
 use Rattle.std.proofs.lemmas.Bool.Decides.{nat_tests}
+use Rattle.journal_core.specs.Laws.{IsStored, OpenIsLed}
 use Rattle.journal_core.specs.Views.{HeadView, last_txid}
 use Rattle.journal_core.specs.Limits.{head_of, max_number}
 use Rattle.journal_core.specs.Reads.{told_of}
@@ -19,10 +20,8 @@ use Rattle.writer_core.specs.Answers.{fits, fits_newest, fits_told, fits_prepare
 use Rattle.writer_core.specs.Rounds.{request_in, head_now, batch_from, start_record}
 use Rattle.node_world.specs.Complete.{IsHeeded}
 use Rattle.node_world.specs.World.{CallMade}
-use Rattle.node_world.proofs.SegmentLists.{find-start, newest-found}
+use Rattle.journal_core.proofs.SegmentLists.{find-start, newest-found}
 use Rattle.node_world.proofs.Slots.{some_same, true≢false}
-use Rattle.node_world.proofs.Durable.{Durable}
-use Rattle.node_world.proofs.Changes.{OpenSound}
 use Rattle.node_world.proofs.Oks.{AcceptHeld, accept_held}
 use Rattle.node_world.proofs.Ranges.{Small, EndSmall}
 use Rattle.node_world.proofs.Heeding.{Fresh, Left, up_to_kept, HasPrepared, prepared, accepts, HoldsTo, finalizes, HasStarted, starts, opens}
@@ -30,8 +29,8 @@ use Rattle.node_world.proofs.Duties.{AreOld, Ready, After}
 
 -- what holds of every node of a run
 pub record Sane (s : NodeState) : Type 0 where
-  pub sound : OpenSound s
-  pub durable : Durable s
+  pub sound : OpenIsLed s
+  pub durable : IsStored s
   pub small : Small s
   pub ends : (t : ℕ) → EndSmall (find_segment t s.segments)
   pub starts : (t : ℕ) (g : Segment) → find_segment t s.segments ≡ Some g → has_edit g ≡ true → 1 ≤ t

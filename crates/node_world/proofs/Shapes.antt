@@ -9,7 +9,7 @@ use Rattle.node_world.specs.Majority.{Member, IsMajority}
 use Rattle.node_world.specs.Entries.{Entry, node_after, Earlier, now, before}
 use Rattle.node_world.specs.Run.{Story, Follows}
 use Rattle.node_world.proofs.SeenLaws.{Round, Recover, Seal, Open, Writer}
-use Rattle.node_world.proofs.Changes.{Change, same, created, grown, made_final, replaced, removed}
+use Rattle.journal_core.proofs.Changes.{Change, same, created, grown, made_final, replaced, removed}
 use Rattle.node_world.proofs.Along.{Requested, entry_change}
 use Rattle.node_world.proofs.Slots.{true≢false}
 use Rattle.node_world.proofs.Rounds.{frame}

@@ -9,8 +9,8 @@ use Rattle.node_world.specs.Entries.{Entry, node_after, Earlier}
 use Rattle.node_world.specs.Run.{Story, Follows}
 use Rattle.node_world.proofs.SeenLaws.{Recover, Seal, Open, Write, seen_at}
 use Rattle.node_world.proofs.Places.{Follows-earlier}
-use Rattle.node_world.proofs.SegmentLists.{find-start, newest-found}
-use Rattle.node_world.proofs.Durable.{Durable-after}
+use Rattle.journal_core.proofs.SegmentLists.{find-start, newest-found}
+use Rattle.node_world.proofs.SoundNodes.{stored_after}
 use Rattle.node_world.proofs.Slots.{some_same}
 use Rattle.node_world.proofs.Frames.{Framed}
 use Rattle.node_world.proofs.Rounds.{frame}
@@ -167,8 +167,8 @@ module _ (n : ℕ) (story : Story) (past : List Entry) (run : Follows n story pa
 
   pub told_wrote : (f i k : ℕ) (q : List Entry) → Earlier q past → newest (node_after i q).segments ≡ Some k → (node_after i q).promised < f → ToldWrote f k
   told_wrote f i k q p is lt =
-      let g = newest-found k (node_after i q).segments (Durable-after i q).rising is in
-      let header : g.0.epoch ≤ (node_after i q).promised = ((Durable-after i q).segments k g.0 g.1).header in
+      let g = newest-found k (node_after i q).segments (stored_after i q).rising is in
+      let header : g.0.epoch ≤ (node_after i q).promised = ((stored_after i q).segments k g.0 g.1).header in
       let start : g.0.start ≡ k = find-start k (node_after i q).segments g.0 g.1 in
       let y = first_body g.0.bodies g.2 in
       record {

@@ -10,7 +10,7 @@ use Rattle.journal_core.specs.declared.segment.Segment.{Segment}
 use Rattle.node_world.specs.Entries.{Entry, node_after, Earlier, now, before}
 use Rattle.node_world.specs.Run.{Story, Follows}
 use Rattle.node_world.proofs.SeenLaws.{seen_first, Round, Propose, Ask, Get, Other, Recover, Seal, Open, Write, Clean, Writer, seen_at, asked}
-use Rattle.node_world.proofs.Changes.{Change, same, created, grown, made_final, replaced, removed}
+use Rattle.journal_core.proofs.Changes.{Change, same, created, grown, made_final, replaced, removed}
 use Rattle.node_world.proofs.Along.{Requested, entry_change}
 use Rattle.node_world.proofs.Slots.{none≢some, some_same}
 use Rattle.node_world.proofs.Spans.{Covers, covers_once}

@@ -21,7 +21,7 @@ use Rattle.node_world.specs.Run.{IsRun}
 use Rattle.node_world.specs.Tables.{story_of}
 use Rattle.node_world.specs.Examples.{recovered_edit, recovered_log, its_line, tables, head, one_edit, heard_at, begin, edit, later, promised_twice, split}
 use Rattle.node_world.proofs.Places.{Earlier-tail}
-use Rattle.node_world.proofs.Durable.{Durable-after}
+use Rattle.node_world.proofs.SoundNodes.{stored_after}
 use Rattle.node_world.proofs.Safety.{chosen_on_line, chosen_agree, acknowledged_survive}
 use Rattle.node_world.proofs.Kept.{segments_chained}
 use Rattle.node_world.proofs.Checker.{passes, follows, said, said_is, no_start, none_starts}
@@ -109,7 +109,7 @@ lowest = (1, (omega arith, omega arith, held_before, refl), λ lower other lt sa
 
 starts_from_one : (i : ℕ) (g : Segment) → HoldsFinal 3 before_start i g → 1 ≤ g.start
 starts_from_one i g holds =
-    let edit : has_edit g ≡ true = ((Durable-after i before_start).segments g.start g holds.2).final_edit holds.3 in
+    let edit : has_edit g ≡ true = ((stored_after i before_start).segments g.start g holds.2).final_edit holds.3 in
     let x = first_body g.bodies edit in
     by (segments_chained 3 is_run.0 (reverse recovered_edit) is_run.1 i g g.start x.0 (before_start, Earlier-tail first_start, holds.2) (0, omega arith, x.1))
   where

@@ -1,16 +1,17 @@
 -- What every run keeps, part by part: promises, owners, values, the chain of starts, survival, finalised segments, the newest start, and what a
 -- recovery takes over. Lists of entries stand newest first, but in the laws.
-use Rattle.std.specs.Prelude.{ℕ, ◌+◌, ◌<◌, ◌≤◌, ◌≡◌, ◌⊎◌, false, List, ◌∷◌, ◌++◌, length, reverse, Option, None, Some}
+use Rattle.std.specs.Prelude.{ℕ, ◌+◌, ◌<◌, ◌≤◌, ◌≡◌, ◌⊎◌, true, false, List, ◌∷◌, ◌++◌, length, reverse, Option, None, Some, slice_get}
 use Rattle.journal_core.specs.Views.{HeadView, BatchView}
 use Rattle.journal_core.specs.Limits.{head_of}
-use Rattle.journal_core.specs.Segments.{find_segment, newest, info_of, HasAt}
+use Rattle.journal_core.specs.Segments.{find_segment, newest, info_of, has_edit, HasAt}
+use Rattle.journal_core.specs.Step.{last_or_start}
 use Rattle.journal_core.specs.declared.node_state.NodeState.{NodeState}
 use Rattle.journal_core.specs.declared.segment.Segment.{Segment}
 use Rattle.journal_core.specs.declared.segment_info.SegmentInfo.{SegmentInfo}
 use Rattle.journal_core.specs.declared.request.Request.{Request}
-use Rattle.journal_core.specs.declared.request.Request.TheVariants.{Journal, Finalize, Prepare, Accept}
+use Rattle.journal_core.specs.declared.request.Request.TheVariants.{NewEpoch, Journal, Finalize, Prepare, Accept, Purge}
 use Rattle.journal_core.specs.declared.reply.Reply.{Reply}
-use Rattle.journal_core.specs.declared.reply.Reply.TheVariants.{Prepared, Refused}
+use Rattle.journal_core.specs.declared.reply.Reply.TheVariants.{NewEpoch as EpochTaken, Prepared, Refused}
 use Rattle.writer_core.specs.Best.{outranks}
 use Rattle.node_world.specs.Majority.{Member, IsMajority}
 use Rattle.node_world.specs.Entries.{Way, Heard, Entry, Answer, Earlier, node_after}
@@ -164,3 +165,57 @@ abbrev pub LineHasAuthors : Type 0
 LineHasAuthors =
     (n : ℕ) (entries : List Entry) (txid : ℕ) (body : List ℕ) → IsRun n entries → IsOnLine n (reverse entries) txid body
     → (epoch : ℕ) × (first : ℕ) × IsAuthor n (reverse entries) epoch first txid
+
+-- ## What put an entry of the line there
+-- a `journal` request came that has this body at this txid, and all of its batch up to there stands on the line
+pub record IsPutByJournal (n : ℕ) (past : List Entry) (txid : ℕ) (body : List ℕ) : Type 0 where
+  pub old : List Entry
+  pub entry : Entry
+  pub within : Earlier (entry ∷ old) past
+  pub head : HeadView
+  pub start : ℕ
+  pub batch : BatchView
+  pub of_request : IsOf entry (Journal head start batch)
+  pub k : ℕ
+  pub place : txid ≡ batch.first + k
+  pub has : slice_get batch.bodies k ≡ Some body
+  pub on_line : (j : ℕ) (other : List ℕ) → j ≤ k → slice_get batch.bodies j ≡ Some other → IsOnLine n past (batch.first + j) other
+
+abbrev pub LineIsPutByJournals : Type 0
+LineIsPutByJournals =
+    (n : ℕ) (entries : List Entry) (txid : ℕ) (body : List ℕ) → IsRun n entries → IsOnLine n (reverse entries) txid body
+    → IsPutByJournal n (reverse entries) txid body
+
+-- ## Opened or accepted
+-- no epoch both opens a segment and recovers it
+abbrev pub OpenedOrAccepted : Type 0
+OpenedOrAccepted =
+    (n : ℕ) (entries xs ys : List Entry) (x y : Entry) (epoch : ℕ) (head : HeadView) (batch : BatchView) → IsRun n entries
+    → Earlier (x ∷ xs) (reverse entries) → Earlier (y ∷ ys) (reverse entries) → IsStart x epoch batch.first → IsOf y (Accept head batch)
+    → head.epoch ≡ epoch → ⊥
+
+-- ## What a proposal is told
+-- the node's heard answer to a proposal of this epoch told this newest start
+abbrev pub ToldNewest : List Entry → ℕ → ℕ → Option ℕ → Type 0
+ToldNewest past node epoch told =
+    (old : List Entry) × (e : Entry) × Earlier (e ∷ old) past × (e.node ≡ node)
+    × ((caller : ℕ) × (e.move ≡ Answer caller Heard (NewEpoch epoch) (EpochTaken told)))
+
+-- Where a body is chosen, one of any majority that answered a proposal of a higher epoch held it, and told a start that isn't below its segment's.
+abbrev pub ProposalsAreTold : Type 0
+ProposalsAreTold =
+    (n : ℕ) (entries : List Entry) (epoch higher txid : ℕ) (body nodes : List ℕ) → IsRun n entries
+    → IsChosen n (reverse entries) epoch txid body → epoch < higher
+    → IsMajority n nodes → ((node : ℕ) → Member node nodes → (told : Option ℕ) × ToldNewest (reverse entries) node higher told)
+    → (node : ℕ) × (start : ℕ) × (g : Segment) × IsHeld (reverse entries) node g × (g.epoch ≡ epoch) × HasAt g txid body
+    × (g.start ≤ start) × ToldNewest (reverse entries) node higher (Some start)
+
+-- ## What a purge may remove
+-- A segment goes from a node by a purge alone, whose committed txid it doesn't pass; neither the open segment goes nor the newest with an edit.
+abbrev pub OnlyPurgesRemove : Type 0
+OnlyPurgesRemove =
+    (n : ℕ) (entries old : List Entry) (e : Entry) (node start : ℕ) (g : Segment) → IsRun n entries
+    → Earlier (e ∷ old) (reverse entries)
+    → find_segment start (node_after node old).segments ≡ Some g → find_segment start (node_after node (e ∷ old)).segments ≡ None
+    → (head : HeadView) × (min : ℕ) × IsOf e (Purge head min) × (last_or_start g ≤ head.committed)
+    × (has_edit g ≡ true → newest (node_after node old).segments ≡ Some start → ⊥)

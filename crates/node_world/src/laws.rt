@@ -1,6 +1,6 @@
 // What holds of every run of the journal world. Each law is the contract of a function that does nothing.
-ghost use Rattle.node_world.specs.Laws.{PrefixIsRun, MajoritiesShareANode, PromiseNeverFalls, UnmovedLeavesStates, EveryRunIsSafe, ChosenOnce, ChosenIsOnLine, LineGoesOn, ServedIsOnLine, KnownCommittedIsOnLine, CarriedCommittedIsOnLine};
-ghost use Rattle.node_world.specs.Parts.{PromisesHold, AnswersArePromised, OneOwnerAnEpoch, WrittenOnce, StartsAreChained, SegmentsAreChained, ChosenSurvives, StartsAreAbove, FinalisedIsChosen, NewestNeverFalls, RecoveryIsWhole, LineHasAuthors};
+ghost use Rattle.node_world.specs.Laws.{PrefixIsRun, MajoritiesShareANode, PromiseNeverFalls, UnmovedLeavesStates, EveryRunIsSafe, ChosenOnce, ChosenIsOnLine, LineGoesOn, ServedIsOnLine, KnownCommittedIsOnLine, CarriedCommittedIsOnLine, KnownCommittedIsChosen, CarriedCommittedIsChosen};
+ghost use Rattle.node_world.specs.Parts.{PromisesHold, AnswersArePromised, OneOwnerAnEpoch, WrittenOnce, StartsAreChained, SegmentsAreChained, ChosenSurvives, StartsAreAbove, FinalisedIsChosen, NewestNeverFalls, RecoveryIsWhole, LineHasAuthors, LineIsPutByJournals, OpenedOrAccepted, ProposalsAreTold, OnlyPurgesRemove};
 ghost use Rattle.node_world.specs.WorldLaws.{WorldStepsAreARun, WorldsAreSafe, NotNextChangesNothing, SeenExactly};
 ghost use Rattle.node_world.specs.Complete.{TakeoversComplete};
 
@@ -58,6 +58,16 @@ pub fn known_committed_is_on_line()
 /// Each txid up to the one that a request carries as committed is on the line.
 pub fn carried_committed_is_on_line()
     ensures { CarriedCommittedIsOnLine }
+{}
+
+/// Each txid up to the one that a node knows to be committed is chosen, under an epoch that its promise isn't below.
+pub fn known_committed_is_chosen()
+    ensures { KnownCommittedIsChosen }
+{}
+
+/// Each txid up to the one that a request carries as committed is chosen, under an epoch that isn't above the request's.
+pub fn carried_committed_is_chosen()
+    ensures { CarriedCommittedIsChosen }
 {}
 
 /// After whatever came, a node's promise bounds its writer epoch and each header that it holds, and its open segment
@@ -121,6 +131,26 @@ pub fn recovery_is_whole()
 /// line.
 pub fn line_has_authors()
     ensures { LineHasAuthors }
+{}
+
+/// What is on the line was put there by a `journal` request whose whole batch up to it stands on the line.
+pub fn line_is_put_by_journals()
+    ensures { LineIsPutByJournals }
+{}
+
+/// No epoch both opens a segment and recovers it.
+pub fn segments_are_opened_or_accepted()
+    ensures { OpenedOrAccepted }
+{}
+
+/// Where a body is chosen, each majority that answered a proposal of a higher epoch tells a start that isn't below its segment's.
+pub fn proposals_are_told()
+    ensures { ProposalsAreTold }
+{}
+
+/// A segment goes from a node by a purge alone, whose committed txid it doesn't pass; the newest with an edit stays.
+pub fn only_purges_remove()
+    ensures { OnlyPurgesRemove }
 {}
 
 /// Whatever events come to a world, what reached its nodes, less what doesn't move, is a run.

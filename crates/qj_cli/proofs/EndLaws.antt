@@ -1,5 +1,5 @@
 -- How the program ends, case by case.
-use Rattle.std.proofs.Common.{◌≡◌, ℕ, ◌<◌, ◌≤◌, ◌++◌, List, [], Option, Some, None, true, false, refl, sym, ap, subst, arith, inl, inr, length, is_some, nat_lt}
+use Rattle.std.proofs.Common.{◌≡◌, ℕ, zero, suc, ◌<◌, ◌≤◌, ◌++◌, List, [], ◌∷◌, Option, Some, None, true, false, refl, sym, ap, subst, arith, inl, inr, length, is_some, nat_lt}
 use Rattle.std.specs.Prelude.{◌≢◌, codes, decimal, IfSome}
 use Rattle.std.specs.Io.KnownBytes.{Appends}
 use Rattle.qj_outside.specs.Faults.{Rose}
@@ -80,7 +80,7 @@ played words told left bytes f g status.Usage text all l same u h = absurd h
 played words told left bytes f g status.BadBytes text all l same u h = absurd h
 played words told left bytes f g status.Limit text all l same u h = record {
   due = λ a b. is_due words told left bytes None status.Limit all u l h.0 (inr (refl, h.1.1));
-  text_is = (bytes, are_told told left bytes all, inr h.1);
+  text_is = (bytes, are_told told left bytes all, inr (l, h.1));
   usage = λ e. absurd (cc e);
   only_usage = λ n m. absurd (n u);
   read_out = λ e. absurd (cc e);
@@ -97,11 +97,20 @@ limit_due : (words : List (List ℕ)) (told : Option (List ℕ)) → usage_of wo
 limit_due words None u h = tt
 limit_due words (Some told) u h = subst (λ x. IsDueOf x told status.Limit) (due_limit words told u h) refl
 
+some_of_length : (n : ℕ) → (bytes : List ℕ) × (length bytes ≡ n)
+some_of_length zero = ([], refl)
+some_of_length (suc n) = let shorter = some_of_length n in (0 ∷ shorter.0, ap (λ k. suc k) shorter.1)
+
+-- a source that doesn't tell its bytes may have had any number of them
+limit_said : (words : List (List ℕ)) (told : Option (List ℕ)) (text : List ℕ) → IfSome told (λ bytes. 1048576 < length bytes) → text ≡ error_line (codes "Limit 1048576") → IsText words told status.Limit text
+limit_said words None text h t = let long = some_of_length 1048577 in (long.0, tt, inl (let is : length long.0 ≡ 1048577 = long.1 in omega arith, t))
+limit_said words (Some told) text h t = (told, refl, inl (h, t))
+
 pub too_long : (words : List (List ℕ)) (told left : Option (List ℕ)) (f g : ℕ) (s : Status) (text : List ℕ)
     → IfSome told (λ bytes. 1048576 < length bytes) → g ≡ f → usage_of words ≡ None → s ≡ status.Limit → text ≡ error_line (codes "Limit 1048576") → Ended words told left f g s text
 too_long words told left f g s text h same u e t = subst (λ x. Ended words told left f g x text) (sym e) (record {
   due = λ a b. limit_due words told u h;
-  text_is = said words told status.Limit text (λ bytes. inl t);
+  text_is = limit_said words told text h t;
   usage = λ e. absurd (cc e);
   only_usage = λ n m. absurd (n u);
   read_out = λ e. absurd (cc e);

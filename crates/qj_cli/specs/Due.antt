@@ -1,5 +1,5 @@
 -- How the program ends, and what it writes.
-use Rattle.std.specs.Prelude.{ℕ, ◌≡◌, ◌≢◌, ◌⊎◌, List, [], ◌∷◌, ◌++◌, Option, Some, None, true, codes, decimal, is_some, length, nat_lt, if◌then◌else◌}
+use Rattle.std.specs.Prelude.{ℕ, ◌≡◌, ◌≢◌, ◌<◌, ◌≤◌, ◌⊎◌, List, [], ◌∷◌, ◌++◌, Option, Some, None, true, codes, decimal, is_some, length, nat_lt, if◌then◌else◌}
 use Rattle.std.specs.Io.KnownBytes.{Appends}
 use Rattle.qj_outside.specs.Faults.{Rose}
 use Rattle.qj_outside.specs.Whole.{TakesFront}
@@ -49,7 +49,8 @@ Says words bytes status.Usage text = (place : ℕ) × (usage_of words ≡ Some p
 Says words bytes status.BadScript text =
     (line : ℕ) × (rule : ℕ) × (fault_of bytes ≡ Some (line, rule)) × (text ≡ error_line (codes "BadScript " ++ decimal line ++ 32 ∷ decimal rule))
 Says words bytes status.Limit text =
-    (text ≡ error_line (codes "Limit 1048576")) ⊎ (text ≡ error_line (codes "Limit 268435456")) × HasLongReport bytes
+    (longest_script < length bytes) × (text ≡ error_line (codes "Limit 1048576"))
+    ⊎ (length bytes ≤ longest_script) × (text ≡ error_line (codes "Limit 268435456")) × HasLongReport bytes
 Says words bytes status.ReadFault text = text ≡ error_line (codes "ReadFault")
 Says words bytes status.OutOfMemory text = text ≡ error_line (codes "OutOfMemory")
 Says words bytes status.WriteFault text = IsPrinted bytes text
