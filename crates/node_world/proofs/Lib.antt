@@ -30,6 +30,7 @@ pub mod Kept
 pub mod Authors
 pub mod Journals
 pub mod Proposals
+pub mod FinalCopies
 pub mod Checker
 pub mod Worked
 pub mod Fronts

@@ -27,7 +27,7 @@ use Rattle.node_world.proofs.Finals.{Sealed, sealed}
 use Rattle.node_world.proofs.ToldLaws.{has_chosen, final_fin, fin_once, fin_le}
 use Rattle.node_world.proofs.Induction.{good}
 
-same_lists : {A : Type 0} (xs ys : List A) → length xs ≡ length ys → ((k : ℕ) → k < length xs → (y : A) × (slice_get xs k ≡ Some y) × (slice_get ys k ≡ Some y)) → xs ≡ ys
+pub same_lists : {A : Type 0} (xs ys : List A) → length xs ≡ length ys → ((k : ℕ) → k < length xs → (y : A) × (slice_get xs k ≡ Some y) × (slice_get ys k ≡ Some y)) → xs ≡ ys
 same_lists [] [] e each = refl
 same_lists [] (y ∷ ys) e each = absurd (omega arith)
 same_lists (x ∷ xs) [] e each = absurd (omega arith)
@@ -36,11 +36,11 @@ same_lists (x ∷ xs) (y ∷ ys) e each =
     let one : x ≡ y = some_same (head.1 ∙ sym head.2) in
     let rest : xs ≡ ys = same_lists xs ys (omega arith) (λ k lt. each (suc k) (omega arith)) in cc
 
-body_at : (g : Segment) (m d : ℕ) (body : List ℕ) → g.start ≡ m → HasAt g (m + d) body → slice_get g.bodies d ≡ Some body
+pub body_at : (g : Segment) (m d : ℕ) (body : List ℕ) → g.start ≡ m → HasAt g (m + d) body → slice_get g.bodies d ≡ Some body
 body_at g m d body start has = to (λ z. slice_get g.bodies z ≡ Some body) (let index : has.0 ≡ d = omega (arith, has.1) in index) has.2
 
 module _ (n : ℕ) (story : Story) (past : List Entry) (run : Follows n story past) where
-  all_good : (f : ℕ) → AllGood n story past run f
+  pub all_good : (f : ℕ) → AllGood n story past run f
   all_good f = λ e lt. good n story past run e
 
   -- ## A body that is chosen at a txid is chosen once

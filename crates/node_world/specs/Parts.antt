@@ -107,6 +107,20 @@ FinalisedIsChosen =
     → (epoch : ℕ) × (epoch ≤ head.epoch)
     × ((txid : ℕ) → start ≤ txid → txid ≤ end → (body : List ℕ) × IsChosen n (reverse entries) epoch txid body)
 
+-- a final copy has all that was held of the segment under its epoch
+abbrev pub FinalCopiesHaveAll : Type 0
+FinalCopiesHaveAll =
+    (n : ℕ) (entries : List Entry) (i j : ℕ) (g h : Segment) (txid : ℕ) (body : List ℕ) → IsRun n entries
+    → IsHeld (reverse entries) i g → IsHeld (reverse entries) j h → g.is_final ≡ true → h.start ≡ g.start → h.epoch ≡ g.epoch
+    → HasAt h txid body → HasAt g txid body
+
+-- and is what is held of it under each higher epoch
+abbrev pub FinalCopiesAreKept : Type 0
+FinalCopiesAreKept =
+    (n : ℕ) (entries : List Entry) (i j : ℕ) (g h : Segment) → IsRun n entries
+    → IsHeld (reverse entries) i g → IsHeld (reverse entries) j h → g.is_final ≡ true → h.start ≡ g.start → g.epoch < h.epoch
+    → h.bodies ≡ g.bodies
+
 -- ## The newest start
 abbrev pub NewestNeverFalls : Type 0
 NewestNeverFalls =

@@ -1,6 +1,6 @@
 // What holds of every run of the journal world. Each law is the contract of a function that does nothing.
 ghost use Rattle.node_world.specs.Laws.{PrefixIsRun, MajoritiesShareANode, PromiseNeverFalls, UnmovedLeavesStates, EveryRunIsSafe, ChosenOnce, ChosenIsOnLine, LineGoesOn, ServedIsOnLine, KnownCommittedIsOnLine, CarriedCommittedIsOnLine, KnownCommittedIsChosen, CarriedCommittedIsChosen};
-ghost use Rattle.node_world.specs.Parts.{PromisesHold, AnswersArePromised, OneOwnerAnEpoch, WrittenOnce, StartsAreChained, SegmentsAreChained, ChosenSurvives, StartsAreAbove, FinalisedIsChosen, NewestNeverFalls, RecoveryIsWhole, LineHasAuthors, LineIsPutByJournals, OpenedOrAccepted, ProposalsAreTold, OnlyPurgesRemove};
+ghost use Rattle.node_world.specs.Parts.{PromisesHold, AnswersArePromised, OneOwnerAnEpoch, WrittenOnce, StartsAreChained, SegmentsAreChained, ChosenSurvives, StartsAreAbove, FinalisedIsChosen, NewestNeverFalls, RecoveryIsWhole, LineHasAuthors, LineIsPutByJournals, OpenedOrAccepted, ProposalsAreTold, OnlyPurgesRemove, FinalCopiesHaveAll, FinalCopiesAreKept};
 ghost use Rattle.node_world.specs.WorldLaws.{WorldStepsAreARun, WorldsAreSafe, NotNextChangesNothing, SeenExactly};
 ghost use Rattle.node_world.specs.Complete.{TakeoversComplete};
 
@@ -151,6 +151,16 @@ pub fn proposals_are_told()
 /// A segment goes from a node by a purge alone, whose committed txid it doesn't pass; the newest with an edit stays.
 pub fn only_purges_remove()
     ensures { OnlyPurgesRemove }
+{}
+
+/// A final copy of a segment has all that any node held of it under the same epoch.
+pub fn final_copies_have_all()
+    ensures { FinalCopiesHaveAll }
+{}
+
+/// What a node holds of a segment under a higher epoch than that of a final copy is that copy.
+pub fn final_copies_are_kept()
+    ensures { FinalCopiesAreKept }
 {}
 
 /// Whatever events come to a world, what reached its nodes, less what doesn't move, is a run.
