@@ -122,7 +122,7 @@ module _ (n : ℕ) (story : Story) (past : List Entry) (run : Follows n story pa
       told_of_start f x.a x.s m x.w c.writer x.sent (omega (arith, x.later)) x.epoch c.at q.1
 
   -- a takeover that went on from its answers to a prepare
-  abbrev asking_of : (f a s m : ℕ) (w v : Writer) (slots : List Slot) → Sent n story past a (suc s) w → (story.takeover a).epoch ≡ f → seen_at n (story.takeover a) s ≡ Some v → IsAsking m v.round → Counted n (story.takeover a) m slots → Asking n story past run f m
+  abbrev pub asking_of : (f a s m : ℕ) (w v : Writer) (slots : List Slot) → Sent n story past a (suc s) w → (story.takeover a).epoch ≡ f → seen_at n (story.takeover a) s ≡ Some v → IsAsking m v.round → Counted n (story.takeover a) m slots → Asking n story past run f m
   asking_of f a s m w v slots p epoch at asking counted =
       let x = asked_at n (story.takeover a) s v m at asking in
       record { a = a; s = suc s; w = w; sent = p; later = omega (arith, x.3); epoch = epoch; asks = x.0; at = x.1; is = x.2; slots = slots; counted = counted }
@@ -310,7 +310,7 @@ module _ (n : ℕ) (story : Story) (past : List Entry) (run : Follows n story pa
     ]
 
     -- a finalise round with one behind it was done
-    seal_done : (s a m l : ℕ) (w v : Writer) → (p : Sent n story past a (suc s) w) → (story.takeover a).epoch ≡ f → seen_at n (story.takeover a) s ≡ Some v → v.round ≡ Seal m l → IsFinalised n past f m l
+    pub seal_done : (s a m l : ℕ) (w v : Writer) → (p : Sent n story past a (suc s) w) → (story.takeover a).epoch ≡ f → seen_at n (story.takeover a) s ≡ Some v → v.round ≡ Seal m l → IsFinalised n past f m l
     seal_done s a m l w v p epoch at is = (record { epoch = (story.takeover a).epoch; serial = s; committed = ans.w.committed }, epoch, (ans.nodes, ans.majority, each))
       where
         ans : Answers n story p.old a s

@@ -104,7 +104,7 @@ module _ (n : ℕ) (story : Story) (past : List Entry) (run : Follows n story pa
   behind e k (inl one) = inl one
   behind e k (inr c) = inr (c.0, c.1, c.2, c.3, c.5, c.6)
 
-  opening : (old : List Entry) (e : Entry) (f k : ℕ) → Earlier (e ∷ old) past → IsStart e f k → Opn n story past run f k
+  pub opening : (old : List Entry) (e : Entry) (f k : ℕ) → Earlier (e ∷ old) past → IsStart e f k → Opn n story past run f k
   opening old e f k p is =
       let z : OfRound n story past (Start is.0 k) = round_within n story past old e (Start is.0 k) run p is.2 in
       let r = start_round (story.takeover z.a).epoch z.s z.w.committed z.w.round is.0 k z.is in
@@ -143,7 +143,7 @@ module _ (n : ℕ) (story : Story) (past : List Entry) (run : Follows n story pa
 
   -- ## What a recovery takes over
   module _ (f m : ℕ) (x : Asking n story past run f m) where
-    told_at : (i : ℕ) (y : AnswerAt n story past run f m x i) → ToldPrepare past y.answered.old i f m y.segment
+    pub told_at : (i : ℕ) (y : AnswerAt n story past run f m x i) → ToldPrepare past y.answered.old i f m y.segment
     told_at i y = (
       y.answered.entry,
       Earlier-trans y.answered.within x.sent.within,

@@ -31,6 +31,7 @@ pub mod Authors
 pub mod Journals
 pub mod Proposals
 pub mod FinalCopies
+pub mod Openings
 pub mod Checker
 pub mod Worked
 pub mod Fronts

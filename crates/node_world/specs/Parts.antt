@@ -233,3 +233,23 @@ OnlyPurgesRemove =
     → find_segment start (node_after node old).segments ≡ Some g → find_segment start (node_after node (e ∷ old)).segments ≡ None
     → (head : HeadView) × (min : ℕ) × IsOf e (Purge head min) × (last_or_start g ≤ head.committed)
     × (has_edit g ≡ true → newest (node_after node old).segments ≡ Some start → ⊥)
+
+-- ## Why a segment is opened
+-- a majority told no newest start to the proposal of this epoch
+abbrev pub NoneToldNewest : ℕ → List Entry → ℕ → Type 0
+NoneToldNewest n past epoch = (nodes : List ℕ) × IsMajority n nodes × ((node : ℕ) → Member node nodes → ToldNewest past node epoch None)
+
+-- a majority answered the prepare of this segment, and told nothing of it
+abbrev pub NoneToldPrepare : ℕ → List Entry → ℕ → ℕ → Type 0
+NoneToldPrepare n past epoch start =
+    (nodes : List ℕ) × IsMajority n nodes × ((node : ℕ) → Member node nodes → (old : List Entry) × ToldPrepare past old node epoch start None)
+
+-- A segment that is opened is the first one, where no start was told; or one of which nothing was told; or it comes right after the end of a finalise
+-- that was done under the same epoch. So a takeover leaves its recovery out only where a majority told that there is nothing to recover.
+abbrev pub OpeningsHaveACause : Type 0
+OpeningsHaveACause =
+    (n : ℕ) (entries old : List Entry) (e : Entry) (epoch start : ℕ) → IsRun n entries
+    → Earlier (e ∷ old) (reverse entries) → IsStart e epoch start
+    → ((start ≡ 1) × NoneToldNewest n (reverse entries) epoch)
+    ⊎ (NoneToldPrepare n (reverse entries) epoch start
+    ⊎ ((first : ℕ) × (last : ℕ) × (last + 1 ≡ start) × IsFinalised n (reverse entries) epoch first last))

@@ -1,6 +1,6 @@
 // What holds of every run of the journal world. Each law is the contract of a function that does nothing.
 ghost use Rattle.node_world.specs.Laws.{PrefixIsRun, MajoritiesShareANode, PromiseNeverFalls, UnmovedLeavesStates, EveryRunIsSafe, ChosenOnce, ChosenIsOnLine, LineGoesOn, ServedIsOnLine, KnownCommittedIsOnLine, CarriedCommittedIsOnLine, KnownCommittedIsChosen, CarriedCommittedIsChosen};
-ghost use Rattle.node_world.specs.Parts.{PromisesHold, AnswersArePromised, OneOwnerAnEpoch, WrittenOnce, StartsAreChained, SegmentsAreChained, ChosenSurvives, StartsAreAbove, FinalisedIsChosen, NewestNeverFalls, RecoveryIsWhole, LineHasAuthors, LineIsPutByJournals, OpenedOrAccepted, ProposalsAreTold, OnlyPurgesRemove, FinalCopiesHaveAll, FinalCopiesAreKept};
+ghost use Rattle.node_world.specs.Parts.{PromisesHold, AnswersArePromised, OneOwnerAnEpoch, WrittenOnce, StartsAreChained, SegmentsAreChained, ChosenSurvives, StartsAreAbove, FinalisedIsChosen, NewestNeverFalls, RecoveryIsWhole, LineHasAuthors, LineIsPutByJournals, OpenedOrAccepted, ProposalsAreTold, OnlyPurgesRemove, FinalCopiesHaveAll, FinalCopiesAreKept, OpeningsHaveACause};
 ghost use Rattle.node_world.specs.WorldLaws.{WorldStepsAreARun, WorldsAreSafe, NotNextChangesNothing, SeenExactly};
 ghost use Rattle.node_world.specs.Complete.{TakeoversComplete};
 
@@ -161,6 +161,12 @@ pub fn final_copies_have_all()
 /// What a node holds of a segment under a higher epoch than that of a final copy is that copy.
 pub fn final_copies_are_kept()
     ensures { FinalCopiesAreKept }
+{}
+
+/// A takeover leaves its recovery out only where a majority told that there is nothing to recover; each later segment comes right after
+/// a finalise that was done under the same epoch.
+pub fn openings_have_a_cause()
+    ensures { OpeningsHaveACause }
 {}
 
 /// Whatever events come to a world, what reached its nodes, less what doesn't move, is a run.
