@@ -32,6 +32,7 @@ pub mod Journals
 pub mod Proposals
 pub mod FinalCopies
 pub mod Openings
+pub mod Chain
 pub mod Checker
 pub mod Worked
 pub mod Fronts

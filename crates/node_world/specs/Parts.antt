@@ -83,6 +83,13 @@ SegmentsAreChained =
     (n : ℕ) (entries : List Entry) (node : ℕ) (g : Segment) (txid : ℕ) (body : List ℕ) → IsRun n entries
     → IsHeld (reverse entries) node g → HasAt g txid body → IsBehindFinalised n (reverse entries) g.epoch g.start
 
+-- Each start comes right after the end of the start before it: between a segment for which a finalise was done and its end no other segment begins.
+abbrev pub StartsAreNext : Type 0
+StartsAreNext =
+    (n : ℕ) (entries : List Entry) (epoch first last node : ℕ) (g : Segment) (txid : ℕ) (body : List ℕ) → IsRun n entries
+    → IsFinalised n (reverse entries) epoch first last → IsHeld (reverse entries) node g → HasAt g txid body
+    → (g.start ≤ first) ⊎ (last < g.start)
+
 -- ## Survival
 -- what is chosen stands in each segment of a higher epoch that doesn't begin above it
 abbrev pub ChosenSurvives : Type 0

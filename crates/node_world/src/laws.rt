@@ -1,6 +1,6 @@
 // What holds of every run of the journal world. Each law is the contract of a function that does nothing.
 ghost use Rattle.node_world.specs.Laws.{PrefixIsRun, MajoritiesShareANode, PromiseNeverFalls, UnmovedLeavesStates, EveryRunIsSafe, ChosenOnce, ChosenIsOnLine, LineGoesOn, ServedIsOnLine, KnownCommittedIsOnLine, CarriedCommittedIsOnLine, KnownCommittedIsChosen, CarriedCommittedIsChosen};
-ghost use Rattle.node_world.specs.Parts.{PromisesHold, AnswersArePromised, OneOwnerAnEpoch, WrittenOnce, StartsAreChained, SegmentsAreChained, ChosenSurvives, StartsAreAbove, FinalisedIsChosen, NewestNeverFalls, RecoveryIsWhole, LineHasAuthors, LineIsPutByJournals, OpenedOrAccepted, ProposalsAreTold, OnlyPurgesRemove, FinalCopiesHaveAll, FinalCopiesAreKept, OpeningsHaveACause};
+ghost use Rattle.node_world.specs.Parts.{PromisesHold, AnswersArePromised, OneOwnerAnEpoch, WrittenOnce, StartsAreChained, SegmentsAreChained, StartsAreNext, ChosenSurvives, StartsAreAbove, FinalisedIsChosen, NewestNeverFalls, RecoveryIsWhole, LineHasAuthors, LineIsPutByJournals, OpenedOrAccepted, ProposalsAreTold, OnlyPurgesRemove, FinalCopiesHaveAll, FinalCopiesAreKept, OpeningsHaveACause};
 ghost use Rattle.node_world.specs.WorldLaws.{WorldStepsAreARun, WorldsAreSafe, NotNextChangesNothing, SeenExactly};
 ghost use Rattle.node_world.specs.Complete.{TakeoversComplete};
 
@@ -100,6 +100,12 @@ pub fn starts_are_chained()
 /// So does each segment with an edit that a node held.
 pub fn segments_are_chained()
     ensures { SegmentsAreChained }
+{}
+
+/// Between the start of a segment for which a finalise was done and its end no other segment begins: so each start comes right after
+/// the end of the start before it.
+pub fn starts_are_next()
+    ensures { StartsAreNext }
 {}
 
 /// What is chosen stands in each segment of a higher epoch that does not begin above it.
