@@ -12,6 +12,7 @@ use Rattle.node_world.specs.declared.arming.Arming.{Arming}
 use Rattle.node_world.specs.Cell.{Cell, cell_takes, replies, stops, kept_by, counted, requested, killed, started_again, armed}
 use Rattle.mesh.specs.Makers.{IsOperation}
 use Rattle.mesh.specs.Matches.{reaches, StandsFor, done_or_idle}
+use Rattle.mesh.specs.Order.{was_muted}
 use Rattle.cluster_runner.specs.Plays.{told_of, Delivered, is_done}
 
 -- a request is answered by a reply or by a stop
@@ -56,6 +57,14 @@ told_reaches k i q (Stopped j) = refl
 told_reaches k i q Done = refl
 told_reaches k i q Idle = refl
 told_reaches k i q (NotOpened f) = refl
+
+pub told_muted : (a : NodeAnswer) → was_muted (told_of Delivered a) ≡ false
+unfolding told_of
+told_muted (Replied r) = refl
+told_muted (Stopped j) = refl
+told_muted Done = refl
+told_muted Idle = refl
+told_muted (NotOpened f) = refl
 
 -- an operation is done or idle
 killed_answer : (b : Bool) (c : Cell) → (killed b c).answer ≡ done_or_idle (is_done (killed b c).answer)

@@ -40,27 +40,27 @@ use Rattle.cluster_runner.proofs.Wanting.{sending, same_sending}
 
 pub lost : Agrees lost_line → ⊥
 unfolding digits find_segment put_segment remove_segment newest limit_of after_effects serving last_below least_served edits_from manifest_of node_step effects_of best_from greatest_promise greatest_newest judged fetched log_limit writer_begun writer_heard standing cell_takes cell_after epoch_of moves move_of entry_of moving_of calls_to maker_of maker_hears reaches reached lines_of wins owns placed_from place_of key_of is_below tags_of blocks_cut blocks_from put_block sorted entries_in epoch_order declared names_in deeds_of operations_in refusal_cause_text refusal_name cause_word cause_words name_of for_each acked_from acked done_results results_of inactive_results too_long_results late_none fresh_actor call_wanted copy_first says_first wants is_wanting task_begun copied deed_taken settled handed turn_taken moved_on resettled goes_on actor_after play_begins actor_at node_asked noted same_kind is_marked delivery told_of call_made copy_made wanted is_done line_taken next_line turned play_step play_steps no_lines has_ended history_of histories_from mesh_of ends_of told_in results_in played results_at listed dropped_call killed_nodes competing_takeovers fenced_writer fencing_lines before_recovery recovered_edit recovering_lines lost_fetch second_fetch_lines late_copies late_lines rolled_and_purged purging_lines stopped_in_prepare stopping_lines cut_in_accept cut_lines first_script first_play first_history first_takeover first_record first_mesh first_ends first_entries lost_line doubled_line swapped_lines made_up wrong_epoch undropped asking_operator losing_proposal came_about by_promise IsLocalRun IsMarked IsMade IsOperators AreSame IsSame
-lost h = (h.same 0 0 (omega arith) (omega arith)).1.1.1.1.1.1
+lost h = (h.lists.same 0 0 (omega arith) (omega arith)).1.1.1.1.1.1
 
 pub doubled : Agrees doubled_line → ⊥
 unfolding digits find_segment put_segment remove_segment newest limit_of after_effects serving last_below least_served edits_from manifest_of node_step effects_of best_from greatest_promise greatest_newest judged fetched log_limit writer_begun writer_heard standing cell_takes cell_after epoch_of moves move_of entry_of moving_of calls_to maker_of maker_hears reaches reached lines_of wins owns placed_from place_of key_of is_below tags_of blocks_cut blocks_from put_block sorted entries_in epoch_order declared names_in deeds_of operations_in refusal_cause_text refusal_name cause_word cause_words name_of for_each acked_from acked done_results results_of inactive_results too_long_results late_none fresh_actor call_wanted copy_first says_first wants is_wanting task_begun copied deed_taken settled handed turn_taken moved_on resettled goes_on actor_after play_begins actor_at node_asked noted same_kind is_marked delivery told_of call_made copy_made wanted is_done line_taken next_line turned play_step play_steps no_lines has_ended history_of histories_from mesh_of ends_of told_in results_in played results_at listed dropped_call killed_nodes competing_takeovers fenced_writer fencing_lines before_recovery recovered_edit recovering_lines lost_fetch second_fetch_lines late_copies late_lines rolled_and_purged purging_lines stopped_in_prepare stopping_lines cut_in_accept cut_lines first_script first_play first_history first_takeover first_record first_mesh first_ends first_entries lost_line doubled_line swapped_lines made_up wrong_epoch undropped asking_operator losing_proposal came_about by_promise IsLocalRun IsMarked IsMade IsOperators AreSame IsSame
-doubled h = (h.same 0 0 (omega arith) (omega arith)).1
+doubled h = (h.lists.same 0 0 (omega arith) (omega arith)).1
 
 pub swapped : Agrees swapped_lines → ⊥
 unfolding digits find_segment put_segment remove_segment newest limit_of after_effects serving last_below least_served edits_from manifest_of node_step effects_of best_from greatest_promise greatest_newest judged fetched log_limit writer_begun writer_heard standing cell_takes cell_after epoch_of moves move_of entry_of moving_of calls_to maker_of maker_hears reaches reached lines_of wins owns placed_from place_of key_of is_below tags_of blocks_cut blocks_from put_block sorted entries_in epoch_order declared names_in deeds_of operations_in refusal_cause_text refusal_name cause_word cause_words name_of for_each acked_from acked done_results results_of inactive_results too_long_results late_none fresh_actor call_wanted copy_first says_first wants is_wanting task_begun copied deed_taken settled handed turn_taken moved_on resettled goes_on actor_after play_begins actor_at node_asked noted same_kind is_marked delivery told_of call_made copy_made wanted is_done line_taken next_line turned play_step play_steps no_lines has_ended history_of histories_from mesh_of ends_of told_in results_in played results_at listed dropped_call killed_nodes competing_takeovers fenced_writer fencing_lines before_recovery recovered_edit recovering_lines lost_fetch second_fetch_lines late_copies late_lines rolled_and_purged purging_lines stopped_in_prepare stopping_lines cut_in_accept cut_lines first_script first_play first_history first_takeover first_record first_mesh first_ends first_entries lost_line doubled_line swapped_lines made_up wrong_epoch undropped asking_operator losing_proposal came_about by_promise IsLocalRun IsMarked IsMade IsOperators AreSame IsSame
-swapped h = absurd (cc (h.local 0 (omega arith)).1.0)
+swapped h = absurd (cc (h.lists.local 0 (omega arith)).1.0)
 
 pub invented : Agrees made_up → ⊥
 unfolding digits find_segment put_segment remove_segment newest limit_of after_effects serving last_below least_served edits_from manifest_of node_step effects_of best_from greatest_promise greatest_newest judged fetched log_limit writer_begun writer_heard standing cell_takes cell_after epoch_of moves move_of entry_of moving_of calls_to maker_of maker_hears reaches reached lines_of wins owns placed_from place_of key_of is_below tags_of blocks_cut blocks_from put_block sorted entries_in epoch_order declared names_in deeds_of operations_in refusal_cause_text refusal_name cause_word cause_words name_of for_each acked_from acked done_results results_of inactive_results too_long_results late_none fresh_actor call_wanted copy_first says_first wants is_wanting task_begun copied deed_taken settled handed turn_taken moved_on resettled goes_on actor_after play_begins actor_at node_asked noted same_kind is_marked delivery told_of call_made copy_made wanted is_done line_taken next_line turned play_step play_steps no_lines has_ended history_of histories_from mesh_of ends_of told_in results_in played results_at listed dropped_call killed_nodes competing_takeovers fenced_writer fencing_lines before_recovery recovered_edit recovering_lines lost_fetch second_fetch_lines late_copies late_lines rolled_and_purged purging_lines stopped_in_prepare stopping_lines cut_in_accept cut_lines first_script first_play first_history first_takeover first_record first_mesh first_ends first_entries lost_line doubled_line swapped_lines made_up wrong_epoch undropped asking_operator losing_proposal came_about by_promise IsLocalRun IsMarked IsMade IsOperators AreSame IsSame
-invented h = absurd (cc (h.same 0 0 (omega arith) (omega arith)).0.1)
+invented h = absurd (cc (h.lists.same 0 0 (omega arith) (omega arith)).0.1)
 
 pub kept : Agrees undropped → ⊥
 unfolding digits find_segment put_segment remove_segment newest limit_of after_effects serving last_below least_served edits_from manifest_of node_step effects_of best_from greatest_promise greatest_newest judged fetched log_limit writer_begun writer_heard standing cell_takes cell_after epoch_of moves move_of entry_of moving_of calls_to maker_of maker_hears reaches reached lines_of wins owns placed_from place_of key_of is_below tags_of blocks_cut blocks_from put_block sorted entries_in epoch_order declared names_in deeds_of operations_in refusal_cause_text refusal_name cause_word cause_words name_of for_each acked_from acked done_results results_of inactive_results too_long_results late_none fresh_actor call_wanted copy_first says_first wants is_wanting task_begun copied deed_taken settled handed turn_taken moved_on resettled goes_on actor_after play_begins actor_at node_asked noted same_kind is_marked delivery told_of call_made copy_made wanted is_done line_taken next_line turned play_step play_steps no_lines has_ended history_of histories_from mesh_of ends_of told_in results_in played results_at listed dropped_call killed_nodes competing_takeovers fenced_writer fencing_lines before_recovery recovered_edit recovering_lines lost_fetch second_fetch_lines late_copies late_lines rolled_and_purged purging_lines stopped_in_prepare stopping_lines cut_in_accept cut_lines first_script first_play first_history first_takeover first_record first_mesh first_ends first_entries lost_line doubled_line swapped_lines made_up wrong_epoch undropped asking_operator losing_proposal came_about by_promise IsLocalRun IsMarked IsMade IsOperators AreSame IsSame
-kept h = absurd (cc ((h.marked 0 (omega arith)).0.0.1 (contains_head _ [] _ refl)))
+kept h = absurd (cc ((h.lists.marked 0 (omega arith)).0.0.1 (contains_head _ [] _ refl)))
 
 pub asked : Agrees asking_operator → ⊥
 unfolding digits find_segment put_segment remove_segment newest limit_of after_effects serving last_below least_served edits_from manifest_of node_step effects_of best_from greatest_promise greatest_newest judged fetched log_limit writer_begun writer_heard standing cell_takes cell_after epoch_of moves move_of entry_of moving_of calls_to maker_of maker_hears reaches reached lines_of wins owns placed_from place_of key_of is_below tags_of blocks_cut blocks_from put_block sorted entries_in epoch_order declared names_in deeds_of operations_in refusal_cause_text refusal_name cause_word cause_words name_of for_each acked_from acked done_results results_of inactive_results too_long_results late_none fresh_actor call_wanted copy_first says_first wants is_wanting task_begun copied deed_taken settled handed turn_taken moved_on resettled goes_on actor_after play_begins actor_at node_asked noted same_kind is_marked delivery told_of call_made copy_made wanted is_done line_taken next_line turned play_step play_steps no_lines has_ended history_of histories_from mesh_of ends_of told_in results_in played results_at listed dropped_call killed_nodes competing_takeovers fenced_writer fencing_lines before_recovery recovered_edit recovering_lines lost_fetch second_fetch_lines late_copies late_lines rolled_and_purged purging_lines stopped_in_prepare stopping_lines cut_in_accept cut_lines first_script first_play first_history first_takeover first_record first_mesh first_ends first_entries lost_line doubled_line swapped_lines made_up wrong_epoch undropped asking_operator losing_proposal came_about by_promise IsLocalRun IsMarked IsMade IsOperators AreSame IsSame
-asked h = h.operated
+asked h = h.lists.operated
 
 apart : request.NewEpoch 1 ≡ request.NewEpoch 5 → ⊥
 apart e = cc e
@@ -86,4 +86,4 @@ never (task.Takeover ∷ ts) h =
 
 pub unmade : Agrees wrong_epoch → ⊥
 unfolding digits find_segment put_segment remove_segment newest limit_of after_effects serving last_below least_served edits_from manifest_of node_step effects_of best_from greatest_promise greatest_newest judged fetched log_limit writer_begun writer_heard standing cell_takes cell_after epoch_of moves move_of entry_of moving_of calls_to maker_of maker_hears reaches reached lines_of wins owns placed_from place_of key_of is_below tags_of blocks_cut blocks_from put_block sorted entries_in epoch_order declared names_in deeds_of operations_in refusal_cause_text refusal_name cause_word cause_words name_of for_each acked_from acked done_results results_of inactive_results too_long_results late_none fresh_actor call_wanted copy_first says_first wants is_wanting task_begun copied deed_taken settled handed turn_taken moved_on resettled goes_on actor_after play_begins actor_at node_asked noted same_kind is_marked delivery told_of call_made copy_made wanted is_done line_taken next_line turned play_step play_steps no_lines has_ended history_of histories_from mesh_of ends_of told_in results_in played results_at listed dropped_call killed_nodes competing_takeovers fenced_writer fencing_lines before_recovery recovered_edit recovering_lines lost_fetch second_fetch_lines late_copies late_lines rolled_and_purged purging_lines stopped_in_prepare stopping_lines cut_in_accept cut_lines first_script first_play first_history first_takeover first_record first_mesh first_ends first_entries lost_line doubled_line swapped_lines made_up wrong_epoch undropped asking_operator losing_proposal came_about by_promise IsLocalRun IsMarked IsMade IsOperators AreSame IsSame
-unmade h = never (h.made 0 (omega arith)).0 (h.made 0 (omega arith)).1
+unmade h = never (h.made 0 (omega arith)).0 (h.made 0 (omega arith)).2

@@ -5,7 +5,7 @@ use Rattle.writer_core.specs.declared.turn.Turn.{Turn}
 use Rattle.writer_core.specs.Left.{calls_left}
 use Rattle.writer_core.specs.Writer.{next_call, writer_heard}
 use Rattle.writer_core.proofs.LeftLaws.{live_run_out}
-use Rattle.mesh.specs.Sized.{Sized}
+use Rattle.node_world.specs.Sized.{Sized}
 use Rattle.cluster_runner.specs.Kept.{Kept, called, actor_of}
 use Rattle.cluster_runner.specs.Ready.{GoesOn, AreReady}
 use Rattle.cluster_runner.specs.Called.{IsCall}

@@ -1,5 +1,5 @@
--- The mesh of a play agrees, and follows its script.
-use Rattle.std.proofs.Common.{◌≡◌, ℕ, zero, suc, ◌+◌, ◌<◌, ◌≤◌, List, [], ◌∷◌, ◌++◌, true, refl, sym, ap, ◌∙◌, subst, arith, length, get_or, map, inl, inr}
+-- The mesh of a play agrees, and follows its script; and the moving entries of its trace are a run.
+use Rattle.std.proofs.Common.{◌≡◌, ℕ, zero, suc, ◌+◌, ◌<◌, ◌≤◌, List, [], ◌∷◌, ◌++◌, true, refl, sym, ap, ◌∙◌, subst, arith, length, get_or, map, Contains, ◌⊎◌, inl, inr}
 use Rattle.std.specs.Prelude.{Option, Some, None, ◌&&◌, is_none}
 use Rattle.std.proofs.lemmas.List.{get_or_append_left, length-append, length-map}
 use Rattle.std.proofs.Math.Seq.{get_or-append_seam}
@@ -8,7 +8,8 @@ use Rattle.node_world.specs.declared.history_line.HistoryLine.{HistoryLine}
 use Rattle.node_world.specs.declared.record.Record.{Record}
 use Rattle.node_world.specs.declared.mark.Mark.{Mark}
 use Rattle.node_world.specs.Cell.{fresh_cell, IsLocalRun}
-use Rattle.node_world.specs.Moving.{Placed}
+use Rattle.node_world.specs.Moving.{Placed, moving_of}
+use Rattle.node_world.specs.Run.{IsRun}
 use Rattle.mesh.specs.declared.end.End.{End}
 use Rattle.mesh.specs.Marks.{IsMarked, AreCopied}
 use Rattle.mesh.specs.Makers.{IsOfTasks, IsOperators}
@@ -22,7 +23,11 @@ use Rattle.mesh.proofs.Lists.{Alike, alike, append_none}
 use Rattle.cluster_runner.proofs.Wanting.{Resting, resting, rests_is}
 use Rattle.cluster_runner.proofs.Makes.{lines_made}
 use Rattle.cluster_runner.proofs.Goes.{Goes, GoesBy, all_copied}
-use Rattle.cluster_runner.proofs.Tied.{Tied, callers_within}
+use Rattle.mesh.proofs.Tied.{Tied, callers_within}
+use Rattle.mesh.specs.Traces.{InStep, IsInMesh, IsTrace}
+use Rattle.mesh.proofs.InStep.{tied_of}
+use Rattle.cluster_runner.proofs.Links.{IsOf}
+use Rattle.mesh.proofs.Traced.{trace_runs}
 use Rattle.cluster_runner.proofs.Parts.{ActorOk}
 use Rattle.cluster_runner.proofs.Playing.{Holds}
 use Rattle.cluster_runner.proofs.Taking.{begins_hold, steps_hold}
@@ -129,20 +134,21 @@ module _ (n : ℕ) (lines : List Line) (p : Play) (h : Holds n lines p) (e : has
   made_of : (c : ℕ) → c < operator_of (mesh_of p) → IsOfTasks (mesh_of p).nodes (record_of (mesh_of p) c)
   made_of c below =
       let u : c < length p.actors = below_is c below in
-      subst (λ (m : ℕ). IsOfTasks m (record_of (mesh_of p) c)) (sym (nodes_are p)) (subst (λ (x : List Record). IsOfTasks p.nodes x) (sym (record_is p c u)) (lines_made p.nodes (deeds_of c h.taken) (actor_at p c).past (ok_of c u).led))
+      subst (λ (m : ℕ). IsOfTasks m (record_of (mesh_of p) c)) (sym (nodes_are p)) (subst (λ (x : List Record). IsOfTasks p.nodes x) (sym (record_is p c u)) (lines_made p.nodes (deeds_of c h.taken) (actor_at p c).past (ok_of c u).deeds (ok_of c u).led))
 
-  same_by : (i c : ℕ) → i < p.nodes → c ≤ length p.actors → Alike c (length p.actors) → AreSame (reached (i + 1) (record_of (mesh_of p) c)) (lines_of c (history_of (i + 1) p.trace))
-  unfolding Alike Tied actor_at
-  same_by i c u v (inl f) = subst (λ (x : List Record). AreSame (reached (i + 1) x) (lines_of c (history_of (i + 1) p.trace))) (sym (last_is p c f.1))
-      (subst (λ (x : ℕ). AreSame (reached (i + 1) p.operated) (lines_of x (history_of (i + 1) p.trace))) (last_actor ∙ sym f.1) (h.links.operator i u))
-  same_by i c u v (inr f) =
+  step_by : (c : ℕ) → c ≤ length p.actors → Alike c (length p.actors) → InStep c (record_of (mesh_of p) c) p.trace
+  unfolding Alike actor_at
+  step_by c v (inl f) = subst (λ (x : List Record). InStep c x p.trace) (sym (last_is p c f.1)) (subst (λ (x : ℕ). InStep x p.operated p.trace) (last_actor ∙ sym f.1) h.links.operator)
+  step_by c v (inr f) =
       let w : c < length p.actors = grind (arith, f.1, v) in
-      subst (λ (x : List Record). AreSame (reached (i + 1) x) (lines_of c (history_of (i + 1) p.trace))) (sym (record_is p c w)) (h.links.actors i c u w)
+      subst (λ (x : List Record). InStep c x p.trace) (sym (record_is p c w)) (h.links.actors c (λ (g : c ≡ p.operator). f.1 (g ∙ last_actor)))
+
+  step_of : (c : ℕ) → c ≤ operator_of (mesh_of p) → InStep c (record_of (mesh_of p) c) p.trace
+  step_of c v = step_by c (subst (λ (m : ℕ). c ≤ m) (actors_are p) v) (alike c (length p.actors))
 
   same_of : (i c : ℕ) → i < (mesh_of p).nodes → c ≤ operator_of (mesh_of p) → AreSame (reached (i + 1) (record_of (mesh_of p) c)) (lines_of c (history_at (mesh_of p) i))
-  same_of i c below v =
-      let u : i < p.nodes = node_below i below in
-      subst (λ (x : List HistoryLine). AreSame (reached (i + 1) (record_of (mesh_of p) c)) (lines_of c x)) (sym (history_is p i u)) (same_by i c u (subst (λ (m : ℕ). c ≤ m) (actors_are p) v) (alike c (length p.actors)))
+  same_of i c below v = subst (λ (x : List HistoryLine). AreSame (reached (i + 1) (record_of (mesh_of p) c)) (lines_of c x)) (sym (history_is p i (node_below i below)))
+      (unfold Tied in tied_of (i + 1) c (record_of (mesh_of p) c) p.trace (step_of c v))
 
   goes_of : (c : ℕ) → c < length p.actors → Goes (actor_at p c).marks (actor_at p c).past None
   unfolding GoesBy
@@ -165,25 +171,40 @@ module _ (n : ℕ) (lines : List Line) (p : Play) (h : Holds n lines p) (e : has
       let w : c < length p.actors = grind (arith, f.1, v) in
       subst (λ (x : List Record). AreWithin p.nodes x) (sym (record_is p c w)) (ok_of c w).sound.within
 
+  line_within : (x : Placed) → Contains p.trace x → IsInMesh (mesh_of p) x
+  line_within x i =
+      let w : IsOf p.nodes (length p.actors) p.operator x = h.links.lines x i in
+      record { from_one = w.from_one; up_to_n = subst (λ (m : ℕ). x.node ≤ m) (sym (nodes_are p)) w.up_to_n; caller = subst (λ (m : ℕ). x.line.caller ≤ m) (sym (actors_are p)) (by w.caller) }
+    where
+      by : (x.line.caller < length p.actors) ⊎ (x.line.caller ≡ p.operator) → x.line.caller ≤ length p.actors
+      by (inl l) = omega (arith, l)
+      by (inr e) = omega (arith, e, last_actor)
+
   callers_of : (i : ℕ) → i < (mesh_of p).nodes → CallersWithin (operator_of (mesh_of p)) (history_at (mesh_of p) i)
-  callers_of i below =
-      let u : i < p.nodes = node_below i below in
-      subst (λ (x : List HistoryLine). CallersWithin (operator_of (mesh_of p)) x) (sym (history_is p i u))
-      (subst (λ (m : ℕ). CallersWithin m (history_of (i + 1) p.trace)) (last_actor ∙ sym (actors_are p)) (callers_within (length p.actors) p.operator (history_of (i + 1) p.trace) h.links.above (h.links.callers i u)))
+  callers_of i below = subst (λ (x : List HistoryLine). CallersWithin (operator_of (mesh_of p)) x) (sym (history_is p i (node_below i below)))
+      (callers_within (operator_of (mesh_of p)) (i + 1) p.trace (λ x j. (line_within x j).caller))
 
   agrees_of : Agrees (mesh_of p)
   agrees_of = record {
-    local = local_of;
+    lists = record {
+      local = local_of;
+      operated = subst IsOperators (sym (last_is p (operator_of (mesh_of p)) (actors_are p))) h.operated.theirs;
+      same = same_of;
+      marked = marked_of;
+      copied = copied_of;
+      callers = callers_of;
+      within = λ c v. subst (λ (m : ℕ). AreWithin m (record_of (mesh_of p) c)) (sym (nodes_are p)) (within_by c (subst (λ (m : ℕ). c ≤ m) (actors_are p) v) (alike c (length p.actors)));
+    };
     made = made_of;
-    operated = subst IsOperators (sym (last_is p (operator_of (mesh_of p)) (actors_are p))) h.operated.theirs;
-    same = same_of;
-    marked = marked_of;
-    copied = copied_of;
     histories = count_is p ∙ sym (nodes_are p);
     records = records_are p ∙ ap (λ (x : ℕ). x + 1) (sym (actors_are p));
-    callers = callers_of;
-    within = λ c v. subst (λ (m : ℕ). AreWithin m (record_of (mesh_of p) c)) (sym (nodes_are p)) (within_by c (subst (λ (m : ℕ). c ≤ m) (actors_are p) v) (alike c (length p.actors)));
   }
+
+  traced_of : IsTrace (mesh_of p) p.trace
+  traced_of = record { histories = λ i below. history_is p i (node_below i below); records = step_of; lines = line_within }
+
+  runs_of : IsRun n (moving_of p.trace)
+  runs_of = subst (λ (m : ℕ). IsRun m (moving_of p.trace)) (nodes_are p ∙ h.nodes) (trace_runs (mesh_of p) p.trace agrees_of traced_of)
 
   follows_of : (c : ℕ) → c < length p.actors → Follows p.nodes (deeds_of c h.taken) (actor_at p c).past (actor_at p c).marks
   follows_of c u =
@@ -225,6 +246,10 @@ holds_at n lines p can h = subst (Holds n lines) h.reached (steps_hold h.steps n
 
 pub play_agrees : (n : ℕ) (lines : List Line) (p : Play) → ArePlayable n 0 lines → IsPlay n lines p → Agrees (mesh_of p)
 play_agrees n lines p can h = agrees_of n lines p (holds_at n lines p can h) h.ended
+
+-- the moving entries of the trace, in its order, are a run
+pub play_runs : (n : ℕ) (lines : List Line) (p : Play) → ArePlayable n 0 lines → IsPlay n lines p → IsRun n (moving_of p.trace)
+play_runs n lines p can h = runs_of n lines p (holds_at n lines p can h) h.ended
 
 pub play_follows : (n : ℕ) (lines : List Line) (p : Play) → ArePlayable n 0 lines → IsPlay n lines p → FollowsLines n lines (mesh_of p) (ends_of p)
 play_follows n lines p can h = follows_all n lines p (holds_at n lines p can h) h.ended

@@ -22,9 +22,9 @@ use Rattle.node_world.specs.declared.mark.Mark.{Mark}
 use Rattle.node_world.specs.declared.mark.MarkKind.{MarkKind}
 use Rattle.node_world.specs.declared.mark.MarkKind.TheVariants as kind
 use Rattle.mesh.specs.Marks.{calls_to, next_number, mark}
-use Rattle.mesh.specs.Sized.{Sized}
+use Rattle.node_world.specs.Sized.{Sized}
 use Rattle.mesh.proofs.Lists.{get_left}
-use Rattle.mesh.proofs.WriterRange.{new_sized, begun_sized, heard_sized, call_within}
+use Rattle.node_world.proofs.WriterRange.{new_sized, begun_sized, heard_sized, call_within}
 use Rattle.cluster_runner.specs.declared.calls_to.CallsTo.{CallsTo}
 use Rattle.cluster_runner.specs.Plays.{Delivery, Delivered, ReplyLost, NotDelivered, delivery, is_marked, same_kind}
 use Rattle.cluster_runner.specs.Shown.{asked_of, asked_at, IsIndex, AreIndexes}

@@ -21,7 +21,7 @@ use Rattle.cluster_runner.specs.Plays.{Play}
 use Rattle.cluster_runner.specs.Kept.{Kept, KeptActor, Called, called, actor_of, node_at, hears, told_by, reached_by, delivery_to, new_actor, IsAfterTurn, Leads}
 use Rattle.cluster_runner.specs.Ready.{IsReady, AreReady, GoesOn, is_going}
 use Rattle.cluster_runner.specs.Called.{IsCall}
-use Rattle.mesh.proofs.WriterRange.{heard_sized, call_within}
+use Rattle.node_world.proofs.WriterRange.{heard_sized, call_within}
 use Rattle.cluster_runner.proofs.TurnsTell.{turn_tells}
 use Rattle.cluster_runner.proofs.TurnsFit.{heard_fits}
 use Rattle.cluster_runner.proofs.KeptTurns.{leads_same, leads_on, call_leads}

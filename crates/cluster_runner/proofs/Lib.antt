@@ -4,7 +4,6 @@ mod Makes
 pub mod MarkLaws
 mod Goes
 mod Sound
-mod Tied
 mod Parts
 mod Links
 mod Answers
@@ -30,14 +29,3 @@ pub mod Ends
 pub mod LineLaws
 pub mod OtherLaws
 pub mod PlayLaws
-mod Tracked
-mod CallLeft
-mod RoundCalls
-mod RoundEnds
-mod Asks
-mod Begins
-mod Acting
-mod Recorded
-mod Nodes
-mod Deliveries
-mod Running

@@ -17,7 +17,7 @@ use Rattle.cluster_runner.specs.ResultLists.{edits_of, times, texts_of, AreFew}
 use Rattle.cluster_runner.specs.Plays.{Play}
 use Rattle.cluster_runner.specs.Kept.{Kept, actor_of, new_actor, with_writer, said, says, IsAtRest, IsInTurn, Leads, LeadsTo, doing_after}
 use Rattle.cluster_runner.specs.Ready.{IsReady, AreReady, IsIdle, GoesOn, TakesLine, is_going}
-use Rattle.mesh.proofs.WriterRange.{begun_sized}
+use Rattle.node_world.proofs.WriterRange.{begun_sized}
 use Rattle.cluster_runner.proofs.KeptLines.{refused_same, inactive_leads, too_long_leads, begin_leads}
 use Rattle.cluster_runner.proofs.KeptTurns.{leads_on, results_lead, rest_leads}
 use Rattle.cluster_runner.proofs.KeptGoes.{rests_under}

@@ -11,7 +11,7 @@ use Rattle.node_world.specs.declared.record.Record.TheVariants.{Late, Operator}
 use Rattle.node_world.specs.declared.mark.MarkKind.TheVariants as kind
 use Rattle.node_world.specs.Cell.{Cell}
 use Rattle.node_world.specs.NodeCells.{CellView}
-use Rattle.mesh.specs.Sized.{Sized}
+use Rattle.node_world.specs.Sized.{Sized}
 use Rattle.cluster_runner.specs.Lines.{Line, Deed, Acts, DoDrop, DoMute, DoLate, Operates}
 use Rattle.cluster_runner.specs.Results.{late_none}
 use Rattle.cluster_runner.specs.Actor.{Actor, handed, goes_on, fresh_actor}

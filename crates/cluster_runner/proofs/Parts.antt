@@ -9,20 +9,21 @@ use Rattle.node_world.specs.declared.record.Record.{Record}
 use Rattle.node_world.specs.Cell.{Cell, fresh_cell, cell_takes, IsLocalRun, cell_after}
 use Rattle.node_world.specs.Moving.{Placed}
 use Rattle.mesh.specs.Matches.{IsWithin}
-use Rattle.cluster_runner.specs.Lines.{Deed, Line, Declares, Acts, Operates, deeds_of, IsDeed}
+use Rattle.cluster_runner.specs.Lines.{Deed, Line, Declares, Acts, Operates, deeds_of, IsDeed, AreDeeds}
 use Rattle.cluster_runner.specs.Actor.{Actor, fresh_actor, settled, handed, wants, goes_on, Fits, actor_after, IsLed}
 use Rattle.cluster_runner.specs.Plays.{history_of}
 use Rattle.mesh.proofs.Lists.{cond_true, cond_false, Alike, alike, append_none}
 use Rattle.cluster_runner.proofs.Led.{led_snoc, after_snoc, settled_more, handed_after, handed_led}
 use Rattle.cluster_runner.proofs.Goes.{IsTold}
-use Rattle.cluster_runner.proofs.Sound.{Sound, goes_past, goes_sound, handed_past, handed_sound, fresh_sound}
-use Rattle.cluster_runner.proofs.Tied.{history_at, history_off, local_snoc, cell_snoc}
+use Rattle.cluster_runner.proofs.Sound.{Sound, deeds_snoc, goes_past, goes_sound, handed_past, handed_sound, fresh_sound}
+use Rattle.mesh.proofs.Tied.{history_at, history_off, local_snoc, cell_snoc}
 
 -- ## An actor
 pub record ActorOk (n : ℕ) (ds : List Deed) (a : Actor) : Type 0 where
   pub led : IsLed (settled ds (fresh_actor n)) a.past
   pub is : actor_after (settled ds (fresh_actor n)) a.past ≡ a
   pub sound : Sound n a
+  pub deeds : AreDeeds ds
 
 ok_more : (n : ℕ) (ds : List Deed) (a : Actor) (r : Record) → ActorOk n ds a → Fits (wants a) r → IsTold a r → IsWithin n r → ActorOk n ds (goes_on a r)
 ok_more n ds a r ok f t w = record {
@@ -30,6 +31,7 @@ ok_more n ds a r ok f t w = record {
       (led_snoc (settled ds (fresh_actor n)) a.past r ok.led (subst (λ (b : Actor). Fits (wants b) r) (sym ok.is) f));
   is = ap (actor_after (settled ds (fresh_actor n))) (goes_past a r) ∙ (after_snoc (settled ds (fresh_actor n)) a.past r ∙ ap (λ (b : Actor). goes_on b r) ok.is);
   sound = goes_sound n a r f t w ok.sound;
+  deeds = ok.deeds;
 }
 
 ok_handed : (n : ℕ) (ds : List Deed) (a : Actor) (e : Deed) → IsDeed e → ActorOk n ds a → ActorOk n (ds ++ e ∷ []) (handed e a)
@@ -41,11 +43,12 @@ ok_handed n ds a e d ok =
       is = ap (actor_after (settled (ds ++ e ∷ []) (fresh_actor n))) (handed_past e a)
           ∙ (ap (λ (b : Actor). actor_after b a.past) same ∙ (handed_after (settled ds (fresh_actor n)) a.past e ok.led ∙ ap (handed e) ok.is));
       sound = handed_sound n e a d ok.sound;
+      deeds = deeds_snoc ds e ok.deeds d;
     }
 
 ok_fresh : (n : ℕ) → ActorOk n [] (fresh_actor n)
-unfolding IsLed actor_after settled fresh_actor
-ok_fresh n = record { led = tt; is = refl; sound = fresh_sound n }
+unfolding IsLed actor_after settled fresh_actor AreDeeds
+ok_fresh n = record { led = tt; is = refl; sound = fresh_sound n; deeds = tt }
 
 -- ## All actors
 pub record Actors (n : ℕ) (taken : List Line) (as_ : List Actor) : Type 0 where

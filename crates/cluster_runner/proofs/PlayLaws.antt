@@ -16,7 +16,7 @@ use Rattle.cluster_runner.specs.Plays.{Play, play_begins}
 use Rattle.cluster_runner.specs.Kept.{Kept, actor_of, new_actor, with_actor, new_kept, mesh_kept, ends_kept, IsAtRest, IsPlayed, Leads}
 use Rattle.cluster_runner.specs.Ready.{IsReady, IsIdle, TakesLine}
 use Rattle.cluster_runner.specs.Goal.{MayTake, actors_after, IsUnderWay}
-use Rattle.mesh.proofs.WriterRange.{new_sized}
+use Rattle.node_world.proofs.WriterRange.{new_sized}
 use Rattle.cluster_runner.proofs.KeptLines.{declare_leads, begins_at_rest, is_played}
 use Rattle.cluster_runner.proofs.KeptTurns.{leads_same, leads_on}
 

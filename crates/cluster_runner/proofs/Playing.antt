@@ -23,8 +23,9 @@ use Rattle.cluster_runner.proofs.MarkLaws.{delivery_marked}
 use Rattle.cluster_runner.proofs.Goes.{IsTold}
 use Rattle.cluster_runner.proofs.Sound.{goes_past, wants_call_within, wants_copy_within}
 use Rattle.cluster_runner.proofs.Parts.{Actors, actors_noted, Nodes, nodes_asked}
+use Rattle.mesh.specs.Traces.{IsEvent}
 use Rattle.cluster_runner.proofs.Links.{Links, links_quiet, links_loud}
-use Rattle.cluster_runner.proofs.Answers.{call_answer, told_stands, told_reaches}
+use Rattle.cluster_runner.proofs.Answers.{call_answer, told_stands, told_reaches, told_muted}
 
 -- the operator's record
 pub record Operated (n : ℕ) (taken : List Line) (rs : List Record) : Type 0 where
@@ -88,9 +89,9 @@ asked_as k a m ask p = record { node = k; line = record { caller = a; ask = ask;
 
 noted_loud : (n : ℕ) (lines : List Line) (p : Play) (a k : ℕ) (m : Bool) (ask : NodeAsk) (r : Record) → Holds n lines p → p.turn ≡ Some a
     → Fits (wants (actor_at p a)) r → IsTold (actor_at p a) r → IsWithin p.nodes r → (1 ≤ k) × (k ≤ p.nodes)
-    → ((i : ℕ) → reaches i r ≡ (k == i)) → IsSame r (asked_as k a m ask p).line → Holds n lines (noted a r (node_asked k a m ask p))
+    → IsEvent r (asked_as k a m ask p) → Holds n lines (noted a r (node_asked k a m ask p))
 unfolding noted actor_at node_asked
-noted_loud n lines p a k m ask r h e f t w range at is =
+noted_loud n lines p a k m ask r h e f t w range event =
     let in_ : a < length p.actors = h.turn a e in
     let b : Actor = goes_on (get_or p.actors a (fresh_actor p.nodes)) r in
     let long : length (set p.actors a b) ≡ length p.actors = length-set p.actors a b in
@@ -101,7 +102,7 @@ noted_loud n lines p a k m ask r h e f t w range at is =
       operator = h.operator;
       actors = actors_noted p.nodes h.taken p.actors a r h.actors in_ f t w;
       cells = nodes_asked p.nodes p.cells p.trace (asked_as k a m ask p) h.cells range.0 range.1 refl;
-      links = links_loud p.nodes p.operator (fresh_actor p.nodes) p.actors p.operated p.trace a b r (asked_as k a m ask p) h.links in_ (goes_past (get_or p.actors a (fresh_actor p.nodes)) r) refl at is;
+      links = links_loud p.nodes p.operator (fresh_actor p.nodes) p.actors p.operated p.trace a b r (asked_as k a m ask p) h.links in_ (goes_past (get_or p.actors a (fresh_actor p.nodes)) r) refl range event;
       counted = long ∙ h.counted;
       names = h.names;
       operated = h.operated;
@@ -129,20 +130,21 @@ called_by n lines p a k q ReplyLost h e w is =
     noted_loud n lines p a k true (Act false q) (Call k q told.Muted) h e (subst (λ (x : Want). Fits x (Call k q told.Muted)) (sym w) (refl, refl))
     (subst (λ (d : Delivery). IsAsMarked (actor_at p a).marks k (next_number k (actor_at p a).past) (told_of d (taken_at k (Act false q) p).answer)) is
     (delivery_marked (actor_at p a).marks k (next_number k (actor_at p a).past) (taken_at k (Act false q) p).answer))
-    range range (λ i. refl) (refl, tt)
+    range range (record { reach = λ i. refl; same = (refl, tt); muted = refl })
 called_by n lines p a k q Delivered h e w is =
     let range : (1 ≤ k) × (k ≤ p.nodes) = call_within n lines p a k q h e w in
     let answer : NodeAnswer = (taken_at k (Act false q) p).answer in
     noted_loud n lines p a k false (Act false q) (Call k q (told_of Delivered answer)) h e (subst (λ (x : Want). Fits x (Call k q (told_of Delivered answer))) (sym w) (refl, refl))
     (subst (λ (d : Delivery). IsAsMarked (actor_at p a).marks k (next_number k (actor_at p a).past) (told_of d answer)) is
     (delivery_marked (actor_at p a).marks k (next_number k (actor_at p a).past) answer))
-    range range (λ i. told_reaches i k q answer) (refl, told_stands answer (call_answer (get_or p.cells (k - 1) fresh_cell) false q))
+    range range
+    (record { reach = λ i. told_reaches i k q answer; same = (refl, told_stands answer (call_answer (get_or p.cells (k - 1) fresh_cell) false q)); muted = told_muted answer })
 
 copied_holds : (n : ℕ) (lines : List Line) (p : Play) (a k : ℕ) (q : Request) → Holds n lines p → p.turn ≡ Some a → wants (actor_at p a) ≡ WantsCopy k q → Holds n lines (copy_made a k q p)
 unfolding copy_made IsTold Fits reaches IsSame
 copied_holds n lines p a k q h e w =
     let range : (1 ≤ k) × (k ≤ p.nodes) = unfold actor_at in wants_copy_within p.nodes k q (get_or p.actors a (fresh_actor p.nodes)) (h.actors.each a (h.turn a e)).sound w in
-    noted_loud n lines p a k false (Act true q) (Late k q) h e (subst (λ (x : Want). Fits x (Late k q)) (sym w) (refl, refl)) tt range range (λ i. refl) refl
+    noted_loud n lines p a k false (Act true q) (Late k q) h e (subst (λ (x : Want). Fits x (Late k q)) (sym w) (refl, refl)) tt range range (record { reach = λ i. refl; same = refl; muted = refl })
 
 pub wanted_holds : (n : ℕ) (lines : List Line) (p : Play) (a : ℕ) (x : Want) → Holds n lines p → p.turn ≡ Some a → wants (actor_at p a) ≡ x → Holds n lines (wanted x a p)
 unfolding wanted Fits IsTold reaches Alike

@@ -13,17 +13,13 @@ use Rattle.node_world.specs.declared.record.Record.TheVariants.{Call, Late, Oper
 use Rattle.mesh.specs.Marks.{calls_to, IsCopy}
 use Rattle.mesh.specs.Makers.{heard_of}
 use Rattle.mesh.specs.Matches.{IsWithin, AreWithin}
-use Rattle.cluster_runner.specs.Lines.{Deed, Does, DoDrop, DoMute, DoLate, IsDeed}
+use Rattle.cluster_runner.specs.Lines.{Deed, Does, DoDrop, DoMute, DoLate, IsDeed, AreDeeds}
 use Rattle.cluster_runner.specs.Actor.{Actor, WantsCall, WantsCopy, fresh_actor, wants, is_wanting, task_begun, copied, deed_taken, settled, handed, moved_on, resettled, goes_on, Fits}
 use Rattle.cluster_runner.proofs.Led.{turn_keeps, moved_keeps}
 use Rattle.mesh.proofs.Lists.{alike, Alike}
 use Rattle.cluster_runner.proofs.Wanting.{Resting, calling, copying, resting}
-use Rattle.mesh.proofs.WriterRange.{Sized, heard_sized, begun_sized, new_sized, call_within}
+use Rattle.node_world.proofs.WriterRange.{Sized, heard_sized, begun_sized, new_sized, call_within}
 use Rattle.cluster_runner.proofs.Goes.{GoesBy, fresh_goes, taken_goes, IsTold, moved_goes}
-
-unfoldable pub AreDeeds : List Deed → Type 0
-AreDeeds [] = Unit {0}
-AreDeeds (d ∷ ds) = IsDeed d × AreDeeds ds
 
 pub deeds_snoc : (ds : List Deed) (d : Deed) → AreDeeds ds → IsDeed d → AreDeeds (ds ++ d ∷ [])
 unfolding AreDeeds

@@ -8,14 +8,14 @@ use Rattle.node_world.specs.declared.record.Record.{Record}
 use Rattle.node_world.specs.declared.record.Record.TheVariants.{Call, Late, Operator, Outcome}
 use Rattle.node_world.specs.Cell.{fresh_cell, IsLocalRun, cell_after}
 use Rattle.mesh.specs.Makers.{IsOperation, IsOperators}
-use Rattle.mesh.specs.Matches.{reaches, reached, lines_of, IsSame, AreSame, AreWithin}
+use Rattle.mesh.specs.Matches.{reaches, IsSame, AreWithin}
 use Rattle.cluster_runner.specs.Lines.{Deed, Line, Declares, Acts, Operates, Operation, declared, names_in, operations_in, deeds_of, IsDeed, ArePlayable}
 use Rattle.cluster_runner.specs.Actor.{Actor, fresh_actor, handed, Rests, wants, says_first, copy_first, call_wanted}
 use Rattle.cluster_runner.specs.Plays.{Play, play_begins, actor_at, taken_at, node_asked, is_done, line_taken, next_line, turned, play_step, play_steps, history_of}
 use Rattle.cluster_runner.specs.Follows.{AreOperations}
-use Rattle.mesh.proofs.Lists.{Alike, alike, append_none}
+use Rattle.mesh.proofs.Lists.{Alike, alike, append_none, contains_none}
 use Rattle.cluster_runner.proofs.Sound.{handed_past, within_snoc}
-use Rattle.cluster_runner.proofs.Tied.{CallersAre, Tied}
+use Rattle.mesh.specs.Traces.{InStep, begins}
 use Rattle.cluster_runner.proofs.Parts.{actors_handed, actors_declared, actors_operated, nodes_asked}
 use Rattle.cluster_runner.proofs.Links.{links_same, links_operated, links_declared}
 use Rattle.cluster_runner.proofs.Answers.{operation_answer}
@@ -111,10 +111,6 @@ fresh_rests : (n : ℕ) → wants (fresh_actor n) ≡ Rests
 unfolding wants fresh_actor says_first copy_first call_wanted
 fresh_rests n = refl
 
-fresh_past : (n : ℕ) → (fresh_actor n).past ≡ []
-unfolding fresh_actor
-fresh_past n = refl
-
 more_lines : (lines taken : List Line) (l : Line) (ls rest : List Line) → lines ≡ taken ++ rest → rest ≡ l ∷ ls → lines ≡ (taken ++ l ∷ []) ++ ls
 more_lines lines taken l ls rest all is = all ∙ (ap (λ (z : List Line). taken ++ z) is ∙ sym (append_assoc taken (l ∷ []) ls))
 
@@ -132,7 +128,7 @@ declares_holds n lines p x ls h e is =
       operator = h.operator;
       actors = actors_declared p.nodes h.taken p.actors x h.actors;
       cells = h.cells;
-      links = links_declared p.nodes p.operator (fresh_actor p.nodes) p.actors p.operated p.trace (fresh_past p.nodes) (omega (arith, h.operator, h.counted, whole)) h.links;
+      links = links_declared p.nodes p.operator (fresh_actor p.nodes) p.actors p.operated p.trace (omega (arith, h.operator, h.counted, whole)) h.links;
       counted = omega (arith, long, h.counted, count);
       names = ap (λ (z : List (List ℕ)). z ++ x ∷ []) h.names ∙ sym (names_declares h.taken x);
       operated = operated_same p.nodes h.taken p.operated (Declares x) refl h.operated;
@@ -189,8 +185,8 @@ operates_holds n lines p k ask ls h e is =
       operator = h.operator;
       actors = actors_operated p.nodes h.taken p.actors k ask h.actors;
       cells = nodes_asked p.nodes p.cells p.trace (asked_as k p.operator false ask p) h.cells can.0 can.1 refl;
-      links = links_operated p.nodes p.operator (fresh_actor p.nodes) p.actors p.operated p.trace (Operator k ask d) (asked_as k p.operator false ask p) h.links refl (λ i. refl)
-          (refl, operation_answer (get_or p.cells (k - 1) fresh_cell) ask can.2);
+      links = links_operated p.nodes p.operator (fresh_actor p.nodes) p.actors p.operated p.trace (Operator k ask d) (asked_as k p.operator false ask p) h.links refl (can.0, can.1)
+          (record { reach = λ i. refl; same = (refl, operation_answer (get_or p.cells (k - 1) fresh_cell) ask can.2); muted = refl });
       counted = h.counted ∙ sym (declared_operates h.taken k ask);
       names = h.names ∙ sym (names_operates h.taken k ask);
       operated = operated_more p.nodes h.taken p.operated k ask d can.2 (can.0, can.1) h.operated;
@@ -225,12 +221,12 @@ steps_hold zero n lines p h = h
 steps_hold (suc k) n lines p h = steps_hold k n lines (play_step p) (step_holds n lines p h)
 
 -- ## The beginning
-history_none : (k : ℕ) → history_of k [] ≡ []
-unfolding history_of
-history_none k = refl
+first_step : (n c : ℕ) → InStep c (get_or [] c (fresh_actor n)).past []
+unfolding fresh_actor
+first_step n c = begins
 
 pub begins_hold : (n : ℕ) (lines : List Line) → ArePlayable n 0 lines → Holds n lines (play_begins n lines)
-unfolding play_begins history_of IsLocalRun cell_after CallersAre names_in declared operations_in AreOperations IsOperators AreWithin Tied deeds_of actor_at reached lines_of AreSame
+unfolding play_begins history_of IsLocalRun cell_after names_in declared operations_in AreOperations IsOperators AreWithin deeds_of actor_at
 begins_hold n lines can = record {
   taken = [];
   all = refl;
@@ -238,7 +234,7 @@ begins_hold n lines can = record {
   operator = refl;
   actors = record { each = λ c below. absurd (omega (arith, below)); none = λ c above. refl };
   cells = record { count = length-replicate n fresh_cell; local = λ i below. tt; state = λ i below. sym (get_or-replicate n i fresh_cell fresh_cell below) };
-  links = record { above = omega arith; actors = λ i c u v. absurd (omega (arith, v)); operator = λ i u. none i; callers = λ i u. tt };
+  links = record { above = omega arith; actors = λ c off. first_step n c; operator = begins; lines = λ x i. absurd (contains_none x i) };
   counted = refl;
   names = refl;
   operated = record { follows = tt; theirs = tt; within = tt };
@@ -246,6 +242,3 @@ begins_hold n lines can = record {
   turn = λ a e. absurd (cc e);
   rests = λ c below off. absurd (omega (arith, below));
 }
-  where
-    none : (i : ℕ) → Tied (i + 1) (declared lines) [] []
-    none i = tt

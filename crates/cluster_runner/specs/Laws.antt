@@ -5,11 +5,15 @@ use Rattle.node_world.specs.Cell.{fresh_cell, IsLocalRun}
 use Rattle.node_world.specs.Moving.{moving_of}
 use Rattle.node_world.specs.Run.{IsRun}
 use Rattle.mesh.specs.Makers.{IsOfTasks}
+use Rattle.mesh.specs.declared.whole.Mesh.{Mesh}
+use Rattle.mesh.specs.declared.end.End.{End}
 use Rattle.mesh.specs.Agree.{Agrees}
+use Rattle.mesh.specs.Order.{epoch_order}
 use Rattle.script_text.specs.Views.{ScriptView}
-use Rattle.cluster_runner.specs.Lines.{Deed, Line, ArePlayable, IsPlayable}
+use Rattle.cluster_runner.specs.Lines.{Deed, AreDeeds, Line, ArePlayable, IsPlayable}
 use Rattle.cluster_runner.specs.Actor.{Actor, Rests, wants, settled, handed, actor_after, IsLed}
 use Rattle.cluster_runner.specs.Plays.{Play, IsPlay, Plays, play_steps, play_begins, history_of, mesh_of, ends_of}
+use Rattle.cluster_runner.specs.Safe.{IsSafeWithEnds}
 use Rattle.cluster_runner.specs.Follows.{actor_with, FollowsLines, FollowsScript}
 use Rattle.node_world.specs.declared.mark.Mark.{Mark}
 use Rattle.cluster_runner.specs.Follows.{Follows}
@@ -36,6 +40,10 @@ LinesAreRuns = (nodes : ℕ) → (lines : List Line) → (p : Play) → ArePlaya
 abbrev pub PlaysAreRuns : Type 0
 PlaysAreRuns = (s : ScriptView) → (p : Play) → IsPlayable s → Plays s p → IsRun s.nodes (moving_of p.trace)
 
+-- of every mesh that agrees, whoever made it
+abbrev pub MeshesAreSafe : Type 0
+MeshesAreSafe = (m : Mesh) → (ends : List End) → Agrees m → IsSafeWithEnds m.nodes (epoch_order m) ends
+
 abbrev pub OnePlay : Type 0
 OnePlay = (s : ScriptView) → (p q : Play) → Plays s p → Plays s q → p ≡ q
 
@@ -57,7 +65,7 @@ LineLater =
 
 -- an actor's calls are those of its tasks
 abbrev pub LedIsMade : Type 0
-LedIsMade = (nodes : ℕ) → (ds : List Deed) → (rs : List Record) → IsLed (actor_with nodes ds) rs → IsOfTasks nodes rs
+LedIsMade = (nodes : ℕ) → (ds : List Deed) → (rs : List Record) → AreDeeds ds → IsLed (actor_with nodes ds) rs → IsOfTasks nodes rs
 
 -- what its calls were told fixes an actor's whole record
 abbrev pub OneRecord : Type 0

@@ -3,6 +3,7 @@ pub mod Results
 pub mod Actor
 pub mod Plays
 pub mod Follows
+pub mod Safe
 pub mod Told
 pub mod EditResults
 pub mod Laws

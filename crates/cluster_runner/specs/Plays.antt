@@ -1,5 +1,5 @@
 -- A script played: its lines are taken in order, and the calls of each line are made one after the other.
-use Rattle.std.specs.Prelude.{◌≡◌, ℕ, zero, suc, ◌+◌, ◌-◌, ◌==◌, ◌&&◌, Bool, true, false, List, [], ◌∷◌, ◌++◌, map, filter, replicate, slice_index_or, slice_set, is_none, Option, Some, None, if◌then◌else◌}
+use Rattle.std.specs.Prelude.{◌≡◌, ℕ, zero, suc, ◌+◌, ◌-◌, ◌==◌, ◌&&◌, Bool, true, false, List, [], ◌∷◌, ◌++◌, map, replicate, slice_index_or, slice_set, is_none, Option, Some, None, if◌then◌else◌}
 use Rattle.std.specs.List.{list_any}
 use Rattle.journal_core.specs.declared.request.Request.{Request}
 use Rattle.node_world.specs.declared.node_ask.NodeAsk.{NodeAsk}
@@ -19,6 +19,7 @@ use Rattle.node_world.specs.Moving.{Placed}
 use Rattle.mesh.specs.declared.whole.Mesh.{Mesh}
 use Rattle.mesh.specs.declared.end.End.{End}
 use Rattle.mesh.specs.Marks.{next_number}
+unfoldable pub use Rattle.mesh.specs.Traces.{history_of}
 use Rattle.script_text.specs.Views.{ScriptView}
 pub use Rattle.cluster_runner.specs.declared.delivery.Delivery.{Delivery}
 pub use Rattle.cluster_runner.specs.declared.delivery.Delivery.TheVariants.{Delivered, ReplyLost, NotDelivered}
@@ -140,9 +141,6 @@ abbrev pub Plays : ScriptView → Play → Type 0
 Plays s p = IsPlay s.nodes (lines_of s) p
 
 -- ## Its mesh and its ends
-unfoldable pub history_of : ℕ → List Placed → List HistoryLine
-history_of node xs = map (λ x. x.line) (filter (λ x. x.node == node) xs)
-
 -- of so many nodes, from this one on
 unfoldable pub histories_from : ℕ → ℕ → List Placed → List (List HistoryLine)
 histories_from node zero xs = []

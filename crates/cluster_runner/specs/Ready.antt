@@ -6,7 +6,7 @@ use Rattle.writer_core.specs.declared.turn.Turn.TheVariants as turn
 use Rattle.writer_core.specs.declared.task.Task.{Task}
 use Rattle.writer_core.specs.Views.{WriterView}
 use Rattle.writer_core.specs.Left.{IsLive}
-use Rattle.mesh.specs.Sized.{Sized}
+use Rattle.node_world.specs.Sized.{Sized}
 use Rattle.writer_core.specs.Writer.{next_call, is_under_way}
 use Rattle.cluster_runner.specs.Lines.{Line}
 use Rattle.cluster_runner.specs.Kept.{Kept, actor_of, IsAtRest, IsInTurn, IsAfterTurn, LeadsTo}

@@ -9,7 +9,7 @@ use Rattle.node_world.specs.declared.record.Record.TheVariants.{Call, Late, Oper
 use Rattle.node_world.specs.declared.mark.Mark.{Mark}
 use Rattle.node_world.specs.declared.mark.MarkKind.TheVariants as kind
 use Rattle.mesh.specs.Marks.{calls_to}
-use Rattle.mesh.specs.Sized.{Sized}
+use Rattle.node_world.specs.Sized.{Sized}
 use Rattle.cluster_runner.specs.declared.calls_to.CallsTo.{CallsTo}
 use Rattle.cluster_runner.specs.Plays.{is_marked}
 use Rattle.cluster_runner.specs.Kept.{KeptActor}

@@ -9,7 +9,7 @@ ghost use Rattle.cluster_runner.specs.Plays.{told_of, is_done};
 ghost use Rattle.cluster_runner.specs.Kept.{new_kept, with_actor, with_writer, actor_of, said, lost, late, operates, mesh_kept, ends_kept, reached_by, told_by, cell_copied, actor_copied, earlier_call};
 ghost use Rattle.cluster_runner.specs.Shown.{PlayerView};
 ghost use Rattle.cluster_runner.specs.Called.{kept, IsNextCall};
-ghost use Rattle.mesh.specs.Sized.{Sized};
+ghost use Rattle.node_world.specs.Sized.{Sized};
 ghost use Rattle.cluster_runner.specs.Ready.{AreReady, GoesOn};
 
 use crate::delivery::Delivery;

@@ -1,5 +1,5 @@
 // What holds of every play.
-ghost use Rattle.cluster_runner.specs.Laws.{LinesAgree, LinesFollow, PlaysAgree, PlaysFollow, LinesAreRuns, PlaysAreRuns, OnePlay, LocalRuns, LinesOneByOne, LineLater, LedIsMade, OneRecord, EachResult};
+ghost use Rattle.cluster_runner.specs.Laws.{LinesAgree, LinesFollow, PlaysAgree, PlaysFollow, LinesAreRuns, PlaysAreRuns, MeshesAreSafe, OnePlay, LocalRuns, LinesOneByOne, LineLater, LedIsMade, OneRecord, EachResult};
 
 /// The lists of all nodes and of all callers of a play agree.
 pub fn a_play_agrees()
@@ -17,6 +17,12 @@ pub fn a_play_follows()
 pub fn a_play_is_a_run()
     ensures lines { LinesAreRuns }
     ensures script { PlaysAreRuns }
+{}
+
+/// The moving entries of every mesh that agrees, in the order of the epochs, are safe, with whatever ends: no actor has a
+/// namespace yet.
+pub fn a_mesh_that_agrees_is_safe()
+    ensures { MeshesAreSafe }
 {}
 
 /// A script has one play.

@@ -105,7 +105,7 @@ late_sends plan before (Outcome y ∷ rs) k q m (inl e) = absurd (cc e)
 late_sends plan before (Outcome y ∷ rs) k q m (inr x) = subst (Sends q) (append_assoc before (Outcome y ∷ []) rs) (late_sends plan (before ++ Outcome y ∷ []) rs k q m x)
 
 -- the operator asks for no request, and an actor's record has no line of the operator
-operator_acts : (rs : List Record) (r : Record) (h : HistoryLine) (late : Bool) (q : Request) → IsOperators rs → In r rs → IsSame r h → h.ask ≡ Act late q → ⊥
+pub operator_acts : (rs : List Record) (r : Record) (h : HistoryLine) (late : Bool) (q : Request) → IsOperators rs → In r rs → IsSame r h → h.ask ≡ Act late q → ⊥
 unfolding In IsOperators IsSame
 operator_acts [] r h late q o x s e = x
 operator_acts (Call k p t ∷ rs) r h late q o x s e = o
@@ -120,7 +120,7 @@ operator_acts (Operator k p d ∷ rs) r h late q o (inl y) s e =
 operator_acts (Operator k p d ∷ rs) r h late q o (inr x) s e = operator_acts rs r h late q o.1 x s e
 operator_acts (Outcome y ∷ rs) r h late q o x s e = o
 
-made_operator : (m : Maker) (rs : List Record) (k : ℕ) (p : NodeAsk) (d : Bool) → IsMade m rs → In (Operator k p d) rs → ⊥
+pub made_operator : (m : Maker) (rs : List Record) (k : ℕ) (p : NodeAsk) (d : Bool) → IsMade m rs → In (Operator k p d) rs → ⊥
 unfolding In IsMade
 made_operator m [] k p d h x = x
 made_operator m (Call i q t ∷ rs) k p d h (inl e) = absurd (cc e)
@@ -131,12 +131,12 @@ made_operator m (Operator i q y ∷ rs) k p d h x = h
 made_operator m (Outcome y ∷ rs) k p d h (inl e) = absurd (cc e)
 made_operator m (Outcome y ∷ rs) k p d h (inr x) = made_operator m rs k p d h x
 
-in_middle : (before after : List HistoryLine) (h : HistoryLine) → In h (before ++ h ∷ after)
+pub in_middle : (before after : List HistoryLine) (h : HistoryLine) → In h (before ++ h ∷ after)
 unfolding In
 in_middle [] after h = inl refl
 in_middle (x ∷ before) after h = inr (in_middle before after h)
 
-within_in : (n : ℕ) (hs : List HistoryLine) (h : HistoryLine) → CallersWithin n hs → In h hs → h.caller ≤ n
+pub within_in : (n : ℕ) (hs : List HistoryLine) (h : HistoryLine) → CallersWithin n hs → In h hs → h.caller ≤ n
 unfolding In CallersWithin
 within_in n [] h w x = absurd x
 within_in n (y ∷ hs) h w (inl e) = subst (λ (z : HistoryLine). z.caller ≤ n) e w.0
@@ -149,7 +149,7 @@ line_sent rs plan n (Call k p t) h late q d m x s e =
     let same : p ≡ q = cc (s.0, e) in subst (λ (z : Request). Sends z rs) same (call_sends k p t rs x)
 line_sent rs plan n (Late k p) h late q d m x s e =
     let same : p ≡ q = cc (s, e) in subst (λ (z : Request). Sends z rs) same (late_sends plan [] rs k p m x)
-line_sent rs plan n (Operator k p y) h late q d m x s e = absurd (made_operator _ rs k p y d.1 x)
+line_sent rs plan n (Operator k p y) h late q d m x s e = absurd (made_operator _ rs k p y d.2 x)
 line_sent rs plan n (Outcome y) h late q d m x s e = absurd s
 
 pub heads_own : (m : Mesh) → Agrees m → (i : ℕ) (before after : List HistoryLine) (h : HistoryLine) (late : Bool) (q : Request) (e : ℕ)
@@ -157,15 +157,15 @@ pub heads_own : (m : Mesh) → Agrees m → (i : ℕ) (before after : List Histo
 unfolding owns Alike
 heads_own m a i before after h late q e in_ is ask of p =
     let here : In h (history_at m i) = subst (In h) (sym is) (in_middle before after h) in
-    let caller : h.caller ≤ operator_of m = within_in (operator_of m) (history_at m i) h (a.callers i in_) here in
+    let caller : h.caller ≤ operator_of m = within_in (operator_of m) (history_at m i) h (a.lists.callers i in_) here in
     let w : (r : Record) × In r (reached (i + 1) (record_of m h.caller)) × IsSame r h =
-    same_in (reached (i + 1) (record_of m h.caller)) (lines_of h.caller (history_at m i)) h (a.same i h.caller in_ caller) (lines_in h (history_at m i) here) in
+    same_in (reached (i + 1) (record_of m h.caller)) (lines_of h.caller (history_at m i)) h (a.lists.same i h.caller in_ caller) (lines_in h (history_at m i) here) in
     let there : In w.0 (record_of m h.caller) = reached_in (i + 1) w.0 (record_of m h.caller) w.1 in
     by w.0 w.2 there (alike h.caller (operator_of m)) caller
   where
     by : (r : Record) → IsSame r h → In r (record_of m h.caller) → Alike h.caller (operator_of m) → h.caller ≤ operator_of m → wins m.nodes e 0 (record_of m h.caller) ≡ true
-    by r s there (inl x) l = absurd (operator_acts (record_of m h.caller) r h late q (subst (λ (c : ℕ). IsOperators (record_of m c)) (sym x.1) a.operated) there s ask)
+    by r s there (inl x) l = absurd (operator_acts (record_of m h.caller) r h late q (subst (λ (c : ℕ). IsOperators (record_of m c)) (sym x.1) a.lists.operated) there s ask)
     by r s there (inr x) l =
         let below : h.caller < operator_of m = grind (arith, x.1, l) in
         sender_owns m.nodes (record_of m h.caller) e q (a.made h.caller below)
-        (line_sent (record_of m h.caller) (plan_of m h.caller) m.nodes r h late q (a.made h.caller below) (a.marked h.caller below) there s ask) of p
+        (line_sent (record_of m h.caller) (plan_of m h.caller) m.nodes r h late q (a.made h.caller below) (a.lists.marked h.caller below) there s ask) of p

@@ -22,7 +22,7 @@ use Rattle.mesh.specs.Sorted.{NotBelow, Rising, AllRising}
 use Rattle.mesh.proofs.Lists.{Alike, alike, same_test, other_test}
 
 -- ## Places of a caller's record rise
-at_least : (k j p : ℕ) (rs : List Record) → p ≤ place_of k j p rs
+pub at_least : (k j p : ℕ) (rs : List Record) → p ≤ place_of k j p rs
 unfolding place_of
 at_least k j p [] = omega arith
 at_least k zero p (r ∷ rs) = by (reaches k r) (at_least k zero (p + 1) rs)
@@ -36,7 +36,7 @@ at_least k (suc j) p (r ∷ rs) = by (reaches k r) (at_least k j (p + 1) rs) (at
     by true h g = omega (arith, h)
     by false h g = omega (arith, g)
 
-places_rise : (k i j p : ℕ) (rs : List Record) → i < j → j < length (reached k rs) → place_of k i p rs < place_of k j p rs
+pub places_rise : (k i j p : ℕ) (rs : List Record) → i < j → j < length (reached k rs) → place_of k i p rs < place_of k j p rs
 unfolding place_of reached
 places_rise k i j p [] l m = absurd (omega (arith, m))
 places_rise k i zero p (r ∷ rs) l m = absurd (omega (arith, l))
@@ -54,7 +54,7 @@ places_rise k (suc i) (suc j) p (r ∷ rs) l m = by (reaches k r) m (λ x. place
     by false x h go = go x
 
 -- ## How many lines a caller has
-pub count_of : ℕ → List HistoryLine → ℕ
+unfoldable pub count_of : ℕ → List HistoryLine → ℕ
 count_of c hs = length (lines_of c hs)
 
 filter_append : {A : Type 0} (test : A → Bool) (xs ys : List A) → filter test (xs ++ ys) ≡ filter test xs ++ filter test ys
@@ -65,11 +65,11 @@ filter_append {A} test (x ∷ xs) ys = by (test x) (filter_append test xs ys)
     by true h = ap (λ (l : List A). x ∷ l) h
     by false h = h
 
-count_append : (c : ℕ) (xs ys : List HistoryLine) → count_of c (xs ++ ys) ≡ count_of c xs + count_of c ys
+pub count_append : (c : ℕ) (xs ys : List HistoryLine) → count_of c (xs ++ ys) ≡ count_of c xs + count_of c ys
 unfolding count_of lines_of
 count_append c xs ys = ap length (filter_append (λ (h : HistoryLine). h.caller == c) xs ys) ∙ length-append (filter (λ (h : HistoryLine). h.caller == c) xs) (filter (λ (h : HistoryLine). h.caller == c) ys)
 
-count_self : (h : HistoryLine) (hs : List HistoryLine) → count_of h.caller (h ∷ hs) ≡ suc (count_of h.caller hs)
+pub count_self : (h : HistoryLine) (hs : List HistoryLine) → count_of h.caller (h ∷ hs) ≡ suc (count_of h.caller hs)
 unfolding count_of lines_of
 count_self h hs = rw (same_test h.caller h.caller refl) refl
 
@@ -77,7 +77,7 @@ count_none : (c : ℕ) → count_of c [] ≡ 0
 unfolding count_of lines_of
 count_none c = refl
 
-same_length : (rs : List Record) (hs : List HistoryLine) → AreSame rs hs → length rs ≡ length hs
+pub same_length : (rs : List Record) (hs : List HistoryLine) → AreSame rs hs → length rs ≡ length hs
 unfolding AreSame
 same_length [] [] h = refl
 same_length [] (x ∷ hs) h = absurd h
@@ -189,15 +189,15 @@ rising_from m k (hs ∷ hss) h =
       rising_from m (k + 1) hss (λ i l. let next : k + suc i ≡ k + 1 + i = omega arith in subst (λ (x : ℕ). Rising (tags_of m x fresh_cell [] (get_or hss i []))) next (h (suc i) (omega (arith, l)))),
     )
 
-fits : (m : Mesh) → Agrees m → (i : ℕ) → i < m.nodes → (c j : ℕ) → j < count_of c (history_at m i) → j < length (reached (i + 1) (record_of m c))
+pub fits : (m : Mesh) → Agrees m → (i : ℕ) → i < m.nodes → (c j : ℕ) → j < count_of c (history_at m i) → j < length (reached (i + 1) (record_of m c))
 unfolding count_of
 fits m a i in_ c j less =
-    let caller : c ≤ operator_of m = caller_within (operator_of m) c (history_at m i) j (a.callers i in_) (unfold count_of in less) in
-    omega (arith, less, same_length (reached (i + 1) (record_of m c)) (lines_of c (history_at m i)) (a.same i c in_ caller))
+    let caller : c ≤ operator_of m = caller_within (operator_of m) c (history_at m i) j (a.lists.callers i in_) (unfold count_of in less) in
+    omega (arith, less, same_length (reached (i + 1) (record_of m c)) (lines_of c (history_at m i)) (a.lists.same i c in_ caller))
 
 pub all_rising : (m : Mesh) → Agrees m → HasOwners m → AllRising m 1 m.histories
 all_rising m a own = rising_from m 1 m.histories (λ i l.
     let in_ : i < m.nodes = omega (arith, l, a.histories) in
     let next : i + 1 ≡ 1 + i = omega arith in
     subst (λ (x : ℕ). Rising (tags_of m x fresh_cell [] (history_at m i))) next
-    (tags_rise m i (history_at m i) in_ refl own (fits m a i in_) [] (history_at m i) fresh_cell refl (a.local i in_)))
+    (tags_rise m i (history_at m i) in_ refl own (fits m a i in_) [] (history_at m i) fresh_cell refl (a.lists.local i in_)))

@@ -1,5 +1,4 @@
 pub mod Lists
-pub mod WriterRange
 pub mod WriterNext
 pub mod Calls
 pub mod Senders
@@ -10,3 +9,19 @@ pub mod OneOwner
 pub mod Keys
 pub mod Sorting
 pub mod Cutting
+pub mod Signs
+pub mod FairActs
+pub mod Diaries
+pub mod SignLists
+pub mod Rearranged
+pub mod Noting
+pub mod Matching
+pub mod OrderSigns
+pub mod OrderLaws
+pub mod OrderSound
+pub mod OrderRuns
+pub mod Tied
+pub mod InStep
+pub mod Traced
+pub mod EmptyLogs
+pub mod Crossed

@@ -126,7 +126,7 @@ same_line (x ∷ rs) [] r s i = absurd s
 same_line (x ∷ rs) (h ∷ hs) r s (inl e) = (h, inl refl, subst (λ (z : Record). IsSame z h) e s.0)
 same_line (x ∷ rs) (h ∷ hs) r s (inr i) = let w : (g : HistoryLine) × In g hs × IsSame r g = same_line rs hs r s.1 i in (w.0, inr w.1, w.2)
 
-lines_out : (c : ℕ) (h : HistoryLine) (hs : List HistoryLine) → In h (lines_of c hs) → In h hs × (h.caller ≡ c)
+pub lines_out : (c : ℕ) (h : HistoryLine) (hs : List HistoryLine) → In h (lines_of c hs) → In h hs × (h.caller ≡ c)
 unfolding In lines_of Alike
 lines_out c h [] i = absurd i
 lines_out c h (y ∷ hs) i = by (alike y.caller c) i (λ z. lines_out c h hs z)
@@ -159,7 +159,7 @@ heard_taken m a c i e in_ caller heard =
     let w : (x : Option ℕ) × In (the_call (i + 1) e x) (record_of m c) = heard_in (i + 1) e (record_of m c) heard in
     let there : In (the_call (i + 1) e w.0) (reached (i + 1) (record_of m c)) = in_reached (i + 1) (the_call (i + 1) e w.0) (record_of m c) (self_reached (i + 1) e w.0) w.1 in
     let l : (h : HistoryLine) × In h (lines_of c (history_at m i)) × IsSame (the_call (i + 1) e w.0) h =
-    same_line (reached (i + 1) (record_of m c)) (lines_of c (history_at m i)) (the_call (i + 1) e w.0) (a.same i c in_ caller) there in
+    same_line (reached (i + 1) (record_of m c)) (lines_of c (history_at m i)) (the_call (i + 1) e w.0) (a.lists.same i c in_ caller) there in
     let out : In l.0 (history_at m i) × (l.0.caller ≡ c) = lines_out c l.0 (history_at m i) l.1 in
     record { line = l.0; there = out.0; by = out.1; takes = record { late = false; newest = w.0; ask = l.2.0; answer = l.2.1 } }
 
@@ -196,7 +196,7 @@ actor_only m a c e o = by (cases c (operator_of m))
 
     by : (c < operator_of m) ⊎ ((c ≡ operator_of m) ⊎ (operator_of m + 1 ≤ c)) → c < operator_of m
     by (inl l) = l
-    by (inr (inl x)) = absurd (operator_owns m.nodes e (record_of m c) (subst (λ (z : ℕ). IsOperators (record_of m z)) (sym x) a.operated) o)
+    by (inr (inl x)) = absurd (operator_owns m.nodes e (record_of m c) (subst (λ (z : ℕ). IsOperators (record_of m z)) (sym x) a.lists.operated) o)
     by (inr (inr l)) =
         let none : record_of m c ≡ [] = past_end m.records c (omega (arith, l, a.records)) in
         absurd (operator_owns m.nodes e [] no_operators (subst (λ (z : List Record). wins m.nodes e 0 z ≡ true) none o))
@@ -216,7 +216,7 @@ one_owner m a c d e o p =
     let y : HeardOk (k.0 - 1 + 1) e (record_of m d) = subst (λ (z : ℕ). HeardOk z e (record_of m d)) same (all_in e k.0 hd.nodes (record_of m d) hd.heard k.2) in
     let h : Taken m c (k.0 - 1) e = heard_taken m a c (k.0 - 1) e in_ (omega (arith, lc)) x in
     let g : Taken m d (k.0 - 1) e = heard_taken m a d (k.0 - 1) e in_ (omega (arith, ld)) y in
-    sym h.by ∙ (one_line fresh_cell (history_at m (k.0 - 1)) e h.line g.line (a.local (k.0 - 1) in_) h.there g.there h.takes g.takes ∙ g.by)
+    sym h.by ∙ (one_line fresh_cell (history_at m (k.0 - 1)) e h.line g.line (a.lists.local (k.0 - 1) in_) h.there g.there h.takes g.takes ∙ g.by)
 
 pub has_owners : (m : Mesh) → Agrees m → HasOwners m
 has_owners m a = record { heads = λ i before after h late q e in_ is ask of p. heads_own m a i before after h late q e in_ is ask of p; one = λ c d e o p. one_owner m a c d e o p }

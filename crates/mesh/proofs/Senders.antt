@@ -25,7 +25,7 @@ use Rattle.node_world.specs.Moving.{epoch_of, is_proposal}
 use Rattle.mesh.specs.Makers.{heard_of, Maker, maker_of, maker_hears, IsMade, IsOfTasks}
 use Rattle.mesh.specs.Owners.{proposes, promised_to, wins}
 use Rattle.mesh.proofs.Lists.{same_test}
-use Rattle.mesh.proofs.WriterRange.{Sized, heard_sized, begun_sized, new_sized}
+use Rattle.node_world.proofs.WriterRange.{Sized, heard_sized, begun_sized, new_sized}
 use Rattle.mesh.proofs.WriterNext.{IsLater, IsLaterRound, IsDone, Next, Stays, Proposes, Stops, Goes, next_of}
 use Rattle.mesh.proofs.Calls.{CallAt, call_at, Waiter, waiter, none_count, count_set}
 
@@ -295,4 +295,4 @@ module _ (n : ℕ) where
       (made_owns m (xs ++ Outcome x ∷ []) rs e q (record { sized = h.sized; owns = skip_in m.writer.phase m.writer.epoch (promises m.writer.slots) xs (Outcome x) (λ a b c. refl) h.owns }) d s i p)
 
   pub sender_owns : (rs : List Record) (e : ℕ) (q : Request) → IsOfTasks n rs → Sends q rs → epoch_of q ≡ Some e → is_proposal q ≡ false → wins n e 0 rs ≡ true
-  sender_owns rs e q d s i p = made_owns (maker_of d.0 (new_writer n)) [] rs e q (maker_owns d.0 (new_writer n) [] (record { sized = new_sized n; owns = tt })) d.1 s i p
+  sender_owns rs e q d s i p = made_owns (maker_of d.0 (new_writer n)) [] rs e q (maker_owns d.0 (new_writer n) [] (record { sized = new_sized n; owns = tt })) d.2 s i p

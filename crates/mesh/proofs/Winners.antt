@@ -23,7 +23,7 @@ use Rattle.node_world.specs.declared.record.Told.{Told as TellsOf}
 use Rattle.mesh.specs.Makers.{heard_of, Maker, maker_of, maker_hears, IsMade, IsOfTasks}
 use Rattle.mesh.specs.Owners.{proposes, promised_to, wins}
 use Rattle.mesh.proofs.Lists.{Alike, alike}
-use Rattle.mesh.proofs.WriterRange.{Sized, heard_sized, begun_sized, new_sized}
+use Rattle.node_world.proofs.WriterRange.{Sized, heard_sized, begun_sized, new_sized}
 use Rattle.mesh.proofs.WriterNext.{IsLater, IsLaterRound, IsDone, Next, Stays, Proposes, Stops, Goes, next_of}
 use Rattle.mesh.proofs.Calls.{CallAt, call_at, Waiter, waiter}
 use Rattle.mesh.proofs.Shared.{In, Below, below_more}
@@ -286,4 +286,4 @@ module _ (n e : ℕ) where
 
   pub owner_heard : (rs : List Record) → IsOfTasks n rs → wins n e 0 rs ≡ true → HasMajority n e rs
   unfolding Below AllHeard
-  owner_heard rs d o = made_majority (maker_of d.0 (new_writer n)) [] rs [] (maker_runs d.0 (new_writer n) [] (record { sized = new_sized n; turn = tt })) tt tt d.1 o
+  owner_heard rs d o = made_majority (maker_of d.0 (new_writer n)) [] rs [] (maker_runs d.0 (new_writer n) [] (record { sized = new_sized n; turn = tt })) tt tt d.2 o

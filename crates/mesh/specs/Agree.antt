@@ -9,7 +9,7 @@ use Rattle.mesh.specs.Marks.{IsMarked, AreCopied}
 use Rattle.mesh.specs.Makers.{IsOfTasks, IsOperators}
 use Rattle.mesh.specs.Matches.{reached, lines_of, AreSame, AreWithin, CallersWithin}
 
--- Actors are the callers from 0 on, in order of declaration; the operator comes behind the last.
+-- Actors are the callers from 0 on, in order of declaration; the operator comes after the last.
 abbrev pub operator_of : Mesh → ℕ
 operator_of m = length m.plan
 
@@ -23,19 +23,25 @@ record_of m caller = slice_index_or m.records caller []
 abbrev pub plan_of : Mesh → ℕ → List Mark
 plan_of m actor = slice_index_or m.plan actor []
 
-pub record Agrees (m : Mesh) : Type 0 where
+-- The lists of all nodes and of all callers fit one another, whatever made the calls.
+pub record ListsAgree (m : Mesh) : Type 0 where
   -- each history is what one node answers from its beginning on, with its armings
   pub local : (i : ℕ) → i < m.nodes → IsLocalRun fresh_cell (history_at m i)
-  -- each actor's calls are those of some tasks, by the answers that it lists; the operator operates
-  pub made : (c : ℕ) → c < operator_of m → IsOfTasks m.nodes (record_of m c)
+  -- the operator operates
   pub operated : IsOperators (record_of m (operator_of m))
   -- of each node and each caller, both list the same, each once and in order
   pub same : (i c : ℕ) → i < m.nodes → c ≤ operator_of m → AreSame (reached (i + 1) (record_of m c)) (lines_of c (history_at m i))
   -- the calls are dropped, muted and copied as the plan marks them
   pub marked : (c : ℕ) → c < operator_of m → IsMarked (plan_of m c) [] (record_of m c)
   pub copied : (c : ℕ) → c < operator_of m → AreCopied (plan_of m c) (record_of m c)
-  -- there is a history for each node and a record for each actor and the operator, and they speak of these alone
-  pub histories : length m.histories ≡ m.nodes
-  pub records : length m.records ≡ operator_of m + 1
+  -- they speak of the nodes, the actors and the operator alone
   pub callers : (i : ℕ) → i < m.nodes → CallersWithin (operator_of m) (history_at m i)
   pub within : (c : ℕ) → c ≤ operator_of m → AreWithin m.nodes (record_of m c)
+
+pub record Agrees (m : Mesh) : Type 0 where
+  pub lists : ListsAgree m
+  -- each actor's calls are those of some tasks, by the answers that it lists
+  pub made : (c : ℕ) → c < operator_of m → IsOfTasks m.nodes (record_of m c)
+  -- there is a history for each node and a record for each actor and the operator
+  pub histories : length m.histories ≡ m.nodes
+  pub records : length m.records ≡ operator_of m + 1

@@ -4,6 +4,7 @@ pub mod Matches
 pub mod Agree
 pub mod Owners
 pub mod Order
+pub mod Traces
+pub mod Examples
 pub mod Sorted
 pub mod Laws
-pub mod Sized

@@ -2,11 +2,16 @@
 #![tactic(auto)]
 
 mod end;
+mod examples;
 mod laws;
 mod tables;
 mod whole;
 
 pub use end::{End, EndList};
-pub use laws::{an_epoch_has_one_owner, epoch_order_keeps_each_node};
+pub use examples::{refuses_log_without_body, shows_crossed_takeovers};
+pub use laws::{
+    an_epoch_has_one_owner, an_order_of_all_lines_is_a_run, epoch_order_is_a_run,
+    epoch_order_is_safe, epoch_order_keeps_each_node,
+};
 pub use tables::{HistoryTable, RecordTable};
 pub use whole::Mesh;

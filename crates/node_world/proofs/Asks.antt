@@ -26,7 +26,8 @@ use Rattle.writer_core.proofs.WholeRounds.{IsCalling, unslotted_alike}
 use Rattle.node_world.specs.Entries.{Entry}
 use Rattle.node_world.specs.Run.{may_follow}
 use Rattle.node_world.specs.Moving.{epoch_of}
-use Rattle.node_world.proofs.Tales.{Tale, IsTold, told_still}
+use Rattle.node_world.proofs.Tales.{Tale}
+use Rattle.node_world.proofs.Fair.{IsTold, told_still}
 use Rattle.node_world.proofs.TaleSteps.{put_here, Continues, continues_not, taken_over, taken_continues}
 use Rattle.node_world.proofs.Tracked.{calling, Status, free, asking, tracked, Quiet, aside, quiet_entry}
 use Rattle.node_world.proofs.CallLeft.{entry, HasEpoch, CallLeft, nothing, unheard, answered}

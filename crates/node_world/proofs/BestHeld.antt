@@ -28,7 +28,7 @@ use Rattle.node_world.proofs.Answers.{BestTold, best_heard}
 use Rattle.node_world.proofs.Oks.{Passed, passed, prepare_told}
 use Rattle.node_world.proofs.Sent.{OfRound, round_of, to}
 use Rattle.node_world.proofs.Safety.{finalised_agree}
-use Rattle.node_world.proofs.Tales.{Tale, IsTold}
+use Rattle.node_world.proofs.Tales.{Tale}
 use Rattle.node_world.proofs.Tracked.{Tracked, Stands, calling, fetching, writing}
 use Rattle.node_world.proofs.Passing.{Fetching}
 use Rattle.node_world.proofs.Rivals.{Within, within}
@@ -80,12 +80,12 @@ heard_held n story past a s i w l info f h =
     record { segment = g.0; held = (h.0, Earlier-tail h.2, subst (λ (k : ℕ). find_segment g.0.start (node_after k h.0).segments ≡ Some g.0) h.3.2 g.1); told_it = g.2 }
 
 -- the best answer that a writer fetches from
-pub best_held : (n : ℕ) (a : Tale) (past : List Entry) (told : IsTold n a past) (c : ℕ) (v : WriterView) (t : Tracked n a past c v) (j m end : ℕ) (bodies : List (List ℕ)) → v.phase ≡ phase.InRound (round.Fetch j m end bodies)
+pub best_held : (n : ℕ) (a : Tale) (past : List Entry) (follows : Follows n a.story past) (c : ℕ) (v : WriterView) (t : Tracked n a past c v) (j m end : ℕ) (bodies : List (List ℕ)) → v.phase ≡ phase.InRound (round.Fetch j m end bodies)
     → (f : Fetching v j m end bodies) → WasHeld past j f.info
-best_held n a past told c v t j m end bodies is f = by t.stands
+best_held n a past follows c v t j m end bodies is f = by t.stands
   where
-    w : Within n a past told c v t (round.Fetch j m end bodies)
-    w = within n a past told c v t (round.Fetch j m end bodies) is
+    w : Within n a past follows c v t (round.Fetch j m end bodies)
+    w = within n a past follows c v t (round.Fetch j m end bodies) is
 
     g : Getting n (a.story.takeover t.k) m j end t.writer.slots
     g = w.sound.stands
@@ -97,7 +97,7 @@ best_held n a past told c v t j m end bodies is f = by t.stands
         let info : f.info ≡ g.info = ap (λ (b : Best). b.info) both in
         let b : BestTold n (a.story.takeover t.k) m t.writer.slots (record { node = j; info = g.info }) = best_heard n (a.story.takeover t.k) m t.writer.slots (record { node = j; info = g.info }) g.counted g.best in
         subst (λ (z : SegmentInfo). WasHeld past j z) (sym info)
-        (heard_held n a.story past t.k 1 j b.writer b.committed g.info told.follows (t.heard 1 j (reply.Prepared b.writer b.committed (Some g.info)) b.was_heard))
+        (heard_held n a.story past t.k 1 j b.writer b.committed g.info follows (t.heard 1 j (reply.Prepared b.writer b.committed (Some g.info)) b.was_heard))
 
     by : Stands v t.writer ((a.story.takeover t.k).heard (a.top t.k)) → WasHeld past j f.info
     by (calling q whole e same fills) = absurd (off q whole (sym e ∙ is))

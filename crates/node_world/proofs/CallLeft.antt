@@ -1,15 +1,15 @@
 -- What a call left in the list, and what its caller heard.
-use Rattle.std.proofs.Common.{◌≡◌, ◌≢◌, ℕ, ◌<◌, ◌≤◌, List, ◌∷◌, Bool, true, length, ap, ◌∙◌, Some, is_some}
+use Rattle.std.proofs.Common.{◌≡◌, ℕ, ◌<◌, List, ◌∷◌, Bool, true, length, ap, ◌∙◌, Some, is_some}
 use Rattle.journal_core.specs.declared.request.Request.{Request}
 use Rattle.journal_core.specs.declared.reply.Reply.{Reply}
 use Rattle.journal_core.specs.declared.heard.Heard.{Heard as HeardOf}
 use Rattle.journal_core.specs.declared.heard.Heard.TheVariants as told
-use Rattle.journal_core.specs.Step.{node_step, effects_of}
 use Rattle.writer_core.proofs.Plain.{plain_heard}
-use Rattle.node_world.specs.Entries.{Heard, Muted, Late, Move, Answer, Stop, Entry, moved, node_after}
-use Rattle.node_world.specs.Run.{IsInTurn, IsInOrder, IsNextEntry}
+use Rattle.node_world.specs.Entries.{Heard, Muted, Late, Move, Answer, Stop, Entry}
+use Rattle.node_world.specs.Run.{IsInTurn, IsInOrder}
 use Rattle.node_world.specs.Moving.{epoch_of}
 use Rattle.node_world.proofs.Tales.{Tale, IsMadeAt, made_here}
+use Rattle.node_world.proofs.Fair.{IsFairEntry}
 
 abbrev pub entry : ℕ → Move → Entry
 entry node move = record { node = node; move = move }
@@ -21,13 +21,13 @@ HasEpoch r = is_some (epoch_of r) ≡ true
 abbrev pub Enters : ℕ → List Entry → ℕ → ℕ → Request → Move → Type 0
 Enters n past caller node r move =
     (b : Tale) (k s : ℕ) → b.story.whose (length past) ≡ k → b.story.round (length past) ≡ s → (HasEpoch r → IsMadeAt n b past k s caller node r)
-    → (IsInTurn move → IsInOrder b.story past node) → IsNextEntry n b.story past (entry node move)
+    → (IsInTurn move → IsInOrder b.story past node) → IsFairEntry n b.story past (entry node move)
 
 -- and where the table has its answer
 abbrev pub EntersHeard : ℕ → List Entry → ℕ → ℕ → Request → Reply → Type 0
 EntersHeard n past caller node r reply =
     (b : Tale) (k s : ℕ) → b.story.whose (length past) ≡ k → b.story.round (length past) ≡ s → IsMadeAt n b past k s caller node r
-    → IsInOrder b.story past node → (b.story.takeover k).heard s node ≡ Some reply → IsNextEntry n b.story past (entry node (Answer caller Heard r reply))
+    → IsInOrder b.story past node → (b.story.takeover k).heard s node ≡ Some reply → IsFairEntry n b.story past (entry node (Answer caller Heard r reply))
 
 -- A call that left nothing: it was refused at once, or not delivered. Else it left an entry, and its caller heard nothing, or its answer.
 pub data CallLeft (n : ℕ) (past : List Entry) (caller node : ℕ) (r : Request) (d : HeardOf) (next : List Entry) : Type 0 where
@@ -36,42 +36,17 @@ pub data CallLeft (n : ℕ) (past : List Entry) (caller node : ℕ) (r : Request
   answered : (reply : Reply) → next ≡ entry node (Answer caller Heard r reply) ∷ past → d ≡ told.Answer reply → HasEpoch r → EntersHeard n past caller node r reply → CallLeft n past caller node r d next
 
 -- ## The entries of an answer and of a stop
-pub enters_answer : (n : ℕ) (past : List Entry) (caller node : ℕ) (r : Request) (reply : Reply) → 1 ≤ node → node ≤ n → HasEpoch r → (node_step (node_after node past) r).reply ≡ reply
-    → (node_step (node_after node past) r).state ≢ node_after node past → EntersHeard n past caller node r reply
-enters_answer n past caller node r reply low high some is off b k s w x made order table = record {
-  from_one = low;
-  up_to_n = high;
-  is_next = (
-    record { made = made_here n b past k s caller node r w x made; in_order = λ turn. order },
-    is,
-    ap (λ (j : ℕ). (b.story.takeover j).heard (b.story.round (length past)) node) w ∙ ap (λ (j : ℕ). (b.story.takeover k).heard j node) x ∙ table,
-  );
-  moves = off;
-}
+pub enters_answer : (n : ℕ) (past : List Entry) (caller node : ℕ) (r : Request) (reply : Reply) → HasEpoch r → EntersHeard n past caller node r reply
+enters_answer n past caller node r reply some b k s w x made order table = (
+  record { made = made_here n b past k s caller node r w x made; in_order = λ turn. order },
+  ap (λ (j : ℕ). (b.story.takeover j).heard (b.story.round (length past)) node) w ∙ ap (λ (j : ℕ). (b.story.takeover k).heard j node) x ∙ table,
+)
 
-pub enters_muted : (n : ℕ) (past : List Entry) (caller node : ℕ) (r : Request) (reply : Reply) → 1 ≤ node → node ≤ n → HasEpoch r → (node_step (node_after node past) r).reply ≡ reply
-    → (node_step (node_after node past) r).state ≢ node_after node past → Enters n past caller node r (Answer caller Muted r reply)
-enters_muted n past caller node r reply low high some is off b k s w x made order = record {
-  from_one = low;
-  up_to_n = high;
-  is_next = (record { made = made_here n b past k s caller node r w x (made some); in_order = order }, is, tt);
-  moves = off;
-}
+pub enters_muted : (n : ℕ) (past : List Entry) (caller node : ℕ) (r : Request) (reply : Reply) → HasEpoch r → Enters n past caller node r (Answer caller Muted r reply)
+enters_muted n past caller node r reply some b k s w x made order = (record { made = made_here n b past k s caller node r w x (made some); in_order = order }, tt)
 
-pub enters_late : (n : ℕ) (past : List Entry) (caller node : ℕ) (r : Request) (reply : Reply) → 1 ≤ node → node ≤ n → HasEpoch r → (node_step (node_after node past) r).reply ≡ reply
-    → (node_step (node_after node past) r).state ≢ node_after node past → Enters n past caller node r (Answer caller Late r reply)
-enters_late n past caller node r reply low high some is off b k s w x made order = record {
-  from_one = low;
-  up_to_n = high;
-  is_next = (record { made = made_here n b past k s caller node r w x (made some); in_order = order }, is, tt);
-  moves = off;
-}
+pub enters_late : (n : ℕ) (past : List Entry) (caller node : ℕ) (r : Request) (reply : Reply) → HasEpoch r → Enters n past caller node r (Answer caller Late r reply)
+enters_late n past caller node r reply some b k s w x made order = (record { made = made_here n b past k s caller node r w x (made some); in_order = order }, tt)
 
-pub enters_stop : (n : ℕ) (past : List Entry) (caller node : ℕ) (r : Request) (late : Bool) (kept : ℕ) → 1 ≤ node → node ≤ n → (0 < kept → HasEpoch r) → (node_after node past).up ≡ true
-    → kept ≤ length (effects_of (node_after node past) r) → moved (node_after node past) (Stop caller late r kept) ≢ node_after node past → Enters n past caller node r (Stop caller late r kept)
-enters_stop n past caller node r late kept low high some up within off b k s w x made order = record {
-  from_one = low;
-  up_to_n = high;
-  is_next = (up, within, λ lt. record { made = made_here n b past k s caller node r w x (made (some lt)); in_order = order });
-  moves = off;
-}
+pub enters_stop : (n : ℕ) (past : List Entry) (caller node : ℕ) (r : Request) (late : Bool) (kept : ℕ) → (0 < kept → HasEpoch r) → Enters n past caller node r (Stop caller late r kept)
+enters_stop n past caller node r late kept some b k s w x made order = λ lt. record { made = made_here n b past k s caller node r w x (made (some lt)); in_order = order }

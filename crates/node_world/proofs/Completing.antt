@@ -35,7 +35,7 @@ use Rattle.node_world.proofs.Passing.{goes, writes, wait_low}
 use Rattle.node_world.proofs.WorldNodes.{entries}
 use Rattle.node_world.proofs.WorldEntries.{state_at}
 use Rattle.node_world.proofs.WorldActs.{IsMadeBy, own_get, call_own}
-use Rattle.node_world.proofs.WorldRuns.{Runs, step_runs, steps_run, new_runs, Reached, reached, reading_no_epoch, call_is, asked_same}
+use Rattle.node_world.proofs.WorldRuns.{Runs, runs_follow, step_runs, steps_run, new_runs, Reached, reached, reading_no_epoch, call_is, asked_same}
 use Rattle.node_world.proofs.NodeFacts.{state, sane, Changed, asked_here, asked_other, request_changed, promise_kept, call_changed, call_other, call_promise}
 use Rattle.node_world.proofs.Serves.{Sane}
 use Rattle.node_world.proofs.Course.{Course, asks, proposes, on, silent, Outside, left, asked, down, no_epoch, made_by, none, reads, keeps}
@@ -212,7 +212,7 @@ module _ (n c : ℕ) (nodes : List ℕ) (majority : IsMajority n nodes) (w : Wor
       (λ i m. subst Sane (put_cells c (with_writer (writer_heard (acting_at c w).writer j (call_heard f j q w)).writer (with_call j q (acting_at c w))) (call_reached f c j q w) i) (sane n (HeardBehind j q f) i then (majority.within i m).0 (majority.within i m).1))
       (entries (call_reached f c j q w).trace) (λ i m. state_at n (call_reached f c j q w) i k.agree (majority.within i m).0 (majority.within i m).1)
       (left_earlier n (entries w.trace) c j q (call_heard f j q w) (entries (call_reached f c j q w).trace) k.left) then.tale.story
-      (subst (λ l. Follows n then.tale.story l) (put_trace c (with_writer (writer_heard (acting_at c w).writer j (call_heard f j q w)).writer (with_call j q (acting_at c w))) (call_reached f c j q w)) then.told.follows) course)
+      (subst (λ l. Follows n then.tale.story l) (put_trace c (with_writer (writer_heard (acting_at c w).writer j (call_heard f j q w)).writer (with_call j q (acting_at c w))) (call_reached f c j q w)) (runs_follow n (HeardBehind j q f) then)) course)
     where
       k : Reached n w c j q f
       k = reached n w c j q f h.agree low high

@@ -35,7 +35,7 @@ use Rattle.node_world.proofs.Rivals.{within, owned, voted, Rival, rival}
 use Rattle.node_world.proofs.WorldNodes.{entries}
 use Rattle.node_world.proofs.WorldEntries.{state_at}
 use Rattle.node_world.proofs.WorldActs.{IsMadeBy}
-use Rattle.node_world.proofs.WorldRuns.{Runs}
+use Rattle.node_world.proofs.WorldRuns.{Runs, runs_follow}
 use Rattle.node_world.proofs.NodeFacts.{state, Changed, still, by_request, fell}
 
 -- a node's part while the promises are asked for
@@ -139,7 +139,7 @@ module _ (n c : ℕ) (nodes : List ℕ) (majority : IsMajority n nodes) (w : Wor
   outside_is i r q s is off pos (made_by d made mine) old = λ hd at same lt.
       let t : Tracked n h.tale (entries w.trace) c (acting_at c w).writer = its_takeover r is off in
       let m : IsMadeBy n h.tale (entries w.trace) d i q = made (head_epoch q hd at) in
-      let one : d ≡ c = owned n h.tale (entries w.trace) h.told c (acting_at c w).writer t r m.0 m.1 d i q hd (within n h.tale (entries w.trace) h.told c (acting_at c w).writer t r is) pos m.2 at same in
+      let one : d ≡ c = owned n h.tale (entries w.trace) (runs_follow n w h) c (acting_at c w).writer t r m.0 m.1 d i q hd (within n h.tale (entries w.trace) (runs_follow n w h) c (acting_at c w).writer t r is) pos m.2 at same in
       let le : hd.serial ≤ s.serial = old_get i (acting_at c w).writer.epoch s.serial (acting_at c w).calls q hd old (mine one) at same in
       omega (arith, le, lt)
 
@@ -181,7 +181,7 @@ module _ (n c : ℕ) (nodes : List ℕ) (majority : IsMajority n nodes) (w : Wor
   -- ## While the epoch is proposed
   doom_of : (states : ℕ → NodeState) (t : Tracked n h.tale (entries w.trace) c (acting_at c w).writer) → (acting_at c w).writer.phase ≡ phase.InRound round.Propose
       → ((i : ℕ) → Member i nodes → Voter (acting_at c w).writer (state w i) i) → ((i : ℕ) → Member i nodes → (state w i).promised ≤ (states i).promised)
-      → Rival n h.tale (entries w.trace) h.told c (acting_at c w).writer t nodes → Doomed nodes states (acting_at c w).writer
+      → Rival n h.tale (entries w.trace) (runs_follow n w h) c (acting_at c w).writer t nodes → Doomed nodes states (acting_at c w).writer
   doom_of states t is voters le v = by (voters v.node v.member)
     where
       within_it : (1 ≤ v.node) × (v.node ≤ n)
@@ -199,7 +199,7 @@ module _ (n c : ℕ) (nodes : List ℕ) (majority : IsMajority n nodes) (w : Wor
       by (duties.told y at kind numbers p) = absurd (from y at kind)
         where
           from : (z : Reply) → At 1 (acting_at c w).writer.slots v.node (Told (Answer z)) → fits_round round.Propose z ≡ true → ⊥
-          from (reply.NewEpoch o) at_it kind_it = v.no_vote (voted n h.tale (entries w.trace) h.told c (acting_at c w).writer t v.node o is at_it kind_it)
+          from (reply.NewEpoch o) at_it kind_it = v.no_vote (voted n h.tale (entries w.trace) (runs_follow n w h) c (acting_at c w).writer t v.node o is at_it kind_it)
           from reply.Ok at_it kind_it = true≢false (sym kind_it)
           from (reply.State p_it) at_it kind_it = true≢false (sym kind_it)
           from (reply.Prepared a b g) at_it kind_it = true≢false (sym kind_it)
@@ -225,7 +225,7 @@ module _ (n c : ℕ) (nodes : List ℕ) (majority : IsMajority n nodes) (w : Wor
       by (Some y) e (made_by d made mine) = elim (cases_eq y.epoch (acting_at c w).writer.epoch) [
         | inr other ↦ inr (λ hd at same lt. other (ap (λ (z : HeadView). z.epoch) (some_same (sym e ∙ at)) ∙ same))
         | inl same ↦ (let m : IsMadeBy n h.tale (entries w.trace) d i q = made (head_epoch q y e) in
-            inl (doom_of states t is voters le (rival n h.tale (entries w.trace) h.told c (acting_at c w).writer t nodes m.0 m.1 d i q y is majority m.2 e same)))
+            inl (doom_of states t is voters le (rival n h.tale (entries w.trace) (runs_follow n w h) c (acting_at c w).writer t nodes m.0 m.1 d i q y is majority m.2 e same)))
       ]
 
   voter_keeps : (i : ℕ) (states : ℕ → NodeState) → (acting_at c w).writer.phase ≡ phase.InRound round.Propose → ((j : ℕ) → Member j nodes → Voter (acting_at c w).writer (state w j) j)

@@ -8,14 +8,16 @@ use Rattle.journal_core.specs.declared.reply.Reply.TheVariants.{Refused}
 use Rattle.journal_core.specs.Effects.{Effect, after_effects}
 use Rattle.journal_core.specs.Step.{node_step, effects_of, stopped, crashed, restarted}
 use Rattle.node_world.specs.declared.stop.Stop.{Stop as StopAt}
+use Rattle.node_world.specs.declared.node_ask.NodeAsk.{NodeAsk}
 use Rattle.node_world.specs.declared.node_ask.NodeAsk.TheVariants as ask
 use Rattle.node_world.specs.declared.node_ask.NodeAnswer.{NodeAnswer}
 use Rattle.node_world.specs.declared.node_ask.NodeAnswer.TheVariants as answer
 use Rattle.node_world.specs.Cell.{Arming, Cell, Taken, kept_by, replies, stops, counted, requested, killed as cell_killed, started_again, armed, cell_takes}
-use Rattle.node_world.specs.Entries.{Move, Answer, Stop, Kill, Restart}
+use Rattle.node_world.specs.Entries.{Move, Answer, Stop, Kill, Restart, moved}
 use Rattle.node_world.specs.Moving.{epoch_of, moves, way_of, move_of}
 use Rattle.node_world.proofs.Stops.{kept_within}
 use Rattle.node_world.proofs.Moves.{Went, stays, goes, went, effects_epoch}
+use Rattle.node_world.proofs.Fair.{IsDue}
 
 -- ## A request
 -- an answer, or a stop behind some effects
@@ -102,3 +104,29 @@ arms c caller calls muted x = by c.state.up
     by : (b : Bool) → Operated c.state (armed b c (record { calls = calls; stop = x })).cell.state (move_of caller muted (ask.Arm calls x) (armed b c (record { calls = calls; stop = x })).answer)
     by true = nothing refl refl
     by false = nothing refl refl
+
+-- ## Any line: what it did to its node
+pub data Did (s t : NodeState) (o : Option Move) : Type 0 where
+  still : o ≡ None → t ≡ s → Did s t o
+  gone : (v : Move) → o ≡ Some v → IsDue s v → t ≡ moved s v → t ≢ s → Did s t o
+
+asked_did : (c : Cell) (caller : ℕ) (muted late : Bool) (r : Request) → Did c.state (cell_takes c (ask.Act late r)).cell.state (move_of caller muted (ask.Act late r) (cell_takes c (ask.Act late r)).answer)
+asked_did c caller muted late r = by (entered c caller muted late r)
+  where
+    by : Entered c.state (cell_takes c (ask.Act late r)).cell.state caller muted late r (cell_takes c (ask.Act late r)).answer
+        → Did c.state (cell_takes c (ask.Act late r)).cell.state (move_of caller muted (ask.Act late r) (cell_takes c (ask.Act late r)).answer)
+    by (quiet x a none same refused) = still none same
+    by (answered x a is reply same off some) = gone (Answer caller (way_of late muted) r x) is reply same off
+    by (cut keep a is up le same off some) = gone (Stop caller late r keep) is (up, le) same off
+
+operated_did : (s t : NodeState) (o : Option Move) → Operated s t o → Did s t o
+operated_did s t o (nothing is same) = still is same
+operated_did s t o (killed is up same off) = gone Kill is up same off
+operated_did s t o (again is up same off) = gone Restart is up same off
+
+pub line_did : (c : Cell) (a : NodeAsk) (caller : ℕ) (muted : Bool) → Did c.state (cell_takes c a).cell.state (move_of caller muted a (cell_takes c a).answer)
+line_did c (ask.Act late r) caller muted = asked_did c caller muted late r
+line_did c ask.Kill caller muted = operated_did c.state (cell_takes c ask.Kill).cell.state (move_of caller muted ask.Kill (cell_takes c ask.Kill).answer) (kills c caller muted)
+line_did c ask.Restart caller muted = operated_did c.state (cell_takes c ask.Restart).cell.state (move_of caller muted ask.Restart (cell_takes c ask.Restart).answer) (restarts c caller muted)
+line_did c (ask.Arm calls stop) caller muted =
+    operated_did c.state (cell_takes c (ask.Arm calls stop)).cell.state (move_of caller muted (ask.Arm calls stop) (cell_takes c (ask.Arm calls stop)).answer) (arms c caller calls muted stop)

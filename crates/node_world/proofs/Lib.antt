@@ -43,6 +43,7 @@ pub mod Raised
 pub mod Moves
 pub mod Entering
 pub mod Tales
+pub mod Fair
 pub mod TaleSteps
 pub mod CellCode
 pub mod WriterRange

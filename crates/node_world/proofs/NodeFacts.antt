@@ -27,7 +27,7 @@ use Rattle.node_world.proofs.Entering.{Asked, replied, cut_off, asked}
 use Rattle.node_world.proofs.Serves.{Sane}
 use Rattle.node_world.proofs.WorldNodes.{entries, stopping_state}
 use Rattle.node_world.proofs.WorldEntries.{state_at}
-use Rattle.node_world.proofs.WorldRuns.{Runs}
+use Rattle.node_world.proofs.WorldRuns.{Runs, runs_follow}
 
 abbrev pub state : World → ℕ → NodeState
 state w i = (cell_at i w).state
@@ -52,7 +52,7 @@ sane n w i h low high = subst Sane (sym (state_at n w i h.agree low high)) (reco
         let here : find_segment g.start (node_after i (entries w.trace)).segments ≡ Some g = subst (λ (j : ℕ). find_segment j (node_after i (entries w.trace)).segments ≡ Some g) (sym start) found in
         let x = first_body g.bodies edit in
         let at : g.start ≡ g.start + 0 = omega arith in
-        by (segments_chained n h.tale.story (entries w.trace) h.told.follows i g g.start x.0 (entries w.trace, now, here) (0, at, x.1)) start
+        by (segments_chained n h.tale.story (entries w.trace) (runs_follow n w h) i g g.start x.0 (entries w.trace, now, here) (0, at, x.1)) start
       where
         by : IsBehindFinalised n (entries w.trace) g.epoch g.start → g.start ≡ t → 1 ≤ t
         by (inl e) s = omega (arith, e, s)

@@ -49,7 +49,7 @@ use Rattle.node_world.proofs.Rivals.{Rival, rival, voted}
 use Rattle.node_world.proofs.WorldNodes.{entries}
 use Rattle.node_world.proofs.WorldEntries.{state_at}
 use Rattle.node_world.proofs.WorldActs.{IsMadeBy, AreOwn}
-use Rattle.node_world.proofs.WorldRuns.{Runs}
+use Rattle.node_world.proofs.WorldRuns.{Runs, runs_follow}
 use Rattle.node_world.proofs.NodeFacts.{state, sane, WasServed, was_served, call_other}
 use Rattle.node_world.proofs.Course.{Course, asks, proposes, on, its_takeover, head_epoch}
 use Rattle.node_world.proofs.OwnRounds.{first_waits, answer_there, Call, hears_way}
@@ -146,7 +146,7 @@ module _ (n c : ℕ) (nodes : List ℕ) (majority : IsMajority n nodes) (w : Wor
           off : round.Propose ≡ round.State → ⊥
           off z = cc z
 
-      against : (rv : Rival n h.tale (entries w.trace) h.told c (acting_at c w).writer t nodes) → (rv.node ≡ j) ⊎ (rv.node ≢ j) → Voter (acting_at c w).writer (state w rv.node) rv.node → ⊥
+      against : (rv : Rival n h.tale (entries w.trace) (runs_follow n w h) c (acting_at c w).writer t nodes) → (rv.node ≡ j) ⊎ (rv.node ≢ j) → Voter (acting_at c w).writer (state w rv.node) rv.node → ⊥
       against rv (inl same) voter =
           let m : Member j nodes = subst (λ z. Member z nodes) same rv.member in
           let r = majority.within rv.node rv.member in
@@ -157,7 +157,7 @@ module _ (n c : ℕ) (nodes : List ℕ) (majority : IsMajority n nodes) (w : Wor
       against rv (inr off) (duties.told x told_at kind numbers part) = from x told_at kind
         where
           from : (z : Reply) → At 1 (acting_at c w).writer.slots rv.node (Told (Answer z)) → fits_round round.Propose z ≡ true → ⊥
-          from (reply.NewEpoch o) a b = rv.no_vote (voted n h.tale (entries w.trace) h.told c (acting_at c w).writer t rv.node o p a b)
+          from (reply.NewEpoch o) a b = rv.no_vote (voted n h.tale (entries w.trace) (runs_follow n w h) c (acting_at c w).writer t rv.node o p a b)
           from reply.Ok a b = true≢false (sym b)
           from (reply.State x_it) a b = true≢false (sym b)
           from (reply.Prepared x_it y_it z_it) a b = true≢false (sym b)
@@ -167,7 +167,7 @@ module _ (n c : ℕ) (nodes : List ℕ) (majority : IsMajority n nodes) (w : Wor
 
       clash : IsMadeBy n h.tale (entries w.trace) c y.node y.request → (hd : HeadView) → head_of y.request ≡ Some hd → hd.epoch ≡ (acting_at c w).writer.epoch → ⊥
       clash m hd is same =
-          let rv : Rival n h.tale (entries w.trace) h.told c (acting_at c w).writer t nodes = rival n h.tale (entries w.trace) h.told c (acting_at c w).writer t nodes m.0 m.1 c y.node y.request hd p majority m.2 is same in
+          let rv : Rival n h.tale (entries w.trace) (runs_follow n w h) c (acting_at c w).writer t nodes = rival n h.tale (entries w.trace) (runs_follow n w h) c (acting_at c w).writer t nodes m.0 m.1 c y.node y.request hd p majority m.2 is same in
           against rv (cases_eq rv.node j) (voters rv.node rv.member)
 
   -- the best answer that it fetches from is as long as any other final one
@@ -180,7 +180,7 @@ module _ (n c : ℕ) (nodes : List ℕ) (majority : IsMajority n nodes) (w : Wor
       let tells : TellsSegment m 1 (acting_at c w).writer.slots (record { node = node; info = g.info }) = best_told m 1 (acting_at c w).writer.slots (record { node = node; info = g.info }) g.best in
       let r = segment_slot m tells.slot g.info tells.tells in
       let start : g.info.start ≡ m = (fits_info m r.0 r.1 g.info r.3).0 in
-      as_long n story (entries w.trace) past node i g.info s follows later (best_held n h.tale (entries w.trace) h.told c (acting_at c w).writer t node m end bodies is g)
+      as_long n story (entries w.trace) past node i g.info s follows later (best_held n h.tale (entries w.trace) (runs_follow n w h) c (acting_at c w).writer t node m end bodies is g)
       (subst (λ z. find_segment z (node_after i past).segments ≡ Some s) (sym start) (subst (λ (z : NodeState). find_segment m z.segments ≡ Some s) (told_next i k) found)) final info_final
     where
       off : round.Fetch node m end bodies ≡ round.State → ⊥

@@ -19,6 +19,7 @@ use Rattle.writer_core.proofs.Filling.{Fills, FillsOne}
 use Rattle.writer_core.proofs.WholeLaws.{reaches_now}
 use Rattle.node_world.specs.Majority.{Member, IsMajority}
 use Rattle.node_world.specs.Entries.{Entry, now, node_after}
+use Rattle.node_world.specs.Run.{Follows}
 use Rattle.node_world.proofs.Majorities.{majorities_share}
 use Rattle.node_world.proofs.Slots.{none≢some, At, IsFresh, all_fresh}
 use Rattle.node_world.proofs.SeenLaws.{Propose, Writer, seen, seen_at, seen_first, seen_here, asked, asked_seen}
@@ -27,10 +28,10 @@ use Rattle.node_world.proofs.Table.{sound_at}
 use Rattle.node_world.proofs.SoundNodes.{promise_earlier}
 use Rattle.node_world.proofs.Sent.{Sent, one_owner, answered_of, Vote, vote_of, Votes, votes_of, one_vote, order_of, to}
 use Rattle.node_world.proofs.Served.{head_round}
-use Rattle.node_world.proofs.Tales.{Tale, IsTold, IsMadeAt}
+use Rattle.node_world.proofs.Tales.{Tale, IsMadeAt}
 use Rattle.node_world.proofs.Tracked.{Tracked, Stands, calling, fetching, writing}
 
-module _ (n : ℕ) (a : Tale) (past : List Entry) (told : IsTold n a past) where
+module _ (n : ℕ) (a : Tale) (past : List Entry) (follows : Follows n a.story past) where
   -- ## A request that was made
   pub record Made (k s : ℕ) (q : Request) : Type 0 where
     pub w : Writer
@@ -96,7 +97,7 @@ module _ (n : ℕ) (a : Tale) (past : List Entry) (told : IsTold n a past) where
   owned c v t r k s d i q h w some made at same =
       let x : Made k s q = made_sent k s d i q made in
       let g : (h.epoch ≡ (a.story.takeover k).epoch) × (0 < s) = headed k s q h x at in
-      let one : k ≡ t.k = one_owner n a.story past k t.k s (a.top t.k) x.w (seen (record { writer = t.writer; round = r; tasks = [] })) told.follows x.sent w.sent g.1 (let e : v.serial ≡ a.top t.k = w.serial in omega (arith, e, some)) (sym g.0 ∙ same ∙ w.epoch) in
+      let one : k ≡ t.k = one_owner n a.story past k t.k s (a.top t.k) x.w (seen (record { writer = t.writer; round = r; tasks = [] })) follows x.sent w.sent g.1 (let e : v.serial ≡ a.top t.k = w.serial in omega (arith, e, some)) (sym g.0 ∙ same ∙ w.epoch) in
       sym made.by ∙ ap (λ (j : ℕ). (a.story.takeover j).caller) one ∙ t.by
 
   -- ## While it proposes its epoch
@@ -148,7 +149,7 @@ module _ (n : ℕ) (a : Tale) (past : List Entry) (told : IsTold n a past) where
           let x : Writer = seen (record { writer = t.writer; round = round.Propose; tasks = [] }) in
           let seen_it : seen_at n (a.story.takeover t.k) 0 ≡ Some (seen (record { writer = t.writer; round = round.Propose; tasks = [] })) = subst (λ (s : ℕ). seen_at n (a.story.takeover t.k) s ≡ Some (seen (record { writer = t.writer; round = round.Propose; tasks = [] }))) zero_top w.sent.at in
           vote_of n a.story past t.k j (seen (record { writer = t.writer; round = round.Propose; tasks = [] })) (reply.NewEpoch o) refl
-          (answered_of n a.story past t.k 0 (seen (record { writer = t.writer; round = round.Propose; tasks = [] })) j (reply.NewEpoch o) told.follows seen_it kind (t.heard 0 j (reply.NewEpoch o) at_zero)) at_zero
+          (answered_of n a.story past t.k 0 (seen (record { writer = t.writer; round = round.Propose; tasks = [] })) j (reply.NewEpoch o) follows seen_it kind (t.heard 0 j (reply.NewEpoch o) at_zero)) at_zero
 
       by : Stands v t.writer ((a.story.takeover t.k).heard (a.top t.k)) → Vote n a.story past t.k j
       by (calling q whole e same fills) = from (fills_told 1 ((a.story.takeover t.k).heard (a.top t.k)) v.slots t.writer.slots j (reply.NewEpoch o) fills (all_fresh t.writer.slots w.sound.stands.0) at refl)
@@ -175,7 +176,7 @@ module _ (n : ℕ) (a : Tale) (past : List Entry) (told : IsTold n a past) where
       let w : Within c v t round.Propose = within c v t round.Propose is in
       let x : Made k s q = made_sent k s d i q made in
       let g : (h.epoch ≡ (a.story.takeover k).epoch) × (0 < s) = headed k s q h x at in
-      let votes : Votes n a.story past k = votes_of n a.story past k s x.w told.follows x.sent g.1 in
+      let votes : Votes n a.story past k = votes_of n a.story past k s x.w follows x.sent g.1 in
       let share = majorities_share n nodes votes.nodes majority votes.majority in
       let vote : Vote n a.story past k share.0 = votes.each share.0 share.2 in
       let up : (node_after share.0 (vote.entry ∷ vote.old)).promised ≤ (node_after share.0 past).promised = promise_earlier share.0 vote.within in

@@ -22,9 +22,10 @@ use Rattle.writer_core.proofs.Filling.{fills_waits}
 use Rattle.writer_core.proofs.WholeLaws.{Reaches, reaches_heard, reaches_now}
 use Rattle.writer_core.proofs.WholeRounds.{IsFirst, whole_first, waits_calls, IsCalling, request_alike, unslotted_alike}
 use Rattle.node_world.specs.Entries.{Heard, Move, Answer, Entry, Earlier, now, before}
-use Rattle.node_world.specs.Run.{WasHeard, may_follow, IsInTurn, IsInOrder, IsNextEntry}
+use Rattle.node_world.specs.Run.{WasHeard, may_follow, IsInTurn, IsInOrder}
 use Rattle.node_world.specs.Moving.{epoch_of}
-use Rattle.node_world.proofs.Tales.{Tale, IsLabelled, IsTold, IsMadeAt, Grows, Tells, place_below, made_still, told_more}
+use Rattle.node_world.proofs.Tales.{Tale, IsLabelled, IsMadeAt, Grows, Tells, place_below, made_still}
+use Rattle.node_world.proofs.Fair.{IsFairEntry, IsTold, told_more}
 use Rattle.node_world.proofs.TaleSteps.{put_here, put_there, Continues, grows_not, hears, hears_here, hears_there, hears_cases, grows_heard, labelled, labelled_continues, heard_later, continues_not}
 use Rattle.node_world.proofs.Tracked.{IsSilent, Stands, calling, fetching, writing, IsBefore, Tracked}
 use Rattle.node_world.proofs.CallLeft.{entry, HasEpoch, CallLeft, nothing, unheard, answered}
@@ -180,7 +181,7 @@ its_tale a past k t = labelled a (length past) k (a.top k) t
 
 left_entry : (n : ℕ) (a : Tale) (past : List Entry) (c : ℕ) (v : WriterView) (node : ℕ) (d : HeardOf) (h : Tracked n a past c v) (move : Move) (t : Takeover)
     → (a.story.takeover h.k).heard (a.top h.k) node ≡ None → Heeds n a past c v node d h move t → IsTold n a past
-    → IsNextEntry n (its_tale a past h.k t).story past (entry node move)
+    → IsFairEntry n (its_tale a past h.k t).story past (entry node move)
     → Gives n c a past (entry node move ∷ past) (λ x. Called n x (entry node move ∷ past) c v node d)
 left_entry n a past c v node d h move t silent g told next = (
   its_tale a past h.k t,

@@ -24,7 +24,8 @@ use Rattle.writer_core.proofs.WholeLaws.{Reaches, reaches_next}
 use Rattle.writer_core.proofs.WholeRounds.{unslotted, IsFirst, whole_first, whole_judged, whole_heard, calls_waits, waits_calls, set_waits, IsCalling, unslotted_alike}
 use Rattle.node_world.specs.Entries.{Entry}
 use Rattle.node_world.specs.Run.{WasHeard, may_follow}
-use Rattle.node_world.proofs.Tales.{Tale, IsTold, told_still}
+use Rattle.node_world.proofs.Tales.{Tale}
+use Rattle.node_world.proofs.Fair.{IsTold, told_still}
 use Rattle.node_world.proofs.TaleSteps.{put_here, Continues, grows_not, gone_on, gone_continues, continues_not, heard_later}
 use Rattle.node_world.proofs.Tracked.{IsSilent, Stands, calling, fetching, writing, IsBefore, Tracked, is_free, Status, free, tracked}
 use Rattle.node_world.proofs.RoundCalls.{Gives, Called, from_is}

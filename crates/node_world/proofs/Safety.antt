@@ -1,5 +1,5 @@
 -- Acknowledged edits and final segments, from what every epoch keeps.
-use Rattle.std.proofs.Common.{◌≡◌, ℕ, zero, suc, ◌+◌, ◌<◌, ◌≤◌, max, true, List, [], ◌∷◌, length, Some, refl, inl, inr, arith, sym, ap, ◌∙◌}
+use Rattle.std.proofs.Common.{◌≡◌, ℕ, zero, suc, ◌+◌, ◌<◌, ◌≤◌, max, true, List, [], ◌∷◌, length, reverse, Some, refl, inl, inr, arith, sym, ap, ◌∙◌}
 use Rattle.std.specs.Prelude.{slice_get}
 use Rattle.std.proofs.lemmas.Bool.{cases_lt, cases_order}
 use Rattle.journal_core.specs.Segments.{find_segment, end_of, HasAt}
@@ -10,8 +10,8 @@ use Rattle.journal_core.specs.declared.request.Request.TheVariants.{Start, Journ
 use Rattle.journal_core.specs.declared.segment.Segment.{Segment}
 use Rattle.node_world.specs.Majority.{Member}
 use Rattle.node_world.specs.Entries.{Entry, moved, node_after, Earlier}
-use Rattle.node_world.specs.Run.{Story, Follows, IsNextEntry, IsNext}
-use Rattle.node_world.specs.Safe.{IsHeld, IsChosen, IsOnLine, IsAcknowledged, Reaches, there, segment, AcknowledgedSurvive, FinalisedAgree}
+use Rattle.node_world.specs.Run.{Story, Follows, IsNextEntry, IsNext, IsRun}
+use Rattle.node_world.specs.Safe.{IsHeld, IsChosen, IsOnLine, IsAcknowledged, Reaches, there, segment, AcknowledgedSurvive, FinalisedAgree, IsSafe}
 use Rattle.node_world.proofs.Places.{Earlier-trans, Earlier-tail, next_of}
 use Rattle.node_world.proofs.Majorities.{majorities_share}
 use Rattle.journal_core.proofs.SegmentLists.{find-start}
@@ -238,3 +238,10 @@ module _ (n : ℕ) (story : Story) (past : List Entry) (run : Follows n story pa
   -- and each is on the line
   pub chosen_on_line : (e t : ℕ) (x : List ℕ) → IsChosen n past e t x → IsOnLine n past t x
   chosen_on_line e t x c = (let j = chosen_maj e t x c in on_line e j.0 t x j.1)
+
+-- so a run is safe
+pub run_safe : (n : ℕ) (entries : List Entry) → IsRun n entries → IsSafe n entries
+run_safe n entries run = record {
+  acknowledged_survive = acknowledged_survive n run.0 (reverse entries) run.1;
+  finalised_agree = finalised_agree n run.0 (reverse entries) run.1;
+}

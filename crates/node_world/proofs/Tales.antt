@@ -8,7 +8,7 @@ use Rattle.writer_core.specs.declared.task.Task.{Task}
 use Rattle.writer_core.specs.Whole.{Takeover, Underway, writer_at, asked, calls}
 use Rattle.writer_core.proofs.WholeLaws.{with_tasks, with_heard, going_on, heard_below, tasks_more}
 use Rattle.node_world.specs.Entries.{Way, Heard, Muted, Late, Move, Answer, Stop, Kill, Restart, Entry, node_after, Earlier, now, before}
-use Rattle.node_world.specs.Run.{Story, WasHeard, may_follow, IsMade, IsInOrder, IsHeardAs, IsCall, IsNext, IsNextEntry, Follows}
+use Rattle.node_world.specs.Run.{Story, WasHeard, may_follow, IsMade, IsInOrder, IsHeardAs, IsCall}
 use Rattle.node_world.proofs.Places.{Earlier-trans}
 
 -- a story, how many takeovers it tells (numbered from 1), and the last round of each
@@ -32,10 +32,6 @@ pub record IsLabelled (a : Tale) (old : List Entry) : Type 0 where
 
 abbrev pub AreLabelled : Tale → List Entry → Type 0
 AreLabelled a past = (old : List Entry) (e : Entry) → Earlier (e ∷ old) past → IsLabelled a old
-
-pub record IsTold (n : ℕ) (a : Tale) (past : List Entry) : Type 0 where
-  pub follows : Follows n a.story past
-  pub labels : AreLabelled a past
 
 -- ## A request that a takeover of this caller makes in this round, from what stands in the list
 pub record IsMadeAt (n : ℕ) (a : Tale) (past : List Entry) (k s caller node : ℕ) (r : Request) : Type 0 where
@@ -66,7 +62,7 @@ made_here n a past k s caller node r w x h =
           subst (λ (z : ℕ). WasHeard a.story past z y i reply) (sym w) (h.heard_before y i reply lt (ap (λ (t : Takeover). t.heard y i) (sym same) ∙ e));
     }
 
-made_there : (n : ℕ) (a : Tale) (past : List Entry) (caller node : ℕ) (r : Request) → IsLabelled a past → IsMade n a.story past caller node r
+pub made_there : (n : ℕ) (a : Tale) (past : List Entry) (caller node : ℕ) (r : Request) → IsLabelled a past → IsMade n a.story past caller node r
     → IsMadeAt n a past (a.story.whose (length past)) (a.story.round (length past)) caller node r
 made_there n a past caller node r l h = record {
   known = l.known;
@@ -144,7 +140,7 @@ made_on n a k s caller node r p h = record {
 }
 
 -- ## The list so far
-labelled_still : (a b : Tale) (size : ℕ) (old : List Entry) → Tells a b size → length old < size → IsLabelled a old → IsLabelled b old
+pub labelled_still : (a b : Tale) (size : ℕ) (old : List Entry) → Tells a b size → length old < size → IsLabelled a old → IsLabelled b old
 labelled_still a b size old t l h =
     let w : b.story.whose (length old) ≡ a.story.whose (length old) = t.whose (length old) l in
     let x : b.story.round (length old) ≡ a.story.round (length old) = t.round (length old) l in
@@ -154,7 +150,7 @@ labelled_still a b size old t l h =
       within = subst (λ (k : ℕ). b.story.round (length old) ≤ b.top k) (sym w) (omega (arith, x, up, h.within));
     }
 
-order_still : (a b : Tale) (size : ℕ) (old : List Entry) (node : ℕ) → Tells a b size → length old < size → IsInOrder a.story old node → IsInOrder b.story old node
+pub order_still : (a b : Tale) (size : ℕ) (old : List Entry) (node : ℕ) → Tells a b size → length old < size → IsInOrder a.story old node → IsInOrder b.story old node
 order_still a b size old node t l h older e p same turn =
     let lt : length older < size = omega (arith, place_below e p, l) in
     let r : b.story.round (length older) ≡ a.story.round (length older) = t.round (length older) lt in
@@ -164,7 +160,7 @@ order_still a b size old node t l h older e p same turn =
       | inr f ↦ inr (r ∙ f.0 ∙ sym s, f.1)
     ]
 
-call_still : (n : ℕ) (a b : Tale) (size : ℕ) (old : List Entry) (caller node : ℕ) (r : Request) (move : Move) → Tells a b size → length old < size → IsLabelled a old
+pub call_still : (n : ℕ) (a b : Tale) (size : ℕ) (old : List Entry) (caller node : ℕ) (r : Request) (move : Move) → Tells a b size → length old < size → IsLabelled a old
     → IsCall n a.story old caller node r move → IsCall n b.story old caller node r move
 call_still n a b size old caller node r move t l label h = record {
   made = made_here n b old (a.story.whose (length old)) (a.story.round (length old)) caller node r (t.whose (length old) l) (t.round (length old) l)
@@ -172,7 +168,7 @@ call_still n a b size old caller node r move t l label h = record {
   in_order = λ turn. order_still a b size old node t l (h.in_order turn);
 }
 
-heard_as_still : (a b : Tale) (size : ℕ) (old : List Entry) (node : ℕ) (reply : Reply) (way : Way) → Tells a b size → length old < size → IsLabelled a old
+pub heard_as_still : (a b : Tale) (size : ℕ) (old : List Entry) (node : ℕ) (reply : Reply) (way : Way) → Tells a b size → length old < size → IsLabelled a old
     → IsHeardAs a.story old node reply way → IsHeardAs b.story old node reply way
 heard_as_still a b size old node reply Heard t l label h =
     let k : ℕ = a.story.whose (length old) in
@@ -183,41 +179,3 @@ heard_as_still a b size old node reply Heard t l label h =
     ∙ g.keeps (a.story.round (length old)) node reply h
 heard_as_still a b size old node reply Muted t l label h = tt
 heard_as_still a b size old node reply Late t l label h = tt
-
-next_still : (n : ℕ) (a b : Tale) (size : ℕ) (old : List Entry) (node : ℕ) (s : NodeState) (move : Move) → Tells a b size → length old < size → IsLabelled a old
-    → IsNext n a.story old node s move → IsNext n b.story old node s move
-next_still n a b size old node s (Answer caller way r reply) t l label h =
-    (call_still n a b size old caller node r (Answer caller way r reply) t l label h.0, h.1, heard_as_still a b size old node reply way t l label h.2)
-next_still n a b size old node s (Stop caller late r kept) t l label h =
-    (h.0, h.1, λ some. call_still n a b size old caller node r (Stop caller late r kept) t l label (h.2 some))
-next_still n a b size old node s Kill t l label h = h
-next_still n a b size old node s Restart t l label h = h
-
-follows_still : (n : ℕ) (a b : Tale) (size : ℕ) (past : List Entry) → Tells a b size → length past ≤ size → AreLabelled a past → Follows n a.story past → Follows n b.story past
-follows_still n a b size [] t l labels f = tt
-follows_still n a b size (e ∷ past) t l labels f =
-    let h : IsNextEntry n a.story past e = f.0 in (
-      record {
-        from_one = h.from_one;
-        up_to_n = h.up_to_n;
-        is_next = next_still n a b size past e.node (node_after e.node past) e.move t (omega arith) (labels past e now) h.is_next;
-        moves = h.moves;
-      },
-      follows_still n a b size past t (omega arith) (λ old x p. labels old x (before p)) f.1,
-    )
-
-pub told_still : (n : ℕ) (a b : Tale) (past : List Entry) → Tells a b (length past) → IsTold n a past → IsTold n b past
-told_still n a b past t h = record {
-  follows = follows_still n a b (length past) past t (omega arith) h.labels h.follows;
-  labels = λ old e p. labelled_still a b (length past) old t (place_below e p) (h.labels old e p);
-}
-
--- ## One entry more
-pub told_more : (n : ℕ) (a b : Tale) (past : List Entry) (e : Entry) → Tells a b (length past) → IsTold n a past → IsLabelled b past → IsNextEntry n b.story past e → IsTold n b (e ∷ past)
-told_more n a b past e t h label next =
-    let still : IsTold n b past = told_still n a b past t h in
-    record { follows = (next, still.follows); labels = λ old x p. at old x p }
-  where
-    at : (old : List Entry) (x : Entry) → Earlier (x ∷ old) (e ∷ past) → IsLabelled b old
-    at old x now = label
-    at old x (before p) = (told_still n a b past t h).labels old x p

@@ -20,7 +20,8 @@ use Rattle.writer_core.proofs.WholeLaws.{with_tasks, Reaches, reaches_task}
 use Rattle.writer_core.proofs.WholeRounds.{unslotted_alike}
 use Rattle.node_world.specs.Entries.{Entry}
 use Rattle.node_world.specs.Run.{may_follow}
-use Rattle.node_world.proofs.Tales.{Tale, IsTold, told_still}
+use Rattle.node_world.proofs.Tales.{Tale}
+use Rattle.node_world.proofs.Fair.{IsTold, told_still}
 use Rattle.node_world.proofs.TaleSteps.{put_here, Continues, continues_not, grows_task, all_more, gone_on, gone_continues, heard_later}
 use Rattle.node_world.proofs.WriterRange.{Sized}
 use Rattle.node_world.proofs.Tracked.{IsSilent, Stands, calling, fetching, writing, IsBefore, Tracked, is_free, Status, free, asking, tracked}

@@ -16,8 +16,9 @@ use Rattle.writer_core.proofs.Filling.{Fills}
 use Rattle.writer_core.proofs.WholeLaws.{Reaches}
 use Rattle.writer_core.proofs.WholeRounds.{unslotted}
 use Rattle.node_world.specs.Entries.{Entry, Earlier, now, before}
-use Rattle.node_world.specs.Run.{WasHeard, may_follow, IsInTurn, IsNextEntry}
-use Rattle.node_world.proofs.Tales.{Tale, place_below, IsTold, IsLabelled, told_more}
+use Rattle.node_world.specs.Run.{WasHeard, may_follow, IsInTurn}
+use Rattle.node_world.proofs.Tales.{Tale, place_below, IsLabelled}
+use Rattle.node_world.proofs.Fair.{IsFairEntry, IsTold, told_more}
 use Rattle.node_world.proofs.TaleSteps.{Continues, place_cases, heard_later, put_here, put_same, labelled, labelled_continues, grows_not}
 
 abbrev pub IsSilent : (ℕ → Option Reply) → Type 0
@@ -113,7 +114,7 @@ abbrev pub aside : Tale → List Entry → ℕ → ℕ → Tale
 aside a past k s = labelled a (length past) k s (a.story.takeover k)
 
 pub quiet_entry : (n c : ℕ) (a : Tale) (past : List Entry) (e : Entry) (k s : ℕ) → k ≤ a.count → s ≤ a.top k → (IsInTurn e.move → ⊥) → IsTold n a past
-    → IsNextEntry n (aside a past k s).story past e → Quiet n c a past e
+    → IsFairEntry n (aside a past k s).story past e → Quiet n c a past e
 unfolding Quiet
 quiet_entry n c a past e k s known within off told next = (aside a past k s, told_more n a (aside a past k s) past e goes.tells told label next, goes, stays)
   where

@@ -171,7 +171,7 @@ not_a_run run = let told : reply.Refused (EpochRefused 1) ≡ reply.NewEpoch Non
 one_final : List ℕ → ℕ → Segment
 one_final body epoch = record { start = 1; epoch = epoch; bodies = body ∷ []; is_final = true; accepted = false }
 
-pub not_safe : IsSafe 2 split [] → ⊥
+pub not_safe : IsSafe 2 split → ⊥
 unfolding find_segment put_segment remove_segment newest limit_of after_effects node_step effects_of node_after one_final
 not_safe s =
     let same : begin ∷ [] ≡ edit ∷ [] = s.finalised_agree 1 2 (one_final begin 1) (one_final edit 2) (reverse split, now, refl) (reverse split, now, refl) refl refl refl in

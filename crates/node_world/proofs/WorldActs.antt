@@ -18,7 +18,8 @@ use Rattle.node_world.specs.Same.{same_request}
 use Rattle.node_world.proofs.Places.{Earlier-trans}
 use Rattle.node_world.proofs.Slots.{true≢false}
 use Rattle.node_world.proofs.SameLaws.{request_same}
-use Rattle.node_world.proofs.Tales.{Tale, IsTold, Tells, Grows, AreLabelled, IsMadeAt, made_still, earlier_length, place_below}
+use Rattle.node_world.proofs.Fair.{IsTold}
+use Rattle.node_world.proofs.Tales.{Tale, Tells, Grows, AreLabelled, IsMadeAt, made_still, earlier_length, place_below}
 use Rattle.node_world.proofs.TaleSteps.{Continues, continues_not, place_cases, made_later, put, put_here, put_there, labelled_continues, grows_not}
 use Rattle.node_world.proofs.WriterRange.{Sized, heard_sized, begun_sized, new_sized}
 use Rattle.node_world.proofs.Tracked.{is_free, Status, free, asking, tracked, status_beside, Quiet, aside, quiet_entry}
@@ -159,7 +160,7 @@ call_own n a past c v node r call (asking p e f) some = absurd (asks_no_epoch v 
 call_own n a past c v node r call (tracked h) some = (h.k, a.top h.k, (making_by n a past c v node r h call h.stands).made)
 
 -- the writer hears what came of it
-heard_status : (n : ℕ) (a : Tale) (past next : List Entry) (c : ℕ) (v : WriterView) (node : ℕ) (r : Request) (d : HeardOf) → IsCalling v node r → IsTold n a past → CallLeft n past c node r d next → Status n a past c v
+pub heard_status : (n : ℕ) (a : Tale) (past next : List Entry) (c : ℕ) (v : WriterView) (node : ℕ) (r : Request) (d : HeardOf) → IsCalling v node r → IsTold n a past → CallLeft n past c node r d next → Status n a past c v
     → Gives n c a past next (λ b. Status n b next c (writer_heard v node d).writer)
 heard_status n a past next c v node r d call told left (free f) = absurd (true≢false (sym f ∙ ap is_free call.phase))
 heard_status n a past next c v node r d call told left (asking p e f) =

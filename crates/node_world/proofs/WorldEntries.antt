@@ -14,9 +14,10 @@ use Rattle.node_world.specs.declared.node_ask.NodeAnswer.{NodeAnswer}
 use Rattle.node_world.specs.declared.node_ask.NodeAnswer.TheVariants.{Replied, Stopped}
 use Rattle.node_world.specs.Cell.{Cell, cell_takes}
 use Rattle.node_world.specs.Entries.{Heard, Muted, Late, Move, Answer, Stop, Kill, Restart, Entry, moved, node_after}
-use Rattle.node_world.specs.Run.{Story, IsInTurn, IsNextEntry}
+use Rattle.node_world.specs.Run.{Story, IsInTurn}
 use Rattle.node_world.specs.Moving.{move_of}
-use Rattle.node_world.proofs.Entering.{Entered, quiet, answered as entered_answer, cut, entered, Operated, nothing as no_move, killed, again, kills, restarts, arms}
+use Rattle.node_world.proofs.Entering.{Entered, quiet, answered as entered_answer, cut, entered, Operated, nothing as no_move, killed, again, kills, restarts, arms, Did, still, gone, line_did}
+use Rattle.node_world.proofs.Fair.{IsFairEntry, IsDue, Sounds}
 use Rattle.node_world.specs.World.{World, cell_at, stopping, taken_at, node_asked, heard_of}
 use Rattle.node_world.proofs.CallLeft.{entry, CallLeft, nothing, unheard, answered, enters_answer, enters_muted, enters_late, enters_stop, Enters}
 use Rattle.node_world.proofs.WorldNodes.{entries, Agree, asked_next, asked_still, asked_moved, stopping_state}
@@ -61,6 +62,22 @@ moved_at n node caller muted stop q w move h low high some same =
     let g = asked_moved n node caller muted stop q w move h low high some (same ∙ ap (λ (s : NodeState). moved s move) (sym (state_at n w node h low high))) in
     (g.0, behind n node caller muted stop q w (entry node move ∷ entries w.trace) g.0 g.1)
 
+-- ## Whatever was asked: a node answers as it does
+pub sounds_asked : (n node caller : ℕ) (muted : Bool) (stop : Option ℕ) (q : NodeAsk) (w : World) → Agree n w.cells (entries w.trace) → 1 ≤ node → node ≤ n
+    → Sounds n (entries w.trace) → Sounds n (asked_next node caller muted stop q w)
+sounds_asked n node caller muted stop q w h low high s = by (line_did (stopping stop (cell_at node w)) q caller muted)
+  where
+    by : Did (stopping stop (cell_at node w)).state (taken_at node stop q w).cell.state (move_of caller muted q (taken_at node stop q w).answer) → Sounds n (asked_next node caller muted stop q w)
+    by (still is same) = subst (Sounds n) (sym (still_at n node caller muted stop q w h low high is (same ∙ stopping_at n w node stop h low high)).0) s
+    by (gone move is due same off) =
+        let moves : (taken_at node stop q w).cell.state ≡ moved (node_after node (entries w.trace)) move = same ∙ ap (λ (x : NodeState). moved x move) (stopping_at n w node stop h low high) in
+        subst (Sounds n) (sym (moved_at n node caller muted stop q w move h low high is moves).0) (record {
+          from_one = low;
+          up_to_n = high;
+          due = subst (λ (x : NodeState). IsDue x move) (stopping_at n w node stop h low high) due;
+          moves = λ (e : moved (node_after node (entries w.trace)) move ≡ node_after node (entries w.trace)). off (moves ∙ e ∙ sym (stopping_at n w node stop h low high));
+        }, s)
+
 -- ## A call that is delivered
 plain_refused : (x : Reply) (f : Refusal) → x ≡ Refused f → plain_heard (told.Answer x) ≡ told.Silent
 plain_refused x f e = ap (λ (y : Reply). plain_heard (told.Answer y)) e
@@ -86,13 +103,13 @@ delivered n node caller stop r w h low high = by (entered_at n node caller false
     by (entered_answer x a m is t off some) =
         let g = moved_at n node caller false stop (ask.Act false r) w (Answer caller Heard r x) h low high m t in (
           answered x g.0 (is_told x (taken_at node stop (ask.Act false r) w).answer a) some
-              (enters_answer n (entries w.trace) caller node r x low high some is (λ same. off (t ∙ same))),
+              (enters_answer n (entries w.trace) caller node r x some),
           g.1,
         )
     by (cut keep a m up within t off some) =
         let g = moved_at n node caller false stop (ask.Act false r) w (Stop caller false r keep) h low high m t in (
           unheard (Stop caller false r keep) g.0 (ap plain_heard (is_stopped keep (taken_at node stop (ask.Act false r) w).answer a)) (λ turn. some turn.1)
-              (enters_stop n (entries w.trace) caller node r false keep low high some up within (λ same. off (t ∙ same))),
+              (enters_stop n (entries w.trace) caller node r false keep some),
           g.1,
         )
 
@@ -104,10 +121,10 @@ reply_lost n node caller stop r w h low high = by (entered_at n node caller true
     by (quiet x a m t refused) = let g = still_at n node caller true stop (ask.Act false r) w h low high m t in (nothing g.0 (λ some. refl), g.1)
     by (entered_answer x a m is t off some) =
         let g = moved_at n node caller true stop (ask.Act false r) w (Answer caller Muted r x) h low high m t in
-        (unheard (Answer caller Muted r x) g.0 refl (λ turn. some) (enters_muted n (entries w.trace) caller node r x low high some is (λ same. off (t ∙ same))), g.1)
+        (unheard (Answer caller Muted r x) g.0 refl (λ turn. some) (enters_muted n (entries w.trace) caller node r x some), g.1)
     by (cut keep a m up within t off some) =
         let g = moved_at n node caller true stop (ask.Act false r) w (Stop caller false r keep) h low high m t in
-        (unheard (Stop caller false r keep) g.0 refl (λ turn. some turn.1) (enters_stop n (entries w.trace) caller node r false keep low high some up within (λ same. off (t ∙ same))), g.1)
+        (unheard (Stop caller false r keep) g.0 refl (λ turn. some turn.1) (enters_stop n (entries w.trace) caller node r false keep some), g.1)
 
 -- ## A late copy
 pub data CopyLeft (n : ℕ) (past : List Entry) (caller node : ℕ) (r : Request) (next : List Entry) : Type 0 where
@@ -125,10 +142,10 @@ copied_late n node caller stop r w h low high = by (entered_at n node caller fal
     by (quiet x a m t refused) = let g = still_at n node caller false stop (ask.Act true r) w h low high m t in (no_entry g.0, g.1)
     by (entered_answer x a m is t off some) =
         let g = moved_at n node caller false stop (ask.Act true r) w (Answer caller Late r x) h low high m t in
-        (an_entry (Answer caller Late r x) g.0 (λ turn. turn refl) (enters_late n (entries w.trace) caller node r x low high some is (λ same. off (t ∙ same))), g.1)
+        (an_entry (Answer caller Late r x) g.0 (λ turn. turn refl) (enters_late n (entries w.trace) caller node r x some), g.1)
     by (cut keep a m up within t off some) =
         let g = moved_at n node caller false stop (ask.Act true r) w (Stop caller true r keep) h low high m t in
-        (an_entry (Stop caller true r keep) g.0 (λ turn. no_turn keep turn) (enters_stop n (entries w.trace) caller node r true keep low high some up within (λ same. off (t ∙ same))), g.1)
+        (an_entry (Stop caller true r keep) g.0 (λ turn. no_turn keep turn) (enters_stop n (entries w.trace) caller node r true keep some), g.1)
 
 -- ## An operation
 abbrev pub IsOperation : NodeAsk → Type 0
@@ -139,7 +156,7 @@ IsOperation (ask.Arm calls stop) = Unit {0}
 
 pub data OperationLeft (n : ℕ) (past : List Entry) (node : ℕ) (next : List Entry) : Type 0 where
   no_change : next ≡ past → OperationLeft n past node next
-  a_change : (move : Move) → next ≡ entry node move ∷ past → (IsInTurn move → ⊥) → ((story : Story) → IsNextEntry n story past (entry node move)) → OperationLeft n past node next
+  a_change : (move : Move) → next ≡ entry node move ∷ past → (IsInTurn move → ⊥) → ((story : Story) → IsFairEntry n story past (entry node move)) → OperationLeft n past node next
 
 operated_by : (n node caller : ℕ) (q : NodeAsk) (w : World) → Agree n w.cells (entries w.trace) → 1 ≤ node → node ≤ n
     → Operated (node_after node (entries w.trace)) (taken_at node None q w).cell.state (move_of caller false q (taken_at node None q w).answer)
@@ -147,10 +164,10 @@ operated_by : (n node caller : ℕ) (q : NodeAsk) (w : World) → Agree n w.cell
 operated_by n node caller q w h low high (no_move m t) = let g = still_at n node caller false None q w h low high m t in (no_change g.0, g.1)
 operated_by n node caller q w h low high (killed m up t off) =
     let g = moved_at n node caller false None q w Kill h low high m t in
-    (a_change Kill g.0 (λ x. x) (λ story. record { from_one = low; up_to_n = high; is_next = up; moves = λ same. off (t ∙ same) }), g.1)
+    (a_change Kill g.0 (λ x. x) (λ story. tt), g.1)
 operated_by n node caller q w h low high (again m up t off) =
     let g = moved_at n node caller false None q w Restart h low high m t in
-    (a_change Restart g.0 (λ x. x) (λ story. record { from_one = low; up_to_n = high; is_next = up; moves = λ same. off (t ∙ same) }), g.1)
+    (a_change Restart g.0 (λ x. x) (λ story. tt), g.1)
 
 its_operation : (caller : ℕ) (q : NodeAsk) (c : Cell) → IsOperation q → Operated c.state (cell_takes c q).cell.state (move_of caller false q (cell_takes c q).answer)
 its_operation caller (ask.Act late r) c o = absurd o

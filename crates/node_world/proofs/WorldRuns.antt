@@ -18,18 +18,19 @@ use Rattle.node_world.specs.declared.node_ask.NodeAsk.{NodeAsk}
 use Rattle.node_world.specs.declared.node_ask.NodeAsk.TheVariants as ask
 use Rattle.node_world.specs.Cell.{Cell, fresh_cell}
 use Rattle.node_world.specs.Entries.{Entry, Earlier, node_after}
-use Rattle.node_world.specs.Run.{IsRun}
+use Rattle.node_world.specs.Run.{Follows, IsRun}
 use Rattle.node_world.specs.Moving.{epoch_of, moving_of}
 use Rattle.node_world.specs.World.{Acting, fresh_acting, World, new_world, acting_at, node_asked, with_acting, with_writer, with_call, task_begun, task_begins, call_heard, call_reached, called_by, is_reading, is_call, was_made, copied_when, operated, world_step, world_after, IsEvent, AreEvents}
 use Rattle.node_world.specs.Same.{same_request}
 use Rattle.node_world.proofs.Slots.{true≢false}
 use Rattle.node_world.proofs.SameLaws.{request_same}
-use Rattle.node_world.proofs.Tales.{Tale, IsTold, place_below}
+use Rattle.node_world.proofs.Tales.{Tale, place_below}
+use Rattle.node_world.proofs.Fair.{IsTold, Sounds, follows_of}
 use Rattle.node_world.proofs.TaleSteps.{put, put_here, put_there}
 use Rattle.node_world.proofs.CallLeft.{HasEpoch, CallLeft, nothing}
 use Rattle.node_world.proofs.TaskBegins.{its_begin}
 use Rattle.node_world.proofs.WorldNodes.{entries, Agree, asked_next}
-use Rattle.node_world.proofs.WorldEntries.{delivered, reply_lost, copied_late, IsOperation, operates}
+use Rattle.node_world.proofs.WorldEntries.{delivered, reply_lost, copied_late, sounds_asked, IsOperation, operates}
 use Rattle.node_world.proofs.WorldActs.{own_get, fresh_is, All, begins_all, gives_up_all, call_all, Stays, stays_all, copy_stays, operation_stays, read_all, IsActing}
 
 -- ## What holds of a world
@@ -41,7 +42,11 @@ pub record Runs (n : ℕ) (w : World) : Type 0 where
   pub agree : Agree n w.cells (entries w.trace)
   pub tale : Tale
   pub told : IsTold n tale (entries w.trace)
+  pub sounds : Sounds n (entries w.trace)
   pub all : All n (entries w.trace) (acts_of w) tale
+
+pub runs_follow : (n : ℕ) (w : World) → (h : Runs n w) → Follows n h.tale.story (entries w.trace)
+runs_follow n w h = follows_of n h.tale.story (entries w.trace) h.told.fair h.sounds
 
 -- one actor is put back
 pub set_all : (n m c : ℕ) (actors : List Acting) (x : Acting) (past : List Entry) (b : Tale) → m ≡ n → All n past (put (λ d. get_or actors d (fresh_acting m)) c x) b
@@ -67,13 +72,15 @@ set_all n m c actors x past b same h d = at (cases_eq d c)
 abbrev Went : ℕ → World → ℕ → Acting → World → Type 0
 Went n w c x v = (b : Tale) × IsTold n b (entries v.trace) × All n (entries v.trace) (put (acts_of w) c x) b
 
-changed_runs : (n : ℕ) (w v : World) (c : ℕ) (x : Acting) → v.nodes ≡ w.nodes → v.actors ≡ w.actors → w.nodes ≡ n → Agree n v.cells (entries v.trace) → Went n w c x v → Runs n (with_acting c x v)
+changed_runs : (n : ℕ) (w v : World) (c : ℕ) (x : Acting) → v.nodes ≡ w.nodes → v.actors ≡ w.actors → w.nodes ≡ n → Agree n v.cells (entries v.trace) → Sounds n (entries v.trace) → Went n w c x v
+    → Runs n (with_acting c x v)
 unfolding with_acting
-changed_runs n w v c x nodes actors is agree g = record {
+changed_runs n w v c x nodes actors is agree sounds g = record {
   nodes = nodes ∙ is;
   agree = agree;
   tale = g.0;
   told = g.1;
+  sounds = sounds;
   all = set_all n v.nodes c v.actors x (entries v.trace) g.0 (nodes ∙ is)
       (subst (λ (l : List Acting). All n (entries v.trace) (put (λ d. get_or l d (fresh_acting v.nodes)) c x) g.0) (sym actors)
       (subst (λ (m : ℕ). All n (entries v.trace) (put (λ d. get_or w.actors d (fresh_acting m)) c x) g.0) (sym nodes) g.2));
@@ -83,7 +90,7 @@ changed_runs n w v c x nodes actors is agree g = record {
 begins_runs : (n : ℕ) (w : World) (c : ℕ) (t : Task) → HasBody t → Runs n w → Runs n (with_acting c (with_writer (its_begin t (acting_at c w).writer) (acting_at c w)) w)
 begins_runs n w c t body h =
     let g = begins_all n h.tale (entries w.trace) c (acts_of w) t body h.told h.all in
-    changed_runs n w w c (with_writer (its_begin t (acting_at c w).writer) (acting_at c w)) refl refl h.nodes h.agree (g.0, g.1, g.3)
+    changed_runs n w w c (with_writer (its_begin t (acting_at c w).writer) (acting_at c w)) refl refl h.nodes h.agree h.sounds (g.0, g.1, g.3)
 
 begun_runs : (n : ℕ) (w : World) (c : ℕ) (t : Task) (b : Begun) → HasBody t → Runs n w → Runs n (task_begun b c (writer_begun (acting_at c w).writer t).writer w).world
 begun_runs n w c t begun.Going body h = begins_runs n w c t body h
@@ -97,7 +104,7 @@ task_runs n w c t false body h = begun_runs n w c t (writer_begun (acting_at c w
 gives_up_runs : (n : ℕ) (w : World) (c : ℕ) → Runs n w → Runs n (with_acting c (with_writer (writer_stopped (acting_at c w).writer) (acting_at c w)) w)
 gives_up_runs n w c h =
     let g = gives_up_all n h.tale (entries w.trace) c (acts_of w) h.told h.all in
-    changed_runs n w w c (with_writer (writer_stopped (acting_at c w).writer) (acting_at c w)) refl refl h.nodes h.agree (g.0, g.1, g.3)
+    changed_runs n w w c (with_writer (writer_stopped (acting_at c w).writer) (acting_at c w)) refl refl h.nodes h.agree h.sounds (g.0, g.1, g.3)
 
 -- ## What reached a node
 pub asked_same : (node caller : ℕ) (muted : Bool) (stop : Option ℕ) (q : NodeAsk) (w : World) → ((node_asked node caller muted stop q w).nodes ≡ w.nodes) × ((node_asked node caller muted stop q w).actors ≡ w.actors)
@@ -127,6 +134,14 @@ reached n w c node r (fate.Stopped keep) h low high =
     let s = asked_same node c false (Some keep) (ask.Act false r) w in
     record { nodes = s.0; actors = s.1; agree = g.1; left = g.0 }
 
+reached_sounds : (n : ℕ) (w : World) (c node : ℕ) (r : Request) (f : Fate) → Agree n w.cells (entries w.trace) → 1 ≤ node → node ≤ n → Sounds n (entries w.trace)
+    → Sounds n (entries (call_reached f c node r w).trace)
+unfolding call_reached
+reached_sounds n w c node r fate.Heard h low high s = sounds_asked n node c false None (ask.Act false r) w h low high s
+reached_sounds n w c node r fate.Muted h low high s = sounds_asked n node c true None (ask.Act false r) w h low high s
+reached_sounds n w c node r fate.Dropped h low high s = s
+reached_sounds n w c node r (fate.Stopped keep) h low high s = sounds_asked n node c false (Some keep) (ask.Act false r) w h low high s
+
 -- ## A call
 pub reading_no_epoch : (r : Request) → is_reading r ≡ true → HasEpoch r → ⊥
 unfolding epoch_of
@@ -153,17 +168,17 @@ called_runs : (n : ℕ) (w : World) (c node : ℕ) (r : Request) (f : Fate) (b d
 called_runs n w c node r f true d reads is low high h =
     let k : Reached n w c node r f = reached n w c node r f h.agree low high in
     let g = read_all n h.tale (entries w.trace) (entries (call_reached f c node r w).trace) c (acts_of w) node r (call_heard f node r w) (reading_no_epoch r reads) h.told k.left h.all in
-    changed_runs n w (call_reached f c node r w) c (with_call node r (acting_at c w)) k.nodes k.actors h.nodes k.agree (g.0, g.1, g.3)
+    changed_runs n w (call_reached f c node r w) c (with_call node r (acting_at c w)) k.nodes k.actors h.nodes k.agree (reached_sounds n w c node r f h.agree low high h.sounds) (g.0, g.1, g.3)
 called_runs n w c node r f false true reads is low high h =
     let k : Reached n w c node r f = reached n w c node r f h.agree low high in
     let g = call_all n h.tale (entries w.trace) (entries (call_reached f c node r w).trace) c (acts_of w) node r (call_heard f node r w) (call_is node r (next_call (acting_at c w).writer) is) k.left h.told h.all in
-    changed_runs n w (call_reached f c node r w) c (with_writer (writer_heard (acting_at c w).writer node (call_heard f node r w)).writer (with_call node r (acting_at c w))) k.nodes k.actors h.nodes k.agree (g.0, g.1, g.3)
+    changed_runs n w (call_reached f c node r w) c (with_writer (writer_heard (acting_at c w).writer node (call_heard f node r w)).writer (with_call node r (acting_at c w))) k.nodes k.actors h.nodes k.agree (reached_sounds n w c node r f h.agree low high h.sounds) (g.0, g.1, g.3)
 called_runs n w c node r f false false reads is low high h = h
 
 -- ## What leaves all actors as they were
 stayed_runs : (n : ℕ) (w : World) (node caller : ℕ) (muted : Bool) (stop : Option ℕ) (q : NodeAsk) (h : Runs n w) → Agree n (node_asked node caller muted stop q w).cells (asked_next node caller muted stop q w)
-    → Stays n caller h.tale (entries w.trace) (asked_next node caller muted stop q w) → Runs n (node_asked node caller muted stop q w)
-stayed_runs n w node caller muted stop q h agree s =
+    → Sounds n (asked_next node caller muted stop q w) → Stays n caller h.tale (entries w.trace) (asked_next node caller muted stop q w) → Runs n (node_asked node caller muted stop q w)
+stayed_runs n w node caller muted stop q h agree sounds s =
     let same = asked_same node caller muted stop q w in
     let g = stays_all n caller h.tale (entries w.trace) (asked_next node caller muted stop q w) (acts_of w) s h.all in
     record {
@@ -171,6 +186,7 @@ stayed_runs n w node caller muted stop q h agree s =
       agree = agree;
       tale = g.0;
       told = g.1;
+      sounds = sounds;
       all = subst (λ (l : List Acting). All n (asked_next node caller muted stop q w) (λ d. get_or l d (fresh_acting (node_asked node caller muted stop q w).nodes)) g.0) (sym same.1)
           (subst (λ (m : ℕ). All n (asked_next node caller muted stop q w) (λ d. get_or w.actors d (fresh_acting m)) g.0) (sym same.0) g.3);
     }
@@ -179,14 +195,14 @@ copied_runs : (n : ℕ) (w : World) (c node : ℕ) (r : Request) (stop : Option 
 copied_runs n w c node r stop false is low high h = h
 copied_runs n w c node r stop true is low high h =
     let g = copied_late n node c stop r w h.agree low high in
-    stayed_runs n w node c false stop (ask.Act true r) h g.1
+    stayed_runs n w node c false stop (ask.Act true r) h g.1 (sounds_asked n node c false stop (ask.Act true r) w h.agree low high h.sounds)
     (copy_stays n h.tale (entries w.trace) (asked_next node c false stop (ask.Act true r) w) c node r h.told
     (λ some. own_get n h.tale (entries w.trace) c node r (acting_at c w).calls (h.all c).calls is some) g.0)
 
 operated_runs : (n : ℕ) (w : World) (node : ℕ) (q : NodeAsk) → IsOperation q → 1 ≤ node → node ≤ n → Runs n w → Runs n (operated node q w).world
 operated_runs n w node q o low high h =
     let g = operates n node w.operator q w o h.agree low high in
-    stayed_runs n w node w.operator false None q h g.1 (operation_stays n w.operator h.tale (entries w.trace) (asked_next node w.operator false None q w) node h.told g.0)
+    stayed_runs n w node w.operator false None q h g.1 (sounds_asked n node w.operator false None q w h.agree low high h.sounds) (operation_stays n w.operator h.tale (entries w.trace) (asked_next node w.operator false None q w) node h.told g.0)
 
 -- ## An event
 pub step_runs : (n actors : ℕ) (w : World) (e : Event) → IsEvent n actors e → Runs n w → Runs n (world_step w e).world
@@ -213,7 +229,7 @@ first_tale : Tale
 first_tale = record { story = record { takeover = λ k. no_takeover; whose = λ m. 0; round = λ m. 0 }; count = 0; top = λ k. 0 }
 
 first_told : (n : ℕ) → IsTold n first_tale []
-first_told n = record { follows = tt; labels = λ old e p. absurd (none old e p) }
+first_told n = record { fair = tt; labels = λ old e p. absurd (none old e p) }
   where
     none : (old : List Entry) (e : Entry) → Earlier (e ∷ old) [] → ⊥
     none old e p = omega (arith, place_below e p)
@@ -230,8 +246,9 @@ new_runs n actors = record {
   agree = record { size = length-replicate n fresh_cell; states = λ i l. ap (λ (c : Cell). c.state) (get_replicate n i fresh_cell) };
   tale = first_tale;
   told = first_told n;
+  sounds = tt;
   all = λ d. subst (λ (x : Acting). IsActing n first_tale [] d x) (sym (get_replicate actors d (fresh_acting n))) (fresh_is n first_tale [] d);
 }
 
 pub world_is_run : (n actors : ℕ) (es : List Event) → AreEvents n actors es → IsRun n (moving_of (world_after (new_world n actors) es).trace)
-world_is_run n actors es are = let h : Runs n (world_after (new_world n actors) es) = steps_run n actors (new_world n actors) es are (new_runs n actors) in (h.tale.story, h.told.follows)
+world_is_run n actors es are = let h : Runs n (world_after (new_world n actors) es) = steps_run n actors (new_world n actors) es are (new_runs n actors) in (h.tale.story, runs_follow n (world_after (new_world n actors) es) h)

@@ -27,17 +27,7 @@ use Rattle.writer_core.specs.Answers.{is_waiting, has_majority, fits_edits}
 use Rattle.writer_core.specs.Best.{Best, best_of, best_from, better, told_by, segment_in, outranks, greatest_promise, greatest_newest}
 use Rattle.writer_core.specs.Rounds.{request_in, numbers_fit, going, done_in, with_causes, judged_by, judged, taken_out, fetched, after_propose, recovering, after_finalize, after_open, after_write, edits_fetched, not_fetched, next_serial, missed, none_left_out, to_all, to_others, proposing, stopped, asking_all, batch_from, end_record}
 use Rattle.writer_core.specs.Writer.{new_writer, Began, writer_begun, log_begins, log_limit, is_writing, if_writing, next_call, call_in, node_in, with_answer, judged_when, heard_in, heard_at, writer_heard}
-
--- a fetch asks one of the nodes
-abbrev pub FetchesWithin : ℕ → Phase → Type 0
-FetchesWithin n (phase.InRound (round.Fetch node start end bodies)) = (1 ≤ node) × (node ≤ n)
-FetchesWithin n _ = Unit {0}
-
--- a writer of that many nodes
-pub record Sized (n : ℕ) (w : WriterView) : Type 0 where
-  pub left : length w.left ≡ n
-  pub slots : length w.slots ≡ n
-  pub fetch : FetchesWithin n w.phase
+pub use Rattle.node_world.specs.Sized.{FetchesWithin, Sized}
 
 -- ## The node that told the best answer
 told_within : (node : ℕ) (o : Option SegmentInfo) (b : Best) → told_by node o ≡ Some b → b.node ≡ node

@@ -1,5 +1,5 @@
 -- The laws of runs, one a function of laws.rt.
-use Rattle.std.specs.Prelude.{ℕ, ◌+◌, ◌≤◌, ◌≡◌, List, ◌∷◌, ◌++◌, reverse, None, Some, slice_get}
+use Rattle.std.specs.Prelude.{ℕ, ◌+◌, ◌≤◌, ◌≡◌, List, ◌∷◌, ◌++◌, reverse, Some, slice_get}
 use Rattle.journal_core.specs.Views.{HeadView}
 use Rattle.journal_core.specs.Limits.{head_of}
 use Rattle.journal_core.specs.Reads.{served}
@@ -10,7 +10,7 @@ use Rattle.journal_core.specs.declared.request.Request.{Request}
 use Rattle.node_world.specs.Majority.{Member, IsMajority}
 use Rattle.node_world.specs.Entries.{Entry, Earlier, moved, node_after}
 use Rattle.node_world.specs.Run.{IsRun}
-use Rattle.node_world.specs.Safe.{IsChosen, IsOnLine, IsOf, End, IsOneOf, IsSafe}
+use Rattle.node_world.specs.Safe.{IsChosen, IsOnLine, IsOf, IsSafe}
 
 -- a node after entries, oldest first
 abbrev pub node_at : ℕ → List Entry → NodeState
@@ -31,12 +31,8 @@ UnmovedLeavesStates =
     (node : ℕ) (past : List Entry) (e : Entry) → moved (node_after e.node past) e.move ≡ node_after e.node past
     → node_after node (e ∷ past) ≡ node_after node past
 
--- no actor has a namespace
-abbrev pub NoRows : List End → Type 0
-NoRows ends = (e : End) → IsOneOf e ends → e.last ≡ None
-
 abbrev pub EveryRunIsSafe : Type 0
-EveryRunIsSafe = (n : ℕ) (entries : List Entry) (ends : List End) → IsRun n entries → NoRows ends → IsSafe n entries ends
+EveryRunIsSafe = (n : ℕ) (entries : List Entry) → IsRun n entries → IsSafe n entries
 
 -- ## The line
 abbrev pub ChosenOnce : Type 0

@@ -16,3 +16,4 @@ pub mod WorldLaws
 pub mod Complete
 pub mod WorldExamples
 pub mod WorldViews
+pub mod Sized

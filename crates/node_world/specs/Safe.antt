@@ -102,31 +102,7 @@ FinalisedAgree past =
     (i j : ℕ) (g h : Segment) → IsHeld past i g → IsHeld past j h → g.is_final ≡ true → h.is_final ≡ true → g.start ≡ h.start
     → g.bodies ≡ h.bodies
 
--- What an actor with a namespace ends with: the txid that it reached, and its rows.
-pub record Replayed : Type 0 where
-  pub position : ℕ
-  pub rows : List (List ℕ)
-
-pub record End : Type 0 where
-  pub last : Option Replayed
-
--- These rows are the replay of this log. Replay is defined with the namespace. There is none yet, so no rows are a replay, and an actor
--- that ends with rows isn't safe.
-pub data IsReplay (log : List (List ℕ)) (rows : List (List ℕ)) : Type 0 where
-
-abbrev pub IsOneOf : End → List End → Type 0
-IsOneOf e [] = ⊥
-IsOneOf e (x ∷ xs) = (x ≡ e) ⊎ IsOneOf e xs
-
--- each end's rows are the replay of the line up to its position
-abbrev pub EndsReplay : ℕ → List Entry → List End → Type 0
-EndsReplay n past ends =
-    (e : End) (r : Replayed) → IsOneOf e ends → e.last ≡ Some r
-    → (log : List (List ℕ)) × (length log ≡ r.position)
-    × ((txid : ℕ) (body : List ℕ) → HasBody 1 log txid body → IsOnLine n past txid body) × IsReplay log r.rows
-
--- over entries oldest first, and what the actors end with
-pub record IsSafe (n : ℕ) (entries : List Entry) (ends : List End) : Type 0 where
+-- over entries oldest first
+pub record IsSafe (n : ℕ) (entries : List Entry) : Type 0 where
   pub acknowledged_survive : AcknowledgedSurvive n (reverse entries)
   pub finalised_agree : FinalisedAgree (reverse entries)
-  pub ends_replay : EndsReplay n (reverse entries) ends

@@ -11,8 +11,7 @@ use Rattle.node_world.specs.declared.event.Event.TheVariants.{Begin, Call, Late,
 use Rattle.node_world.specs.declared.seen.Seen.TheVariants.{Idle, NotNext}
 use Rattle.node_world.specs.Moving.{moving_of}
 use Rattle.node_world.specs.Run.{IsRun}
-use Rattle.node_world.specs.Safe.{End, IsSafe}
-use Rattle.node_world.specs.Laws.{NoRows}
+use Rattle.node_world.specs.Safe.{IsSafe}
 use Rattle.node_world.specs.World.{CallMade, World, new_world, cell_at, acting_at, is_reading, world_step, world_after, AreEvents}
 
 -- what reached the nodes, less what doesn't move, is a run
@@ -21,9 +20,7 @@ WorldStepsAreARun = (n actors : ℕ) (events : List Event) → AreEvents n actor
 
 -- and so it is safe
 abbrev pub WorldsAreSafe : Type 0
-WorldsAreSafe =
-    (n actors : ℕ) (events : List Event) (ends : List End) → AreEvents n actors events → NoRows ends
-    → IsSafe n (moving_of (world_after (new_world n actors) events).trace) ends
+WorldsAreSafe = (n actors : ℕ) (events : List Event) → AreEvents n actors events → IsSafe n (moving_of (world_after (new_world n actors) events).trace)
 
 -- an event that can't come leaves all as it was
 abbrev pub NotNextChangesNothing : Type 0

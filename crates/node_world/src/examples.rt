@@ -49,7 +49,7 @@ pub fn promised_twice_is_no_run()
 
 /// Two nodes with different final segments: not safe.
 pub fn split_is_not_safe()
-    ensures { IsSafe 2 split [] → ⊥ }
+    ensures { IsSafe 2 split → ⊥ }
 {}
 
 /// In a world of one node and one actor, a takeover that the node serves was taken by its last call.

@@ -1,16 +1,19 @@
 -- What is known of a report.
-use Rattle.std.proofs.Common.{◌≡◌, ◌≤◌, ℕ, List, [], length, sym, refl, subst, ◌∙◌, ap}
-use Rattle.node_world.specs.Moving.{moving_of}
+use Rattle.std.proofs.Common.{◌≡◌, ◌≤◌, ℕ, List, length, sym, refl, subst, ◌∙◌, ap}
 use Rattle.node_world.specs.Run.{IsRun}
-use Rattle.node_world.specs.Laws.{EveryRunIsSafe}
 use Rattle.mesh.specs.declared.whole.Mesh.{Mesh}
 use Rattle.mesh.specs.declared.end.End.{End}
+use Rattle.mesh.specs.Agree.{Agrees}
+use Rattle.mesh.specs.Order.{epoch_order}
+use Rattle.mesh.specs.Laws.{OrderIsRun}
 use Rattle.script_text.specs.Views.{ScriptView}
 use Rattle.script_text.specs.Grammar.{IsScriptText}
 use Rattle.cluster_runner.specs.Lines.{lines_of, IsPlayable}
 use Rattle.cluster_runner.specs.Plays.{mesh_of, ends_of}
 use Rattle.cluster_runner.specs.Kept.{IsPlayed}
-use Rattle.cluster_runner.specs.Laws.{PlaysAgree, PlaysFollow, PlaysAreRuns}
+use Rattle.cluster_runner.specs.Laws.{PlaysAgree, PlaysFollow, MeshesAreSafe}
+use Rattle.cluster_runner.specs.Safe.{IsSafeWithEnds}
+use Rattle.cluster_runner.specs.Follows.{FollowsScript}
 use Rattle.report_text.specs.Text.{text_of}
 use Rattle.report_text.specs.declared.answer.Report.{Report}
 use Rattle.report_text.specs.declared.answer.Report.TheVariants.{Text, TooLong}
@@ -21,23 +24,24 @@ use Rattle.cluster_runner.specs.Laws.{OnePlay}
 use Rattle.qj_cli.specs.Report.{IsReport, IsReportOf, ScriptsHaveOneReport}
 
 pub reported : (bytes text : List ℕ) (s : ScriptView) (m : Mesh) (ends : List End) → IsScriptText bytes s → IsPlayable s
-    → IsPlayed s.nodes (lines_of s) m ends → text ≡ text_of m ends → PlaysAgree → PlaysFollow → PlaysAreRuns → EveryRunIsSafe → IsReport bytes text
+    → IsPlayed s.nodes (lines_of s) m ends → text ≡ text_of m ends → PlaysAgree → PlaysFollow → OrderIsRun → MeshesAreSafe → IsReport bytes text
 reported bytes text s m ends reads playable played is agree follow run safe =
-    let moves : IsRun s.nodes (moving_of played.play.trace) = run s played.play playable played.plays in
+    let agrees : Agrees (mesh_of played.play) = agree s played.play playable played.plays in
+    let follows : FollowsScript s (mesh_of played.play) (ends_of played.play) = follow s played.play playable played.plays in
     record {
       script = s;
       reads = reads;
       play = played.play;
       plays = played.plays;
       printed = is ∙ ap (λ x. text_of x ends) played.mesh ∙ ap (λ x. text_of (mesh_of played.play) x) played.ends_are;
-      agrees = agree s played.play playable played.plays;
-      follows = follow s played.play playable played.plays;
-      run = moves;
-      safe = safe s.nodes (moving_of played.play.trace) [] moves (λ e none. absurd none);
+      agrees = agrees;
+      follows = follows;
+      run = subst (λ n. IsRun n (epoch_order (mesh_of played.play))) follows.nodes_are (run (mesh_of played.play) agrees);
+      safe = subst (λ n. IsSafeWithEnds n (epoch_order (mesh_of played.play)) (ends_of played.play)) follows.nodes_are (safe (mesh_of played.play) (ends_of played.play) agrees);
     }
 
 pub reported_as : (bytes : List ℕ) (r : Report) (s : ScriptView) (m : Mesh) (ends : List End) → IsScriptText bytes s → IsPlayable s
-    → IsPlayed s.nodes (lines_of s) m ends → Reports r (text_of m ends) → PlaysAgree → PlaysFollow → PlaysAreRuns → EveryRunIsSafe → IsReportOf bytes r
+    → IsPlayed s.nodes (lines_of s) m ends → Reports r (text_of m ends) → PlaysAgree → PlaysFollow → OrderIsRun → MeshesAreSafe → IsReportOf bytes r
 reported_as bytes (Text text) s m ends reads playable played is agree follow run safe = record {
   report = reported bytes text.items s m ends reads playable played is.0 agree follow run safe;
   within = subst (λ t. length t ≤ longest_report) (sym is.0) is.1;

@@ -1,20 +1,21 @@
 -- What the report of a script's bytes is.
-use Rattle.std.specs.Prelude.{ℕ, ◌≡◌, ◌<◌, ◌≤◌, List, [], length}
-use Rattle.node_world.specs.Moving.{moving_of}
+use Rattle.std.specs.Prelude.{ℕ, ◌≡◌, ◌<◌, ◌≤◌, List, length}
 use Rattle.node_world.specs.Run.{IsRun}
-use Rattle.node_world.specs.Safe.{IsSafe}
 use Rattle.mesh.specs.Agree.{Agrees}
+use Rattle.mesh.specs.Order.{epoch_order}
 use Rattle.script_text.specs.Views.{ScriptView}
 use Rattle.script_text.specs.Grammar.{IsScriptText}
 use Rattle.cluster_runner.specs.Plays.{Play, Plays, mesh_of, ends_of}
 use Rattle.cluster_runner.specs.Follows.{FollowsScript}
+use Rattle.cluster_runner.specs.Safe.{IsSafeWithEnds}
 use Rattle.report_text.specs.Text.{text_of}
 use Rattle.report_text.specs.Limit.{longest_report}
 use Rattle.report_text.specs.declared.answer.Report.{Report}
 use Rattle.report_text.specs.declared.answer.Report.TheVariants.{Text, TooLong}
 
 -- The bytes are a script's, and the text is the report of the one play of that script. Its lists agree, and they are what the
--- script's lines ask for. What moved its nodes is a run of the journal world, and a safe one. No actor has a namespace yet.
+-- script's lines ask for. What moved its nodes, in the order of the epochs, is a run of the journal world, and a safe one with what its
+-- actors end with.
 pub record IsReport (bytes text : List ℕ) : Type 0 where
   pub script : ScriptView
   pub reads : IsScriptText bytes script
@@ -23,8 +24,8 @@ pub record IsReport (bytes text : List ℕ) : Type 0 where
   pub printed : text ≡ text_of (mesh_of play) (ends_of play)
   pub agrees : Agrees (mesh_of play)
   pub follows : FollowsScript script (mesh_of play) (ends_of play)
-  pub run : IsRun script.nodes (moving_of play.trace)
-  pub safe : IsSafe script.nodes (moving_of play.trace) []
+  pub run : IsRun script.nodes (epoch_order (mesh_of play))
+  pub safe : IsSafeWithEnds script.nodes (epoch_order (mesh_of play)) (ends_of play)
 
 -- a report that is printed
 pub record IsPrinted (bytes text : List ℕ) : Type 0 where

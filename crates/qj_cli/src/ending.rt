@@ -9,9 +9,9 @@ use crate::laws::scripts_are_playable;
 use crate::outcome::{Outcome, fault_line};
 use crate::status::Status;
 use crate::usage::usage_fault;
-use cluster_runner::{a_play_agrees, a_play_follows, a_play_is_a_run, play};
+use cluster_runner::{a_mesh_that_agrees_is_safe, a_play_agrees, a_play_follows, play};
 use journal_core::OutOfMemory;
-use node_world::laws::every_run_is_safe;
+use mesh::epoch_order_is_a_run;
 use qj_num::put_decimal;
 use qj_outside::{Input, Source, read_all};
 use report_text::{Report, report_of};
@@ -50,8 +50,8 @@ fn report(alloc: Global, script: &Script) -> Result<Report, OutOfMemory>
     scripts_are_playable();
     a_play_agrees();
     a_play_follows();
-    a_play_is_a_run();
-    every_run_is_safe();
+    epoch_order_is_a_run();
+    a_mesh_that_agrees_is_safe();
     let played = play(alloc, script)?;
     let report = report_of(alloc, &played.mesh, &played.ends)?;
     Ok(report)

@@ -1,7 +1,7 @@
 use Rattle.std.proofs.Common.{◌≡◌, ◌≤◌, length, Some, sym, ap, ◌∙◌, arith}
 use Rattle.writer_core.specs.Writer.{next_call, writer_heard}
 use Rattle.mesh.specs.Makers.{heard_of}
-use Rattle.mesh.proofs.WriterRange.{call_within}
+use Rattle.node_world.proofs.WriterRange.{call_within}
 use Rattle.cluster_runner.specs.Kept.{delivery_to, hears}
 use Rattle.cluster_runner.proofs.ClusterLaws.{there_is, same_is, call_made}
 use Rattle.cluster_runner.proofs.cluster.call.Goals as goal

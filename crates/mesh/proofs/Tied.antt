@@ -1,13 +1,13 @@
 -- A caller's record and a node's history, when either or both get one line more.
-use Rattle.std.proofs.Common.{◌≡◌, ℕ, ◌+◌, ◌<◌, ◌≤◌, List, [], ◌∷◌, ◌++◌, true, false, cond, filter, map, refl, sym, ap, ◌∙◌, subst, arith, ◌⊎◌, inl, inr}
+use Rattle.std.proofs.Common.{◌≡◌, ℕ, ◌≤◌, List, [], ◌∷◌, ◌++◌, Bool, true, false, cond, filter, map, Contains, refl, sym, ap, ◌∙◌, subst, inl, inr}
 use Rattle.std.specs.Prelude.{◌≢◌, ◌==◌}
 use Rattle.node_world.specs.declared.history_line.HistoryLine.{HistoryLine}
 use Rattle.node_world.specs.declared.record.Record.{Record}
 use Rattle.node_world.specs.Cell.{Cell, cell_takes, IsLocalRun, cell_after}
 use Rattle.node_world.specs.Moving.{Placed}
 use Rattle.mesh.specs.Matches.{reaches, reached, lines_of, IsSame, AreSame, CallersWithin}
-use Rattle.cluster_runner.specs.Plays.{history_of}
-use Rattle.mesh.proofs.Lists.{filter_snoc, cond_true, cond_false, Alike, alike, same_test, other_test}
+use Rattle.mesh.specs.Traces.{history_of}
+use Rattle.mesh.proofs.Lists.{filter_snoc, cond_true, cond_false, Alike, alike, same_test, other_test, contains_head, contains_tail}
 
 -- ## Histories
 map_snoc : (xs : List Placed) (x : Placed) → map (λ (y : Placed). y.line) (xs ++ x ∷ []) ≡ map (λ (y : Placed). y.line) xs ++ x.line ∷ []
@@ -89,42 +89,13 @@ both k c rs r t x e f s h = by (alike x.node k)
         (ap (lines_of c) (history_at k t x g.1) ∙ lines_at c (history_of k t) x.line e) (same_snoc (reached k rs) (lines_of c (history_of k t)) r x.line h s)
     by (inr g) = along (reached k rs) _ (lines_of c (history_of k t)) _ (reached_off k rs r (f ∙ g.0)) (ap (lines_of c) (history_off k t x g.1)) h
 
--- ## The callers of a history: actors below m, and the operator
-unfoldable pub CallersAre : ℕ → ℕ → List HistoryLine → Type 0
-CallersAre m op [] = Unit {0}
-CallersAre m op (h ∷ hs) = ((h.caller < m) ⊎ (h.caller ≡ op)) × CallersAre m op hs
-
-pub callers_snoc : (m op : ℕ) (hs : List HistoryLine) (h : HistoryLine) → CallersAre m op hs → (h.caller < m) ⊎ (h.caller ≡ op) → CallersAre m op (hs ++ h ∷ [])
-unfolding CallersAre
-callers_snoc m op [] h w e = (e, tt)
-callers_snoc m op (x ∷ hs) h w e = (w.0, callers_snoc m op hs h w.1 e)
-
-pub callers_more : (m op : ℕ) (hs : List HistoryLine) → CallersAre m op hs → CallersAre (m + 1) op hs
-unfolding CallersAre
-callers_more m op [] w = tt
-callers_more m op (x ∷ hs) w = (by w.0, callers_more m op hs w.1)
+-- ## The callers of a history
+pub callers_within : (op k : ℕ) (t : List Placed) → ((x : Placed) → Contains t x → x.line.caller ≤ op) → CallersWithin op (history_of k t)
+unfolding CallersWithin history_of
+callers_within op k [] h = tt
+callers_within op k (x ∷ t) h = by (x.node == k) (callers_within op k t (λ y i. h y (contains_tail x t y i)))
   where
-    by : (x.caller < m) ⊎ (x.caller ≡ op) → (x.caller < m + 1) ⊎ (x.caller ≡ op)
-    by (inl l) = inl (omega (arith, l))
-    by (inr e) = inr e
-
-pub callers_within : (m op : ℕ) (hs : List HistoryLine) → m ≤ op → CallersAre m op hs → CallersWithin op hs
-unfolding CallersAre CallersWithin
-callers_within m op [] l w = tt
-callers_within m op (x ∷ hs) l w = (by w.0, callers_within m op hs l w.1)
-  where
-    by : (x.caller < m) ⊎ (x.caller ≡ op) → x.caller ≤ op
-    by (inl g) = omega (arith, g, l)
-    by (inr e) = omega (arith, e)
-
-pub no_lines_of : (m op c : ℕ) (hs : List HistoryLine) → m ≤ c → c ≢ op → CallersAre m op hs → lines_of c hs ≡ []
-unfolding CallersAre lines_of
-no_lines_of m op c [] l off w = refl
-no_lines_of m op c (x ∷ hs) l off w = by w.0 (no_lines_of m op c hs l off w.1)
-  where
-    apart : (x.caller < m) ⊎ (x.caller ≡ op) → x.caller ≢ c
-    apart (inl g) e = omega (arith, g, e, l)
-    apart (inr g) e = off (sym e ∙ g)
-
-    by : (x.caller < m) ⊎ (x.caller ≡ op) → filter (λ (y : HistoryLine). y.caller == c) hs ≡ [] → cond (x.caller == c) (x ∷ filter (λ (y : HistoryLine). y.caller == c) hs) (filter (λ (y : HistoryLine). y.caller == c) hs) ≡ []
-    by g h = cond_false (x.caller == c) _ _ (other_test x.caller c (apart g)) ∙ h
+    by : (b : Bool) → CallersWithin op (map (λ (y : Placed). y.line) (filter (λ (y : Placed). y.node == k) t))
+        → CallersWithin op (map (λ (y : Placed). y.line) (cond b (x ∷ filter (λ (y : Placed). y.node == k) t) (filter (λ (y : Placed). y.node == k) t)))
+    by true g = (h x (contains_head x t x refl), g)
+    by false g = g

@@ -1,0 +1,22 @@
+// Worked meshes, computed by the check.
+ghost use Rattle.std.specs.Prelude.{◌≡◌, List};
+ghost use Rattle.node_world.specs.Moving.{Placed};
+ghost use Rattle.node_world.specs.Run.{IsRun};
+ghost use Rattle.mesh.specs.Agree.{Agrees};
+ghost use Rattle.mesh.specs.Order.{epoch_order};
+ghost use Rattle.mesh.specs.Traces.{IsTrace};
+ghost use Rattle.mesh.specs.Examples.{crossed, crossed_order, empty_log, empty_order};
+
+/// Two takeovers that crossed at two nodes: all lists agree, no one order of all lines fits them, and there is an epoch order.
+pub fn shows_crossed_takeovers()
+    ensures agrees { Agrees crossed }
+    ensures no_order { (t : List Placed) → IsTrace crossed t → ⊥ }
+    ensures epochs { epoch_order crossed ≡ crossed_order }
+{}
+
+/// A log without a body moves its node, but no run has it, so lists with one don't agree.
+pub fn refuses_log_without_body()
+    ensures order { epoch_order empty_log ≡ empty_order }
+    ensures run { IsRun 1 empty_order → ⊥ }
+    ensures agrees { Agrees empty_log → ⊥ }
+{}
