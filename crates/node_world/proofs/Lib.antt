@@ -33,6 +33,7 @@ pub mod Proposals
 pub mod FinalCopies
 pub mod Openings
 pub mod Chain
+pub mod Finalised
 pub mod Checker
 pub mod Worked
 pub mod Fronts

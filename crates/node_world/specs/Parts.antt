@@ -3,7 +3,7 @@
 use Rattle.std.specs.Prelude.{ℕ, ◌+◌, ◌<◌, ◌≤◌, ◌≡◌, ◌⊎◌, true, false, List, ◌∷◌, ◌++◌, length, reverse, Option, None, Some, slice_get}
 use Rattle.journal_core.specs.Views.{HeadView, BatchView}
 use Rattle.journal_core.specs.Limits.{head_of}
-use Rattle.journal_core.specs.Segments.{find_segment, newest, info_of, has_edit, HasAt}
+use Rattle.journal_core.specs.Segments.{find_segment, newest, info_of, has_edit, end_of, HasAt}
 use Rattle.journal_core.specs.Step.{last_or_start}
 use Rattle.journal_core.specs.declared.node_state.NodeState.{NodeState}
 use Rattle.journal_core.specs.declared.segment.Segment.{Segment}
@@ -127,6 +127,22 @@ FinalCopiesAreKept =
     (n : ℕ) (entries : List Entry) (i j : ℕ) (g h : Segment) → IsRun n entries
     → IsHeld (reverse entries) i g → IsHeld (reverse entries) j h → g.is_final ≡ true → h.start ≡ g.start → g.epoch < h.epoch
     → h.bodies ≡ g.bodies
+
+-- a `journal` round of this segment under this epoch, with a body, was done
+abbrev pub IsAcknowledgedIn : ℕ → List Entry → ℕ → ℕ → Type 0
+IsAcknowledgedIn n past epoch start =
+    (head : HeadView) × (batch : BatchView) × (head.epoch ≡ epoch) × (1 ≤ length batch.bodies)
+    × ((nodes : List ℕ) × IsMajority n nodes × ((node : ℕ) → Member node nodes → SaidOk past node (Journal head start batch)))
+
+-- A node that answered a finalise with Ok holds the segment, final and to that end, unless a later start has an acknowledged edit under an epoch that
+-- isn't above the node's promise.
+abbrev pub FinalisedStays : Type 0
+FinalisedStays =
+    (n : ℕ) (entries : List Entry) (node : ℕ) (head : HeadView) (start end : ℕ) → IsRun n entries
+    → SaidOk (reverse entries) node (Finalize head start end)
+    → ((g : Segment) × (find_segment start (node_after node (reverse entries)).segments ≡ Some g) × (g.is_final ≡ true) × (end_of g ≡ end))
+    ⊎ ((epoch : ℕ) × (later : ℕ) × (epoch ≤ (node_after node (reverse entries)).promised) × (start < later)
+    × IsAcknowledgedIn n (reverse entries) epoch later)
 
 -- ## The newest start
 abbrev pub NewestNeverFalls : Type 0

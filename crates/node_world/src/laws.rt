@@ -1,6 +1,6 @@
 // What holds of every run of the journal world. Each law is the contract of a function that does nothing.
 ghost use Rattle.node_world.specs.Laws.{PrefixIsRun, MajoritiesShareANode, PromiseNeverFalls, UnmovedLeavesStates, EveryRunIsSafe, ChosenOnce, ChosenIsOnLine, LineGoesOn, ServedIsOnLine, KnownCommittedIsOnLine, CarriedCommittedIsOnLine, KnownCommittedIsChosen, CarriedCommittedIsChosen};
-ghost use Rattle.node_world.specs.Parts.{PromisesHold, AnswersArePromised, OneOwnerAnEpoch, WrittenOnce, StartsAreChained, SegmentsAreChained, StartsAreNext, ChosenSurvives, StartsAreAbove, FinalisedIsChosen, NewestNeverFalls, RecoveryIsWhole, LineHasAuthors, LineIsPutByJournals, OpenedOrAccepted, ProposalsAreTold, OnlyPurgesRemove, FinalCopiesHaveAll, FinalCopiesAreKept, OpeningsHaveACause};
+ghost use Rattle.node_world.specs.Parts.{PromisesHold, AnswersArePromised, OneOwnerAnEpoch, WrittenOnce, StartsAreChained, SegmentsAreChained, StartsAreNext, ChosenSurvives, StartsAreAbove, FinalisedIsChosen, NewestNeverFalls, RecoveryIsWhole, LineHasAuthors, LineIsPutByJournals, OpenedOrAccepted, ProposalsAreTold, OnlyPurgesRemove, FinalCopiesHaveAll, FinalCopiesAreKept, OpeningsHaveACause, FinalisedStays};
 ghost use Rattle.node_world.specs.WorldLaws.{WorldStepsAreARun, WorldsAreSafe, NotNextChangesNothing, SeenExactly};
 ghost use Rattle.node_world.specs.Complete.{TakeoversComplete};
 
@@ -173,6 +173,12 @@ pub fn final_copies_are_kept()
 /// a finalise that was done under the same epoch.
 pub fn openings_have_a_cause()
     ensures { OpeningsHaveACause }
+{}
+
+/// A node that answered a finalise with Ok holds the segment, final and to that end, unless a later start has an acknowledged edit under
+/// an epoch that isn't above the node's promise.
+pub fn finalised_stays()
+    ensures { FinalisedStays }
 {}
 
 /// Whatever events come to a world, what reached its nodes, less what doesn't move, is a run.
