@@ -7,7 +7,7 @@ use Rattle.journal_core.specs.Step.{restarted}
 use Rattle.journal_core.specs.Answers.{Rose}
 use Rattle.segment_file.specs.declared.segment_row.SegmentRow.{SegmentRow}
 use Rattle.node_files.specs.Durable.{StandsAs}
-use Rattle.node_files.specs.Opening.{IsUnfilled}
+use Rattle.node_files.specs.Opening.{IsFirstBad, IsUnfilled}
 use Rattle.journal_node.specs.Node.{IsUp}
 use Rattle.journal_node.specs.declared.open_fail.OpenFail.{OpenFail}
 use Rattle.journal_node.specs.declared.open_fail.OpenFail.TheVariants as fail
@@ -38,11 +38,14 @@ is_fault (fail.DiskFault disk) = true
 is_fault (fail.BadFile disk name) = false
 is_fault (fail.OutOfMemory disk) = false
 
--- the files stand for no state, or for one that no node has
-abbrev pub IsRefusedOpening : {D : Type 0} → Files → OpenFail D → Type 0
-IsRefusedOpening old (fail.BadFile disk name) = ((s : NodeState) → StandsAs old s → ⊥) ⊎ IsUnfilled old name
-IsRefusedOpening old (fail.DiskFault disk) = Unit {0}
-IsRefusedOpening old (fail.OutOfMemory disk) = Unit {0}
+-- the files stand for no state, and the name is that of the first bad one; or they stand for a state that no node has
+abbrev pub IsRefusedFile : Files → Files → List ℕ → Type 0
+IsRefusedFile old new name = (((s : NodeState) → StandsAs old s → ⊥) × IsFirstBad old new name) ⊎ IsUnfilled old name
+
+abbrev pub IsRefusedOpening : {D : Type 0} → Files → Files → OpenFail D → Type 0
+IsRefusedOpening old new (fail.BadFile disk name) = IsRefusedFile old new name
+IsRefusedOpening old new (fail.DiskFault disk) = Unit {0}
+IsRefusedOpening old new (fail.OutOfMemory disk) = Unit {0}
 
 -- the count of faults doesn't fall, and rises at a fault, which a steady disk never has
 pub record IsCauseOf (before now : ℕ) (was_steady is_steady : Type 0) (fault : Bool) : Type 0 where

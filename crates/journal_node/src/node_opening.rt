@@ -72,7 +72,7 @@ impl<D: Disk> JournalNode<D> {
         ensures tells_ok { IfOk result (λ n. D.tells disk ↔ D.tells n.disk) }
         ensures tells_err { IfErr result (λ e. D.tells disk ↔ D.tells (disk_in e)) }
         ensures opened { D.tells disk → IfOk result (λ n. IsOpenedNode (D.view disk).seen (D.view n.disk) n.memory n.rows) }
-        ensures bad { D.tells disk → IfErr result (λ e. IsRefusedOpening (D.view disk).seen e) }
+        ensures bad { D.tells disk → IfErr result (λ e. IsRefusedOpening (D.view disk).seen (D.view (disk_in e)).seen e) }
         ensures moments_ok { D.tells disk → IfOk result (λ n. LeavesOnly (D.view disk) (D.view n.disk) (StandsAsBefore (D.view disk))) }
         ensures moments_err { D.tells disk → IfErr result (λ e. LeavesOnly (D.view disk) (D.view (disk_in e)) (StandsAsBefore (D.view disk))) }
         ensures kept { D.tells disk → IfErr result (λ e. Keeps (D.view disk).seen (D.view (disk_in e)).seen) }

@@ -95,14 +95,14 @@ memory_told s before now v w told =
 pub end_refused_lost : (name : List ℕ) (s : Status) (before now : Option (List ℕ)) (v w : ℕ) → TellsEnd served.OutOfMemory s before now v w → TellsBadFile name s before now v w
 end_refused_lost name s before now v w told = inr (memory_told s before now v w told)
 
-bad_unopened : {D : Type 0} (tells : Type 0) (files : Files) (s : Status) (before now : Option (List ℕ)) (v w : ℕ) (disk : D) (name : List ℕ)
-    → (tells → IsRefusedOpening files (fail.BadFile disk name)) → TellsBadFile name s before now v w → IsUnopened tells files s (λ line. WritesLine line before now v w)
-bad_unopened tells files s before now v w disk name bad (inl told) =
-    subst (λ (x : Status). IsUnopened tells files x (λ line. WritesLine line before now v w)) (sym told.0) (name, bad, told.1)
-bad_unopened tells files s before now v w disk name bad (inr told) = subst (λ (x : Status). IsUnopened tells files x (λ line. WritesLine line before now v w)) (sym told.0) told.1
+bad_unopened : {D : Type 0} (tells : Type 0) (files new : Files) (s : Status) (before now : Option (List ℕ)) (v w : ℕ) (disk : D) (name : List ℕ)
+    → (tells → IsRefusedOpening files new (fail.BadFile disk name)) → TellsBadFile name s before now v w → IsUnopened tells files new s (λ line. WritesLine line before now v w)
+bad_unopened tells files new s before now v w disk name bad (inl told) =
+    subst (λ (x : Status). IsUnopened tells files new x (λ line. WritesLine line before now v w)) (sym told.0) (name, bad, told.1)
+bad_unopened tells files new s before now v w disk name bad (inr told) = subst (λ (x : Status). IsUnopened tells files new x (λ line. WritesLine line before now v w)) (sym told.0) told.1
 
-pub unopened_is : {D : Type 0} (tells : Type 0) (files : Files) (s : Status) (before now : Option (List ℕ)) (v w : ℕ) (e : OpenFail D)
-    → (tells → IsRefusedOpening files e) → TellsUnopened e s before now v w → IsUnopened tells files s (λ line. WritesLine line before now v w)
-unopened_is tells files s before now v w (fail.DiskFault disk) bad told = subst (λ (x : Status). IsUnopened tells files x (λ line. WritesLine line before now v w)) (sym told.0) told.1
-unopened_is tells files s before now v w (fail.BadFile disk name) bad told = bad_unopened tells files s before now v w disk name bad told
-unopened_is tells files s before now v w (fail.OutOfMemory disk) bad told = subst (λ (x : Status). IsUnopened tells files x (λ line. WritesLine line before now v w)) (sym told.0) told.1
+pub unopened_is : {D : Type 0} (tells : Type 0) (files new : Files) (s : Status) (before now : Option (List ℕ)) (v w : ℕ) (e : OpenFail D)
+    → (tells → IsRefusedOpening files new e) → TellsUnopened e s before now v w → IsUnopened tells files new s (λ line. WritesLine line before now v w)
+unopened_is tells files new s before now v w (fail.DiskFault disk) bad told = subst (λ (x : Status). IsUnopened tells files new x (λ line. WritesLine line before now v w)) (sym told.0) told.1
+unopened_is tells files new s before now v w (fail.BadFile disk name) bad told = bad_unopened tells files new s before now v w disk name bad told
+unopened_is tells files new s before now v w (fail.OutOfMemory disk) bad told = subst (λ (x : Status). IsUnopened tells files new x (λ line. WritesLine line before now v w)) (sym told.0) told.1

@@ -8,8 +8,7 @@ use Rattle.qj_disk.specs.View.{View, AllLeave, LeavesOnly}
 use Rattle.journal_core.specs.declared.node_state.NodeState.{NodeState}
 use Rattle.journal_core.specs.Step.{restarted}
 use Rattle.node_files.specs.Durable.{StandsAs, AreFilled}
-use Rattle.node_files.specs.Opening.{IsUnfilled}
-use Rattle.journal_node.specs.Opening.{Keeps, StandsAsBefore}
+use Rattle.journal_node.specs.Opening.{IsRefusedFile, Keeps, StandsAsBefore}
 use Rattle.node_session.specs.Session.{IsSession}
 use Rattle.node_session.specs.declared.served.Served.{Served}
 use Rattle.node_session.specs.declared.served.Served.TheVariants as served
@@ -102,16 +101,13 @@ pub record OpensNone (tells : Type 0) (disk_before disk_now : View) (told left :
   pub kept : tells → Keeps disk_before.seen disk_now.seen
   pub moments : tells → LeavesOnly disk_before disk_now (StandsAsBefore disk_before)
 
--- the files stand for no state, or for one that no node has
-abbrev pub AreRefused : Files → List ℕ → Type 0
-AreRefused files name = ((s : NodeState) → StandsAs files s → ⊥) ⊎ IsUnfilled files name
-
--- why no node was opened, which is the status, and its line: a file isn't in its format, the disk failed, or memory ran out
-abbrev pub IsUnopened : Type 0 → Files → Status → (List ℕ → Type 0) → Type 0
-IsUnopened tells files status.BadBytes Writes = (name : List ℕ) × (tells → AreRefused files name) × Writes (bad_file_line name)
-IsUnopened tells files status.DiskFault Writes = Writes (error_line (codes "DiskFault"))
-IsUnopened tells files status.OutOfMemory Writes = Writes (error_line (codes "OutOfMemory"))
-IsUnopened tells files _ Writes = ⊥
+-- why no node was opened, which is the status, and its line: a file isn't in its format, and it is the first such file; the disk failed; or memory
+-- ran out
+abbrev pub IsUnopened : Type 0 → Files → Files → Status → (List ℕ → Type 0) → Type 0
+IsUnopened tells files now status.BadBytes Writes = (name : List ℕ) × (tells → IsRefusedFile files now name) × Writes (bad_file_line name)
+IsUnopened tells files now status.DiskFault Writes = Writes (error_line (codes "DiskFault"))
+IsUnopened tells files now status.OutOfMemory Writes = Writes (error_line (codes "OutOfMemory"))
+IsUnopened tells files now _ Writes = ⊥
 
 -- How serving a node ended: a node was served, or none was opened.
 pub data Serves (tells : Type 0) (disk_before disk_now : View) (told left : Option (List ℕ)) (reads_before reads_now : ℕ) (s : Status)
@@ -119,5 +115,5 @@ pub data Serves (tells : Type 0) (disk_before disk_now : View) (told left : Opti
   opened : ServesNode tells disk_before disk_now told left reads_before reads_now s before now writes_before writes_now
       → Serves tells disk_before disk_now told left reads_before reads_now s before now writes_before writes_now
   unopened : OpensNone tells disk_before disk_now told left reads_before reads_now
-      → IsUnopened tells disk_before.seen s (λ line. WritesLine line before now writes_before writes_now)
+      → IsUnopened tells disk_before.seen disk_now.seen s (λ line. WritesLine line before now writes_before writes_now)
       → Serves tells disk_before disk_now told left reads_before reads_now s before now writes_before writes_now

@@ -1,4 +1,5 @@
 use Rattle.std.proofs.Common.{sym, subst, refl}
+use Rattle.journal_node.specs.Opening.{disk_in}
 use Rattle.qj_cli.specs.Serving.{Serves, unopened}
 use Rattle.qj_cli.proofs.ServingLaws.{unopened_is}
 use Rattle.qj_cli.proofs.NodeLaws.{serves_opened}
@@ -23,6 +24,6 @@ returns-in-Err-clause-served g c =
     (g.K.Sink.taken c.args.sink.now) (g.K.Sink.taken c.end_unopened.new.sink) (g.K.Sink.faults c.args.sink.now) (g.K.Sink.faults c.end_unopened.new.sink))
     (sym c.end_unopened.ensures.disk)
     (unopened (record { unread = refl; no_read_fault = refl; kept = c.in-Err.ensures.kept; moments = c.in-Err.ensures.moments_err })
-    (unopened_is (g.D.Disk.tells c.args.disk) (g.D.Disk.view c.args.disk).seen c.end_unopened.result.status
+    (unopened_is (g.D.Disk.tells c.args.disk) (g.D.Disk.view c.args.disk).seen (g.D.Disk.view (disk_in c.in-Err.fail)).seen c.end_unopened.result.status
     (g.K.Sink.taken c.args.sink.now) (g.K.Sink.taken c.end_unopened.new.sink) (g.K.Sink.faults c.args.sink.now) (g.K.Sink.faults c.end_unopened.new.sink)
     c.in-Err.fail c.in-Err.ensures.bad c.end_unopened.ensures.told))
