@@ -1,0 +1,140 @@
+# The page: its colours and classes, the legend, and all that is drawn, as a file of HTML or, with -v format=svg, as one SVG.
+
+END {
+  if (is_refused) exit 1
+  if (NR == 0) fail("the input is empty")
+  if (part != "done") {
+    NR = NR + 1
+    fail("the report ends before `end`")
+  }
+  rank_epochs()
+  place_lanes()
+  draw_body()
+  lanes_end = is_big ? 0 : y
+  ends()
+  legend()
+  if (title == "") title = "A quorum journal"
+  page_title = escape(title) ": " count(nodes, "node") ", " count(drawn_writers, "writer")
+  page_width = results_left + results_width + 30
+  if (page_width < 1040) page_width = 1040
+  if (format == "svg") print_svg()
+  else print_html()
+}
+
+function draw_body() {
+  if (is_big) sums()
+  else if (merge()) {
+    is_merged = 1
+    plan()
+    rows()
+  } else {
+    reason = why()
+    lanes()
+  }
+}
+
+# ## What stands above the picture
+
+# Sentences: note[1 ..], with note_class `w` where it is a warning.
+function take_notes() {
+  add_note("", totals())
+  if (is_big) add_note("w", "The report has " lines " lines. Above " maxlines " only sums are drawn.")
+  else if (is_merged)
+    add_note("", "Time runs downwards. Each row is one request of a writer and what each node did with it. " \
+      "Point at a mark to read the whole request and reply.")
+  else
+    add_note("w", "No single order fits all lists: " escape(reason) ". So each list has its own lane, and heights don't " \
+      "compare between lanes.")
+  if (strange_count)
+    add_note("w", count(strange_count, "answer") " of nodes, first in line " strange_number ", " \
+      (strange_count == 1 ? "isn't" : "aren't") " what the model gives; the segments below may be wrong.")
+  if (differing_count)
+    add_note("w", count(differing_count, "answer") " in the records differ" (differing_count == 1 ? "s" : "") \
+      " from the histories (marked ≠).")
+}
+
+function add_note(class, text) {
+  note_class[++note_count] = class
+  note[note_count] = text
+}
+
+# What the report has, counted.
+function totals() {
+  counted = count(lines, "line") ": " count(total["call"], "call")
+  also("dropped", " lost on the way")
+  also("muted", total["muted"] == 1 ? " reply lost" : " replies lost")
+  also("refused", " refused")
+  also("late", total["late"] == 1 ? " late copy" : " late copies")
+  also("silent", " stopped inside a node")
+  also("ops kill", total["ops kill"] == 1 ? " kill" : " kills")
+  also("ops restart", total["ops restart"] == 1 ? " restart" : " restarts")
+  counted = counted ". Results: " count(total["= takeover"], "takeover")
+  aborted = total["= takeover aborted"] + total["= takeover limit"]
+  if (aborted) counted = counted " and " aborted " aborted"
+  counted = counted ", " count(total["= acked"], "edit") " acknowledged"
+  also("= aborted", " aborted")
+  also("= inactive", " inactive")
+  also("= toolong", " too long")
+  also("= roll", total["= roll"] == 1 ? " roll" : " rolls")
+  also("= close", total["= close"] == 1 ? " close" : " closes")
+  also("= purge", total["= purge"] == 1 ? " purge" : " purges")
+  return counted "."
+}
+
+function also(what, words) { if (total[what]) counted = counted ", " total[what] words }
+
+# ## The whole
+
+function print_html(    k) {
+  print "<!DOCTYPE html>\n<html lang='en'><head><meta charset='utf-8'><meta name='viewport' content='width=device-width'>"
+  print "<title>" page_title "</title>\n<style>"
+  print_style()
+  print "body{margin:0;background:var(--bg);color:var(--fg);font:13px system-ui,sans-serif;width:max-content;min-width:100%}"
+  print "h1{font-size:19px;margin:14px 16px 4px}p{margin:2px 16px 6px;color:var(--mu);max-width:1000px}p.w{color:var(--bad);font-weight:600}"
+  print "svg{display:block}.top{position:sticky;top:0;background:var(--bg);border-bottom:1px solid var(--ln);z-index:1}"
+  print "</style></head><body>"
+  print "<h1>" page_title "</h1>"
+  take_notes()
+  for (k = 1; k <= note_count; k++) print "<p" (note_class[k] == "" ? "" : " class='" note_class[k] "'") ">" note[k] "</p>"
+  print "<div class='top'><svg xmlns='http://www.w3.org/2000/svg' width='" page_width "' height='34'>"
+  print_names()
+  print "</svg></div>"
+  print "<svg xmlns='http://www.w3.org/2000/svg' width='" page_width "' height='" y "'>"
+  print_drawn()
+  print "</svg></body></html>"
+}
+
+function print_svg(    k, top) {
+  take_notes()
+  top = 44 + 18 * note_count
+  print "<svg xmlns='http://www.w3.org/2000/svg' width='" page_width "' height='" (top + 40 + y) "'>\n<style>"
+  print_style()
+  print ".h{font-size:19px;font-weight:700}.n{fill:var(--mu);font-size:13px}.w{fill:var(--bad);font-size:13px;font-weight:600}"
+  print "</style>\n<rect width='100%' height='100%' style='fill:var(--bg)'/>"
+  print text_at("h", 16, 28, page_title)
+  for (k = 1; k <= note_count; k++) print text_at(note_class[k] == "" ? "n" : "w", 16, 32 + 18 * k, note[k])
+  print "<g transform='translate(0 " top ")'>"
+  print_names()
+  print "</g>\n<g transform='translate(0 " (top + 34) ")'>"
+  print_drawn()
+  print "</g></svg>"
+}
+
+# The names of the lanes.
+function print_names(    a, i) {
+  if (is_merged) print text_at("l2", 16, 22, "what is asked")
+  for (a = 1; is_merged && a <= actor_count; a++)
+    if (actor_name[a] != "ops")
+      print text_at("an", actor_center(a), 22, shorten(actor_name[a], 5) "<title>writer " actor_name[a] "</title>")
+  for (i = 1; i <= nodes; i++)
+    print "<rect class='pl' x='" (lane_center(i) - 40) "' y='6' width='80' height='22' rx='4'/>" text_at("hn", lane_center(i), 22, "node " i)
+  if (is_merged) print text_at("l2", results_left + 10, 22, "what came of it")
+}
+
+function print_drawn(    a, i, k) {
+  for (a = 1; is_merged && a <= actor_count; a++)
+    if (actor_name[a] != "ops") print "<path class='al' d='M" actor_center(a) " 0V" lanes_end "'/>"
+  for (i = 1; i <= nodes; i++) print "<path class='ln' d='M" lane_center(i) " 0V" lanes_end "'/>"
+  for (k = 1; k <= shade_count; k++) print shade[k]
+  for (k = 1; k <= drawn_count; k++) print drawn[k]
+}

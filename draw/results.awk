@@ -1,0 +1,84 @@
+# The results of a row as pieces of text: piece_text[1 ..], each with its class.
+
+# Makes the pieces of the results from..to of actor a, equal ones in a row as one. Answers how many there are.
+function pieces(a, from, to,    e, last, words) {
+  piece_count = 0
+  for (e = from; e <= to; e = last + 1) {
+    split(event_request[a, e], words, " ")
+    last = words[1] == "acked" ? last_acked(a, e, to) : last_equal(a, e, to)
+    if (words[1] == "acked") piece("ra", "✓ acked " range(words[2], words_after(event_request[a, last], 1)))
+    else if (words[1] == "aborted" || words[2] == "aborted") aborted_pieces(a, e, last - e + 1)
+    else if (words[1] ~ /^(inactive|toolong|late)$/) piece("ri", repeated(words[1], words[2], last - e + 1))
+    else {
+      last = e
+      other_piece(a, words, event_request[a, e])
+    }
+  }
+  return piece_count
+}
+
+function piece(class, text) {
+  piece_class[++piece_count] = class
+  piece_text[piece_count] = text
+}
+
+# The last of the acknowledged edits that go on from event e.
+function last_acked(a, e, to) {
+  while (e < to && event_request[a, e + 1] == "acked " plus(words_after(event_request[a, e], 1), 1)) e++
+  return e
+}
+
+function last_equal(a, e, to) {
+  while (e < to && event_request[a, e + 1] == event_request[a, e]) e++
+  return e
+}
+
+function repeated(word, number, times,    edits) {
+  edits = times > 1 ? times " edits " : "an edit "
+  if (word == "inactive") return (piece_count ? "then " : "") edits "inactive: no open segment"
+  if (word == "toolong") return edits "too long: " number
+  return "late copy: no such call" (times > 1 ? ", " times " times" : "")
+}
+
+# An aborted round with its causes, each with its nodes.
+function aborted_pieces(a, e, times,    words, word_count, first, k, cause, causes, at_nodes, text) {
+  word_count = split(event_request[a, e], words, " ")
+  first = words[1] == "aborted" ? 2 : 3
+  text = "✕ " (first == 2 ? "aborted" : words[1] " aborted") (times > 1 ? ", " times " edits:" : ":")
+  for (k = first; k <= word_count; k++) {
+    if (!(words[k] in at_nodes)) cause[++causes] = words[k]
+    at_nodes[words[k]] = at_nodes[words[k]] " " (k - first + 1)
+  }
+  for (k = 1; k <= causes; k++) {
+    if (width(text) > 52) {
+      piece("rb", text)
+      text = "   "
+    }
+    text = text " " cause[k] " at" at_nodes[cause[k]] (k < causes ? ";" : "")
+  }
+  piece("rb", text)
+  if (event_request[a, e] ~ /EpochRefused/) piece("rb", "   " actor_name[a] " is fenced: a higher epoch was promised")
+}
+
+function other_piece(a, words, result) {
+  if (words[1] == "takeover" && words[2] == "limit") piece("rb", "✕ takeover: a node promised the limit, " words[3])
+  else if (words[1] == "takeover") piece("rt", "✓ " actor_name[a] " is the writer: epoch " words[2] ", from txid " words[3])
+  else if (words[2] == "inactive") piece("ri", words[1] " inactive: no open segment")
+  else if (words[1] == "roll") piece("rt", "✓ new segment from " words[2])
+  else if (words[1] == "close") piece("rt", "✓ closed, last txid " words[2])
+  else piece("rt", "✓ " result)
+}
+
+# The one piece of a run of alike rounds.
+function run_piece(first, last, rounds) {
+  piece_count = 0
+  piece("ra", "✓ acked " range(words_after(first, 1), words_after(last, 1)) ": " rounds " rounds")
+}
+
+# At most eight pieces are drawn.
+function cut_pieces() {
+  if (piece_count <= 8) return
+  piece_class[8] = "ri"
+  piece_text[8] = "… and " (piece_count - 7) " more"
+  piece_count = 8
+}

@@ -1,0 +1,120 @@
+# Running the program: the proved one, or a quick run of the same sources.
+
+# The most bytes of a script, and one more: of these the program knows that a script is too long.
+readonly INPUT_KEPT=1048577
+
+# Makes the folder for what is kept of this run. It goes when the launcher ends.
+make_room() {
+  room=$(mktemp -d) || { say "no room for temporary files"; exit "$NOT_BUILT"; }
+  trap 'rm -rf "$room"' EXIT
+  trap 'exit 130' INT
+  trap 'exit 143' TERM HUP
+}
+
+# Opens what the program is to read as descriptor 3. A script is kept first, so that its lines can be shown; where reading
+# fails the program is to see that itself.
+open_input() {
+  if [ "$1" = play ] && head -c "$INPUT_KEPT" >"$room/input" 2>/dev/null; then
+    exec 3<"$room/input"
+  elif [ "$1" = play ] || [ "$1" = node ]; then
+    exec 3<&0
+  else
+    exec 3</dev/null
+  fi
+}
+
+# Runs the proved program on descriptor 3, passes signals on, and keeps its status. The program dies with the launcher, however
+# that ends, where the machine's setpriv can say so.
+run_program() {
+  guard='setpriv --pdeathsig KILL'
+  $guard true 2>/dev/null || guard=''
+  # shellcheck disable=SC2086
+  $guard "$program" "$@" <&3 3<&- &
+  child=$!
+  trap 'kill "$child" 2>/dev/null' INT TERM HUP
+  wait "$child"
+  status=$?
+  # (a signal ends the wait, and the program may go on)
+  while kill -0 "$child" 2>/dev/null; do
+    wait "$child"
+    status=$?
+  done
+}
+
+# A file's name as a quick run finds it, which runs in a folder of its own.
+name_from_root() {
+  case $1 in
+    '' | /*) printf '%s' "$1" ;;
+    *) printf '%s/%s' "$(pwd)" "$1" ;;
+  esac
+}
+
+# Runs the sources without a proof on descriptor 3. Fails where that gave no answer of the program's own.
+try_sources() {
+  say "a quick run of the sources, not of the proved program (./qjm --build proves and builds that, once)"
+  [ $# -ne 3 ] || [ "$1" != oev ] || set -- "$1" "$2" "$(name_from_root "$3")"
+  (cd "$top/crates/qjm" && exec rt try -- "$@") <&3 >"$room/output" 2>"$room/notes"
+  status=$?
+  grep -q "^run=ended status=$status " "$room/notes"
+}
+
+# Answers by a quick run. What is out of its reach, as a report above 1 MiB, is answered by the proved program, which is built.
+try_or_build() {
+  require_kit
+  if try_sources "$@"; then
+    cat "$room/output" || status=7
+    return
+  fi
+  say "the quick run gave no answer, so the program is built first; it said:"
+  grep '^checked: ' "$room/notes" >&2 || tail -n 3 "$room/notes" >&2
+  build || exit
+  open_input_again "$1"
+  run_program "$@"
+}
+
+# Opens what was kept once more, from its beginning.
+open_input_again() {
+  [ "$1" != play ] || [ ! -f "$room/input" ] || exec 3<"$room/input"
+}
+
+# Runs the program's command, explains a status that isn't 0, and ends with the status.
+run_or_try() {
+  make_room
+  open_input "${1-}"
+  if is_proved; then
+    run_program "$@"
+  else
+    try_or_build "$@"
+  fi
+  [ "$status" -eq 0 ] || explain "$@"
+  exit "$status"
+}
+
+# Holds the current folder for one node: the lock is on the folder itself, and goes with the last process that has it open.
+take_folder() {
+  if ! command -v flock >/dev/null; then
+    say "this machine has no flock: see to it yourself that no second node runs in this folder"
+    return
+  fi
+  exec 9<.
+  flock -n 9 2>/dev/null
+  case $? in
+    0) ;;
+    1) say "another node has this folder: $(pwd)"; exit "$FOLDER_TAKEN" ;;
+    *) say "this file system has no locks: see to it yourself that no second node runs in this folder" ;;
+  esac
+}
+
+# Serves a node in the current folder, of the proved program alone.
+serve_node() {
+  if ! is_proved; then
+    say "a node runs of the proved program alone, and that isn't built yet"
+    build || exit
+  fi
+  make_room
+  take_folder
+  open_input node
+  run_program node
+  [ "$status" -eq 0 ] || explain node
+  exit "$status"
+}

@@ -1,0 +1,15 @@
+# Reads a table of docs/FORMATS.md. The line `<!-- table: NAME -->` stands before it. Of the row that begins with the key the
+# other cells are written, a line each; without a key all rows are, the key in four columns.
+
+/^<!-- table: / { here = ($0 == "<!-- table: " table " -->"); row = 0; next }
+here && /^\|/ {
+  if (++row < 3) next # the head and its line
+  line = $0
+  gsub(/`/, "", line)
+  sub(/^\| */, "", line); sub(/ *\|$/, "", line)
+  count = split(line, cells, / *\| */)
+  if (key == "") { printf "%4s  %s\n", cells[1], cells[2]; next }
+  if (cells[1] == key) for (i = 2; i <= count; i++) if (cells[i] != "") print cells[i]
+  next
+}
+here && row && !/^\|/ { here = 0 }
