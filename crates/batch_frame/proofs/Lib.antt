@@ -6,3 +6,5 @@ pub mod FrameLaws
 pub mod FaultLaws
 pub mod SegmentLaws
 pub mod ReadLaws
+pub mod PieceLaws
+pub mod WindowLaws

@@ -1,18 +1,18 @@
 -- What the readers of entries and frames find.
-use Rattle.std.proofs.Common.{◌≡◌, ◌≢◌, ℕ, zero, suc, ◌+◌, ◌-◌, ◌*◌, ◌^◌, ◌<◌, ◌≤◌, Bool, true, false, cond, ◌||◌, ltb, leb, List, [], ◌∷◌, ◌++◌, length, get_or, take, drop, Option, Some, None, Result, Ok, Err, refl, sym, ap, subst, ◌∙◌, append_assoc, arith, inl, inr}
+use Rattle.std.proofs.Common.{◌≡◌, ◌≢◌, ℕ, zero, suc, ◌+◌, ◌-◌, ◌*◌, ◌^◌, ◌<◌, ◌≤◌, Bool, true, false, cond, ◌||◌, ltb, leb, List, [], ◌∷◌, ◌++◌, length, get_or, take, drop, Option, Some, None, Result, Ok, Err, refl, sym, ap, subst, ◌∙◌, arith}
 use Rattle.std.specs.Option.{option_map, option_and_then}
 use Rattle.std.specs.Prelude.{unwrap_or}
 use Rattle.std.specs.List.{flat_map, list_any}
 use Rattle.std.specs.Int.{Width, w16, w32, w64, byte_len, from_be_bytes, to_be_bytes}
-use Rattle.std.proofs.lemmas.Bool.{ltb-false, ltb-true, le-ltb, lt-ltb, leb-true, leb-false, cond-false, cond-true, or_parts, cases_Bool}
+use Rattle.std.proofs.lemmas.Bool.{ltb-false, le-ltb, lt-ltb, leb-true, leb-false, cond-false, cond-true, or_parts}
 use Rattle.std.proofs.lemmas.Option.{same_Some, none-some, option_and_then_some}
-use Rattle.std.proofs.lemmas.List.{take_at, drop_at, take-append-drop, drop-drop, drop-take, take-take, drop_all, nil_from_length, length-append, length-take, length-drop}
+use Rattle.std.proofs.lemmas.List.{take_at, drop-drop, drop-take, take-take, drop_all, nil_from_length, length-append, length-take, length-drop}
 use Rattle.qj_num.specs.Fields.{number_at}
-use Rattle.journal_core.specs.Views.{BatchView, last_txid}
+use Rattle.journal_core.specs.Views.{BatchView}
 use Rattle.batch_frame.specs.declared.frame_cause.FrameCause.{FrameCause}
-use Rattle.batch_frame.specs.declared.frame_cause.FrameCause.TheVariants.{Short, Length, Count, Body, Order}
-use Rattle.batch_frame.specs.Frames.{entry_bytes, inner_bytes, frame_bytes, is_bad_body, broken_rule, BeginWithFrames, IsTail, AreFrames}
-use Rattle.batch_frame.specs.Faults.{IsBytes, HasGate, told_length, Spells, IsBadFrame, HaveBadFrame}
+use Rattle.batch_frame.specs.declared.frame_cause.FrameCause.TheVariants.{Length}
+use Rattle.batch_frame.specs.Frames.{entry_bytes, inner_bytes, frame_bytes, is_bad_body, broken_rule, IsTail}
+use Rattle.batch_frame.specs.Faults.{IsBytes, HasGate, told_length, Spells, IsBadFrame}
 use Rattle.batch_frame.specs.Reading.{entry_at, entries_in, batch_in, first_rule, count_unless, judged}
 use Rattle.batch_frame.specs.Answers.{IsWholeFrame}
 use Rattle.journal_core.specs.Limits.{max_body}
@@ -22,7 +22,6 @@ use Rattle.batch_frame.specs.Entries.{EntriesView, bodies_in, AreEntries}
 use Rattle.batch_frame.proofs.EntryLaws.{none_or, entry_by, entries_again}
 use Rattle.batch_frame.proofs.SpellLaws.{length-frame_bytes, spells_from, spelled_tells, one_spelling}
 use Rattle.batch_frame.proofs.RuleLaws.{rules_kept, next_within}
-use Rattle.batch_frame.proofs.FrameLaws.{goes_on, no_frames}
 use Rattle.batch_frame.proofs.FaultLaws.{breaks_rule, unfilled}
 
 -- ---- numbers that are got
@@ -386,22 +385,6 @@ frame_joined first inner bodies i0 i1 i2 i3 i4 i5 x2 x3 x4 is h0 h1 y2 h2 y3 h3 
     let e4 : i4 ≡ ((([] ++ 165 ∷ []) ++ to_be_bytes w32 inner) ++ to_be_bytes w64 first) ++ to_be_bytes w32 (length bodies) = h4 ∙ (λ i. e3 i ++ y4 i) in
     frame_built first inner bodies i5 is (h5 ∙ ap (λ (x : List ℕ). x ++ flat_map entry_bytes bodies) e4)
 
--- ---- scanning
-
-pub record ScansOn (first : ℕ) (bytes : List ℕ) (bodies : List (List ℕ)) (at next : ℕ) : Type 0 where
-  pub frames : BeginWithFrames first bytes bodies at
-  pub next_is : next ≡ first + length bodies
-
-pub scans_from : (first : ℕ) (bytes : List ℕ) → ScansOn first bytes [] 0 first
-scans_from first bytes = record { frames = no_frames first bytes; next_is = omega arith }
-
-pub scans_more : (first : ℕ) (bytes : List ℕ) (bodies new : List (List ℕ)) (at next count size : ℕ) → ScansOn first bytes bodies at next → (w : IsWholeFrame next (drop at bytes) count size) → new ≡ bodies ++ w.batch.bodies → ScansOn first bytes new (at + size) (next + count)
-scans_more first bytes bodies new at next count size so_far w is = record {
-  frames = subst (λ (x : List (List ℕ) × ℕ). BeginWithFrames first bytes x.0 (at + x.1)) (λ i. (sym is i, sym w.size_is i))
-      (goes_on first bytes bodies at w.batch so_far.frames w.spells (subst (λ (n : ℕ). broken_rule n w.batch ≡ None) so_far.next_is w.good));
-  next_is = omega (arith, so_far.next_is, w.count_is, ap length is, length-append bodies w.batch.bodies);
-}
-
 -- a whole frame lies within the bytes, and the txid behind it has room
 pub record InRoom (bytes : List ℕ) (at next count size : ℕ) : Type 0 where
   pub some : 0 < size
@@ -412,12 +395,6 @@ pub in_room : (bytes : List ℕ) (at next count size : ℕ) → IsWholeFrame nex
 in_room bytes at next count size w =
     let p = placed bytes at next count size w in
     record { some = omega (arith, p.head); there = p.there; txids = omega (arith, p.room) }
-
-pub scan_ends : (first : ℕ) (bytes : List ℕ) (bodies : List (List ℕ)) (at next : ℕ) → ScansOn first bytes bodies at next → IsTail (drop at bytes) → AreFrames first bytes bodies at
-scan_ends first bytes bodies at next so_far is = record { frames = so_far.frames; tail = is }
-
-pub scan_breaks : (first : ℕ) (bytes : List ℕ) (bodies : List (List ℕ)) (at next : ℕ) (cause : FrameCause) → ScansOn first bytes bodies at next → IsBadFrame next (drop at bytes) cause → HaveBadFrame first bytes at cause
-scan_breaks first bytes bodies at next cause so_far is = record { bodies = bodies; frames = so_far.frames; bad = subst (λ (n : ℕ). IsBadFrame n (drop at bytes) cause) so_far.next_is is }
 
 pub ruleset judges = (entries_err, entries_ok, entries_unfilled, judged_inner, judged_short)
 

@@ -1,15 +1,17 @@
 -- The right answers for a batch that is written, and for bytes that are read.
-use Rattle.std.specs.Prelude.{◌≡◌, ℕ, List, length, Option, Some, None, nat_lt, if◌then◌else◌}
+use Rattle.std.specs.Prelude.{◌≡◌, ℕ, List, length, take, drop, Option, Some, None, nat_lt, if◌then◌else◌}
 use Rattle.std.specs.List.{list_any}
 use Rattle.journal_core.specs.Views.{BatchView}
 use Rattle.journal_core.specs.Limits.{max_body, max_segment}
+use Rattle.batch_frame.specs.declared.frame_cause.FrameCause.{FrameCause}
 use Rattle.batch_frame.specs.declared.framed.Framed.{Framed}
 use Rattle.batch_frame.specs.declared.framed.Framed.TheVariants as framed
+use Rattle.batch_frame.specs.declared.scanned.Scan.{Scan}
 use Rattle.batch_frame.specs.declared.scanned.Scanned.{Scanned}
 use Rattle.batch_frame.specs.declared.scanned.Scanned.TheVariants as scanned
 use Rattle.batch_frame.specs.declared.checked.Checked.{Checked}
 use Rattle.batch_frame.specs.declared.checked.Checked.TheVariants as checked
-use Rattle.batch_frame.specs.Frames.{frame_bytes, broken_rule, IsTail, AreFrames}
+use Rattle.batch_frame.specs.Frames.{frame_bytes, broken_rule, BeginWithFrames, IsTail}
 use Rattle.batch_frame.specs.Faults.{Spells, IsBadFrame, HaveBadFrame}
 
 -- the first limit that a batch passes: a body of more than 4,096 bytes, or more than 16,384 bodies
@@ -31,10 +33,22 @@ IsGoodFrame b (framed.Bytes v) = broken_rule b.first b ≡ None
 IsGoodFrame b (framed.TooLong number) = Unit {0}
 IsGoodFrame b framed.OutOfMemory = Unit {0}
 
-abbrev pub IsScanned : ℕ → List ℕ → Scanned → Type 0
-IsScanned first bytes (scanned.Whole s) = AreFrames first bytes s.bodies s.whole_length
-IsScanned first bytes (scanned.BadFrame place cause) = HaveBadFrame first bytes place cause
-IsScanned first bytes scanned.OutOfMemory = Unit {0}
+-- the bytes begin with the frames of this scan, which has of their bodies those after the first `skip`, at most `most`
+pub record IsScan (first : ℕ) (bytes : List ℕ) (skip most : ℕ) (s : Scan) : Type 0 where
+  pub all : List (List ℕ)
+  pub frames : BeginWithFrames first bytes all s.whole_length
+  pub count : s.count ≡ length all
+  pub piece : s.bodies ≡ take most (drop skip all)
+
+-- what stands where no whole frame does: a tail, or a bad frame
+abbrev pub IsStop : ℕ → List ℕ → Option FrameCause → Type 0
+IsStop next bytes None = IsTail bytes
+IsStop next bytes (Some cause) = IsBadFrame next bytes cause
+
+abbrev pub IsScanned : ℕ → List ℕ → ℕ → ℕ → Scanned → Type 0
+IsScanned first bytes skip most (scanned.Whole s) = IsScan first bytes skip most s × IsTail (drop s.whole_length bytes)
+IsScanned first bytes skip most (scanned.BadFrame place cause) = HaveBadFrame first bytes place cause
+IsScanned first bytes skip most scanned.OutOfMemory = Unit {0}
 
 -- the bytes begin with a frame that breaks no rule, of so many entries and so many bytes
 pub record IsWholeFrame (next : ℕ) (bytes : List ℕ) (count size : ℕ) : Type 0 where

@@ -29,7 +29,7 @@ pub use laws::{
 };
 pub use rules::GATE;
 pub use scanned::{Scan, Scanned};
-pub use scanning::scan;
+pub use scanning::{scan, scan_window};
 pub use worked::{
     a_cut_frame_is_short, an_open_frame_counts, known_bytes_are_spelled, rules_are_broken,
 };

@@ -40,11 +40,11 @@ fn fault_of(scanned: &Scanned) -> Option<(usize, FrameCause)> {
 fn a_closed_gate_ends_the_frames(rt: HostRuntime) -> Result<(), Fail> {
     let alloc = rt.alloc();
     assert_eq!(rt;
-        whole_of(&scan(alloc, &with_byte(0, 0x00), 2)),
+        whole_of(&scan(alloc, &with_byte(0, 0x00), 2, 0, 1)),
         Some((0, 0))
     );
     assert_eq!(rt;
-        whole_of(&scan(alloc, &with_byte(0, 0xa4), 2)),
+        whole_of(&scan(alloc, &with_byte(0, 0xa4), 2, 0, 1)),
         Some((0, 0))
     );
     assert_eq!(rt; check_frame(&with_byte(0, 0xa4), 0, 2), Checked::Closed);
@@ -55,7 +55,7 @@ fn a_closed_gate_ends_the_frames(rt: HostRuntime) -> Result<(), Fail> {
 #[test]
 fn an_open_frame_is_read(rt: HostRuntime) -> Result<(), Fail> {
     let alloc = rt.alloc();
-    assert_eq!(rt; whole_of(&scan(alloc, &KNOWN, 2)), Some((1, 20)));
+    assert_eq!(rt; whole_of(&scan(alloc, &KNOWN, 2, 0, 1)), Some((1, 20)));
     assert_eq!(rt;
         check_frame(&KNOWN, 0, 2),
         Checked::Whole {
@@ -63,7 +63,7 @@ fn an_open_frame_is_read(rt: HostRuntime) -> Result<(), Fail> {
             length: 20
         }
     );
-    match scan(alloc, &KNOWN, 2) {
+    match scan(alloc, &KNOWN, 2, 0, 1) {
         Scanned::Whole(s) => {
             for body in s.bodies.as_slice() {
                 assert_eq!(rt; body.as_slice(), [0x0a].as_slice());
@@ -80,7 +80,7 @@ fn a_cut_frame_is_short(rt: HostRuntime) -> Result<(), Fail> {
     for length in 1..20 {
         if length < KNOWN.len() {
             assert_eq!(rt;
-                fault_of(&scan(alloc, &KNOWN[..length], 2)),
+                fault_of(&scan(alloc, &KNOWN[..length], 2, 0, 1)),
                 Some((0, FrameCause::Short))
             );
         }
@@ -154,9 +154,9 @@ fn frames_in_a_row_are_listed(rt: HostRuntime) -> Result<(), Fail> {
     let mut bytes = Vec::from_slice(alloc, &KNOWN)?;
     bytes.append(&mut frame)?;
     bytes.push(0)?;
-    assert_eq!(rt; whole_of(&scan(alloc, &bytes, 2)), Some((3, 46)));
+    assert_eq!(rt; whole_of(&scan(alloc, &bytes, 2, 0, 3)), Some((3, 46)));
     assert_eq!(rt;
-        fault_of(&scan(alloc, &bytes, 1)),
+        fault_of(&scan(alloc, &bytes, 1, 0, 3)),
         Some((0, FrameCause::Order))
     );
     let mut listed = Vec::new(alloc);

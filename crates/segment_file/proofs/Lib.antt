@@ -16,6 +16,7 @@ pub mod AcceptLaws
 mod AcceptFresh
 mod AcceptCuts
 pub mod Counts
+mod ScanLemmas
 mod ReadLemmas
 pub mod OpenLemmas
 pub mod KindsLemmas
@@ -29,6 +30,7 @@ mod OpenJudged
 mod RecordOrNot
 mod OpenReads
 mod ReadLoop
+mod ScanLoop
 pub mod HeldOnce
 pub mod StableLaws
 mod OpenRemoves

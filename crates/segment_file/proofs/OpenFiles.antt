@@ -15,14 +15,14 @@ use Rattle.journal_core.specs.Views.{BatchView}
 use Rattle.journal_core.specs.declared.segment.Segment.{Segment}
 use Rattle.journal_core.specs.declared.segment_info.SegmentInfo.{SegmentInfo}
 use Rattle.journal_core.specs.Segments.{info_of, end_of, IsWithin}
-use Rattle.batch_frame.specs.declared.scanned.Scan.{Scan}
 use Rattle.batch_frame.specs.Frames.{AreInOrder}
-use Rattle.batch_frame.specs.Segments.{HasHeader, IsSegmentFile}
+use Rattle.batch_frame.specs.Segments.{IsSegmentFile}
 use Rattle.batch_frame.proofs.RuleLaws.{next_within}
-use Rattle.batch_frame.proofs.SegmentLaws.{one_header, one_segment}
+use Rattle.batch_frame.proofs.SegmentLaws.{one_segment}
 use Rattle.segment_file.specs.Names.{Kind, InProgress, Final, Record as record_kind, name_of, kind_of}
 use Rattle.segment_file.specs.Stands.{HasEpoch, IsRecordFile, IsAccepted}
-use Rattle.segment_file.specs.Reads.{ScansTo}
+use Rattle.segment_file.specs.declared.file_scan.FileScan.{FileScan}
+use Rattle.segment_file.specs.Scans.{IsFileScan, ScansFile}
 use Rattle.segment_file.specs.Rows.{IsRowWithin}
 use Rattle.segment_file.specs.declared.segment_row.SegmentRow.{SegmentRow}
 use Rattle.segment_file.specs.Opened.{EndsAt, IsGoodFile}
@@ -41,31 +41,32 @@ file_within bytes start epoch bodies whole is =
     let parts = split bytes start epoch bodies whole is in
     omega (arith, in_order_within start parts.batches (omega (arith, parts.range.start_within)) parts.in_order, ap length parts.bodies_are)
 
-pub scan_within : (bytes : List ℕ) (start : ℕ) (s : Scan) → ScansTo start bytes (Some s) → start + length s.bodies ≤ 4611686018427387905
-scan_within bytes start s scans = file_within bytes start scans.0 s.bodies (24 + s.whole_length) scans.1
-
-module _ (bytes : List ℕ) (start told_start told_epoch : ℕ) (s : Scan) (has : HasHeader bytes told_start told_epoch) (scans : ScansTo start bytes (Some s)) where
-  scanned : IsSegmentFile bytes start told_epoch s.bodies (24 + s.whole_length)
-  scanned = subst (λ (e : ℕ). IsSegmentFile bytes start e s.bodies (24 + s.whole_length)) (sym (one_header bytes told_start told_epoch start scans.0 has scans.1.header).1) scans.1
-
+module _ (start : ℕ) (bytes : List ℕ) (f : FileScan) (is : IsFileScan start bytes 0 0 f) where
   pub row_found : (last : Option ℕ) (found : Option SegmentRow)
-      → MatchOption found (EndsAt (kind_by last) (start + length s.bodies) → ⊥) (λ row. EndsAt (kind_by last) (start + length s.bodies) × (row ≡ row_in start told_epoch s (is_final_by last))) → IsRowFound start last bytes found
+      → MatchOption found (EndsAt (kind_by last) (start + f.scan.count) → ⊥) (λ row. EndsAt (kind_by last) (start + f.scan.count) × (row ≡ row_in start f (is_final_by last))) → IsRowFound start last bytes found
   row_found last None no_end = λ epoch whole bodies file ends.
-      no_end (subst (λ (l : List (List ℕ)). EndsAt (kind_by last) (start + length l)) (one_segment bytes start start epoch told_epoch bodies s.bodies whole (24 + s.whole_length) file scanned).2 ends)
-  row_found last (Some row) is = (
-    segment_in start told_epoch s.bodies (is_final_by last),
+      no_end (subst (λ (n : ℕ). EndsAt (kind_by last) (start + n)) (ap length (one_segment bytes start start epoch f.epoch bodies is.bodies whole (24 + f.scan.whole_length) file is.file).2 ∙ sym is.count) ends)
+  row_found last (Some row) told = (
+    segment_in start f.epoch is.bodies (is_final_by last),
     record {
       start_is = refl;
       final_is = refl;
       accepted = refl;
-      edits = subst (λ (r : SegmentRow). IsSegmentFile bytes start told_epoch s.bodies r.whole_length) (sym is.1) scanned;
-      ends = is.0;
-      info = ap (λ (r : SegmentRow). r.info) is.1;
+      edits = subst (λ (r : SegmentRow). IsSegmentFile bytes start f.epoch is.bodies r.whole_length) (sym told.1) is.file;
+      ends = subst (λ (n : ℕ). EndsAt (kind_by last) (start + n)) is.count told.0;
+      info = ap (λ (r : SegmentRow). r.info) told.1 ∙ ap (λ (n : ℕ). record { start = start; end = start + n - 1; epoch = f.epoch; is_final = is_final_by last; accepted = false }) is.count;
     },
   )
 
-pub no_row : (bytes : List ℕ) (start : ℕ) (last : Option ℕ) → ScansTo start bytes None → IsRowFound start last bytes None
-no_row bytes start last none epoch whole bodies is ends = none epoch whole bodies is
+pub row_in_within : (start : ℕ) (f : FileScan) (is_final : Bool) (row : SegmentRow) → row ≡ row_in start f is_final → 1 ≤ start → start ≤ 4611686018427387904 → start + f.scan.count ≤ 4611686018427387905 → IsRowWithin row
+row_in_within start f is_final row is first small limit =
+    let begins : row.info.start ≡ start = ap (λ (r : SegmentRow). r.info.start) is in
+    let ends : row.info.end ≡ start + f.scan.count - 1 = ap (λ (r : SegmentRow). r.info.end) is in
+    (omega (arith, begins, first), omega (arith, begins, small), omega (arith, begins, ends, first), omega (arith, ends, limit, first))
+
+-- a file that isn't that of a segment with the start isn't good
+pub no_scan : (seen : Files) (start : ℕ) (kind : Kind) → ScansFile start (seen (name_of start kind)) 0 0 None → IsGoodFile seen start kind → ⊥
+no_scan seen start kind none good = none good.bytes good.there good.epoch good.whole_length good.bodies good.edits
 
 -- ## The record
 pub one_record : (bytes : List ℕ) (r s : Record) → IsRecord bytes r → IsRecord bytes s → r.epoch ≡ s.epoch

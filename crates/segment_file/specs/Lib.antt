@@ -5,6 +5,7 @@ pub mod Places
 pub mod Effects
 pub mod Calls
 pub mod Answers
+pub mod Scans
 pub mod Reads
 pub mod Kinds
 pub mod Rows

@@ -1,5 +1,5 @@
 -- What each step of opening finds.
-use Rattle.std.specs.Prelude.{◌≡◌, ◌⊎◌, ℕ, ◌+◌, Bool, true, false, List, length, Option, Some, None, IsSome, Result, Ok, Err}
+use Rattle.std.specs.Prelude.{◌≡◌, ◌⊎◌, ℕ, ◌+◌, ◌-◌, Bool, true, false, List, length, Option, Some, None, IsSome, Result, Ok, Err}
 use Rattle.qj_disk.specs.Files.{Files, ChangesOnly, IsGone}
 use Rattle.qj_disk.specs.View.{View}
 use Rattle.qj_disk.specs.Calls.{Atomic, Keeps}
@@ -7,7 +7,6 @@ use Rattle.qj_disk.specs.declared.disk.DiskFail.{DiskFail}
 use Rattle.qj_disk.specs.declared.disk.DiskFail.TheVariants as fail
 use Rattle.journal_core.specs.declared.segment.Segment.{Segment}
 use Rattle.journal_core.specs.Segments.{info_of, end_of, AreSound}
-use Rattle.batch_frame.specs.declared.scanned.Scan.{Scan}
 use Rattle.batch_frame.specs.Segments.{IsSegmentFile}
 use Rattle.segment_file.specs.Names.{Kind, InProgress, Final, Record, name_of, kind_of}
 use Rattle.segment_file.specs.Kinds.{IsNamed}
@@ -15,6 +14,7 @@ use Rattle.segment_file.specs.Stands.{StandsFor, IsRecordFile, IsAccepted}
 use Rattle.segment_file.specs.Opening.{IsFirst}
 use Rattle.segment_file.specs.Opened.{EndsAt, IsGoodFile, HoldsSegment, IsBadSegmentFile, AreRowsOf, AreStarts, opened_result}
 use Rattle.segment_file.specs.Rows.{find_row, put_row, IsRowWithin}
+use Rattle.segment_file.specs.declared.file_scan.FileScan.{FileScan}
 use Rattle.segment_file.specs.declared.segment_row.SegmentRow.{SegmentRow}
 use Rattle.segment_file.specs.declared.opened.Opened.{Opened}
 use Rattle.segment_file.specs.declared.opened.Opened.TheVariants as opened
@@ -33,9 +33,12 @@ is_final_by (Some last) = true
 abbrev pub segment_in : ℕ → ℕ → List (List ℕ) → Bool → Segment
 segment_in start epoch bodies is_final = record { start = start; epoch = epoch; bodies = bodies; is_final = is_final; accepted = false }
 
--- the row of the segment that a scan found
-abbrev pub row_in : ℕ → ℕ → Scan → Bool → SegmentRow
-row_in start epoch s is_final = record { info = info_of (segment_in start epoch s.bodies is_final); whole_length = 24 + s.whole_length }
+-- the row of the segment whose file was scanned
+abbrev pub row_in : ℕ → FileScan → Bool → SegmentRow
+row_in start f is_final = record {
+  info = record { start = start; end = start + f.scan.count - 1; epoch = f.epoch; is_final = is_final; accepted = false };
+  whole_length = 24 + f.scan.whole_length;
+}
 
 -- the row tells the segment that these bytes hold, which isn't known to be accepted
 pub record IsRowIn (start : ℕ) (last : Option ℕ) (bytes : List ℕ) (g : Segment) (row : SegmentRow) : Type 0 where

@@ -4,12 +4,9 @@ use Rattle.qj_disk.specs.declared.disk.DiskFail.{DiskFail}
 use Rattle.qj_disk.specs.declared.disk.DiskFail.TheVariants as fail
 use Rattle.journal_core.specs.Views.{BatchView}
 use Rattle.batch_frame.specs.Segments.{IsSegmentFile}
-use Rattle.batch_frame.specs.declared.scanned.Scan.{Scan}
 use Rattle.segment_file.specs.Names.{name_of, kind_of}
 use Rattle.segment_file.specs.declared.given.Given.{Given}
 use Rattle.segment_file.specs.declared.given.Given.TheVariants as given
-use Rattle.segment_file.specs.declared.found.Found.{Found}
-use Rattle.segment_file.specs.declared.found.Found.TheVariants as found
 
 -- the file is that of this segment, which has these bodies, and holds the txid; a final one ends as its name says
 pub record Serves (start end : ℕ) (is_final : Bool) (from : ℕ) (file : Option (List ℕ)) (bodies : List (List ℕ)) : Type 0 where
@@ -25,13 +22,12 @@ pub record Serves (start end : ℕ) (is_final : Bool) (from : ℕ) (file : Optio
 abbrev pub piece_of : ℕ → ℕ → List (List ℕ) → BatchView
 piece_of start from bodies = record { first = from; bodies = take 256 (drop (from - start) bodies) }
 
--- such edits, or that the file has none to give
-abbrev pub IsFound : ℕ → ℕ → Bool → ℕ → Option (List ℕ) → Found → Type 0
-IsFound start end is_final from file (found.Edits b) = (bodies : List (List ℕ)) × Serves start end is_final from file bodies × (b ≡ piece_of start from bodies)
-IsFound start end is_final from file found.Bad = (bodies : List (List ℕ)) → Serves start end is_final from file bodies → ⊥
-IsFound start end is_final from file found.OutOfMemory = Unit {0}
+-- such edits, or that the bytes have none to give
+abbrev pub IsFound : ℕ → ℕ → Bool → ℕ → List ℕ → Option BatchView → Type 0
+IsFound start end is_final from bytes (Some b) = (bodies : List (List ℕ)) × Serves start end is_final from (Some bytes) bodies × (b ≡ piece_of start from bodies)
+IsFound start end is_final from bytes None = (bodies : List (List ℕ)) → Serves start end is_final from (Some bytes) bodies → ⊥
 
--- the same, a bad file being told by its name
+-- such edits, or that the file has none to give, which is told by its name
 abbrev pub IsGiven : ℕ → ℕ → Bool → ℕ → Option (List ℕ) → Given → Type 0
 IsGiven start end is_final from file (given.Edits b) = (bodies : List (List ℕ)) × Serves start end is_final from file bodies × (b ≡ piece_of start from bodies)
 IsGiven start end is_final from file (given.BadFile name) = (name ≡ name_of start (kind_of end is_final)) × ((bodies : List (List ℕ)) → Serves start end is_final from file bodies → ⊥)
@@ -44,11 +40,6 @@ given_result (given.Edits b) = Ok tt
 given_result (given.BadFile name) = Ok tt
 given_result given.DiskFault = Err fail.Failed
 given_result given.OutOfMemory = Err fail.OutOfMemory
-
--- what the bytes of a segment file with this start are
-abbrev pub ScansTo : ℕ → List ℕ → Option Scan → Type 0
-ScansTo start bytes None = (epoch whole_length : ℕ) (bodies : List (List ℕ)) → IsSegmentFile bytes start epoch bodies whole_length → ⊥
-ScansTo start bytes (Some s) = (epoch : ℕ) × IsSegmentFile bytes start epoch s.bodies (24 + s.whole_length)
 
 -- that the file of this name is bad, unless memory is wanted
 abbrev pub IsBad : List ℕ → Given → Type 0

@@ -4,6 +4,7 @@
 mod accepting;
 mod appended;
 mod appending;
+mod asked;
 mod bad_record;
 mod completed;
 mod completing;
@@ -11,8 +12,8 @@ mod content;
 mod creating;
 mod discarding;
 mod file_kind;
+mod file_scan;
 mod finalizing;
-mod found;
 mod gate;
 mod given;
 mod judged;
@@ -26,6 +27,7 @@ mod opening_tests;
 mod place;
 mod reading;
 mod repeating;
+mod scanning;
 mod segment_row;
 mod segment_table;
 mod settling;
@@ -34,6 +36,7 @@ mod sweeping;
 mod syncing;
 #[cfg(test)]
 mod tests;
+mod window_end;
 pub mod worked;
 
 pub use accepting::replace;

@@ -1,56 +1,58 @@
 //! The segments of a disk are opened.
-ghost use Rattle.std.specs.Prelude.{◌≡◌, ◌↔◌, ◌≤◌, ◌<◌, ◌+◌, ◌^◌, length, MatchOption, MatchBool, IfOk, OnOk, IsSome, map, string_bytes, false};
+ghost use Rattle.std.specs.Prelude.{◌≡◌, ◌↔◌, ◌≤◌, ◌<◌, ◌+◌, ◌^◌, length, MatchOption, MatchBool, OnOk, IsSome, map, string_bytes, false};
 ghost use Rattle.qj_disk.specs.Calls.{HasCause, Rests, Lists};
 ghost use Rattle.qj_disk.specs.Runs.{Quiet};
 ghost use Rattle.segment_file.specs.Names.{name_of, Record};
 ghost use Rattle.segment_file.specs.Rows.{find_row, IsRowWithin};
 ghost use Rattle.segment_file.specs.Opening.{AllStable, IsRepaired, Repairs};
 ghost use Rattle.segment_file.specs.Opened.{EndsAt, AreOpened, IsOpened, opened_result};
-ghost use Rattle.segment_file.specs.OpenSteps.{kind_by, is_final_by, row_in, IsRowFound, IsMarkedBy, IsWithinRow, IsBadAt, IsJudged, IsJudgedName, IsJudgedBeside, IsStep, AreRead, IsReadWhole, IsFree, IsIdle, RemovesIdle, judged_result, step_result};
+ghost use Rattle.segment_file.specs.OpenSteps.{kind_by, is_final_by, row_in, IsMarkedBy, IsWithinRow, IsBadAt, IsJudged, IsJudgedName, IsJudgedBeside, IsStep, AreRead, IsReadWhole, IsFree, IsIdle, RemovesIdle, judged_result, step_result};
 
+use crate::asked::Asked;
 use crate::file_kind::FileKind;
+use crate::file_scan::FileScan;
 use crate::judged::Judged;
 use crate::kinds::file_named;
 use crate::opened::Opened;
-use crate::reading::{read_file, scan_of};
+use crate::scanning::scan_file;
 use crate::segment_row::SegmentRow;
 use crate::segment_table::SegmentTable;
-use batch_frame::{HEADER_LENGTH, Scan, read_header};
+use batch_frame::HEADER_LENGTH;
 use journal_core::SegmentInfo;
 use qj_disk::{Disk, DiskFail};
-use qj_num::{Name, OutOfMemory};
+use qj_num::Name;
 use small_files::{GotRecord, PaxosFile};
 use std::alloc::Global;
 
-// The row of the segment that a scan found, which isn't known to be accepted.
-fn row_of(start: u64, epoch: u64, scan: &Scan, is_final: bool) -> SegmentRow
+// The row of the segment whose file was scanned, which isn't known to be accepted.
+fn row_of(start: u64, file: &FileScan, is_final: bool) -> SegmentRow
     requires start { 1 ≤ start }
-    requires end { start + length scan.now.bodies ≤ 4611686018427387905 }
-    requires whole { scan.now.whole_length < 2 ^ 63 }
-    ensures { result ≡ row_in start epoch scan.now is_final }
+    requires limit { start + file.now.scan.count ≤ 2 ^ 62 + 1 }
+    requires places { 24 + file.now.scan.whole_length < 2 ^ 64 }
+    ensures { result ≡ row_in start file.now is_final }
 {
-    let next = start + scan.bodies.len() as u64;
+    let next = start + file.scan.count;
     let info = SegmentInfo {
         start,
         end: next - 1,
-        epoch,
+        epoch: file.epoch,
         is_final,
         accepted: false,
     };
     SegmentRow {
         info,
-        whole_length: HEADER_LENGTH as u64 + scan.whole_length as u64,
+        whole_length: HEADER_LENGTH as u64 + file.scan.whole_length as u64,
     }
 }
 
 // The same, if it ends as the name of its file says.
-fn row_ending(start: u64, epoch: u64, scan: &Scan, last: Option<u64>) -> Option<SegmentRow>
+fn row_ending(start: u64, file: &FileScan, last: Option<u64>) -> Option<SegmentRow>
     requires start { 1 ≤ start }
-    requires end { start + length scan.now.bodies ≤ 4611686018427387905 }
-    requires whole { scan.now.whole_length < 2 ^ 63 }
-    ensures { MatchOption result (EndsAt (kind_by last) (start + length scan.now.bodies) → ⊥) (λ row. EndsAt (kind_by last) (start + length scan.now.bodies) × (row ≡ row_in start epoch scan.now (is_final_by last))) }
+    requires limit { start + file.now.scan.count ≤ 2 ^ 62 + 1 }
+    requires places { 24 + file.now.scan.whole_length < 2 ^ 64 }
+    ensures { MatchOption result (EndsAt (kind_by last) (start + file.now.scan.count) → ⊥) (λ row. EndsAt (kind_by last) (start + file.now.scan.count) × (row ≡ row_in start file.now (is_final_by last))) }
 {
-    let row = row_of(start, epoch, scan, last.is_some());
+    let row = row_of(start, file, last.is_some());
     match last {
         Some(last) => {
             if row.info.end != last {
@@ -59,25 +61,6 @@ fn row_ending(start: u64, epoch: u64, scan: &Scan, last: Option<u64>) -> Option<
             Some(row)
         }
         None => Some(row),
-    }
-}
-
-// The row of the segment whose file has these bytes, if they are in its grammar and end as its name says.
-fn row_at(
-    alloc: Global,
-    bytes: &[u8],
-    start: u64,
-    last: Option<u64>,
-) -> Result<Option<SegmentRow>, OutOfMemory>
-    requires { 1 ≤ start }
-    ensures { IfOk result (IsRowFound start last bytes.now) }
-{
-    match read_header(bytes) {
-        Some(header) => match scan_of(alloc, bytes, start)? {
-            Some(scan) => Ok(row_ending(start, header.epoch, &scan, last)),
-            None => Ok(None),
-        },
-        None => Ok(None),
     }
 }
 
@@ -140,11 +123,16 @@ fn read_row<D: Disk>(
     ensures disk { D.tells disk.old → Rests (D.view disk.old) (D.view disk.new) }
     ensures cause { HasCause (D.faults disk.old) (D.faults disk.new) (D.steady disk.old) (D.steady disk.new) (judged_result result) }
 {
-    match read_file(alloc, disk, name) {
-        Ok(Some(bytes)) => match row_at(alloc, &bytes, start, last) {
-            Ok(Some(row)) => with_record(alloc, disk, row),
-            Ok(None) => bad_file(alloc, name),
-            Err(_) => Judged::OutOfMemory,
+    let asked = Asked {
+        name,
+        start,
+        skip: 0,
+        most: 0,
+    };
+    match scan_file(alloc, disk, &asked) {
+        Ok(Some(file)) => match row_ending(start, &file, last) {
+            Some(row) => with_record(alloc, disk, row),
+            None => bad_file(alloc, name),
         },
         Ok(None) => bad_file(alloc, name),
         Err(DiskFail::Failed) => Judged::DiskFault,
@@ -332,7 +320,7 @@ fn open_named<D: Disk>(alloc: Global, disk: &mut D, names: &[String]) -> Opened
 
 /// Opens the segments of a disk whose files are stable and repaired, as `sync_all` and the repair of
 /// half-done acceptances leave them: no start has both a final file and one in progress, no acceptance is
-/// under way, and each record is in its grammar. The file of each segment is read whole, in byte order of
+/// under way, and each record is in its grammar. The file of each segment is scanned, in byte order of
 /// the names. `BadFile` tells the first that is bad, nothing having changed: one that isn't in its grammar,
 /// has another start than its name says, or is final and ends elsewhere than its name says, or is a second
 /// final one of its start. Where the files aren't repaired, a bad record that is read, and any second file

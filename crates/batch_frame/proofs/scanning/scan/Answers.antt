@@ -1,18 +1,14 @@
-use Rattle.std.proofs.Common.{◌≡◌, ◌++◌, ap, ◌∙◌, arith}
-use Rattle.batch_frame.specs.Entries.{EntriesView}
-use Rattle.batch_frame.proofs.ReadLaws.{scans_more, in_room}
+use Rattle.batch_frame.proofs.PieceLaws.{scan_of_all, tail_of_all, bad_of_all}
 use Rattle.batch_frame.proofs.scanning.scan.Goals as goal
 
-pub overflow_add-at : goal.overflow_add-at
-overflow_add-at c = let room = in_room c.args.bytes.now c.loop-bodies.at c.loop-bodies.next c.in-Whole.count c.in-Whole.length c.in-Whole.ensures in omega (arith, room.there)
+pub returns-in-Ok-None : goal.returns-in-Ok-None
+returns-in-Ok-None c =
+    let ends = rw c.in-Ok-None.field-0-is at c.in-Ok-None.ensures.stop in (
+      scan_of_all c.args.first c.args.bytes.now c.args.skip c.args.most c.new-scan.result c.scan_window.new.scan c.new-scan.ensures (λ bytes others. c.in-Ok-None.ensures.scans bytes others),
+      tail_of_all c.args.first c.args.bytes.now c.args.skip c.args.most c.new-scan.result c.scan_window.new.scan c.new-scan.ensures (λ bytes others. c.in-Ok-None.ensures.scans bytes others) ends,
+    )
 
-pub overflow_add-next : goal.overflow_add-next
-overflow_add-next c = let room = in_room c.args.bytes.now c.loop-bodies.at c.loop-bodies.next c.in-Whole.count c.in-Whole.length c.in-Whole.ensures in omega (arith, room.txids)
-
-pub loop-bodies-smaller : goal.loop-bodies-smaller
-loop-bodies-smaller c = let room = in_room c.args.bytes.now c.loop-bodies.at c.loop-bodies.next c.in-Whole.count c.in-Whole.length c.in-Whole.ensures in omega (arith, room.there, room.some)
-
-pub loop-bodies-preserved : goal.loop-bodies-preserved
-loop-bodies-preserved c =
-    scans_more c.args.first c.args.bytes.now c.loop-bodies.bodies c.push_bodies.new.bodies c.loop-bodies.at c.loop-bodies.next c.in-Whole.count c.in-Whole.length c.loop-bodies.invariant c.in-Whole.ensures
-    (c.in-Ok.ensures ∙ ap (λ (x : EntriesView). c.loop-bodies.bodies ++ x.bodies) (c.of-entries.ensures c.in-Whole.ensures.batch c.in-Whole.ensures.spells))
+pub returns-in-Ok-Some : goal.returns-in-Ok-Some
+returns-in-Ok-Some c =
+    bad_of_all c.args.first c.args.bytes.now c.args.skip c.args.most c.new-scan.result c.scan_window.new.scan c.new-scan.ensures (λ bytes others. c.in-Ok-Some.ensures.scans bytes others)
+    c.in-Ok-Some.cause (rw c.in-Ok-Some.field-0-is at c.in-Ok-Some.ensures.stop)
