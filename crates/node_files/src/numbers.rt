@@ -32,6 +32,7 @@ pub fn put_number<D: Disk>(alloc: Global, disk: &mut D, number: NodeNumber, valu
     ensures counts { IsCounted 3 (D.left disk.old) (D.left disk.new) (put_result result) }
     ensures cut { D.tells disk.old → (s : NodeState) → HoldsState (D.view disk.old) s
         → IsCutAt (λ _. number_cost) s (after_effect s (number_effect number value)) (D.left disk.old) (put_result result) (D.view disk.new) }
+    ensures reads { D.reads disk.new ≡ D.reads disk.old }
     ensures cause { HasCause (D.faults disk.old) (D.faults disk.new) (D.steady disk.old) (D.steady disk.new) (put_result result) }
 {
     NumberFile::put(alloc, disk, number.name(), value)

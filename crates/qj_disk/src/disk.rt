@@ -64,7 +64,7 @@ pub trait Disk {
     // A count that never falls, and rose in each call that answered Failed.
     ghost faults: { Self → ℕ };
 
-    // A count that never falls, and rose in each call of `read`.
+    // A count that never falls, rose in each call of `read`, and stays in every other call.
     ghost reads: { Self → ℕ };
 
     // No call answers Failed.
@@ -78,6 +78,7 @@ pub trait Disk {
         ensures tells { tells self.old ↔ tells self.new }
         ensures length { tells self.old → IfOk result (λ len. len ≡ option_map length ((view self.old).seen name.now)) }
         ensures disk { tells self.old → Rests (view self.old) (view self.new) }
+        ensures reads { reads self.new ≡ reads self.old }
         ensures cause { HasCause (faults self.old) (faults self.new) (steady self.old) (steady self.new) result }
         ensures budget { Budget (left self.old) (left self.new) (tells self.old) result (view self.old) (view self.new) };
 
@@ -89,6 +90,7 @@ pub trait Disk {
         ensures bytes { tells self.old → IfOk result (λ n. take n into.new ≡ take (length into.old) (drop at (bytes_of ((view self.old).seen name.now)))) }
         ensures disk { tells self.old → Rests (view self.old) (view self.new) }
         ensures reads { Rose (reads self.old) (reads self.new) }
+        ensures later { reads self.old ≤ reads self.new }
         ensures cause { HasCause (faults self.old) (faults self.new) (steady self.old) (steady self.new) result }
         ensures budget { Budget (left self.old) (left self.new) (tells self.old) result (view self.old) (view self.new) };
 
@@ -97,6 +99,7 @@ pub trait Disk {
         ensures tells { tells self.old ↔ tells self.new }
         ensures names { tells self.old → IfOk result (λ v. Lists (map string_bytes v.items) (view self.old).seen) }
         ensures disk { tells self.old → Rests (view self.old) (view self.new) }
+        ensures reads { reads self.new ≡ reads self.old }
         ensures cause { HasCause (faults self.old) (faults self.new) (steady self.old) (steady self.new) result }
         ensures budget { Budget (left self.old) (left self.new) (tells self.old) result (view self.old) (view self.new) };
 
@@ -107,6 +110,7 @@ pub trait Disk {
         requires { tells self.old → at ≤ length (bytes_of ((view self.old).seen name.now)) }
         ensures tells { tells self.old ↔ tells self.new }
         ensures disk { tells self.old → Writes name.now at bytes.now result (view self.old) (view self.new) }
+        ensures reads { reads self.new ≡ reads self.old }
         ensures cause { HasCause (faults self.old) (faults self.new) (steady self.old) (steady self.new) result }
         ensures budget { Budget (left self.old) (left self.new) (tells self.old) result (view self.old) (view self.new) };
 
@@ -116,6 +120,7 @@ pub trait Disk {
         requires { tells self.old → (IsSome ((view self.old).seen name.now) × (to ≤ length (bytes_of ((view self.old).seen name.now)))) }
         ensures tells { tells self.old ↔ tells self.new }
         ensures disk { tells self.old → Cuts name.now to result (view self.old) (view self.new) }
+        ensures reads { reads self.new ≡ reads self.old }
         ensures cause { HasCause (faults self.old) (faults self.new) (steady self.old) (steady self.new) result }
         ensures budget { Budget (left self.old) (left self.new) (tells self.old) result (view self.old) (view self.new) };
 
@@ -125,6 +130,7 @@ pub trait Disk {
         requires { tells self.old → IsSome ((view self.old).seen name.now) }
         ensures tells { tells self.old ↔ tells self.new }
         ensures disk { tells self.old → Syncs name.now result (view self.old) (view self.new) }
+        ensures reads { reads self.new ≡ reads self.old }
         ensures cause { HasCause (faults self.old) (faults self.new) (steady self.old) (steady self.new) result }
         ensures budget { Budget (left self.old) (left self.new) (tells self.old) result (view self.old) (view self.new) };
 
@@ -134,6 +140,7 @@ pub trait Disk {
         requires { tells self.old → IsSome ((view self.old).seen from.now) }
         ensures tells { tells self.old ↔ tells self.new }
         ensures disk { tells self.old → Atomic (Moves from.now to.now) result (view self.old) (view self.new) }
+        ensures reads { reads self.new ≡ reads self.old }
         ensures cause { HasCause (faults self.old) (faults self.new) (steady self.old) (steady self.new) result }
         ensures budget { Budget (left self.old) (left self.new) (tells self.old) result (view self.old) (view self.new) };
 
@@ -143,6 +150,7 @@ pub trait Disk {
         requires { tells self.old → IsSome ((view self.old).seen name.now) }
         ensures tells { tells self.old ↔ tells self.new }
         ensures disk { tells self.old → Atomic (ChangesOnly name.now IsGone) result (view self.old) (view self.new) }
+        ensures reads { reads self.new ≡ reads self.old }
         ensures cause { HasCause (faults self.old) (faults self.new) (steady self.old) (steady self.new) result }
         ensures budget { Budget (left self.old) (left self.new) (tells self.old) result (view self.old) (view self.new) };
 

@@ -47,6 +47,7 @@ impl NumberFile {
         ensures tells { D.tells disk.old ↔ D.tells disk.new }
         ensures put { D.tells disk.old → Effect (Disturbs (temporary name.now)) (Puts name.now (temporary name.now) (number_bytes value)) (put_result result) (D.view disk.old) (D.view disk.new) }
         ensures cut { PutCut (D.left disk.old) (D.left disk.new) (D.tells disk.old) (temporary name.now) (put_result result) (D.view disk.old) (D.view disk.new) }
+        ensures reads { D.reads disk.new ≡ D.reads disk.old }
         ensures cause { HasCause (D.faults disk.old) (D.faults disk.new) (D.steady disk.old) (D.steady disk.new) (put_result result) }
     {
         put_bytes(alloc, disk, name, &print_number(value))

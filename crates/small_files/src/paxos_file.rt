@@ -46,6 +46,7 @@ impl PaxosFile {
         ensures tells { D.tells disk.old ↔ D.tells disk.new }
         ensures put { D.tells disk.old → Effect (Disturbs (temporary (name_of start))) (Puts (name_of start) (temporary (name_of start)) (record_bytes (record { epoch = epoch; end = end }))) (put_result result) (D.view disk.old) (D.view disk.new) }
         ensures cut { PutCut (D.left disk.old) (D.left disk.new) (D.tells disk.old) (temporary (name_of start)) (put_result result) (D.view disk.old) (D.view disk.new) }
+        ensures reads { D.reads disk.new ≡ D.reads disk.old }
         ensures cause { HasCause (D.faults disk.old) (D.faults disk.new) (D.steady disk.old) (D.steady disk.new) (put_result result) }
     {
         match paxos_name(alloc, start) {
@@ -62,6 +63,7 @@ impl PaxosFile {
         ensures tells { D.tells disk.old ↔ D.tells disk.new }
         ensures disk { D.tells disk.old → Atomic (ChangesOnly (name_of start) IsGone) (put_result result) (D.view disk.old) (D.view disk.new) }
         ensures cut { OneCut (D.left disk.old) (D.left disk.new) (D.tells disk.old) (put_result result) (D.view disk.old) (D.view disk.new) }
+        ensures reads { D.reads disk.new ≡ D.reads disk.old }
         ensures cause { HasCause (D.faults disk.old) (D.faults disk.new) (D.steady disk.old) (D.steady disk.new) (put_result result) }
     {
         match paxos_name(alloc, start) {

@@ -17,6 +17,7 @@ pub fn put_bytes<D: Disk>(alloc: Global, disk: &mut D, name: &str, bytes: &[u8])
     ensures tells { D.tells disk.old ↔ D.tells disk.new }
     ensures put { D.tells disk.old → Effect (Disturbs (temporary name.now)) (Puts name.now (temporary name.now) bytes.now) (put_result result) (D.view disk.old) (D.view disk.new) }
     ensures cut { PutCut (D.left disk.old) (D.left disk.new) (D.tells disk.old) (temporary name.now) (put_result result) (D.view disk.old) (D.view disk.new) }
+    ensures reads { D.reads disk.new ≡ D.reads disk.old }
     ensures cause { HasCause (D.faults disk.old) (D.faults disk.new) (D.steady disk.old) (D.steady disk.new) (put_result result) }
 {
     match temporary_name(alloc, name) {
@@ -42,6 +43,7 @@ pub fn put_through<D: Disk>(disk: &mut D, tmp: &str, name: &str, bytes: &[u8]) -
     ensures tells { D.tells disk.old ↔ D.tells disk.new }
     ensures put { D.tells disk.old → Effect (Disturbs tmp.now) (Puts name.now tmp.now bytes.now) (put_result result) (D.view disk.old) (D.view disk.new) }
     ensures cut { PutCut (D.left disk.old) (D.left disk.new) (D.tells disk.old) tmp.now (put_result result) (D.view disk.old) (D.view disk.new) }
+    ensures reads { D.reads disk.new ≡ D.reads disk.old }
     ensures cause { HasCause (D.faults disk.old) (D.faults disk.new) (D.steady disk.old) (D.steady disk.new) (put_result result) }
 {
     Put::from(put_by(disk, tmp, name, bytes))
@@ -54,6 +56,7 @@ fn put_by<D: Disk>(disk: &mut D, tmp: &str, name: &str, bytes: &[u8]) -> Result<
     ensures tells { D.tells disk.old ↔ D.tells disk.new }
     ensures put { D.tells disk.old → Effect (Disturbs tmp.now) (Puts name.now tmp.now bytes.now) result (D.view disk.old) (D.view disk.new) }
     ensures cut { PutCut (D.left disk.old) (D.left disk.new) (D.tells disk.old) tmp.now result (D.view disk.old) (D.view disk.new) }
+    ensures reads { D.reads disk.new ≡ D.reads disk.old }
     ensures cause { HasCause (D.faults disk.old) (D.faults disk.new) (D.steady disk.old) (D.steady disk.new) result }
 {
     disk.write_at(tmp, 0, bytes)?;

@@ -1,0 +1,4 @@
+pub mod Pushing
+pub mod Pieces
+pub mod Following
+pub mod Reading
