@@ -71,12 +71,15 @@ sounds_asked n node caller muted stop q w h low high s = by (line_did (stopping 
     by (still is same) = subst (Sounds n) (sym (still_at n node caller muted stop q w h low high is (same ∙ stopping_at n w node stop h low high)).0) s
     by (gone move is due same off) =
         let moves : (taken_at node stop q w).cell.state ≡ moved (node_after node (entries w.trace)) move = same ∙ ap (λ (x : NodeState). moved x move) (stopping_at n w node stop h low high) in
-        subst (Sounds n) (sym (moved_at n node caller muted stop q w move h low high is moves).0) (record {
-          from_one = low;
-          up_to_n = high;
-          due = subst (λ (x : NodeState). IsDue x move) (stopping_at n w node stop h low high) due;
-          moves = λ (e : moved (node_after node (entries w.trace)) move ≡ node_after node (entries w.trace)). off (moves ∙ e ∙ sym (stopping_at n w node stop h low high));
-        }, s)
+        subst (Sounds n) (sym (moved_at n node caller muted stop q w move h low high is moves).0) (
+          record {
+            from_one = low;
+            up_to_n = high;
+            due = subst (λ (x : NodeState). IsDue x move) (stopping_at n w node stop h low high) due;
+            moves = λ (e : moved (node_after node (entries w.trace)) move ≡ node_after node (entries w.trace)). off (moves ∙ e ∙ sym (stopping_at n w node stop h low high));
+          },
+          s,
+        )
 
 -- ## A call that is delivered
 plain_refused : (x : Reply) (f : Refusal) → x ≡ Refused f → plain_heard (told.Answer x) ≡ told.Silent
