@@ -1,6 +1,6 @@
 -- What a play keeps from step to step.
 use Rattle.std.proofs.Common.{◌≡◌, ℕ, ◌-◌, ◌<◌, ◌≤◌, List, ◌++◌, Bool, true, false, refl, sym, ap, ◌∙◌, subst, length, get_or, set, inl, inr}
-use Rattle.std.specs.Prelude.{Some, ◌≢◌, ◌==◌}
+use Rattle.std.specs.Prelude.{Some, ◌≢◌}
 use Rattle.std.proofs.lemmas.List.{get_or-set_other, length-set}
 use Rattle.journal_core.specs.declared.request.Request.{Request}
 use Rattle.node_world.specs.declared.node_ask.NodeAsk.{NodeAsk}

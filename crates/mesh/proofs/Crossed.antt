@@ -1,5 +1,5 @@
 -- Two takeovers that crossed: their lists agree, and no one order of all lines fits them.
-use Rattle.std.proofs.Common.{◌≡◌, ℕ, zero, suc, ◌+◌, ◌<◌, ◌≤◌, ◌==◌, List, [], ◌∷◌, ◌++◌, Bool, true, false, cond, filter, map, length, refl, sym, ap, ◌∙◌, subst, arith, append_assoc, Some, None}
+use Rattle.std.proofs.Common.{◌≡◌, ℕ, zero, suc, ◌+◌, ◌<◌, ◌≤◌, ◌==◌, List, [], ◌∷◌, ◌++◌, Bool, true, false, cond, filter, map, refl, sym, ap, ◌∙◌, subst, arith, append_assoc}
 use Rattle.journal_core.specs.declared.request.Request.TheVariants as request
 use Rattle.journal_core.specs.declared.reply.Reply.{Reply}
 use Rattle.journal_core.specs.declared.reply.Reply.TheVariants as reply
@@ -11,22 +11,21 @@ use Rattle.journal_core.specs.Cuts.{standing}
 use Rattle.writer_core.specs.declared.task.Task.TheVariants as task
 use Rattle.writer_core.specs.Best.{best_from, greatest_promise, greatest_newest}
 use Rattle.writer_core.specs.Rounds.{judged, fetched}
-use Rattle.writer_core.specs.Writer.{log_limit, writer_begun, writer_heard, new_writer}
+use Rattle.writer_core.specs.Writer.{log_limit, writer_begun, writer_heard}
 use Rattle.node_world.specs.declared.history_line.HistoryLine.{HistoryLine}
 use Rattle.node_world.specs.declared.record.Record.{Record}
-use Rattle.node_world.specs.declared.record.Record.TheVariants.{Call}
 use Rattle.node_world.specs.declared.record.Told.TheVariants as told
-use Rattle.node_world.specs.Cell.{cell_takes, cell_after, fresh_cell, IsLocalRun}
+use Rattle.node_world.specs.Cell.{cell_takes, fresh_cell, IsLocalRun}
 use Rattle.node_world.specs.Moving.{Placed, epoch_of, moves, move_of, entry_of, moving_of}
 use Rattle.node_world.proofs.Slots.{true≢false}
-use Rattle.mesh.specs.Marks.{calls_to, IsAsMarked, IsMarked, AreCopied}
+use Rattle.mesh.specs.Marks.{IsAsMarked, IsMarked, AreCopied}
 use Rattle.mesh.specs.Makers.{maker_of, maker_hears, HaveBodies, IsMade, IsOfTasks, IsOperators}
 use Rattle.mesh.specs.Matches.{reaches, reached, lines_of, IsSame, AreSame, AreWithin, CallersWithin}
 use Rattle.mesh.specs.Agree.{Agrees, operator_of, history_at, record_of, plan_of}
 use Rattle.mesh.specs.Owners.{wins, owns}
 use Rattle.mesh.specs.Order.{placed_from, place_of, key_of, is_below, tags_of, blocks_cut, blocks_from, put_block, sorted, entries_in, epoch_order}
-use Rattle.mesh.specs.Traces.{history_of, InStep, IsTrace}
-use Rattle.mesh.specs.Examples.{listed, called, answered, promised, crossed, crossed_order}
+use Rattle.mesh.specs.Traces.{history_of, IsTrace}
+use Rattle.mesh.specs.Examples.{listed, called, promised, crossed, crossed_order}
 use Rattle.mesh.proofs.Lists.{contains_none, same_test}
 use Rattle.mesh.proofs.Tied.{Tied}
 use Rattle.mesh.proofs.InStep.{tied_of, Sent, sent_at}

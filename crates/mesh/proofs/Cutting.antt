@@ -1,5 +1,5 @@
 -- In the epoch order the entries of each node stand as in its history.
-use Rattle.std.proofs.Common.{◌≡◌, ℕ, zero, suc, ◌+◌, ◌-◌, ◌<◌, ◌≤◌, List, [], ◌∷◌, ◌++◌, Bool, true, false, cond, filter, map, refl, sym, ap, ◌∙◌, subst, arith, length, get_or, append_assoc, ◌⊎◌, inl, inr}
+use Rattle.std.proofs.Common.{◌≡◌, ℕ, zero, suc, ◌+◌, ◌<◌, List, [], ◌∷◌, ◌++◌, Bool, true, false, cond, filter, refl, sym, ap, ◌∙◌, subst, arith, length, get_or, append_assoc, ◌⊎◌, inl, inr}
 use Rattle.std.specs.Prelude.{Option, Some, None, ◌==◌, nat_lt, ◌||◌, ◌&&◌, ◌≢◌, filter_map}
 use Rattle.std.proofs.lemmas.Bool.{le-ltb}
 use Rattle.node_world.specs.declared.history_line.HistoryLine.{HistoryLine}

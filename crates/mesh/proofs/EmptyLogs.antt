@@ -1,14 +1,12 @@
 -- A log without a body: what moved its node is no run, so no lists with one agree.
-use Rattle.std.proofs.Common.{◌≡◌, ℕ, ◌≤◌, List, [], ◌∷◌, length, refl, sym, ap, ◌∙◌, subst, arith, None}
+use Rattle.std.proofs.Common.{◌≡◌, ℕ, ◌≤◌, List, [], length, refl, sym, subst, arith}
 use Rattle.journal_core.specs.Views.{HeadView, BatchView}
 use Rattle.journal_core.specs.declared.request.Request.TheVariants as request
-use Rattle.journal_core.specs.declared.reply.Reply.TheVariants as reply
 use Rattle.journal_core.specs.Segments.{find_segment, put_segment, remove_segment, newest}
 use Rattle.journal_core.specs.Limits.{limit_of}
 use Rattle.journal_core.specs.Effects.{after_effects}
 use Rattle.journal_core.specs.Step.{node_step, effects_of}
 use Rattle.journal_core.specs.Cuts.{standing}
-use Rattle.writer_core.specs.Rounds.{start_record}
 use Rattle.node_world.specs.Cell.{cell_takes}
 use Rattle.node_world.specs.Entries.{Entry}
 use Rattle.node_world.specs.Moving.{epoch_of, moves, move_of, entry_of, moving_of}
@@ -21,7 +19,7 @@ use Rattle.mesh.specs.Matches.{reaches, reached, lines_of}
 use Rattle.mesh.specs.Agree.{Agrees}
 use Rattle.mesh.specs.Owners.{wins, owns}
 use Rattle.mesh.specs.Order.{placed_from, place_of, key_of, is_below, tags_of, blocks_cut, blocks_from, put_block, sorted, entries_in, epoch_order}
-use Rattle.mesh.specs.Examples.{answered, promised, first_head, batch_at, empty_log, empty_order}
+use Rattle.mesh.specs.Examples.{first_head, batch_at, empty_log, empty_order}
 use Rattle.mesh.proofs.OrderRuns.{order_runs}
 
 -- in a run each journal has edits

@@ -1,5 +1,5 @@
 -- A caller's record and an order of all lines that has its lines in the order of the record: what stands before each of them in both.
-use Rattle.std.proofs.Common.{◌≡◌, ℕ, List, [], ◌∷◌, ◌++◌, true, false, refl, sym, ap, ◌∙◌, subst, append_assoc, ◌⊎◌, inl, inr}
+use Rattle.std.proofs.Common.{◌≡◌, ℕ, List, [], ◌∷◌, ◌++◌, refl, sym, ap, ◌∙◌, subst, append_assoc, ◌⊎◌, inl, inr}
 use Rattle.node_world.specs.declared.record.Record.{Record}
 use Rattle.node_world.specs.Moving.{Placed}
 use Rattle.mesh.specs.Matches.{reached, lines_of, AreSame}

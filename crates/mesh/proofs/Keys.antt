@@ -1,25 +1,23 @@
 -- In an agreeing mesh the keys of each node rise.
-use Rattle.std.proofs.Common.{◌≡◌, ℕ, zero, suc, ◌+◌, ◌-◌, ◌<◌, ◌≤◌, List, [], ◌∷◌, ◌++◌, Bool, true, false, cond, filter, refl, sym, ap, ◌∙◌, subst, arith, length, get_or, append_assoc, length-append, ◌⊎◌, inl, inr}
-use Rattle.std.specs.Prelude.{Option, Some, None, ◌==◌, nat_lt, ◌&&◌, ◌||◌, ◌≢◌}
+use Rattle.std.proofs.Common.{◌≡◌, ℕ, zero, suc, ◌+◌, ◌<◌, ◌≤◌, List, [], ◌∷◌, ◌++◌, Bool, true, false, cond, filter, refl, sym, ap, ◌∙◌, subst, arith, length, get_or, append_assoc, length-append, ◌⊎◌, inl, inr}
+use Rattle.std.specs.Prelude.{Option, Some, None, ◌==◌, nat_lt, ◌&&◌, ◌||◌}
 use Rattle.std.proofs.lemmas.Bool.{le-ltb, cases_Bool}
 use Rattle.journal_core.specs.declared.request.Request.{Request}
-use Rattle.node_world.specs.declared.node_ask.NodeAsk.{NodeAsk}
 use Rattle.node_world.specs.declared.node_ask.NodeAsk.TheVariants.{Act}
-use Rattle.node_world.specs.declared.node_ask.NodeAnswer.{NodeAnswer}
 use Rattle.node_world.specs.declared.history_line.HistoryLine.{HistoryLine}
 use Rattle.node_world.specs.declared.record.Record.{Record}
 use Rattle.node_world.specs.Cell.{Cell, cell_takes, fresh_cell, IsLocalRun}
 use Rattle.node_world.specs.Entries.{Move, Entry}
-use Rattle.node_world.specs.Moving.{Placed, epoch_of, is_proposal, move_of, entry_at, entry_of, falls}
+use Rattle.node_world.specs.Moving.{is_proposal, move_of, entry_at, entry_of, falls}
 use Rattle.node_world.proofs.Raised.{Raised, CellRaised, cell_raised}
 use Rattle.node_world.proofs.CellLaws.{promise}
 use Rattle.mesh.specs.declared.whole.Mesh.{Mesh}
-use Rattle.mesh.specs.Matches.{reaches, reached, lines_of, IsSame, AreSame, CallersWithin}
+use Rattle.mesh.specs.Matches.{reaches, reached, lines_of, AreSame, CallersWithin}
 use Rattle.mesh.specs.Agree.{Agrees, operator_of, history_at, record_of}
 use Rattle.mesh.specs.Owners.{owns, HasOwners}
 use Rattle.mesh.specs.Order.{Key, Tagged, is_muted, line_of_caller, place_of, owners_place, key_of, is_below, tag_first, tags_of}
 use Rattle.mesh.specs.Sorted.{NotBelow, Rising, AllRising}
-use Rattle.mesh.proofs.Lists.{Alike, alike, same_test, other_test}
+use Rattle.mesh.proofs.Lists.{Alike, alike, same_test}
 
 -- ## Places of a caller's record rise
 pub at_least : (k j p : ℕ) (rs : List Record) → p ≤ place_of k j p rs

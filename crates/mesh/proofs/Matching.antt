@@ -156,8 +156,7 @@ both_note m i before after h whole x =
     ap (λ (j : ℕ). slice_get (lines_of h.caller (history_at m j)) (length (reached (i + 1) x.past))) back
     ∙ ap (λ (j : ℕ). slice_get (lines_of h.caller (history_at m i)) j) x.count
     ∙ ap (λ (l : List HistoryLine). slice_get l (length (lines_of h.caller before))) (ap (lines_of h.caller) (sym whole) ∙ lines_at h.caller before after h refl)
-    ∙ get_at (lines_of h.caller before) h (lines_of h.caller after) in
-    (
+    ∙ get_at (lines_of h.caller before) h (lines_of h.caller after) in (
       ap (entry_by (i + 1) x.line) there ∙ ap (λ (o : Option Record). entry_of (record { node = i + 1; line = h; muted = is_muted o })) (sym (line_is m i before h x)),
       place_is m i before h x,
     )

@@ -1,10 +1,9 @@
 -- An epoch of an agreeing mesh has one owner.
-use Rattle.std.proofs.Common.{◌≡◌, ℕ, zero, suc, ◌+◌, ◌-◌, ◌*◌, ◌<◌, ◌≤◌, List, [], ◌∷◌, ◌++◌, Bool, true, false, cond, filter, refl, sym, ap, ◌∙◌, subst, arith, length, get_or, ◌⊎◌, inl, inr}
-use Rattle.std.specs.Prelude.{Option, Some, None, ◌==◌, nat_lt, ◌≢◌}
+use Rattle.std.proofs.Common.{◌≡◌, ℕ, zero, suc, ◌+◌, ◌-◌, ◌*◌, ◌<◌, ◌≤◌, List, [], ◌∷◌, Bool, true, false, cond, filter, refl, sym, ap, ◌∙◌, subst, arith, length, get_or, ◌⊎◌, inl, inr}
+use Rattle.std.specs.Prelude.{Option, Some, ◌==◌}
 use Rattle.std.proofs.lemmas.Bool.{ltb-true}
 use Rattle.journal_core.specs.declared.request.Request.{Request}
 use Rattle.journal_core.specs.declared.request.Request.TheVariants as request
-use Rattle.journal_core.specs.declared.reply.Reply.{Reply}
 use Rattle.journal_core.specs.declared.reply.Reply.TheVariants as reply
 use Rattle.node_world.specs.declared.node_ask.NodeAsk.TheVariants.{Act}
 use Rattle.node_world.specs.declared.node_ask.NodeAnswer.TheVariants.{Replied}
@@ -26,7 +25,7 @@ use Rattle.mesh.specs.Agree.{Agrees, operator_of, history_at, record_of}
 use Rattle.mesh.specs.Owners.{promised_to, wins, owns, HasOwners}
 use Rattle.mesh.proofs.Lists.{Alike, alike, same_test}
 use Rattle.mesh.proofs.Shared.{In, Below, shared}
-use Rattle.mesh.proofs.Winners.{HeardOk, AllHeard, all_in, HasMajority, owner_heard}
+use Rattle.mesh.proofs.Winners.{HeardOk, all_in, HasMajority, owner_heard}
 use Rattle.mesh.proofs.Heads.{heads_own}
 
 -- the line answers a proposal of e with a promise

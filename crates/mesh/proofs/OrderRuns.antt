@@ -1,6 +1,6 @@
 -- The epoch order of a mesh that agrees is a run, and so a safe one; so is any order that keeps what stands in order.
-use Rattle.std.proofs.Common.{◌≡◌, ℕ, ◌+◌, ◌<◌, ◌≤◌, ◌⊎◌, inl, inr, List, [], ◌∷◌, ◌++◌, false, reverse, refl, sym, ap, ◌∙◌, subst, arith}
-use Rattle.node_world.specs.Entries.{Entry, node_after}
+use Rattle.std.proofs.Common.{◌≡◌, ℕ, ◌+◌, ◌<◌, ◌≤◌, ◌⊎◌, inl, inr, List, [], ◌∷◌, false, reverse, refl, sym, ap, ◌∙◌, subst, arith}
+use Rattle.node_world.specs.Entries.{node_after}
 use Rattle.node_world.specs.Run.{Story, IsRun}
 use Rattle.node_world.specs.Safe.{IsSafe}
 use Rattle.node_world.specs.Moving.{moving_of, falls}

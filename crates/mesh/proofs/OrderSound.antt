@@ -2,13 +2,10 @@
 use Rattle.std.proofs.Common.{◌≡◌, ◌≢◌, ℕ, ◌+◌, ◌-◌, ◌<◌, ◌≤◌, ◌==◌, inl, inr, List, [], ◌∷◌, ◌++◌, Bool, refl, sym, ap, ◌∙◌, subst, arith, Option, Some, None}
 use Rattle.std.specs.Prelude.{filter_map}
 use Rattle.journal_core.specs.declared.node_state.NodeState.{NodeState}
-use Rattle.journal_core.specs.declared.request.Request.{Request}
-use Rattle.node_world.specs.declared.node_ask.NodeAsk.{NodeAsk}
-use Rattle.node_world.specs.declared.node_ask.NodeAsk.TheVariants as ask
 use Rattle.node_world.specs.declared.history_line.HistoryLine.{HistoryLine}
 use Rattle.node_world.specs.Cell.{Cell, cell_takes, fresh_cell, IsLocalRun}
-use Rattle.node_world.specs.Entries.{Move, Answer, Stop, Kill, Restart, Entry, moved, node_after}
-use Rattle.node_world.specs.Moving.{Placed, move_of, way_of, entry_at, entry_of, moving_of}
+use Rattle.node_world.specs.Entries.{Move, Entry, moved, node_after}
+use Rattle.node_world.specs.Moving.{Placed, move_of, entry_at, entry_of, moving_of}
 use Rattle.node_world.proofs.Entering.{Did, still, gone, line_did}
 use Rattle.mesh.specs.declared.whole.Mesh.{Mesh}
 use Rattle.mesh.specs.Agree.{Agrees, history_at}

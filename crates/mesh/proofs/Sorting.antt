@@ -1,6 +1,6 @@
 -- Putting blocks in order keeps the order of those that already stood in order among themselves, as the blocks of one node do.
-use Rattle.std.proofs.Common.{◌≡◌, ℕ, List, [], ◌∷◌, Bool, true, false, cond, filter, refl, ap, ◌∙◌}
-use Rattle.mesh.specs.Order.{Key, Block, is_below, put_block, sorted}
+use Rattle.std.proofs.Common.{◌≡◌, List, [], ◌∷◌, Bool, true, false, cond, filter, refl, ap, ◌∙◌}
+use Rattle.mesh.specs.Order.{Block, is_below, put_block, sorted}
 use Rattle.mesh.specs.Sorted.{NoneBelow, InOrder}
 
 module _ (test : Block → Bool) where

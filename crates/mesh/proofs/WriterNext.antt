@@ -1,10 +1,9 @@
 -- What an answer leaves a writer in: the same round, the round of proposals behind that of states, a later one, or none.
-use Rattle.std.proofs.Common.{◌≡◌, ℕ, zero, suc, ◌+◌, ◌-◌, ◌*◌, ◌<◌, ◌≤◌, List, [], ◌∷◌, ◌++◌, Bool, true, false, cond, refl, sym, ap, ◌∙◌, subst, arith, length, take, ◌⊎◌, inl, inr}
+use Rattle.std.proofs.Common.{◌≡◌, ℕ, ◌+◌, ◌-◌, List, ◌++◌, Bool, true, false, cond, refl, ◌∙◌, length, take, ◌⊎◌, inl, inr}
 use Rattle.std.specs.Prelude.{Option, Some, None, ◌≢◌, ◌&&◌, nat_lt}
 use Rattle.std.specs.List.{list_any}
-use Rattle.journal_core.specs.Views.{BatchView, last_txid}
+use Rattle.journal_core.specs.Views.{BatchView}
 use Rattle.journal_core.specs.Limits.{max_number}
-use Rattle.journal_core.specs.declared.reply.Reply.{Reply}
 use Rattle.journal_core.specs.declared.reply.Reply.TheVariants as reply
 use Rattle.journal_core.specs.declared.heard.Heard.{Heard}
 use Rattle.journal_core.specs.declared.heard.Heard.TheVariants.{Answer, Silent}
@@ -14,11 +13,10 @@ use Rattle.writer_core.specs.declared.phase.Phase.{Phase}
 use Rattle.writer_core.specs.declared.phase.Phase.TheVariants as phase
 use Rattle.writer_core.specs.declared.phase.Aim.{Aim}
 use Rattle.writer_core.specs.declared.phase.Aim.TheVariants as aim
-use Rattle.writer_core.specs.declared.slot.Slot.{Slot}
 use Rattle.writer_core.specs.Views.{WriterView}
 use Rattle.writer_core.specs.Answers.{is_waiting, has_majority, fits_edits}
 use Rattle.writer_core.specs.Best.{Best, best_of, greatest_promise, greatest_newest}
-use Rattle.writer_core.specs.Rounds.{numbers_fit, Judged, going, stopped, proposing, done_in, with_causes, judged_by, judged, taken_out, fetched, after_propose, recovering, after_finalize, after_open, after_write, edits_fetched, not_fetched, next_serial, missed, to_all, asking_all, batch_from}
+use Rattle.writer_core.specs.Rounds.{numbers_fit, going, stopped, proposing, done_in, with_causes, judged_by, judged, taken_out, fetched, after_propose, recovering, after_finalize, after_open, after_write, edits_fetched, not_fetched, next_serial, missed, to_all, asking_all, batch_from}
 use Rattle.writer_core.specs.Writer.{with_answer, judged_when, heard_in, heard_at, writer_heard}
 use Rattle.writer_core.specs.declared.turn.Turn.TheVariants as turn
 

@@ -1,10 +1,10 @@
 -- The moving entries of all histories in one order: by the promise that the node has after the entry; under one promise first the
 -- proposals of callers that don't own it, by node, and then the owner's entries in the order of its record. Kills, restarts and stops behind
 -- no effect stay behind the moving entry of their node before them, or at the front.
-use Rattle.std.specs.Prelude.{◌≡◌, ℕ, zero, suc, ◌+◌, ◌==◌, ◌&&◌, ◌||◌, nat_lt, Bool, true, false, List, [], ◌∷◌, ◌++◌, length, filter, slice_get, Option, Some, None, if◌then◌else◌}
+use Rattle.std.specs.Prelude.{ℕ, zero, suc, ◌+◌, ◌==◌, ◌&&◌, ◌||◌, nat_lt, Bool, true, false, List, [], ◌∷◌, ◌++◌, length, filter, slice_get, Option, Some, None, if◌then◌else◌}
 use Rattle.node_world.specs.declared.history_line.HistoryLine.{HistoryLine}
 use Rattle.node_world.specs.declared.record.Record.{Record}
-use Rattle.node_world.specs.declared.record.Record.TheVariants.{Call, Late, Operator, Outcome}
+use Rattle.node_world.specs.declared.record.Record.TheVariants.{Call}
 use Rattle.node_world.specs.declared.record.Told.{Told}
 use Rattle.node_world.specs.declared.record.Told.TheVariants as told
 use Rattle.node_world.specs.Cell.{Cell, fresh_cell, cell_takes}

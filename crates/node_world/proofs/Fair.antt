@@ -1,13 +1,10 @@
 -- What a story says of an entry, without the node's part: the request is its takeover's, in its order, and a heard answer is what it heard.
 -- A run is a list of such entries in which each node answers as it does.
-use Rattle.std.proofs.Common.{◌≡◌, ◌≢◌, ℕ, ◌<◌, ◌≤◌, inl, inr, List, [], ◌∷◌, true, false, length, sym, ap, ◌∙◌, subst, arith}
+use Rattle.std.proofs.Common.{◌≡◌, ◌≢◌, ℕ, ◌<◌, ◌≤◌, List, [], ◌∷◌, true, false, length, arith}
 use Rattle.journal_core.specs.declared.node_state.NodeState.{NodeState}
-use Rattle.journal_core.specs.declared.request.Request.{Request}
-use Rattle.journal_core.specs.declared.reply.Reply.{Reply}
 use Rattle.journal_core.specs.Step.{node_step, effects_of}
-use Rattle.writer_core.specs.Whole.{Takeover}
-use Rattle.node_world.specs.Entries.{Way, Heard, Muted, Late, Move, Answer, Stop, Kill, Restart, Entry, moved, node_after, Earlier, now, before}
-use Rattle.node_world.specs.Run.{Story, IsMade, IsInOrder, IsHeardAs, IsCall, IsNext, Follows}
+use Rattle.node_world.specs.Entries.{Move, Answer, Stop, Kill, Restart, Entry, moved, node_after, Earlier, now, before}
+use Rattle.node_world.specs.Run.{Story, IsHeardAs, IsCall, IsNext, Follows}
 use Rattle.node_world.proofs.Tales.{Tale, place_below, IsLabelled, AreLabelled, Tells, labelled_still, call_still, heard_as_still}
 
 abbrev pub IsFair : ℕ → Story → List Entry → ℕ → Move → Type 0

@@ -1,5 +1,5 @@
 -- Lists of bodies that differ in length aren't the same.
-use Rattle.std.proofs.Common.{◌≡◌, ◌≢◌, ℕ, List, [], ◌∷◌, Bool, true, false, length, refl, ap, ◌∙◌, sym, suc}
+use Rattle.std.proofs.Common.{◌≡◌, ◌≢◌, ℕ, List, [], ◌∷◌, Bool, true, false, length, refl, ap, sym, suc}
 use Rattle.std.specs.Prelude.{◌&&◌}
 use Rattle.node_world.specs.Same.{same_nats, same_bodies}
 

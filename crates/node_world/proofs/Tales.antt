@@ -1,13 +1,12 @@
 -- Stories that grow with the list: more is heard, more tasks are given, more takeovers propose. What held of the list so far still holds.
-use Rattle.std.proofs.Common.{◌≡◌, ℕ, ◌<◌, ◌≤◌, inl, inr, List, [], ◌∷◌, ◌++◌, true, length, sym, ap, ◌∙◌, subst, arith, Option, Some}
+use Rattle.std.proofs.Common.{◌≡◌, ℕ, ◌<◌, ◌≤◌, inl, inr, List, ◌∷◌, ◌++◌, true, length, sym, ap, ◌∙◌, subst, arith, Option, Some}
 use Rattle.std.specs.List.{list_all}
-use Rattle.journal_core.specs.declared.node_state.NodeState.{NodeState}
 use Rattle.journal_core.specs.declared.request.Request.{Request}
 use Rattle.journal_core.specs.declared.reply.Reply.{Reply}
 use Rattle.writer_core.specs.declared.task.Task.{Task}
 use Rattle.writer_core.specs.Whole.{Takeover, Underway, writer_at, asked, calls}
 use Rattle.writer_core.proofs.WholeLaws.{with_tasks, with_heard, going_on, heard_below, tasks_more}
-use Rattle.node_world.specs.Entries.{Way, Heard, Muted, Late, Move, Answer, Stop, Kill, Restart, Entry, node_after, Earlier, now, before}
+use Rattle.node_world.specs.Entries.{Way, Heard, Muted, Late, Move, Entry, Earlier, now, before}
 use Rattle.node_world.specs.Run.{Story, WasHeard, may_follow, IsMade, IsInOrder, IsHeardAs, IsCall}
 use Rattle.node_world.proofs.Places.{Earlier-trans}
 

@@ -1,5 +1,5 @@
 -- A step doesn't depend on what was listed before, and lists behind it.
-use Rattle.std.proofs.Common.{◌≡◌, ℕ, ◌≤◌, List, [], ◌∷◌, ◌++◌, Bool, true, false, length, map, refl, sym, ap, ◌∙◌, subst, Option, Some, None, append_assoc, ◌-◌, zero, suc, get_or, replicate}
+use Rattle.std.proofs.Common.{◌≡◌, ℕ, List, [], ◌∷◌, ◌++◌, Bool, true, false, length, map, refl, sym, ap, ◌∙◌, subst, Option, ◌-◌, zero, suc, get_or, replicate}
 use Rattle.std.specs.Prelude.{filter, ◌==◌, if◌then◌else◌}
 use Rattle.std.proofs.lemmas.List.{map-append, append-nil}
 use Rattle.journal_core.specs.declared.request.Request.{Request}
@@ -15,12 +15,11 @@ use Rattle.node_world.specs.declared.event.Event.TheVariants.{Begin, Call, Late,
 use Rattle.node_world.specs.declared.seen.Seen.{Seen}
 use Rattle.node_world.specs.declared.node_ask.NodeAsk.{NodeAsk}
 use Rattle.node_world.specs.declared.node_ask.NodeAsk.TheVariants as ask
-use Rattle.node_world.specs.declared.history_line.HistoryLine.{HistoryLine}
 use Rattle.node_world.specs.Moving.{Placed}
 use Rattle.node_world.specs.Cell.{fresh_cell}
 use Rattle.node_world.specs.NodeCells.{CellView, new_cell}
 use Rattle.node_world.specs.World.{World, Stepped, acting_at, node_asked, history_in, operated, call_reached, with_acting, with_writer, called_by, copied_when, is_call, is_reading, was_made, task_begun, task_begins, done, not_next, world_step, IsWithin, new_world, fresh_acting}
-use Rattle.node_world.specs.WorldViews.{WorldView, new_view, bare, view_at, CellsGo, IsStepped, StandsFor, IsStepFrom, Steps}
+use Rattle.node_world.specs.WorldViews.{WorldView, new_view, bare, IsStepped, StandsFor, Steps}
 
 abbrev clear : World → World
 clear w = record w { trace = [] }

@@ -12,7 +12,6 @@ use Rattle.node_world.specs.declared.seen.Seen.TheVariants as seen
 use Rattle.node_world.specs.declared.node_ask.NodeAsk.{NodeAsk}
 use Rattle.node_world.specs.declared.node_ask.NodeAsk.TheVariants.{Act}
 use Rattle.node_world.specs.declared.node_ask.NodeAnswer.{NodeAnswer}
-use Rattle.node_world.specs.declared.history_line.HistoryLine.{HistoryLine}
 use Rattle.node_world.specs.NodeCells.{CellView, new_cell, IsTaken}
 use Rattle.node_world.specs.World.{World, Acting, fresh_acting, history_in, Stepped, world_step, stopping, taken_at, node_asked, heard_of, call_heard, call_reached, with_writer, IsWithin}
 

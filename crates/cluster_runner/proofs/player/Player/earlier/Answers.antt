@@ -1,4 +1,4 @@
-use Rattle.std.proofs.Common.{◌≡◌, ◌≤◌, ◌-◌, List, length, sym, ap, ◌∙◌, subst, slice_get}
+use Rattle.std.proofs.Common.{◌≤◌, ◌-◌, List, length, sym, ap, ◌∙◌, subst, slice_get}
 use Rattle.node_world.specs.declared.record.Record.{Record}
 use Rattle.mesh.specs.Marks.{calls_to}
 use Rattle.cluster_runner.specs.Kept.{earlier_call}

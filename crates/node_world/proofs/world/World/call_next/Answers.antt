@@ -1,4 +1,4 @@
-use Rattle.std.proofs.Common.{◌≡◌, rules, subst, ap, ◌∙◌}
+use Rattle.std.proofs.Common.{rules, ap, ◌∙◌}
 use Rattle.node_world.proofs.WorldCode.{next_steps, heard_by}
 use Rattle.node_world.proofs.world.World.call_next.Goals as goal
 

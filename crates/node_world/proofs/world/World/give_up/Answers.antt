@@ -1,4 +1,4 @@
-use Rattle.std.proofs.Common.{rules, refl, arith}
+use Rattle.std.proofs.Common.{rules}
 use Rattle.node_world.proofs.WorldCode.{give_up_steps}
 use Rattle.node_world.proofs.world.World.give_up.Goals as goal
 
