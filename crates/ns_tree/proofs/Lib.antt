@@ -1,0 +1,17 @@
+pub mod Order
+pub mod Walks
+pub mod Finds
+pub mod Pairs
+pub mod Scans
+pub mod Boxes
+pub mod Place
+pub mod Subtree
+pub mod Children
+pub mod Sound
+pub mod Noting
+pub mod Run
+pub mod Tails
+pub mod Renames
+pub mod Turning
+pub mod Ancestors
+pub mod Names

@@ -1,0 +1,18 @@
+use Rattle.std.proofs.Common.{◌≡◌, sym, subst, arith, List, ap, refl}
+use Rattle.ns_tree.specs.declared.inode.Noted.{Noted}
+use Rattle.ns_tree.specs.Space.{Space}
+use Rattle.ns_tree.specs.Places.{IsTree}
+use Rattle.ns_tree.proofs.Noting.{sound_noted}
+use Rattle.ns_tree.proofs.namespace.Namespace.note.Goals as goal
+
+pub invariant_of-self : goal.invariant_of-self
+invariant_of-self c =
+    let calls : c.self.inside.calls.items ≡ c.args.self.now.calls = ap (λ (s : Space). s.calls) c.self.view_is in
+    record {
+      sound = subst (λ (ns : List Noted). IsTree (record { pairs = c.self.inside.rows; calls = ns })) (sym c.put_last.ensures.items)
+          (sound_noted (record { pairs = c.self.inside.rows; calls = c.self.inside.calls.items }) c.args.call c.args.txid c.self.invariant.sound (rw calls c.requires.new) c.requires.positive (omega (arith, c.ranges.txid.fits)) (rw calls c.requires.later));
+      room = c.put_last.ensures.room;
+    }
+
+pub returns : goal.returns
+returns c = rw (c.put_last.ensures.items, ← c.self.view_is) refl

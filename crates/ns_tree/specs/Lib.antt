@@ -1,0 +1,4 @@
+pub mod Path
+pub mod Space
+pub mod Places
+pub mod Examples

@@ -1,0 +1,183 @@
+//! Rows in a list, each in a box of its own, so that a change of the list moves eight bytes a row.
+ghost use Rattle.std.specs.Prelude.{◌≡◌, ℕ, ◌+◌, ◌-◌, ◌<◌, ◌≤◌, List, [], ◌++◌, ◌∷◌, length, map, take, drop, set, MatchResult, OnOk, OnErr, slice_index_or};
+ghost use Rattle.std.specs.List.{insert};
+ghost use Rattle.ns_tree.specs.declared.inode.Row.{Row};
+ghost use Rattle.ns_tree.specs.Path.{walk_cmp};
+ghost use Rattle.ns_tree.specs.Space.{pair, IsInWalkOrder, raised, longest_of};
+ghost use Rattle.ns_tree.specs.Places.{IsAt, IsGapFor, IsSubtreeEnd};
+
+use crate::inode::{Inode, Row};
+use crate::path::{lies_under, walk_order};
+use qj_num::OutOfMemory;
+use std::alloc::{AllocError, Global};
+use std::boxed::Box;
+use std::cmp::Ordering;
+use std::marker::Model;
+
+/// A table has no more rows than an image can count.
+const MOST_ROWS: usize = 4_294_967_295;
+
+/// A list of rows, 4,294,967,295 at most.
+#[derive(Drop)]
+pub struct RowTable {
+    pub(crate) boxes: Vec<Box<Row>>,
+}
+
+impl Model for RowTable {
+    ghost use Rattle.std.specs.Prelude.{List, map, length, ◌≤◌};
+    ghost use Rattle.ns_tree.specs.declared.inode.Row.{Row};
+
+    ghost Value = { List Row };
+
+    ghost view = { λ a. map (λ b. b.value) a.boxes.items };
+
+    ghost invariant = { λ a. length a.boxes.items ≤ 4294967295 };
+}
+
+/// A row's place before, at or after a path.
+fn order_of(row: &Row, path: &[u8]) -> Ordering
+    ensures { result ≡ walk_cmp row.now.path path.now }
+{
+    walk_order(row.path.as_slice(), path)
+}
+
+impl RowTable {
+    /// No row.
+    pub fn new(alloc: Global) -> RowTable
+        ensures { result ≡ [] }
+    {
+        RowTable {
+            boxes: Vec::new(alloc),
+        }
+    }
+
+    /// How many rows there are.
+    pub fn len(&self) -> usize
+        ensures count { result ≡ length self.now }
+        ensures most { result ≤ 4294967295 }
+    {
+        self.boxes.len()
+    }
+
+    /// The row at an index.
+    pub fn row(&self, i: usize) -> &Row
+        requires { i < length self.now }
+        ensures { result.now ≡ slice_index_or self.now i result.now }
+    {
+        &self.boxes[i]
+    }
+
+    /// Where a path stands among rows in the order of a walk, or where it would stand.
+    pub fn search(&self, path: &[u8]) -> Result<usize, usize>
+        requires { IsInWalkOrder self.now }
+        ensures { MatchResult result (IsAt self.now path.now) (IsGapFor self.now path.now) }
+    {
+        search_rows(&self.boxes, path)
+    }
+
+    /// The same among the first rows.
+    pub fn search_first(&self, count: usize, path: &[u8]) -> Result<usize, usize>
+        requires in_range { count ≤ length self.now }
+        requires order { IsInWalkOrder (take count self.now) }
+        ensures { MatchResult result (IsAt (take count self.now) path.now) (IsGapFor (take count self.now) path.now) }
+    {
+        search_rows(&self.boxes[..count], path)
+    }
+
+    /// Puts a row before the index; an `Err` changes nothing.
+    pub fn insert(&mut self, alloc: Global, i: usize, row: Row) -> Result<(), OutOfMemory>
+        requires { i ≤ length self.old }
+        ensures ok { OnOk result (self.new ≡ insert self.old i row) }
+        ensures err { OnErr result (self.new ≡ self.old) }
+    {
+        if self.boxes.len() == MOST_ROWS {
+            return Err(AllocError);
+        }
+        self.boxes.insert(i, Box::new(alloc, row)?)?;
+        Ok(())
+    }
+
+    /// Replaces the inode of a row.
+    pub fn set_inode(&mut self, i: usize, inode: Inode)
+        requires { i < length self.old }
+        ensures { (d : Row) → self.new ≡ set self.old i (pair (slice_index_or self.old i d).path inode) }
+    {
+        replace_inode(&mut self.boxes[i], inode);
+    }
+
+    /// Raises the mtime of a row's directory to the time; a file stays.
+    pub fn raise(&mut self, i: usize, time: u64)
+        requires { i < length self.old }
+        ensures { (d : Row) → self.new ≡ set self.old i (pair (slice_index_or self.old i d).path (raised time (slice_index_or self.old i d).inode)) }
+    {
+        raise_row(&mut self.boxes[i], time);
+    }
+
+    /// The index after the last row under a path that stands at `at`.
+    pub fn subtree_end(&self, path: &[u8], at: usize) -> usize
+        requires { IsAt self.now path.now at }
+        ensures { IsSubtreeEnd self.now path.now at result }
+    {
+        let count = self.len();
+        let mut end = at + 1;
+        while end < count && lies_under(path, self.row(end).path.as_slice()) {
+            end += 1;
+        }
+        end
+    }
+
+    /// The length of the longest path of the rows from `at` to `end`; 0 where there are none.
+    pub fn longest_path(&self, at: usize, end: usize) -> usize
+        requires order { at ≤ end }
+        requires in_range { end ≤ length self.now }
+        ensures { result ≡ longest_of (take (end - at) (drop at self.now)) }
+    {
+        let mut longest = 0;
+        let mut i = end;
+        while i > at {
+            i -= 1;
+            let length = self.row(i).path.as_slice().len();
+            longest = if length < longest { longest } else { length };
+        }
+        longest
+    }
+
+    /// Drops the rows from `at` to `end`.
+    pub fn remove_run(&mut self, at: usize, end: usize)
+        requires order { at ≤ end }
+        requires in_range { end ≤ length self.old }
+        ensures { self.new ≡ take at self.old ++ drop end self.old }
+    {
+        self.boxes.drain(at..end);
+    }
+}
+
+fn search_rows(rows: &[Box<Row>], path: &[u8]) -> Result<usize, usize>
+    requires { IsInWalkOrder (map (λ b. b.value) rows.now) }
+    ensures { MatchResult result (IsAt (map (λ b. b.value) rows.now) path.now) (IsGapFor (map (λ b. b.value) rows.now) path.now) }
+{
+    rows.binary_search_by(
+        |row: &Box<Row>| -> Ordering
+            ensures { result ≡ walk_cmp row.now.value.path path.entry.now }
+        { order_of(row, path) },
+    )
+}
+
+fn replace_inode(row: &mut Box<Row>, inode: Inode)
+    ensures { row.new.value ≡ record row.old.value { inode = inode } }
+{
+    row.inode = inode;
+}
+
+fn raise_row(row: &mut Box<Row>, time: u64)
+    ensures { row.new.value ≡ record row.old.value { inode = raised time row.old.value.inode } }
+{
+    match &mut row.inode {
+        Inode::Dir { mtime, .. } => {
+            if *mtime < time {
+                *mtime = time;
+            }
+        }
+        Inode::File { .. } => {}
+    }
+}
