@@ -22,7 +22,7 @@ rising_lower : (low above to : ℕ) (ns : List Noted) → low ≤ above → AreR
 rising_lower low above to [] le h = omega (arith, le, h)
 rising_lower low above to (n ∷ ns) le h = (omega (arith, le, h.0), h.1)
 
-rising_later : (above to later : ℕ) (ns : List Noted) → to ≤ later → AreRising above to ns → AreRising above later ns
+pub rising_later : (above to later : ℕ) (ns : List Noted) → to ≤ later → AreRising above to ns → AreRising above later ns
 rising_later above to later [] le h = omega (arith, le, h)
 rising_later above to later (n ∷ ns) le h = (h.0, rising_later n.txid to later ns le h.1)
 
@@ -30,13 +30,13 @@ rising_bound : (above to : ℕ) (ns : List Noted) → AreRising above to ns → 
 rising_bound above to [] h = h
 rising_bound above to (n ∷ ns) h = let rest : n.txid ≤ to = rising_bound n.txid to ns h.1 in omega (arith, h.0, rest)
 
-rising_drop : (k above to : ℕ) (ns : List Noted) → AreRising above to ns → AreRising above to (drop k ns)
+pub rising_drop : (k above to : ℕ) (ns : List Noted) → AreRising above to ns → AreRising above to (drop k ns)
 rising_drop zero above to [] h = h
 rising_drop (suc k) above to [] h = h
 rising_drop zero above to (n ∷ ns) h = h
 rising_drop (suc k) above to (n ∷ ns) h = rising_drop k above to ns (rising_lower above n.txid to ns (omega (arith, h.0)) h.1)
 
-rising_snoc : (above to : ℕ) (ns : List Noted) (call : Call) → AreRising above to ns → AreRising above (to + 1) (ns ++ record { call = call; txid = to + 1 } ∷ [])
+pub rising_snoc : (above to : ℕ) (ns : List Noted) (call : Call) → AreRising above to ns → AreRising above (to + 1) (ns ++ record { call = call; txid = to + 1 } ∷ [])
 rising_snoc above to [] call h = (omega (arith, h), omega arith)
 rising_snoc above to (n ∷ ns) call h = (h.0, rising_snoc n.txid to ns call h.1)
 
@@ -47,7 +47,7 @@ others_drop (suc k) call [] h = tt
 others_drop zero call (n ∷ ns) h = h
 others_drop (suc k) call (n ∷ ns) h = others_drop k call ns h.1
 
-distinct_drop : (k : ℕ) (ns : List Noted) → AreDistinct ns → AreDistinct (drop k ns)
+pub distinct_drop : (k : ℕ) (ns : List Noted) → AreDistinct ns → AreDistinct (drop k ns)
 distinct_drop zero [] h = tt
 distinct_drop (suc k) [] h = tt
 distinct_drop zero (n ∷ ns) h = h
@@ -84,7 +84,7 @@ new_here call n ns e = by (same_call n.call call) refl e
     by true is e = absurd (cc (sym e))
     by false is e = (is, e)
 
-distinct_snoc : (call : Call) (txid : ℕ) (ns : List Noted) → txid_of call ns ≡ None → AreDistinct ns → AreDistinct (ns ++ record { call = call; txid = txid } ∷ [])
+pub distinct_snoc : (call : Call) (txid : ℕ) (ns : List Noted) → txid_of call ns ≡ None → AreDistinct ns → AreDistinct (ns ++ record { call = call; txid = txid } ∷ [])
 distinct_snoc call txid [] e h = (tt, tt)
 distinct_snoc call txid (n ∷ ns) e h =
     let new : (same_call n.call call ≡ false) × (txid_of call ns ≡ None) = new_here call n ns e in
