@@ -213,11 +213,14 @@ pub caused_same : (f : ℕ) (s : Type 0) (reply : Reply) → reply ≢ Refused D
 caused_same f s reply no_fault = record { later = omega arith; fault = λ e. absurd (no_fault e); steady = λ was. (was, no_fault) }
 
 -- ## A node that is up, and its front
+pub front_same : (m s front : NodeState) (r : Request) → m ≡ without_segments s → front ≡ state_with (fronted m r) [] → state_with front s.segments ≡ fronted s r
+front_same m s front r memory front_is =
+    ap (λ (x : NodeState). state_with x s.segments) front_is ∙ ap (λ (x : NodeState). state_with (fronted x r) s.segments) memory ∙ fronted_apart s r s.segments
+
 pub foretold_by : (m : NodeState) (s : NodeState) (r : Request) (front : NodeState) (refusal : Option Refusal) (reply : Reply) → m ≡ without_segments s → front ≡ state_with (fronted m r) [] → refusal ≡ row_refused (state_with front s.segments) r
     → reply ≡ foretold refusal (state_with front s.segments) r → reply ≡ foretold (row_refused (fronted s r) r) (fronted s r) r
 foretold_by m s r front refusal reply memory front_is refused is =
-    let same : state_with front s.segments ≡ fronted s r =
-    ap (λ (x : NodeState). state_with x s.segments) front_is ∙ ap (λ (x : NodeState). state_with (fronted x r) s.segments) memory ∙ fronted_apart s r s.segments in
+    let same : state_with front s.segments ≡ fronted s r = front_same m s front r memory front_is in
     is ∙ ap (λ (o : Option Refusal). foretold o (state_with front s.segments) r) refused ∙ ap (λ (x : NodeState). foretold (row_refused x r) x r) same
 
 -- a refusal by memory behind the front
@@ -271,7 +274,7 @@ pub memory_same : (v : View) (m : NodeState) (rows : List SegmentRow) (s : NodeS
 memory_same v m rows s r is up = (s, has_up v m rows s is up, answer_same s r)
 
 -- a request that is refused at once has no effects
-none_at_once : (s : NodeState) (r : Request) (refusal : Refusal) → refused_at_once s r ≡ Some refusal → effects_of s r ≡ []
+pub none_at_once : (s : NodeState) (r : Request) (refusal : Refusal) → refused_at_once s r ≡ Some refusal → effects_of s r ≡ []
 unfolding effects_of
 none_at_once s r refusal e = ap (effects_unless s r) e
 

@@ -148,7 +148,7 @@ held_settled v m1 m2 front rows x (Some refusal) r held is = record {
   sound = held.sound;
 }
 
-settled_segments : (o : Option Refusal) (x front : NodeState) (r : Request) → (settled o x front r).segments ≡ x.segments
+pub settled_segments : (o : Option Refusal) (x front : NodeState) (r : Request) → (settled o x front r).segments ≡ x.segments
 settled_segments None x front r = refl
 settled_segments (Some refusal) x front r = refl
 

@@ -20,3 +20,5 @@ pub mod Filled
 pub mod Reopens
 pub mod CuttingLaws
 pub mod HandedBack
+pub mod Followed
+pub mod Recalling

@@ -28,4 +28,5 @@ pub record IsSameNodeBut (old new : NodeParts MemDisk) : Type 0 where
   pub disk : IsSameBut old.disk new.disk
   pub memory : new.memory ≡ old.memory
   pub rows : new.rows ≡ old.rows
+  pub recent : new.recent ≡ old.recent
   pub state : state_in new ≡ state_in old

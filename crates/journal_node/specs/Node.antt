@@ -19,6 +19,7 @@ use Rattle.segment_file.specs.Rows.{RowsRise}
 use Rattle.segment_file.specs.declared.segment_row.SegmentRow.{SegmentRow}
 use Rattle.node_files.specs.Durable.{AreFilled}
 use Rattle.node_deeds.specs.Told.{Tells}
+use Rattle.recent_edits.specs.Recent.{Recent, IsRecent}
 use Rattle.journal_node.specs.FileState.{state_of}
 use Rattle.journal_node.specs.Held.{IsHeld, IsLeft, OpenedAt}
 
@@ -27,6 +28,7 @@ pub record NodeParts (Disk : Type 0) : Type 0 where
   pub disk : Disk
   pub memory : NodeState
   pub rows : List SegmentRow
+  pub recent : Recent
 
 -- a node that is up: files, memory and table hold the state, and frames can be appended to the open segment
 pub record IsUp (v : View) (m : NodeState) (rows : List SegmentRow) (s : NodeState) : Type 0 where
@@ -52,6 +54,15 @@ pub record IsNode (tells : Type 0) (v : View) (m : NodeState) (rows : List Segme
   pub told : (gs : List Segment) × Tells gs rows
   pub known : m.up ≡ true → m.known ≤ max_number
   pub stands : tells → (s : NodeState) × HasState m.up v m rows s
+
+-- of a node that is up, the newest edits of the cached segment are held, and no others
+abbrev pub Recalls : View → NodeState → List SegmentRow → Recent → Type 0
+Recalls v m rows recent = (s : NodeState) → m.up ≡ true → IsUp v m rows s → IsRecent recent s.segments
+
+-- what holds of every node with what it holds of its edits
+pub record IsWhole (tells : Type 0) (v : View) (m : NodeState) (rows : List SegmentRow) (recent : Recent) : Type 0 where
+  pub node : IsNode tells v m rows
+  pub recalls : tells → Recalls v m rows recent
 
 -- the state, where the disk tells its bytes
 abbrev pub told_state : Bool → Files → NodeState → List SegmentRow → Option NodeState

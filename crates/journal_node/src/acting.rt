@@ -1,5 +1,6 @@
 //! A request is answered: its reply is found, its deeds are done, and memory follows.
 ghost use Rattle.std.specs.Prelude.{◌≡◌, ◌≢◌, ◌≤◌, ◌↔◌, None, Some, List, Option, true, false, [], IfOk, OnOk, OnErr};
+ghost use Rattle.std.specs.List.{All};
 ghost use Rattle.qj_disk.specs.View.{LeavesOnly, AllLeave};
 ghost use Rattle.qj_disk.specs.Calls.{HasCause, Rests};
 ghost use Rattle.journal_core.specs.declared.segment.Segment.{Segment};
@@ -14,15 +15,19 @@ ghost use Rattle.segment_file.specs.Rows.{RowsRise};
 ghost use Rattle.node_files.specs.Durable.{StandsAs};
 ghost use Rattle.node_deeds.specs.Told.{Tells, state_with};
 ghost use Rattle.node_deeds.specs.Due.{AreDue};
+ghost use Rattle.recent_edits.specs.Recent.{AsksRecent, IsRecent, cached_behind};
+ghost use Rattle.journal_node.specs.Doing.{IsNumber};
 ghost use Rattle.journal_node.specs.Done.{effects_by};
 ghost use Rattle.journal_node.specs.Held.{StandsStopped};
-ghost use Rattle.journal_node.specs.Node.{BringsEdits, IsUp, HasState, IsNode, IsNoFault, IsCaused, IsStoppedIn, settled, state_behind, foretold};
+ghost use Rattle.journal_node.specs.Node.{BringsEdits, IsUp, HasState, IsNode, IsNoFault, IsCaused, IsStoppedIn, IsWhole, Recalls, settled, state_behind, foretold};
 
 use crate::acting_reads::{fetch, read_served};
 use crate::deeds_done::do_deeds;
+use crate::following::follow_deeds;
 use journal_core::{NodeState, Refusal, Reply, Request};
 use node_deeds::{Deed, behind_front, deeds_of, follow, plain_reply, row_refusal};
 use qj_disk::{Disk, DiskFail};
+use recent_edits::RecentEdits;
 use segment_file::SegmentTable;
 use std::alloc::Global;
 
@@ -63,6 +68,7 @@ fn foretell<D: Disk>(
     disk: &mut D,
     front: &NodeState,
     table: &SegmentTable,
+    recent: &RecentEdits,
     request: &Request,
     refusal: Option<Refusal>,
 ) -> Result<Reply, DiskFail>
@@ -70,18 +76,19 @@ fn foretell<D: Disk>(
     requires refused { (gs : List Segment) → Tells gs table.now → refusal ≡ row_refused (state_with front.now gs) request.now }
 
     ensures tells { D.tells disk.old ↔ D.tells disk.new }
-    ensures reply { D.tells disk.old → (gs : List Segment) → IsReady (D.view disk.old) gs → AreSound gs → Tells gs table.now → IfOk result (λ reply. reply ≡ foretold refusal (state_with front.now gs) request.now) }
+    ensures reply { D.tells disk.old → (gs : List Segment) → IsReady (D.view disk.old) gs → AreSound gs → Tells gs table.now → IsRecent recent.now gs → IfOk result (λ reply. reply ≡ foretold refusal (state_with front.now gs) request.now) }
     ensures fits { IfOk result (FitsRequest request.now) }
     ensures own { IfOk result IsNoFault }
     ensures disk { D.tells disk.old → Rests (D.view disk.old) (D.view disk.new) }
+    ensures unread { (gs : List Segment) → Tells gs table.now → IsRecent recent.now gs → AsksRecent recent.now.start (state_with front.now gs) request.now → D.reads disk.new ≡ D.reads disk.old }
     ensures cause { HasCause (D.faults disk.old) (D.faults disk.new) (D.steady disk.old) (D.steady disk.new) result }
 {
     if let Some(refusal) = refusal {
         return Ok(Reply::Refused(refusal));
     }
     match request {
-        Request::Read { from } => read_served(alloc, disk, front, table, *from),
-        Request::Fetch { start, from, .. } => fetch(alloc, disk, table, *start, *from),
+        Request::Read { from } => read_served(alloc, disk, front, table, recent, *from),
+        Request::Fetch { start, from, .. } => fetch(alloc, disk, table, recent, *start, *from),
         _ => match plain_reply(alloc, front, table, request) {
             Ok(Some(reply)) => Ok(reply),
             _ => Err(DiskFail::OutOfMemory),
@@ -95,11 +102,13 @@ pub(crate) fn carry_out<D: Disk>(
     disk: &mut D,
     memory: &mut NodeState,
     table: &mut SegmentTable,
+    recent: &mut RecentEdits,
     request: &Request,
     deeds: &[Deed],
     refusal: Option<Refusal>,
 ) -> Result<(), DiskFail>
     requires node { IsNode (D.tells disk.old) (D.view disk.old) memory.old table.old }
+    requires recalls { D.tells disk.old → Recalls (D.view disk.old) memory.old table.old recent.old }
     requires at_once { refused_at_once memory.old request.now ≡ None }
     requires limits { limit_of request.now ≡ None }
     requires brings { BringsEdits request.now }
@@ -109,16 +118,20 @@ pub(crate) fn carry_out<D: Disk>(
 
     ensures tells { D.tells disk.old ↔ D.tells disk.new }
     ensures node { IsNode (D.tells disk.new) (D.view disk.new) memory.new table.new }
+    ensures recalls { D.tells disk.old → Recalls (D.view disk.new) memory.new table.new recent.new }
     ensures up { OnOk result (memory.new.up ≡ true) }
     ensures down { OnErr result (memory.new.up ≡ false) }
     ensures done { D.tells disk.old → (s : AnyState) → IsUp (D.view disk.old) memory.old table.old s → OnOk result (IsUp (D.view disk.new) memory.new table.new (state_behind s request.now)) }
     ensures stopped { D.tells disk.old → (s : AnyState) → IsUp (D.view disk.old) memory.old table.old s → OnErr result (IsStoppedIn (D.view disk.new) memory.new table.new s request.now) }
     ensures moments { D.tells disk.old → (s : AnyState) → IsUp (D.view disk.old) memory.old table.old s → LeavesOnly (D.view disk.old) (D.view disk.new) (StandsStopped s (effects_of s request.now)) }
+    ensures cached { D.tells disk.old → (s : AnyState) → IsUp (D.view disk.old) memory.old table.old s → OnOk result (recent.new.start ≡ cached_behind recent.old.start (effects_of s request.now)) }
+    ensures reads { All IsNumber deeds.now → D.reads disk.new ≡ D.reads disk.old }
     ensures cause { HasCause (D.faults disk.old) (D.faults disk.new) (D.steady disk.old) (D.steady disk.new) result }
 {
     let front = behind_front(alloc, memory, request);
     match do_deeds(alloc, disk, memory, table, request, deeds) {
         Ok(()) => {
+            follow_deeds(recent, request, deeds);
             settle(memory, &front, request, refusal);
             Ok(())
         }
@@ -135,12 +148,14 @@ fn finish<D: Disk>(
     disk: &mut D,
     memory: &mut NodeState,
     table: &mut SegmentTable,
+    recent: &mut RecentEdits,
     request: &Request,
     deeds: &[Deed],
     refusal: Option<Refusal>,
     reply: Reply,
 ) -> Reply
     requires node { IsNode (D.tells disk.old) (D.view disk.old) memory.old table.old }
+    requires recalls { D.tells disk.old → Recalls (D.view disk.old) memory.old table.old recent.old }
     requires at_once { refused_at_once memory.old request.now ≡ None }
     requires limits { limit_of request.now ≡ None }
     requires brings { BringsEdits request.now }
@@ -152,14 +167,17 @@ fn finish<D: Disk>(
 
     ensures tells { D.tells disk.old ↔ D.tells disk.new }
     ensures node { IsNode (D.tells disk.new) (D.view disk.new) memory.new table.new }
+    ensures recalls { D.tells disk.old → Recalls (D.view disk.new) memory.new table.new recent.new }
     ensures answer { D.tells disk.old → (s : AnyState) → IsUp (D.view disk.old) memory.old table.old s → reply ≡ foretold (row_refused (fronted s request.now) request.now) (fronted s request.now) request.now
         → (t : AnyState) × HasState memory.new.up (D.view disk.new) memory.new table.new t × IsAnswer s request.now result t }
     ensures fits { FitsRequest request.now result }
     ensures moments { D.tells disk.old → (s : AnyState) → IsUp (D.view disk.old) memory.old table.old s → LeavesOnly (D.view disk.old) (D.view disk.new) (StandsStopped s (effects_of s request.now)) }
     ensures stable { D.tells disk.old → (s : AnyState) → IsUp (D.view disk.old) memory.old table.old s → IsNoFault result → AllLeave (D.view disk.new) (λ c. StandsAs c (after_effects s (effects_of s request.now))) }
+    ensures cached { D.tells disk.old → (s : AnyState) → IsUp (D.view disk.old) memory.old table.old s → IsNoFault result → recent.new.start ≡ cached_behind recent.old.start (effects_of s request.now) }
+    ensures reads { All IsNumber deeds.now → D.reads disk.new ≡ D.reads disk.old }
     ensures cause { IsCaused (D.faults disk.old) (D.faults disk.new) (D.steady disk.old) (D.steady disk.new) result }
 {
-    match carry_out(alloc, disk, memory, table, request, deeds, refusal) {
+    match carry_out(alloc, disk, memory, table, recent, request, deeds, refusal) {
         Ok(()) => reply,
         Err(DiskFail::Failed) => Reply::Refused(Refusal::DiskFault),
         Err(DiskFail::OutOfMemory) => Reply::Refused(Refusal::OutOfMemory),
@@ -172,10 +190,12 @@ fn answer_by<D: Disk>(
     disk: &mut D,
     memory: &mut NodeState,
     table: &mut SegmentTable,
+    recent: &mut RecentEdits,
     request: &Request,
     deeds: &[Deed],
 ) -> Reply
     requires node { IsNode (D.tells disk.old) (D.view disk.old) memory.old table.old }
+    requires recalls { D.tells disk.old → Recalls (D.view disk.old) memory.old table.old recent.old }
     requires at_once { refused_at_once memory.old request.now ≡ None }
     requires limits { limit_of request.now ≡ None }
     requires brings { BringsEdits request.now }
@@ -184,17 +204,22 @@ fn answer_by<D: Disk>(
 
     ensures tells { D.tells disk.old ↔ D.tells disk.new }
     ensures node { IsNode (D.tells disk.new) (D.view disk.new) memory.new table.new }
+    ensures recalls { D.tells disk.old → Recalls (D.view disk.new) memory.new table.new recent.new }
     ensures answer { D.tells disk.old → (s : AnyState) → IsUp (D.view disk.old) memory.old table.old s
         → (t : AnyState) × HasState memory.new.up (D.view disk.new) memory.new table.new t × IsAnswer s request.now result t }
     ensures fits { FitsRequest request.now result }
     ensures moments { D.tells disk.old → (s : AnyState) → IsUp (D.view disk.old) memory.old table.old s → LeavesOnly (D.view disk.old) (D.view disk.new) (StandsStopped s (effects_of s request.now)) }
     ensures stable { D.tells disk.old → (s : AnyState) → IsUp (D.view disk.old) memory.old table.old s → IsNoFault result → AllLeave (D.view disk.new) (λ c. StandsAs c (after_effects s (effects_of s request.now))) }
+    ensures cached { D.tells disk.old → (s : AnyState) → IsUp (D.view disk.old) memory.old table.old s → IsNoFault result → recent.new.start ≡ cached_behind recent.old.start (effects_of s request.now) }
+    ensures unread { D.tells disk.old → (s : AnyState) → IsUp (D.view disk.old) memory.old table.old s → AsksRecent recent.old.start s request.now → D.reads disk.new ≡ D.reads disk.old }
     ensures cause { IsCaused (D.faults disk.old) (D.faults disk.new) (D.steady disk.old) (D.steady disk.new) result }
 {
     let front = behind_front(alloc, memory, request);
     let refusal = row_refusal(&front, table, request);
-    match foretell(alloc, disk, &front, table, request, refusal) {
-        Ok(reply) => finish(alloc, disk, memory, table, request, deeds, refusal, reply),
+    match foretell(alloc, disk, &front, table, recent, request, refusal) {
+        Ok(reply) => finish(
+            alloc, disk, memory, table, recent, request, deeds, refusal, reply,
+        ),
         Err(DiskFail::Failed) => {
             go_down(memory, table);
             Reply::Refused(Refusal::DiskFault)
@@ -211,25 +236,37 @@ pub(crate) fn answer<D: Disk>(
     disk: &mut D,
     memory: &mut NodeState,
     table: &mut SegmentTable,
+    recent: &mut RecentEdits,
     request: &Request,
 ) -> Reply
-    requires { IsNode (D.tells disk.old) (D.view disk.old) memory.old table.old }
+    requires { IsWhole (D.tells disk.old) (D.view disk.old) memory.old table.old recent.old }
 
     ensures tells { D.tells disk.old ↔ D.tells disk.new }
     ensures node { IsNode (D.tells disk.new) (D.view disk.new) memory.new table.new }
+    ensures recalls { D.tells disk.old → Recalls (D.view disk.new) memory.new table.new recent.new }
     ensures answer { D.tells disk.old → (s : AnyState) → HasState memory.old.up (D.view disk.old) memory.old table.old s
         → (t : AnyState) × HasState memory.new.up (D.view disk.new) memory.new table.new t × IsAnswer s request.now result t }
     ensures fits { FitsRequest request.now result }
     ensures moments { D.tells disk.old → (s : AnyState) → IsUp (D.view disk.old) memory.old table.old s → LeavesOnly (D.view disk.old) (D.view disk.new) (StandsStopped s (effects_of s request.now)) }
     ensures stable { D.tells disk.old → (s : AnyState) → IsUp (D.view disk.old) memory.old table.old s → IsNoFault result → AllLeave (D.view disk.new) (λ c. StandsAs c (after_effects s (effects_of s request.now))) }
     ensures idle { memory.old.up ≡ false → disk.new ≡ disk.old }
+    ensures cached { D.tells disk.old → (s : AnyState) → IsUp (D.view disk.old) memory.old table.old s → IsNoFault result → recent.new.start ≡ cached_behind recent.old.start (effects_of s request.now) }
+    ensures unread { D.tells disk.old → (s : AnyState) → IsUp (D.view disk.old) memory.old table.old s → AsksRecent recent.old.start s request.now → D.reads disk.new ≡ D.reads disk.old }
     ensures cause { IsCaused (D.faults disk.old) (D.faults disk.new) (D.steady disk.old) (D.steady disk.new) result }
 {
     look_at(request);
     match memory.refused_at_once(request) {
         Some(refusal) => Reply::Refused(refusal),
         None => match deeds_of(alloc, memory, table, request) {
-            Ok(deeds) => answer_by(alloc, disk, memory, table, request, deeds.as_slice()),
+            Ok(deeds) => answer_by(
+                alloc,
+                disk,
+                memory,
+                table,
+                recent,
+                request,
+                deeds.as_slice(),
+            ),
             Err(_) => Reply::Refused(Refusal::OutOfMemory),
         },
     }

@@ -1,5 +1,5 @@
-//! The replies that need a file of a segment.
-ghost use Rattle.std.specs.Prelude.{◌≡◌, ◌≤◌, ◌<◌, ◌-◌, ◌↔◌, None, Some, List, take, drop, IfOk};
+//! The replies with edits, from memory or from the file of a segment.
+ghost use Rattle.std.specs.Prelude.{◌≡◌, ◌≢◌, ◌≤◌, ◌<◌, ◌-◌, ◌↔◌, [], None, Some, List, take, drop, IfOk};
 ghost use Rattle.qj_disk.specs.Calls.{HasCause, Rests};
 ghost use Rattle.journal_core.specs.Views.{last_txid};
 ghost use Rattle.journal_core.specs.declared.segment.Segment.{Segment};
@@ -11,12 +11,14 @@ ghost use Rattle.journal_core.specs.Answers.{AreEdits};
 ghost use Rattle.segment_file.specs.Effects.{IsReady};
 ghost use Rattle.segment_file.specs.Reads.{given_result};
 ghost use Rattle.node_deeds.specs.Told.{Tells, state_with, line_of};
+ghost use Rattle.recent_edits.specs.Recent.{AsksRecent, FitsRing, IsRecent, held_from};
 ghost use Rattle.journal_node.specs.Node.{IsNoFault};
 
-use journal_core::{Batch, MAX_BATCH, MAX_NUMBER, NodeState, Refusal, Reply, SegmentLine};
+use journal_core::{Batch, MAX_BATCH, MAX_NUMBER, NodeState, Refusal, Reply, Request, SegmentLine};
 use node_deeds::{line_at, not_served, serving_row};
 use qj_disk::{Disk, DiskFail};
 use qj_num::OutOfMemory;
+use recent_edits::RecentEdits;
 use segment_file::{Given, SegmentTable, read_from};
 use std::alloc::Global;
 
@@ -36,11 +38,13 @@ fn edits(alloc: Global, batch: &Batch, from: u64, most: usize) -> Result<Reply, 
     Ok(Reply::Edits(piece))
 }
 
-// The edits of a segment from a txid on, which lies in it: at most `most`, and at most 256. BadFile comes
-// where its file doesn't hold them, which is never so on a disk whose files stand for the segment.
+// The edits of a segment from a txid on, which lies in it: at most `most`, and at most 256. They are those that
+// are held in memory; where the first of them isn't, the file is read. BadFile comes where that doesn't hold
+// them, which is never so on a disk whose files stand for the segment.
 fn edits_of<D: Disk>(
     alloc: Global,
     disk: &mut D,
+    recent: &RecentEdits,
     line: &SegmentLine,
     from: u64,
     most: usize,
@@ -51,13 +55,18 @@ fn edits_of<D: Disk>(
     requires most { 0 < most }
 
     ensures tells { D.tells disk.old ↔ D.tells disk.new }
-    ensures edits { D.tells disk.old → (gs : List Segment) (g : Segment) → IsReady (D.view disk.old) gs → AreSound gs → 1 ≤ line.now.start → find_segment line.now.start gs ≡ Some g → line.now ≡ line_of g
+    ensures edits { D.tells disk.old → (gs : List Segment) (g : Segment) → IsReady (D.view disk.old) gs → AreSound gs → IsRecent recent.now gs → 1 ≤ line.now.start → find_segment line.now.start gs ≡ Some g → line.now ≡ line_of g
         → IfOk result (λ reply. reply ≡ Reply.Edits (record { first = from; bodies = take most (take 256 (drop (from - g.start) g.bodies)) })) }
     ensures fits { IfOk result (AreEdits from) }
     ensures own { IfOk result IsNoFault }
     ensures disk { D.tells disk.old → Rests (D.view disk.old) (D.view disk.new) }
+    ensures unread { held_from recent.now line.now.start from ≢ [] → D.reads disk.new ≡ D.reads disk.old }
     ensures cause { HasCause (D.faults disk.old) (D.faults disk.new) (D.steady disk.old) (D.steady disk.new) result }
 {
+    if let Some(batch) = recent.edits_from(alloc, line.start, from)? {
+        let reply = edits(alloc, &batch, from, most)?;
+        return Ok(reply);
+    }
     match read_from(alloc, disk, line, from) {
         Given::Edits(batch) => {
             let reply = edits(alloc, &batch, from, most)?;
@@ -76,21 +85,23 @@ pub(crate) fn read_served<D: Disk>(
     disk: &mut D,
     memory: &NodeState,
     table: &SegmentTable,
+    recent: &RecentEdits,
     from: u64,
 ) -> Result<Reply, DiskFail>
     requires told { (gs : List Segment) × Tells gs table.now }
 
     ensures tells { D.tells disk.old ↔ D.tells disk.new }
-    ensures reply { D.tells disk.old → (gs : List Segment) → IsReady (D.view disk.old) gs → AreSound gs → Tells gs table.now → IfOk result (λ reply. reply ≡ edits_from (state_with memory.now gs) from) }
+    ensures reply { D.tells disk.old → (gs : List Segment) → IsReady (D.view disk.old) gs → AreSound gs → Tells gs table.now → IsRecent recent.now gs → IfOk result (λ reply. reply ≡ edits_from (state_with memory.now gs) from) }
     ensures fits { IfOk result (AreEdits from) }
     ensures own { IfOk result IsNoFault }
     ensures disk { D.tells disk.old → Rests (D.view disk.old) (D.view disk.new) }
+    ensures unread { (gs : List Segment) → Tells gs table.now → IsRecent recent.now gs → AsksRecent recent.now.start (state_with memory.now gs) (Request.Read from) → D.reads disk.new ≡ D.reads disk.old }
     ensures cause { HasCause (D.faults disk.old) (D.faults disk.new) (D.steady disk.old) (D.steady disk.new) result }
 {
     match serving_row(memory, table, from) {
         Some((line, count)) => {
             let most = count - (from - line.start);
-            edits_of(alloc, disk, &line, from, most as usize)
+            edits_of(alloc, disk, recent, &line, from, most as usize)
         }
         None => Ok(Reply::Refused(not_served(memory, table, from))),
     }
@@ -101,6 +112,7 @@ pub(crate) fn fetch<D: Disk>(
     alloc: Global,
     disk: &mut D,
     table: &SegmentTable,
+    recent: &RecentEdits,
     start: u64,
     from: u64,
 ) -> Result<Reply, DiskFail>
@@ -108,14 +120,15 @@ pub(crate) fn fetch<D: Disk>(
     requires refused { (gs : List Segment) → Tells gs table.now → fetch_refused from (find_segment start gs) ≡ None }
 
     ensures tells { D.tells disk.old ↔ D.tells disk.new }
-    ensures reply { D.tells disk.old → (gs : List Segment) → IsReady (D.view disk.old) gs → AreSound gs → Tells gs table.now → IfOk result (λ reply. reply ≡ Reply.Edits (record { first = from; bodies = piece_of (find_segment start gs) from })) }
+    ensures reply { D.tells disk.old → (gs : List Segment) → IsReady (D.view disk.old) gs → AreSound gs → Tells gs table.now → IsRecent recent.now gs → IfOk result (λ reply. reply ≡ Reply.Edits (record { first = from; bodies = piece_of (find_segment start gs) from })) }
     ensures fits { IfOk result (AreEdits from) }
     ensures own { IfOk result IsNoFault }
     ensures disk { D.tells disk.old → Rests (D.view disk.old) (D.view disk.new) }
+    ensures unread { (gs : List Segment) → Tells gs table.now → IsRecent recent.now gs → ((g : Segment) → find_segment start gs ≡ Some g → FitsRing recent.now.start g from) → D.reads disk.new ≡ D.reads disk.old }
     ensures cause { HasCause (D.faults disk.old) (D.faults disk.new) (D.steady disk.old) (D.steady disk.new) result }
 {
     match line_at(table, start) {
-        Some(line) => edits_of(alloc, disk, &line, from, MAX_BATCH),
+        Some(line) => edits_of(alloc, disk, recent, &line, from, MAX_BATCH),
         None => Ok(Reply::Refused(Refusal::NoSegment)),
     }
 }

@@ -245,8 +245,9 @@ impl JournalNode<MemDisk> {
     /// Is cut after that many disk calls of the request, or after all if there are fewer: its disk crashes by
     /// the choice of `cut`, so that each later crash leaves the same files, and the node is down. Answers how
     /// many of the request's durable effects stand. The node is up before, and no disk call is set to fail,
-    /// nor is one behind it. `OutOfMemory` comes for want of memory: before the first disk call it leaves all
-    /// as it was, and behind that the node is down with the first effects, some number of them.
+    /// nor is one after it. `OutOfMemory` comes for want of memory: before the first disk call it leaves all
+    /// as it was but that no segment is cached any more, and after that the node is down with the first
+    /// effects, some number of them.
     pub fn act_cut(
         &mut self,
         alloc: Global,
@@ -261,6 +262,7 @@ impl JournalNode<MemDisk> {
         ensures later { faults_of self.old.disk ≤ faults_of self.new.disk }
         ensures steady { CannotFail self.new.disk }
     {
+        self.recent.clear();
         cut_in(
             alloc,
             &mut self.disk,

@@ -15,7 +15,7 @@ ghost use Rattle.node_deeds.specs.Told.{Tells};
 ghost use Rattle.node_deeds.specs.Due.{batch_of, effect_of, IsDue, IsInRange};
 ghost use Rattle.journal_node.specs.FileState.{Covers, without_segments};
 ghost use Rattle.journal_node.specs.Held.{IsHeld, OpenedAt, MayLeave, numbers_after, Opens, Spares};
-ghost use Rattle.journal_node.specs.Doing.{place_after, CanDo, DoesDeed, IsNoted, NotedAtFault};
+ghost use Rattle.journal_node.specs.Doing.{place_after, CanDo, DoesDeed, IsNoted, IsNumber, NotedAtFault};
 
 use journal_core::{Batch, NodeState, Request, SegmentInfo, SegmentLine};
 use node_deeds::{Deed, apply, note};
@@ -39,8 +39,8 @@ fn outcome(put: Put) -> Result<(), DiskFail>
     }
 }
 
-// The batch of a request that has one.
-fn batch_in(request: &Request) -> Option<&Batch>
+/// The batch of a request that has one.
+pub(crate) fn batch_in(request: &Request) -> Option<&Batch>
     ensures { MatchOption result (batch_of request.now ≡ record { first = 0; bodies = [] }) (λ batch. batch.now ≡ batch_of request.now) }
 {
     match request {
@@ -86,6 +86,7 @@ fn do_number<D: Disk>(
         → DoesDeed s request.now (Deed.Number number value) result (D.view disk.old) (D.view disk.new) (D.left disk.old) (D.left disk.new) }
     ensures left { D.tells disk.old → (s : AnyState) → CanDo (D.view disk.old) (without_segments s) table.old s request.now (Deed.Number number value)
         → AllLeave (D.view disk.new) (MayLeave table.new s (after_effect s (effect_of request.now (Deed.Number number value)))) }
+    ensures reads { D.reads disk.new ≡ D.reads disk.old }
     ensures cause { HasCause (D.faults disk.old) (D.faults disk.new) (D.steady disk.old) (D.steady disk.new) result }
 {
     let (_, _) = (table, request);
@@ -318,6 +319,7 @@ fn do_calls<D: Disk>(
         → DoesDeed s request.now deed result (D.view disk.old) (D.view disk.new) (D.left disk.old) (D.left disk.new) }
     ensures left { D.tells disk.old → (s : AnyState) → CanDo (D.view disk.old) (without_segments s) table.old s request.now deed
         → AllLeave (D.view disk.new) (MayLeave table.new s (after_effect s (effect_of request.now deed))) }
+    ensures reads { IsNumber deed → D.reads disk.new ≡ D.reads disk.old }
     ensures cause { HasCause (D.faults disk.old) (D.faults disk.new) (D.steady disk.old) (D.steady disk.new) result }
 {
     match deed {
@@ -373,6 +375,7 @@ pub fn do_deed<D: Disk>(
         → (cut : Cut) → IsCounted (cost_of cut s.segments (effect_of request.now deed)).calls (D.left disk.old) (D.left disk.new) result }
     ensures cut { D.tells disk.old → (s : AnyState) → CanDo (D.view disk.old) memory.old table.old s request.now deed
         → IsCutAt (λ cut. cost_of cut s.segments (effect_of request.now deed)) s (after_effect s (effect_of request.now deed)) (D.left disk.old) result (D.view disk.new) }
+    ensures reads { IsNumber deed → D.reads disk.new ≡ D.reads disk.old }
     ensures cause { HasCause (D.faults disk.old) (D.faults disk.new) (D.steady disk.old) (D.steady disk.new) result }
 {
     do_calls(alloc, disk, table, request, deed)?;

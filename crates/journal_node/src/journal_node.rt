@@ -7,6 +7,7 @@ ghost use Rattle.journal_core.specs.Step.{effects_of};
 ghost use Rattle.journal_core.specs.Answers.{Answers, FitsRequest, Rose};
 ghost use Rattle.journal_core.specs.Stops.{Stops, Kills, Restarts};
 ghost use Rattle.node_files.specs.Durable.{StandsAs};
+ghost use Rattle.recent_edits.specs.Recent.{AsksRecent, cached_behind, nothing};
 ghost use Rattle.journal_node.specs.FileState.{state_of};
 ghost use Rattle.journal_node.specs.Held.{StandsStopped};
 ghost use Rattle.journal_node.specs.Node.{IsUp, IsNoFault, told_state};
@@ -17,27 +18,29 @@ use crate::acting_stops::stop;
 use crate::node_opening::come_up;
 use journal_core::{NodeFail, NodeState, Refusal, Reply, Request};
 use qj_disk::Disk;
+use recent_edits::RecentEdits;
 use segment_file::SegmentTable;
 use std::alloc::Global;
 use std::marker::Model;
 
-/// A node that keeps its state in the files of its own disk. In memory it has its numbers and a table of
-/// its segments, and no edits.
+/// A node that keeps its state in the files of its own disk. In memory it has its numbers, a table of its
+/// segments and the newest edits of the one that it began last, the cached segment.
 #[derive(Drop)]
 pub struct JournalNode<D: Disk> {
     pub(crate) disk: D,
     pub(crate) memory: NodeState,
     pub(crate) table: SegmentTable,
+    pub(crate) recent: RecentEdits,
 }
 
 impl<D: Disk> Model for JournalNode<D> {
-    ghost use Rattle.journal_node.specs.Node.{NodeParts, IsNode};
+    ghost use Rattle.journal_node.specs.Node.{NodeParts, IsWhole};
 
     ghost Value = { NodeParts D };
 
-    ghost view = { λ n. record { disk = n.disk; memory = n.memory; rows = n.table } };
+    ghost view = { λ n. record { disk = n.disk; memory = n.memory; rows = n.table; recent = n.recent } };
 
-    ghost invariant = { λ n. IsNode (D.tells n.disk) (D.view n.disk) n.memory n.table };
+    ghost invariant = { λ n. IsWhole (D.tells n.disk) (D.view n.disk) n.memory n.table n.recent };
 }
 
 impl<D: Disk> JournalNode<D> {
@@ -55,13 +58,16 @@ impl<D: Disk> JournalNode<D> {
     /// nothing. Where the disk fails, or where memory is wanted among the durable effects, the node goes
     /// down. A crash at any moment of the call leaves files that stand for the state behind the first of
     /// the request's effects, some number of them, and one behind an answer that is neither DiskFault nor
-    /// OutOfMemory leaves all of them. Of a node that is down no disk call is made.
+    /// OutOfMemory leaves all of them. Of a node that is down no disk call is made, and a read or a fetch of
+    /// the cached segment's newest edits reads no file.
     pub fn act(&mut self, alloc: Global, request: &Request) -> Reply
         ensures step { Answers (told_state (D.is_told self.old.disk) (D.view self.old.disk).seen self.old.memory self.old.rows) request.now result (told_state (D.is_told self.new.disk) (D.view self.new.disk).seen self.new.memory self.new.rows) }
         ensures fits { FitsRequest request.now result }
         ensures moments { D.tells self.old.disk → (s : AnyState) → IsUp (D.view self.old.disk) self.old.memory self.old.rows s → LeavesOnly (D.view self.old.disk) (D.view self.new.disk) (StandsStopped s (effects_of s request.now)) }
         ensures stable { D.tells self.old.disk → (s : AnyState) → IsUp (D.view self.old.disk) self.old.memory self.old.rows s → IsNoFault result → AllLeave (D.view self.new.disk) (λ c. StandsAs c (after_effects s (effects_of s request.now))) }
         ensures idle { self.old.memory.up ≡ false → self.new.disk ≡ self.old.disk }
+        ensures cached { D.tells self.old.disk → (s : AnyState) → IsUp (D.view self.old.disk) self.old.memory self.old.rows s → IsNoFault result → self.new.recent.start ≡ cached_behind self.old.recent.start (effects_of s request.now) }
+        ensures unread { D.tells self.old.disk → (s : AnyState) → IsUp (D.view self.old.disk) self.old.memory self.old.rows s → AsksRecent self.old.recent.start s request.now → D.reads self.new.disk ≡ D.reads self.old.disk }
         ensures later { D.faults self.old.disk ≤ D.faults self.new.disk }
         ensures fault { result ≡ Reply.Refused Refusal.DiskFault → Rose (D.faults self.old.disk) (D.faults self.new.disk) }
         ensures steady { D.steady self.old.disk → D.steady self.new.disk × (result ≢ Reply.Refused Refusal.DiskFault) }
@@ -71,14 +77,15 @@ impl<D: Disk> JournalNode<D> {
             &mut self.disk,
             &mut self.memory,
             &mut self.table,
+            &mut self.recent,
             request,
         )
     }
 
     /// Does the first durable effects of a request, at most `keep`, and goes down; answers how many it did.
-    /// Want of memory before the first of them changes nothing. A crash at any moment of the call leaves
-    /// files that stand for the state behind the first of these, some number of them. Of a node that is
-    /// down no disk call is made.
+    /// Want of memory before the first of them changes nothing but that no segment is cached any more. A crash
+    /// at any moment of the call leaves files that stand for the state behind the first of these, some number
+    /// of them. Of a node that is down no disk call is made.
     pub fn act_stopped(
         &mut self,
         alloc: Global,
@@ -92,6 +99,7 @@ impl<D: Disk> JournalNode<D> {
         ensures fault { result ≡ Err NodeFail.DiskFault → Rose (D.faults self.old.disk) (D.faults self.new.disk) }
         ensures steady { D.steady self.old.disk → D.steady self.new.disk × (result ≢ Err NodeFail.DiskFault) }
     {
+        self.recent.clear();
         stop(
             alloc,
             &mut self.disk,
@@ -118,11 +126,12 @@ impl<D: Disk> JournalNode<D> {
     /// files is repaired. `DiskFault` comes where the disk failed, `OutOfMemory` for want of memory, and
     /// `BadFile` only on a disk that doesn't tell its bytes; each leaves the node down. A crash at any moment
     /// of the call leaves files that stand for what a crash before it could have left. Of a node that is up
-    /// no disk call is made.
+    /// no disk call is made; one that comes up has no cached segment.
     pub fn restart(&mut self, alloc: Global) -> Result<bool, NodeFail>
         ensures restart { Restarts (told_state (D.is_told self.old.disk) (D.view self.old.disk).seen self.old.memory self.old.rows) result (told_state (D.is_told self.new.disk) (D.view self.new.disk).seen self.new.memory self.new.rows) }
         ensures moments { D.tells self.old.disk → LeavesOnly (D.view self.old.disk) (D.view self.new.disk) (StandsAsBefore (D.view self.old.disk)) }
         ensures idle { self.old.memory.up ≡ true → self.new.disk ≡ self.old.disk }
+        ensures cached { result ≡ Ok true → self.new.recent ≡ nothing }
         ensures later { D.faults self.old.disk ≤ D.faults self.new.disk }
         ensures fault { result ≡ Err NodeFail.DiskFault → Rose (D.faults self.old.disk) (D.faults self.new.disk) }
         ensures steady { D.steady self.old.disk → D.steady self.new.disk × (result ≢ Err NodeFail.DiskFault) }
@@ -130,6 +139,7 @@ impl<D: Disk> JournalNode<D> {
         if self.memory.up {
             return Ok(false);
         }
+        self.recent.clear();
         come_up(alloc, &mut self.disk, &mut self.memory, &mut self.table)
     }
 }

@@ -16,6 +16,7 @@ mod doing;
 mod doing_laws;
 #[cfg(test)]
 mod doing_tests;
+mod following;
 mod journal_node;
 mod node_opening;
 mod open_fail;

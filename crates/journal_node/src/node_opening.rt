@@ -4,6 +4,7 @@ ghost use Rattle.qj_disk.specs.View.{LeavesOnly};
 ghost use Rattle.journal_core.specs.declared.node_state.NodeState.{NodeState as AnyState};
 ghost use Rattle.journal_core.specs.Answers.{Rose};
 ghost use Rattle.journal_core.specs.Stops.{Restarts};
+ghost use Rattle.recent_edits.specs.Recent.{nothing};
 ghost use Rattle.journal_node.specs.Node.{HasState, IsNode};
 ghost use Rattle.journal_node.specs.Opening.{IsOpenedNode, IsRefusedOpening, Keeps, StandsAsBefore, disk_in, is_fault, IsCauseOf};
 
@@ -12,6 +13,7 @@ use crate::open_fail::OpenFail;
 use journal_core::{NodeFail, NodeState, SegmentList};
 use node_files::{NodeFiles, OpenedFiles, open_files};
 use qj_disk::Disk;
+use recent_edits::RecentEdits;
 use segment_file::SegmentTable;
 use std::alloc::Global;
 
@@ -64,15 +66,16 @@ pub(crate) fn come_up<D: Disk>(
 
 impl<D: Disk> JournalNode<D> {
     /// Opens a node on its own disk: what a crash left half done is repaired, and the node is up, with the
-    /// state that its files stand for. Files of no node aren't opened: `BadFile` tells the first one that
-    /// isn't in its format. `DiskFault` comes where the disk failed, `OutOfMemory` for want of memory. Each
-    /// gives the disk back, with files that stand for what they stood for. A crash at any moment of the call
-    /// leaves files that stand for what a crash before it could have left.
+    /// state that its files stand for and no cached segment. Files of no node aren't opened: `BadFile` tells
+    /// the first one that isn't in its format. `DiskFault` comes where the disk failed, `OutOfMemory` for want
+    /// of memory. Each gives the disk back, with files that stand for what they stood for. A crash at any
+    /// moment of the call leaves files that stand for what a crash before it could have left.
     pub fn open(alloc: Global, disk: D) -> Result<JournalNode<D>, OpenFail<D>>
         ensures tells_ok { IfOk result (λ n. D.tells disk ↔ D.tells n.disk) }
         ensures tells_err { IfErr result (λ e. D.tells disk ↔ D.tells (disk_in e)) }
         ensures opened { D.tells disk → IfOk result (λ n. IsOpenedNode (D.view disk).seen (D.view n.disk) n.memory n.rows) }
         ensures bad { D.tells disk → IfErr result (λ e. IsRefusedOpening (D.view disk).seen (D.view (disk_in e)).seen e) }
+        ensures cached { IfOk result (λ n. n.recent ≡ nothing) }
         ensures moments_ok { D.tells disk → IfOk result (λ n. LeavesOnly (D.view disk) (D.view n.disk) (StandsAsBefore (D.view disk))) }
         ensures moments_err { D.tells disk → IfErr result (λ e. LeavesOnly (D.view disk) (D.view (disk_in e)) (StandsAsBefore (D.view disk))) }
         ensures kept { D.tells disk → IfErr result (λ e. Keeps (D.view disk).seen (D.view (disk_in e)).seen) }
@@ -80,6 +83,9 @@ impl<D: Disk> JournalNode<D> {
         ensures cause_err { IfErr result (λ e. IsCauseOf (D.faults disk) (D.faults (disk_in e)) (D.steady disk) (D.steady (disk_in e)) (is_fault e)) }
     {
         let mut disk = disk;
+        let Ok(recent) = RecentEdits::new(alloc) else {
+            return Err(OpenFail::OutOfMemory { disk });
+        };
         match open_files(alloc, &mut disk) {
             OpenedFiles::Files(files) => {
                 let memory = memory_of(alloc, &files);
@@ -87,6 +93,7 @@ impl<D: Disk> JournalNode<D> {
                     disk,
                     memory,
                     table: files.table,
+                    recent,
                 })
             }
             OpenedFiles::BadFile { name } => Err(OpenFail::BadFile { disk, name }),

@@ -1,6 +1,8 @@
-use Rattle.std.proofs.Common.{refl, sym, ◌∙◌}
+use Rattle.std.proofs.Common.{List, refl, sym, ap, ◌∙◌}
+use Rattle.journal_core.specs.Effects.{Effect}
+use Rattle.recent_edits.specs.Recent.{cached_behind}
 use Rattle.journal_node.proofs.ActingDone.{once_same, once_up}
-use Rattle.journal_node.proofs.ActingAnswer.{answer_at_once, moments_none, stable_at_once, up_stands}
+use Rattle.journal_node.proofs.ActingAnswer.{answer_at_once, moments_none, stable_at_once, up_stands, none_at_once}
 use Rattle.journal_node.proofs.acting.answer.Goals as goal
 
 pub returns-in-Some-clause-answer : goal.returns-in-Some-clause-answer
@@ -18,3 +20,8 @@ returns-in-Some-clause-stable g c = λ t s up own.
 pub returns-in-Err-clause-moments : goal.returns-in-Err-clause-moments
 returns-in-Err-clause-moments g c = λ t s up.
     moments_none (g.D.Disk.view c.args.disk.now) s c.args.request.now (g.met.D.Disk.sound _ t) (up_stands (g.D.Disk.view c.args.disk.now) c.args.memory.now c.args.table.now s up)
+
+pub returns-in-Some-clause-cached : goal.returns-in-Some-clause-cached
+returns-in-Some-clause-cached g c = λ t s up own.
+    sym (ap (λ (es : List Effect). cached_behind c.args.recent.now.start es)
+    (none_at_once s c.args.request.now c.in-Some.refusal (sym (once_up (g.D.Disk.view c.args.disk.now) c.args.memory.now c.args.table.now s c.args.request.now up) ∙ sym c.in-Some.ensures.refusal)))

@@ -1,13 +1,17 @@
+use Rattle.std.proofs.Common.{sym, subst, ◌∙◌}
+use Rattle.journal_core.specs.declared.node_state.NodeState.{NodeState}
+use Rattle.recent_edits.specs.Recent.{AsksRecent}
+use Rattle.journal_node.proofs.Recalling.{recalls_rests, asks_front, asked_numbers}
 use Rattle.journal_node.proofs.NodeStands.{rests_up}
-use Rattle.journal_node.proofs.ActingDone.{is_up, up_of}
-use Rattle.journal_node.proofs.ActingAnswer.{foretold_by, rests_then, rests_moments, up_stands, node_down, fault_down, memory_same}
+use Rattle.journal_node.proofs.ActingDone.{is_up, up_of, once_of, are_of}
+use Rattle.journal_node.proofs.ActingAnswer.{foretold_by, front_same, rests_then, rests_moments, up_stands, node_down, fault_down, memory_same}
 use Rattle.journal_node.proofs.acting.answer_by.Goals as goal
 
 pub returns-in-Ok-clause-answer : goal.returns-in-Ok-clause-answer
 returns-in-Ok-clause-answer g c = λ t s up.
     c.finish.ensures.answer (c.foretell.ensures.tells.0 t) s (rests_up (g.D.Disk.view c.args.disk.now) (g.D.Disk.view c.foretell.new.disk) (c.foretell.ensures.disk t) c.args.memory.now c.args.table.now s up)
     (foretold_by c.args.memory.now s c.args.request.now c.behind_front-front.result c.row_refusal-refusal.result c.in-Ok.reply up.held.memory c.behind_front-front.ensures (c.row_refusal-refusal.ensures s.segments up.held.told)
-    (c.in-Ok.ensures.reply t s.segments up.held.files.segments up.held.sound up.held.told))
+    (c.in-Ok.ensures.reply t s.segments up.held.files.segments up.held.sound up.held.told (c.requires.recalls t s (is_up c.args.memory.now c.args.request.now c.requires.at_once) up)))
 
 pub returns-in-Ok-clause-moments : goal.returns-in-Ok-clause-moments
 returns-in-Ok-clause-moments g c = λ t s up.
@@ -45,3 +49,35 @@ returns-clause-answer g c = λ t s up.
 pub returns-clause-moments : goal.returns-clause-moments
 returns-clause-moments g c = λ t s up.
     rests_moments (g.D.Disk.view c.args.disk.now) (g.D.Disk.view c.foretell.new.disk) s c.args.request.now (g.met.D.Disk.sound _ t) (c.foretell.ensures.disk t) (up_stands (g.D.Disk.view c.args.disk.now) c.args.memory.now c.args.table.now s up)
+
+pub finish-requires-clause-recalls : goal.finish-requires-clause-recalls
+finish-requires-clause-recalls g c = λ t1.
+    let t = c.foretell.ensures.tells.1 t1 in
+    recalls_rests (g.D.Disk.tells c.args.disk.now) (g.D.Disk.view c.args.disk.now) (g.D.Disk.view c.foretell.new.disk) c.args.memory.now c.args.table.now c.args.recent.now c.requires.node t (g.met.D.Disk.sound _ t1).seen_now (c.foretell.ensures.disk t) (c.requires.recalls t)
+
+pub returns-in-Ok-clause-cached : goal.returns-in-Ok-clause-cached
+returns-in-Ok-clause-cached g c = λ t s up own.
+    c.finish.ensures.cached (c.foretell.ensures.tells.0 t) s (rests_up (g.D.Disk.view c.args.disk.now) (g.D.Disk.view c.foretell.new.disk) (c.foretell.ensures.disk t) c.args.memory.now c.args.table.now s up) own
+
+pub returns-in-Ok-clause-unread : goal.returns-in-Ok-clause-unread
+returns-in-Ok-clause-unread g c = λ t s up asks.
+    c.finish.ensures.reads
+    (asked_numbers c.args.recent.now.start s c.args.request.now c.args.deeds.now asks (once_of (g.D.Disk.view c.args.disk.now) c.args.memory.now c.args.table.now s c.args.request.now c.args.deeds.now up c.requires.at_once c.requires.effects c.requires.due)
+    (are_of (g.D.Disk.view c.args.disk.now) c.args.memory.now c.args.table.now s c.args.request.now c.args.deeds.now up c.requires.at_once c.requires.effects c.requires.due))
+    ∙ c.foretell.ensures.unread s.segments up.held.told (c.requires.recalls t s (is_up c.args.memory.now c.args.request.now c.requires.at_once) up)
+    (subst (λ (x : NodeState). AsksRecent c.args.recent.now.start x c.args.request.now) (sym (front_same c.args.memory.now s c.behind_front-front.result c.args.request.now up.held.memory c.behind_front-front.ensures)) (asks_front c.args.recent.now.start s c.args.request.now asks))
+
+pub returns-in-Err-Failed-clause-unread : goal.returns-in-Err-Failed-clause-unread
+returns-in-Err-Failed-clause-unread g c = λ t s up asks.
+    c.foretell.ensures.unread s.segments up.held.told (c.requires.recalls t s (is_up c.args.memory.now c.args.request.now c.requires.at_once) up)
+    (subst (λ (x : NodeState). AsksRecent c.args.recent.now.start x c.args.request.now) (sym (front_same c.args.memory.now s c.behind_front-front.result c.args.request.now up.held.memory c.behind_front-front.ensures)) (asks_front c.args.recent.now.start s c.args.request.now asks))
+
+pub returns-clause-recalls : goal.returns-clause-recalls
+returns-clause-recalls g c = λ t.
+    recalls_rests (g.D.Disk.tells c.args.disk.now) (g.D.Disk.view c.args.disk.now) (g.D.Disk.view c.foretell.new.disk) c.args.memory.now c.args.table.now c.args.recent.now c.requires.node t (g.met.D.Disk.sound _ (c.foretell.ensures.tells.0 t)).seen_now (c.foretell.ensures.disk t)
+    (c.requires.recalls t)
+
+pub returns-clause-unread : goal.returns-clause-unread
+returns-clause-unread g c = λ t s up asks.
+    c.foretell.ensures.unread s.segments up.held.told (c.requires.recalls t s (is_up c.args.memory.now c.args.request.now c.requires.at_once) up)
+    (subst (λ (x : NodeState). AsksRecent c.args.recent.now.start x c.args.request.now) (sym (front_same c.args.memory.now s c.behind_front-front.result c.args.request.now up.held.memory c.behind_front-front.ensures)) (asks_front c.args.recent.now.start s c.args.request.now asks))

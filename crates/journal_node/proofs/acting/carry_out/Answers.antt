@@ -1,3 +1,8 @@
+use Rattle.std.proofs.Common.{List, ap, ◌∙◌}
+use Rattle.journal_core.specs.Effects.{Effect}
+use Rattle.recent_edits.specs.Recent.{cached_behind}
+use Rattle.journal_node.specs.Node.{state_behind}
+use Rattle.journal_node.proofs.Recalling.{recalls_of, behind_recent}
 use Rattle.journal_node.specs.Done.{effects_by}
 use Rattle.journal_node.proofs.ActingDone.{up_of, is_up, once_of, are_of, can_of, up_behind, stopped_in, stopped_moments, node_behind, node_stopped}
 use Rattle.journal_node.proofs.acting.carry_out.Goals as goal
@@ -47,3 +52,20 @@ returns-clause-moments g c = λ t s up.
     let can = can_of v0 c.args.memory.now c.args.table.now s c.args.request.now c.args.deeds.now up c.requires.at_once c.requires.effects c.requires.due in
     stopped_moments v0 (g.D.Disk.view c.do_deeds.new.disk) s c.args.request.now c.args.deeds.now
     (are_of v0 c.args.memory.now c.args.table.now s c.args.request.now c.args.deeds.now up c.requires.at_once c.requires.effects c.requires.due) (c.do_deeds.ensures.moments t s can)
+
+pub returns-in-Ok-clause-recalls : goal.returns-in-Ok-clause-recalls
+returns-in-Ok-clause-recalls g c = λ t.
+    let v0 = g.D.Disk.view c.args.disk.now in
+    let r = c.args.request.now in
+    let was = c.requires.node.stands t in
+    let is = is_up c.args.memory.now r c.requires.at_once in
+    let up = up_of v0 c.args.memory.now c.args.table.now was.0 is was.1 in
+    recalls_of (g.D.Disk.view c.do_deeds.new.disk) c.settle.new.memory c.do_deeds.new.table c.follow_deeds.new.recent (state_behind was.0 r) (g.met.D.Disk.sound _ (c.do_deeds.ensures.tells.0 t)).seen_now (λ u. returns-in-Ok-clause-done g c t was.0 up)
+    (behind_recent c.follow_deeds.new.recent was.0 r c.args.deeds.now (are_of v0 c.args.memory.now c.args.table.now was.0 r c.args.deeds.now up c.requires.at_once c.requires.effects c.requires.due)
+    (c.follow_deeds.ensures.held was.0 c.args.table.now (c.requires.due was.0.segments up.held.told) (c.requires.recalls t was.0 is up)))
+
+pub returns-in-Ok-clause-cached : goal.returns-in-Ok-clause-cached
+returns-in-Ok-clause-cached g c = λ t s up.
+    c.follow_deeds.ensures.start
+    ∙ ap (λ (es : List Effect). cached_behind c.args.recent.now.start es)
+    (are_of (g.D.Disk.view c.args.disk.now) c.args.memory.now c.args.table.now s c.args.request.now c.args.deeds.now up c.requires.at_once c.requires.effects c.requires.due)

@@ -1,6 +1,8 @@
-use Rattle.std.proofs.Common.{◌≡◌, ◌+◌, get_or, take, drop, refl, rules}
+use Rattle.std.proofs.Common.{◌≡◌, ◌+◌, get_or, take, drop, refl, ◌∙◌, rules}
 use Rattle.std.proofs.lemmas.List.{drop_all}
+use Rattle.std.proofs.lemmas.List.Elements.{All-get_or}
 use Rattle.std.specs.Prelude.{IsErr}
+use Rattle.journal_node.specs.Doing.{IsNumber}
 use Rattle.segment_file.proofs.GateLemmas.{carried}
 use Rattle.segment_file.proofs.Counts.{counted_as}
 use Rattle.node_files.specs.declared.node_number.NodeNumber.TheVariants.{Promised}
@@ -10,44 +12,44 @@ use Rattle.journal_node.proofs.DoneStops.{failed_rows, failed_rest, can_here, ru
 use Rattle.journal_node.proofs.deeds_done.do_deeds.Goals as goal
 
 pub loop-deed-init : goal.loop-deed-init
-loop-deed-init g c = begun (g.D.Disk.tells c.args.disk.now) (g.D.Disk.view c.args.disk.now) (λ t. g.met.D.Disk.sound _ t) c.args.memory.now c.args.table.now c.args.request.now c.args.deeds.now (g.D.Disk.faults c.args.disk.now) (g.D.Disk.steady c.args.disk.now) (g.D.Disk.left c.args.disk.now) c.requires.due
+loop-deed-init g c = record { way = begun (g.D.Disk.tells c.args.disk.now) (g.D.Disk.view c.args.disk.now) (λ t. g.met.D.Disk.sound _ t) c.args.memory.now c.args.table.now c.args.request.now c.args.deeds.now (g.D.Disk.faults c.args.disk.now) (g.D.Disk.steady c.args.disk.now) (g.D.Disk.left c.args.disk.now) c.requires.due; unread = λ numbers. refl }
 
 pub do_deed-requires-clause-held : goal.do_deed-requires-clause-held
 do_deed-requires-clause-held g c = λ tells.
-    let t = c.loop-deed.invariant.tells_on.1 tells in
+    let t = c.loop-deed.invariant.way.tells_on.1 tells in
     let able = c.requires.held t in (
-      ((way_here (g.D.Disk.tells c.args.disk.now) (g.D.Disk.tells c.loop-deed.disk) (g.D.Disk.view c.args.disk.now) (g.D.Disk.view c.loop-deed.disk) c.args.memory.now c.loop-deed.memory c.args.table.now c.loop-deed.table c.args.request.now c.args.deeds.now c.loop-deed.deed-index (Number Promised 0) (g.D.Disk.faults c.args.disk.now) (g.D.Disk.faults c.loop-deed.disk) (g.D.Disk.steady c.args.disk.now) (g.D.Disk.steady c.loop-deed.disk) (g.D.Disk.left c.args.disk.now) (g.D.Disk.left c.loop-deed.disk) c.loop-deed-test.true c.loop-deed.invariant).so_far t able.0 able.1).state,
+      ((way_here (g.D.Disk.tells c.args.disk.now) (g.D.Disk.tells c.loop-deed.disk) (g.D.Disk.view c.args.disk.now) (g.D.Disk.view c.loop-deed.disk) c.args.memory.now c.loop-deed.memory c.args.table.now c.loop-deed.table c.args.request.now c.args.deeds.now c.loop-deed.deed-index (Number Promised 0) (g.D.Disk.faults c.args.disk.now) (g.D.Disk.faults c.loop-deed.disk) (g.D.Disk.steady c.args.disk.now) (g.D.Disk.steady c.loop-deed.disk) (g.D.Disk.left c.args.disk.now) (g.D.Disk.left c.loop-deed.disk) c.loop-deed-test.true c.loop-deed.invariant.way).so_far t able.0 able.1).state,
       can_here (g.D.Disk.tells c.args.disk.now) (g.D.Disk.view c.args.disk.now) c.args.memory.now c.args.table.now c.args.request.now c.args.deeds.now (g.D.Disk.faults c.args.disk.now) (g.D.Disk.steady c.args.disk.now) (g.D.Disk.left c.args.disk.now)
           (g.D.Disk.tells c.loop-deed.disk) (g.D.Disk.view c.loop-deed.disk) c.loop-deed.memory c.loop-deed.table (take c.loop-deed.deed-index c.args.deeds.now) (get_or c.args.deeds.now c.loop-deed.deed-index (Number Promised 0)) (drop (c.loop-deed.deed-index + 1) c.args.deeds.now) (g.D.Disk.faults c.loop-deed.disk) (g.D.Disk.steady c.loop-deed.disk) (g.D.Disk.left c.loop-deed.disk)
-          (way_here (g.D.Disk.tells c.args.disk.now) (g.D.Disk.tells c.loop-deed.disk) (g.D.Disk.view c.args.disk.now) (g.D.Disk.view c.loop-deed.disk) c.args.memory.now c.loop-deed.memory c.args.table.now c.loop-deed.table c.args.request.now c.args.deeds.now c.loop-deed.deed-index (Number Promised 0) (g.D.Disk.faults c.args.disk.now) (g.D.Disk.faults c.loop-deed.disk) (g.D.Disk.steady c.args.disk.now) (g.D.Disk.steady c.loop-deed.disk) (g.D.Disk.left c.args.disk.now) (g.D.Disk.left c.loop-deed.disk) c.loop-deed-test.true c.loop-deed.invariant) t able.0 able.1,
+          (way_here (g.D.Disk.tells c.args.disk.now) (g.D.Disk.tells c.loop-deed.disk) (g.D.Disk.view c.args.disk.now) (g.D.Disk.view c.loop-deed.disk) c.args.memory.now c.loop-deed.memory c.args.table.now c.loop-deed.table c.args.request.now c.args.deeds.now c.loop-deed.deed-index (Number Promised 0) (g.D.Disk.faults c.args.disk.now) (g.D.Disk.faults c.loop-deed.disk) (g.D.Disk.steady c.args.disk.now) (g.D.Disk.steady c.loop-deed.disk) (g.D.Disk.left c.args.disk.now) (g.D.Disk.left c.loop-deed.disk) c.loop-deed-test.true c.loop-deed.invariant.way) t able.0 able.1,
     )
 
 pub returns-in_err-do_deed-clause-rows : goal.returns-in_err-do_deed-clause-rows
 returns-in_err-do_deed-clause-rows g c = failed_rows (g.D.Disk.tells c.args.disk.now) (g.D.Disk.view c.args.disk.now) c.args.memory.now c.args.table.now c.args.request.now c.args.deeds.now (g.D.Disk.faults c.args.disk.now) (g.D.Disk.steady c.args.disk.now) (g.D.Disk.left c.args.disk.now)
     (g.D.Disk.tells c.loop-deed.disk) (g.D.Disk.view c.loop-deed.disk) c.loop-deed.memory c.loop-deed.table (take c.loop-deed.deed-index c.args.deeds.now) (get_or c.args.deeds.now c.loop-deed.deed-index (Number Promised 0)) (drop (c.loop-deed.deed-index + 1) c.args.deeds.now) (g.D.Disk.faults c.loop-deed.disk) (g.D.Disk.steady c.loop-deed.disk) (g.D.Disk.left c.loop-deed.disk)
-    (way_here (g.D.Disk.tells c.args.disk.now) (g.D.Disk.tells c.loop-deed.disk) (g.D.Disk.view c.args.disk.now) (g.D.Disk.view c.loop-deed.disk) c.args.memory.now c.loop-deed.memory c.args.table.now c.loop-deed.table c.args.request.now c.args.deeds.now c.loop-deed.deed-index (Number Promised 0) (g.D.Disk.faults c.args.disk.now) (g.D.Disk.faults c.loop-deed.disk) (g.D.Disk.steady c.args.disk.now) (g.D.Disk.steady c.loop-deed.disk) (g.D.Disk.left c.args.disk.now) (g.D.Disk.left c.loop-deed.disk) c.loop-deed-test.true c.loop-deed.invariant) c.do_deed.new.table c.do_deed.ensures.told
+    (way_here (g.D.Disk.tells c.args.disk.now) (g.D.Disk.tells c.loop-deed.disk) (g.D.Disk.view c.args.disk.now) (g.D.Disk.view c.loop-deed.disk) c.args.memory.now c.loop-deed.memory c.args.table.now c.loop-deed.table c.args.request.now c.args.deeds.now c.loop-deed.deed-index (Number Promised 0) (g.D.Disk.faults c.args.disk.now) (g.D.Disk.faults c.loop-deed.disk) (g.D.Disk.steady c.args.disk.now) (g.D.Disk.steady c.loop-deed.disk) (g.D.Disk.left c.args.disk.now) (g.D.Disk.left c.loop-deed.disk) c.loop-deed-test.true c.loop-deed.invariant.way) c.do_deed.new.table c.do_deed.ensures.told
 
 pub returns-in_err-do_deed-clause-rest : goal.returns-in_err-do_deed-clause-rest
 returns-in_err-do_deed-clause-rest g c = failed_rest (g.D.Disk.tells c.args.disk.now) (g.D.Disk.view c.args.disk.now) c.args.memory.now c.args.table.now c.args.request.now c.args.deeds.now (g.D.Disk.faults c.args.disk.now) (g.D.Disk.steady c.args.disk.now) (g.D.Disk.left c.args.disk.now)
     (g.D.Disk.tells c.loop-deed.disk) (g.D.Disk.view c.loop-deed.disk) c.loop-deed.memory c.loop-deed.table (take c.loop-deed.deed-index c.args.deeds.now) (get_or c.args.deeds.now c.loop-deed.deed-index (Number Promised 0)) (drop (c.loop-deed.deed-index + 1) c.args.deeds.now) (g.D.Disk.faults c.loop-deed.disk) (g.D.Disk.steady c.loop-deed.disk) (g.D.Disk.left c.loop-deed.disk)
-    (way_here (g.D.Disk.tells c.args.disk.now) (g.D.Disk.tells c.loop-deed.disk) (g.D.Disk.view c.args.disk.now) (g.D.Disk.view c.loop-deed.disk) c.args.memory.now c.loop-deed.memory c.args.table.now c.loop-deed.table c.args.request.now c.args.deeds.now c.loop-deed.deed-index (Number Promised 0) (g.D.Disk.faults c.args.disk.now) (g.D.Disk.faults c.loop-deed.disk) (g.D.Disk.steady c.args.disk.now) (g.D.Disk.steady c.loop-deed.disk) (g.D.Disk.left c.args.disk.now) (g.D.Disk.left c.loop-deed.disk) c.loop-deed-test.true c.loop-deed.invariant) c.do_deed.new.memory c.in_err-do_deed.ensures.same
+    (way_here (g.D.Disk.tells c.args.disk.now) (g.D.Disk.tells c.loop-deed.disk) (g.D.Disk.view c.args.disk.now) (g.D.Disk.view c.loop-deed.disk) c.args.memory.now c.loop-deed.memory c.args.table.now c.loop-deed.table c.args.request.now c.args.deeds.now c.loop-deed.deed-index (Number Promised 0) (g.D.Disk.faults c.args.disk.now) (g.D.Disk.faults c.loop-deed.disk) (g.D.Disk.steady c.args.disk.now) (g.D.Disk.steady c.loop-deed.disk) (g.D.Disk.left c.args.disk.now) (g.D.Disk.left c.loop-deed.disk) c.loop-deed-test.true c.loop-deed.invariant.way) c.do_deed.new.memory c.in_err-do_deed.ensures.same
 
 pub returns-in_err-do_deed-clause-moments : goal.returns-in_err-do_deed-clause-moments
 returns-in_err-do_deed-clause-moments g c = run_moments (g.D.Disk.tells c.args.disk.now) (g.D.Disk.view c.args.disk.now) c.args.memory.now c.args.table.now c.args.request.now c.args.deeds.now (g.D.Disk.faults c.args.disk.now) (g.D.Disk.steady c.args.disk.now) (g.D.Disk.left c.args.disk.now)
     (g.D.Disk.tells c.loop-deed.disk) (g.D.Disk.view c.loop-deed.disk) c.loop-deed.memory c.loop-deed.table (take c.loop-deed.deed-index c.args.deeds.now) (get_or c.args.deeds.now c.loop-deed.deed-index (Number Promised 0)) (drop (c.loop-deed.deed-index + 1) c.args.deeds.now) (g.D.Disk.faults c.loop-deed.disk) (g.D.Disk.steady c.loop-deed.disk) (g.D.Disk.left c.loop-deed.disk)
-    (way_here (g.D.Disk.tells c.args.disk.now) (g.D.Disk.tells c.loop-deed.disk) (g.D.Disk.view c.args.disk.now) (g.D.Disk.view c.loop-deed.disk) c.args.memory.now c.loop-deed.memory c.args.table.now c.loop-deed.table c.args.request.now c.args.deeds.now c.loop-deed.deed-index (Number Promised 0) (g.D.Disk.faults c.args.disk.now) (g.D.Disk.faults c.loop-deed.disk) (g.D.Disk.steady c.args.disk.now) (g.D.Disk.steady c.loop-deed.disk) (g.D.Disk.left c.args.disk.now) (g.D.Disk.left c.loop-deed.disk) c.loop-deed-test.true c.loop-deed.invariant) (g.D.Disk.view c.do_deed.new.disk) c.do_deed.new.table (g.D.Disk.left c.do_deed.new.disk) c.do_deed.result c.do_deed.ensures.effect
+    (way_here (g.D.Disk.tells c.args.disk.now) (g.D.Disk.tells c.loop-deed.disk) (g.D.Disk.view c.args.disk.now) (g.D.Disk.view c.loop-deed.disk) c.args.memory.now c.loop-deed.memory c.args.table.now c.loop-deed.table c.args.request.now c.args.deeds.now c.loop-deed.deed-index (Number Promised 0) (g.D.Disk.faults c.args.disk.now) (g.D.Disk.faults c.loop-deed.disk) (g.D.Disk.steady c.args.disk.now) (g.D.Disk.steady c.loop-deed.disk) (g.D.Disk.left c.args.disk.now) (g.D.Disk.left c.loop-deed.disk) c.loop-deed-test.true c.loop-deed.invariant.way) (g.D.Disk.view c.do_deed.new.disk) c.do_deed.new.table (g.D.Disk.left c.do_deed.new.disk) c.do_deed.result c.do_deed.ensures.effect
 
 pub returns-in_err-do_deed-clause-left : goal.returns-in_err-do_deed-clause-left
 returns-in_err-do_deed-clause-left g c = λ t s can.
     on_err_always c.from_residual.result _ (failed_leaves (g.D.Disk.tells c.args.disk.now) (g.D.Disk.view c.args.disk.now) c.args.memory.now c.args.table.now c.args.request.now c.args.deeds.now (g.D.Disk.faults c.args.disk.now) (g.D.Disk.steady c.args.disk.now) (g.D.Disk.left c.args.disk.now)
     (g.D.Disk.tells c.loop-deed.disk) (g.D.Disk.view c.loop-deed.disk) c.loop-deed.memory c.loop-deed.table (take c.loop-deed.deed-index c.args.deeds.now) (get_or c.args.deeds.now c.loop-deed.deed-index (Number Promised 0)) (drop (c.loop-deed.deed-index + 1) c.args.deeds.now) (g.D.Disk.faults c.loop-deed.disk) (g.D.Disk.steady c.loop-deed.disk) (g.D.Disk.left c.loop-deed.disk)
-    (way_here (g.D.Disk.tells c.args.disk.now) (g.D.Disk.tells c.loop-deed.disk) (g.D.Disk.view c.args.disk.now) (g.D.Disk.view c.loop-deed.disk) c.args.memory.now c.loop-deed.memory c.args.table.now c.loop-deed.table c.args.request.now c.args.deeds.now c.loop-deed.deed-index (Number Promised 0) (g.D.Disk.faults c.args.disk.now) (g.D.Disk.faults c.loop-deed.disk) (g.D.Disk.steady c.args.disk.now) (g.D.Disk.steady c.loop-deed.disk) (g.D.Disk.left c.args.disk.now) (g.D.Disk.left c.loop-deed.disk) c.loop-deed-test.true c.loop-deed.invariant) (g.D.Disk.view c.do_deed.new.disk) c.do_deed.new.table (g.D.Disk.left c.do_deed.new.disk) c.do_deed.result c.do_deed.ensures.left t s can (g.D.Disk.view c.do_deed.new.disk).seen (g.met.D.Disk.sound _ (c.do_deed.ensures.tells.0 (c.loop-deed.invariant.tells_on.0 t))).seen_now)
+    (way_here (g.D.Disk.tells c.args.disk.now) (g.D.Disk.tells c.loop-deed.disk) (g.D.Disk.view c.args.disk.now) (g.D.Disk.view c.loop-deed.disk) c.args.memory.now c.loop-deed.memory c.args.table.now c.loop-deed.table c.args.request.now c.args.deeds.now c.loop-deed.deed-index (Number Promised 0) (g.D.Disk.faults c.args.disk.now) (g.D.Disk.faults c.loop-deed.disk) (g.D.Disk.steady c.args.disk.now) (g.D.Disk.steady c.loop-deed.disk) (g.D.Disk.left c.args.disk.now) (g.D.Disk.left c.loop-deed.disk) c.loop-deed-test.true c.loop-deed.invariant.way) (g.D.Disk.view c.do_deed.new.disk) c.do_deed.new.table (g.D.Disk.left c.do_deed.new.disk) c.do_deed.result c.do_deed.ensures.left t s can (g.D.Disk.view c.do_deed.new.disk).seen (g.met.D.Disk.sound _ (c.do_deed.ensures.tells.0 (c.loop-deed.invariant.way.tells_on.0 t))).seen_now)
 
 pub returns-in_err-do_deed-clause-leaves : goal.returns-in_err-do_deed-clause-leaves
 returns-in_err-do_deed-clause-leaves g c = λ t s can.
     on_err_always c.from_residual.result _ (failed_leaves (g.D.Disk.tells c.args.disk.now) (g.D.Disk.view c.args.disk.now) c.args.memory.now c.args.table.now c.args.request.now c.args.deeds.now (g.D.Disk.faults c.args.disk.now) (g.D.Disk.steady c.args.disk.now) (g.D.Disk.left c.args.disk.now)
     (g.D.Disk.tells c.loop-deed.disk) (g.D.Disk.view c.loop-deed.disk) c.loop-deed.memory c.loop-deed.table (take c.loop-deed.deed-index c.args.deeds.now) (get_or c.args.deeds.now c.loop-deed.deed-index (Number Promised 0)) (drop (c.loop-deed.deed-index + 1) c.args.deeds.now) (g.D.Disk.faults c.loop-deed.disk) (g.D.Disk.steady c.loop-deed.disk) (g.D.Disk.left c.loop-deed.disk)
-    (way_here (g.D.Disk.tells c.args.disk.now) (g.D.Disk.tells c.loop-deed.disk) (g.D.Disk.view c.args.disk.now) (g.D.Disk.view c.loop-deed.disk) c.args.memory.now c.loop-deed.memory c.args.table.now c.loop-deed.table c.args.request.now c.args.deeds.now c.loop-deed.deed-index (Number Promised 0) (g.D.Disk.faults c.args.disk.now) (g.D.Disk.faults c.loop-deed.disk) (g.D.Disk.steady c.args.disk.now) (g.D.Disk.steady c.loop-deed.disk) (g.D.Disk.left c.args.disk.now) (g.D.Disk.left c.loop-deed.disk) c.loop-deed-test.true c.loop-deed.invariant) (g.D.Disk.view c.do_deed.new.disk) c.do_deed.new.table (g.D.Disk.left c.do_deed.new.disk) c.do_deed.result c.do_deed.ensures.left t s can)
+    (way_here (g.D.Disk.tells c.args.disk.now) (g.D.Disk.tells c.loop-deed.disk) (g.D.Disk.view c.args.disk.now) (g.D.Disk.view c.loop-deed.disk) c.args.memory.now c.loop-deed.memory c.args.table.now c.loop-deed.table c.args.request.now c.args.deeds.now c.loop-deed.deed-index (Number Promised 0) (g.D.Disk.faults c.args.disk.now) (g.D.Disk.faults c.loop-deed.disk) (g.D.Disk.steady c.args.disk.now) (g.D.Disk.steady c.loop-deed.disk) (g.D.Disk.left c.args.disk.now) (g.D.Disk.left c.loop-deed.disk) c.loop-deed-test.true c.loop-deed.invariant.way) (g.D.Disk.view c.do_deed.new.disk) c.do_deed.new.table (g.D.Disk.left c.do_deed.new.disk) c.do_deed.result c.do_deed.ensures.left t s can)
 
 pub returns-in_err-do_deed-clause-counts : goal.returns-in_err-do_deed-clause-counts
 returns-in_err-do_deed-clause-counts g c = λ t s can keep cut.
@@ -55,7 +57,7 @@ returns-in_err-do_deed-clause-counts g c = λ t s can keep cut.
     let err : IsErr c.do_deed.result = search rules in
     counted_as _ (g.D.Disk.left c.args.disk.now) (g.D.Disk.left c.do_deed.new.disk) c.do_deed.result c.from_residual.result same (failed_counts (g.D.Disk.tells c.args.disk.now) (g.D.Disk.view c.args.disk.now) c.args.memory.now c.args.table.now c.args.request.now c.args.deeds.now (g.D.Disk.faults c.args.disk.now) (g.D.Disk.steady c.args.disk.now) (g.D.Disk.left c.args.disk.now)
     (g.D.Disk.tells c.loop-deed.disk) (g.D.Disk.view c.loop-deed.disk) c.loop-deed.memory c.loop-deed.table (take c.loop-deed.deed-index c.args.deeds.now) (get_or c.args.deeds.now c.loop-deed.deed-index (Number Promised 0)) (drop (c.loop-deed.deed-index + 1) c.args.deeds.now) (g.D.Disk.faults c.loop-deed.disk) (g.D.Disk.steady c.loop-deed.disk) (g.D.Disk.left c.loop-deed.disk)
-    (way_here (g.D.Disk.tells c.args.disk.now) (g.D.Disk.tells c.loop-deed.disk) (g.D.Disk.view c.args.disk.now) (g.D.Disk.view c.loop-deed.disk) c.args.memory.now c.loop-deed.memory c.args.table.now c.loop-deed.table c.args.request.now c.args.deeds.now c.loop-deed.deed-index (Number Promised 0) (g.D.Disk.faults c.args.disk.now) (g.D.Disk.faults c.loop-deed.disk) (g.D.Disk.steady c.args.disk.now) (g.D.Disk.steady c.loop-deed.disk) (g.D.Disk.left c.args.disk.now) (g.D.Disk.left c.loop-deed.disk) c.loop-deed-test.true c.loop-deed.invariant) (g.D.Disk.view c.do_deed.new.disk) c.do_deed.new.table (g.D.Disk.left c.do_deed.new.disk) c.do_deed.result c.do_deed.ensures.effect c.do_deed.ensures.counts t s can keep cut err)
+    (way_here (g.D.Disk.tells c.args.disk.now) (g.D.Disk.tells c.loop-deed.disk) (g.D.Disk.view c.args.disk.now) (g.D.Disk.view c.loop-deed.disk) c.args.memory.now c.loop-deed.memory c.args.table.now c.loop-deed.table c.args.request.now c.args.deeds.now c.loop-deed.deed-index (Number Promised 0) (g.D.Disk.faults c.args.disk.now) (g.D.Disk.faults c.loop-deed.disk) (g.D.Disk.steady c.args.disk.now) (g.D.Disk.steady c.loop-deed.disk) (g.D.Disk.left c.args.disk.now) (g.D.Disk.left c.loop-deed.disk) c.loop-deed-test.true c.loop-deed.invariant.way) (g.D.Disk.view c.do_deed.new.disk) c.do_deed.new.table (g.D.Disk.left c.do_deed.new.disk) c.do_deed.result c.do_deed.ensures.effect c.do_deed.ensures.counts t s can keep cut err)
 
 pub returns-in_err-do_deed-clause-cut : goal.returns-in_err-do_deed-clause-cut
 returns-in_err-do_deed-clause-cut g c = λ t s can keep.
@@ -63,33 +65,42 @@ returns-in_err-do_deed-clause-cut g c = λ t s can keep.
     (carried c.do_deed.result c.from_residual.result c.in_err-do_deed.field-0.0 c.in_err-do_deed.was c.from_residual.ensures.1)
     (failed_cut (g.D.Disk.tells c.args.disk.now) (g.D.Disk.view c.args.disk.now) c.args.memory.now c.args.table.now c.args.request.now c.args.deeds.now (g.D.Disk.faults c.args.disk.now) (g.D.Disk.steady c.args.disk.now) (g.D.Disk.left c.args.disk.now)
     (g.D.Disk.tells c.loop-deed.disk) (g.D.Disk.view c.loop-deed.disk) c.loop-deed.memory c.loop-deed.table (take c.loop-deed.deed-index c.args.deeds.now) (get_or c.args.deeds.now c.loop-deed.deed-index (Number Promised 0)) (drop (c.loop-deed.deed-index + 1) c.args.deeds.now) (g.D.Disk.faults c.loop-deed.disk) (g.D.Disk.steady c.loop-deed.disk) (g.D.Disk.left c.loop-deed.disk)
-    (way_here (g.D.Disk.tells c.args.disk.now) (g.D.Disk.tells c.loop-deed.disk) (g.D.Disk.view c.args.disk.now) (g.D.Disk.view c.loop-deed.disk) c.args.memory.now c.loop-deed.memory c.args.table.now c.loop-deed.table c.args.request.now c.args.deeds.now c.loop-deed.deed-index (Number Promised 0) (g.D.Disk.faults c.args.disk.now) (g.D.Disk.faults c.loop-deed.disk) (g.D.Disk.steady c.args.disk.now) (g.D.Disk.steady c.loop-deed.disk) (g.D.Disk.left c.args.disk.now) (g.D.Disk.left c.loop-deed.disk) c.loop-deed-test.true c.loop-deed.invariant) (g.D.Disk.view c.do_deed.new.disk) c.do_deed.new.table (g.D.Disk.left c.do_deed.new.disk) c.do_deed.result c.do_deed.ensures.effect c.do_deed.ensures.counts c.do_deed.ensures.cut c.do_deed.ensures.covers t s can keep)
+    (way_here (g.D.Disk.tells c.args.disk.now) (g.D.Disk.tells c.loop-deed.disk) (g.D.Disk.view c.args.disk.now) (g.D.Disk.view c.loop-deed.disk) c.args.memory.now c.loop-deed.memory c.args.table.now c.loop-deed.table c.args.request.now c.args.deeds.now c.loop-deed.deed-index (Number Promised 0) (g.D.Disk.faults c.args.disk.now) (g.D.Disk.faults c.loop-deed.disk) (g.D.Disk.steady c.args.disk.now) (g.D.Disk.steady c.loop-deed.disk) (g.D.Disk.left c.args.disk.now) (g.D.Disk.left c.loop-deed.disk) c.loop-deed-test.true c.loop-deed.invariant.way) (g.D.Disk.view c.do_deed.new.disk) c.do_deed.new.table (g.D.Disk.left c.do_deed.new.disk) c.do_deed.result c.do_deed.ensures.effect c.do_deed.ensures.counts c.do_deed.ensures.cut c.do_deed.ensures.covers t s can keep)
 
 pub loop-deed-preserved : goal.loop-deed-preserved
-loop-deed-preserved g c =
-    way_next (g.D.Disk.tells c.args.disk.now) (g.D.Disk.tells c.do_deed.new.disk) (g.D.Disk.view c.args.disk.now) (g.D.Disk.view c.do_deed.new.disk) c.args.memory.now c.do_deed.new.memory c.args.table.now c.do_deed.new.table c.args.request.now c.args.deeds.now c.loop-deed.deed-index (Number Promised 0) (g.D.Disk.faults c.args.disk.now) (g.D.Disk.faults c.do_deed.new.disk) (g.D.Disk.steady c.args.disk.now) (g.D.Disk.steady c.do_deed.new.disk) (g.D.Disk.left c.args.disk.now) (g.D.Disk.left c.do_deed.new.disk) c.loop-deed-test.true
-    (next_way (g.D.Disk.tells c.args.disk.now) (g.D.Disk.view c.args.disk.now) c.args.memory.now c.args.table.now c.args.request.now c.args.deeds.now (g.D.Disk.faults c.args.disk.now) (g.D.Disk.steady c.args.disk.now) (g.D.Disk.left c.args.disk.now)
-    (g.D.Disk.tells c.loop-deed.disk) (g.D.Disk.view c.loop-deed.disk) c.loop-deed.memory c.loop-deed.table (take c.loop-deed.deed-index c.args.deeds.now) (get_or c.args.deeds.now c.loop-deed.deed-index (Number Promised 0)) (drop (c.loop-deed.deed-index + 1) c.args.deeds.now) (g.D.Disk.faults c.loop-deed.disk) (g.D.Disk.steady c.loop-deed.disk) (g.D.Disk.left c.loop-deed.disk)
-    (way_here (g.D.Disk.tells c.args.disk.now) (g.D.Disk.tells c.loop-deed.disk) (g.D.Disk.view c.args.disk.now) (g.D.Disk.view c.loop-deed.disk) c.args.memory.now c.loop-deed.memory c.args.table.now c.loop-deed.table c.args.request.now c.args.deeds.now c.loop-deed.deed-index (Number Promised 0) (g.D.Disk.faults c.args.disk.now) (g.D.Disk.faults c.loop-deed.disk) (g.D.Disk.steady c.args.disk.now) (g.D.Disk.steady c.loop-deed.disk) (g.D.Disk.left c.args.disk.now) (g.D.Disk.left c.loop-deed.disk) c.loop-deed-test.true c.loop-deed.invariant)
-    (g.D.Disk.tells c.do_deed.new.disk) (g.D.Disk.view c.do_deed.new.disk) c.do_deed.new.memory c.do_deed.new.table (g.D.Disk.faults c.do_deed.new.disk) (g.D.Disk.steady c.do_deed.new.disk) (g.D.Disk.left c.do_deed.new.disk) c.do_deed.result c.do_deed.ensures.tells c.do_deed.ensures.effect c.do_deed.ensures.counts c.do_deed.ensures.cause
-    (search rules) c.in_ok-do_deed.ensures.noted.done c.in_ok-do_deed.ensures.rows c.in_ok-do_deed.ensures.memory c.in_ok-do_deed.ensures.held c.in_ok-do_deed.ensures.opened)
+loop-deed-preserved g c = record {
+  way =
+      way_next (g.D.Disk.tells c.args.disk.now) (g.D.Disk.tells c.do_deed.new.disk) (g.D.Disk.view c.args.disk.now) (g.D.Disk.view c.do_deed.new.disk) c.args.memory.now c.do_deed.new.memory c.args.table.now c.do_deed.new.table c.args.request.now c.args.deeds.now c.loop-deed.deed-index (Number Promised 0) (g.D.Disk.faults c.args.disk.now) (g.D.Disk.faults c.do_deed.new.disk) (g.D.Disk.steady c.args.disk.now) (g.D.Disk.steady c.do_deed.new.disk) (g.D.Disk.left c.args.disk.now) (g.D.Disk.left c.do_deed.new.disk) c.loop-deed-test.true
+      (next_way (g.D.Disk.tells c.args.disk.now) (g.D.Disk.view c.args.disk.now) c.args.memory.now c.args.table.now c.args.request.now c.args.deeds.now (g.D.Disk.faults c.args.disk.now) (g.D.Disk.steady c.args.disk.now) (g.D.Disk.left c.args.disk.now)
+      (g.D.Disk.tells c.loop-deed.disk) (g.D.Disk.view c.loop-deed.disk) c.loop-deed.memory c.loop-deed.table (take c.loop-deed.deed-index c.args.deeds.now) (get_or c.args.deeds.now c.loop-deed.deed-index (Number Promised 0)) (drop (c.loop-deed.deed-index + 1) c.args.deeds.now) (g.D.Disk.faults c.loop-deed.disk) (g.D.Disk.steady c.loop-deed.disk) (g.D.Disk.left c.loop-deed.disk)
+      (way_here (g.D.Disk.tells c.args.disk.now) (g.D.Disk.tells c.loop-deed.disk) (g.D.Disk.view c.args.disk.now) (g.D.Disk.view c.loop-deed.disk) c.args.memory.now c.loop-deed.memory c.args.table.now c.loop-deed.table c.args.request.now c.args.deeds.now c.loop-deed.deed-index (Number Promised 0) (g.D.Disk.faults c.args.disk.now) (g.D.Disk.faults c.loop-deed.disk) (g.D.Disk.steady c.args.disk.now) (g.D.Disk.steady c.loop-deed.disk) (g.D.Disk.left c.args.disk.now) (g.D.Disk.left c.loop-deed.disk) c.loop-deed-test.true c.loop-deed.invariant.way)
+      (g.D.Disk.tells c.do_deed.new.disk) (g.D.Disk.view c.do_deed.new.disk) c.do_deed.new.memory c.do_deed.new.table (g.D.Disk.faults c.do_deed.new.disk) (g.D.Disk.steady c.do_deed.new.disk) (g.D.Disk.left c.do_deed.new.disk) c.do_deed.result c.do_deed.ensures.tells c.do_deed.ensures.effect c.do_deed.ensures.counts c.do_deed.ensures.cause
+      (search rules) c.in_ok-do_deed.ensures.noted.done c.in_ok-do_deed.ensures.rows c.in_ok-do_deed.ensures.memory c.in_ok-do_deed.ensures.held c.in_ok-do_deed.ensures.opened);
+  unread = λ numbers. c.do_deed.ensures.reads (All-get_or IsNumber c.args.deeds.now c.loop-deed.deed-index (Number Promised 0) c.loop-deed-test.true numbers) ∙ c.loop-deed.invariant.unread numbers;
+}
 
 pub returns-clause-rest : goal.returns-clause-rest
 returns-clause-rest g c = ended_rest (g.D.Disk.tells c.args.disk.now) (g.D.Disk.tells c.loop-deed.disk) (g.D.Disk.view c.args.disk.now) (g.D.Disk.view c.loop-deed.disk) c.args.memory.now c.loop-deed.memory c.args.table.now c.loop-deed.table c.args.request.now c.args.deeds.now (take c.loop-deed.deed-index c.args.deeds.now) (drop c.loop-deed.deed-index c.args.deeds.now) (g.D.Disk.faults c.args.disk.now) (g.D.Disk.faults c.loop-deed.disk) (g.D.Disk.steady c.args.disk.now) (g.D.Disk.steady c.loop-deed.disk) (g.D.Disk.left c.args.disk.now) (g.D.Disk.left c.loop-deed.disk)
-    c.loop-deed.invariant (drop_all c.loop-deed.deed-index c.args.deeds.now c.loop-deed-test.false)
+    c.loop-deed.invariant.way (drop_all c.loop-deed.deed-index c.args.deeds.now c.loop-deed-test.false)
 
 pub returns-clause-moments : goal.returns-clause-moments
 returns-clause-moments g c = λ t s can. ended_moments (g.D.Disk.tells c.args.disk.now) (g.D.Disk.tells c.loop-deed.disk) (g.D.Disk.view c.args.disk.now) (g.D.Disk.view c.loop-deed.disk) c.args.memory.now c.loop-deed.memory c.args.table.now c.loop-deed.table c.args.request.now c.args.deeds.now (take c.loop-deed.deed-index c.args.deeds.now) (drop c.loop-deed.deed-index c.args.deeds.now) (g.D.Disk.faults c.args.disk.now) (g.D.Disk.faults c.loop-deed.disk) (g.D.Disk.steady c.args.disk.now) (g.D.Disk.steady c.loop-deed.disk) (g.D.Disk.left c.args.disk.now) (g.D.Disk.left c.loop-deed.disk)
-    c.loop-deed.invariant (drop_all c.loop-deed.deed-index c.args.deeds.now c.loop-deed-test.false) t s can
+    c.loop-deed.invariant.way (drop_all c.loop-deed.deed-index c.args.deeds.now c.loop-deed-test.false) t s can
 
 pub returns-clause-held : goal.returns-clause-held
 returns-clause-held g c = λ t s can. ended_held (g.D.Disk.tells c.args.disk.now) (g.D.Disk.tells c.loop-deed.disk) (g.D.Disk.view c.args.disk.now) (g.D.Disk.view c.loop-deed.disk) c.args.memory.now c.loop-deed.memory c.args.table.now c.loop-deed.table c.args.request.now c.args.deeds.now (take c.loop-deed.deed-index c.args.deeds.now) (drop c.loop-deed.deed-index c.args.deeds.now) (g.D.Disk.faults c.args.disk.now) (g.D.Disk.faults c.loop-deed.disk) (g.D.Disk.steady c.args.disk.now) (g.D.Disk.steady c.loop-deed.disk) (g.D.Disk.left c.args.disk.now) (g.D.Disk.left c.loop-deed.disk)
-    c.loop-deed.invariant (drop_all c.loop-deed.deed-index c.args.deeds.now c.loop-deed-test.false) t s can
+    c.loop-deed.invariant.way (drop_all c.loop-deed.deed-index c.args.deeds.now c.loop-deed-test.false) t s can
 
 pub returns-clause-opened : goal.returns-clause-opened
 returns-clause-opened g c = λ t s o can ends. ended_opened (g.D.Disk.tells c.args.disk.now) (g.D.Disk.tells c.loop-deed.disk) (g.D.Disk.view c.args.disk.now) (g.D.Disk.view c.loop-deed.disk) c.args.memory.now c.loop-deed.memory c.args.table.now c.loop-deed.table c.args.request.now c.args.deeds.now (take c.loop-deed.deed-index c.args.deeds.now) (drop c.loop-deed.deed-index c.args.deeds.now) (g.D.Disk.faults c.args.disk.now) (g.D.Disk.faults c.loop-deed.disk) (g.D.Disk.steady c.args.disk.now) (g.D.Disk.steady c.loop-deed.disk) (g.D.Disk.left c.args.disk.now) (g.D.Disk.left c.loop-deed.disk)
-    c.loop-deed.invariant (drop_all c.loop-deed.deed-index c.args.deeds.now c.loop-deed-test.false) t s can o ends
+    c.loop-deed.invariant.way (drop_all c.loop-deed.deed-index c.args.deeds.now c.loop-deed-test.false) t s can o ends
 
 pub returns-clause-counts : goal.returns-clause-counts
 returns-clause-counts g c = λ t s can keep cut. ended_counts (g.D.Disk.tells c.args.disk.now) (g.D.Disk.tells c.loop-deed.disk) (g.D.Disk.view c.args.disk.now) (g.D.Disk.view c.loop-deed.disk) c.args.memory.now c.loop-deed.memory c.args.table.now c.loop-deed.table c.args.request.now c.args.deeds.now (take c.loop-deed.deed-index c.args.deeds.now) (drop c.loop-deed.deed-index c.args.deeds.now) (g.D.Disk.faults c.args.disk.now) (g.D.Disk.faults c.loop-deed.disk) (g.D.Disk.steady c.args.disk.now) (g.D.Disk.steady c.loop-deed.disk) (g.D.Disk.left c.args.disk.now) (g.D.Disk.left c.loop-deed.disk)
-    c.loop-deed.invariant (drop_all c.loop-deed.deed-index c.args.deeds.now c.loop-deed-test.false) t s can keep cut _ refl
+    c.loop-deed.invariant.way (drop_all c.loop-deed.deed-index c.args.deeds.now c.loop-deed-test.false) t s can keep cut _ refl
+
+pub returns-in_err-do_deed-clause-reads : goal.returns-in_err-do_deed-clause-reads
+returns-in_err-do_deed-clause-reads g c = λ numbers. c.do_deed.ensures.reads (All-get_or IsNumber c.args.deeds.now c.loop-deed.deed-index (Number Promised 0) c.loop-deed-test.true numbers) ∙ c.loop-deed.invariant.unread numbers
+
+pub returns-clause-reads : goal.returns-clause-reads
+returns-clause-reads g c = λ numbers. c.loop-deed.invariant.unread numbers

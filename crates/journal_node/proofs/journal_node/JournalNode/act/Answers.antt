@@ -1,4 +1,5 @@
-use Rattle.std.proofs.Common.{subst, Option}
+use Rattle.std.proofs.Common.{subst, ◌≡◌, Option}
+use Rattle.recent_edits.specs.Recent.{AsksRecent}
 use Rattle.journal_core.specs.declared.node_state.NodeState.{NodeState}
 use Rattle.journal_node.specs.Node.{told_state, IsUp, IsNoFault}
 use Rattle.journal_node.proofs.NodeStands.{told_both}
@@ -13,9 +14,13 @@ pub returns-clause-step : goal.returns-clause-step
 returns-clause-step g c =
     subst (λ p. Answers (told_state (g.D.Disk.is_told p.disk) (g.D.Disk.view p.disk).seen p.memory p.rows) c.args.request.now c.answer.result (told_state (g.D.Disk.is_told c.answer.new.disk) (g.D.Disk.view c.answer.new.disk).seen c.answer.new.memory c.answer.new.table)) c.self.view_is
     (told_both (λ (x y : Option NodeState). Answers x c.args.request.now c.answer.result y) tt (g.D.Disk.tells c.self.inside.disk) (g.D.Disk.tells c.answer.new.disk) (g.D.Disk.is_told c.self.inside.disk) (g.D.Disk.is_told c.answer.new.disk) (g.met.D.Disk.told_so c.self.inside.disk) (g.met.D.Disk.told_so c.answer.new.disk) c.answer.ensures.tells
-    (g.D.Disk.view c.self.inside.disk) (g.D.Disk.view c.answer.new.disk) c.self.inside.memory c.answer.new.memory c.self.inside.table c.answer.new.table (λ t. (g.met.D.Disk.sound _ t).seen_now) (λ t. (g.met.D.Disk.sound _ t).seen_now) c.self.invariant c.answer.ensures.node
+    (g.D.Disk.view c.self.inside.disk) (g.D.Disk.view c.answer.new.disk) c.self.inside.memory c.answer.new.memory c.self.inside.table c.answer.new.table (λ t. (g.met.D.Disk.sound _ t).seen_now) (λ t. (g.met.D.Disk.sound _ t).seen_now) c.self.invariant.node c.answer.ensures.node
     (λ t s has. c.answer.ensures.answer t s has))
 
 pub returns-clause-stable : goal.returns-clause-stable
 returns-clause-stable g c =
     subst (λ p. g.D.Disk.tells p.disk → (s : NodeState) → IsUp (g.D.Disk.view p.disk) p.memory p.rows s → IsNoFault c.answer.result → AllLeave (g.D.Disk.view c.answer.new.disk) (λ x. StandsAs x (after_effects s (effects_of s c.args.request.now)))) c.self.view_is c.answer.ensures.stable
+
+pub returns-clause-unread : goal.returns-clause-unread
+returns-clause-unread g c =
+    subst (λ p. g.D.Disk.tells p.disk → (s : NodeState) → IsUp (g.D.Disk.view p.disk) p.memory p.rows s → AsksRecent p.recent.start s c.args.request.now → g.D.Disk.reads c.answer.new.disk ≡ g.D.Disk.reads p.disk) c.self.view_is c.answer.ensures.unread

@@ -1,10 +1,14 @@
 use Rattle.journal_node.proofs.NodeOpens.{as_before, opened_up, opened_node}
+use Rattle.journal_node.proofs.Recalling.{recalls_nothing}
 use Rattle.journal_node.proofs.journal_node.JournalNode.open.Goals as goal
 
 pub invariant_of-result : goal.invariant_of-result
-invariant_of-result g c =
-    opened_node (g.D.Disk.tells c.open_files.new.disk) (g.D.Disk.view c.args.disk).seen (g.D.Disk.view c.open_files.new.disk) c.in-Files.files c.memory_of-memory.result c.memory_of-memory.ensures c.in-Files.ensures.rows.2 c.in-Files.ensures.rows.3
-    (λ t. c.in-Files.ensures.files (c.open_files.ensures.tells.1 t))
+invariant_of-result g c = record {
+  node =
+      opened_node (g.D.Disk.tells c.open_files.new.disk) (g.D.Disk.view c.args.disk).seen (g.D.Disk.view c.open_files.new.disk) c.in-Files.files c.memory_of-memory.result c.memory_of-memory.ensures c.in-Files.ensures.rows.2 c.in-Files.ensures.rows.3
+      (λ t. c.in-Files.ensures.files (c.open_files.ensures.tells.1 t));
+  recalls = λ t. recalls_nothing (g.D.Disk.view c.open_files.new.disk) c.memory_of-memory.result c.in-Files.files.table c.in-Ok.recent c.in-Ok.ensures;
+}
 
 pub returns-in-Files-clause-opened : goal.returns-in-Files-clause-opened
 returns-in-Files-clause-opened g c = λ t.

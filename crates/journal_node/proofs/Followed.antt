@@ -1,0 +1,137 @@
+-- The newest edits in memory follow each deed of a request.
+use Rattle.std.proofs.Common.{ℕ, suc, ◌≡◌, ◌≢◌, ◌≤◌, ◌<◌, ◌+◌, Bool, true, false, List, [], ◌∷◌, ◌++◌, length, get_or, drop, Option, Some, None, refl, sym, ap, subst, ◌∙◌, arith}
+use Rattle.std.proofs.lemmas.Bool.Decides.{nat_tests}
+use Rattle.std.proofs.lemmas.List.{append-nil}
+use Rattle.std.proofs.Math.Seq.{drop-cons}
+use Rattle.std.specs.Prelude.{nat_lt}
+use Rattle.std.specs.List.{list_any}
+use Rattle.journal_core.specs.Views.{HeadView, BatchView, last_txid}
+use Rattle.journal_core.specs.declared.segment.Segment.{Segment}
+use Rattle.journal_core.specs.declared.node_state.NodeState.{NodeState}
+use Rattle.journal_core.specs.declared.request.Request.{Request}
+use Rattle.journal_core.specs.declared.request.Request.TheVariants.{State, NewEpoch, Start, Journal, Finalize, Prepare, Fetch, Accept, Purge, Read, Manifest}
+use Rattle.journal_core.specs.Limits.{limit_of, max_body, max_number}
+use Rattle.journal_core.specs.declared.segment_info.SegmentInfo.{SegmentInfo}
+use Rattle.journal_core.specs.Segments.{find_segment, put_segment}
+use Rattle.journal_core.specs.Effects.{Effect, appended, empty_segment, accepted_segment, segments_after, after_effect, after_effects}
+use Rattle.segment_file.specs.declared.segment_row.SegmentRow.{SegmentRow}
+use Rattle.node_files.specs.declared.node_number.NodeNumber.{NodeNumber}
+use Rattle.node_files.specs.declared.node_number.NodeNumber.TheVariants.{Promised, Writer, Committed}
+use Rattle.node_files.specs.Deeds.{number_effect}
+use Rattle.node_deeds.specs.declared.deed.Deed.{Deed}
+use Rattle.node_deeds.specs.declared.deed.Deed.TheVariants as deed
+use Rattle.node_deeds.specs.Due.{batch_of, effect_of, rows_after, IsDue, AreDue}
+use Rattle.edit_cache.specs.Edits.{Edit, Follows, kept, numbered}
+use Rattle.recent_edits.specs.Recent.{Recent, IsRecent, cached_after, cached_behind, most_stored, nothing}
+use Rattle.recent_edits.proofs.Following.{appended_to, begun, replaced, removed, finalized_too}
+use Rattle.journal_node.specs.Done.{effects_by}
+
+-- ## The batch of a request that passes no limit
+journal_short : (h : HeadView) (start : ℕ) (b : BatchView) → limit_of (Journal h start b) ≡ None → list_any (λ body. nat_lt max_body (length body)) b.bodies ≡ false
+unfolding limit_of
+journal_short h start b none = grind (arith, nat_tests)
+
+accept_short : (h : HeadView) (b : BatchView) → limit_of (Accept h b) ≡ None → list_any (λ body. nat_lt max_body (length body)) b.bodies ≡ false
+unfolding limit_of
+accept_short h b none = grind (arith, nat_tests)
+
+pub short_bodies : (r : Request) → limit_of r ≡ None → list_any (λ body. nat_lt max_body (length body)) (batch_of r).bodies ≡ false
+short_bodies State none = refl
+short_bodies (NewEpoch epoch) none = refl
+short_bodies (Start h start) none = refl
+short_bodies (Journal h start b) none = journal_short h start b none
+short_bodies (Finalize h start end) none = refl
+short_bodies (Prepare h start) none = refl
+short_bodies (Fetch h start from) none = refl
+short_bodies (Accept h b) none = accept_short h b none
+short_bodies (Purge h least) none = refl
+short_bodies (Read from) none = refl
+short_bodies Manifest none = refl
+
+journal_last : (h : HeadView) (start : ℕ) (b : BatchView) → limit_of (Journal h start b) ≡ None → last_txid b ≤ max_number
+unfolding limit_of
+journal_last h start b none = grind (arith, nat_tests)
+
+accept_last : (h : HeadView) (b : BatchView) → limit_of (Accept h b) ≡ None → last_txid b ≤ max_number
+unfolding limit_of
+accept_last h b none = grind (arith, nat_tests)
+
+pub last_fits : (r : Request) → limit_of r ≡ None → last_txid (batch_of r) ≤ max_number
+last_fits State none = omega arith
+last_fits (NewEpoch epoch) none = omega arith
+last_fits (Start h start) none = omega arith
+last_fits (Journal h start b) none = journal_last h start b none
+last_fits (Finalize h start end) none = omega arith
+last_fits (Prepare h start) none = omega arith
+last_fits (Fetch h start from) none = omega arith
+last_fits (Accept h b) none = accept_last h b none
+last_fits (Purge h least) none = omega arith
+last_fits (Read from) none = omega arith
+last_fits Manifest none = omega arith
+
+-- ## Deeds that change no edits
+number_segments : (n : NodeNumber) (value : ℕ) (gs : List Segment) → segments_after gs (number_effect n value) ≡ gs
+number_segments Promised value gs = refl
+number_segments Writer value gs = refl
+number_segments Committed value gs = refl
+
+pub number_held : (recent : Recent) (gs : List Segment) (r : Request) (d : Deed) (n : NodeNumber) (value : ℕ) → d ≡ deed.Number n value → IsRecent recent gs → IsRecent recent (segments_after gs (effect_of r d))
+number_held recent gs r d n value is held = subst (λ (x : Deed). IsRecent recent (segments_after gs (effect_of r x))) (sym is) (subst (λ (xs : List Segment). IsRecent recent xs) (sym (number_segments n value gs)) held)
+
+pub final_held : (recent : Recent) (gs : List Segment) (r : Request) (d : Deed) (start end : ℕ) (accepted : Bool) → d ≡ deed.Finalize start end accepted → IsRecent recent gs → IsRecent recent (segments_after gs (effect_of r d))
+final_held recent gs r d start end accepted is held = subst (λ (x : Deed). IsRecent recent (segments_after gs (effect_of r x))) (sym is) (finalized_too recent gs start held)
+
+-- ## Deeds that begin a segment, put one in place of another or remove one
+pub begin_held : (new : Recent) (gs : List Segment) (r : Request) (d : Deed) (start epoch : ℕ) → d ≡ deed.Begin start epoch → (let begun_now : Recent = record { start = Some start; edits = [] } in new ≡ begun_now) → IsRecent new (segments_after gs (effect_of r d))
+begin_held new gs r d start epoch is made =
+    subst (λ (x : Deed). IsRecent new (segments_after gs (effect_of r x))) (sym is) (subst (λ (x : Recent). IsRecent x (put_segment (empty_segment start epoch) gs)) (sym made) (begun start epoch gs))
+
+pub accept_held : (recent new : Recent) (gs : List Segment) (r : Request) (d : Deed) (first epoch : ℕ) (again : Bool) → d ≡ deed.Accept epoch again → first ≡ (batch_of r).first
+    → (recent.start ≢ Some first → new ≡ recent) → (recent.start ≡ Some first → new ≡ nothing) → IsRecent recent gs → IsRecent new (segments_after gs (effect_of r d))
+accept_held recent new gs r d first epoch again is at same gone held =
+    subst (λ (x : Deed). IsRecent new (segments_after gs (effect_of r x))) (sym is)
+    (replaced recent new gs (accepted_segment epoch (batch_of r)) (λ other. same (λ e. other (e ∙ ap (λ (n : ℕ). Some n) at))) (λ e. gone (e ∙ ap (λ (n : ℕ). Some n) (sym at))) held)
+
+pub remove_held : (recent new : Recent) (gs : List Segment) (r : Request) (d : Deed) (info : SegmentInfo) → d ≡ deed.Remove info
+    → (recent.start ≢ Some info.start → new ≡ recent) → (recent.start ≡ Some info.start → new ≡ nothing) → IsRecent recent gs → IsRecent new (segments_after gs (effect_of r d))
+remove_held recent new gs r d info is same gone held = subst (λ (x : Deed). IsRecent new (segments_after gs (effect_of r x))) (sym is) (removed recent new gs info.start same gone held)
+
+-- nothing is appended
+pub none_appended : (r : Recent) (gs : List Segment) (start first : ℕ) (g : Segment) (bodies : List (List ℕ)) → bodies ≡ [] → find_segment start gs ≡ Some g → first ≡ start + length g.bodies → IsRecent r gs → IsRecent r (appended bodies (find_segment start gs) gs)
+none_appended r gs start first g bodies none known next recent =
+    subst (λ (bs : List (List ℕ)). IsRecent r (appended bs (find_segment start gs) gs)) (sym none)
+    (appended_to r r gs start first [] g known next refl (λ other. refl) (λ before is e follows. e ∙ ap (kept most_stored) (sym (append-nil before))) recent)
+
+-- ## One deed after the other
+pub drop_next : (ds : List Deed) (i : ℕ) (d : Deed) → i < length ds → drop i ds ≡ get_or ds i d ∷ drop (i + 1) ds
+drop_next ds i d within = drop-cons ds i d within ∙ (let e : suc i ≡ i + 1 = omega arith in ap (λ (n : ℕ). get_or ds i d ∷ drop n ds) e)
+
+pub cached_goes : (r : Request) (cached new : Option ℕ) (d : Deed) (ds left : List Deed) → ds ≡ d ∷ left → new ≡ cached_after cached (effect_of r d) → cached_behind cached (effects_by r ds) ≡ cached_behind new (effects_by r left)
+cached_goes r cached new d ds left is next = ap (λ (xs : List Deed). cached_behind cached (effects_by r xs)) is ∙ ap (λ (c : Option ℕ). cached_behind c (effects_by r left)) (sym next)
+
+-- the deeds that are left are due, the newest edits are held, and the deeds lead to that state
+pub record IsFollowed (r : Request) (recent : Recent) (left : List Deed) (whole : NodeState) : Type 0 where
+  pub state : NodeState
+  pub rows : List SegmentRow
+  pub due : AreDue state.segments rows r left
+  pub held : IsRecent recent state.segments
+  pub ends : after_effects state (effects_by r left) ≡ whole
+
+pub follow_begins : (r : Request) (recent : Recent) (ds : List Deed) (s : NodeState) (rows : List SegmentRow) → AreDue s.segments rows r ds → IsRecent recent s.segments → IsFollowed r recent ds (after_effects s (effects_by r ds))
+follow_begins r recent ds s rows due held = record { state = s; rows = rows; due = due; held = held; ends = refl }
+
+pub follow_goes : (r : Request) (recent new : Recent) (d : Deed) (left : List Deed) (whole : NodeState) → IsFollowed r recent (d ∷ left) whole
+    → ((gs : List Segment) (rows : List SegmentRow) → IsDue gs rows r d → IsRecent recent gs → IsRecent new (segments_after gs (effect_of r d))) → IsFollowed r new left whole
+unfolding after_effects
+follow_goes r recent new d left whole way next = record {
+  state = after_effect way.state (effect_of r d);
+  rows = rows_after r d 0 way.rows;
+  due = way.due.1 0;
+  held = next way.state.segments way.rows way.due.0 way.held;
+  ends = way.ends;
+}
+
+pub follow_ends : (r : Request) (recent : Recent) (left : List Deed) (whole : NodeState) → left ≡ [] → IsFollowed r recent left whole → IsRecent recent whole.segments
+unfolding after_effects
+follow_ends r recent [] whole none way = subst (λ (s : NodeState). IsRecent recent s.segments) way.ends way.held
+follow_ends r recent (d ∷ left) whole none way = absurd (cc)

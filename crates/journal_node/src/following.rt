@@ -1,0 +1,55 @@
+//! The newest edits in memory follow what is done for a request.
+ghost use Rattle.std.specs.Prelude.{◌≡◌, ℕ, None, List};
+ghost use Rattle.journal_core.specs.declared.segment.Segment.{Segment};
+ghost use Rattle.journal_core.specs.declared.node_state.NodeState.{NodeState as AnyState};
+ghost use Rattle.journal_core.specs.Limits.{limit_of};
+ghost use Rattle.journal_core.specs.Effects.{segments_after, after_effects};
+ghost use Rattle.segment_file.specs.declared.segment_row.SegmentRow.{SegmentRow};
+ghost use Rattle.node_deeds.specs.Due.{batch_of, effect_of, IsDue, AreDue};
+ghost use Rattle.recent_edits.specs.Recent.{IsRecent, cached_after, cached_behind};
+ghost use Rattle.journal_node.specs.Done.{effects_by};
+
+use crate::doing::batch_in;
+use journal_core::Request;
+use node_deeds::Deed;
+use recent_edits::RecentEdits;
+
+// Edits of a request were appended to the segment with that start.
+fn follow_append(recent: &mut RecentEdits, request: &Request, start: u64)
+    requires limits { limit_of request.now ≡ None }
+    ensures start { recent.new.start ≡ recent.old.start }
+    ensures held { (gs : List Segment) (rows : List SegmentRow) (at : ℕ) → IsDue gs rows request.now (Deed.Append start at) → IsRecent recent.old gs → IsRecent recent.new (segments_after gs (effect_of request.now (Deed.Append start at))) }
+{
+    if let Some(batch) = batch_in(request) {
+        recent.append(start, batch);
+    }
+}
+
+// A deed was done.
+fn follow(recent: &mut RecentEdits, request: &Request, deed: Deed)
+    requires limits { limit_of request.now ≡ None }
+    ensures start { recent.new.start ≡ cached_after recent.old.start (effect_of request.now deed) }
+    ensures held { (gs : List Segment) (rows : List SegmentRow) → IsDue gs rows request.now deed → IsRecent recent.old gs → IsRecent recent.new (segments_after gs (effect_of request.now deed)) }
+{
+    match deed {
+        Deed::Begin { start, .. } => recent.begin(start),
+        Deed::Append { start, .. } => follow_append(recent, request, start),
+        Deed::Accept { .. } => match batch_in(request) {
+            Some(batch) => recent.forget(batch.first()),
+            None => recent.forget(0),
+        },
+        Deed::Remove { info } => recent.forget(info.start),
+        Deed::Number { .. } | Deed::Finalize { .. } => {}
+    }
+}
+
+/// The deeds of a request were done, each of which was due where those before it were done.
+pub(crate) fn follow_deeds(recent: &mut RecentEdits, request: &Request, deeds: &[Deed])
+    requires limits { limit_of request.now ≡ None }
+    ensures start { recent.new.start ≡ cached_behind recent.old.start (effects_by request.now deeds.now) }
+    ensures held { (s : AnyState) (rows : List SegmentRow) → AreDue s.segments rows request.now deeds.now → IsRecent recent.old s.segments → IsRecent recent.new (after_effects s (effects_by request.now deeds.now)).segments }
+{
+    for deed in deeds {
+        follow(recent, request, *deed);
+    }
+}
