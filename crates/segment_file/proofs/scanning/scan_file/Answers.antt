@@ -29,9 +29,12 @@ returns-in-Some-2-clause-told g c = λ t.
     let t2 = c.read_window.ensures.tells.0 t1 in
     let there2 : (g.D.Disk.view c.read_window.new.disk).seen c.args.asked.now.name.now ≡ Some bytes =
     ap (λ (files : Files). files c.args.asked.now.name.now) ((c.read_window.ensures.disk t1).keeps.seen ∙ (c.length.ensures.disk t).keeps.seen) ∙ there in
-    let scans = rw c.in-Some-2.is at (c.in_ok-scan.ensures.told t2 bytes there2 some.2) in
-    (bytes, there, scanned_whole c.args.asked.now.start c.args.asked.now.skip c.args.asked.now.most bytes c.in-Some-read_header.header.start c.in-Some-read_header.header.epoch
-        (header_of_front bytes c.deref.result.now is _ _ c.in-Some-read_header.ensures) c.in-Some-2.scan c.if-header-asked.false scans.0 scans.1)
+    let scans = rw c.in-Some-2.is at (c.in_ok-scan.ensures.told t2 bytes there2 some.2) in (
+      bytes,
+      there,
+      scanned_whole c.args.asked.now.start c.args.asked.now.skip c.args.asked.now.most bytes c.in-Some-read_header.header.start c.in-Some-read_header.header.epoch
+          (header_of_front bytes c.deref.result.now is _ _ c.in-Some-read_header.ensures) c.in-Some-2.scan c.if-header-asked.false scans.0 scans.1,
+    )
 
 pub returns-in-Some-2-clause-disk : goal.returns-in-Some-2-clause-disk
 returns-in-Some-2-clause-disk g c = λ t.
