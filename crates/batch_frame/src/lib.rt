@@ -33,6 +33,3 @@ pub use scanning::{scan, scan_window};
 pub use worked::{
     a_cut_frame_is_short, an_open_frame_counts, known_bytes_are_spelled, rules_are_broken,
 };
-
-#[cfg(test)]
-mod tests;

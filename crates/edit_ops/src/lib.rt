@@ -28,6 +28,3 @@ pub use reading_text::read_text;
 pub use said_text::ReadText;
 pub use text::edit_text;
 pub use writing::encode;
-
-#[cfg(test)]
-mod tests;

@@ -29,8 +29,6 @@ mod serving;
 mod shared_request;
 mod stops;
 mod table;
-#[cfg(test)]
-mod tests;
 mod told_segment;
 
 pub use batch::Batch;

@@ -8,8 +8,6 @@ mod more;
 mod next;
 mod served;
 mod serving;
-#[cfg(test)]
-mod tests;
 mod worked;
 
 pub use served::Served;

@@ -11,6 +11,3 @@ mod tools;
 
 pub use listing::{ByteCause, Listing};
 pub use tools::{list, stats};
-
-#[cfg(test)]
-mod tests;

@@ -9,8 +9,6 @@ mod file_map;
 mod lent_disk;
 mod mem_disk;
 mod mem_file;
-#[cfg(test)]
-mod tests;
 mod untold_disk;
 pub mod worked;
 

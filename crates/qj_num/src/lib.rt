@@ -16,6 +16,3 @@ pub use laws::{fields_are_got_back, numbers_are_read_back, padded_numbers_are_re
 pub use limits::{MAX, OutOfMemory};
 pub use name::Name;
 pub use padded::{print19, read19};
-
-#[cfg(test)]
-mod tests;

@@ -11,8 +11,6 @@ mod mem_source;
 mod no_fault;
 mod reading;
 mod standard;
-#[cfg(test)]
-mod tests;
 mod writing;
 
 pub use ends::{Failed, Sink, Source};

@@ -9,8 +9,6 @@ mod parts;
 mod printed;
 mod printed_requests;
 mod report;
-#[cfg(test)]
-mod tests;
 mod unprinted;
 
 pub use answer::Report;

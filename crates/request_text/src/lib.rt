@@ -9,8 +9,6 @@ mod replies;
 mod request_line;
 mod request_word;
 mod requests;
-#[cfg(test)]
-mod tests;
 mod words;
 
 pub use examples::{a_session_is_printed, a_session_is_read};

@@ -18,8 +18,6 @@ mod said;
 mod script;
 mod script_line;
 mod task_word;
-#[cfg(test)]
-mod tests;
 mod words;
 
 pub use answer::ReadScript;

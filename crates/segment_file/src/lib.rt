@@ -22,8 +22,6 @@ pub mod laws;
 mod names;
 mod opened;
 mod opening;
-#[cfg(test)]
-mod opening_tests;
 mod place;
 mod reading;
 mod repeating;
@@ -34,8 +32,6 @@ mod settling;
 mod starts;
 mod sweeping;
 mod syncing;
-#[cfg(test)]
-mod tests;
 mod window_end;
 pub mod worked;
 

@@ -7,8 +7,6 @@ mod names;
 mod number_file;
 mod paxos_file;
 mod put;
-#[cfg(test)]
-mod tests;
 mod whole;
 pub mod worked;
 

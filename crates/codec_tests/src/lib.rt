@@ -1,0 +1,19 @@
+//! Tests of the formats and of a node in memory: numbers, edits, frames, listings, requests and replies, scripts, reports.
+#![tactic(auto)]
+
+#[cfg(test)]
+mod edits;
+#[cfg(test)]
+mod frames;
+#[cfg(test)]
+mod listings;
+#[cfg(test)]
+mod numbers;
+#[cfg(test)]
+mod plain_nodes;
+#[cfg(test)]
+mod reports;
+#[cfg(test)]
+mod requests;
+#[cfg(test)]
+mod scripts;

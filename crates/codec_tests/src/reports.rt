@@ -1,0 +1,105 @@
+//! The report on its happy path, and one that is too long.
+use journal_core::{Batch, BodyList, Bytes, Head, Refusal, Reply, Request, SharedRequest};
+use mesh::{End, EndList, HistoryTable, Mesh, RecordTable};
+use node_world::{HistoryLine, HistoryList, NodeAnswer, NodeAsk, Plan, Record, RecordList, Told};
+use report_text::{Report, report_of};
+use std::alloc::Global;
+use std::test::Fail;
+
+#[test]
+fn a_report_is_printed(rt: HostRuntime) -> Result<(), Fail> {
+    let alloc = rt.alloc();
+    let request = SharedRequest::new(alloc, Request::State)?;
+    let mut history = HistoryList::new(alloc);
+    history.push(HistoryLine {
+        caller: 0,
+        ask: NodeAsk::Act {
+            late: false,
+            request: request.share()?,
+        },
+        answer: NodeAnswer::Replied(Reply::State { promised: 12 }),
+    })?;
+    history.push(HistoryLine {
+        caller: 1,
+        ask: NodeAsk::Kill,
+        answer: NodeAnswer::Done,
+    })?;
+    let mut histories = HistoryTable::new(alloc);
+    histories.push(history)?;
+    let mut calls = RecordList::new(alloc);
+    calls.push(Record::Call {
+        node: 1,
+        request,
+        told: Told::Reply(Reply::Refused(Refusal::Down)),
+    })?;
+    let mut orders = RecordList::new(alloc);
+    orders.push(Record::Operator {
+        node: 1,
+        ask: NodeAsk::Kill,
+        done: true,
+    })?;
+    let mut records = RecordTable::new(alloc);
+    records.push(calls)?;
+    records.push(orders)?;
+    let mesh = Mesh {
+        nodes: 1,
+        histories,
+        records,
+        plan: Plan::new(alloc),
+    };
+    let mut ends = EndList::new(alloc);
+    if let Some(name) = Bytes::copy_of(alloc, b"a")? {
+        ends.push(End { name })?;
+    }
+    let Report::Text(report) = report_of(alloc, &mesh, &ends)? else {
+        return Err("too long".into());
+    };
+    let wanted =
+        b"nodes 1\nnode 1\na state -> state 12\nops kill -> done\nactor a\n1 state -> refused 1 Down\nactor ops\n1 kill -> done\nend\n";
+    assert_eq!(rt; report.as_slice(), wanted.as_slice());
+    Ok(())
+}
+
+/// A request with 16,384 times the same body of 4,096 bytes, whose text has 134,234,138 bytes.
+fn long_request(alloc: Global) -> Result<SharedRequest, Fail> {
+    let body = Bytes::copy_of(alloc, &[7; 4096])?.ok_or("no byte")?;
+    let mut bodies = BodyList::new(alloc);
+    for _ in 0..16_384 {
+        bodies.push(body.share()?)?;
+    }
+    if bodies.is_empty() {
+        return Err("no body".into());
+    }
+    let head = Head::new(1, 1, 0).ok_or("no head")?;
+    let batch = Batch::new(1, bodies);
+    Ok(SharedRequest::new(alloc, Request::Accept { head, batch })?)
+}
+
+#[test]
+fn a_longer_report_is_too_long(rt: HostRuntime) -> Result<(), Fail> {
+    let alloc = rt.alloc();
+    let request = long_request(alloc)?;
+    let mut calls = RecordList::new(alloc);
+    for node in 1..3 {
+        calls.push(Record::Call {
+            node,
+            request: request.share()?,
+            told: Told::Dropped,
+        })?;
+    }
+    let mut records = RecordTable::new(alloc);
+    records.push(calls)?;
+    let mesh = Mesh {
+        nodes: 0,
+        histories: HistoryTable::new(alloc),
+        records,
+        plan: Plan::new(alloc),
+    };
+    let mut ends = EndList::new(alloc);
+    if let Some(name) = Bytes::copy_of(alloc, b"a")? {
+        ends.push(End { name })?;
+    }
+    let report = report_of(alloc, &mesh, &ends)?;
+    assert!(rt; matches!(&report, Report::TooLong));
+    Ok(())
+}

@@ -1,0 +1,163 @@
+//! Sources and sinks in memory with and without faults, the two loops over them, and the standard ends used once.
+use crate::broken::Broken;
+use crate::recorder::Recorder;
+use qj_outside::{
+    Failed, Input, MemSink, MemSource, NoFaultSink, NoFaultSource, Sink, Source, StdSink,
+    StdSource, read_all, write_all,
+};
+use std::alloc::{AllocError, Global};
+use std::test::Fail;
+
+/// How a reading ended, and the bytes where all were read.
+fn outcome(input: &Input) -> (&str, &[u8]) {
+    match input {
+        Input::All(bytes) => ("all", bytes.as_slice()),
+        Input::TooLong => ("too long", b""),
+        Input::ReadFault => ("fault", b""),
+        Input::OutOfMemory => ("memory", b""),
+    }
+}
+
+/// What came of reading these bytes, where these calls fail.
+fn read_with(alloc: Global, failing: &[u64], limit: usize) -> Result<Input, AllocError> {
+    let bytes = b"journal".to_vec(alloc)?;
+    let mut source = MemSource::new(bytes, failing.to_vec(alloc)?);
+    Ok(read_all(alloc, &mut source, limit))
+}
+
+#[test]
+fn whole_sources_are_read(rt: HostRuntime) -> Result<(), Fail> {
+    let cases: [(&[u64], usize, &str, &[u8]); 7] = [
+        (&[], 100, "all", b"journal"),
+        (&[], 7, "all", b"journal"),
+        (&[], 6, "too long", b""),
+        (&[], 0, "too long", b""),
+        (&[0], 100, "fault", b""),
+        (&[1], 100, "fault", b""),
+        (&[2], 100, "all", b"journal"),
+    ];
+    for (failing, limit, ended, bytes) in cases {
+        let input = read_with(rt.alloc(), failing, limit)?;
+        let (how, read) = outcome(&input);
+        assert_eq!(rt; how, ended, "at limit {limit}");
+        assert_eq!(rt; read, bytes, "at limit {limit}");
+    }
+    Ok(())
+}
+
+#[test]
+fn long_sources_are_read_in_pieces(rt: HostRuntime) -> Result<(), Fail> {
+    let alloc = rt.alloc();
+    let bytes = vec![in alloc; 7u8; 200_000]?;
+    let mut source = MemSource::new(bytes.clone()?, vec![in alloc]?);
+    let input = read_all(alloc, &mut source, 200_000);
+    let (how, read) = outcome(&input);
+    assert_eq!(rt; how, "all");
+    assert_eq!(rt; read, bytes.as_slice());
+
+    let mut again = MemSource::new(bytes, [2].to_vec(alloc)?);
+    let input = read_all(alloc, &mut again, 200_000);
+    assert_eq!(rt; outcome(&input).0, "fault", "the third piece fails");
+    Ok(())
+}
+
+#[test]
+fn a_source_without_faults_is_read(rt: HostRuntime) -> Result<(), Fail> {
+    let mut source = NoFaultSource::new(b"abc".to_vec(rt.alloc())?);
+    let mut into = [0u8; 2];
+    assert_eq!(rt; source.read(&mut into)?, 2);
+    assert_eq!(rt; &into, b"ab");
+    let input = read_all(rt.alloc(), &mut source, 100);
+    assert_eq!(rt; outcome(&input).1, b"c".as_slice());
+    assert_eq!(rt; source.read(&mut into)?, 0, "at the end");
+    Ok(())
+}
+
+#[test]
+fn failed_reads_lose_nothing(rt: HostRuntime) -> Result<(), Fail> {
+    let alloc = rt.alloc();
+    let mut source = MemSource::new(b"abc".to_vec(alloc)?, [1].to_vec(alloc)?);
+    let mut into = [0u8; 2];
+    assert_eq!(rt; source.read(&mut into)?, 2);
+    assert_eq!(rt; source.read(&mut into), Err(Failed));
+    assert_eq!(rt; source.read(&mut into)?, 1);
+    assert_eq!(rt; &into[..1], b"c".as_slice());
+    Ok(())
+}
+
+#[test]
+fn texts_are_written_until_a_call_fails(rt: HostRuntime) -> Result<(), Fail> {
+    let cases: [(&[u64], usize, &[u8], bool, &[u8]); 8] = [
+        (&[], 7, b"journal", true, b"journal"),
+        (&[], 9, b"journal", true, b"journal"),
+        (&[], 3, b"journal", false, b"jou"),
+        (&[], 0, b"journal", false, b""),
+        (&[0], 7, b"journal", false, b""),
+        (&[1], 7, b"journal", false, b"journal"),
+        (&[1], 7, b"", true, b""),
+        (&[0], 7, b"", false, b""),
+    ];
+    for (failing, room, text, is_written, taken) in cases {
+        let mut sink = MemSink::new(rt.alloc(), room, failing.to_vec(rt.alloc())?)?;
+        let written = write_all(&mut sink, text);
+        assert_eq!(rt; written.is_ok(), is_written, "with room {room}");
+        assert_eq!(rt; sink.bytes(), taken, "with room {room}");
+    }
+    Ok(())
+}
+
+#[test]
+fn a_sink_fails_in_the_middle_and_goes_on(rt: HostRuntime) -> Result<(), Fail> {
+    let alloc = rt.alloc();
+    let mut sink = MemSink::new(alloc, 5, [1].to_vec(alloc)?)?;
+    assert_eq!(rt; sink.write(b"ab")?, 2);
+    assert_eq!(rt; sink.write(b"cd"), Err(Failed));
+    assert_eq!(rt; sink.write(b"efgh")?, 3, "as much as there is room for");
+    assert_eq!(rt; sink.write(b"i"), Err(Failed), "no room is left");
+    assert_eq!(rt; sink.flush(), Ok(()));
+    assert_eq!(rt; sink.bytes(), b"abefg".as_slice());
+    Ok(())
+}
+
+#[test]
+fn a_sink_without_faults_takes_all(rt: HostRuntime) -> Result<(), Fail> {
+    let mut sink = NoFaultSink::new();
+    assert_eq!(rt; sink.write(b"abc")?, 3);
+    assert_eq!(rt; write_all(&mut sink, b"journal"), Ok(()));
+    Ok(())
+}
+
+#[test]
+fn the_standard_input_is_read(rt: HostRuntime) -> Result<(), Fail> {
+    let alloc = rt.alloc();
+    let mut source = StdSource::new(rt.clone()?);
+    let input = read_all(alloc, &mut source, 1 << 20);
+    assert_ne!(rt; outcome(&input).0, "memory");
+    Ok(())
+}
+
+#[test]
+fn the_standard_output_is_written(rt: HostRuntime) -> Result<(), Fail> {
+    let mut sink = StdSink::new(rt.clone()?);
+    assert_eq!(rt; write_all(&mut sink, b"written\n"), Ok(()));
+    Ok(())
+}
+
+#[test]
+fn errors_of_the_runtime_are_faults(rt: HostRuntime) {
+    let mut source = StdSource::new(Broken);
+    let input = read_all(rt.alloc(), &mut source, 100);
+    assert_eq!(rt; outcome(&input).0, "fault");
+    let mut sink = StdSink::new(Broken);
+    assert_eq!(rt; write_all(&mut sink, b"lost"), Err(Failed));
+}
+
+#[test]
+fn short_writes_go_on(rt: HostRuntime) {
+    let recorder = Recorder::new(rt.alloc());
+    let mut sink = StdSink::new(&recorder);
+    assert_eq!(rt; write_all(&mut sink, b"a journal"), Ok(()));
+    assert_eq!(rt; write_all(&mut sink, b" node"), Ok(()));
+    let bytes = recorder.into_bytes();
+    assert_eq!(rt; bytes.as_slice(), b"a journal node".as_slice());
+}

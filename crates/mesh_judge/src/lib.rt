@@ -1,0 +1,11 @@
+//! What is decided and made of a mesh: its epoch order, as events.
+#![tactic(auto)]
+
+mod caller;
+mod moved;
+mod ordering;
+mod ranking;
+mod reached;
+mod won;
+
+pub use ordering::ordered;
