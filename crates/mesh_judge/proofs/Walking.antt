@@ -194,7 +194,7 @@ module _ (m : Mesh) (cs : List Caller) (i k : ℕ) (h : HistoryLine) (a : Agrees
   past = take k (history_at m i)
 
   pub caller_known : h.caller < length cs
-  caller_known = omega (arith, within_at (operator_of m) (history_at m i) k h (a.callers i in_) l, ap (λ (x : HistoryLine). x.caller) is, known.all_known, a.records)
+  caller_known = omega (arith, within_at (operator_of m) (history_at m i) k h (a.lists.callers i in_) l, ap (λ (x : HistoryLine). x.caller) is, known.all_known, a.records)
 
   pub line_reached : count_of h.caller past < length (reached (i + 1) (record_of m h.caller))
   line_reached =
@@ -256,7 +256,7 @@ module _ (m : Mesh) (cs : List Caller) (i k : ℕ) (h : HistoryLine) (a : Agrees
     more = drop_more all k h l ∙ ap (λ x. x ∷ drop (k + 1) all) (sym is)
 
     run : h.answer ≡ (cell_takes cell h.ask).answer
-    run = subst (λ (x : HistoryLine). x.answer ≡ (cell_takes cell x.ask).answer) (sym is) (local_at fresh_cell all k h (a.local i in_) l)
+    run = subst (λ (x : HistoryLine). x.answer ≡ (cell_takes cell x.ask).answer) (sym is) (local_at fresh_cell all k h (a.lists.local i in_) l)
 
     moved_cell : cell_after fresh_cell (take (k + 1) all) ≡ (cell_takes cell h.ask).cell
     moved_cell = ap (cell_after fresh_cell) next ∙ cell_snoc fresh_cell (take k all) h
