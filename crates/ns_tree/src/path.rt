@@ -16,13 +16,8 @@ pub fn walk_order(a: &[u8], b: &[u8]) -> Ordering
 {
     let shorter = a.len().min(b.len());
     for i in 0..shorter {
-        let x = rank(a[i]);
-        let y = rank(b[i]);
-        if x < y {
-            return Ordering::Less;
-        }
-        if y < x {
-            return Ordering::Greater;
+        if a[i] != b[i] {
+            return rank(a[i]).cmp(&rank(b[i]));
         }
     }
     if a.len() < b.len() {
