@@ -160,14 +160,15 @@ const ADMITTED: [&str; 20] = [
     "concat /d/f 1 /d/g /d/h",
 ];
 
+/// What an edit's text is told.
 #[derive(Clone, Copy, Debug, PartialEq, Eq)]
-enum Told {
+pub enum Told {
     Admitted,
     Refused(AdmitRefusal),
     NoEdit,
 }
 
-fn told_of(alloc: Global, tree: &Namespace, text: &str) -> Told {
+pub fn told_of(alloc: Global, tree: &Namespace, text: &str) -> Told {
     match read_text(alloc, text.as_bytes()) {
         ReadText::Edit(edit) => match admit(tree, &edit) {
             Ok(()) => Told::Admitted,
