@@ -1,7 +1,7 @@
 //! The known ring, the wrap, sizes at the edge, and allocations that fail.
 ghost use Rattle.std.specs.Prelude.{◌≡◌, ◌≤◌, length};
 
-use edit_cache::{EditCache, Entry};
+use edit_cache::{EditCache, Entry, split_body};
 use std::process::Abort;
 use std::test::Fail;
 
@@ -153,5 +153,70 @@ fn the_largest_ring(rt: HostRuntime) -> Result<(), Fail> {
     }
     // 4,093 edits of 4,098 bytes take 16,773,114 of the 16,773,118 bytes that are kept.
     assert_eq!(rt; cache.first(), Some(908));
+    Ok(())
+}
+
+// The edit with that txid, of the edits of `go_round`.
+fn is_edit(body: &[u8], txid: u64, shift: usize) -> bool {
+    let size = if txid == 1 { shift } else { 1_000 };
+    let filling = (txid % 256) as u8;
+    body.len().saturating_add(2) == size && body.iter().all(|byte| *byte == filling)
+}
+
+// Stored are one or more of the edits from that txid on, one after the other, and nothing else.
+fn are_edits(rt: &impl Abort, slice: &[u8], from: u64, last: u64, shift: usize) {
+    assert!(rt; !slice.is_empty());
+    let mut rest = slice;
+    for txid in from..=last {
+        if let Some((body, others)) = split_body(rest) {
+            assert!(rt; is_edit(body, txid, shift), "{txid} at the shift {shift}");
+            rest = others;
+        }
+    }
+    assert!(rt; rest.is_empty());
+}
+
+// The edits that are held, and the slice from each of them.
+fn holds_edits(rt: &impl Abort, cache: &EditCache, first: u64, last: u64, shift: usize) {
+    assert_eq!(rt; cache.first(), Some(first), "at the shift {shift}");
+    assert_eq!(rt; cache.last(), Some(last));
+    for txid in first..=last {
+        match cache.slice_from(txid) {
+            Some(slice) => are_edits(rt, slice, txid, last, shift),
+            None => panic!(rt; "{txid} is held"),
+        }
+    }
+}
+
+// The first edit takes `shift` bytes and each later one 1,000, of which the last four fit in the 4,094 bytes that are
+// kept. So the places where they begin are 0, `shift`, `shift` + 1,000 and so on, to where one doesn't fit at the end of
+// the block. It stands at the first place, and with three more after it nothing is kept of those before it.
+fn go_round(rt: &impl Abort, cache: &mut EditCache, shift: usize)
+    requires { shift ≤ 1001 }
+{
+    let bytes = [1u8; 999];
+    add(rt, cache, 1, &bytes[..shift.saturating_sub(2)]);
+    for txid in 2..=14u64 {
+        add(rt, cache, 1, &[(txid % 256) as u8; 998]);
+        let later = (txid as usize - 1).saturating_mul(1_000);
+        let is_first_kept = later.saturating_add(shift) <= 4_094;
+        let first = if is_first_kept {
+            1
+        } else {
+            txid.saturating_sub(3)
+        };
+        holds_edits(rt, cache, first, txid, shift);
+    }
+}
+
+// With the shifts from 2 to 1,001 an edit begins at each place from 2 to 7,192, and from each place after that the next
+// one goes round to the first.
+#[test]
+fn round_the_end_at_every_place(rt: HostRuntime) -> Result<(), Fail> {
+    let mut cache = EditCache::new(rt.alloc(), 8_192)?;
+    for shift in 2..=1_001usize {
+        cache.clear();
+        go_round(&rt, &mut cache, shift);
+    }
     Ok(())
 }

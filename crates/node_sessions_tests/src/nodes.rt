@@ -1,8 +1,8 @@
 //! A node over a disk in memory beside a node in memory.
+use crate::lines::text_of;
 use journal_core::{Node, NodeFail, NodeState, PlainNode, Reply, Request};
 use journal_node::{JournalNode, OpenFail};
 use qj_disk::{Choice, MemDisk};
-use request_text::print_reply;
 use std::alloc::Global;
 use std::test::Fail;
 
@@ -21,19 +21,14 @@ pub struct Nodes {
     answered: Answered,
 }
 
-fn open(alloc: Global, disk: MemDisk) -> Result<JournalNode<MemDisk>, Fail> {
+/// The node of that disk.
+pub fn open(alloc: Global, disk: MemDisk) -> Result<JournalNode<MemDisk>, Fail> {
     match JournalNode::open(alloc, disk) {
         Ok(node) => Ok(node),
         Err(OpenFail::DiskFault { .. }) => Err("the disk failed".into()),
         Err(OpenFail::BadFile { .. }) => Err("a file is bad".into()),
         Err(OpenFail::OutOfMemory { .. }) => Err("no memory".into()),
     }
-}
-
-fn text_of(alloc: Global, reply: &Reply) -> Result<Vec<u8>, Fail> {
-    let mut text = Vec::new(alloc);
-    print_reply(reply, &mut text)?;
-    Ok(text)
 }
 
 // How many effects were done, where the node was stopped.
