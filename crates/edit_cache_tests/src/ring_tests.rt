@@ -1,4 +1,4 @@
-//! The known ring, the wrap, sizes at the edge, and allocations that fail.
+//! The known ring, round the end at every place, and sizes at the edge.
 ghost use Rattle.std.specs.Prelude.{◌≡◌, ◌≤◌, length};
 
 use edit_cache::{EditCache, Entry, split_body};
