@@ -20,7 +20,7 @@ use Rattle.cluster_runner.specs.Lines.{Deed, Does, DoDrop, DoMute, DoLate, IsDee
 use Rattle.cluster_runner.specs.Actor.{Actor, wants, task_begun, copied, deed_taken, moved_on, Fits}
 use Rattle.cluster_runner.proofs.Led.{turn_keeps, moved_keeps}
 use Rattle.cluster_runner.proofs.Wanting.{sending, same_sending, Copying, fits_copying, no_operation}
-use Rattle.cluster_runner.proofs.MarkLaws.{asked_more, asked_one, copy_more, copy_planned, IsLater, more_marks, marked_snoc}
+use Rattle.caller_seats.proofs.MarkLaws.{asked_more, asked_one, copy_more, copy_planned, IsLater, more_marks, marked_snoc}
 
 -- a late mark was of a call, and its copy was sent or is the next to be sent
 abbrev pub IsSent : List Record → Option (ℕ × Request) → ℕ → Request → Type 0

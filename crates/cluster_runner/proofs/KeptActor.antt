@@ -54,7 +54,7 @@ handed_by : (a : KeptActor) (d : Deed) (w : Want) → wants (resting a) ≡ w �
 unfolding handed settled
 handed_by a d w e f = ap (λ b. cond b (record (resting a) { todo = d ∷ [] }) (record (deed_taken d (resting a)) { todo = [] })) (ap is_wanting e ∙ f)
 
-handed_rest : (a : KeptActor) (d : Deed) → next_call a.writer ≡ None → handed d (resting a) ≡ record (deed_taken d (resting a)) { todo = [] }
+pub handed_rest : (a : KeptActor) (d : Deed) → next_call a.writer ≡ None → handed d (resting a) ≡ record (deed_taken d (resting a)) { todo = [] }
 unfolding is_wanting
 handed_rest a d e = handed_by a d Rests (rests a None e) refl
 

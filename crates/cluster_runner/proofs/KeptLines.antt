@@ -1,58 +1,27 @@
 -- What is kept of a play goes along with it: the beginning, a line taken, the end.
-use Rattle.std.proofs.Common.{◌≡◌, ℕ, zero, suc, ◌+◌, ◌<◌, ◌⊎◌, inl, inr, List, [], ◌∷◌, ◌++◌, length, map, Bool, true, false, refl, sym, ap, ◌∙◌, Option, Some, None, set, get_or, replicate, ◌&&◌}
+use Rattle.std.proofs.Common.{◌≡◌, ℕ, zero, suc, ◌+◌, ◌<◌, List, [], ◌∷◌, ◌++◌, length, map, refl, sym, ap, ◌∙◌, subst, Option, Some, None, set, get_or, replicate, ◌&&◌}
 use Rattle.std.specs.Prelude.{is_none}
-use Rattle.std.proofs.lemmas.List.{map-append, get_or-set_same}
+use Rattle.std.proofs.lemmas.List.{map-append}
 use Rattle.std.proofs.Math.ListN.{get_or-map}
-use Rattle.writer_core.specs.declared.task.Task.{Task}
-use Rattle.writer_core.specs.declared.task.Task.TheVariants as task
-use Rattle.writer_core.specs.declared.task.Begun.{Begun}
-use Rattle.writer_core.specs.declared.task.Begun.TheVariants as begun
-use Rattle.writer_core.specs.Views.{WriterView}
-use Rattle.writer_core.specs.Writer.{writer_begun, next_call, if_writing, is_writing, log_begins, log_limit, begins}
+use Rattle.writer_core.specs.Writer.{next_call}
 use Rattle.node_world.specs.declared.record.Record.{Record}
 use Rattle.node_world.specs.declared.history_line.HistoryLine.{HistoryLine}
 use Rattle.node_world.specs.declared.mark.Mark.{Mark}
 use Rattle.node_world.specs.Cell.{fresh_cell}
-use Rattle.node_world.specs.NodeCells.{new_cell}
+use Rattle.node_world.specs.NodeCells.{CellView, new_cell}
 use Rattle.mesh.specs.declared.whole.Mesh.{Mesh}
 use Rattle.mesh.specs.declared.end.End.{End}
-use Rattle.cluster_runner.specs.Lines.{Line, Deed, Does, Declares, Acts, declared}
-use Rattle.cluster_runner.specs.Results.{inactive_results, too_long_results}
-use Rattle.cluster_runner.specs.Actor.{Actor, handed, fresh_actor}
+use Rattle.mesh.specs.Marks.{IsMarked}
+use Rattle.cluster_runner.specs.Lines.{Line, Deed, Declares, Acts, declared}
+use Rattle.cluster_runner.specs.Actor.{Actor, IsLed, actor_after, handed, fresh_actor}
 use Rattle.cluster_runner.specs.Plays.{Play, play_step, play_begins, line_taken, actor_at, histories_from, history_of, has_ended, no_lines, mesh_of, ends_of}
-use Rattle.cluster_runner.specs.Kept.{Kept, KeptActor, actor_of, new_actor, shown, resting, Stands, IsAtRest, IsInTurn, Leads, LeadsTo, with_writer, with_actor, new_kept, mesh_kept, ends_kept, IsPlayed}
+use Rattle.cluster_runner.specs.Kept.{Kept, KeptActor, actor_of, new_actor, resting, Stands, IsAtRest, Leads, LeadsTo, with_actor, with_actor_at, new_kept, mesh_kept, ends_kept, IsPlayed}
+use Rattle.cluster_runner.specs.PlaySeats.{LinesGo}
+use Rattle.cluster_runner.proofs.KeptLists.{same_place}
 use Rattle.cluster_runner.proofs.KeptSteps.{step_line}
-use Rattle.cluster_runner.proofs.KeptActor.{handed_going, handed_inactive, handed_too_long}
-use Rattle.cluster_runner.proofs.KeptTurns.{leads_one, set_twice, stands_actor}
-
--- ## A writer that refuses a task is as before
-log_tells : (b : Bool) (o : Option ℕ) (bodies : List (List ℕ)) (w : WriterView)
-    → ((if_writing b (log_begins o bodies w) w).begun ≡ begun.Going) ⊎ ((if_writing b (log_begins o bodies w) w).writer ≡ w)
-log_tells true None bodies w = inl refl
-log_tells true (Some number) bodies w = inr refl
-log_tells false o bodies w = inr refl
-
-task_tells : (b : Bool) (v w : WriterView) → ((if_writing b (begins v) w).begun ≡ begun.Going) ⊎ ((if_writing b (begins v) w).writer ≡ w)
-task_tells true v w = inl refl
-task_tells false v w = inr refl
-
-begun_tells : (w : WriterView) (t : Task) → ((writer_begun w t).begun ≡ begun.Going) ⊎ ((writer_begun w t).writer ≡ w)
-unfolding writer_begun
-begun_tells w task.Takeover = inl refl
-begun_tells w (task.Log bodies) = log_tells (is_writing w.phase) (log_limit w bodies) bodies w
-begun_tells w task.Roll = task_tells (is_writing w.phase) _ w
-begun_tells w task.Close = task_tells (is_writing w.phase) _ w
-begun_tells w (task.Purge min) = task_tells (is_writing w.phase) _ w
-
-pub refused_same : (w v : WriterView) (t : Task) (b : Begun) → writer_begun w t ≡ record { writer = v; begun = b } → (begun.Going ≡ b → ⊥) → v ≡ w
-refused_same w v t b e n =
-    elim (begun_tells w t) [ inl g ↦ absurd (n (sym g ∙ ap (λ x. x.begun) e)) | inr s ↦ sym (ap (λ x. x.writer) e) ∙ s ]
-
-not_going : (number : ℕ) → begun.Going ≡ begun.TooLong number → ⊥
-not_going number e = cc
-
-going_not : begun.Going ≡ begun.NotActive → ⊥
-going_not e = cc
+use Rattle.cluster_runner.proofs.KeptActor.{handed_rest}
+use Rattle.cluster_runner.proofs.KeptTurns.{leads_one, leads_on, IsActing, with_cells, after_marks, lines_act, rest_after}
+use Rattle.cluster_runner.proofs.Sound.{handed_past}
 
 -- ## A line of an actor
 resting_there : (k : Kept) (p : Play) (ls : List Line) (c : ℕ) → Stands k p → p.actors ≡ map resting k.actors → actor_at (record p { lines = ls }) c ≡ resting (actor_of k c)
@@ -78,54 +47,32 @@ step_handed k p ls c d x h e =
 pub stands_same : (k : Kept) (p : Play) (ls : List Line) (turn : Option ℕ) (xs : List Actor) → Stands k p → Stands k (record p { lines = ls; turn = turn; actors = xs })
 stands_same k p ls turn xs s = record { nodes = s.nodes; cells = s.cells; histories = s.histories; names = s.names; operator = s.operator; operated = s.operated }
 
-pub refused_leads : (k : Kept) (ls : List Line) (c : ℕ) (d : Deed) (texts : List (List ℕ)) → handed d (resting (actor_of k c)) ≡ shown None texts (actor_of k c)
-    → LeadsTo (IsAtRest (Acts c d ∷ ls) k) (IsInTurn ls c None texts k)
-refused_leads k ls c d texts e p h = (
-  handed_play p ls c (shown None texts (actor_of k c)),
-  leads_one p (handed_play p ls c (shown None texts (actor_of k c))) (step_handed k p ls c d (shown None texts (actor_of k c)) h e),
-  record {
-    stands = stands_same k p ls (Some c) (set p.actors c (shown None texts (actor_of k c))) h.stands;
-    lines_are = refl;
-    turn = refl;
-    actors = ap (λ xs. set xs c (shown None texts (actor_of k c))) h.actors;
-  },
-)
+-- an actor is known without the nodes
+pub actor_as : (k : Kept) (cells : List CellView) (c : ℕ) → c < length k.actors → actor_of (with_cells k cells) c ≡ actor_of k c
+actor_as k cells c l = same_place k.actors c (new_actor (length cells) []) (new_actor (length k.nodes) []) l
 
-pub inactive_leads : (k : Kept) (ls : List Line) (c : ℕ) (t : Task) (w : WriterView) → next_call (actor_of k c).writer ≡ None
-    → writer_begun (actor_of k c).writer t ≡ record { writer = w; begun = begun.NotActive }
-    → LeadsTo (IsAtRest (Acts c (Does t) ∷ ls) k) (IsInTurn ls c None (inactive_results t) k)
-inactive_leads k ls c t w none b = refused_leads k ls c (Does t) (inactive_results t) (handed_inactive (actor_of k c) t w none b)
-
-pub too_long_leads : (k : Kept) (ls : List Line) (c : ℕ) (t : Task) (w : WriterView) (number : ℕ) → next_call (actor_of k c).writer ≡ None
-    → writer_begun (actor_of k c).writer t ≡ record { writer = w; begun = begun.TooLong number }
-    → LeadsTo (IsAtRest (Acts c (Does t) ∷ ls) k) (IsInTurn ls c None (too_long_results t number) k)
-too_long_leads k ls c t w number none b = refused_leads k ls c (Does t) (too_long_results t number) (handed_too_long (actor_of k c) t w number none b)
-
-abbrev begun_actor : Kept → ℕ → WriterView → KeptActor
-begun_actor k c w = record (actor_of k c) { writer = w }
-
-own_writer : (k : Kept) (c : ℕ) (w : WriterView) → c < length k.actors → actor_of (with_writer k c w) c ≡ begun_actor k c w
-own_writer k c w l = get_or-set_same k.actors c (begun_actor k c w) (new_actor (length k.nodes) []) l
-
-pub begin_leads : (k : Kept) (ls : List Line) (c : ℕ) (t : Task) (w : WriterView) → c < length k.actors → next_call (actor_of k c).writer ≡ None
-    → writer_begun (actor_of k c).writer t ≡ record { writer = w; begun = begun.Going }
-    → LeadsTo (IsAtRest (Acts c (Does t) ∷ ls) k) (IsInTurn ls c (Some t) [] (with_writer k c w))
-begin_leads k ls c t w l none b p h = (
-  handed_play p ls c (shown (Some t) [] (begun_actor k c w)),
-  leads_one p (handed_play p ls c (shown (Some t) [] (begun_actor k c w)))
-      (step_handed k p ls c (Does t) (shown (Some t) [] (begun_actor k c w)) h (handed_going (actor_of k c) t w none b)),
-  record {
-    stands =
-        stands_actor k (record p { lines = ls; turn = Some c }) c (begun_actor k c w) (new_actor (length k.nodes) []) (set p.actors c (shown (Some t) [] (begun_actor k c w))) refl
-        (stands_same k p ls (Some c) p.actors h.stands);
-    lines_are = refl;
-    turn = refl;
-    actors =
-        ap (λ xs. set xs c (shown (Some t) [] (begun_actor k c w))) h.actors
-        ∙ set_twice k.actors c (begun_actor k c w) (shown (Some t) [] (begun_actor k c w))
-        ∙ ap (λ a. set (map resting (with_writer k c w).actors) c (shown (Some t) [] a)) (sym (own_writer k c w l));
-  },
-)
+-- a deed, from one rest to the next
+pub deed_leads : (k : Kept) (ls : List Line) (c : ℕ) (d : Deed) (lines : List Record) (b : KeptActor) (cells : List CellView) → c < length k.actors → next_call (actor_of k c).writer ≡ None
+    → IsLed (handed d (resting (actor_of k c))) lines → actor_after (handed d (resting (actor_of k c))) lines ≡ resting b → next_call b.writer ≡ None → b.name ≡ (actor_of k c).name
+    → IsMarked b.marks (actor_of k c).past lines → LinesGo c lines k.nodes cells → LeadsTo (IsAtRest (Acts c d ∷ ls) k) (IsAtRest ls (with_actor_at (with_cells k cells) c b))
+deed_leads k ls c d lines b cells l none led after over name marked go p h =
+    let a : KeptActor = actor_of k c in
+    let x : Actor = handed d (resting a) in
+    let todo : x.todo ≡ [] = ap (λ y. y.todo) (handed_rest a d none) in
+    let marks : b.marks ≡ x.marks = sym (ap (λ y. y.marks) after) ∙ after_marks x lines todo in
+    let one : Play = handed_play p ls c x in
+    let acting : IsActing ls c x k one = record {
+      stands = stands_same k p ls (Some c) one.actors h.stands;
+      lines_are = refl;
+      turn = refl;
+      actors = ap (λ xs. set xs c x) h.actors;
+    } in
+    let own : IsMarked x.marks x.past lines =
+    subst (λ (ps : List Record). IsMarked x.marks ps lines) (sym (handed_past d (resting a))) (subst (λ (ms : List Mark). IsMarked ms a.past lines) marks marked) in
+    let two = lines_act lines ls c x k one cells l acting todo led own go in
+    let same : actor_of (with_cells k cells) c ≡ a = actor_as k cells c l in
+    let three = rest_after ls c (with_cells k cells) b two.0 l over (name ∙ ap (λ y. y.name) (sym same)) (subst (λ y. IsActing ls c y (with_cells k cells) two.0) after two.2) in
+    (three.0, leads_on p one three.0 (leads_one p one (step_handed k p ls c d x h refl)) (leads_on one two.0 three.0 two.1 three.1), three.2)
 
 -- ## A declaration
 abbrev declared_play : Play → List Line → List ℕ → Play

@@ -4,7 +4,14 @@ use Rattle.std.proofs.lemmas.Bool.Decides.{eqb_tells}
 use Rattle.std.proofs.lemmas.List.{map-append}
 use Rattle.std.proofs.lemmas.List.Elements.{filter-append}
 use Rattle.node_world.specs.Moving.{Placed}
+use Rattle.mesh.proofs.Lists.{same_test, other_test}
 use Rattle.cluster_runner.specs.Plays.{history_of, histories_from}
+
+-- what stands at a place that is there
+pub same_place : {A : Type 0} (xs : List A) (i : ℕ) (a b : A) → i < length xs → get_or xs i a ≡ get_or xs i b
+same_place [] i a b l = absurd (omega (arith, l))
+same_place (x ∷ xs) zero a b l = refl
+same_place (x ∷ xs) (suc i) a b l = same_place xs i a b (omega (arith, l))
 
 pub set_set : {A : Type 0} (l : List A) (i : ℕ) (x y : A) → set (set l i x) i y ≡ set l i y
 set_set [] i x y = refl
@@ -21,12 +28,6 @@ history_snoc node xs x =
     ap (λ ys. map (λ y. y.line) ys) (filter-append (λ y. y.node == node) xs (x ∷ []))
     ∙ map-append (λ y. y.line) (filter (λ y. y.node == node) xs) (filter (λ y. y.node == node) (x ∷ []))
     ∙ ap (λ ls. map (λ y. y.line) (filter (λ y. y.node == node) xs) ++ ls) (one_line (x.node == node) x)
-
-pub same_test : (a b : ℕ) → a ≡ b → (a == b) ≡ true
-same_test a b e = elim (eqb_tells a b) [ inl p ↦ p.0 | inr p ↦ absurd (p.1 e) ]
-
-pub other_test : (a b : ℕ) → a ≢ b → (a == b) ≡ false
-other_test a b n = elim (eqb_tells a b) [ inl p ↦ absurd (n p.1) | inr p ↦ p.0 ]
 
 history_same : (node : ℕ) (xs : List Placed) (x : Placed) → x.node ≡ node → history_of node (xs ++ x ∷ []) ≡ history_of node xs ++ x.line ∷ []
 history_same node xs x e = history_snoc node xs x ∙ ap (λ b. history_of node xs ++ cond b (x.line ∷ []) []) (same_test x.node node e)

@@ -1,26 +1,34 @@
--- What is kept of a play goes along with it: a line begun, a call, the results, the end of the line.
-use Rattle.std.proofs.Common.{◌≡◌, ℕ, zero, suc, ◌+◌, ◌-◌, ◌<◌, ◌≤◌, List, [], ◌∷◌, ◌++◌, length, map, Bool, true, false, refl, sym, ap, ◌∙◌, Option, Some, None, set, get_or, arith, append_assoc, append-nil, subst}
+-- What is kept of a play goes along with it: what reaches the nodes, and the lines of an actor.
+use Rattle.std.proofs.Common.{◌≡◌, ℕ, zero, suc, ◌+◌, ◌-◌, ◌<◌, ◌≤◌, List, [], ◌∷◌, ◌++◌, length, map, Bool, true, false, refl, sym, ap, ◌∙◌, Option, Some, None, set, get_or, arith, subst}
 use Rattle.std.proofs.lemmas.List.{map-set, length-set, length-map, get_or-set_same, set-get_or}
 use Rattle.std.proofs.Math.ListN.{get_or-map}
 use Rattle.std.proofs.Math.Seq.{map-set_same}
 use Rattle.journal_core.specs.declared.request.Request.{Request}
-use Rattle.writer_core.specs.declared.task.Task.{Task}
 use Rattle.writer_core.specs.Writer.{next_call}
 use Rattle.node_world.specs.declared.node_ask.NodeAsk.{NodeAsk}
 use Rattle.node_world.specs.declared.node_ask.NodeAsk.TheVariants.{Act}
-use Rattle.node_world.specs.declared.record.Record.TheVariants.{Call, Outcome}
+use Rattle.node_world.specs.declared.mark.Mark.{Mark}
+use Rattle.node_world.specs.declared.record.Record.{Record}
+use Rattle.node_world.specs.declared.record.Record.TheVariants.{Call, Late, Operator, Outcome}
 use Rattle.node_world.specs.declared.record.Told.{Told}
 use Rattle.node_world.specs.Cell.{Cell, fresh_cell}
 use Rattle.node_world.specs.NodeCells.{CellView, new_cell}
 use Rattle.node_world.specs.Moving.{Placed}
+use Rattle.mesh.specs.Marks.{next_number, IsAsMarked, IsMarked}
+use Rattle.caller_seats.specs.declared.delivery.Delivery.{Delivery}
+use Rattle.caller_seats.specs.declared.delivery.Delivery.TheVariants.{Delivered, ReplyLost, NotDelivered}
+use Rattle.caller_seats.specs.Deliveries.{delivery}
+use Rattle.caller_seats.proofs.MarkLaws.{delivery_known}
 use Rattle.cluster_runner.specs.Lines.{Line}
-use Rattle.cluster_runner.specs.Results.{results_of}
-use Rattle.cluster_runner.specs.Actor.{Actor, goes_on, fresh_actor}
-use Rattle.cluster_runner.specs.Plays.{Play, play_step, play_steps, actor_at, Delivery, Delivered, ReplyLost, NotDelivered}
-use Rattle.cluster_runner.specs.Kept.{Kept, KeptActor, called, node_at, actor_of, new_actor, listed, reached_by, told_by, delivery_to, hears, says, said, with_actor_at, shown, resting, Stands, IsAtRest, IsInTurn, IsAfterTurn, Leads, LeadsTo, doing_after}
+use Rattle.cluster_runner.specs.Actor.{Actor, Want, WantsCall, WantsCopy, Says, Rests, Fits, IsLed, wants, goes_on, resettled, settled, moved_on, actor_after, fresh_actor}
+use Rattle.cluster_runner.specs.Plays.{Play, play_step, play_steps, actor_at}
+use Rattle.cluster_runner.specs.Kept.{Kept, KeptActor, node_at, actor_of, new_actor, listed, answer_to, reached_by, told_by, with_actor_at, resting, Stands, IsAtRest, Leads}
+use Rattle.cluster_runner.specs.PlaySeats.{Reaches, CopyReaches, LinesGo}
 use Rattle.cluster_runner.proofs.KeptLists.{set_set, histories_snoc}
-use Rattle.cluster_runner.proofs.KeptSteps.{placed, asked_play, reached_play, noted_play, called_play, step_call, step_says, step_rests}
-use Rattle.cluster_runner.proofs.KeptActor.{rests, wants_call, wants_said, goes_call, goes_said}
+use Rattle.cluster_runner.proofs.KeptSteps.{placed, asked_play, reached_play, noted_play, called_play, copied_play, step_call, step_copy, step_says, step_rests}
+use Rattle.cluster_runner.proofs.KeptActor.{rests}
+use Rattle.cluster_runner.proofs.Led.{moved_keeps}
+use Rattle.cluster_runner.proofs.Sound.{goes_past}
 
 -- ## Some steps
 steps_add : (m n : ℕ) (p : Play) → play_steps n (play_steps m p) ≡ play_steps (m + n) p
@@ -39,21 +47,7 @@ leads_one p q e = record { steps = suc zero; reached = e }
 pub leads_on : (p q r : Play) → Leads p q → Leads q r → Leads p r
 leads_on p q r a b = record { steps = a.steps + b.steps; reached = sym (steps_add a.steps b.steps p) ∙ ap (play_steps b.steps) a.reached ∙ b.reached }
 
--- ## The actor in turn
-pub in_turn : (k : Kept) (p : Play) (ls : List Line) (c : ℕ) (doing : Option Task) (texts : List (List ℕ)) → c < length k.actors → IsInTurn ls c doing texts k p
-    → actor_at p c ≡ shown doing texts (actor_of k c)
-unfolding actor_at
-in_turn k p ls c doing texts l h =
-    let b : c < length (map resting k.actors) = let e = length-map k.actors resting in omega (arith, l, e) in
-    ap (λ xs. get_or xs c (fresh_actor p.nodes)) h.actors ∙ get_or-set_same (map resting k.actors) c (shown doing texts (actor_of k c)) (fresh_actor p.nodes) b
-
--- where one actor is another, the actors are
-pub set_twice : (xs : List KeptActor) (c : ℕ) (b : KeptActor) (y : Actor) → set (map resting xs) c y ≡ set (map resting (set xs c b)) c y
-set_twice xs c b y = sym (set_set (map resting xs) c (resting b) y) ∙ ap (λ l. set l c y) (sym (map-set resting xs c b))
-
-pub others_same : (xs : List KeptActor) (c : ℕ) (b : KeptActor) (x : Actor) (y : Actor) → set (set (map resting xs) c x) c y ≡ set (map resting (set xs c b)) c y
-others_same xs c b x y = set_set (map resting xs) c x y ∙ set_twice xs c b y
-
+-- ## Names
 pub same_names : (xs : List KeptActor) (c : ℕ) (b d : KeptActor) → b.name ≡ (get_or xs c d).name → map (λ a. a.name) (set xs c b) ≡ map (λ a. a.name) xs
 same_names xs c b d e = map-set_same (λ a. a.name) xs c b d e
 
@@ -120,112 +114,155 @@ actors_stay NotDelivered p node c r v = refl
 actors_stay ReplyLost p node c r v = refl
 actors_stay Delivered p node c r v = refl
 
--- how the call goes, and what the actor is once it has heard of it
-abbrev goes_so : Kept → ℕ → ℕ → Delivery
-goes_so k c node = delivery_to (actor_of k c) node
+-- ## An actor's lines
+-- while this actor acts, with these lines to come
+pub record IsActing (lines : List Line) (c : ℕ) (x : Actor) (k : Kept) (p : Play) : Type 0 where
+  pub stands : Stands k p
+  pub lines_are : p.lines ≡ lines
+  pub turn : p.turn ≡ Some c
+  pub actors : p.actors ≡ set (map resting k.actors) c x
 
-abbrev heard_actor : Kept → ℕ → ℕ → Request → KeptActor
-heard_actor k c node r = hears (actor_of k c) node r (told_by (goes_so k c node) (node_at k node) r)
+abbrev pub with_cells : Kept → List CellView → Kept
+with_cells k cells = record k { nodes = cells }
 
-abbrev shown_after : Kept → ℕ → ℕ → Request → Task → KeptActor → Actor
-shown_after k c node r t b = shown (doing_after t (called k c node r).turn) (results_of t (called k c node r).turn b.writer.causes) b
+acting_there : (ls : List Line) (c : ℕ) (x : Actor) (k : Kept) (p : Play) → c < length k.actors → IsActing ls c x k p → actor_at p c ≡ x
+unfolding actor_at
+acting_there ls c x k p l h =
+    let b : c < length (map resting k.actors) = let e = length-map k.actors resting in omega (arith, l, e) in
+    ap (λ xs. get_or xs c (fresh_actor p.nodes)) h.actors ∙ get_or-set_same (map resting k.actors) c x (fresh_actor p.nodes) b
 
-own_actor : (k : Kept) (c node : ℕ) (r : Request) → c < length k.actors → actor_of (called k c node r).kept c ≡ heard_actor k c node r
-own_actor k c node r l = get_or-set_same k.actors c (heard_actor k c node r) (new_actor (length (called k c node r).kept.nodes) []) l
+stands_acted : (k : Kept) (p : Play) (xs : List Actor) → Stands k p → Stands k (record p { actors = xs })
+stands_acted k p xs s = record { nodes = s.nodes; cells = s.cells; histories = s.histories; names = s.names; operator = s.operator; operated = s.operated }
 
--- the play once the call was made
-abbrev made_play : Kept → Play → ℕ → ℕ → Request → Task → Play
-made_play k p c node r t = called_play (goes_so k c node) p c node r (shown (Some t) [] (actor_of k c)) (node_at k node).cell
+-- where one actor is another
+again : (xs ys : List Actor) (c : ℕ) (x y : Actor) → ys ≡ set xs c x → set ys c y ≡ set xs c y
+again xs ys c x y e = ap (λ zs. set zs c y) e ∙ set_set xs c x y
 
-pub call_leads : (k : Kept) (ls : List Line) (c node : ℕ) (r : Request) (t : Task) → c < length k.actors → 1 ≤ node → node ≤ length k.nodes
-    → next_call (actor_of k c).writer ≡ Some (node, r)
-    → LeadsTo (IsInTurn ls c (Some t) [] k) (IsAfterTurn ls c t (called k c node r).turn (called k c node r).kept)
-call_leads k ls c node r t l low high next p h =
-    let d : Delivery = goes_so k c node in
-    let a : Actor = shown (Some t) [] (actor_of k c) in
-    let v : Cell = (node_at k node).cell in
-    let x : Told = told_by d (node_at k node) r in
-    let q : Play = made_play k p c node r t in (
-      q,
-      leads_one p q
-          (step_call d p c node r a v h.turn (in_turn k p ls c (Some t) [] l h) (wants_call (actor_of k c) (Some t) node r next) refl (cell_there k p node h.stands)),
-      record {
-        stands =
-            stands_actor (with_node k node (reached_by d (node_at k node) c r)) (reached_play d p node c r v) c (heard_actor k c node r) (new_actor (length k.nodes) []) q.actors refl
-            (stands_reached d k p node c r h.stands low high);
-        lines_are = lines_stay d p node c r v ∙ h.lines_are;
-        turn = turn_stays d p node c r v ∙ h.turn;
-        actors =
-            ap (λ xs. set xs c (goes_on a (Call node r x))) (actors_stay d p node c r v ∙ h.actors)
-            ∙ ap (λ y. set (set (map resting k.actors) c a) c y) (goes_call t (actor_of k c) node r x)
-            ∙ others_same k.actors c (heard_actor k c node r) a (shown_after k c node r t (heard_actor k c node r))
-            ∙ ap (λ b. set (map resting (called k c node r).kept.actors) c (shown_after k c node r t b)) (sym (own_actor k c node r l));
-      },
-    )
+-- what the actor wanted
+wanted_call : (w : Want) (node : ℕ) (r : Request) (told : Told) → Fits w (Call node r told) → w ≡ WantsCall node r
+unfolding Fits
+wanted_call (WantsCall k q) node r told h = ap (λ z. WantsCall z q) (sym h.0) ∙ ap (λ z. WantsCall node z) (sym h.1)
+wanted_call (WantsCopy k q) node r told h = absurd h
+wanted_call (Says text) node r told h = absurd h
+wanted_call Rests node r told h = absurd h
 
--- ## A result
-own_said : (k : Kept) (c : ℕ) (texts : List (List ℕ)) → c < length k.actors → actor_of (said k c texts) c ≡ says (actor_of k c) texts
-own_said k c texts l = get_or-set_same k.actors c (says (actor_of k c) texts) (new_actor (length k.nodes) []) l
+wanted_copy : (w : Want) (node : ℕ) (r : Request) → Fits w (Late node r) → w ≡ WantsCopy node r
+unfolding Fits
+wanted_copy (WantsCall k q) node r h = absurd h
+wanted_copy (WantsCopy k q) node r h = ap (λ z. WantsCopy z q) (sym h.0) ∙ ap (λ z. WantsCopy node z) (sym h.1)
+wanted_copy (Says text) node r h = absurd h
+wanted_copy Rests node r h = absurd h
 
-say_leads : (k : Kept) (ls : List Line) (c : ℕ) (text : List ℕ) (texts : List (List ℕ)) → c < length k.actors
-    → LeadsTo (IsInTurn ls c None (text ∷ texts) k) (IsInTurn ls c None texts (said k c (text ∷ [])))
-say_leads k ls c text texts l p h = (
-  noted_play p c (shown None (text ∷ texts) (actor_of k c)) (Outcome text),
-  leads_one p (noted_play p c (shown None (text ∷ texts) (actor_of k c)) (Outcome text))
-      (step_says p c text (shown None (text ∷ texts) (actor_of k c)) h.turn (in_turn k p ls c None (text ∷ texts) l h) (wants_said (actor_of k c) None text texts)),
-  record {
-    stands =
-        stands_actor k p c (says (actor_of k c) (text ∷ [])) (new_actor (length k.nodes) []) (set p.actors c (goes_on (shown None (text ∷ texts) (actor_of k c)) (Outcome text))) refl h.stands;
-    lines_are = h.lines_are;
-    turn = h.turn;
-    actors =
-        ap (λ xs. set xs c (goes_on (shown None (text ∷ texts) (actor_of k c)) (Outcome text))) h.actors
-        ∙ ap (λ y. set (set (map resting k.actors) c (shown None (text ∷ texts) (actor_of k c))) c y) (goes_said (actor_of k c) text texts)
-        ∙ others_same k.actors c (says (actor_of k c) (text ∷ [])) (shown None (text ∷ texts) (actor_of k c)) (shown None texts (says (actor_of k c) (text ∷ [])))
-        ∙ ap (λ b. set (map resting (said k c (text ∷ [])).actors) c (shown None texts b)) (sym (own_said k c (text ∷ []) l));
-  },
-)
+wanted_text : (w : Want) (text : List ℕ) → Fits w (Outcome text) → w ≡ Says text
+unfolding Fits
+wanted_text (WantsCall k q) text h = absurd h
+wanted_text (WantsCopy k q) text h = absurd h
+wanted_text (Says x) text h = ap (λ z. Says z) (sym h)
+wanted_text Rests text h = absurd h
 
--- results one after the other are the results together
-says_more : (a : KeptActor) (text : List ℕ) (texts : List (List ℕ)) → says (says a (text ∷ [])) texts ≡ says a (text ∷ texts)
-says_more a text texts = ap (λ xs. record a { past = xs }) (append_assoc a.past (Outcome text ∷ []) (map (λ x. Outcome x) texts))
+-- some steps, to where the actor is this one and the nodes are these
+abbrev Acts : List Line → ℕ → Actor → Kept → List CellView → Play → Type 0
+Acts ls c y k cells p = (q : Play) × Leads p q × IsActing ls c y (with_cells k cells) q
 
-said_more : (k : Kept) (c : ℕ) (text : List ℕ) (texts : List (List ℕ)) → c < length k.actors → said (said k c (text ∷ [])) c texts ≡ said k c (text ∷ texts)
-said_more k c text texts l =
-    ap (λ a. record k { actors = set (set k.actors c (says (actor_of k c) (text ∷ []))) c (says a texts) }) (own_said k c (text ∷ []) l)
-    ∙ ap (λ xs. record k { actors = xs }) (set_set k.actors c (says (actor_of k c) (text ∷ [])) (says (says (actor_of k c) (text ∷ [])) texts))
-    ∙ ap (λ a. record k { actors = set k.actors c a }) (says_more (actor_of k c) text texts)
+call_acts : (ls : List Line) (c : ℕ) (x : Actor) (k : Kept) (p : Play) (node : ℕ) (r : Request) (told : Told) (cells : List CellView) → c < length k.actors → IsActing ls c x k p
+    → wants x ≡ WantsCall node r → IsAsMarked x.marks node (next_number node x.past) told → Reaches c node r told k.nodes cells → Acts ls c (goes_on x (Call node r told)) k cells p
+call_acts ls c x k p node r told cells l h want marked g =
+    let d : Delivery = g.delivery in
+    let v : CellView = node_at k node in
+    let known : delivery x.marks node (next_number node x.past) ≡ d =
+    delivery_known x.marks node (next_number node x.past) d (answer_to v (Act false r)) (subst (λ t. IsAsMarked x.marks node (next_number node x.past) t) g.told_is marked) in
+    let q : Play = called_play d p c node r x v.cell in
+    let s : Stands (with_node k node (reached_by d v c r)) (reached_play d p node c r v.cell) = stands_reached d k p node c r h.stands g.low g.high in
+    let own : IsActing ls c (goes_on x (Call node r (told_by d v r))) (with_node k node (reached_by d v c r)) q = record {
+      stands = stands_acted (with_node k node (reached_by d v c r)) (reached_play d p node c r v.cell) q.actors s;
+      lines_are = lines_stay d p node c r v.cell ∙ h.lines_are;
+      turn = turn_stays d p node c r v.cell ∙ h.turn;
+      actors = again (map resting k.actors) (reached_play d p node c r v.cell).actors c x (goes_on x (Call node r (told_by d v r))) (actors_stay d p node c r v.cell ∙ h.actors);
+    } in
+    let P : Told → Type 0 = λ t. IsActing ls c (goes_on x (Call node r t)) (with_node k node (reached_by d v c r)) q in
+    let Q : List CellView → Type 0 = λ vs. IsActing ls c (goes_on x (Call node r told)) (with_cells k vs) q in
+    (q, leads_one p q (step_call d p c node r x v.cell h.turn (acting_there ls c x k p l h) want known (cell_there k p node h.stands)), subst Q (sym g.cells) (subst P (sym g.told_is) own))
 
-no_results : (k : Kept) (c : ℕ) → said k c [] ≡ k
-no_results k c =
-    ap (λ xs. record k { actors = set k.actors c (record (actor_of k c) { past = xs }) }) (append-nil (actor_of k c).past)
-    ∙ ap (λ xs. record k { actors = xs }) (set-get_or k.actors c (new_actor (length k.nodes) []))
+copy_acts : (ls : List Line) (c : ℕ) (x : Actor) (k : Kept) (p : Play) (node : ℕ) (r : Request) (cells : List CellView) → c < length k.actors → IsActing ls c x k p
+    → wants x ≡ WantsCopy node r → CopyReaches c node r k.nodes cells → Acts ls c (goes_on x (Late node r)) k cells p
+copy_acts ls c x k p node r cells l h want g =
+    let v : CellView = node_at k node in
+    let w : CellView = listed v c (Act true r) in
+    let q : Play = copied_play p c node r x v.cell in
+    let s : Stands (with_node k node w) (asked_play p node c false (Act true r) v.cell) = stands_asked k p node c false (Act true r) h.stands g.low g.high in
+    let own : IsActing ls c (goes_on x (Late node r)) (with_node k node w) q = record {
+      stands = stands_acted (with_node k node w) (asked_play p node c false (Act true r) v.cell) q.actors s;
+      lines_are = h.lines_are;
+      turn = h.turn;
+      actors = again (map resting k.actors) p.actors c x (goes_on x (Late node r)) h.actors;
+    } in
+    let Q : List CellView → Type 0 = λ vs. IsActing ls c (goes_on x (Late node r)) (with_cells k vs) q in
+    (q, leads_one p q (step_copy p c node r x v.cell h.turn (acting_there ls c x k p l h) want (cell_there k p node h.stands)), subst Q (sym g.cells) own)
 
-still_there : (k : Kept) (c : ℕ) (texts : List (List ℕ)) → c < length k.actors → c < length (said k c texts).actors
-still_there k c texts l = let e = length-set k.actors c (says (actor_of k c) texts) in omega (arith, l, e)
+say_acts : (ls : List Line) (c : ℕ) (x : Actor) (k : Kept) (p : Play) (text : List ℕ) (cells : List CellView) → c < length k.actors → IsActing ls c x k p
+    → wants x ≡ Says text → cells ≡ k.nodes → Acts ls c (goes_on x (Outcome text)) k cells p
+say_acts ls c x k p text cells l h want e =
+    let q : Play = noted_play p c x (Outcome text) in
+    let own : IsActing ls c (goes_on x (Outcome text)) k q = record {
+      stands = stands_acted k p q.actors h.stands;
+      lines_are = h.lines_are;
+      turn = h.turn;
+      actors = again (map resting k.actors) p.actors c x (goes_on x (Outcome text)) h.actors;
+    } in
+    let Q : List CellView → Type 0 = λ vs. IsActing ls c (goes_on x (Outcome text)) (with_cells k vs) q in
+    (q, leads_one p q (step_says p c text x h.turn (acting_there ls c x k p l h) want), subst Q (sym e) own)
 
--- all results that are due are said
-pub results_lead : (k : Kept) (ls : List Line) (c : ℕ) (texts : List (List ℕ)) → c < length k.actors
-    → LeadsTo (IsInTurn ls c None texts k) (IsInTurn ls c None [] (said k c texts))
-results_lead k ls c [] l p h =
-    let P : Kept → Type 0 = λ x. IsInTurn ls c None [] x p in
-    (p, leads_same p, subst P (sym (no_results k c)) h)
-results_lead k ls c (text ∷ texts) l p h =
-    let one : (q : Play) × Leads p q × IsInTurn ls c None texts (said k c (text ∷ [])) q = say_leads k ls c text texts l p h in
-    let more : (q : Play) × Leads one.0 q × IsInTurn ls c None [] (said (said k c (text ∷ [])) c texts) q =
-    results_lead (said k c (text ∷ [])) ls c texts (still_there k c (text ∷ []) l) one.0 one.2 in
-    let P : Kept → Type 0 = λ x. IsInTurn ls c None [] x more.0 in
-    (more.0, leads_on p one.0 more.0 one.1 more.1, subst P (said_more k c text texts l) more.2)
+-- an actor with no more deeds to come takes no other marks
+goes_marks : (x : Actor) (r : Record) → x.todo ≡ [] → ((goes_on x r).todo ≡ []) × ((goes_on x r).marks ≡ x.marks)
+unfolding goes_on resettled settled
+goes_marks x r e =
+    let y : Actor = moved_on r (record x { past = x.past ++ r ∷ [] }) in
+    let m = moved_keeps r (record x { past = x.past ++ r ∷ [] }) in
+    let none : settled y.todo y ≡ record y { todo = [] } = ap (λ ds. settled ds y) (m.0 ∙ e) in
+    (ap (λ a. a.todo) none, ap (λ a. a.marks) none ∙ m.2)
 
--- ## The end of a line
-pub rest_leads : (k : Kept) (ls : List Line) (c : ℕ) → c < length k.actors → next_call (actor_of k c).writer ≡ None → LeadsTo (IsInTurn ls c None [] k) (IsAtRest ls k)
-rest_leads k ls c l none p h = (
+pub after_marks : (x : Actor) (rs : List Record) → x.todo ≡ [] → (actor_after x rs).marks ≡ x.marks
+unfolding actor_after
+after_marks x [] e = refl
+after_marks x (r ∷ rs) e = let m = goes_marks x r e in after_marks (goes_on x r) rs m.0 ∙ m.1
+
+next_marked : (x : Actor) (r : Record) (rs : List Record) → x.todo ≡ [] → IsMarked x.marks (x.past ++ r ∷ []) rs → IsMarked (goes_on x r).marks (goes_on x r).past rs
+next_marked x r rs e h =
+    subst (λ (ps : List Record). IsMarked (goes_on x r).marks ps rs) (sym (goes_past x r)) (subst (λ (ms : List Mark). IsMarked ms (x.past ++ r ∷ []) rs) (sym (goes_marks x r e).1) h)
+
+then_acts : (ls : List Line) (c : ℕ) (k : Kept) (p : Play) (y z : Actor) (mid cells : List CellView) → Acts ls c y k mid p
+    → ((q : Play) → IsActing ls c y (with_cells k mid) q → Acts ls c z (with_cells k mid) cells q) → Acts ls c z k cells p
+then_acts ls c k p y z mid cells one more = let two = more one.0 one.2 in (two.0, leads_on p one.0 two.0 one.1 two.1, two.2)
+
+-- the play goes along the lines that an actor is led along, where its calls went as its marks say
+pub lines_act : (rs : List Record) (ls : List Line) (c : ℕ) (x : Actor) (k : Kept) (p : Play) (cells : List CellView) → c < length k.actors → IsActing ls c x k p → x.todo ≡ [] → IsLed x rs
+    → IsMarked x.marks x.past rs → LinesGo c rs k.nodes cells → Acts ls c (actor_after x rs) k cells p
+unfolding IsLed actor_after IsMarked LinesGo
+lines_act [] ls c x k p cells l h todo led marked go =
+    let Q : List CellView → Type 0 = λ vs. IsActing ls c x (with_cells k vs) p in
+    (p, leads_same p, subst Q (sym go) h)
+lines_act (Call node r told ∷ rs) ls c x k p cells l h todo led marked go =
+    then_acts ls c k p (goes_on x (Call node r told)) (actor_after (goes_on x (Call node r told)) rs) go.0 cells (call_acts ls c x k p node r told go.0 l h (wanted_call (wants x) node r told led.0) marked.0 go.1)
+    (λ q g. lines_act rs ls c (goes_on x (Call node r told)) (with_cells k go.0) q cells l g (goes_marks x (Call node r told) todo).0 led.1 (next_marked x (Call node r told) rs todo marked.1) go.2)
+lines_act (Late node r ∷ rs) ls c x k p cells l h todo led marked go =
+    then_acts ls c k p (goes_on x (Late node r)) (actor_after (goes_on x (Late node r)) rs) go.0 cells (copy_acts ls c x k p node r go.0 l h (wanted_copy (wants x) node r led.0) go.1)
+    (λ q g. lines_act rs ls c (goes_on x (Late node r)) (with_cells k go.0) q cells l g (goes_marks x (Late node r) todo).0 led.1 (next_marked x (Late node r) rs todo marked.1) go.2)
+lines_act (Outcome text ∷ rs) ls c x k p cells l h todo led marked go =
+    then_acts ls c k p (goes_on x (Outcome text)) (actor_after (goes_on x (Outcome text)) rs) go.0 cells (say_acts ls c x k p text go.0 l h (wanted_text (wants x) text led.0) go.1)
+    (λ q g. lines_act rs ls c (goes_on x (Outcome text)) (with_cells k go.0) q cells l g (goes_marks x (Outcome text) todo).0 led.1 (next_marked x (Outcome text) rs todo marked) go.2)
+lines_act (Operator node ask done ∷ rs) ls c x k p cells l h todo led marked go = absurd go.1
+
+-- ## A deed, from one rest to the next
+pub rest_after : (ls : List Line) (c : ℕ) (k : Kept) (b : KeptActor) (p : Play) → c < length k.actors → next_call b.writer ≡ None → b.name ≡ (actor_of k c).name → IsActing ls c (resting b) k p
+    → (q : Play) × Leads p q × IsAtRest ls (with_actor_at k c b) q
+rest_after ls c k b p l none name h = (
   record p { turn = None },
-  leads_one p (record p { turn = None }) (step_rests p c (shown None [] (actor_of k c)) h.turn (in_turn k p ls c None [] l h) (rests (actor_of k c) None none)),
+  leads_one p (record p { turn = None }) (step_rests p c (resting b) h.turn (acting_there ls c (resting b) k p l h) (rests b None none)),
   record {
-    stands = record { nodes = h.stands.nodes; cells = h.stands.cells; histories = h.stands.histories; names = h.stands.names; operator = h.stands.operator; operated = h.stands.operated };
+    stands = stands_actor k (record p { turn = None }) c b (new_actor (length k.nodes) []) p.actors name
+        (record { nodes = h.stands.nodes; cells = h.stands.cells; histories = h.stands.histories; names = h.stands.names; operator = h.stands.operator; operated = h.stands.operated });
     lines_are = h.lines_are;
     turn = refl;
-    actors = h.actors ∙ sym (map-set resting k.actors c (actor_of k c)) ∙ ap (map resting) (set-get_or k.actors c (new_actor (length k.nodes) []));
+    actors = h.actors ∙ sym (map-set resting k.actors c b);
   },
 )

@@ -1,7 +1,6 @@
 mod Led
 mod Wanting
 mod Makes
-pub mod MarkLaws
 mod Goes
 mod Sound
 mod Parts
@@ -14,18 +13,17 @@ mod Unique
 mod BrokenLaws
 mod WriterTurns
 mod EachResult
-pub mod IndexLaws
 pub mod KeptSteps
 pub mod KeptLists
 pub mod KeptActor
 pub mod KeptTurns
 pub mod KeptLines
+pub mod WriterTurn
+pub mod Stretches
+pub mod LineTaken
+pub mod SeatsGo
 pub mod TurnsTell
 pub mod TurnsFit
-pub mod KeptGoes
 pub mod ClusterLaws
 pub mod ResultLaws
-pub mod Ends
-pub mod LineLaws
-pub mod OtherLaws
 pub mod PlayLaws

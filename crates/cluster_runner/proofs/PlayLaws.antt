@@ -19,6 +19,7 @@ use Rattle.cluster_runner.specs.Goal.{MayTake, actors_after, IsUnderWay}
 use Rattle.node_world.proofs.WriterRange.{new_sized}
 use Rattle.cluster_runner.proofs.KeptLines.{declare_leads, begins_at_rest, is_played}
 use Rattle.cluster_runner.proofs.KeptTurns.{leads_same, leads_on}
+use Rattle.cluster_runner.proofs.LineTaken.{takes_operation}
 
 -- ## A declaration
 new_ready : (n : ℕ) → 1 ≤ n → IsReady n (new_writer n)
@@ -184,6 +185,6 @@ under_way_end nodes lines ls k u =
     let P : List ScriptLine → Type 0 = λ xs. IsUnderWay nodes lines xs k in
     under_way_last nodes lines k (subst P (none_left ls) u)
 
-pub ruleset takes = (takes_declared)
+pub ruleset takes = (takes_declared, takes_operation)
 
 pub ruleset plays = (under_way_on, idle_on)

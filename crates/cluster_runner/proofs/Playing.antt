@@ -19,7 +19,7 @@ use Rattle.cluster_runner.specs.Actor.{Actor, fresh_actor, Want, WantsCall, Want
 use Rattle.cluster_runner.specs.Plays.{Play, actor_at, taken_at, node_asked, noted, Delivery, Delivered, ReplyLost, NotDelivered, delivery, told_of, call_made, copy_made, wanted}
 use Rattle.cluster_runner.specs.Follows.{AreOperations}
 use Rattle.mesh.proofs.Lists.{Alike, alike}
-use Rattle.cluster_runner.proofs.MarkLaws.{delivery_marked}
+use Rattle.caller_seats.proofs.MarkLaws.{delivery_marked}
 use Rattle.cluster_runner.proofs.Goes.{IsTold}
 use Rattle.cluster_runner.proofs.Sound.{goes_past, wants_call_within, wants_copy_within}
 use Rattle.cluster_runner.proofs.Parts.{Actors, actors_noted, Nodes, nodes_asked}

@@ -13,7 +13,9 @@ pub mod Broken
 pub mod Orders
 pub mod Kept
 pub mod ResultLists
+pub mod Deeds
 pub mod Shown
-pub mod Called
+pub mod PlaySeats
+pub mod SeatLaws
 pub mod Ready
 pub mod Goal

@@ -21,8 +21,9 @@ use Rattle.mesh.specs.declared.end.End.{End}
 use Rattle.mesh.specs.Marks.{next_number}
 unfoldable pub use Rattle.mesh.specs.Traces.{history_of}
 use Rattle.script_text.specs.Views.{ScriptView}
-pub use Rattle.cluster_runner.specs.declared.delivery.Delivery.{Delivery}
-pub use Rattle.cluster_runner.specs.declared.delivery.Delivery.TheVariants.{Delivered, ReplyLost, NotDelivered}
+pub use Rattle.caller_seats.specs.declared.delivery.Delivery.{Delivery}
+pub use Rattle.caller_seats.specs.declared.delivery.Delivery.TheVariants.{Delivered, ReplyLost, NotDelivered}
+unfoldable pub use Rattle.caller_seats.specs.Deliveries.{same_kind, is_marked, delivery, told_of, is_done}
 use Rattle.cluster_runner.specs.Lines.{Line, Declares, Acts, Operates, lines_of, declared}
 use Rattle.cluster_runner.specs.Actor.{Actor, fresh_actor, handed, Want, WantsCall, WantsCopy, Says, Rests, wants, goes_on}
 
@@ -62,28 +63,7 @@ node_asked node caller muted ask p =
 unfoldable pub noted : ℕ → Record → Play → Play
 noted c r p = record p { actors = slice_set p.actors c (goes_on (actor_at p c) r) }
 
--- ## How a call goes, by the actor's marks: a call that is marked twice is dropped
-unfoldable pub same_kind : MarkKind → MarkKind → Bool
-same_kind kind.Dropped kind.Dropped = true
-same_kind kind.Muted kind.Muted = true
-same_kind kind.Late kind.Late = true
-same_kind _ _ = false
-
-unfoldable pub is_marked : List Mark → ℕ → ℕ → MarkKind → Bool
-is_marked marks node number kind = list_any (λ m. (m.node == node) && ((m.number == number) && same_kind m.kind kind)) marks
-
-unfoldable pub delivery : List Mark → ℕ → ℕ → Delivery
-delivery marks node number =
-    if is_marked marks node number kind.Dropped then NotDelivered
-    else if is_marked marks node number kind.Muted then ReplyLost
-    else Delivered
-
-unfoldable pub told_of : Delivery → NodeAnswer → Told
-told_of NotDelivered answer = told.Dropped
-told_of ReplyLost answer = told.Muted
-told_of Delivered (Replied reply) = told.Reply reply
-told_of Delivered _ = told.Silent
-
+-- ## How a call goes, by the actor's marks
 unfoldable pub call_made : Delivery → ℕ → ℕ → Request → Play → Play
 call_made NotDelivered c node r p = noted c (Call node r told.Dropped) p
 call_made ReplyLost c node r p = noted c (Call node r told.Muted) (node_asked node c true (Act false r) p)
@@ -98,10 +78,6 @@ wanted Rests c p = record p { turn = None }
 wanted (Says text) c p = noted c (Outcome text) p
 wanted (WantsCall node r) c p = call_made (delivery (actor_at p c).marks node (next_number node (actor_at p c).past)) c node r p
 wanted (WantsCopy node r) c p = copy_made c node r p
-
-unfoldable pub is_done : NodeAnswer → Bool
-is_done Done = true
-is_done _ = false
 
 unfoldable pub line_taken : Line → Play → Play
 line_taken (Declares name) p = record p { names = p.names ++ name ∷ []; actors = p.actors ++ fresh_actor p.nodes ∷ [] }

@@ -1,16 +1,14 @@
 -- What holds of every writer of a play: it calls nodes that are there, and while a round is under way it names a call.
-use Rattle.std.specs.Prelude.{◌≡◌, ℕ, ◌≤◌, ◌<◌, List, [], ◌∷◌, length, Some, None, Bool, true, false}
+use Rattle.std.specs.Prelude.{◌≡◌, ℕ, ◌≤◌, ◌<◌, List, ◌∷◌, length, Some, None, Bool, true, false}
 use Rattle.journal_core.specs.declared.request.Request.{Request}
 use Rattle.writer_core.specs.declared.turn.Turn.{Turn}
 use Rattle.writer_core.specs.declared.turn.Turn.TheVariants as turn
-use Rattle.writer_core.specs.declared.task.Task.{Task}
 use Rattle.writer_core.specs.Views.{WriterView}
 use Rattle.writer_core.specs.Left.{IsLive}
 use Rattle.node_world.specs.Sized.{Sized}
-use Rattle.writer_core.specs.Writer.{next_call, is_under_way}
+use Rattle.writer_core.specs.Writer.{next_call}
 use Rattle.cluster_runner.specs.Lines.{Line}
-use Rattle.cluster_runner.specs.Kept.{Kept, actor_of, IsAtRest, IsInTurn, IsAfterTurn, LeadsTo}
-use Rattle.cluster_runner.specs.ResultLists.{TurnFits}
+use Rattle.cluster_runner.specs.Kept.{Kept, actor_of, IsAtRest, LeadsTo}
 
 -- each call is of a node from 1 on, up to this one
 abbrev pub CallsWithin : ℕ → WriterView → Type 0
@@ -32,16 +30,6 @@ pub record IsIdle (k : Kept) : Type 0 where
 abbrev pub is_going : Turn → Bool
 is_going turn.Going = true
 is_going _ = false
-
--- the actor's task went on from the one to the other, and its last call had this turn
-pub record GoesOn (c : ℕ) (old new : Kept) (turn : Turn) : Type 0 where
-  pub nodes : length new.nodes ≡ length old.nodes
-  pub actors : length new.actors ≡ length old.actors
-  pub ready : AreReady new
-  pub others : (d : ℕ) → (d ≡ c → ⊥) → actor_of new d ≡ actor_of old d
-  pub leads : (lines : List Line) (t : Task) → LeadsTo (IsInTurn lines c (Some t) [] old) (IsAfterTurn lines c t turn new)
-  pub tells : is_under_way (actor_of new c).writer.phase ≡ is_going turn
-  pub fits : TurnFits turn
 
 -- a line was taken
 pub record TakesLine (line : Line) (actors : ℕ) (old new : Kept) : Type 0 where

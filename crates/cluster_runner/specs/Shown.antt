@@ -1,47 +1,16 @@
--- What is kept of the program's nodes and actors.
-use Rattle.std.specs.Prelude.{◌≡◌, ℕ, ◌+◌, ◌<◌, Bool, List, Option, Some, None, length, map, slice_get, slice_index_or}
-use Rattle.std.specs.BTreeSet.{contains}
-use Rattle.std.specs.Ordering.{nat_cmp}
-use Rattle.writer_core.specs.Views.{WriterView}
-use Rattle.journal_core.specs.declared.request.Request.{Request}
+-- What contracts see of the program's nodes and actors.
+use Rattle.std.specs.Prelude.{◌≡◌, ℕ, List, All, map}
 use Rattle.node_world.specs.declared.record.Record.{Record}
-use Rattle.node_world.specs.declared.record.Record.TheVariants.{Call, Late, Operator, Outcome}
-use Rattle.node_world.specs.declared.mark.Mark.{Mark}
-use Rattle.node_world.specs.declared.mark.MarkKind.TheVariants as kind
-use Rattle.mesh.specs.Marks.{calls_to}
-use Rattle.node_world.specs.Sized.{Sized}
-use Rattle.cluster_runner.specs.declared.calls_to.CallsTo.{CallsTo}
-use Rattle.cluster_runner.specs.Plays.{is_marked}
-use Rattle.cluster_runner.specs.Kept.{KeptActor}
+use Rattle.node_world.specs.NodeCells.{CellView}
+use Rattle.cluster_runner.specs.declared.player.Player.{Player}
+use Rattle.cluster_runner.specs.Kept.{Kept, KeptActor}
 
--- ## An actor in the program
--- what contracts see of it: the actor, and whether its writer can keep one more piece
-pub record PlayerView : Type 0 where
-  pub actor : KeptActor
-  pub room : Bool
+abbrev pub keeps : Player → KeptActor
+keeps p = record { name = p.name; writer = p.writer.view; past = p.log.past; marks = p.log.marks }
 
--- what a call in the record asked
-abbrev pub asked_in : Record → Option Request
-asked_in (Call k r told) = Some r
-asked_in (Late k r) = None
-asked_in (Operator k ask done) = None
-asked_in (Outcome text) = None
+abbrev pub kept : List CellView → List Player → ℕ → List Record → Kept
+kept nodes players operator operated = record { nodes = nodes; actors = map keeps players; operator = operator; operated = operated }
 
-abbrev pub asked_of : Option Record → Option Request
-asked_of (Some line) = asked_in line
-asked_of None = None
-
--- what the call at this place of the record asked
-abbrev pub asked_at : List Record → ℕ → Option Request
-asked_at past place = asked_of (slice_get past place)
-
--- the places of the calls to this node are those of the record, and those that are lost are marked so
-pub record IsIndex (node : ℕ) (past : List Record) (marks : List Mark) (calls : CallsTo) : Type 0 where
-  pub requests : map (asked_at past) calls.places.items ≡ map (λ r. Some r) (calls_to node past)
-  pub dropped : (number : ℕ) → contains nat_cmp calls.dropped number ≡ is_marked marks node number kind.Dropped
-  pub muted : (number : ℕ) → contains nat_cmp calls.muted number ≡ is_marked marks node number kind.Muted
-
--- there is an index for each node
-pub record AreIndexes (w : WriterView) (past : List Record) (marks : List Mark) (calls : List CallsTo) : Type 0 where
-  pub sized : Sized (length calls) w
-  pub each : (i : ℕ) (d : CallsTo) → i < length calls → IsIndex (i + 1) past marks (slice_index_or calls i d)
+-- each lists its calls to so many nodes
+abbrev pub AreSeated : ℕ → List Player → Type 0
+AreSeated nodes players = All (λ p. p.log.nodes ≡ nodes) players

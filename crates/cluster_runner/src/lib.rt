@@ -1,16 +1,14 @@
 //! Plays of scripts: nodes and actors in memory, taken through a script's lines in order; what a play is, and what holds of every play.
 #![tactic(auto)]
 
-mod calls_to;
 mod cluster;
-mod delivery;
+mod deeds;
 mod examples;
 mod laws;
-mod other_line;
+mod play_seats;
 mod played;
 mod player;
 mod results;
-mod task_line;
 
 pub use examples::{
     refuses_broken_meshes, shows_competing_takeovers, shows_cut_in_accept, shows_dropped_call,

@@ -1,20 +1,18 @@
 // Scripts are played.
-ghost use Rattle.std.specs.Prelude.{◌≡◌, ◌≤◌, ◌<◌, ◌^◌, ◌∷◌, [], IfOk, OnOk, length, map, drop};
+ghost use Rattle.std.specs.Prelude.{◌≡◌, ◌≤◌, ◌<◌, ◌^◌, ◌∷◌, [], IfOk, OnOk, length, map, drop, replicate};
 ghost use Rattle.script_text.specs.declared.script_line.ScriptLine.{ScriptLine};
+ghost use Rattle.node_world.specs.NodeCells.{new_cell};
 ghost use Rattle.cluster_runner.specs.Lines.{line_of, lines_of, declared, IsPlayable, NumbersFit};
 ghost use Rattle.cluster_runner.specs.Kept.{IsPlayed, mesh_kept, ends_kept};
 ghost use Rattle.cluster_runner.specs.Ready.{IsIdle, TakesLine};
 ghost use Rattle.cluster_runner.specs.Goal.{MayTake, actors_after, IsUnderWay};
 
-use crate::cluster::Cluster;
-use crate::other_line::{take_drop, take_late, take_mute, take_operation};
-use crate::task_line::take_task;
-use journal_core::OutOfMemory;
+use crate::cluster::{Cluster, plain_cells};
+use journal_core::{CutNode, OutOfMemory};
 use mesh::{EndList, Mesh};
-use node_world::NodeAsk;
+use node_world::{NodeAsk, NodeCell};
 use script_text::{Script, ScriptLine};
 use std::alloc::Global;
-use writer_core::Task;
 
 /// What a play leaves: the mesh of all lists, and the actors' ends.
 #[derive(Drop)]
@@ -25,36 +23,34 @@ pub struct Played {
 
 /// One line of a script, with all its calls.
 #[tactic(auto, using(crate::proofs::PlayLaws::takes))]
-fn take_line(alloc: Global, cluster: &mut Cluster, line: &ScriptLine) -> Result<(), OutOfMemory>
-    requires idle { IsIdle cluster.old }
-    requires may { MayTake (length cluster.old.nodes) (length cluster.old.actors) line.now }
-    ensures { OnOk result (TakesLine (line_of line.now) (actors_after (length cluster.old.actors) line.now) cluster.old cluster.new) }
+fn take_line<N: CutNode + Drop>(
+    alloc: Global,
+    cluster: Cluster<N>,
+    line: &ScriptLine,
+) -> Result<Cluster<N>, OutOfMemory>
+    requires idle { IsIdle cluster }
+    requires may { MayTake (length cluster.nodes) (length cluster.actors) line.now }
+    ensures { IfOk result (λ new. TakesLine (line_of line.now) (actors_after (length cluster.actors) line.now) cluster new) }
 {
     match line {
         ScriptLine::Declare { name } => cluster.declare(alloc, name),
-        ScriptLine::Takeover { actor } => take_task(alloc, cluster, *actor, Task::Takeover),
-        ScriptLine::Roll { actor } => take_task(alloc, cluster, *actor, Task::Roll),
-        ScriptLine::Close { actor } => take_task(alloc, cluster, *actor, Task::Close),
-        ScriptLine::Log { actor, bodies } => {
-            take_task(alloc, cluster, *actor, Task::Log(bodies.share(alloc)?))
-        }
-        ScriptLine::Purge { actor, min } => {
-            take_task(alloc, cluster, *actor, Task::Purge { min: *min })
-        }
-        ScriptLine::Drop { actor, node, call } => take_drop(cluster, *actor, *node, *call),
-        ScriptLine::Mute { actor, node, call } => take_mute(cluster, *actor, *node, *call),
-        ScriptLine::Late { actor, node, call } => take_late(alloc, cluster, *actor, *node, *call),
-        ScriptLine::Kill { node } => take_operation(alloc, cluster, *node, NodeAsk::Kill),
-        ScriptLine::Restart { node } => take_operation(alloc, cluster, *node, NodeAsk::Restart),
-        ScriptLine::Arm { node, calls, stop } => take_operation(
-            alloc,
-            cluster,
-            *node,
-            NodeAsk::Arm {
+        ScriptLine::Takeover { actor } => cluster.act(alloc, *actor, line),
+        ScriptLine::Roll { actor } => cluster.act(alloc, *actor, line),
+        ScriptLine::Close { actor } => cluster.act(alloc, *actor, line),
+        ScriptLine::Log { actor, .. } => cluster.act(alloc, *actor, line),
+        ScriptLine::Purge { actor, .. } => cluster.act(alloc, *actor, line),
+        ScriptLine::Drop { actor, .. } => cluster.act(alloc, *actor, line),
+        ScriptLine::Mute { actor, .. } => cluster.act(alloc, *actor, line),
+        ScriptLine::Late { actor, .. } => cluster.act(alloc, *actor, line),
+        ScriptLine::Kill { node } => cluster.operate(alloc, *node, NodeAsk::Kill),
+        ScriptLine::Restart { node } => cluster.operate(alloc, *node, NodeAsk::Restart),
+        ScriptLine::Arm { node, calls, stop } => {
+            let ask = NodeAsk::Arm {
                 calls: *calls,
                 stop: *stop,
-            },
-        ),
+            };
+            cluster.operate(alloc, *node, ask)
+        }
     }
 }
 
@@ -91,18 +87,31 @@ fn actors_in(lines: &[ScriptLine]) -> u32
     actors
 }
 
-/// Plays a script in order, each line with all its calls, over fresh nodes in memory.
+/// Plays a script in order, each line with all its calls, over these fresh nodes.
 #[tactic(auto, using(crate::proofs::PlayLaws::plays))]
+fn play_over<N: CutNode + Drop>(
+    alloc: Global,
+    cells: Vec<NodeCell<N>>,
+    script: &Script,
+) -> Result<Played, OutOfMemory>
+    requires playable { IsPlayable script.now }
+    requires numbers { NumbersFit script.now }
+    requires fresh { cells.items ≡ replicate script.now.nodes new_cell }
+    ensures { IfOk result (λ played. IsPlayed script.now.nodes (lines_of script.now) played.mesh played.ends) }
+{
+    let mut cluster = Cluster::new(alloc, cells, actors_in(script.lines()));
+    for line in script.lines() {
+        cluster = take_line(alloc, cluster, line)?;
+    }
+    let (mesh, ends) = cluster.into_lists(alloc)?;
+    Ok(Played { mesh, ends })
+}
+
+/// Plays a script in order, each line with all its calls, over fresh nodes in memory.
 pub fn play(alloc: Global, script: &Script) -> Result<Played, OutOfMemory>
     requires playable { IsPlayable script.now }
     requires numbers { NumbersFit script.now }
     ensures { IfOk result (λ played. IsPlayed script.now.nodes (lines_of script.now) played.mesh played.ends) }
 {
-    let operator = actors_in(script.lines());
-    let mut cluster = Cluster::new(alloc, script.nodes(), operator)?;
-    for line in script.lines() {
-        take_line(alloc, &mut cluster, line)?;
-    }
-    let (mesh, ends) = cluster.into_lists(alloc)?;
-    Ok(Played { mesh, ends })
+    play_over(alloc, plain_cells(alloc, script.nodes())?, script)
 }

@@ -1,0 +1,207 @@
+-- A record that goes by a plan goes by it still when marks of later calls are added, and when the next call is told by its marks.
+use Rattle.std.proofs.Common.{◌≡◌, ℕ, ◌+◌, ◌-◌, ◌<◌, ◌≤◌, List, [], ◌∷◌, ◌++◌, Bool, true, false, cond, Contains, refl, sym, ap, ◌∙◌, subst, arith, length, ◌⊎◌, inl, inr, append_assoc, length-append}
+use Rattle.std.specs.Prelude.{Some, ◌≢◌, ◌&&◌, ◌||◌, ◌==◌, slice_get}
+use Rattle.std.proofs.lemmas.List.Elements.{Contains-append_left}
+use Rattle.std.proofs.lemmas.Bool.Decides.{eqb_tells}
+use Rattle.journal_core.specs.declared.request.Request.{Request}
+use Rattle.node_world.specs.declared.node_ask.NodeAnswer.{NodeAnswer}
+use Rattle.node_world.specs.declared.node_ask.NodeAnswer.TheVariants.{Replied, Stopped, Done, Idle, NotOpened}
+use Rattle.node_world.specs.declared.record.Record.{Record}
+use Rattle.node_world.specs.declared.record.Record.TheVariants.{Call, Late, Operator, Outcome}
+use Rattle.node_world.specs.declared.record.Told.{Told}
+use Rattle.node_world.specs.declared.record.Told.TheVariants as told
+use Rattle.node_world.specs.declared.mark.Mark.{Mark}
+use Rattle.node_world.specs.declared.mark.MarkKind.{MarkKind}
+use Rattle.node_world.specs.declared.mark.MarkKind.TheVariants as kind
+use Rattle.mesh.specs.Marks.{mark, calls_to, next_number, Asked, IsAsMarked, IsCopy, IsMarked}
+use Rattle.caller_seats.specs.Deliveries.{Delivery, Delivered, ReplyLost, NotDelivered, same_kind, is_marked, delivery, told_of}
+use Rattle.mesh.proofs.Lists.{contains_cases, contains_head, contains_tail, contains_less, contains_none, get_left, append_none, same_test, cond_true}
+
+-- ## Calls of a longer record
+pub calls_append : (k : ℕ) (xs ys : List Record) → calls_to k (xs ++ ys) ≡ calls_to k xs ++ calls_to k ys
+unfolding calls_to
+calls_append k [] ys = refl
+calls_append k (Call i q t ∷ xs) ys = by (i == k) (calls_append k xs ys)
+  where
+    by : (b : Bool) → calls_to k (xs ++ ys) ≡ calls_to k xs ++ calls_to k ys → cond b (q ∷ calls_to k (xs ++ ys)) (calls_to k (xs ++ ys)) ≡ cond b (q ∷ calls_to k xs) (calls_to k xs) ++ calls_to k ys
+    by true h = ap (λ (l : List Request). q ∷ l) h
+    by false h = h
+calls_append k (Late i q ∷ xs) ys = calls_append k xs ys
+calls_append k (Operator i a d ∷ xs) ys = calls_append k xs ys
+calls_append k (Outcome x ∷ xs) ys = calls_append k xs ys
+
+pub asked_more : (k n : ℕ) (q : Request) (xs ys : List Record) → Asked k n q xs → Asked k n q (xs ++ ys)
+asked_more k n q xs ys h = (h.0, ap (λ (l : List Request). slice_get l (n - 1)) (calls_append k xs ys) ∙ get_left (calls_to k xs) (calls_to k ys) (n - 1) q h.1)
+
+pub asked_one : (k n : ℕ) (q r : Request) (xs : List Record) → Asked k n q xs → Asked k n r xs → q ≡ r
+asked_one k n q r xs h g = let same : Some q ≡ Some r = sym h.1 ∙ g.1 in cc same
+
+pub copy_more : (plan : List Mark) (xs ys : List Record) (k : ℕ) (q : Request) → IsCopy plan xs k q → IsCopy plan (xs ++ ys) k q
+copy_more plan xs ys k q h = (h.0, h.1, asked_more k h.0 q xs ys h.2)
+
+pub copy_planned : (plan : List Mark) (x : Mark) (xs : List Record) (k : ℕ) (q : Request) → IsCopy plan xs k q → IsCopy (plan ++ x ∷ []) xs k q
+copy_planned plan x xs k q h = (h.0, Contains-append_left plan (x ∷ []) (mark k h.0 kind.Late) h.1, h.2)
+
+-- ## A mark of a call that is still to come, or of a late copy
+unfoldable pub IsLater : Mark → List Record → Type 0
+IsLater x rs = (x.kind ≡ kind.Late) ⊎ (length (calls_to x.node rs) < x.number)
+
+as_more : (plan : List Mark) (x : Mark) (k n : ℕ) (t : Told) → x ≢ mark k n kind.Dropped → x ≢ mark k n kind.Muted → IsAsMarked plan k n t → IsAsMarked (plan ++ x ∷ []) k n t
+as_more plan x k n t d m h = (
+  (λ (e : t ≡ told.Dropped). Contains-append_left plan (x ∷ []) (mark k n kind.Dropped) (h.0.0 e), λ g. h.0.1 (contains_less (mark k n kind.Dropped) x plan d g)),
+  λ (off : t ≢ told.Dropped). (λ (e : t ≡ told.Muted). Contains-append_left plan (x ∷ []) (mark k n kind.Muted) ((h.1 off).0 e), λ g. (h.1 off).1 (contains_less (mark k n kind.Muted) x plan m g)),
+)
+
+later_apart : (x : Mark) (k n : ℕ) (kd : MarkKind) (rs : List Record) → kd ≢ kind.Late → n ≤ length (calls_to k rs) → IsLater x rs → x ≢ mark k n kd
+unfolding IsLater
+later_apart x k n kd rs off l (inl e) same = off (sym (ap (λ (m : Mark). m.kind) same) ∙ e)
+later_apart x k n kd rs off l (inr h) same =
+    let a : x.node ≡ k = ap (λ (m : Mark). m.node) same in
+    let b : x.number ≡ n = ap (λ (m : Mark). m.number) same in
+    let h' : length (calls_to k rs) < x.number = subst (λ (z : ℕ). length (calls_to z rs) < x.number) a h in
+    omega (arith, h', b, l)
+
+later_less : (x : Mark) (before rest : List Record) → IsLater x (before ++ rest) → IsLater x before
+unfolding IsLater
+later_less x before rest (inl e) = inl e
+later_less x before rest (inr h) =
+    let long : length (calls_to x.node (before ++ rest)) ≡ length (calls_to x.node before) + length (calls_to x.node rest) = ap length (calls_append x.node before rest) ∙ length-append (calls_to x.node before) (calls_to x.node rest) in
+    inr (omega (arith, h, long))
+
+counts : (k : ℕ) (before : List Record) (q : Request) (t : Told) → next_number k before ≤ length (calls_to k (before ++ Call k q t ∷ []))
+unfolding calls_to
+counts k before q t =
+    let one : calls_to k (Call k q t ∷ []) ≡ q ∷ [] = cond_true (k == k) (q ∷ []) [] (same_test k k refl) in
+    let long : length (calls_to k (before ++ Call k q t ∷ [])) ≡ length (calls_to k before) + 1 =
+    ap length (calls_append k before (Call k q t ∷ []) ∙ ap (λ (l : List Request). calls_to k before ++ l) one) ∙ length-append (calls_to k before) (q ∷ []) in
+    omega (arith, long)
+
+pub more_marks : (plan : List Mark) (x : Mark) (before rs : List Record) → IsLater x (before ++ rs) → IsMarked plan before rs → IsMarked (plan ++ x ∷ []) before rs
+unfolding IsMarked
+more_marks plan x before [] l h = tt
+more_marks plan x before (Call k q t ∷ rs) l h =
+    let whole : IsLater x ((before ++ Call k q t ∷ []) ++ rs) = subst (IsLater x) (sym (append_assoc before (Call k q t ∷ []) rs)) l in
+    let here : IsLater x (before ++ Call k q t ∷ []) = later_less x (before ++ Call k q t ∷ []) rs whole in (
+      as_more plan x k (next_number k before) t
+          (later_apart x k (next_number k before) kind.Dropped (before ++ Call k q t ∷ []) (λ (e : kind.Dropped ≡ kind.Late). cc e) (counts k before q t) here)
+          (later_apart x k (next_number k before) kind.Muted (before ++ Call k q t ∷ []) (λ (e : kind.Muted ≡ kind.Late). cc e) (counts k before q t) here) h.0,
+      more_marks plan x (before ++ Call k q t ∷ []) rs whole h.1,
+    )
+more_marks plan x before (Late k q ∷ rs) l h =
+    (copy_planned plan x before k q h.0, more_marks plan x (before ++ Late k q ∷ []) rs (subst (IsLater x) (sym (append_assoc before (Late k q ∷ []) rs)) l) h.1)
+more_marks plan x before (Operator k a d ∷ rs) l h = more_marks plan x (before ++ Operator k a d ∷ []) rs (subst (IsLater x) (sym (append_assoc before (Operator k a d ∷ []) rs)) l) h
+more_marks plan x before (Outcome y ∷ rs) l h = more_marks plan x (before ++ Outcome y ∷ []) rs (subst (IsLater x) (sym (append_assoc before (Outcome y ∷ []) rs)) l) h
+
+-- ## One line more
+pub marked_snoc : (plan : List Mark) (before rs : List Record) (r : Record) → IsMarked plan before rs → IsMarked plan (before ++ rs) (r ∷ []) → IsMarked plan before (rs ++ r ∷ [])
+unfolding IsMarked
+marked_snoc plan before [] r h e = subst (λ (l : List Record). IsMarked plan l (r ∷ [])) (append_none before) e
+marked_snoc plan before (Call k q t ∷ rs) r h e = (h.0, marked_snoc plan (before ++ Call k q t ∷ []) rs r h.1 (subst (λ (l : List Record). IsMarked plan l (r ∷ [])) (sym (append_assoc before (Call k q t ∷ []) rs)) e))
+marked_snoc plan before (Late k q ∷ rs) r h e = (h.0, marked_snoc plan (before ++ Late k q ∷ []) rs r h.1 (subst (λ (l : List Record). IsMarked plan l (r ∷ [])) (sym (append_assoc before (Late k q ∷ []) rs)) e))
+marked_snoc plan before (Operator k a d ∷ rs) r h e = marked_snoc plan (before ++ Operator k a d ∷ []) rs r h (subst (λ (l : List Record). IsMarked plan l (r ∷ [])) (sym (append_assoc before (Operator k a d ∷ []) rs)) e)
+marked_snoc plan before (Outcome y ∷ rs) r h e = marked_snoc plan (before ++ Outcome y ∷ []) rs r h (subst (λ (l : List Record). IsMarked plan l (r ∷ [])) (sym (append_assoc before (Outcome y ∷ []) rs)) e)
+
+-- ## The test in a play decides the mark
+kind_is : (a b : MarkKind) → same_kind a b ≡ true → a ≡ b
+unfolding same_kind
+kind_is kind.Dropped kind.Dropped e = refl
+kind_is kind.Muted kind.Muted e = refl
+kind_is kind.Late kind.Late e = refl
+kind_is kind.Dropped kind.Muted e = absurd (cc e)
+kind_is kind.Dropped kind.Late e = absurd (cc e)
+kind_is kind.Muted kind.Dropped e = absurd (cc e)
+kind_is kind.Muted kind.Late e = absurd (cc e)
+kind_is kind.Late kind.Dropped e = absurd (cc e)
+kind_is kind.Late kind.Muted e = absurd (cc e)
+
+kind_self : (a : MarkKind) → same_kind a a ≡ true
+unfolding same_kind
+kind_self kind.Dropped = refl
+kind_self kind.Muted = refl
+kind_self kind.Late = refl
+
+mark_is : (m : Mark) (k n : ℕ) (kd : MarkKind) → ((m.node == k) && ((m.number == n) && same_kind m.kind kd)) ≡ true → m ≡ mark k n kd
+mark_is m k n kd e = by (eqb_tells m.node k) (eqb_tells m.number n)
+  where
+    by : (((m.node == k) ≡ true) × (m.node ≡ k)) ⊎ (((m.node == k) ≡ false) × (m.node ≢ k)) → (((m.number == n) ≡ true) × (m.number ≡ n)) ⊎ (((m.number == n) ≡ false) × (m.number ≢ n)) → m ≡ record { node = k; number = n; kind = kd }
+    by (inl a) (inl b) =
+        let c : same_kind m.kind kd ≡ true = rw (a.0, b.0) at e in
+        subst (λ (x : ℕ). m ≡ record { node = x; number = n; kind = kd }) a.1 (subst (λ (x : ℕ). m ≡ record { node = m.node; number = x; kind = kd }) b.1 (ap (λ (x : MarkKind). record { node = m.node; number = m.number; kind = x }) (kind_is m.kind kd c)))
+    by (inl a) (inr b) = absurd (cc (rw (a.0, b.0) at e))
+    by (inr a) b = absurd (cc (rw a.0 at e))
+
+marked_has : (k n : ℕ) (kd : MarkKind) (ms : List Mark) → is_marked ms k n kd ≡ true → Contains ms (mark k n kd)
+unfolding is_marked
+marked_has k n kd [] e = absurd (cc e)
+marked_has k n kd (m ∷ ms) e = by ((m.node == k) && ((m.number == n) && same_kind m.kind kd)) refl e (λ x. marked_has k n kd ms x)
+  where
+    by : (b : Bool) → ((m.node == k) && ((m.number == n) && same_kind m.kind kd)) ≡ b → (b || is_marked ms k n kd) ≡ true → (is_marked ms k n kd ≡ true → Contains ms (mark k n kd)) → Contains (m ∷ ms) (mark k n kd)
+    by true a f go = contains_head m ms (mark k n kd) (mark_is m k n kd a)
+    by false a f go = contains_tail m ms (mark k n kd) (go f)
+
+self_test : (k n : ℕ) (kd : MarkKind) → ((k == k) && ((n == n) && same_kind kd kd)) ≡ true
+self_test k n kd = rw (same_test k k refl, same_test n n refl) (kind_self kd)
+
+or_right : (b c : Bool) → c ≡ true → (b || c) ≡ true
+or_right true c e = refl
+or_right false c e = e
+
+has_marked : (k n : ℕ) (kd : MarkKind) (ms : List Mark) → Contains ms (mark k n kd) → is_marked ms k n kd ≡ true
+unfolding is_marked
+has_marked k n kd [] h = absurd (contains_none (mark k n kd) h)
+has_marked k n kd (m ∷ ms) h = by (contains_cases m ms (mark k n kd) h) (λ g. has_marked k n kd ms g)
+  where
+    by : (m ≡ mark k n kd) ⊎ Contains ms (mark k n kd) → (Contains ms (mark k n kd) → is_marked ms k n kd ≡ true) → (((m.node == k) && ((m.number == n) && same_kind m.kind kd)) || is_marked ms k n kd) ≡ true
+    by (inl e) go = subst (λ (x : Mark). (((x.node == k) && ((x.number == n) && same_kind x.kind kd)) || is_marked ms k n kd) ≡ true) (sym e) (rw (self_test k n kd) refl)
+    by (inr g) go = or_right ((m.node == k) && ((m.number == n) && same_kind m.kind kd)) (is_marked ms k n kd) (go g)
+
+heard_plain : (a : NodeAnswer) → (told_of Delivered a ≢ told.Dropped) × (told_of Delivered a ≢ told.Muted)
+unfolding told_of
+heard_plain (Replied r) = ((λ (e : told.Reply r ≡ told.Dropped). cc e), λ (e : told.Reply r ≡ told.Muted). cc e)
+heard_plain (Stopped k) = ((λ (e : told.Silent ≡ told.Dropped). cc e), λ (e : told.Silent ≡ told.Muted). cc e)
+heard_plain Done = ((λ (e : told.Silent ≡ told.Dropped). cc e), λ (e : told.Silent ≡ told.Muted). cc e)
+heard_plain Idle = ((λ (e : told.Silent ≡ told.Dropped). cc e), λ (e : told.Silent ≡ told.Muted). cc e)
+heard_plain (NotOpened f) = ((λ (e : told.Silent ≡ told.Dropped). cc e), λ (e : told.Silent ≡ told.Muted). cc e)
+
+delivered_by : (plan : List Mark) (k n : ℕ) (a : NodeAnswer) (d m : Bool) → is_marked plan k n kind.Dropped ≡ d → is_marked plan k n kind.Muted ≡ m → IsAsMarked plan k n (told_of (cond d NotDelivered (cond m ReplyLost Delivered)) a)
+unfolding told_of
+delivered_by plan k n a true m d_is m_is = ((λ e. marked_has k n kind.Dropped plan d_is, λ g. refl), λ (off : told.Dropped ≢ told.Dropped). absurd (off refl))
+delivered_by plan k n a false true d_is m_is = (
+  (λ (e : told.Muted ≡ told.Dropped). absurd (cc e), λ g. absurd (cc (d_is, has_marked k n kind.Dropped plan g))),
+  λ (off : told.Muted ≢ told.Dropped). (λ (e : told.Muted ≡ told.Muted). marked_has k n kind.Muted plan m_is, λ g. refl),
+)
+delivered_by plan k n a false false d_is m_is = (
+  (λ (e : told_of Delivered a ≡ told.Dropped). absurd ((heard_plain a).0 e), λ g. absurd (cc (d_is, has_marked k n kind.Dropped plan g))),
+  λ (off : told_of Delivered a ≢ told.Dropped). (λ (e : told_of Delivered a ≡ told.Muted). absurd ((heard_plain a).1 e), λ g. absurd (cc (m_is, has_marked k n kind.Muted plan g))),
+)
+
+-- what a call is told by its marks is as the plan marks it
+pub delivery_marked : (plan : List Mark) (k n : ℕ) (a : NodeAnswer) → IsAsMarked plan k n (told_of (delivery plan k n) a)
+unfolding delivery
+delivery_marked plan k n a = delivered_by plan k n a (is_marked plan k n kind.Dropped) (is_marked plan k n kind.Muted) refl refl
+
+-- how a call went is known by what was told of it, where that is as the plan marks it
+went_by : (plan : List Mark) (k n : ℕ) (d : Delivery) (a : NodeAnswer) (x y : Bool) → is_marked plan k n kind.Dropped ≡ x → is_marked plan k n kind.Muted ≡ y → IsAsMarked plan k n (told_of d a)
+    → cond x NotDelivered (cond y ReplyLost Delivered) ≡ d
+unfolding told_of
+went_by plan k n NotDelivered a true y xs ys h = refl
+went_by plan k n NotDelivered a false y xs ys h = absurd (cc (xs, has_marked k n kind.Dropped plan (h.0.0 refl)))
+went_by plan k n ReplyLost a true y xs ys h = absurd (cc (h.0.1 (marked_has k n kind.Dropped plan xs)))
+went_by plan k n ReplyLost a false true xs ys h = refl
+went_by plan k n ReplyLost a false false xs ys h = absurd (cc (ys, has_marked k n kind.Muted plan ((h.1 (λ (e : told.Muted ≡ told.Dropped). cc e)).0 refl)))
+went_by plan k n Delivered a true y xs ys h = absurd ((heard_plain a).0 (h.0.1 (marked_has k n kind.Dropped plan xs)))
+went_by plan k n Delivered a false true xs ys h = absurd ((heard_plain a).1 ((h.1 (heard_plain a).0).1 (marked_has k n kind.Muted plan ys)))
+went_by plan k n Delivered a false false xs ys h = refl
+
+pub delivery_known : (plan : List Mark) (k n : ℕ) (d : Delivery) (a : NodeAnswer) → IsAsMarked plan k n (told_of d a) → delivery plan k n ≡ d
+unfolding delivery
+delivery_known plan k n d a h = went_by plan k n d a (is_marked plan k n kind.Dropped) (is_marked plan k n kind.Muted) refl refl h
+
+-- the later part of a record that goes by a plan
+pub marked_after : (plan : List Mark) (before xs ys : List Record) → IsMarked plan before (xs ++ ys) → IsMarked plan (before ++ xs) ys
+unfolding IsMarked
+marked_after plan before [] ys h = subst (λ (l : List Record). IsMarked plan l ys) (sym (append_none before)) h
+marked_after plan before (Call k q t ∷ xs) ys h = subst (λ (l : List Record). IsMarked plan l ys) (append_assoc before (Call k q t ∷ []) xs) (marked_after plan (before ++ Call k q t ∷ []) xs ys h.1)
+marked_after plan before (Late k q ∷ xs) ys h = subst (λ (l : List Record). IsMarked plan l ys) (append_assoc before (Late k q ∷ []) xs) (marked_after plan (before ++ Late k q ∷ []) xs ys h.1)
+marked_after plan before (Operator k a d ∷ xs) ys h = subst (λ (l : List Record). IsMarked plan l ys) (append_assoc before (Operator k a d ∷ []) xs) (marked_after plan (before ++ Operator k a d ∷ []) xs ys h)
+marked_after plan before (Outcome y ∷ xs) ys h = subst (λ (l : List Record). IsMarked plan l ys) (append_assoc before (Outcome y ∷ []) xs) (marked_after plan (before ++ Outcome y ∷ []) xs ys h)

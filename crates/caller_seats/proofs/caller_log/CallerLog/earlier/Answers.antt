@@ -1,0 +1,18 @@
+use Rattle.std.proofs.Common.{◌≡◌, ◌≤◌, ◌-◌, List, length, sym, ap, ◌∙◌, subst, slice_get}
+use Rattle.node_world.specs.declared.record.Record.{Record}
+use Rattle.mesh.specs.Marks.{calls_to}
+use Rattle.caller_seats.specs.Indexes.{IsIndex}
+use Rattle.caller_seats.specs.Logs.{LogView, earlier_call}
+use Rattle.caller_seats.proofs.IndexLaws.{at_place}
+use Rattle.caller_seats.proofs.caller_log.CallerLog.earlier.Goals as goal
+
+pub returns-clause-request : goal.returns-clause-request
+returns-clause-request c =
+    let P : LogView → Type 0 = λ v. c.args.node ≤ v.nodes in
+    let index : IsIndex c.args.node c.self.inside.past c.self.inside.marks c.index.result.now =
+    at_place c.self.inside.past c.self.inside.marks c.self.inside.calls.items c.args.node c.index.result.now c.requires.low (subst P (sym c.self.view_is) c.requires.high)
+    (c.self.invariant c.if-not-self.false).0 c.index.ensures in
+    let Q : List Record → Type 0 = λ ps. IsIndex c.args.node ps c.self.inside.marks c.index.result.now in
+    c.in_ok-request.ensures c.args.node c.self.inside.marks (subst Q (sym c.as_slice.ensures) index)
+    ∙ ap (λ ps. slice_get (calls_to c.args.node ps) (c.args.number - 1)) c.as_slice.ensures
+    ∙ ap (λ (v : LogView). earlier_call v c.args.node c.args.number) c.self.view_is

@@ -1,0 +1,12 @@
+//! What a caller lists of its calls to the nodes, the marks of those that are lost or copied, and the seats through
+//! which they go.
+#![tactic(auto)]
+
+mod caller_log;
+mod calls_to;
+mod delivery;
+mod seats;
+
+pub use caller_log::CallerLog;
+pub use delivery::Delivery;
+pub use seats::Seats;
