@@ -27,3 +27,5 @@ pub mod TurnsFit
 pub mod ClusterLaws
 pub mod ResultLaws
 pub mod PlayLaws
+pub mod NodesLeft
+pub mod FaultlessLaws

@@ -11,14 +11,14 @@ use Rattle.node_world.specs.Cell.{Cell}
 use Rattle.node_world.specs.NodeCells.{CellView}
 use Rattle.mesh.specs.Marks.{IsMarked}
 use Rattle.cluster_runner.specs.Lines.{Line, Deed, Acts, Operates}
-use Rattle.cluster_runner.specs.Actor.{Actor, IsLed, actor_after, handed}
+use Rattle.cluster_runner.specs.Actor.{IsLed, actor_after, handed}
 use Rattle.cluster_runner.specs.Plays.{Play, is_done}
 use Rattle.cluster_runner.specs.Kept.{Kept, KeptActor, actor_of, node_at, new_actor, listed, answer_to, operates, with_actor_at, resting, Stands, IsAtRest, LeadsTo}
 use Rattle.cluster_runner.specs.PlaySeats.{LineGoes, LinesGo}
 use Rattle.cluster_runner.specs.Ready.{IsReady, IsIdle, TakesLine}
 use Rattle.cluster_runner.proofs.KeptSteps.{asked_play, operated_play, step_operated}
 use Rattle.cluster_runner.proofs.KeptTurns.{leads_one, cell_there, with_node, with_cells, stands_asked}
-use Rattle.cluster_runner.proofs.KeptLines.{deed_leads, actor_as}
+use Rattle.cluster_runner.proofs.KeptLines.{deed_leads}
 
 -- as many nodes and actors, each ready and at rest
 record StaysIdle (old new : Kept) : Type 0 where

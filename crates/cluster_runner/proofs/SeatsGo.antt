@@ -1,5 +1,5 @@
 -- The seats of a play while an actor acts: each call of theirs, and a whole deed.
-use Rattle.std.proofs.Common.{◌≡◌, ◌≢◌, ◌==◌, ◌⊎◌, ℕ, zero, suc, ◌-◌, ◌<◌, ◌≤◌, List, [], ◌∷◌, ◌++◌, length, map, false, true, refl, sym, ap, ◌∙◌, subst, arith, inl, inr, append_assoc, append-nil, set, get_or}
+use Rattle.std.proofs.Common.{◌≡◌, ◌≢◌, ◌==◌, ◌⊎◌, ℕ, zero, suc, ◌-◌, ◌<◌, ◌≤◌, List, [], ◌∷◌, ◌++◌, length, false, true, refl, sym, ap, ◌∙◌, subst, arith, inl, inr, append_assoc, append-nil, set, get_or}
 use Rattle.std.proofs.lemmas.List.{length-map, length-set, map-set, get_or-map, get_or-set_same, get_or-set_other, append_cancel_left}
 use Rattle.std.proofs.lemmas.List.Elements.{All-append}
 use Rattle.std.proofs.lemmas.Bool.Decides.{eqb_tells}
@@ -25,7 +25,7 @@ use Rattle.cluster_runner.specs.Deeds.{kept_of, IsIdleActor, TakesDeed, TakesIf,
 use Rattle.cluster_runner.specs.Kept.{Kept, KeptActor, actor_of, new_actor, listed, answer_to, reached_by, told_by, resting}
 use Rattle.cluster_runner.specs.PlaySeats.{SeatsView, cell_at, AreLater}
 use Rattle.cluster_runner.specs.Ready.{IsReady, IsIdle, TakesLine}
-use Rattle.cluster_runner.specs.SeatLaws.{later_none, later_one}
+use Rattle.cluster_runner.specs.SeatLaws.{later_one}
 use Rattle.cluster_runner.specs.Shown.{keeps, kept, AreSeated}
 use Rattle.cluster_runner.proofs.KeptLists.{same_place}
 use Rattle.cluster_runner.proofs.LineTaken.{takes_deed}

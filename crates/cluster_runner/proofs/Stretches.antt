@@ -1,10 +1,7 @@
 -- An actor over its seats: along its calls and its deeds it is led as its deeds say, whatever it hears.
-use Rattle.std.proofs.Common.{◌≡◌, ℕ, ◌+◌, ◌-◌, ◌<◌, ◌≤◌, ◌==◌, List, [], ◌∷◌, ◌++◌, length, map, Bool, true, false, refl, sym, ap, ◌∙◌, subst, Option, Some, None, arith, inl, inr, codes, append_assoc, append-nil, cond, get_or, take, zero, suc}
+use Rattle.std.proofs.Common.{◌≡◌, ℕ, ◌<◌, List, [], ◌∷◌, ◌++◌, map, Bool, true, false, refl, sym, ap, ◌∙◌, subst, Option, Some, None, codes, append_assoc, append-nil}
 use Rattle.std.specs.Prelude.{Result, Ok, Err, OnOk}
-use Rattle.std.proofs.lemmas.List.{map-append}
 use Rattle.node_world.specs.declared.mark.Mark.{Mark}
-use Rattle.script_text.specs.declared.script_line.ScriptLine.{ScriptLine}
-use Rattle.script_text.specs.declared.script_line.ScriptLine.TheVariants as line
 use Rattle.journal_core.specs.declared.request.Request.{Request}
 use Rattle.writer_core.specs.declared.task.Task.{Task}
 use Rattle.writer_core.specs.declared.task.Begun.{Begun}
@@ -13,30 +10,24 @@ use Rattle.writer_core.specs.declared.turn.Turn.{Turn}
 use Rattle.writer_core.specs.declared.turn.Turn.TheVariants as turn
 use Rattle.writer_core.specs.Views.{WriterView}
 use Rattle.writer_core.specs.Left.{calls_left}
-use Rattle.writer_core.specs.Writer.{new_writer, next_call, writer_begun, writer_heard, is_under_way}
-use Rattle.writer_core.proofs.LiveLaws.{begun_live, heard_live, new_live}
+use Rattle.writer_core.specs.Writer.{next_call, writer_begun, writer_heard, is_under_way}
+use Rattle.writer_core.proofs.LiveLaws.{begun_live, heard_live}
 use Rattle.writer_core.proofs.LeftLaws.{live_run_out}
 use Rattle.node_world.specs.declared.record.Record.{Record}
-use Rattle.node_world.specs.declared.record.Record.TheVariants.{Call, Late, Operator, Outcome}
+use Rattle.node_world.specs.declared.record.Record.TheVariants.{Call, Late, Outcome}
 use Rattle.node_world.specs.declared.record.Told.{Told}
-use Rattle.node_world.specs.declared.node_ask.NodeAsk.{NodeAsk}
-use Rattle.node_world.specs.declared.mark.MarkKind.TheVariants as kind
-use Rattle.mesh.specs.Makers.{heard_of, IsOperators, IsOperation}
-use Rattle.node_world.specs.Sized.{Sized}
-use Rattle.node_world.proofs.WriterRange.{new_sized, heard_sized, begun_sized}
-use Rattle.caller_seats.specs.Logs.{LogView, new_log, with_line, losing, copying, earlier_call as earlier_in, mark_kind, IsCalled, IsCopied}
-use Rattle.cluster_runner.specs.Lines.{Deed, Does, DoDrop, DoMute, DoLate, Line, Declares, Acts, Operates, Operation, operations_in, deeds_of, line_of}
-use Rattle.cluster_runner.specs.Results.{results_of, late_none, name_of, word, inactive_results, too_long_results}
-use Rattle.cluster_runner.specs.ResultLists.{edits_of, times, texts_of, AreFew, TurnFits}
-use Rattle.cluster_runner.specs.Actor.{Actor, Rests, Fits, wants, goes_on, handed, settled, IsLed, actor_after, fresh_actor}
-use Rattle.cluster_runner.specs.Follows.{actor_with, Follows, AreOperations}
-use Rattle.cluster_runner.specs.Kept.{KeptActor, shown, resting, hears, says, loses, copies, earlier_call, doing_after}
-use Rattle.cluster_runner.specs.Ready.{IsReady, is_going}
-use Rattle.cluster_runner.specs.Deeds.{kept_of, LedTo, IsOneCall, IsNext, GoesFar, IsIdleActor, TakesDeed, mark_deed}
-use Rattle.cluster_runner.proofs.KeptActor.{rests, wants_call, wants_said, goes_call, goes_said, handed_going, handed_inactive, handed_too_long, handed_drop, handed_mute, handed_none, handed_late, wants_copy, goes_copy, copying as with_copy}
+use Rattle.mesh.specs.Makers.{heard_of}
+use Rattle.node_world.proofs.WriterRange.{heard_sized, begun_sized}
+use Rattle.caller_seats.specs.Logs.{LogView, with_line, losing, copying, earlier_call as earlier_in, mark_kind, IsCalled, IsCopied}
+use Rattle.cluster_runner.specs.Lines.{Does, DoDrop, DoMute, DoLate}
+use Rattle.cluster_runner.specs.Results.{results_of, late_none, name_of, word}
+use Rattle.cluster_runner.specs.ResultLists.{edits_of, times, texts_of, AreFew}
+use Rattle.cluster_runner.specs.Actor.{Actor, Fits, wants, goes_on, handed, IsLed, actor_after}
+use Rattle.cluster_runner.specs.Kept.{KeptActor, shown, resting, hears, says, doing_after}
+use Rattle.cluster_runner.specs.Ready.{IsReady}
+use Rattle.cluster_runner.specs.Deeds.{kept_of, LedTo, IsOneCall, GoesFar, IsIdleActor, TakesDeed, mark_deed}
+use Rattle.cluster_runner.proofs.KeptActor.{wants_call, wants_said, goes_call, goes_said, handed_going, handed_inactive, handed_too_long, handed_drop, handed_mute, handed_none, handed_late, wants_copy, goes_copy, copying as with_copy}
 use Rattle.cluster_runner.proofs.WriterTurn.{call_under, rests_under, going_is, refused_same, begun_under, not_going}
-use Rattle.cluster_runner.proofs.Led.{settled_more, handed_led, handed_after}
-use Rattle.cluster_runner.proofs.Sound.{goes_past, settled_past}
 use Rattle.cluster_runner.proofs.ResultLaws.{results_are, inactive_are, too_long_are, few_is}
 use Rattle.cluster_runner.proofs.TurnsFit.{heard_fits, begun_few}
 use Rattle.cluster_runner.proofs.TurnsTell.{turn_tells}

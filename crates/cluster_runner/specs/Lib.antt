@@ -19,3 +19,4 @@ pub mod PlaySeats
 pub mod SeatLaws
 pub mod Ready
 pub mod Goal
+pub mod Faultless

@@ -1,19 +1,12 @@
 -- A script played: its lines are taken in order, and the calls of each line are made one after the other.
-use Rattle.std.specs.Prelude.{◌≡◌, ℕ, zero, suc, ◌+◌, ◌-◌, ◌==◌, ◌&&◌, Bool, true, false, List, [], ◌∷◌, ◌++◌, map, replicate, slice_index_or, slice_set, is_none, Option, Some, None, if◌then◌else◌}
-use Rattle.std.specs.List.{list_any}
+use Rattle.std.specs.Prelude.{◌≡◌, ℕ, zero, suc, ◌+◌, ◌-◌, ◌&&◌, Bool, true, false, List, [], ◌∷◌, ◌++◌, map, replicate, slice_index_or, slice_set, is_none, Option, Some, None}
 use Rattle.journal_core.specs.declared.request.Request.{Request}
 use Rattle.node_world.specs.declared.node_ask.NodeAsk.{NodeAsk}
 use Rattle.node_world.specs.declared.node_ask.NodeAsk.TheVariants.{Act}
-use Rattle.node_world.specs.declared.node_ask.NodeAnswer.{NodeAnswer}
-use Rattle.node_world.specs.declared.node_ask.NodeAnswer.TheVariants.{Replied, Done}
 use Rattle.node_world.specs.declared.history_line.HistoryLine.{HistoryLine}
 use Rattle.node_world.specs.declared.record.Record.{Record}
 use Rattle.node_world.specs.declared.record.Record.TheVariants.{Call, Late, Operator, Outcome}
-use Rattle.node_world.specs.declared.record.Told.{Told}
 use Rattle.node_world.specs.declared.record.Told.TheVariants as told
-use Rattle.node_world.specs.declared.mark.Mark.{Mark}
-use Rattle.node_world.specs.declared.mark.MarkKind.{MarkKind}
-use Rattle.node_world.specs.declared.mark.MarkKind.TheVariants as kind
 use Rattle.node_world.specs.Cell.{Cell, fresh_cell, Taken, cell_takes}
 use Rattle.node_world.specs.Moving.{Placed}
 use Rattle.mesh.specs.declared.whole.Mesh.{Mesh}

@@ -1,17 +1,20 @@
 // The nodes and the actors of a play.
-ghost use Rattle.std.specs.Prelude.{◌≡◌, ◌≤◌, ◌<◌, OnOk, IfOk, length, ℕ, map, replicate};
+ghost use Rattle.std.specs.List.{All};
+ghost use Rattle.std.specs.Prelude.{◌≡◌, ◌≤◌, ◌<◌, OnOk, IfOk, Some, length, ℕ, map, replicate};
+ghost use Rattle.journal_core.specs.Step.{fresh_state};
 ghost use Rattle.caller_seats.specs.Deliveries.{is_done};
 ghost use Rattle.node_world.specs.NodeCells.{new_cell};
 ghost use Rattle.cluster_runner.specs.Deeds.{MayCome};
-ghost use Rattle.cluster_runner.specs.Kept.{new_kept, with_actor, operates, mesh_kept, ends_kept};
+ghost use Rattle.cluster_runner.specs.Kept.{new_kept, with_actor, operates, mesh_kept, ends_kept, states_kept};
 ghost use Rattle.cluster_runner.specs.Lines.{Acts, Deed, line_of};
 ghost use Rattle.cluster_runner.specs.Ready.{IsIdle, TakesLine};
 
 use crate::deeds::take_deed;
 use crate::play_seats::PlaySeats;
+use crate::played::Played;
 use crate::player::Player;
 use caller_seats::CallerLog;
-use journal_core::{Bytes, CutNode, OutOfMemory, PlainNode};
+use journal_core::{Bytes, CutNode, OutOfMemory};
 use mesh::{End, EndList, HistoryTable, Mesh, RecordTable};
 use node_world::{NodeAnswer, NodeAsk, NodeCell, Plan, Record, RecordList};
 use script_text::ScriptLine;
@@ -55,19 +58,50 @@ fn is_done(answer: &NodeAnswer) -> bool
     }
 }
 
-/// The histories of these nodes.
-fn histories_of<N: CutNode + Drop>(
+/// Cells of these nodes, each fresh and steady.
+#[tactic(auto, using(crate::proofs::ClusterLaws::replicated_more))]
+fn cells_of<N: CutNode + Drop>(
+    alloc: Global,
+    nodes: Vec<N>,
+) -> Result<Vec<NodeCell<N>>, OutOfMemory>
+    requires fresh { All (λ n. N.state n ≡ Some fresh_state) nodes.items }
+    requires steady { All (λ n. N.steady n) nodes.items }
+    ensures { IfOk result (λ cells. cells.items ≡ replicate (length nodes.items) new_cell) }
+{
+    let mut cells = Vec::with_capacity(alloc, nodes.len())?;
+    for node in nodes {
+        cells.push(NodeCell::new(alloc, node))?;
+    }
+    Ok(cells)
+}
+
+/// What is left of the nodes: as they stand, and their histories.
+#[derive(Drop)]
+struct NodesLeft<N> {
+    nodes: Vec<N>,
+    histories: HistoryTable,
+}
+
+/// What these cells leave.
+fn nodes_of<N: CutNode + Drop>(
     alloc: Global,
     cells: Vec<NodeCell<N>>,
-) -> Result<HistoryTable, OutOfMemory>
-    ensures { IfOk result (λ table. table ≡ map (λ v. v.history) cells.items) }
+) -> Result<NodesLeft<N>, OutOfMemory>
+    ensures states { IfOk result (λ l. map (λ n. N.state n) l.nodes.items ≡ map (λ v. Some v.cell.state) cells.items) }
+    ensures steady { IfOk result (λ l. All (λ n. N.steady n) l.nodes.items) }
+    ensures histories { IfOk result (λ l. l.histories ≡ map (λ v. v.history) cells.items) }
 {
+    let mut nodes = Vec::with_capacity(alloc, cells.len())?;
     let mut histories = Vec::with_capacity(alloc, cells.len())?;
     for cell in cells {
-        let (_, history) = cell.into_parts();
+        let (node, history) = cell.into_parts();
+        nodes.push(node)?;
         histories.push(history)?;
     }
-    Ok(HistoryTable::of(histories))
+    Ok(NodesLeft {
+        nodes,
+        histories: HistoryTable::of(histories),
+    })
 }
 
 /// What is left of the actors: their ends, their records, and their marks.
@@ -105,32 +139,19 @@ fn lists_of(alloc: Global, players: Vec<Player>) -> Result<Lists, OutOfMemory>
     })
 }
 
-/// That many fresh nodes in memory.
-#[tactic(auto, using(crate::proofs::ClusterLaws::replicated_more))]
-pub(crate) fn plain_cells(
-    alloc: Global,
-    nodes: usize,
-) -> Result<Vec<NodeCell<PlainNode>>, OutOfMemory>
-    ensures { IfOk result (λ cells. cells.items ≡ replicate nodes new_cell) }
-{
-    let mut cells = Vec::with_capacity(alloc, nodes)?;
-    for _ in 0..nodes {
-        cells.push(NodeCell::new(alloc, PlainNode::new(alloc)))?;
-    }
-    Ok(cells)
-}
-
 impl<N: CutNode + Drop> Cluster<N> {
-    /// These fresh nodes, no actors, and an operator of this number.
-    pub(crate) fn new(alloc: Global, cells: Vec<NodeCell<N>>, operator: u32) -> Cluster<N>
-        ensures { (nodes : ℕ) → cells.items ≡ replicate nodes new_cell → result ≡ new_kept nodes operator }
+    /// These nodes, each fresh and steady, no actors, and an operator of this number.
+    pub(crate) fn of(alloc: Global, nodes: Vec<N>, operator: u32) -> Result<Cluster<N>, OutOfMemory>
+        requires fresh { All (λ n. N.state n ≡ Some fresh_state) nodes.items }
+        requires steady { All (λ n. N.steady n) nodes.items }
+        ensures { IfOk result (λ cluster. cluster ≡ new_kept (length nodes.items) operator) }
     {
-        Cluster {
-            cells,
+        Ok(Cluster {
+            cells: cells_of(alloc, nodes)?,
             players: Vec::new(alloc),
             operator,
             operated: RecordList::new(alloc),
-        }
+        })
     }
 
     /// One more actor.
@@ -209,10 +230,12 @@ impl<N: CutNode + Drop> Cluster<N> {
         Ok(self)
     }
 
-    /// The mesh of all lists, and the actors' ends.
-    pub(crate) fn into_lists(self, alloc: Global) -> Result<(Mesh, EndList), OutOfMemory>
-        ensures mesh { IfOk result (λ lists. lists.0 ≡ mesh_kept self) }
-        ensures ends { IfOk result (λ lists. lists.1 ≡ ends_kept self) }
+    /// What is left at the end of a play.
+    pub(crate) fn into_played(self, alloc: Global) -> Result<Played<N>, OutOfMemory>
+        ensures mesh { IfOk result (λ played. played.mesh ≡ mesh_kept self) }
+        ensures ends { IfOk result (λ played. played.ends ≡ ends_kept self) }
+        ensures states { IfOk result (λ played. map (λ n. N.state n) played.nodes.items ≡ states_kept self) }
+        ensures steady { IfOk result (λ played. All (λ n. N.steady n) played.nodes.items) }
     {
         let Cluster {
             cells,
@@ -220,16 +243,20 @@ impl<N: CutNode + Drop> Cluster<N> {
             operator: _,
             operated,
         } = self;
-        let nodes = cells.len();
-        let histories = histories_of(alloc, cells)?;
+        let count = cells.len();
+        let left = nodes_of(alloc, cells)?;
         let mut lists = lists_of(alloc, players)?;
         lists.records.push(operated)?;
         let mesh = Mesh {
-            nodes,
-            histories,
+            nodes: count,
+            histories: left.histories,
             records: RecordTable::of(lists.records),
             plan: lists.plan,
         };
-        Ok((mesh, lists.ends))
+        Ok(Played {
+            mesh,
+            ends: lists.ends,
+            nodes: left.nodes,
+        })
     }
 }

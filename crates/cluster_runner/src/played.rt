@@ -1,24 +1,26 @@
 // Scripts are played.
-ghost use Rattle.std.specs.Prelude.{◌≡◌, ◌≤◌, ◌<◌, ◌^◌, ◌∷◌, [], IfOk, OnOk, length, map, drop, replicate};
+ghost use Rattle.std.specs.Prelude.{◌≡◌, ◌≤◌, ◌<◌, ◌^◌, ◌∷◌, [], IfOk, OnOk, Some, length, map, drop, replicate};
+ghost use Rattle.std.specs.List.{All};
+ghost use Rattle.journal_core.specs.Step.{fresh_state};
 ghost use Rattle.script_text.specs.declared.script_line.ScriptLine.{ScriptLine};
-ghost use Rattle.node_world.specs.NodeCells.{new_cell};
 ghost use Rattle.cluster_runner.specs.Lines.{line_of, lines_of, declared, IsPlayable, NumbersFit};
-ghost use Rattle.cluster_runner.specs.Kept.{IsPlayed, mesh_kept, ends_kept};
+ghost use Rattle.cluster_runner.specs.Kept.{IsPlayed, mesh_kept, ends_kept, states_kept, states_behind};
 ghost use Rattle.cluster_runner.specs.Ready.{IsIdle, TakesLine};
 ghost use Rattle.cluster_runner.specs.Goal.{MayTake, actors_after, IsUnderWay};
 
-use crate::cluster::{Cluster, plain_cells};
-use journal_core::{CutNode, OutOfMemory};
+use crate::cluster::Cluster;
+use journal_core::{CutNode, OutOfMemory, PlainNode};
 use mesh::{EndList, Mesh};
-use node_world::{NodeAsk, NodeCell};
+use node_world::NodeAsk;
 use script_text::{Script, ScriptLine};
 use std::alloc::Global;
 
-/// What a play leaves: the mesh of all lists, and the actors' ends.
+/// What a play leaves: the mesh of all lists, the actors' ends, and the nodes as they stand.
 #[derive(Drop)]
-pub struct Played {
+pub struct Played<N> {
     pub mesh: Mesh,
     pub ends: EndList,
+    pub nodes: Vec<N>,
 }
 
 /// One line of a script, with all its calls.
@@ -87,31 +89,50 @@ fn actors_in(lines: &[ScriptLine]) -> u32
     actors
 }
 
-/// Plays a script in order, each line with all its calls, over these fresh nodes.
+/// Plays a script in order, each line with all its calls, over these nodes: as many as the script says, each fresh, steady and
+/// telling its state. They are handed back as their histories leave them.
 #[tactic(auto, using(crate::proofs::PlayLaws::plays))]
-fn play_over<N: CutNode + Drop>(
+pub fn play_on<N: CutNode + Drop>(
     alloc: Global,
-    cells: Vec<NodeCell<N>>,
+    nodes: Vec<N>,
     script: &Script,
-) -> Result<Played, OutOfMemory>
+) -> Result<Played<N>, OutOfMemory>
     requires playable { IsPlayable script.now }
     requires numbers { NumbersFit script.now }
-    requires fresh { cells.items ≡ replicate script.now.nodes new_cell }
-    ensures { IfOk result (λ played. IsPlayed script.now.nodes (lines_of script.now) played.mesh played.ends) }
+    requires count { length nodes.items ≡ script.now.nodes }
+    requires fresh { All (λ n. N.state n ≡ Some fresh_state) nodes.items }
+    requires steady { All (λ n. N.steady n) nodes.items }
+    ensures played { IfOk result (λ played. IsPlayed script.now.nodes (lines_of script.now) played.mesh played.ends) }
+    ensures states { IfOk result (λ played. map (λ n. N.state n) played.nodes.items ≡ states_behind played.mesh.histories) }
+    ensures steady { IfOk result (λ played. All (λ n. N.steady n) played.nodes.items) }
 {
-    let mut cluster = Cluster::new(alloc, cells, actors_in(script.lines()));
+    let operator = actors_in(script.lines());
+    let mut cluster = Cluster::of(alloc, nodes, operator)?;
     for line in script.lines() {
         cluster = take_line(alloc, cluster, line)?;
     }
-    let (mesh, ends) = cluster.into_lists(alloc)?;
-    Ok(Played { mesh, ends })
+    let played = cluster.into_played(alloc)?;
+    Ok(played)
+}
+
+/// That many fresh nodes in memory.
+#[tactic(auto, using(crate::proofs::ClusterLaws::replicated_more))]
+fn plain_nodes(alloc: Global, count: usize) -> Result<Vec<PlainNode>, OutOfMemory>
+    ensures { IfOk result (λ nodes. nodes.items ≡ replicate count fresh_state) }
+{
+    let mut nodes = Vec::with_capacity(alloc, count)?;
+    for _ in 0..count {
+        nodes.push(PlainNode::new(alloc))?;
+    }
+    Ok(nodes)
 }
 
 /// Plays a script in order, each line with all its calls, over fresh nodes in memory.
-pub fn play(alloc: Global, script: &Script) -> Result<Played, OutOfMemory>
+pub fn play(alloc: Global, script: &Script) -> Result<Played<PlainNode>, OutOfMemory>
     requires playable { IsPlayable script.now }
     requires numbers { NumbersFit script.now }
     ensures { IfOk result (λ played. IsPlayed script.now.nodes (lines_of script.now) played.mesh played.ends) }
 {
-    play_over(alloc, plain_cells(alloc, script.nodes())?, script)
+    let nodes = plain_nodes(alloc, script.nodes())?;
+    play_on(alloc, nodes, script)
 }

@@ -1,4 +1,4 @@
-use Rattle.std.proofs.Common.{refl, subst, sym, ◌∙◌, ap}
+use Rattle.std.proofs.Common.{subst}
 use Rattle.cluster_runner.specs.Deeds.{kept_of, IsNext, IsOneCall}
 use Rattle.cluster_runner.proofs.Stretches.{goes_begin, goes_more, fewer_left}
 use Rattle.cluster_runner.proofs.deeds.finish.Goals as goal

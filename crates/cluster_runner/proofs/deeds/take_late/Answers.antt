@@ -1,7 +1,6 @@
-use Rattle.std.proofs.Common.{◌∷◌, [], subst, sym, ap, ◌∙◌}
+use Rattle.std.proofs.Common.{subst, ap, ◌∙◌}
 use Rattle.caller_seats.specs.Logs.{earlier_call, IsCopied}
 use Rattle.cluster_runner.specs.Kept.{says}
-use Rattle.cluster_runner.specs.Results.{late_none}
 use Rattle.cluster_runner.specs.Deeds.{kept_of}
 use Rattle.cluster_runner.proofs.Stretches.{on_ok, on_ok_both, late_made, late_none_made, said_is}
 use Rattle.cluster_runner.proofs.deeds.take_late.Goals as goal

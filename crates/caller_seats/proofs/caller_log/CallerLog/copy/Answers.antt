@@ -1,4 +1,4 @@
-use Rattle.std.proofs.Common.{◌≡◌, ◌≤◌, ◌-◌, Some, length, sym, subst, slice_get}
+use Rattle.std.proofs.Common.{◌≡◌, ◌≤◌, ◌-◌, Some, sym, subst, slice_get}
 use Rattle.mesh.specs.Marks.{calls_to}
 use Rattle.caller_seats.specs.Logs.{LogView}
 use Rattle.caller_seats.proofs.LogLaws.{copy_kept}

@@ -1,4 +1,4 @@
-use Rattle.std.proofs.Common.{◌≡◌, ◌≤◌, ◌-◌, List, length, sym, ap, ◌∙◌, subst, slice_get}
+use Rattle.std.proofs.Common.{◌≤◌, ◌-◌, List, sym, ap, ◌∙◌, subst, slice_get}
 use Rattle.node_world.specs.declared.record.Record.{Record}
 use Rattle.mesh.specs.Marks.{calls_to}
 use Rattle.caller_seats.specs.Indexes.{IsIndex}

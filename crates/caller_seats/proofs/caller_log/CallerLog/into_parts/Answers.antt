@@ -1,4 +1,4 @@
-use Rattle.std.proofs.Common.{◌≡◌, true, sym, subst}
+use Rattle.std.proofs.Common.{◌≡◌, true, subst}
 use Rattle.mesh.specs.Marks.{AreCopied}
 use Rattle.caller_seats.specs.Logs.{LogView}
 use Rattle.caller_seats.proofs.LogLaws.{all_copied}

@@ -1,7 +1,4 @@
-use Rattle.std.proofs.Common.{◌≡◌, ℕ, List, [], length, sym, subst, arith}
-use Rattle.node_world.specs.declared.record.Record.{Record}
-use Rattle.node_world.specs.declared.mark.Mark.{Mark}
-use Rattle.caller_seats.proofs.LogLaws.{Keeps, new_kept}
+use Rattle.caller_seats.proofs.LogLaws.{new_kept}
 use Rattle.caller_seats.proofs.caller_log.CallerLog.new.Goals as goal
 
 pub invariant_of-result : goal.invariant_of-result

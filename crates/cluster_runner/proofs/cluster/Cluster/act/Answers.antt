@@ -1,4 +1,4 @@
-use Rattle.std.proofs.Common.{◌≡◌, true, sym, refl, ap, ◌∙◌}
+use Rattle.std.proofs.Common.{◌≡◌, true, sym, refl, ◌∙◌}
 use Rattle.cluster_runner.proofs.SeatsGo.{idle_there, act_takes, log_seated, still_seated}
 use Rattle.cluster_runner.proofs.cluster.Cluster.act.Goals as goal
 

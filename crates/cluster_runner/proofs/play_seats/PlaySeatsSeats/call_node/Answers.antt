@@ -1,5 +1,5 @@
-use Rattle.std.proofs.Common.{◌≡◌, ◌≤◌, length, sym, ap, ◌∙◌}
-use Rattle.mesh.specs.Marks.{next_number, IsAsMarked}
+use Rattle.std.proofs.Common.{◌≤◌, length}
+use Rattle.mesh.specs.Marks.{next_number}
 use Rattle.cluster_runner.proofs.SeatsGo.{within, told_as_marked, is_called, call_later}
 use Rattle.cluster_runner.proofs.play_seats.PlaySeatsSeats.call_node.Goals as goal
 
