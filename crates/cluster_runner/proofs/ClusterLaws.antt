@@ -19,30 +19,6 @@ use Rattle.cluster_runner.proofs.KeptLists.{same_place}
 abbrev with_actors : List CellView → ℕ → List Record → List KeptActor → Kept
 with_actors nodes o os xs = record { nodes = nodes; actors = xs; operator = o; operated = os }
 
--- ## The operator
-is_listed : (v t : CellView) (c : ℕ) (ask : NodeAsk) (answer : NodeAnswer) → IsTaken v c ask answer t → t ≡ listed v c ask
-is_listed v t c ask answer h =
-    ap (λ x. record { cell = x; history = t.history }) (ap (λ x. x.cell) (sym h.taken))
-    ∙ ap (λ x. record { cell = (listed v c ask).cell; history = x }) h.listed
-    ∙ ap (λ x. record { cell = (listed v c ask).cell; history = v.history ++ record { caller = c; ask = ask; answer = x } ∷ [] }) (ap (λ x. x.answer) (sym h.taken))
-
-pub listed_is : (v t : CellView) (c : ℕ) (ask : NodeAsk) (answer : NodeAnswer) → IsTaken v c ask answer t → t ≡ listed v c ask
-listed_is v t c ask answer h = is_listed v t c ask answer h
-
-pub answered_is : (v t : CellView) (c : ℕ) (ask : NodeAsk) (answer : NodeAnswer) → IsTaken v c ask answer t → answer ≡ answer_to v ask
-answered_is v t c ask answer h = ap (λ x. x.answer) (sym h.taken)
-
-pub operated_is : (nodes : List CellView) (players : List Player) (o : ℕ) (os ps : List Record) (k : Kept) (node : ℕ) (ask : NodeAsk) (e t : CellView) (answer : NodeAnswer)
-    → kept nodes players o os ≡ k → node - 1 < length nodes → IsTaken (get_or nodes (node - 1) e) o ask answer t → ps ≡ os ++ Operator node ask (is_done answer) ∷ []
-    → kept (set nodes (node - 1) t) players o ps ≡ operates k node ask
-operated_is nodes players o os ps k node ask e t answer view w taken more =
-    let v : CellView = get_or nodes (node - 1) e in
-    ap (λ z. kept (set nodes (node - 1) z) players o ps) (is_listed v t o ask answer taken)
-    ∙ ap (kept (set nodes (node - 1) (listed v o ask)) players o) more
-    ∙ ap (λ z. kept (set nodes (node - 1) (listed v o ask)) players o (os ++ Operator node ask (is_done z) ∷ [])) (answered_is v t o ask answer taken)
-    ∙ ap (λ z. kept (set nodes (node - 1) (listed z o ask)) players o (os ++ Operator node ask (is_done (answer_to z ask)) ∷ [])) (sym (same_place nodes (node - 1) new_cell e w))
-    ∙ ap (λ z. operates z node ask) view
-
 -- ## Nodes and actors
 pub replicated_more : {B : Type 0} (n : ℕ) (x : B) → replicate n x ++ x ∷ [] ≡ replicate (n + 1) x
 replicated_more zero x = refl

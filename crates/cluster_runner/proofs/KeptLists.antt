@@ -55,8 +55,3 @@ histories_snoc k (suc n) zero xs x e l =
 histories_snoc k (suc n) (suc i) xs x e l =
     ap (λ h. h ∷ histories_from (k + 1) n (xs ++ x ∷ [])) (history_other k xs x (λ same. absurd (omega (arith, e, same))))
     ∙ ap (λ hs. history_of k xs ∷ hs) (histories_snoc (k + 1) n i xs x (omega (arith, e)) (omega (arith, l)))
-
-pub length-histories : (k n : ℕ) (xs : List Placed) → length (histories_from k n xs) ≡ n
-unfolding histories_from
-length-histories k zero xs = refl
-length-histories k (suc n) xs = ap suc (length-histories (k + 1) n xs)

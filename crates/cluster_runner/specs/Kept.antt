@@ -61,10 +61,6 @@ listed v c ask =
     record { cell = (cell_takes v.cell ask).cell; history = v.history ++ record { caller = c; ask = ask; answer = answer_to v ask } ∷ [] }
 
 -- ## One call
-pub record Called : Type 0 where
-  pub kept : Kept
-  pub turn : Turn
-
 -- a call that isn't delivered reaches no node
 abbrev pub reached_by : Delivery → CellView → ℕ → Request → CellView
 reached_by NotDelivered v c r = v
@@ -77,24 +73,6 @@ told_by d v r = told_of d (answer_to v (Act false r))
 abbrev pub hears : KeptActor → ℕ → Request → Told → KeptActor
 hears a node r t = record a { writer = (writer_heard a.writer node (heard_of t)).writer; past = a.past ++ Call node r t ∷ [] }
 
--- how the actor's next call to a node goes
-abbrev pub delivery_to : KeptActor → ℕ → Delivery
-delivery_to a node = delivery a.marks node (next_number node a.past)
-
-abbrev pub called_by : Delivery → Kept → ℕ → ℕ → Request → Called
-called_by d k c node r =
-    record {
-      kept = record k {
-        nodes = slice_set k.nodes (node - 1) (reached_by d (node_at k node) c r);
-        actors = slice_set k.actors c (hears (actor_of k c) node r (told_by d (node_at k node) r));
-      };
-      turn = (writer_heard (actor_of k c).writer node (heard_of (told_by d (node_at k node) r))).turn;
-    }
-
--- an actor's call to a node
-abbrev pub called : Kept → ℕ → ℕ → Request → Called
-called k c node r = called_by (delivery_to (actor_of k c) node) k c node r
-
 -- ## Results
 abbrev pub says : KeptActor → List (List ℕ) → KeptActor
 says a texts = record a { past = a.past ++ map (λ text. Outcome text) texts }
@@ -102,16 +80,10 @@ says a texts = record a { past = a.past ++ map (λ text. Outcome text) texts }
 abbrev pub with_actor_at : Kept → ℕ → KeptActor → Kept
 with_actor_at k c a = record k { actors = slice_set k.actors c a }
 
-abbrev pub said : Kept → ℕ → List (List ℕ) → Kept
-said k c texts = with_actor_at k c (says (actor_of k c) texts)
-
 -- ## Marks, copies and the operator
 -- one of the actor's next calls to the node is marked, counted from 1
 abbrev pub loses : KeptActor → ℕ → ℕ → MarkKind → KeptActor
 loses a node call loss = record a { marks = a.marks ++ mark node (next_number node a.past + (call - 1)) loss ∷ [] }
-
-abbrev pub lost : Kept → ℕ → ℕ → ℕ → MarkKind → Kept
-lost k c node call loss = with_actor_at k c (loses (actor_of k c) node call loss)
 
 -- the request of one of the actor's calls to the node so far, counted from 1
 abbrev pub earlier_call : KeptActor → ℕ → ℕ → Option Request
@@ -119,25 +91,6 @@ earlier_call a node call = slice_get (calls_to node a.past) (call - 1)
 
 abbrev pub copies : KeptActor → ℕ → ℕ → Request → KeptActor
 copies a node call r = record a { past = a.past ++ Late node r ∷ []; marks = a.marks ++ mark node call kind.Late ∷ [] }
-
--- a copy of the call reaches the node, if there was such a call; else that is the actor's result
-abbrev pub cell_copied : Option Request → CellView → ℕ → CellView
-cell_copied None v c = v
-cell_copied (Some r) v c = listed v c (Act true r)
-
-abbrev pub actor_copied : Option Request → KeptActor → ℕ → ℕ → KeptActor
-actor_copied None a node call = says a (late_none ∷ [])
-actor_copied (Some r) a node call = copies a node call r
-
-abbrev pub copied_by : Option Request → Kept → ℕ → ℕ → ℕ → Kept
-copied_by r k c node call =
-    record k {
-      nodes = slice_set k.nodes (node - 1) (cell_copied r (node_at k node) c);
-      actors = slice_set k.actors c (actor_copied r (actor_of k c) node call);
-    }
-
-abbrev pub late : Kept → ℕ → ℕ → ℕ → Kept
-late k c node call = copied_by (earlier_call (actor_of k c) node call) k c node call
 
 -- the operator does this to the node
 abbrev pub operates : Kept → ℕ → NodeAsk → Kept
@@ -172,21 +125,10 @@ pub record IsAtRest (lines : List Line) (k : Kept) (p : Play) : Type 0 where
   pub turn : p.turn ≡ None
   pub actors : p.actors ≡ map resting k.actors
 
--- while a line of this actor is under way, with these lines to come
-pub record IsInTurn (lines : List Line) (c : ℕ) (doing : Option Task) (texts : List (List ℕ)) (k : Kept) (p : Play) : Type 0 where
-  pub stands : Stands k p
-  pub lines_are : p.lines ≡ lines
-  pub turn : p.turn ≡ Some c
-  pub actors : p.actors ≡ slice_set (map resting k.actors) c (shown doing texts (actor_of k c))
-
 -- what is under way once a call had this turn
 abbrev pub doing_after : Task → Turn → Option Task
 doing_after t turn.Going = Some t
 doing_after t _ = None
-
--- the task is under way, or its results are due
-abbrev pub IsAfterTurn : List Line → ℕ → Task → Turn → Kept → Play → Type 0
-IsAfterTurn lines c t u k p = IsInTurn lines c (doing_after t u) (results_of t u (actor_of k c).writer.causes) k p
 
 -- some steps lead from one to the other
 pub record Leads (p q : Play) : Type 0 where
@@ -200,10 +142,6 @@ LeadsTo P Q = (p : Play) → P p → (q : Play) × Leads p q × Q q
 -- before the first line
 abbrev pub new_kept : ℕ → ℕ → Kept
 new_kept nodes operator = record { nodes = replicate nodes new_cell; actors = []; operator = operator; operated = [] }
-
--- with this writer for the actor
-abbrev pub with_writer : Kept → ℕ → WriterView → Kept
-with_writer k c w = with_actor_at k c (record (actor_of k c) { writer = w })
 
 -- one more actor
 abbrev pub with_actor : Kept → List ℕ → Kept

@@ -10,10 +10,6 @@ use Rattle.writer_core.specs.Writer.{next_call}
 use Rattle.cluster_runner.specs.Lines.{Line}
 use Rattle.cluster_runner.specs.Kept.{Kept, actor_of, IsAtRest, LeadsTo}
 
--- each call is of a node from 1 on, up to this one
-abbrev pub CallsWithin : ℕ → WriterView → Type 0
-CallsWithin nodes w = (node : ℕ) (request : Request) → next_call w ≡ Some (node, request) → (1 ≤ node) × (node ≤ nodes)
-
 pub record IsReady (nodes : ℕ) (w : WriterView) : Type 0 where
   pub live : IsLive w
   pub sized : Sized nodes w
