@@ -16,6 +16,7 @@ use Rattle.writer_core.specs.declared.turn.Turn.{Turn}
 use Rattle.writer_core.specs.declared.turn.Turn.TheVariants as turn
 use Rattle.writer_core.specs.declared.turn.Outcome.{Outcome as TaskOutcome}
 use Rattle.writer_core.specs.declared.turn.Outcome.TheVariants as outcome
+use Rattle.writer_core.specs.Turns.{aim_of, IsOf, IsInRound}
 use Rattle.writer_core.specs.Views.{WriterView}
 use Rattle.writer_core.specs.Rounds.{Judged}
 use Rattle.writer_core.specs.Writer.{writer_begun, next_call, writer_heard}
@@ -30,7 +31,7 @@ use Rattle.cluster_runner.specs.Told.{results_in}
 use Rattle.cluster_runner.specs.EditResults.{results_due, AreResultsOf, AreResults}
 use Rattle.cluster_runner.proofs.Led.{moved_keeps}
 use Rattle.cluster_runner.proofs.Wanting.{Calling, Resting, Saying, resting, rests_is, fits_calling, fits_saying, no_operation}
-use Rattle.cluster_runner.proofs.WriterTurns.{IsOf, IsInRound, IsBetween, Course, TurnOf, Turned, aim_of, Begins, begun_turn, heard_turn, new_course, call_some, call_none}
+use Rattle.cluster_runner.proofs.WriterTurns.{IsBetween, Course, TurnOf, Turned, Begins, begun_turn, heard_turn, new_course, call_some, call_none}
 
 -- ## As many results as are due
 each_length : (t : Task) (text : List ℕ) → length (for_each t text) ≡ results_due t

@@ -16,7 +16,7 @@ use crate::player::Player;
 use caller_seats::CallerLog;
 use journal_core::{Bytes, CutNode, OutOfMemory};
 use mesh::{End, EndList, HistoryTable, Mesh, RecordTable};
-use node_world::{NodeAnswer, NodeAsk, NodeCell, Plan, Record, RecordList};
+use node_world::{NodeAnswer, NodeAsk, NodeCell, Plan, Record, RecordList, cells_of};
 use script_text::ScriptLine;
 use std::alloc::{AllocError, Global};
 use std::marker::Model;
@@ -56,23 +56,6 @@ fn is_done(answer: &NodeAnswer) -> bool
         NodeAnswer::Idle => false,
         NodeAnswer::NotOpened(_) => false,
     }
-}
-
-/// Cells of these nodes, each fresh and steady.
-#[tactic(auto, using(crate::proofs::ClusterLaws::replicated_more))]
-fn cells_of<N: CutNode + Drop>(
-    alloc: Global,
-    nodes: Vec<N>,
-) -> Result<Vec<NodeCell<N>>, OutOfMemory>
-    requires fresh { All (λ n. N.state n ≡ Some fresh_state) nodes.items }
-    requires steady { All (λ n. N.steady n) nodes.items }
-    ensures { IfOk result (λ cells. cells.items ≡ replicate (length nodes.items) new_cell) }
-{
-    let mut cells = Vec::with_capacity(alloc, nodes.len())?;
-    for node in nodes {
-        cells.push(NodeCell::new(alloc, node))?;
-    }
-    Ok(cells)
 }
 
 /// What is left of the nodes: as they stand, and their histories.

@@ -30,4 +30,4 @@ pub use node_cell::NodeCell;
 pub use record::{Record, RecordList, Told};
 pub use seen::Seen;
 pub use stop::Stop;
-pub use world::World;
+pub use world::{World, cells_of};

@@ -83,7 +83,7 @@ fn fresh_cells(alloc: Global, nodes: usize) -> Result<Vec<NodeCell<PlainNode>>, 
 
 /// Cells of these nodes, each fresh and steady.
 #[tactic(auto, using(crate::proofs::WorldCode::one_more_alike))]
-fn cells_of<N: CutNode + Drop>(
+pub fn cells_of<N: CutNode + Drop>(
     alloc: Global,
     nodes: Vec<N>,
 ) -> Result<Vec<NodeCell<N>>, OutOfMemory>
