@@ -471,18 +471,27 @@ fn unusual_texts(rt: HostRuntime) {
 }
 
 #[test]
-fn lists_and_calls(rt: HostRuntime) -> Result<(), Fail> {
+fn lists_of_numbers(rt: HostRuntime) -> Result<(), Fail> {
     let mut lengths = NumberList::new(rt.alloc());
     lengths.push(7)?;
     assert_eq!(rt; lengths.as_slice(), [7u64].as_slice());
     assert_eq!(rt; NumberList::of(Vec::new(rt.alloc())).as_slice().len(), 0);
+    Ok(())
+}
+
+#[test]
+fn lists_of_names(rt: HostRuntime) -> Result<(), Fail> {
     let mut sources = NameList::new(rt.alloc());
     sources.push(Name::from_slice(rt.alloc(), b"/a")?)?;
     assert_eq!(rt; sources.as_slice().len(), 1);
     assert_eq!(rt; NameList::of(Vec::new(rt.alloc())).as_slice().len(), 0);
+    Ok(())
+}
+
+#[test]
+fn kinds_have_codes_and_verbs(rt: HostRuntime) {
     assert_eq!(rt; OpKind::Mkdir.code(), 3);
     assert!(rt; OpKind::of(9).is_some());
     assert!(rt; OpKind::of(5).is_none());
     assert!(rt; OpKind::of_verb(b"mv").is_some());
-    Ok(())
 }

@@ -175,15 +175,24 @@ fn a_batch_has_limits(rt: HostRuntime) -> Result<(), Fail> {
 }
 
 #[test]
+fn a_batch_is_within_a_segment(rt: HostRuntime) -> Result<(), Fail> {
+    let mut node = opened(rt.alloc())?;
+    let past = journal(rt.alloc(), 2, 16385, bodies(rt.alloc(), 0, 1)?)?;
+    answers(rt.alloc(), &mut node, &past, &limit(16384))
+}
+
+#[test]
 fn a_segment_has_a_limit(rt: HostRuntime) -> Result<(), Fail> {
-    let alloc = rt.alloc();
-    let mut node = opened(alloc)?;
-    let past = journal(alloc, 2, 16385, bodies(alloc, 0, 1)?)?;
-    answers(alloc, &mut node, &past, &limit(16384))?;
+    let mut node = opened(rt.alloc())?;
+    let whole = accept(rt.alloc(), 1, bodies(rt.alloc(), 14, 1)?)?;
+    answers(rt.alloc(), &mut node, &whole, &Reply::Ok)?;
+    let larger = accept(rt.alloc(), 2, one_more(rt.alloc())?)?;
+    answers(rt.alloc(), &mut node, &larger, &limit(16384))
+}
+
+// One body more than a segment has edits.
+fn one_more(alloc: Global) -> Result<BodyList, Fail> {
     let mut all = bodies(alloc, 14, 1)?;
-    let whole = accept(alloc, 1, all.share(alloc)?)?;
-    answers(alloc, &mut node, &whole, &Reply::Ok)?;
     all.append(bodies(alloc, 0, 1)?)?;
-    let larger = accept(alloc, 2, all)?;
-    answers(alloc, &mut node, &larger, &limit(16384))
+    Ok(all)
 }

@@ -6,10 +6,8 @@ use report_text::{Report, report_of};
 use std::alloc::Global;
 use std::test::Fail;
 
-#[test]
-fn a_report_is_printed(rt: HostRuntime) -> Result<(), Fail> {
-    let alloc = rt.alloc();
-    let request = SharedRequest::new(alloc, Request::State)?;
+/// A node was asked its state by the first caller, and killed by the second.
+fn histories(alloc: Global, request: &SharedRequest) -> Result<HistoryTable, Fail> {
     let mut history = HistoryList::new(alloc);
     history.push(HistoryLine {
         caller: 0,
@@ -26,37 +24,59 @@ fn a_report_is_printed(rt: HostRuntime) -> Result<(), Fail> {
     })?;
     let mut histories = HistoryTable::new(alloc);
     histories.push(history)?;
-    let mut calls = RecordList::new(alloc);
-    calls.push(Record::Call {
+    Ok(histories)
+}
+
+/// A table of one record of each of these lines.
+fn records(alloc: Global, lines: Vec<Record>) -> Result<RecordTable, Fail> {
+    let mut records = RecordTable::new(alloc);
+    for line in lines {
+        let mut list = RecordList::new(alloc);
+        list.push(line)?;
+        records.push(list)?;
+    }
+    Ok(records)
+}
+
+/// What one actor, `a`, ends with.
+fn ends(alloc: Global) -> Result<EndList, Fail> {
+    let name = Bytes::copy_of(alloc, b"a")?.ok_or("no byte")?;
+    let mut ends = EndList::new(alloc);
+    ends.push(End { name })?;
+    Ok(ends)
+}
+
+/// The text of the report.
+fn text_of(alloc: Global, mesh: &Mesh) -> Result<Vec<u8>, Fail> {
+    match report_of(alloc, mesh, &ends(alloc)?)? {
+        Report::Text(report) => Ok(report),
+        _ => Err("too long".into()),
+    }
+}
+
+#[test]
+fn a_report_is_printed(rt: HostRuntime) -> Result<(), Fail> {
+    let request = SharedRequest::new(rt.alloc(), Request::State)?;
+    let histories = histories(rt.alloc(), &request)?;
+    let call = Record::Call {
         node: 1,
         request,
         told: Told::Reply(Reply::Refused(Refusal::Down)),
-    })?;
-    let mut orders = RecordList::new(alloc);
-    orders.push(Record::Operator {
+    };
+    let order = Record::Operator {
         node: 1,
         ask: NodeAsk::Kill,
         done: true,
-    })?;
-    let mut records = RecordTable::new(alloc);
-    records.push(calls)?;
-    records.push(orders)?;
+    };
     let mesh = Mesh {
         nodes: 1,
         histories,
-        records,
-        plan: Plan::new(alloc),
-    };
-    let mut ends = EndList::new(alloc);
-    if let Some(name) = Bytes::copy_of(alloc, b"a")? {
-        ends.push(End { name })?;
-    }
-    let Report::Text(report) = report_of(alloc, &mesh, &ends)? else {
-        return Err("too long".into());
+        records: records(rt.alloc(), vec![in rt.alloc(); call, order]?)?,
+        plan: Plan::new(rt.alloc()),
     };
     let wanted =
         b"nodes 1\nnode 1\na state -> state 12\nops kill -> done\nactor a\n1 state -> refused 1 Down\nactor ops\n1 kill -> done\nend\n";
-    assert_eq!(rt; report.as_slice(), wanted.as_slice());
+    assert_eq!(rt; text_of(rt.alloc(), &mesh)?.as_slice(), wanted.as_slice());
     Ok(())
 }
 
@@ -75,10 +95,8 @@ fn long_request(alloc: Global) -> Result<SharedRequest, Fail> {
     Ok(SharedRequest::new(alloc, Request::Accept { head, batch })?)
 }
 
-#[test]
-fn a_longer_report_is_too_long(rt: HostRuntime) -> Result<(), Fail> {
-    let alloc = rt.alloc();
-    let request = long_request(alloc)?;
+/// One record of two calls of that request.
+fn two_calls(alloc: Global, request: &SharedRequest) -> Result<RecordTable, Fail> {
     let mut calls = RecordList::new(alloc);
     for node in 1..3 {
         calls.push(Record::Call {
@@ -89,17 +107,19 @@ fn a_longer_report_is_too_long(rt: HostRuntime) -> Result<(), Fail> {
     }
     let mut records = RecordTable::new(alloc);
     records.push(calls)?;
+    Ok(records)
+}
+
+#[test]
+fn a_longer_report_is_too_long(rt: HostRuntime) -> Result<(), Fail> {
+    let alloc = rt.alloc();
     let mesh = Mesh {
         nodes: 0,
         histories: HistoryTable::new(alloc),
-        records,
+        records: two_calls(alloc, &long_request(alloc)?)?,
         plan: Plan::new(alloc),
     };
-    let mut ends = EndList::new(alloc);
-    if let Some(name) = Bytes::copy_of(alloc, b"a")? {
-        ends.push(End { name })?;
-    }
-    let report = report_of(alloc, &mesh, &ends)?;
+    let report = report_of(alloc, &mesh, &ends(alloc)?)?;
     assert!(rt; matches!(&report, Report::TooLong));
     Ok(())
 }

@@ -6,6 +6,7 @@ use journal_core::{
 use qj_num::put_decimal;
 use request_text::{ReadRequest, print_cause, print_reply, print_request, read_request};
 use std::alloc::Global;
+use std::process::Abort;
 use std::test::Fail;
 
 fn read(alloc: Global, line: &str) -> Result<Request, Fail> {
@@ -28,6 +29,20 @@ fn reply_to(alloc: Global, node: &mut PlainNode, line: &str) -> Result<Vec<u8>, 
         ReadRequest::OutOfMemory => return Err("want of memory".into()),
     }
     Ok(out)
+}
+
+/// The node's replies to these requests have these texts.
+fn reply_to_all(
+    rt: &impl Abort,
+    alloc: Global,
+    node: &mut PlainNode,
+    session: &[(&str, &str)],
+) -> Result<(), Fail> {
+    for (line, expected) in session {
+        let reply = reply_to(alloc, node, line)?;
+        assert_eq!(rt; reply.as_slice(), expected.as_bytes(), "to {line}");
+    }
+    Ok(())
 }
 
 /// A node after requests.
@@ -123,12 +138,7 @@ fn two_writers_are_answered(rt: HostRuntime) -> Result<(), Fail> {
         ("read 1", "refused 14 Purged 2"),
         ("manifest", "segments 2 2 final 2"),
     ];
-    for pair in &session {
-        let (line, expected) = *pair;
-        let reply = reply_to(alloc, &mut node, line)?;
-        assert_eq!(rt; reply.as_slice(), expected.as_bytes());
-    }
-    Ok(())
+    reply_to_all(&rt, alloc, &mut node, &session)
 }
 
 #[test]
@@ -148,60 +158,42 @@ fn a_segment_is_fetched_in_pieces(rt: HostRuntime) -> Result<(), Fail> {
         ("new 4611686018427387904", "new 1"),
         ("read 1", "refused 15 NotHere 0"),
     ];
-    for pair in &session {
-        let (line, expected) = *pair;
-        let reply = reply_to(alloc, &mut node, line)?;
-        assert_eq!(rt; reply.as_slice(), expected.as_bytes());
-    }
-    Ok(())
+    reply_to_all(&rt, alloc, &mut node, &session)
 }
+
+const TWO_SEGMENTS: [(&str, &str); 6] = [
+    ("new 1", "new none"),
+    ("start 1 1 0 1", "ok"),
+    ("journal 1 2 0 1 1 18", "ok"),
+    ("finalize 1 3 1 1 1", "ok"),
+    ("start 1 4 1 2", "ok"),
+    ("journal 1 5 1 2 2 18", "ok"),
+];
 
 #[test]
 fn a_purge_goes_by_its_own_committed_txid(rt: HostRuntime) -> Result<(), Fail> {
-    let alloc = rt.alloc();
-    let session = [
-        ("new 1", "new none"),
-        ("start 1 1 0 1", "ok"),
-        ("journal 1 2 0 1 1 18", "ok"),
-        ("finalize 1 3 1 1 1", "ok"),
-        ("start 1 4 1 2", "ok"),
-        ("journal 1 5 1 2 2 18", "ok"),
-    ];
-    let ends = [
+    for (purge, left) in [
         ("purge 1 6 0 9", "segments 1 1 final 1 2 2 inprogress 1"),
         ("purge 1 6 1 9", "segments 2 2 inprogress 1"),
-    ];
-    for end in &ends {
-        let (purge, left) = *end;
-        let mut node = PlainNode::new(alloc);
-        for pair in &session {
-            let (line, expected) = *pair;
-            let reply = reply_to(alloc, &mut node, line)?;
-            assert_eq!(rt; reply.as_slice(), expected.as_bytes());
-        }
-        let reply = reply_to(alloc, &mut node, purge)?;
-        assert_eq!(rt; reply.as_slice(), b"ok".as_slice());
-        let manifest = reply_to(alloc, &mut node, "manifest")?;
-        assert_eq!(rt; manifest.as_slice(), left.as_bytes());
+    ] {
+        let mut node = PlainNode::new(rt.alloc());
+        reply_to_all(&rt, rt.alloc(), &mut node, &TWO_SEGMENTS)?;
+        let purged = [(purge, "ok"), ("manifest", left)];
+        reply_to_all(&rt, rt.alloc(), &mut node, &purged)?;
     }
     Ok(())
 }
 
 #[test]
 fn numbers_have_a_limit(rt: HostRuntime) -> Result<(), Fail> {
-    let alloc = rt.alloc();
-    let mut node = PlainNode::new(alloc);
-    let lines = [
+    let mut node = PlainNode::new(rt.alloc());
+    for line in [
         "new 4611686018427387905",
         "new 18446744073709551615",
         "journal 1 1 0 4611686018427387904 4611686018427387904 18 0a",
-    ];
-    for line in &lines {
-        let reply = reply_to(alloc, &mut node, *line)?;
-        assert_eq!(rt;
-            reply.as_slice(),
-            b"refused 2 Limit 4611686018427387904".as_slice()
-        );
+    ] {
+        let refused = [(line, "refused 2 Limit 4611686018427387904")];
+        reply_to_all(&rt, rt.alloc(), &mut node, &refused)?;
     }
     Ok(())
 }
@@ -236,12 +228,7 @@ fn bad_lines_break_their_first_rule(rt: HostRuntime) -> Result<(), Fail> {
         ("journal 1 1 0 1 1 0A", "bad 8"),
         ("journal 1 1 0 1 1 18 0", "bad 8"),
     ];
-    for pair in &lines {
-        let (line, expected) = *pair;
-        let reply = reply_to(alloc, &mut node, line)?;
-        assert_eq!(rt; reply.as_slice(), expected.as_bytes());
-    }
-    Ok(())
+    reply_to_all(&rt, alloc, &mut node, &lines)
 }
 
 /// What is stored where a node is stopped in a request behind so many effects, and comes up again.
@@ -260,52 +247,97 @@ fn left_by_stop(alloc: Global, before: &[&str], request: &str, keep: u64) -> Res
     stored(alloc, node.state())
 }
 
-/// Stops a node in a request behind each number of its effects, and looks at what is stored then.
-fn stop(alloc: Global, before: &[&str], request: &str, after: &[&str]) -> Result<(), Fail> {
+/// The request has so many effects.
+fn has_effects(alloc: Global, before: &[&str], request: &str, count: usize) -> Result<(), Fail> {
+    let mut node = node_after(alloc, before)?;
+    match node.act_stopped(alloc, &read(alloc, request)?, 99) {
+        Ok(done) if done == count as u64 => Ok(()),
+        _ => Err("another number of effects".into()),
+    }
+}
+
+/// Stops a node in a request after each number of its effects, and looks at what is stored then.
+fn stop(
+    rt: &impl Abort,
+    alloc: Global,
+    before: &[&str],
+    request: &str,
+    after: &[&str],
+) -> Result<(), Fail> {
     for (keep, expected) in after.iter().enumerate() {
         let left = left_by_stop(alloc, before, request, keep as u64)?;
-        if left.as_slice() != expected.as_bytes() {
-            return Err("another state".into());
-        }
+        assert_eq!(rt;
+            left.as_slice(),
+            expected.as_bytes(),
+            "in {request} after {keep}"
+        );
     }
-    let mut node = node_after(alloc, before)?;
-    let done = node.act_stopped(alloc, &read(alloc, request)?, 99);
-    if !matches!(&done, Ok(count) if *count + 1 == after.len() as u64) {
-        return Err("another number of effects".into());
+    has_effects(alloc, before, request, after.len().saturating_sub(1))
+}
+
+/// The same for each of these requests.
+fn stop_each(
+    rt: &impl Abort,
+    alloc: Global,
+    before: &[&str],
+    cases: &[(&str, &[&str])],
+) -> Result<(), Fail> {
+    for (request, after) in cases {
+        stop(rt, alloc, before, request, after)?;
     }
     Ok(())
 }
 
 #[test]
 fn a_stop_keeps_the_first_effects(rt: HostRuntime) -> Result<(), Fail> {
-    let alloc = rt.alloc();
-    stop(alloc, &[], "new 1", &["0 0 0", "1 0 0"])?;
-    stop(
-        alloc,
+    stop_each(
+        &rt,
+        rt.alloc(),
         &[],
-        "start 1 1 0 1",
-        &["0 0 0", "1 0 0", "1 1 0", "1 1 0, 1 1 0"],
+        &[
+            ("new 1", &["0 0 0", "1 0 0"]),
+            (
+                "start 1 1 0 1",
+                &["0 0 0", "1 0 0", "1 1 0", "1 1 0, 1 1 0"],
+            ),
+        ],
     )?;
-    stop(
-        alloc,
+    stop_each(
+        &rt,
+        rt.alloc(),
         &OPENED,
-        "journal 1 2 0 1 1 18 0a",
-        &["1 1 0, 1 1 0", "1 1 0, 1 1 2"],
-    )?;
-    stop(
-        alloc,
+        &[("journal 1 2 0 1 1 18 0a", &["1 1 0, 1 1 0", "1 1 0, 1 1 2"])],
+    )
+}
+
+// The last three: a refused request, one that only the front touches, and one without an effect.
+#[test]
+fn a_stop_after_edits_keeps_the_first_effects(rt: HostRuntime) -> Result<(), Fail> {
+    stop_each(
+        &rt,
+        rt.alloc(),
         &LOGGED,
-        "finalize 1 3 2 1 2",
-        &["1 1 0, 1 1 2", "1 1 0, 1 1 2 final", "1 1 2, 1 1 2 final"],
-    )?;
+        &[
+            (
+                "finalize 1 3 2 1 2",
+                &["1 1 0, 1 1 2", "1 1 0, 1 1 2 final", "1 1 2, 1 1 2 final"],
+            ),
+            (
+                "accept 2 1 1 1 18",
+                &["1 1 0, 1 1 2", "2 1 0, 1 1 2", "2 1 0, 1 2 1 accepted"],
+            ),
+            ("journal 2 1 0 1 3 18", &["1 1 0, 1 1 2", "2 1 0, 1 1 2"]),
+            ("prepare 2 1 0 1", &["1 1 0, 1 1 2", "2 1 0, 1 1 2"]),
+            ("start 1 1 0 1", &["1 1 0, 1 1 2"]),
+        ],
+    )
+}
+
+#[test]
+fn a_stop_of_the_last_requests_keeps_the_first_effects(rt: HostRuntime) -> Result<(), Fail> {
     stop(
-        alloc,
-        &LOGGED,
-        "accept 2 1 1 1 18",
-        &["1 1 0, 1 1 2", "2 1 0, 1 1 2", "2 1 0, 1 2 1 accepted"],
-    )?;
-    stop(
-        alloc,
+        &rt,
+        rt.alloc(),
         &ACCEPTED,
         "finalize 2 2 1 1 1",
         &[
@@ -315,7 +347,8 @@ fn a_stop_keeps_the_first_effects(rt: HostRuntime) -> Result<(), Fail> {
         ],
     )?;
     stop(
-        alloc,
+        &rt,
+        rt.alloc(),
         &ROLLED,
         "purge 1 9 2 9",
         &[
@@ -323,21 +356,7 @@ fn a_stop_keeps_the_first_effects(rt: HostRuntime) -> Result<(), Fail> {
             "1 1 2, 2 1 1 final, 3 1 1",
             "1 1 2, 3 1 1",
         ],
-    )?;
-    // a refused request, and one that only the front touches
-    stop(
-        alloc,
-        &LOGGED,
-        "journal 2 1 0 1 3 18",
-        &["1 1 0, 1 1 2", "2 1 0, 1 1 2"],
-    )?;
-    stop(
-        alloc,
-        &LOGGED,
-        "prepare 2 1 0 1",
-        &["1 1 0, 1 1 2", "2 1 0, 1 1 2"],
-    )?;
-    stop(alloc, &LOGGED, "start 1 1 0 1", &["1 1 0, 1 1 2"])
+    )
 }
 
 /// Cuts a node in a request, and looks at how many effects stand.
@@ -421,12 +440,24 @@ fn a_cut_keeps_what_was_decided(rt: HostRuntime) -> Result<(), Fail> {
 }
 
 #[test]
-fn texts_are_printed(rt: HostRuntime) -> Result<(), Fail> {
-    let alloc = rt.alloc();
-    let mut text = Vec::new(alloc);
-    print_request(&read(alloc, "journal 1 2 0 1 1 18 0a")?, &mut text)?;
+fn requests_are_printed(rt: HostRuntime) -> Result<(), Fail> {
+    let mut text = Vec::new(rt.alloc());
+    let request = read(rt.alloc(), "journal 1 2 0 1 1 18 0a")?;
+    print_request(&request, &mut text)?;
     assert_eq!(rt; text.as_slice(), b"journal 1 2 0 1 1 18 0a".as_slice());
-    text.clear();
+    Ok(())
+}
+
+/// The reply has that text.
+fn is_printed(rt: &impl Abort, alloc: Global, reply: &Reply, expected: &str) -> Result<(), Fail> {
+    let mut text = Vec::new(alloc);
+    print_reply(reply, &mut text)?;
+    assert_eq!(rt; text.as_slice(), expected.as_bytes());
+    Ok(())
+}
+
+#[test]
+fn a_told_segment_is_printed(rt: HostRuntime) -> Result<(), Fail> {
     let info = SegmentInfo {
         start: 3,
         end: 5,
@@ -437,21 +468,31 @@ fn texts_are_printed(rt: HostRuntime) -> Result<(), Fail> {
     let told = Reply::Prepared {
         writer: 2,
         committed: 4,
-        segment: ToldSegment::of(alloc, info)?,
+        segment: ToldSegment::of(rt.alloc(), info)?,
     };
-    print_reply(&told, &mut text)?;
-    assert_eq!(rt; text.as_slice(), b"prepared 2 4 3 final 2 no 5".as_slice());
-    text.clear();
-    let mut lines = SegmentLines::new(alloc);
+    is_printed(&rt, rt.alloc(), &told, "prepared 2 4 3 final 2 no 5")
+}
+
+#[test]
+fn a_list_of_segments_is_printed(rt: HostRuntime) -> Result<(), Fail> {
+    let mut lines = SegmentLines::new(rt.alloc());
     lines.push(SegmentLine {
         start: 3,
         end: 5,
         is_final: true,
         epoch: 2,
     })?;
-    print_reply(&Reply::Segments(lines), &mut text)?;
-    assert_eq!(rt; text.as_slice(), b"segments 3 5 final 2".as_slice());
-    text.clear();
+    is_printed(
+        &rt,
+        rt.alloc(),
+        &Reply::Segments(lines),
+        "segments 3 5 final 2",
+    )
+}
+
+#[test]
+fn causes_are_printed(rt: HostRuntime) -> Result<(), Fail> {
+    let mut text = Vec::new(rt.alloc());
     print_cause(&Refusal::EpochRefused { promised: 2 }, &mut text)?;
     text.push(b' ')?;
     print_cause(&Refusal::Down, &mut text)?;

@@ -6,7 +6,7 @@ use journal_core::{Batch, BodyList, SegmentInfo, SegmentLine};
 use qj_disk::{Choice, MemDisk, UntoldDisk};
 use qj_num::Bytes;
 use segment_file::{Given, SegmentRow, read_from};
-use small_files::{Got, GotRecord, NumberFile, PaxosFile};
+use small_files::{Got, NumberFile};
 use std::alloc::{AllocError, Global};
 use std::process::Abort;
 
@@ -116,14 +116,5 @@ pub fn expect_edit(
             }
         }
         _ => panic!(rt; "the edits are read"),
-    }
-}
-
-/// The epoch of the record of the segment from txid 1, 0 where there is none.
-pub fn record_epoch(rt: &impl Abort, alloc: Global, disk: &mut UntoldDisk) -> u64 {
-    match PaxosFile::get(alloc, disk, 1) {
-        GotRecord::Found { epoch, .. } => epoch,
-        GotRecord::Absent => 0,
-        _ => panic!(rt; "a record is read"),
     }
 }

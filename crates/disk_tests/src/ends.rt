@@ -6,6 +6,7 @@ use qj_outside::{
     StdSource, read_all, write_all,
 };
 use std::alloc::{AllocError, Global};
+use std::process::Abort;
 use std::test::Fail;
 
 /// How a reading ended, and the bytes where all were read.
@@ -45,43 +46,49 @@ fn whole_sources_are_read(rt: HostRuntime) -> Result<(), Fail> {
     Ok(())
 }
 
+// How a reading of 200,000 bytes ends, where these calls fail.
+fn long_ending(alloc: Global, failing: &[u64]) -> Result<(Input, Vec<u8>), AllocError> {
+    let bytes = vec![in alloc; 7u8; 200_000]?;
+    let mut source = MemSource::new(bytes.clone()?, failing.to_vec(alloc)?);
+    Ok((read_all(alloc, &mut source, 200_000), bytes))
+}
+
 #[test]
 fn long_sources_are_read_in_pieces(rt: HostRuntime) -> Result<(), Fail> {
-    let alloc = rt.alloc();
-    let bytes = vec![in alloc; 7u8; 200_000]?;
-    let mut source = MemSource::new(bytes.clone()?, vec![in alloc]?);
-    let input = read_all(alloc, &mut source, 200_000);
+    let (input, bytes) = long_ending(rt.alloc(), &[])?;
     let (how, read) = outcome(&input);
     assert_eq!(rt; how, "all");
     assert_eq!(rt; read, bytes.as_slice());
-
-    let mut again = MemSource::new(bytes, [2].to_vec(alloc)?);
-    let input = read_all(alloc, &mut again, 200_000);
-    assert_eq!(rt; outcome(&input).0, "fault", "the third piece fails");
+    let (third, _) = long_ending(rt.alloc(), &[2])?;
+    assert_eq!(rt; outcome(&third).0, "fault", "the third piece fails");
     Ok(())
+}
+
+// A read into two bytes gives these, or fails.
+fn gives(rt: &impl Abort, source: &mut impl Source, want: Option<&[u8]>) {
+    let mut into = [0u8; 2];
+    match source.read(&mut into) {
+        Ok(count) => assert_eq!(rt; Some(&into[..count.min(2)]), want),
+        Err(Failed) => assert_eq!(rt; None, want),
+    }
 }
 
 #[test]
 fn a_source_without_faults_is_read(rt: HostRuntime) -> Result<(), Fail> {
     let mut source = NoFaultSource::new(b"abc".to_vec(rt.alloc())?);
-    let mut into = [0u8; 2];
-    assert_eq!(rt; source.read(&mut into)?, 2);
-    assert_eq!(rt; &into, b"ab");
+    gives(&rt, &mut source, Some(b"ab"));
     let input = read_all(rt.alloc(), &mut source, 100);
     assert_eq!(rt; outcome(&input).1, b"c".as_slice());
-    assert_eq!(rt; source.read(&mut into)?, 0, "at the end");
+    gives(&rt, &mut source, Some(b""));
     Ok(())
 }
 
 #[test]
 fn failed_reads_lose_nothing(rt: HostRuntime) -> Result<(), Fail> {
-    let alloc = rt.alloc();
-    let mut source = MemSource::new(b"abc".to_vec(alloc)?, [1].to_vec(alloc)?);
-    let mut into = [0u8; 2];
-    assert_eq!(rt; source.read(&mut into)?, 2);
-    assert_eq!(rt; source.read(&mut into), Err(Failed));
-    assert_eq!(rt; source.read(&mut into)?, 1);
-    assert_eq!(rt; &into[..1], b"c".as_slice());
+    let mut source = MemSource::new(b"abc".to_vec(rt.alloc())?, [1].to_vec(rt.alloc())?);
+    for want in [Some(b"ab".as_slice()), None, Some(b"c")] {
+        gives(&rt, &mut source, want);
+    }
     Ok(())
 }
 
@@ -108,12 +115,18 @@ fn texts_are_written_until_a_call_fails(rt: HostRuntime) -> Result<(), Fail> {
 
 #[test]
 fn a_sink_fails_in_the_middle_and_goes_on(rt: HostRuntime) -> Result<(), Fail> {
-    let alloc = rt.alloc();
-    let mut sink = MemSink::new(alloc, 5, [1].to_vec(alloc)?)?;
-    assert_eq!(rt; sink.write(b"ab")?, 2);
-    assert_eq!(rt; sink.write(b"cd"), Err(Failed));
-    assert_eq!(rt; sink.write(b"efgh")?, 3, "as much as there is room for");
-    assert_eq!(rt; sink.write(b"i"), Err(Failed), "no room is left");
+    let mut sink = MemSink::new(rt.alloc(), 5, [1].to_vec(rt.alloc())?)?;
+    let writes: [(&[u8], Result<usize, Failed>); 4] = [
+        (b"ab", Ok(2)),
+        (b"cd", Err(Failed)),
+        // As much as there is room for.
+        (b"efgh", Ok(3)),
+        // No room is left.
+        (b"i", Err(Failed)),
+    ];
+    for (bytes, taken) in writes {
+        assert_eq!(rt; sink.write(bytes), taken);
+    }
     assert_eq!(rt; sink.flush(), Ok(()));
     assert_eq!(rt; sink.bytes(), b"abefg".as_slice());
     Ok(())

@@ -1,66 +1,117 @@
 //! A disk over a real folder.
+use crate::disk_steps::DiskStep::{self, Cut, Remove, Rename, Sync, Write};
+use crate::disk_steps::DiskWant::{self, Bytes, Length, Names};
+use crate::disk_steps::{call, tells};
 use qj_disk::{Disk, DiskFail};
 use qj_outside::FolderDisk;
 use std::fs;
 use std::process::Abort;
 use std::test::Fail;
 
-const FOLDER: &str = "folder_disk_test";
-
-/// The file reads as these bytes, of which there are 16 at most.
-fn reads_as(
-    rt: &impl Abort,
-    disk: &mut impl Disk,
-    name: &str,
-    bytes: &[u8],
-) -> Result<(), DiskFail> {
-    let mut into = [0; 16];
-    let count = disk.read(name, 0, &mut into)?.min(16);
-    assert_eq!(rt; &into[..count], bytes, "of {name}");
-    Ok(())
+/// A line of a test: calls that are done or fail, and what is told after them.
+#[derive(Clone, Copy)]
+struct Line<'a> {
+    done: bool,
+    steps: &'a [DiskStep<'a>],
+    wants: &'a [DiskWant<'a>],
 }
 
-/// The disk has these files.
-fn lists(rt: &impl Abort, disk: &mut impl Disk, wanted: &[&str]) -> Result<(), DiskFail> {
-    let names = disk.list()?;
-    assert_eq!(rt; names.len(), wanted.len());
-    for (name, want) in names.iter().zip(wanted.iter()) {
-        assert_eq!(rt; name.as_str(), *want);
+fn call_all<D: Disk>(
+    rt: &impl Abort,
+    disk: &mut D,
+    steps: &[DiskStep],
+    done: bool,
+) -> Result<(), DiskFail>
+    requires { D.tells disk.old → ⊥ }
+    ensures { D.tells disk.new → ⊥ }
+{
+    for (place, step) in steps.iter().enumerate() {
+        assert_eq!(rt; call(disk, step)?, done, "at {place}");
     }
     Ok(())
 }
+
+fn tell_all<D: Disk>(rt: &impl Abort, disk: &mut D, wants: &[DiskWant]) -> Result<(), DiskFail>
+    requires { D.tells disk.old → ⊥ }
+    ensures { D.tells disk.new → ⊥ }
+{
+    for want in wants {
+        tells(rt, disk, want)?;
+    }
+    Ok(())
+}
+
+fn take<D: Disk>(rt: &impl Abort, disk: &mut D, line: &Line) -> Result<(), DiskFail>
+    requires { D.tells disk.old → ⊥ }
+    ensures { D.tells disk.new → ⊥ }
+{
+    call_all(rt, disk, line.steps, line.done)?;
+    tell_all(rt, disk, line.wants)
+}
+
+const FOLDER: &str = "folder_disk_test";
+
+const KEPT: [Line<'static>; 4] = [
+    Line {
+        done: true,
+        steps: &[
+            Write("b.tmp", 0, b"journal"),
+            Write("b.tmp", 5, b"ey"),
+            Write("b.tmp", 7, b".."),
+            Sync("b.tmp"),
+            Rename("b.tmp", "b"),
+            Write("a", 0, b""),
+        ],
+        wants: &[Bytes("b", b"journey..")],
+    },
+    Line {
+        done: true,
+        steps: &[Cut("b", 4)],
+        wants: &[
+            Length("b", Some(4)),
+            Bytes("b", b"jour"),
+            Names(&["a", "b"]),
+        ],
+    },
+    Line {
+        done: false,
+        steps: &[Write("b", 5, b"!"), Write("c", 1, b"!")],
+        wants: &[],
+    },
+    Line {
+        done: true,
+        steps: &[
+            Rename("b", "paxos/7"),
+            Write("paxos/6", 0, b"6"),
+            Sync("paxos/6"),
+        ],
+        wants: &[
+            Names(&["a", "paxos/6", "paxos/7"]),
+            Bytes("paxos/7", b"jour"),
+        ],
+    },
+];
+
+const REMOVED: Line<'static> = Line {
+    done: true,
+    steps: &[Remove("paxos/7")],
+    wants: &[Names(&["a", "paxos/6"])],
+};
 
 #[test]
 fn files_of_a_folder_are_kept(rt: HostRuntime) -> Result<(), Fail> {
     let _ = fs::remove_dir_all(&rt, FOLDER);
     fs::create_dir(&rt, FOLDER)?;
     let mut disk = FolderDisk::new(rt.clone()?, FOLDER)?;
-    disk.write_at("b.tmp", 0, b"journal")?;
-    disk.write_at("b.tmp", 5, b"ey")?;
-    disk.write_at("b.tmp", 7, b"..")?;
-    disk.sync("b.tmp")?;
-    disk.rename("b.tmp", "b")?;
-    disk.write_at("a", 0, b"")?;
-    reads_as(&rt, &mut disk, "b", b"journey..")?;
-    disk.cut("b", 4)?;
-    assert_eq!(rt; disk.length("b")?, Some(4));
-    reads_as(&rt, &mut disk, "b", b"jour")?;
-    lists(&rt, &mut disk, &["a", "b"])?;
-    assert_eq!(rt; disk.write_at("b", 5, b"!"), Err(DiskFail::Failed));
-    assert_eq!(rt; disk.write_at("c", 1, b"!"), Err(DiskFail::Failed));
-    disk.rename("b", "paxos/7")?;
-    disk.write_at("paxos/6", 0, b"6")?;
-    disk.sync("paxos/6")?;
-    lists(&rt, &mut disk, &["a", "paxos/6", "paxos/7"])?;
-    reads_as(&rt, &mut disk, "paxos/7", b"jour")?;
+    for line in &KEPT {
+        take(&rt, &mut disk, line)?;
+    }
     let mut again = FolderDisk::new(rt.clone()?, FOLDER)?;
-    again.remove("paxos/7")?;
-    lists(&rt, &mut disk, &["a", "paxos/6"])?;
+    take(&rt, &mut again, &REMOVED)?;
+    tell_all(&rt, &mut disk, REMOVED.wants)?;
     fs::remove_dir_all(&rt, FOLDER)?;
     Ok(())
 }
-
-const ABSENT: &str = "folder_disk_absent";
 
 #[test]
 fn what_is_no_file_is_absent(rt: HostRuntime) -> Result<(), Fail> {
@@ -74,18 +125,26 @@ fn what_is_no_file_is_absent(rt: HostRuntime) -> Result<(), Fail> {
         "/",
         long.as_str(),
     ] {
-        assert_eq!(rt; here.length(name)?, None, "of {name}");
-        reads_as(&rt, &mut here, name, b"")?;
+        tell_all(&rt, &mut here, &[Length(name, None), Bytes(name, b"")])?;
     }
+    Ok(())
+}
+
+const ABSENT: &str = "folder_disk_absent";
+
+#[test]
+fn an_absent_folder_takes_nothing(rt: HostRuntime) -> Result<(), Fail> {
     let mut absent = FolderDisk::new(rt.clone()?, ABSENT)?;
-    assert_eq!(rt; absent.length("a")?, None);
-    let failed = Err(DiskFail::Failed);
-    assert_eq!(rt; absent.write_at("a", 0, b"1"), failed);
-    assert_eq!(rt; absent.write_at("paxos/1", 0, b"1"), failed);
-    assert_eq!(rt; absent.rename("a", "b"), failed);
-    assert_eq!(rt; absent.remove("a"), failed);
-    assert_eq!(rt; absent.cut("a", 0), failed);
-    assert_eq!(rt; absent.sync("a"), failed);
+    let steps = [
+        Write("a", 0, b"1"),
+        Write("paxos/1", 0, b"1"),
+        Rename("a", "b"),
+        Remove("a"),
+        Cut("a", 0),
+        Sync("a"),
+    ];
+    call_all(&rt, &mut absent, &steps, false)?;
+    tell_all(&rt, &mut absent, &[Length("a", None)])?;
     assert!(rt; absent.list().is_err());
     Ok(())
 }

@@ -4,13 +4,23 @@
 #[cfg(test)]
 mod broken;
 #[cfg(test)]
+mod disk_steps;
+#[cfg(test)]
 mod disks;
 #[cfg(test)]
+mod effects;
+#[cfg(test)]
 mod ends;
+#[cfg(test)]
+mod file_steps;
+#[cfg(test)]
+mod files_opened;
 #[cfg(test)]
 mod folders;
 #[cfg(test)]
 mod memory_disks;
+#[cfg(test)]
+mod node_steps;
 #[cfg(test)]
 mod paired;
 #[cfg(test)]
@@ -25,3 +35,7 @@ mod segments_opened;
 mod sessions;
 #[cfg(test)]
 mod small;
+#[cfg(test)]
+mod steps;
+#[cfg(test)]
+mod wants;

@@ -1,161 +1,137 @@
 //! A disk in memory, read back after calls, faults and crashes.
+use crate::disk_steps::DiskStep::{Cut, Remove, Rename, Sync, Write};
+use crate::disk_steps::DiskWant::{Bytes, Count, IsThere, Length, Names, Part};
 use crate::disks::new_disk;
-use qj_disk::{Choice, Disk, DiskFail, UntoldDisk};
-use std::alloc::Global;
-use std::process::Abort;
+use crate::steps::Fault::{Crash, FailAt, StopAfter};
+use crate::steps::Step::{self, Disk, Fault, Tells};
+use crate::steps::{fail_all, take_all, take_anew};
+use qj_disk::{Choice, Disk as AnyDisk, DiskFail};
 use std::test::Fail;
-
-// The bytes of a file of at most 16.
-fn content(alloc: Global, disk: &mut UntoldDisk, name: &str) -> Result<Option<Vec<u8>>, DiskFail> {
-    let mut into = [0; 16];
-    match disk.length(name)? {
-        None => Ok(None),
-        Some(_) => {
-            let count = disk.read(name, 0, &mut into)?;
-            Ok(Some(Vec::from_slice(alloc, &into[..count.min(16)])?))
-        }
-    }
-}
-
-fn expect_content(
-    rt: &impl Abort,
-    alloc: Global,
-    disk: &mut UntoldDisk,
-    name: &str,
-    want: Option<&[u8]>,
-) -> Result<(), DiskFail> {
-    let got = content(alloc, disk, name)?;
-    match (&got, want) {
-        (Some(got), Some(want)) => assert_eq!(rt; got.as_slice(), want),
-        (None, None) => {}
-        _ => panic!(rt; "a file is there, or isn't"),
-    }
-    Ok(())
-}
 
 #[test]
 fn writes_are_read_back(rt: HostRuntime) -> Result<(), Fail> {
-    let alloc = rt.alloc();
-    let mut disk = new_disk(alloc);
-    assert_eq!(rt; disk.length("a")?, None);
-    disk.write_at("a", 0, b"abcd")?;
-    disk.write_at("a", 2, b"xyz")?;
-    expect_content(&rt, alloc, &mut disk, "a", Some(b"abxyz"))?;
-    let mut into = [0; 2];
-    assert_eq!(rt; disk.read("a", 4, &mut into)?, 1);
-    assert_eq!(rt; disk.read("a", 9, &mut into)?, 0);
-    assert_eq!(rt; disk.read("b", 0, &mut into)?, 0);
-    disk.cut("a", 3)?;
-    disk.write_at("a", 3, b"!")?;
-    expect_content(&rt, alloc, &mut disk, "a", Some(b"abx!"))?;
-    Ok(())
+    let steps = [
+        Tells(Length("a", None)),
+        Disk(Write("a", 0, b"abcd")),
+        Disk(Write("a", 2, b"xyz")),
+        Tells(Bytes("a", b"abxyz")),
+        Tells(Part("a", 4, 2, b"z")),
+        Tells(Part("a", 9, 2, b"")),
+        Tells(Part("b", 0, 2, b"")),
+        Disk(Cut("a", 3)),
+        Disk(Write("a", 3, b"!")),
+        Tells(Bytes("a", b"abx!")),
+    ];
+    take_anew(&rt, rt.alloc(), &steps)
 }
 
 #[test]
 fn names_are_listed_in_byte_order(rt: HostRuntime) -> Result<(), Fail> {
-    let mut disk = new_disk(rt.alloc());
-    for name in ["b", "paxos/1", "a", "ab"] {
-        disk.write_at(name, 0, b"1")?;
-    }
-    disk.rename("b", "c")?;
-    disk.rename("ab", "a")?;
-    let names = disk.list()?;
-    assert_eq!(rt; names.len(), 3);
-    for (name, want) in names.iter().zip(["a", "c", "paxos/1"]) {
-        assert_eq!(rt; name.as_str(), want);
-    }
-    disk.remove("c")?;
-    assert_eq!(rt; disk.list()?.len(), 2);
-    Ok(())
+    let steps = [
+        Disk(Write("b", 0, b"1")),
+        Disk(Write("paxos/1", 0, b"1")),
+        Disk(Write("a", 0, b"1")),
+        Disk(Write("ab", 0, b"1")),
+        Disk(Rename("b", "c")),
+        Disk(Rename("ab", "a")),
+        Tells(Names(&["a", "c", "paxos/1"])),
+        Disk(Remove("c")),
+        Tells(Count(2)),
+    ];
+    take_anew(&rt, rt.alloc(), &steps)
 }
 
 // Two bytes are synced, then one is written over and two are put behind.
-fn unsynced(alloc: Global) -> Result<UntoldDisk, DiskFail> {
-    let mut disk = new_disk(alloc);
-    disk.write_at("a", 0, b"ab")?;
-    disk.sync("a")?;
-    disk.write_at("a", 1, b"xyz")?;
-    disk.cut("a", 3)?;
-    disk.write_at("new", 0, b"n")?;
-    Ok(disk)
-}
+const UNSYNCED: [Step<'static>; 5] = [
+    Disk(Write("a", 0, b"ab")),
+    Disk(Sync("a")),
+    Disk(Write("a", 1, b"xyz")),
+    Disk(Cut("a", 3)),
+    Disk(Write("new", 0, b"n")),
+];
 
 #[test]
 fn a_crash_leaves_what_its_choice_says(rt: HostRuntime) -> Result<(), Fail> {
-    let alloc = rt.alloc();
-    let mut disk = unsynced(alloc)?;
-    disk.disk.crash(Choice::Old);
-    expect_content(&rt, alloc, &mut disk, "a", Some(b"ab"))?;
-    expect_content(&rt, alloc, &mut disk, "new", None)?;
-    let mut disk = unsynced(alloc)?;
-    disk.disk.crash(Choice::New);
-    expect_content(&rt, alloc, &mut disk, "a", Some(b"axy"))?;
-    expect_content(&rt, alloc, &mut disk, "new", Some(b"n"))?;
-    let mut disk = unsynced(alloc)?;
-    disk.disk.crash(Choice::Fill(b'?'));
-    expect_content(&rt, alloc, &mut disk, "a", Some(b"a??"))?;
-    expect_content(&rt, alloc, &mut disk, "new", Some(b"?"))?;
-    disk.disk.crash(Choice::Old);
-    expect_content(&rt, alloc, &mut disk, "a", Some(b"a??"))?;
+    let old = [
+        Fault(Crash(Choice::Old)),
+        Tells(Bytes("a", b"ab")),
+        Tells(IsThere("new", false)),
+    ];
+    let new = [
+        Fault(Crash(Choice::New)),
+        Tells(Bytes("a", b"axy")),
+        Tells(Bytes("new", b"n")),
+    ];
+    let filled = [
+        Fault(Crash(Choice::Fill(b'?'))),
+        Tells(Bytes("a", b"a??")),
+        Tells(Bytes("new", b"?")),
+        Fault(Crash(Choice::Old)),
+        Tells(Bytes("a", b"a??")),
+    ];
+    for seen in [old.as_slice(), new.as_slice(), filled.as_slice()] {
+        let mut disk = new_disk(rt.alloc());
+        take_all(&rt, rt.alloc(), &mut disk, &UNSYNCED)?;
+        take_all(&rt, rt.alloc(), &mut disk, seen)?;
+    }
     Ok(())
 }
 
 #[test]
 fn synced_bytes_renames_and_removals_stay(rt: HostRuntime) -> Result<(), Fail> {
-    let alloc = rt.alloc();
-    let mut disk = new_disk(alloc);
-    disk.write_at("a.tmp", 0, b"1")?;
-    disk.write_at("gone", 0, b"2")?;
-    disk.sync("a.tmp")?;
-    disk.sync("gone")?;
-    disk.rename("a.tmp", "a")?;
-    disk.remove("gone")?;
-    disk.disk.crash(Choice::Old);
-    expect_content(&rt, alloc, &mut disk, "a", Some(b"1"))?;
-    expect_content(&rt, alloc, &mut disk, "a.tmp", None)?;
-    expect_content(&rt, alloc, &mut disk, "gone", None)?;
-    Ok(())
+    let steps = [
+        Disk(Write("a.tmp", 0, b"1")),
+        Disk(Write("gone", 0, b"2")),
+        Disk(Sync("a.tmp")),
+        Disk(Sync("gone")),
+        Disk(Rename("a.tmp", "a")),
+        Disk(Remove("gone")),
+        Fault(Crash(Choice::Old)),
+        Tells(Bytes("a", b"1")),
+        Tells(Names(&["a"])),
+    ];
+    take_anew(&rt, rt.alloc(), &steps)
 }
 
 #[test]
 fn listed_calls_fail_and_do_nothing(rt: HostRuntime) -> Result<(), Fail> {
-    let alloc = rt.alloc();
-    let mut disk = new_disk(alloc);
-    disk.disk.fail_at(vec![in alloc; 1, 2]?);
-    disk.write_at("a", 0, b"1")?;
-    assert_eq!(rt; disk.write_at("a", 0, b"2"), Err(DiskFail::Failed));
+    let mut disk = new_disk(rt.alloc());
+    let first = [Fault(FailAt(&[1, 2])), Disk(Write("a", 0, b"1"))];
+    take_all(&rt, rt.alloc(), &mut disk, &first)?;
+    fail_all(&rt, rt.alloc(), &mut disk, &[Disk(Write("a", 0, b"2"))])?;
     assert_eq!(rt; disk.length("a"), Err(DiskFail::Failed));
-    expect_content(&rt, alloc, &mut disk, "a", Some(b"1"))?;
-    Ok(())
+    take_all(&rt, rt.alloc(), &mut disk, &[Tells(Bytes("a", b"1"))])
 }
 
 #[test]
 fn after_its_last_call_a_disk_fails_until_it_crashes(rt: HostRuntime) -> Result<(), Fail> {
-    let alloc = rt.alloc();
-    let mut disk = new_disk(alloc);
-    disk.disk.stop_after(2);
-    disk.write_at("a", 0, b"1")?;
-    disk.sync("a")?;
-    assert_eq!(rt; disk.write_at("a", 0, b"2"), Err(DiskFail::Failed));
-    assert_eq!(rt; disk.remove("a"), Err(DiskFail::Failed));
-    disk.disk.crash(Choice::New);
-    expect_content(&rt, alloc, &mut disk, "a", Some(b"1"))?;
-    Ok(())
+    let mut disk = new_disk(rt.alloc());
+    let first = [
+        Fault(StopAfter(2)),
+        Disk(Write("a", 0, b"1")),
+        Disk(Sync("a")),
+    ];
+    let failing = [Disk(Write("a", 0, b"2")), Disk(Remove("a"))];
+    take_all(&rt, rt.alloc(), &mut disk, &first)?;
+    fail_all(&rt, rt.alloc(), &mut disk, &failing)?;
+    let seen = [Fault(Crash(Choice::New)), Tells(Bytes("a", b"1"))];
+    take_all(&rt, rt.alloc(), &mut disk, &seen)
 }
 
 #[test]
 fn what_isnt_there_is_refused(rt: HostRuntime) -> Result<(), Fail> {
-    let mut disk = new_disk(rt.alloc());
-    assert_eq!(rt; disk.write_at("a", 1, b"1"), Err(DiskFail::Failed));
-    assert_eq!(rt; disk.cut("a", 0), Err(DiskFail::Failed));
-    assert_eq!(rt; disk.sync("a"), Err(DiskFail::Failed));
-    assert_eq!(rt; disk.rename("a", "b"), Err(DiskFail::Failed));
-    assert_eq!(rt; disk.remove("a"), Err(DiskFail::Failed));
-    Ok(())
+    let steps = [
+        Disk(Write("a", 1, b"1")),
+        Disk(Cut("a", 0)),
+        Disk(Sync("a")),
+        Disk(Rename("a", "b")),
+        Disk(Remove("a")),
+    ];
+    fail_all(&rt, rt.alloc(), &mut new_disk(rt.alloc()), &steps)
 }
 
 // Writes a file, syncs it and tells its length, of any disk.
-fn stored_length<D: Disk + Drop>(mut disk: D, bytes: &[u8]) -> Result<Option<u64>, DiskFail>
+fn stored_length<D: AnyDisk + Drop>(mut disk: D, bytes: &[u8]) -> Result<Option<u64>, DiskFail>
     requires { D.tells disk → ⊥ }
 {
     disk.write_at("a", 0, bytes)?;
@@ -165,9 +141,7 @@ fn stored_length<D: Disk + Drop>(mut disk: D, bytes: &[u8]) -> Result<Option<u64
 
 #[test]
 fn a_lent_disk_is_the_disk(rt: HostRuntime) -> Result<(), Fail> {
-    let alloc = rt.alloc();
-    let mut disk = new_disk(alloc);
+    let mut disk = new_disk(rt.alloc());
     assert_eq!(rt; stored_length(&mut disk, b"abcd")?, Some(4));
-    expect_content(&rt, alloc, &mut disk, "a", Some(b"abcd"))?;
-    Ok(())
+    take_all(&rt, rt.alloc(), &mut disk, &[Tells(Bytes("a", b"abcd"))])
 }

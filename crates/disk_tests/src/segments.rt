@@ -1,14 +1,17 @@
 //! Segment files over a disk that doesn't tell its bytes, that fails, is stopped and crashes.
-ghost use Rattle.std.specs.Prelude.{◌≤◌};
-
-use crate::disks::{PROGRESS, choices, expect_edit, line, new_disk, one, record_epoch};
-use qj_disk::{Choice, Disk, UntoldDisk};
-use segment_file::{
-    Appended, FileKind, Given, append, append_behind_gate, create, discard, file_named, finalize,
-    read_from, replace, replace_again, sync_all,
+use crate::disk_steps::DiskStep::{Sync, Write};
+use crate::disk_steps::DiskWant::{Count, IsNot, IsThere, Length, Part};
+use crate::disks::{PROGRESS, choices, new_disk};
+use crate::file_steps::SegmentStep::{
+    Append, AppendBehindGate, Create, Discard, Finalize, Replace, ReplaceAgain, SyncAll,
 };
-use small_files::Put;
-use std::alloc::{AllocError, Global};
+use crate::steps::Fault::{Crash, FailAt};
+use crate::steps::Step::{self, Disk, Fault, Sees, Segment, Tells};
+use crate::steps::{Stops, fail_all, stop_at_each, take_all, take_anew, whole_at};
+use crate::wants::Want::{Edit, NoEdit, PutInPlace, Record};
+use qj_disk::{Choice, UntoldDisk};
+use segment_file::{FileKind, file_named};
+use std::alloc::Global;
 use std::process::Abort;
 use std::test::Fail;
 
@@ -18,262 +21,266 @@ pub const FINAL: &str = "edits_0000000000000000001-0000000000000000002";
 /// The file of that segment while it is accepted under epoch 2.
 pub const UNDER_WAY: &str = "edits_inprogress_0000000000000000001.epoch=2";
 
-/// A disk with the segment from txid 1 under epoch 1, in progress, that holds the edits 18 and 0a.
-pub fn two_edits(rt: &impl Abort, alloc: Global) -> Result<UntoldDisk, AllocError> {
-    let mut disk = new_disk(alloc);
-    assert_eq!(rt; create(alloc, &mut disk, 1, 1), Put::Done);
-    let first = one(rt, alloc, 1, b"\x18")?;
-    assert_eq!(rt;
-        append(alloc, &mut disk, 1, 24, &first),
-        Appended::Done { at: 44 }
-    );
-    let second = one(rt, alloc, 2, b"\x0a")?;
-    assert_eq!(rt;
-        append(alloc, &mut disk, 1, 44, &second),
-        Appended::Done { at: 64 }
-    );
-    Ok(disk)
-}
+/// The segment from txid 1 under epoch 1, in progress, gets the edits 18 and 0a.
+pub const TWO_EDITS: [Step<'static>; 3] = [
+    Segment(Create(1, 1)),
+    Segment(Append(1, 24, 1, b"\x18")),
+    Segment(Append(1, 44, 2, b"\x0a")),
+];
 
-/// No edit is read from the txid `from` on, since the file ends or is damaged before it.
-pub fn expect_no_edit(rt: &impl Abort, alloc: Global, disk: &mut UntoldDisk, from: u64)
-    requires low { 1 ≤ from }
-    requires high { from ≤ 2 }
-{
-    match read_from(alloc, disk, &line(2, false), from) {
-        Given::BadFile { name } => {
-            assert_eq!(rt; name.as_slice(), PROGRESS.as_bytes());
-        }
-        _ => panic!(rt; "the file has no such edit"),
-    }
+/// A disk with that segment.
+pub fn two_edits(rt: &impl Abort, alloc: Global) -> Result<UntoldDisk, Fail> {
+    let mut disk = new_disk(alloc);
+    take_all(rt, alloc, &mut disk, &TWO_EDITS)?;
+    Ok(disk)
 }
 
 #[test]
 fn an_append_behind_a_gate_is_all_or_nothing(rt: HostRuntime) -> Result<(), Fail> {
-    let alloc = rt.alloc();
-    for calls in 0..5 {
-        for choice in choices() {
-            let mut disk = new_disk(alloc);
-            disk.write_at("a", 0, b"ab\x00")?;
-            disk.sync("a")?;
-            disk.disk.stop_after(calls);
-            let done = append_behind_gate(&mut disk, "a", 2, b"cd\x00");
-            assert_eq!(rt; done.is_ok(), calls == 4);
-            disk.disk.crash(choice);
-            let is_open = calls == 4
-                || calls == 3 && matches!(choice, Choice::New | Choice::Fill(0xa5));
-            let mut bytes = [0; 6];
-            let _count = disk.read("a", 0, &mut bytes)?;
-            assert_eq!(rt; bytes[0], b'a');
-            assert_eq!(rt; bytes[1], b'b');
-            assert_eq!(rt; bytes[2] == 0xa5, is_open);
-            assert_eq!(rt; !is_open || bytes[3] == b'c' && bytes[4] == b'd', true);
-        }
-    }
-    Ok(())
+    stop_at_each(
+        &rt,
+        rt.alloc(),
+        &[Disk(Write("a", 0, b"ab\x00")), Disk(Sync("a"))],
+        &Segment(AppendBehindGate("a", 2, b"cd\x00")),
+        Stops {
+            calls: 4,
+            decided: 4,
+            by_choice: true,
+        },
+        &[Tells(Part("a", 0, 5, b"ab\xa5cd"))],
+        &[Tells(Part("a", 0, 2, b"ab")), Tells(IsNot("a", 2, 0xa5))],
+    )
 }
 
 #[test]
 fn a_segment_begins_at_its_third_call(rt: HostRuntime) -> Result<(), Fail> {
-    let alloc = rt.alloc();
-    for calls in 0..4 {
-        for choice in choices() {
-            let mut disk = new_disk(alloc);
-            disk.disk.stop_after(calls);
-            let done = create(alloc, &mut disk, 1, 1);
-            assert_eq!(rt; done == Put::Done, calls == 3);
-            disk.disk.crash(choice);
-            assert_eq!(rt; disk.length(PROGRESS)?.is_some(), calls == 3);
-            expect_no_edit(&rt, alloc, &mut disk, 1);
-        }
-    }
-    Ok(())
+    stop_at_each(
+        &rt,
+        rt.alloc(),
+        &[],
+        &Segment(Create(1, 1)),
+        whole_at(3),
+        &[Tells(IsThere(PROGRESS, true)), Sees(NoEdit(1))],
+        &[Tells(IsThere(PROGRESS, false)), Sees(NoEdit(1))],
+    )
 }
 
 #[test]
 fn an_append_stands_behind_its_gate(rt: HostRuntime) -> Result<(), Fail> {
-    let alloc = rt.alloc();
-    for calls in 0..5 {
-        for choice in choices() {
-            let mut disk = new_disk(alloc);
-            assert_eq!(rt; create(alloc, &mut disk, 1, 1), Put::Done);
-            let batch = one(&rt, alloc, 1, b"\x18")?;
-            disk.disk.stop_after(calls);
-            let done = append(alloc, &mut disk, 1, 24, &batch);
-            assert_eq!(rt; done == Appended::Done { at: 44 }, calls == 4);
-            disk.disk.crash(choice);
-            if calls == 4 || calls == 3 && matches!(choice, Choice::New | Choice::Fill(0xa5)) {
-                expect_edit(&rt, alloc, &mut disk, &line(2, false), 1, b"\x18");
-            } else {
-                expect_no_edit(&rt, alloc, &mut disk, 1);
-            }
-        }
+    stop_at_each(
+        &rt,
+        rt.alloc(),
+        &[Segment(Create(1, 1))],
+        &Segment(Append(1, 24, 1, b"\x18")),
+        Stops {
+            calls: 4,
+            decided: 4,
+            by_choice: true,
+        },
+        &[Sees(Edit(2, false, 1, b"\x18"))],
+        &[Sees(NoEdit(1))],
+    )
+}
+
+#[test]
+fn a_segment_is_final_at_one_call(rt: HostRuntime) -> Result<(), Fail> {
+    stop_at_each(
+        &rt,
+        rt.alloc(),
+        &TWO_EDITS,
+        &Segment(Finalize(1, 2)),
+        whole_at(1),
+        &[Tells(IsThere(FINAL, true)), Sees(Edit(2, true, 2, b"\x0a"))],
+        &[
+            Tells(IsThere(FINAL, false)),
+            Sees(Edit(2, false, 2, b"\x0a")),
+        ],
+    )
+}
+
+// A removal takes one call.
+fn discard_at_each(
+    rt: &impl Abort,
+    alloc: Global,
+    before: &[Step],
+    is_final: bool,
+) -> Result<(), Fail> {
+    stop_at_each(
+        rt,
+        alloc,
+        before,
+        &Segment(Discard(2, is_final)),
+        whole_at(1),
+        &[Tells(Count(0))],
+        &[Tells(Count(1)), Sees(Edit(2, is_final, 2, b"\x0a"))],
+    )
+}
+
+#[test]
+fn a_segment_in_progress_is_gone_at_one_call(rt: HostRuntime) -> Result<(), Fail> {
+    for choice in choices() {
+        let crashed = [
+            Segment(Create(1, 1)),
+            Segment(Append(1, 24, 1, b"\x18")),
+            Segment(Append(1, 44, 2, b"\x0a")),
+            Fault(Crash(choice)),
+        ];
+        discard_at_each(&rt, rt.alloc(), &crashed, false)?;
     }
     Ok(())
 }
 
 #[test]
-fn a_segment_is_final_or_gone_at_one_call(rt: HostRuntime) -> Result<(), Fail> {
-    let alloc = rt.alloc();
-    for calls in 0..2 {
-        for choice in choices() {
-            let mut disk = two_edits(&rt, alloc)?;
-            disk.disk.stop_after(calls);
-            assert_eq!(rt; finalize(alloc, &mut disk, 1, 2) == Put::Done, calls == 1);
-            disk.disk.crash(choice);
-            assert_eq!(rt; disk.length(FINAL)?.is_some(), calls == 1);
-            expect_edit(&rt, alloc, &mut disk, &line(2, calls == 1), 2, b"\x0a");
-            disk.disk.stop_after(calls);
-            assert_eq!(rt;
-                discard(alloc, &mut disk, &line(2, calls == 1)) == Put::Done,
-                calls == 1
-            );
-            disk.disk.crash(choice);
-            assert_eq!(rt; disk.list()?.is_empty(), calls == 1);
-        }
+fn a_final_segment_is_gone_at_one_call(rt: HostRuntime) -> Result<(), Fail> {
+    for choice in choices() {
+        let crashed = [
+            Segment(Create(1, 1)),
+            Segment(Append(1, 24, 1, b"\x18")),
+            Segment(Append(1, 44, 2, b"\x0a")),
+            Segment(Finalize(1, 2)),
+            Fault(Crash(choice)),
+        ];
+        discard_at_each(&rt, rt.alloc(), &crashed, true)?;
     }
     Ok(())
 }
 
 #[test]
 fn an_acceptance_stands_at_its_fifth_call(rt: HostRuntime) -> Result<(), Fail> {
-    let alloc = rt.alloc();
-    for calls in 0..7 {
-        for choice in choices() {
-            let mut disk = two_edits(&rt, alloc)?;
-            let batch = one(&rt, alloc, 1, b"\x07")?;
-            disk.disk.stop_after(calls);
-            assert_eq!(rt;
-                replace(alloc, &mut disk, 2, &batch) == Put::Done,
-                calls == 6
-            );
-            disk.disk.crash(choice);
-            let counts = record_epoch(&rt, alloc, &mut disk) == 2;
-            assert_eq!(rt; counts, calls >= 5);
-            if counts && disk.length(UNDER_WAY)?.is_some() {
-                disk.rename(UNDER_WAY, PROGRESS)?;
-            }
-            if counts {
-                expect_edit(&rt, alloc, &mut disk, &line(2, false), 1, b"\x07");
-                expect_no_edit(&rt, alloc, &mut disk, 2);
-            } else {
-                expect_edit(&rt, alloc, &mut disk, &line(2, false), 1, b"\x18");
-                expect_edit(&rt, alloc, &mut disk, &line(2, false), 2, b"\x0a");
-            }
-        }
-    }
-    Ok(())
+    stop_at_each(
+        &rt,
+        rt.alloc(),
+        &TWO_EDITS,
+        &Segment(Replace(2, 1, b"\x07")),
+        Stops {
+            calls: 6,
+            decided: 5,
+            by_choice: false,
+        },
+        &[
+            Sees(Record(1, Some((2, 1)))),
+            Sees(PutInPlace(UNDER_WAY)),
+            Sees(Edit(2, false, 1, b"\x07")),
+            Sees(NoEdit(2)),
+        ],
+        &[
+            Sees(Record(1, None)),
+            Sees(Edit(2, false, 1, b"\x18")),
+            Sees(Edit(2, false, 2, b"\x0a")),
+        ],
+    )
 }
+
+/// The same with an acceptance after them.
+const REPLACED: [Step<'static>; 4] = [
+    Segment(Create(1, 1)),
+    Segment(Append(1, 24, 1, b"\x18")),
+    Segment(Append(1, 44, 2, b"\x0a")),
+    Segment(Replace(2, 1, b"\x07")),
+];
 
 #[test]
 fn a_repeated_acceptance_stands_at_its_third_call(rt: HostRuntime) -> Result<(), Fail> {
-    let alloc = rt.alloc();
-    for calls in 0..4 {
-        for choice in choices() {
-            let mut disk = two_edits(&rt, alloc)?;
-            let batch = one(&rt, alloc, 1, b"\x07")?;
-            assert_eq!(rt; replace(alloc, &mut disk, 2, &batch), Put::Done);
-            let again = one(&rt, alloc, 1, b"\x08")?;
-            disk.disk.stop_after(calls);
-            assert_eq!(rt;
-                replace_again(alloc, &mut disk, 2, &again) == Put::Done,
-                calls == 3
-            );
-            disk.disk.crash(choice);
-            if calls == 3 {
-                expect_edit(&rt, alloc, &mut disk, &line(2, false), 1, b"\x08");
-            } else {
-                expect_edit(&rt, alloc, &mut disk, &line(2, false), 1, b"\x07");
-            }
-        }
-    }
-    Ok(())
+    stop_at_each(
+        &rt,
+        rt.alloc(),
+        &REPLACED,
+        &Segment(ReplaceAgain(2, 1, b"\x08")),
+        whole_at(3),
+        &[Sees(Edit(2, false, 1, b"\x08"))],
+        &[Sees(Edit(2, false, 1, b"\x07"))],
+    )
+}
+
+// The line fails, and is done when it is taken again.
+fn go_on(
+    rt: &impl Abort,
+    alloc: Global,
+    disk: &mut UntoldDisk,
+    failing: u64,
+    step: Step,
+) -> Result<(), Fail> {
+    take_all(rt, alloc, disk, &[Fault(FailAt(&[failing]))])?;
+    fail_all(rt, alloc, disk, &[step])?;
+    take_all(rt, alloc, disk, &[step])
 }
 
 #[test]
 fn calls_go_on_after_one_that_failed(rt: HostRuntime) -> Result<(), Fail> {
-    let alloc = rt.alloc();
     for failing in 0..3 {
-        let mut disk = new_disk(alloc);
-        disk.disk.fail_at(vec![in alloc; failing]?);
-        assert_eq!(rt; create(alloc, &mut disk, 1, 1), Put::DiskFault);
-        assert_eq!(rt; create(alloc, &mut disk, 1, 1), Put::Done);
-        let batch = one(&rt, alloc, 1, b"\x18")?;
-        disk.disk.fail_at(vec![in alloc; failing]?);
-        assert_eq!(rt;
-            append(alloc, &mut disk, 1, 24, &batch),
-            Appended::DiskFault
-        );
-        assert_eq!(rt;
-            append(alloc, &mut disk, 1, 24, &batch),
-            Appended::Done { at: 44 }
-        );
-        expect_edit(&rt, alloc, &mut disk, &line(2, false), 1, b"\x18");
-        disk.disk.fail_at(vec![in alloc; 0]?);
-        assert_eq!(rt; finalize(alloc, &mut disk, 1, 1), Put::DiskFault);
-        assert_eq!(rt; finalize(alloc, &mut disk, 1, 1), Put::Done);
+        let mut disk = new_disk(rt.alloc());
+        go_on(&rt, rt.alloc(), &mut disk, failing, Segment(Create(1, 1)))?;
+        let append = Segment(Append(1, 24, 1, b"\x18"));
+        go_on(&rt, rt.alloc(), &mut disk, failing, append)?;
+        let seen = [Sees(Edit(2, false, 1, b"\x18"))];
+        take_all(&rt, rt.alloc(), &mut disk, &seen)?;
+        go_on(&rt, rt.alloc(), &mut disk, 0, Segment(Finalize(1, 1)))?;
     }
     Ok(())
 }
 
 #[test]
 fn a_bad_file_is_told_by_its_name(rt: HostRuntime) -> Result<(), Fail> {
-    let alloc = rt.alloc();
-    let mut disk = two_edits(&rt, alloc)?;
-    disk.write_at(PROGRESS, 63, b"\x00")?;
-    expect_edit(&rt, alloc, &mut disk, &line(2, false), 2, b"\x00");
-    disk.write_at(PROGRESS, 60, b"\x00")?;
-    expect_no_edit(&rt, alloc, &mut disk, 1);
-    Ok(())
+    let mut disk = two_edits(&rt, rt.alloc())?;
+    let steps = [
+        Disk(Write(PROGRESS, 63, b"\x00")),
+        Sees(Edit(2, false, 2, b"\x00")),
+        Disk(Write(PROGRESS, 60, b"\x00")),
+        Sees(NoEdit(1)),
+    ];
+    take_all(&rt, rt.alloc(), &mut disk, &steps)
 }
 
 #[test]
 fn files_are_told_by_their_names(rt: HostRuntime) {
-    assert_eq!(rt;
-        file_named(PROGRESS.as_bytes()),
-        Some((1, FileKind::InProgress))
-    );
-    assert_eq!(rt;
-        file_named(FINAL.as_bytes()),
-        Some((1, FileKind::Final { last: 2 }))
-    );
-    assert_eq!(rt;
-        file_named(UNDER_WAY.as_bytes()),
-        Some((1, FileKind::UnderWay { epoch: 2 }))
-    );
-    assert_eq!(rt;
-        file_named(b"paxos/0000000000000000301"),
-        Some((301, FileKind::Record))
-    );
-    assert_eq!(rt;
-        file_named(b"edits_inprogress_0000000000000000301.new"),
-        Some((301, FileKind::Fresh))
-    );
+    let cases: [(&str, u64, FileKind); 5] = [
+        (PROGRESS, 1, FileKind::InProgress),
+        (FINAL, 1, FileKind::Final { last: 2 }),
+        (UNDER_WAY, 1, FileKind::UnderWay { epoch: 2 }),
+        ("paxos/0000000000000000301", 301, FileKind::Record),
+        (
+            "edits_inprogress_0000000000000000301.new",
+            301,
+            FileKind::Fresh,
+        ),
+    ];
+    for (name, start, kind) in cases {
+        assert_eq!(rt;
+            file_named(name.as_bytes()),
+            Some((start, kind)),
+            "of {name}"
+        );
+    }
+}
+
+#[test]
+fn other_names_tell_no_file(rt: HostRuntime) {
     for name in [
-        b"committed-txid".as_slice(),
-        b"edits_inprogress_0000000000000000000",
-        b"edits_inprogress_4611686018427387905",
-        b"edits_inprogress_0000000000000000001.epoch=02",
-        b"edits_inprogress_0000000000000000001.epoch=0",
-        b"edits_0000000000000000002-0000000000000000001",
-        b"edits_0000000000000000002-0000000000000000003x",
-        b"paxos/0000000000000000301.tmp",
-        b"paxos/301",
+        "committed-txid",
+        "edits_inprogress_0000000000000000000",
+        "edits_inprogress_4611686018427387905",
+        "edits_inprogress_0000000000000000001.epoch=02",
+        "edits_inprogress_0000000000000000001.epoch=0",
+        "edits_0000000000000000002-0000000000000000001",
+        "edits_0000000000000000002-0000000000000000003x",
+        "paxos/0000000000000000301.tmp",
+        "paxos/301",
     ] {
-        assert_eq!(rt; file_named(name), None);
+        assert_eq!(rt; file_named(name.as_bytes()), None, "of {name}");
     }
 }
 
 #[test]
 fn all_files_are_synced_but_temporary_ones(rt: HostRuntime) -> Result<(), Fail> {
-    let mut disk = new_disk(rt.alloc());
-    disk.write_at("a", 0, b"1")?;
-    disk.write_at("b.tmp", 0, b"1")?;
-    disk.write_at("c.new", 0, b"1")?;
-    sync_all(&mut disk)?;
-    disk.disk.crash(Choice::Old);
-    assert_eq!(rt; disk.length("a")?, Some(1));
-    assert_eq!(rt; disk.length("b.tmp")?, None);
-    assert_eq!(rt; disk.length("c.new")?, None);
-    Ok(())
+    let steps = [
+        Disk(Write("a", 0, b"1")),
+        Disk(Write("b.tmp", 0, b"1")),
+        Disk(Write("c.new", 0, b"1")),
+        Segment(SyncAll),
+        Fault(Crash(Choice::Old)),
+        Tells(Length("a", Some(1))),
+        Tells(Length("b.tmp", None)),
+        Tells(Length("c.new", None)),
+    ];
+    take_anew(&rt, rt.alloc(), &steps)
 }

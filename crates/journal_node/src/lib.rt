@@ -4,34 +4,18 @@
 mod acting;
 mod acting_reads;
 mod acting_stops;
-#[cfg(test)]
-mod acting_tests;
 mod as_cut_node;
 mod as_node;
-#[cfg(test)]
-mod cut_tests;
 mod cutting;
 mod deeds_done;
 mod doing;
 mod doing_laws;
-#[cfg(test)]
-mod doing_tests;
 mod following;
 mod journal_node;
 mod node_opening;
 mod open_fail;
 mod state_examples;
 mod state_laws;
-#[cfg(test)]
-mod table_tests;
-#[cfg(test)]
-mod test_answers;
-#[cfg(test)]
-mod test_cases;
-#[cfg(test)]
-mod test_nodes;
-#[cfg(test)]
-mod test_requests;
 
 pub use deeds_done::do_deeds;
 pub use doing::do_deed;

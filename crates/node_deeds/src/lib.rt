@@ -10,8 +10,6 @@ mod memory;
 mod refusals;
 mod replies;
 mod serving;
-#[cfg(test)]
-mod tests;
 
 pub use applying::apply;
 pub use deed::Deed;

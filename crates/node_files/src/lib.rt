@@ -13,11 +13,7 @@ mod node_numbers;
 mod numbers;
 mod opened;
 mod opening;
-#[cfg(test)]
-mod opening_tests;
 mod removing;
-#[cfg(test)]
-mod tests;
 pub mod worked;
 
 pub use accepting::accept_edits;

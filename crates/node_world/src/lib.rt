@@ -16,8 +16,6 @@ mod node_cell;
 mod record;
 mod seen;
 mod stop;
-#[cfg(test)]
-mod tests;
 mod world;
 
 pub use arming::Arming;

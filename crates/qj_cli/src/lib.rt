@@ -11,8 +11,6 @@ mod listing;
 mod outcome;
 mod serving;
 mod status;
-#[cfg(test)]
-mod tests;
 mod tool;
 mod top;
 mod usage;

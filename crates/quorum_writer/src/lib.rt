@@ -9,10 +9,6 @@ mod purging;
 mod quorum;
 mod rolled;
 mod taken;
-#[cfg(test)]
-mod tests;
-#[cfg(test)]
-mod writer_tests;
 
 pub use closed::Closed;
 pub use logged::Logged;

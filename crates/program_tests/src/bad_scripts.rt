@@ -1,0 +1,46 @@
+//! Scripts that break a rule.
+use crate::program::{plays, report_of};
+use qj_cli::Status;
+use std::test::Fail;
+
+#[test]
+fn bad_scripts_are_refused(rt: HostRuntime) -> Result<(), Fail> {
+    let cases: [(&[u8], &[u8]); 18] = [
+        (b"", b"error BadScript 1 1\n"),
+        (b"raw 16\n", b"error BadScript 1 1\n"),
+        (b"names 3\n", b"error BadScript 1 1\n"),
+        (b"raw 3\nwriter a\ntakeo", b"error BadScript 3 10\n"),
+        (b"raw 3\nfoo\n", b"error BadScript 2 2\n"),
+        (b"raw 3\nraw 3\n", b"error BadScript 2 2\n"),
+        (b"raw 3\ncut 1 1 3 old\n", b"error BadScript 2 2\n"),
+        (b"raw 3\nwriter a\n takeover a\n", b"error BadScript 3 3\n"),
+        (b"raw 3\nwriter ops\n", b"error BadScript 2 4\n"),
+        (b"raw 3\ntakeover a\n", b"error BadScript 2 5\n"),
+        (b"raw 3\nwriter a\nwriter a\n", b"error BadScript 3 6\n"),
+        (b"raw 3\nkill 4\n", b"error BadScript 2 7\n"),
+        (b"raw 3\nwriter a\ndrop a 1 0\n", b"error BadScript 3 7\n"),
+        (b"raw 3\nstop 1 0 2\n", b"error BadScript 2 7\n"),
+        (b"raw 3\npurge a x\n", b"error BadScript 2 5\n"),
+        (b"raw 3\nwriter a\nlog a 0\n", b"error BadScript 3 8\n"),
+        (b"raw 3\nwriter a\nlog a 0A\n", b"error BadScript 3 8\n"),
+        (
+            b"raw 1\nwriter a\nwriter b\nwriter c\nwriter d\nwriter e\nwriter f\nwriter g\nwriter h\nwriter i\n",
+            b"error BadScript 10 11\n",
+        ),
+    ];
+    for (script, line) in cases {
+        plays(&rt, rt.alloc(), script, Status::BadScript, line)?;
+    }
+    Ok(())
+}
+
+#[test]
+fn eight_writers_are_played(rt: HostRuntime) -> Result<(), Fail> {
+    let report = report_of(
+        &rt,
+        rt.alloc(),
+        b"raw 1\nwriter a\nwriter b\nwriter c\nwriter d\nwriter e\nwriter f\nwriter g\nwriter h\n",
+    )?;
+    assert!(rt; report.ends_with(b"actor g\nactor h\nend\n"));
+    Ok(())
+}

@@ -1,0 +1,15 @@
+//! Tests of the program over memory: its words, plays, listings and nodes.
+#![tactic(auto)]
+
+#[cfg(test)]
+mod bad_scripts;
+#[cfg(test)]
+mod known_scripts;
+#[cfg(test)]
+mod listings;
+#[cfg(test)]
+mod node_faults;
+#[cfg(test)]
+mod nodes;
+#[cfg(test)]
+mod program;
