@@ -8,7 +8,7 @@ use edit_ops::{Call, ReadText, read_text};
 use ns_replay::{AdmitRefusal, admit};
 use ns_tree::Namespace;
 use qj_num::OutOfMemory;
-use std::alloc::Global;
+use std::alloc::{AllocError, Global};
 use std::test::Fail;
 
 /// The text of an edit, and why it isn't admitted.
@@ -168,13 +168,14 @@ pub enum Told {
     NoEdit,
 }
 
-pub fn told_of(alloc: Global, tree: &Namespace, text: &str) -> Told {
+pub fn told_of(alloc: Global, tree: &Namespace, text: &str) -> Result<Told, OutOfMemory> {
     match read_text(alloc, text.as_bytes()) {
         ReadText::Edit(edit) => match admit(tree, &edit) {
-            Ok(()) => Told::Admitted,
-            Err(refusal) => Told::Refused(refusal),
+            Ok(()) => Ok(Told::Admitted),
+            Err(refusal) => Ok(Told::Refused(refusal)),
         },
-        ReadText::BadText | ReadText::OutOfMemory => Told::NoEdit,
+        ReadText::BadText => Ok(Told::NoEdit),
+        ReadText::OutOfMemory => Err(AllocError),
     }
 }
 
@@ -218,7 +219,7 @@ fn first_wrong(alloc: Global, cases: &[Refused]) -> Result<Option<usize>, OutOfM
     let tree = small_tree(alloc)?;
     for i in 0..cases.len() {
         let (text, refusal) = cases[i];
-        if told_of(alloc, &tree, text) != Told::Refused(refusal) {
+        if told_of(alloc, &tree, text)? != Told::Refused(refusal) {
             return Ok(Some(i));
         }
     }
@@ -271,7 +272,7 @@ fn concats_are_judged(rt: HostRuntime) -> Result<(), Fail> {
 fn edits_at_the_edges_are_admitted(rt: HostRuntime) -> Result<(), Fail> {
     let tree = small_tree(rt.alloc())?;
     for text in ADMITTED {
-        assert_eq!(rt; told_of(rt.alloc(), &tree, text), Told::Admitted, "{text}");
+        assert_eq!(rt; told_of(rt.alloc(), &tree, text)?, Told::Admitted, "{text}");
     }
     Ok(())
 }
@@ -301,7 +302,7 @@ fn a_repeated_call_is_told_first(rt: HostRuntime) -> Result<(), Fail> {
         ),
         ("delete / 1", Told::Refused(Root)),
     ] {
-        assert_eq!(rt; told_of(rt.alloc(), &tree, text), told, "{text}");
+        assert_eq!(rt; told_of(rt.alloc(), &tree, text)?, told, "{text}");
     }
     Ok(())
 }

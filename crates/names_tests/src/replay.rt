@@ -1,7 +1,7 @@
 //! Edits applied one by one, and logs replayed through the public calls.
 use crate::admission::{Told, told_of};
 use Seen::{Dir, File, Nothing};
-use edit_ops::{ReadText, encode, read_text};
+use edit_ops::{Edit, ReadText, encode, read_text};
 use journal_core::{Batch, BodyList};
 use ns_replay::{AdmitRefusal, Replayed, admit, apply, replay};
 use ns_tree::{Inode, Namespace};
@@ -27,9 +27,6 @@ const KNOWN: [&str; 7] = [
     "delete /u/x 60",
 ];
 
-/// How many rows there are after so many bodies of the known log.
-const KNOWN_ROWS: [usize; 10] = [1, 1, 2, 3, 4, 4, 4, 4, 3, 3];
-
 /// What stands at a path, without its owners.
 #[derive(Clone, Copy, Debug, PartialEq, Eq)]
 enum Seen {
@@ -49,7 +46,11 @@ fn size_of(lengths: &[u64]) -> u64 {
 }
 
 fn seen_at(namespace: &Namespace, path: &str) -> Seen {
-    match namespace.lookup(path.as_bytes()) {
+    seen_of(namespace.lookup(path.as_bytes()))
+}
+
+fn seen_of(inode: Option<&Inode>) -> Seen {
+    match inode {
         None => Nothing,
         Some(
             Inode::Dir {
@@ -85,12 +86,17 @@ fn body(alloc: Global, bytes: &[u8]) -> Result<Bytes, Fail> {
     Ok(Bytes::copy_of(alloc, bytes)?.ok_or("no byte")?)
 }
 
-fn record(alloc: Global, text: &str) -> Result<Bytes, Fail> {
+fn edit_of(alloc: Global, text: &str) -> Result<Edit, Fail> {
     match read_text(alloc, text.as_bytes()) {
-        ReadText::Edit(edit) => Ok(encode(alloc, &edit)?),
+        ReadText::Edit(edit) => Ok(edit),
         ReadText::BadText => Err("no edit".into()),
         ReadText::OutOfMemory => Err(AllocError.into()),
     }
+}
+
+fn record(alloc: Global, text: &str) -> Result<Bytes, Fail> {
+    let edit = edit_of(alloc, text)?;
+    Ok(encode(alloc, &edit)?)
 }
 
 /// The log of one segment, with these edits at the txids from 2 on.
@@ -120,7 +126,12 @@ fn replay_log(alloc: Global, bodies: BodyList) -> Result<(Namespace, Replayed), 
 
 /// The same of the log of these texts, where no memory is wanted.
 fn replay_texts(alloc: Global, texts: &[&str]) -> Result<(Namespace, Replayed), Fail> {
-    let (namespace, replayed) = replay_log(alloc, log_of(alloc, texts)?)?;
+    replay_bodies(alloc, log_of(alloc, texts)?)
+}
+
+/// The same of a log, where no memory is wanted.
+fn replay_bodies(alloc: Global, bodies: BodyList) -> Result<(Namespace, Replayed), Fail> {
+    let (namespace, replayed) = replay_log(alloc, bodies)?;
     match replayed {
         Replayed::OutOfMemory { .. } => Err(AllocError.into()),
         Replayed::Done | Replayed::BadEntry { .. } => Ok((namespace, replayed)),
@@ -169,6 +180,31 @@ fn a_known_log_gives_a_file_away(rt: HostRuntime) -> Result<(), Fail> {
     }
 }
 
+/// What the first bodies of the known log leave.
+fn known_front(alloc: Global, count: usize) -> Result<Namespace, Fail> {
+    let mut bodies = log_of(alloc, &KNOWN)?;
+    bodies.truncate(count);
+    if bodies.is_empty() {
+        return Ok(Namespace::new(alloc)?);
+    }
+    Ok(replay_bodies(alloc, bodies)?.0)
+}
+
+/// Whether two namespaces have the same paths, with the same there.
+fn are_alike(alloc: Global, one: &Namespace, other: &Namespace) -> Result<bool, Fail> {
+    let rows = one.walk(alloc)?;
+    if rows.len() != other.walk(alloc)?.len() {
+        return Ok(false);
+    }
+    for row in &rows {
+        let there = other.lookup(row.path.as_slice());
+        if there.is_none() || seen_of(there) != seen_of(Some(&row.inode)) {
+            return Ok(false);
+        }
+    }
+    Ok(true)
+}
+
 #[test]
 fn where_memory_ends_the_rest_is_not_applied(rt: HostRuntime) -> Result<(), Fail> {
     let log = log_of(rt.alloc(), &KNOWN)?;
@@ -178,8 +214,8 @@ fn where_memory_ends_the_rest_is_not_applied(rt: HostRuntime) -> Result<(), Fail
         Replayed::OutOfMemory { applied } => applied,
         Replayed::BadEntry { .. } => return Err("a bad entry".into()),
     };
-    let rows = namespace.walk(rt.alloc())?;
-    assert_eq!(rt; KNOWN_ROWS.get(applied as usize).copied(), Some(rows.len()));
+    let front = known_front(rt.alloc(), applied as usize)?;
+    assert!(rt; are_alike(rt.alloc(), &namespace, &front)?);
     Ok(())
 }
 
@@ -204,10 +240,7 @@ fn a_body_that_is_no_record_ends_a_replay(rt: HostRuntime) -> Result<(), Fail> {
     bodies.push(record(alloc, "mkdir /a 1 755 u g")?)?;
     bodies.push(body(alloc, &NO_RECORD)?)?;
     bodies.push(record(alloc, "mkdir /b 3 755 u g")?)?;
-    let (namespace, replayed) = replay_log(alloc, bodies)?;
-    if let Replayed::OutOfMemory { .. } = replayed {
-        return Err(AllocError.into());
-    }
+    let (namespace, replayed) = replay_bodies(alloc, bodies)?;
     assert_eq!(rt; replayed, Replayed::BadEntry { txid: 2 });
     assert_eq!(rt; seen_at(&namespace, "/a"), Dir(1, 0o755, 0, 0));
     assert_eq!(rt; seen_at(&namespace, "/b"), Nothing);
@@ -229,7 +262,7 @@ fn a_replay_notes_each_call_once(rt: HostRuntime) -> Result<(), Fail> {
         assert_eq!(rt; noted.call.number, number);
         assert_eq!(rt; noted.txid, txid);
     }
-    let again = told_of(rt.alloc(), &namespace, texts[0]);
+    let again = told_of(rt.alloc(), &namespace, texts[0])?;
     assert_eq!(rt;
         again,
         Told::Refused(AdmitRefusal::RepeatedCall { txid: 2 })
@@ -293,9 +326,7 @@ fn apply_text(
     if !namespace.calls().is_empty() {
         return Err("a call is noted".into());
     }
-    let ReadText::Edit(edit) = read_text(alloc, text.as_bytes()) else {
-        return Err("no edit".into());
-    };
+    let edit = edit_of(alloc, text)?;
     if admit(namespace, &edit).is_err() {
         return Err("not admitted".into());
     }

@@ -1,11 +1,10 @@
 -- What is under a path has that path above it as a directory: nothing is under a path where no directory is.
-use Rattle.std.proofs.Common.{◌≡◌, ℕ, zero, suc, ◌<◌, ◌≤◌, List, [], ◌∷◌, ◌++◌, length, Bool, true, false, cond, refl, sym, ap, ◌∙◌, subst, append-nil, Option, Some, None, IsSome, arith, ◌==◌}
+use Rattle.std.proofs.Common.{◌≡◌, ℕ, zero, suc, ◌<◌, ◌≤◌, List, [], ◌∷◌, ◌++◌, length, Bool, true, false, cond, refl, sym, ap, ◌∙◌, append-nil, Option, Some, None, IsSome, arith, ◌==◌}
 use Rattle.std.specs.Prelude.{is_some, ◌||◌}
-use Rattle.std.specs.declared.cmp.Ordering.TheVariants.{Less}
 use Rattle.std.proofs.lemmas.Bool.Decides.{nat_tests}
 use Rattle.ns_tree.specs.declared.inode.Inode.{Inode}
 use Rattle.ns_tree.specs.declared.inode.Row.{Row}
-use Rattle.ns_tree.specs.Path.{same_text, walk_cmp, is_under, is_at_or_under, before_last_slash, parent_of, is_path}
+use Rattle.ns_tree.specs.Path.{same_text, walk_cmp, is_under, before_last_slash, parent_of}
 use Rattle.ns_tree.specs.Space.{Space, is_dir_there, find, has_under, Each, IsPair}
 use Rattle.ns_tree.specs.Places.{IsTree}
 use Rattle.ns_tree.proofs.Order.{same_text_is, walk_cmp_self}

@@ -29,16 +29,18 @@ get-map f [] i e = refl
 get-map f (x ∷ xs) zero e = refl
 get-map f (x ∷ xs) (suc i) e = get-map f xs i e
 
--- a row of which a part is changed in its box
-pub set_in_box : {B : Type 0} (f : B → Row) (g : Row → Row) (bs : List B) (i : ℕ) (b : B) (d : Row) → i < length bs → b ≡ get_or bs i b → (new : B) → f new ≡ g (f b) → map f (set bs i new) ≡ set (map f bs) i (g (get_or (map f bs) i d))
-set_in_box {B = B} f g bs i b d h is new made =
-    let same : get_or (map f bs) i d ≡ f b = at_map f (λ (x : Row). x ≡ f b) bs i d h (λ e. ap f (other bs i e h is)) in
-    rw (map-set f bs i new, made, same) refl
+-- the row in a box of a list
+pub in_box : {B : Type 0} (f : B → Row) (bs : List B) (i : ℕ) (b : B) (d : Row) → i < length bs → b ≡ get_or bs i b → get_or (map f bs) i d ≡ f b
+in_box {B = B} f bs i b d h is = at_map f (λ (x : Row). x ≡ f b) bs i d h (λ e. ap f (other bs i e h is))
   where
     other : (bs : List B) (i : ℕ) (e : B) → i < length bs → b ≡ get_or bs i b → get_or bs i e ≡ b
     other [] i e h is = absurd (omega arith)
     other (x ∷ xs) zero e h is = sym is
     other (x ∷ xs) (suc i) e h is = other xs i e (omega arith) is
+
+-- a row of which a part is changed in its box
+pub set_in_box : {B : Type 0} (f : B → Row) (g : Row → Row) (bs : List B) (i : ℕ) (b : B) (d : Row) → i < length bs → b ≡ get_or bs i b → (new : B) → f new ≡ g (f b) → map f (set bs i new) ≡ set (map f bs) i (g (get_or (map f bs) i d))
+set_in_box f g bs i b d h is new made = rw (map-set f bs i new, made, in_box f bs i b d h is) refl
 
 -- ## Parts
 pub map-take : {A B : Type 0} (f : A → B) (i : ℕ) (xs : List A) → map f (take i xs) ≡ take i (map f xs)

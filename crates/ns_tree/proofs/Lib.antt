@@ -1,4 +1,5 @@
 pub mod Order
+pub mod Components
 pub mod Walks
 pub mod Finds
 pub mod Pairs
@@ -9,6 +10,7 @@ pub mod Subtree
 pub mod Children
 pub mod Sound
 pub mod Noting
+pub mod Marks
 pub mod Run
 pub mod Tails
 pub mod Renames

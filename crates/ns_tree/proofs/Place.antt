@@ -237,3 +237,32 @@ pub change_gap : (xs : List Row) (p : List ℕ) (f : Inode → Inode) (i : ℕ) 
 change_gap xs p f i gap =
     subst (λ ys. change_at p f ys ≡ ys) (take-append-drop i xs)
     (change_parts p f (take i xs) (drop i xs) ∙ rw (change_before p f (take i xs) gap.below, change_after p f (drop i xs) gap.above) refl)
+
+-- ---- a place at a row, or right after it
+
+pub gap_next : (xs : List Row) → IsInWalkOrder xs → (p : List ℕ) (i : ℕ) → i < length xs → ((d : Row) → walk_cmp (get_or xs i d).path p ≡ Less) → ((d : Row) → i + 1 < length xs → walk_cmp (get_or xs (i + 1) d).path p ≡ Greater) → IsGapFor xs p (i + 1)
+gap_next xs ordered p i h before after = record {
+  in_range = omega (arith, h);
+  below = each_take (λ x. walk_cmp x.path p ≡ Less) (i + 1) xs (omega (arith, h)) (λ k d l. low k d l (nat_lt k i) refl);
+  above = each_drop (λ x. walk_cmp p x.path ≡ Less) (i + 1) xs (λ k d le l. high k d le l (nat_lt (i + 1) k) refl);
+}
+  where
+    low : (k : ℕ) (d : Row) → k < i + 1 → (b : Bool) → nat_lt k i ≡ b → walk_cmp (get_or xs k d).path p ≡ Less
+    low k d l true e =
+        let less : k < i = grind (arith, nat_tests, e) in
+        walk_cmp_total.trans (get_or xs k d).path (get_or xs i d).path p (order_at xs ordered k i d less h) (before d)
+    low k d l false e =
+        let same : k ≡ i = grind (arith, nat_tests, e, l) in
+        rw same (before d)
+
+    high : (k : ℕ) (d : Row) → i + 1 ≤ k → k < length xs → (b : Bool) → nat_lt (i + 1) k ≡ b → walk_cmp p (get_or xs k d).path ≡ Less
+    high k d le l true e =
+        let less : i + 1 < k = grind (arith, nat_tests, e) in
+        let first : walk_cmp p (get_or xs (i + 1) d).path ≡ Less = turned _ p (after d (omega (arith, less, l))) in
+        walk_cmp_total.trans p (get_or xs (i + 1) d).path (get_or xs k d).path first (order_at xs ordered (i + 1) k d less l)
+    high k d le l false e =
+        let same : k ≡ i + 1 = grind (arith, nat_tests, e, le) in
+        rw same (turned _ p (after d (omega (arith, same, l))))
+
+pub found_at : (xs : List Row) → IsInWalkOrder xs → (p : List ℕ) (i : ℕ) → i < length xs → ((d : Row) → walk_cmp (get_or xs i d).path p ≡ Equal) → IsAt xs p i
+found_at xs ordered p i h equal = searched xs ordered p (Ok i) h equal

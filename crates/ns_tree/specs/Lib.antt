@@ -2,3 +2,5 @@ pub mod Path
 pub mod Space
 pub mod Places
 pub mod Examples
+pub mod Marks
+pub mod Components

@@ -2,6 +2,7 @@
 ghost use Rattle.std.specs.Prelude.{◌≡◌, true, false, [], ◌∷◌, codes};
 ghost use Rattle.std.specs.declared.cmp.Ordering.TheVariants.{Less};
 ghost use Rattle.ns_tree.specs.Path.{walk_cmp, is_under, parent_of, is_path, is_owner};
+ghost use Rattle.ns_tree.specs.Components.{components, by_components};
 ghost use Rattle.ns_tree.specs.Space.{renamed, without, children_of};
 ghost use Rattle.ns_tree.specs.Examples.{small_rows, paths};
 
@@ -9,6 +10,14 @@ ghost use Rattle.ns_tree.specs.Examples.{small_rows, paths};
 pub fn a_walk_goes_by_components()
     ensures below { walk_cmp (codes "/u/x") (codes "/u-") ≡ Less }
     ensures beside { walk_cmp (codes "/u-") (codes "/u0") ≡ Less }
+{}
+
+/// A path's components, and two lists of them.
+pub fn a_path_has_components()
+    ensures root { components (codes "/") ≡ [] }
+    ensures two { components (codes "/u/x") ≡ codes "u" ∷ codes "x" ∷ [] }
+    ensures below { by_components (components (codes "/u/x")) (components (codes "/u-")) ≡ Less }
+    ensures above { by_components (components (codes "/u")) (components (codes "/u/x")) ≡ Less }
 {}
 
 /// What is under a path, and what only begins with its text.

@@ -1,6 +1,7 @@
 //! Rows in a list, each in a box of its own, so that a change of the list moves eight bytes a row.
-ghost use Rattle.std.specs.Prelude.{◌≡◌, ℕ, ◌+◌, ◌-◌, ◌<◌, ◌≤◌, List, [], ◌++◌, ◌∷◌, length, map, take, drop, set, MatchResult, OnOk, OnErr, slice_index_or};
+ghost use Rattle.std.specs.Prelude.{◌≡◌, ℕ, ◌+◌, ◌-◌, ◌<◌, ◌≤◌, List, [], ◌++◌, ◌∷◌, length, map, take, drop, set, MatchResult, IfSome, OnOk, OnErr, slice_index_or};
 ghost use Rattle.std.specs.List.{insert};
+ghost use Rattle.std.specs.declared.cmp.Ordering.TheVariants.{Less};
 ghost use Rattle.ns_tree.specs.declared.inode.Row.{Row};
 ghost use Rattle.ns_tree.specs.Path.{walk_cmp};
 ghost use Rattle.ns_tree.specs.Space.{pair, IsInWalkOrder, raised, longest_of};
@@ -21,6 +22,10 @@ const MOST_ROWS: usize = 4_294_967_295;
 #[derive(Drop)]
 pub struct RowTable {
     pub(crate) boxes: Vec<Box<Row>>,
+    /// Where a search looks first: the row that was put last. Any number does.
+    last: usize,
+    /// Where it looks then: the directory that was changed last. Any number does.
+    above: usize,
 }
 
 impl Model for RowTable {
@@ -48,6 +53,8 @@ impl RowTable {
     {
         RowTable {
             boxes: Vec::new(alloc),
+            last: 0,
+            above: 0,
         }
     }
 
@@ -72,7 +79,28 @@ impl RowTable {
         requires { IsInWalkOrder self.now }
         ensures { MatchResult result (IsAt self.now path.now) (IsGapFor self.now path.now) }
     {
-        search_rows(&self.boxes, path)
+        search_hinted(&self.boxes, self.last, self.above, path)
+    }
+
+    /// Has the next searches look first where a path stands, or would stand. No row changes.
+    pub fn aim(&mut self, path: &[u8])
+        requires { IsInWalkOrder self.old }
+        ensures { self.new ≡ self.old }
+    {
+        self.last = match self.search(path) {
+            Ok(at) => at,
+            Err(at) => at.saturating_sub(1),
+        };
+    }
+
+    /// Has the next searches look where a directory stands, too. No row changes.
+    pub fn aim_above(&mut self, path: &[u8])
+        requires { IsInWalkOrder self.old }
+        ensures { self.new ≡ self.old }
+    {
+        if let Ok(at) = self.search(path) {
+            self.above = at;
+        }
     }
 
     /// The same among the first rows.
@@ -94,6 +122,7 @@ impl RowTable {
             return Err(AllocError);
         }
         self.boxes.insert(i, Box::new(alloc, row)?)?;
+        self.last = i;
         Ok(())
     }
 
@@ -111,6 +140,7 @@ impl RowTable {
         ensures { (d : Row) → self.new ≡ set self.old i (pair (slice_index_or self.old i d).path (raised time (slice_index_or self.old i d).inode)) }
     {
         raise_row(&mut self.boxes[i], time);
+        self.above = i;
     }
 
     /// The index after the last row under a path that stands at `at`.
@@ -149,6 +179,53 @@ impl RowTable {
         ensures { self.new ≡ take at self.old ++ drop end self.old }
     {
         self.boxes.drain(at..end);
+    }
+}
+
+/// Two places are tried before all rows are searched, since edits that follow one another are often at one place.
+fn search_hinted(rows: &[Box<Row>], last: usize, above: usize, path: &[u8]) -> Result<usize, usize>
+    requires { IsInWalkOrder (map (λ b. b.value) rows.now) }
+    ensures { MatchResult result (IsAt (map (λ b. b.value) rows.now) path.now) (IsGapFor (map (λ b. b.value) rows.now) path.now) }
+{
+    match near(rows, last, path) {
+        Some(place) => place,
+        None => match near(rows, above, path) {
+            Some(place) => place,
+            None => search_rows(rows, path),
+        },
+    }
+}
+
+/// The place of a path, where that is at a row or right after it.
+fn near(rows: &[Box<Row>], at: usize, path: &[u8]) -> Option<Result<usize, usize>>
+    requires { IsInWalkOrder (map (λ b. b.value) rows.now) }
+    ensures { IfSome result (λ place. MatchResult place (IsAt (map (λ b. b.value) rows.now) path.now) (IsGapFor (map (λ b. b.value) rows.now) path.now)) }
+{
+    if at >= rows.len() {
+        return None;
+    }
+    match order_of(&rows[at], path) {
+        Ordering::Equal => Some(Ok(at)),
+        Ordering::Less => next_to(rows, at, path),
+        Ordering::Greater => None,
+    }
+}
+
+/// The same, where the path comes after the row.
+fn next_to(rows: &[Box<Row>], at: usize, path: &[u8]) -> Option<Result<usize, usize>>
+    requires order { IsInWalkOrder (map (λ b. b.value) rows.now) }
+    requires in_range { at < length rows.now }
+    requires after { (d : Row) → walk_cmp (slice_index_or (map (λ b. b.value) rows.now) at d).path path.now ≡ Less }
+    ensures { IfSome result (λ place. MatchResult place (IsAt (map (λ b. b.value) rows.now) path.now) (IsGapFor (map (λ b. b.value) rows.now) path.now)) }
+{
+    let next = at + 1;
+    if next == rows.len() {
+        return Some(Err(next));
+    }
+    match order_of(&rows[next], path) {
+        Ordering::Equal => Some(Ok(next)),
+        Ordering::Less => None,
+        Ordering::Greater => Some(Err(next)),
     }
 }
 

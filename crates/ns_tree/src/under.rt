@@ -87,7 +87,8 @@ impl Namespace {
         }
     }
 
-    /// All rows in the order of a walk: a directory stands right before what is under it.
+    /// All rows in the order of a walk, which is that of their lists of components (`walks_go_by_components`): a
+    /// directory stands right before what is under it (`directories_come_right_before`).
     pub fn walk(&self, alloc: Global) -> Result<Vec<Row>, OutOfMemory>
         ensures { IfOk result (λ rows. rows.items ≡ self.now.pairs) }
     {

@@ -16,7 +16,7 @@ pub returns-then-at-count : goal.returns-then-at-count
 returns-then-at-count c =
     let pairs : c.self.inside.rows ≡ c.args.self.now.pairs = ap (λ (s : Space). s.pairs) c.self.view_is in
     let at : IsAt c.self.inside.rows c.args.path.now c.in-Ok.at = rw pairs c.in-Ok.ensures in
-    let long : 0 < length c.args.path.now = at_long (record { pairs = c.self.inside.rows; calls = c.self.inside.calls.items }) c.args.path.now c.in-Ok.at c.self.invariant.sound at in
+    let long : 0 < length c.args.path.now = at_long (record { pairs = c.self.inside.rows; calls = c.self.inside.calls }) c.args.path.now c.in-Ok.at c.self.invariant.sound at in
     let next = has_under_next c.self.inside.rows c.args.path.now c.in-Ok.at long c.self.invariant.sound.ordered at c.row.result.now c.row.ensures (omega arith) in
     rw (← pairs, next, ← c.as_slice.ensures) c.lies_under.ensures
 
@@ -24,7 +24,7 @@ pub returns-else-at-count : goal.returns-else-at-count
 returns-else-at-count c =
     let pairs : c.self.inside.rows ≡ c.args.self.now.pairs = ap (λ (s : Space). s.pairs) c.self.view_is in
     let at : IsAt c.self.inside.rows c.args.path.now c.in-Ok.at = rw pairs c.in-Ok.ensures in
-    let long : 0 < length c.args.path.now = at_long (record { pairs = c.self.inside.rows; calls = c.self.inside.calls.items }) c.args.path.now c.in-Ok.at c.self.invariant.sound at in
+    let long : 0 < length c.args.path.now = at_long (record { pairs = c.self.inside.rows; calls = c.self.inside.calls }) c.args.path.now c.in-Ok.at c.self.invariant.sound at in
     let none = has_under_at_end c.self.inside.rows c.args.path.now c.in-Ok.at long c.self.invariant.sound.ordered at (omega arith) in
     rw (← pairs, none) (search rules)
 

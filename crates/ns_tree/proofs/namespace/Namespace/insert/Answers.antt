@@ -20,9 +20,8 @@ invariant_of-self-in-Err c =
     let rows : c.insert.new.self ≡ put c.args.path.now c.args.inode c.self.inside.rows =
     c.in_ok-insert-in-Err.ensures.ok ∙ (ap (λ (p : List ℕ). insert c.self.inside.rows c.in-Err.at (pair p c.args.inode)) c.in_ok-path-in-Err.ensures ∙ sym (put_gap c.self.inside.rows c.args.path.now c.in-Err.at c.args.inode gap)) in
     record {
-      sound = subst (λ (xs : List Row). IsTree (record { pairs = xs; calls = c.self.inside.calls.items })) (sym rows)
-          (sound_put (record { pairs = c.self.inside.rows; calls = c.self.inside.calls.items }) c.args.path.now c.args.inode c.self.invariant.sound c.requires.path c.requires.short c.requires.inode (rw pairs c.requires.absent) (rw pairs c.requires.parent));
-      room = c.self.invariant.room;
+      sound = subst (λ (xs : List Row). IsTree (record { pairs = xs; calls = c.self.inside.calls })) (sym rows)
+          (sound_put (record { pairs = c.self.inside.rows; calls = c.self.inside.calls }) c.args.path.now c.args.inode c.self.invariant.sound c.requires.path c.requires.short c.requires.inode (rw pairs c.requires.absent) (rw pairs c.requires.parent));
     }
 
 pub returns-clause-ok : goal.returns-clause-ok

@@ -11,21 +11,20 @@ pub invariant_of-self : goal.invariant_of-self
 invariant_of-self c =
     let pairs : c.self.inside.rows ≡ c.args.self.now.pairs = ap (λ (s : Space). s.pairs) c.self.view_is in
     let at : IsAt c.self.inside.rows c.args.path.now c.in-Ok.at = rw pairs c.in-Ok.ensures in
-    let long : 0 < length c.args.path.now = at_long (record { pairs = c.self.inside.rows; calls = c.self.inside.calls.items }) c.args.path.now c.in-Ok.at c.self.invariant.sound at in
+    let long : 0 < length c.args.path.now = at_long (record { pairs = c.self.inside.rows; calls = c.self.inside.calls }) c.args.path.now c.in-Ok.at c.self.invariant.sound at in
     let rows : c.remove_run.new.self ≡ without c.args.path.now c.self.inside.rows =
     c.remove_run.ensures ∙ sym (without_cut c.self.inside.rows c.args.path.now c.in-Ok.at c.subtree_end-end.result long c.self.invariant.sound.ordered at c.subtree_end-end.ensures) in
     record {
-      sound = subst (λ (xs : List Row). IsTree (record { pairs = xs; calls = c.self.inside.calls.items })) (sym rows)
-          (sound_without (record { pairs = c.self.inside.rows; calls = c.self.inside.calls.items }) c.args.path.now c.self.invariant.sound
-          (at_path (record { pairs = c.self.inside.rows; calls = c.self.inside.calls.items }) c.args.path.now c.in-Ok.at c.self.invariant.sound at) c.requires.not_root);
-      room = c.self.invariant.room;
+      sound = subst (λ (xs : List Row). IsTree (record { pairs = xs; calls = c.self.inside.calls })) (sym rows)
+          (sound_without (record { pairs = c.self.inside.rows; calls = c.self.inside.calls }) c.args.path.now c.self.invariant.sound
+          (at_path (record { pairs = c.self.inside.rows; calls = c.self.inside.calls }) c.args.path.now c.in-Ok.at c.self.invariant.sound at) c.requires.not_root);
     }
 
 pub returns : goal.returns
 returns c =
     let pairs : c.self.inside.rows ≡ c.args.self.now.pairs = ap (λ (s : Space). s.pairs) c.self.view_is in
     let at : IsAt c.self.inside.rows c.args.path.now c.in-Ok.at = rw pairs c.in-Ok.ensures in
-    let long : 0 < length c.args.path.now = at_long (record { pairs = c.self.inside.rows; calls = c.self.inside.calls.items }) c.args.path.now c.in-Ok.at c.self.invariant.sound at in
+    let long : 0 < length c.args.path.now = at_long (record { pairs = c.self.inside.rows; calls = c.self.inside.calls }) c.args.path.now c.in-Ok.at c.self.invariant.sound at in
     let rows : c.remove_run.new.self ≡ without c.args.path.now c.self.inside.rows =
     c.remove_run.ensures ∙ sym (without_cut c.self.inside.rows c.args.path.now c.in-Ok.at c.subtree_end-end.result long c.self.invariant.sound.ordered at c.subtree_end-end.ensures) in
     rw (rows, ← c.self.view_is) refl

@@ -21,7 +21,7 @@ pub move_run-requires-clause-order : goal.move_run-requires-clause-order
 move_run-requires-clause-order c =
     let pairs : c.self.inside.rows ≡ c.args.self.now.pairs = ap (λ (s : Space). s.pairs) c.self.view_is in
     let at : IsAt c.self.inside.rows c.args.src.now c.in-Ok.at = rw pairs c.in-Ok.ensures in
-    let long : 0 < length c.args.src.now = at_long (record { pairs = c.self.inside.rows; calls = c.self.inside.calls.items }) c.args.src.now c.in-Ok.at c.self.invariant.sound at in
+    let long : 0 < length c.args.src.now = at_long (record { pairs = c.self.inside.rows; calls = c.self.inside.calls }) c.args.src.now c.in-Ok.at c.self.invariant.sound at in
     order_cut c.self.inside.rows c.args.src.now c.in-Ok.at c.subtree_end-end.result long c.self.invariant.sound.ordered at c.subtree_end-end.ensures
 
 -- what the moves of the table make
@@ -33,26 +33,25 @@ pub invariant_of-self : goal.invariant_of-self
 invariant_of-self c =
     let pairs : c.self.inside.rows ≡ c.args.self.now.pairs = ap (λ (s : Space). s.pairs) c.self.view_is in
     let at : IsAt c.self.inside.rows c.args.src.now c.in-Ok.at = rw pairs c.in-Ok.ensures in
-    let long : 0 < length c.args.src.now = at_long (record { pairs = c.self.inside.rows; calls = c.self.inside.calls.items }) c.args.src.now c.in-Ok.at c.self.invariant.sound at in
+    let long : 0 < length c.args.src.now = at_long (record { pairs = c.self.inside.rows; calls = c.self.inside.calls }) c.args.src.now c.in-Ok.at c.self.invariant.sound at in
     let run = subtree_between c.self.inside.rows c.args.src.now c.in-Ok.at c.subtree_end-end.result long c.self.invariant.sound.ordered at c.subtree_end-end.ensures in
     let left = without_cut c.self.inside.rows c.args.src.now c.in-Ok.at c.subtree_end-end.result long c.self.invariant.sound.ordered at c.subtree_end-end.ensures in
     let rows : c.move_run.new.self ≡ renamed c.args.src.now c.args.dst.now c.self.inside.rows =
     renamed_by c.self.inside.rows c.move_run.new.self c.args.src.now c.args.dst.now _ _ c.in_ok-paths-in-Ok.paths.items c.move_run.ensures c.in_ok-paths-in-Ok.ensures
     (λ i. put_at c.args.dst.now (map (λ x. pair (moved_path c.args.src.now c.args.dst.now x.path) x.inode) (run i)) (left i)) in
-    let source : Below c.args.src.now = below_root c.args.src.now (at_path (record { pairs = c.self.inside.rows; calls = c.self.inside.calls.items }) c.args.src.now c.in-Ok.at c.self.invariant.sound at) c.requires.src_below in
+    let source : Below c.args.src.now = below_root c.args.src.now (at_path (record { pairs = c.self.inside.rows; calls = c.self.inside.calls }) c.args.src.now c.in-Ok.at c.self.invariant.sound at) c.requires.src_below in
     let target : Below c.args.dst.now = below_root c.args.dst.now c.requires.path c.requires.dst_below in
     record {
-      sound = subst (λ (xs : List Row). IsTree (record { pairs = xs; calls = c.self.inside.calls.items })) (sym rows)
-          (sound_renamed (record { pairs = c.self.inside.rows; calls = c.self.inside.calls.items }) c.args.src.now c.args.dst.now c.self.invariant.sound source target c.requires.path c.requires.apart
-          (rw pairs c.requires.parent) (emptied (record { pairs = c.self.inside.rows; calls = c.self.inside.calls.items }) c.args.dst.now c.self.invariant.sound target (rw pairs c.requires.empty)) (rw pairs c.requires.short));
-      room = c.self.invariant.room;
+      sound = subst (λ (xs : List Row). IsTree (record { pairs = xs; calls = c.self.inside.calls })) (sym rows)
+          (sound_renamed (record { pairs = c.self.inside.rows; calls = c.self.inside.calls }) c.args.src.now c.args.dst.now c.self.invariant.sound source target c.requires.path c.requires.apart
+          (rw pairs c.requires.parent) (emptied (record { pairs = c.self.inside.rows; calls = c.self.inside.calls }) c.args.dst.now c.self.invariant.sound target (rw pairs c.requires.empty)) (rw pairs c.requires.short));
     }
 
 pub returns-clause-ok : goal.returns-clause-ok
 returns-clause-ok c =
     let pairs : c.self.inside.rows ≡ c.args.self.now.pairs = ap (λ (s : Space). s.pairs) c.self.view_is in
     let at : IsAt c.self.inside.rows c.args.src.now c.in-Ok.at = rw pairs c.in-Ok.ensures in
-    let long : 0 < length c.args.src.now = at_long (record { pairs = c.self.inside.rows; calls = c.self.inside.calls.items }) c.args.src.now c.in-Ok.at c.self.invariant.sound at in
+    let long : 0 < length c.args.src.now = at_long (record { pairs = c.self.inside.rows; calls = c.self.inside.calls }) c.args.src.now c.in-Ok.at c.self.invariant.sound at in
     let run = subtree_between c.self.inside.rows c.args.src.now c.in-Ok.at c.subtree_end-end.result long c.self.invariant.sound.ordered at c.subtree_end-end.ensures in
     let left = without_cut c.self.inside.rows c.args.src.now c.in-Ok.at c.subtree_end-end.result long c.self.invariant.sound.ordered at c.subtree_end-end.ensures in
     let rows : c.move_run.new.self ≡ renamed c.args.src.now c.args.dst.now c.self.inside.rows =

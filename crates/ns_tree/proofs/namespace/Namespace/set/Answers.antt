@@ -19,10 +19,9 @@ invariant_of-self c =
     c.set_inode.ensures root_pair ∙ sym (change_at_index c.self.inside.rows c.args.path.now (λ _. c.args.inode) c.in-Ok.at root_pair at) in
     let found = find_at c.self.inside.rows c.args.path.now c.in-Ok.at root_pair at in
     record {
-      sound = subst (λ (xs : List Row). IsTree (record { pairs = xs; calls = c.self.inside.calls.items })) (sym rows)
-          (sound_set (record { pairs = c.self.inside.rows; calls = c.self.inside.calls.items }) c.args.path.now c.args.inode _ c.self.invariant.sound c.requires.inode found
+      sound = subst (λ (xs : List Row). IsTree (record { pairs = xs; calls = c.self.inside.calls })) (sym rows)
+          (sound_set (record { pairs = c.self.inside.rows; calls = c.self.inside.calls }) c.args.path.now c.args.inode _ c.self.invariant.sound c.requires.inode found
           (c.requires.kind ∙ (ap (λ (xs : List Row). is_dir_there (find c.args.path.now xs)) (sym pairs) ∙ ap is_dir_there found)));
-      room = c.self.invariant.room;
     }
 
 pub returns : goal.returns
