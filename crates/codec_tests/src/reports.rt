@@ -2,7 +2,7 @@
 use journal_core::{Batch, BodyList, Bytes, Head, Refusal, Reply, Request, SharedRequest};
 use mesh::{End, EndList, HistoryTable, Mesh, RecordTable};
 use node_world::{HistoryLine, HistoryList, NodeAnswer, NodeAsk, Plan, Record, RecordList, Told};
-use report_text::{Report, report_of};
+use report_text::{Report, report_of, text_size};
 use std::alloc::Global;
 use std::test::Fail;
 
@@ -77,6 +77,7 @@ fn a_report_is_printed(rt: HostRuntime) -> Result<(), Fail> {
     let wanted =
         b"nodes 1\nnode 1\na state -> state 12\nops kill -> done\nactor a\n1 state -> refused 1 Down\nactor ops\n1 kill -> done\nend\n";
     assert_eq!(rt; text_of(rt.alloc(), &mesh)?.as_slice(), wanted.as_slice());
+    assert_eq!(rt; text_size(&mesh, &ends(rt.alloc())?), wanted.len() as u64);
     Ok(())
 }
 
@@ -119,7 +120,9 @@ fn a_longer_report_is_too_long(rt: HostRuntime) -> Result<(), Fail> {
         records: two_calls(alloc, &long_request(alloc)?)?,
         plan: Plan::new(alloc),
     };
-    let report = report_of(alloc, &mesh, &ends(alloc)?)?;
+    let ends = ends(alloc)?;
+    let report = report_of(alloc, &mesh, &ends)?;
     assert!(rt; matches!(&report, Report::TooLong));
+    assert_eq!(rt; text_size(&mesh, &ends), 268_435_457);
     Ok(())
 }

@@ -82,12 +82,3 @@ NotedAtFault r (deed.Append start at) old new = new ≡ old
 NotedAtFault r (deed.Accept epoch again) old new = new ≡ rows_after r (deed.Accept epoch again) 0 old
 NotedAtFault r (deed.Finalize start end accepted) old new = new ≡ old
 NotedAtFault r (deed.Remove info) old new = new ≡ old
-
--- the deed stores a number, and does no more
-abbrev pub IsNumber : Deed → Type 0
-IsNumber (deed.Number number value) = Unit {0}
-IsNumber (deed.Begin start epoch) = ⊥
-IsNumber (deed.Append start at) = ⊥
-IsNumber (deed.Accept epoch again) = ⊥
-IsNumber (deed.Finalize start end accepted) = ⊥
-IsNumber (deed.Remove info) = ⊥

@@ -1,6 +1,5 @@
 //! A request is answered: its reply is found, its deeds are done, and memory follows.
 ghost use Rattle.std.specs.Prelude.{◌≡◌, ◌≢◌, ◌≤◌, ◌↔◌, None, Some, List, Option, true, false, [], IfOk, OnOk, OnErr};
-ghost use Rattle.std.specs.List.{All};
 ghost use Rattle.qj_disk.specs.View.{LeavesOnly, AllLeave};
 ghost use Rattle.qj_disk.specs.Calls.{HasCause, Rests};
 ghost use Rattle.journal_core.specs.declared.segment.Segment.{Segment};
@@ -16,7 +15,6 @@ ghost use Rattle.node_files.specs.Durable.{StandsAs};
 ghost use Rattle.node_deeds.specs.Told.{Tells, state_with};
 ghost use Rattle.node_deeds.specs.Due.{AreDue};
 ghost use Rattle.recent_edits.specs.Recent.{AsksRecent, IsRecent, cached_behind};
-ghost use Rattle.journal_node.specs.Doing.{IsNumber};
 ghost use Rattle.journal_node.specs.Done.{effects_by};
 ghost use Rattle.journal_node.specs.Held.{StandsStopped};
 ghost use Rattle.journal_node.specs.Node.{BringsEdits, IsUp, HasState, IsNode, IsNoFault, IsCaused, IsStoppedIn, IsWhole, Recalls, settled, state_behind, foretold};
@@ -125,7 +123,7 @@ pub(crate) fn carry_out<D: Disk>(
     ensures stopped { D.tells disk.old → (s : AnyState) → IsUp (D.view disk.old) memory.old table.old s → OnErr result (IsStoppedIn (D.view disk.new) memory.new table.new s request.now) }
     ensures moments { D.tells disk.old → (s : AnyState) → IsUp (D.view disk.old) memory.old table.old s → LeavesOnly (D.view disk.old) (D.view disk.new) (StandsStopped s (effects_of s request.now)) }
     ensures cached { D.tells disk.old → (s : AnyState) → IsUp (D.view disk.old) memory.old table.old s → OnOk result (recent.new.start ≡ cached_behind recent.old.start (effects_of s request.now)) }
-    ensures reads { All IsNumber deeds.now → D.reads disk.new ≡ D.reads disk.old }
+    ensures reads { D.reads disk.new ≡ D.reads disk.old }
     ensures cause { HasCause (D.faults disk.old) (D.faults disk.new) (D.steady disk.old) (D.steady disk.new) result }
 {
     let front = behind_front(alloc, memory, request);
@@ -174,7 +172,7 @@ fn finish<D: Disk>(
     ensures moments { D.tells disk.old → (s : AnyState) → IsUp (D.view disk.old) memory.old table.old s → LeavesOnly (D.view disk.old) (D.view disk.new) (StandsStopped s (effects_of s request.now)) }
     ensures stable { D.tells disk.old → (s : AnyState) → IsUp (D.view disk.old) memory.old table.old s → IsNoFault result → AllLeave (D.view disk.new) (λ c. StandsAs c (after_effects s (effects_of s request.now))) }
     ensures cached { D.tells disk.old → (s : AnyState) → IsUp (D.view disk.old) memory.old table.old s → IsNoFault result → recent.new.start ≡ cached_behind recent.old.start (effects_of s request.now) }
-    ensures reads { All IsNumber deeds.now → D.reads disk.new ≡ D.reads disk.old }
+    ensures reads { D.reads disk.new ≡ D.reads disk.old }
     ensures cause { IsCaused (D.faults disk.old) (D.faults disk.new) (D.steady disk.old) (D.steady disk.new) result }
 {
     match carry_out(alloc, disk, memory, table, recent, request, deeds, refusal) {

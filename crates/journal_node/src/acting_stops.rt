@@ -46,6 +46,7 @@ fn stop_behind<D: Disk>(
     ensures done { D.tells disk.old → (s : AnyState) → IsUp (D.view disk.old) memory.old table.old s → OnOk result (IsDown (D.view disk.new) memory.new table.new (stopped s request.now count)) }
     ensures stopped { D.tells disk.old → (s : AnyState) → IsUp (D.view disk.old) memory.old table.old s → OnErr result (IsStoppedIn (D.view disk.new) memory.new table.new s request.now) }
     ensures moments { D.tells disk.old → (s : AnyState) → IsUp (D.view disk.old) memory.old table.old s → LeavesOnly (D.view disk.old) (D.view disk.new) (StandsStopped s (take count (effects_of s request.now))) }
+    ensures reads { D.reads disk.new ≡ D.reads disk.old }
     ensures cause { HasCause (D.faults disk.old) (D.faults disk.new) (D.steady disk.old) (D.steady disk.new) result }
 {
     let done = do_deeds(alloc, disk, memory, table, request, &deeds[..count]);
@@ -55,7 +56,7 @@ fn stop_behind<D: Disk>(
 
 /// Does the first durable effects of a request, at most `keep`, at a node over a disk of which memory and
 /// the table are given, and goes down; answers how many it did. Want of memory before the first of them
-/// changes nothing.
+/// changes nothing. No file is read.
 pub(crate) fn stop<D: Disk>(
     alloc: Global,
     disk: &mut D,
@@ -72,6 +73,7 @@ pub(crate) fn stop<D: Disk>(
         → (t : AnyState) × HasState memory.new.up (D.view disk.new) memory.new table.new t × Stops (Some s) request.now keep result (Some t) }
     ensures moments { D.tells disk.old → (s : AnyState) → IsUp (D.view disk.old) memory.old table.old s → LeavesOnly (D.view disk.old) (D.view disk.new) (StandsStopped s (take keep (effects_of s request.now))) }
     ensures idle { memory.old.up ≡ false → disk.new ≡ disk.old }
+    ensures reads { D.reads disk.new ≡ D.reads disk.old }
     ensures later { D.faults disk.old ≤ D.faults disk.new }
     ensures fault { result ≡ Err NodeFail.DiskFault → Rose (D.faults disk.old) (D.faults disk.new) }
     ensures steady { D.steady disk.old → D.steady disk.new × (result ≢ Err NodeFail.DiskFault) }

@@ -1,6 +1,5 @@
 //! The deeds of a request are done at a node's disk.
 ghost use Rattle.std.specs.Prelude.{◌≡◌, ◌↔◌, ℕ, None, List, Option, map, OnOk, OnErr};
-ghost use Rattle.std.specs.List.{All};
 ghost use Rattle.qj_disk.specs.View.{LeavesOnly, AllLeave};
 ghost use Rattle.qj_disk.specs.Calls.{HasCause};
 ghost use Rattle.journal_core.specs.declared.cut.Cut.{Cut};
@@ -13,7 +12,6 @@ ghost use Rattle.segment_file.specs.Effects.{IsCounted};
 ghost use Rattle.node_deeds.specs.Told.{Tells, state_with};
 ghost use Rattle.node_deeds.specs.Due.{AreDue};
 ghost use Rattle.journal_node.specs.Held.{IsHeld, OpenedAt, StandsStopped};
-ghost use Rattle.journal_node.specs.Doing.{IsNumber};
 ghost use Rattle.journal_node.specs.Done.{effects_by, CanDoAll, EndOpen, LeftStopped, KeepCosts, calls_of, IsCutAmong};
 
 use crate::doing::do_deed;
@@ -29,7 +27,7 @@ use std::alloc::Global;
 /// any moment leaves files that stand for the state behind the first deeds, some number of them, and once
 /// this answered Ok only behind all, which memory and the table then tell too. An `Err` leaves a table that
 /// has a row of each segment of which the files tell. `Failed` comes where the disk failed, `OutOfMemory`
-/// for want of memory. Where each stores a number, nothing is read.
+/// for want of memory. Nothing is read.
 pub fn do_deeds<D: Disk>(
     alloc: Global,
     disk: &mut D,
@@ -61,7 +59,7 @@ pub fn do_deeds<D: Disk>(
         → (cut : Cut) → IsCounted (calls_of (map (cost_of cut s.segments) (effects_by request.now deeds.now))) (D.left disk.old) (D.left disk.new) result }
     ensures cut { D.tells disk.old → (s : AnyState) → CanDoAll (D.view disk.old) memory.old table.old s request.now deeds.now → KeepCosts s.segments (effects_by request.now deeds.now)
         → IsCutAmong s (effects_by request.now deeds.now) (D.left disk.old) result (D.view disk.new) table.new }
-    ensures reads { All IsNumber deeds.now → D.reads disk.new ≡ D.reads disk.old }
+    ensures reads { D.reads disk.new ≡ D.reads disk.old }
     ensures cause { HasCause (D.faults disk.old) (D.faults disk.new) (D.steady disk.old) (D.steady disk.new) result }
 {
     for deed in deeds {

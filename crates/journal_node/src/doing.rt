@@ -15,7 +15,7 @@ ghost use Rattle.node_deeds.specs.Told.{Tells};
 ghost use Rattle.node_deeds.specs.Due.{batch_of, effect_of, IsDue, IsInRange};
 ghost use Rattle.journal_node.specs.FileState.{Covers, without_segments};
 ghost use Rattle.journal_node.specs.Held.{IsHeld, OpenedAt, MayLeave, numbers_after, Opens, Spares};
-ghost use Rattle.journal_node.specs.Doing.{place_after, CanDo, DoesDeed, IsNoted, IsNumber, NotedAtFault};
+ghost use Rattle.journal_node.specs.Doing.{place_after, CanDo, DoesDeed, IsNoted, NotedAtFault};
 
 use journal_core::{Batch, NodeState, Request, SegmentInfo, SegmentLine};
 use node_deeds::{Deed, apply, note};
@@ -111,6 +111,7 @@ fn do_begin<D: Disk>(
         → DoesDeed s request.now (Deed.Begin start epoch) result (D.view disk.old) (D.view disk.new) (D.left disk.old) (D.left disk.new) }
     ensures left { D.tells disk.old → (s : AnyState) → CanDo (D.view disk.old) (without_segments s) table.old s request.now (Deed.Begin start epoch)
         → AllLeave (D.view disk.new) (MayLeave table.new s (after_effect s (effect_of request.now (Deed.Begin start epoch)))) }
+    ensures reads { D.reads disk.new ≡ D.reads disk.old }
     ensures cause { HasCause (D.faults disk.old) (D.faults disk.new) (D.steady disk.old) (D.steady disk.new) result }
 {
     note_row(table, request, Deed::Begin { start, epoch }, 0)?;
@@ -139,6 +140,7 @@ fn append_batch<D: Disk>(
         → DoesDeed s request.now (Deed.Append start at) result (D.view disk.old) (D.view disk.new) (D.left disk.old) (D.left disk.new) }
     ensures left { D.tells disk.old → (s : AnyState) → CanDo (D.view disk.old) (without_segments s) table.old s request.now (Deed.Append start at)
         → AllLeave (D.view disk.new) (MayLeave table.new s (after_effect s (effect_of request.now (Deed.Append start at)))) }
+    ensures reads { D.reads disk.new ≡ D.reads disk.old }
     ensures cause { HasCause (D.faults disk.old) (D.faults disk.new) (D.steady disk.old) (D.steady disk.new) result }
 {
     match append_edits(alloc, disk, start, at, batch) {
@@ -170,6 +172,7 @@ fn do_append<D: Disk>(
         → DoesDeed s request.now (Deed.Append start at) result (D.view disk.old) (D.view disk.new) (D.left disk.old) (D.left disk.new) }
     ensures left { D.tells disk.old → (s : AnyState) → CanDo (D.view disk.old) (without_segments s) table.old s request.now (Deed.Append start at)
         → AllLeave (D.view disk.new) (MayLeave table.new s (after_effect s (effect_of request.now (Deed.Append start at)))) }
+    ensures reads { D.reads disk.new ≡ D.reads disk.old }
     ensures cause { HasCause (D.faults disk.old) (D.faults disk.new) (D.steady disk.old) (D.steady disk.new) result }
 {
     match batch_in(request) {
@@ -200,6 +203,7 @@ fn accept_batch<D: Disk>(
         → DoesDeed s request.now (Deed.Accept epoch again) result (D.view disk.old) (D.view disk.new) (D.left disk.old) (D.left disk.new) }
     ensures left { D.tells disk.old → (s : AnyState) → CanDo (D.view disk.old) (without_segments s) table.old s request.now (Deed.Accept epoch again)
         → AllLeave (D.view disk.new) (MayLeave table.new s (after_effect s (effect_of request.now (Deed.Accept epoch again)))) }
+    ensures reads { D.reads disk.new ≡ D.reads disk.old }
     ensures cause { HasCause (D.faults disk.old) (D.faults disk.new) (D.steady disk.old) (D.steady disk.new) result }
 {
     note_row(table, request, Deed::Accept { epoch, again }, 0)?;
@@ -226,6 +230,7 @@ fn do_accept<D: Disk>(
         → DoesDeed s request.now (Deed.Accept epoch again) result (D.view disk.old) (D.view disk.new) (D.left disk.old) (D.left disk.new) }
     ensures left { D.tells disk.old → (s : AnyState) → CanDo (D.view disk.old) (without_segments s) table.old s request.now (Deed.Accept epoch again)
         → AllLeave (D.view disk.new) (MayLeave table.new s (after_effect s (effect_of request.now (Deed.Accept epoch again)))) }
+    ensures reads { D.reads disk.new ≡ D.reads disk.old }
     ensures cause { HasCause (D.faults disk.old) (D.faults disk.new) (D.steady disk.old) (D.steady disk.new) result }
 {
     match batch_in(request) {
@@ -254,6 +259,7 @@ fn do_finalize<D: Disk>(
         → DoesDeed s request.now (Deed.Finalize start end accepted) result (D.view disk.old) (D.view disk.new) (D.left disk.old) (D.left disk.new) }
     ensures left { D.tells disk.old → (s : AnyState) → CanDo (D.view disk.old) (without_segments s) table.old s request.now (Deed.Finalize start end accepted)
         → AllLeave (D.view disk.new) (MayLeave table.new s (after_effect s (effect_of request.now (Deed.Finalize start end accepted)))) }
+    ensures reads { D.reads disk.new ≡ D.reads disk.old }
     ensures cause { HasCause (D.faults disk.old) (D.faults disk.new) (D.steady disk.old) (D.steady disk.new) result }
 {
     let deed = Deed::Finalize {
@@ -285,6 +291,7 @@ fn do_remove<D: Disk>(
         → DoesDeed s request.now (Deed.Remove info) result (D.view disk.old) (D.view disk.new) (D.left disk.old) (D.left disk.new) }
     ensures left { D.tells disk.old → (s : AnyState) → CanDo (D.view disk.old) (without_segments s) table.old s request.now (Deed.Remove info)
         → AllLeave (D.view disk.new) (MayLeave table.new s (after_effect s (effect_of request.now (Deed.Remove info)))) }
+    ensures reads { D.reads disk.new ≡ D.reads disk.old }
     ensures cause { HasCause (D.faults disk.old) (D.faults disk.new) (D.steady disk.old) (D.steady disk.new) result }
 {
     let _rows = table.as_slice();
@@ -319,7 +326,7 @@ fn do_calls<D: Disk>(
         → DoesDeed s request.now deed result (D.view disk.old) (D.view disk.new) (D.left disk.old) (D.left disk.new) }
     ensures left { D.tells disk.old → (s : AnyState) → CanDo (D.view disk.old) (without_segments s) table.old s request.now deed
         → AllLeave (D.view disk.new) (MayLeave table.new s (after_effect s (effect_of request.now deed))) }
-    ensures reads { IsNumber deed → D.reads disk.new ≡ D.reads disk.old }
+    ensures reads { D.reads disk.new ≡ D.reads disk.old }
     ensures cause { HasCause (D.faults disk.old) (D.faults disk.new) (D.steady disk.old) (D.steady disk.new) result }
 {
     match deed {
@@ -375,7 +382,7 @@ pub fn do_deed<D: Disk>(
         → (cut : Cut) → IsCounted (cost_of cut s.segments (effect_of request.now deed)).calls (D.left disk.old) (D.left disk.new) result }
     ensures cut { D.tells disk.old → (s : AnyState) → CanDo (D.view disk.old) memory.old table.old s request.now deed
         → IsCutAt (λ cut. cost_of cut s.segments (effect_of request.now deed)) s (after_effect s (effect_of request.now deed)) (D.left disk.old) result (D.view disk.new) }
-    ensures reads { IsNumber deed → D.reads disk.new ≡ D.reads disk.old }
+    ensures reads { D.reads disk.new ≡ D.reads disk.old }
     ensures cause { HasCause (D.faults disk.old) (D.faults disk.new) (D.steady disk.old) (D.steady disk.new) result }
 {
     do_calls(alloc, disk, table, request, deed)?;

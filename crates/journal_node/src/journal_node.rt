@@ -85,7 +85,7 @@ impl<D: Disk> JournalNode<D> {
     /// Does the first durable effects of a request, at most `keep`, and goes down; answers how many it did.
     /// Want of memory before the first of them changes nothing but that no segment is cached any more. A crash
     /// at any moment of the call leaves files that stand for the state behind the first of these, some number
-    /// of them. Of a node that is down no disk call is made.
+    /// of them. Of a node that is down no disk call is made, and no file is read.
     pub fn act_stopped(
         &mut self,
         alloc: Global,
@@ -95,6 +95,7 @@ impl<D: Disk> JournalNode<D> {
         ensures stop { Stops (told_state (D.is_told self.old.disk) (D.view self.old.disk).seen self.old.memory self.old.rows) request.now keep result (told_state (D.is_told self.new.disk) (D.view self.new.disk).seen self.new.memory self.new.rows) }
         ensures moments { D.tells self.old.disk → (s : AnyState) → IsUp (D.view self.old.disk) self.old.memory self.old.rows s → LeavesOnly (D.view self.old.disk) (D.view self.new.disk) (StandsStopped s (take keep (effects_of s request.now))) }
         ensures idle { self.old.memory.up ≡ false → self.new.disk ≡ self.old.disk }
+        ensures unread { D.reads self.new.disk ≡ D.reads self.old.disk }
         ensures later { D.faults self.old.disk ≤ D.faults self.new.disk }
         ensures fault { result ≡ Err NodeFail.DiskFault → Rose (D.faults self.old.disk) (D.faults self.new.disk) }
         ensures steady { D.steady self.old.disk → D.steady self.new.disk × (result ≢ Err NodeFail.DiskFault) }

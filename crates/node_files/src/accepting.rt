@@ -44,6 +44,7 @@ pub fn accept_edits<D: Disk>(
     ensures counts { IsCounted (accept_cost again).calls (D.left disk.old) (D.left disk.new) (put_result result) }
     ensures cut { D.tells disk.old → (s : NodeState) → HoldsState (D.view disk.old) s → CanAccept epoch batch.now again s.segments
         → IsCutAt (λ _. accept_cost again) s (after_effect s (Replace epoch batch.now)) (D.left disk.old) (put_result result) (D.view disk.new) }
+    ensures reads { D.reads disk.new ≡ D.reads disk.old }
     ensures cause { HasCause (D.faults disk.old) (D.faults disk.new) (D.steady disk.old) (D.steady disk.new) (put_result result) }
 {
     prove!(!batch.bodies().is_empty());

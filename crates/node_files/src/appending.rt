@@ -51,6 +51,7 @@ pub fn append_edits<D: Disk>(
     ensures counts { IsCounted 4 (D.left disk.old) (D.left disk.new) (appended_result result) }
     ensures cut { D.tells disk.old → (s : NodeState) (g : Segment) → HoldsState (D.view disk.old) s → CanAppend start at batch.now s.segments (D.view disk.old) g
         → IsCutAt append_cost s (after_effect s (Append start batch.now.bodies)) (D.left disk.old) (appended_result result) (D.view disk.new) }
+    ensures reads { D.reads disk.new ≡ D.reads disk.old }
     ensures cause { HasCause (D.faults disk.old) (D.faults disk.new) (D.steady disk.old) (D.steady disk.new) (appended_result result) }
 {
     append(alloc, disk, start, at, batch)

@@ -31,6 +31,7 @@ pub fn begin_segment<D: Disk>(alloc: Global, disk: &mut D, start: u64, epoch: u6
     ensures counts { IsCounted 3 (D.left disk.old) (D.left disk.new) (put_result result) }
     ensures cut { D.tells disk.old → (s : NodeState) → HoldsState (D.view disk.old) s → CanBegin start s.segments
         → IsCutAt (λ _. segment_cost) s (after_effect s (NewSegment start epoch)) (D.left disk.old) (put_result result) (D.view disk.new) }
+    ensures reads { D.reads disk.new ≡ D.reads disk.old }
     ensures cause { HasCause (D.faults disk.old) (D.faults disk.new) (D.steady disk.old) (D.steady disk.new) (put_result result) }
 {
     create(alloc, disk, start, epoch)

@@ -19,6 +19,7 @@ pub fn clear_record<D: Disk>(alloc: Global, disk: &mut D, start: u64, accepted: 
     ensures tells { D.tells disk.old ↔ D.tells disk.new }
     ensures clears { D.tells disk.old → Clears accepted start (put_result result) (D.view disk.old) (D.view disk.new) }
     ensures counts { IsCounted (clear_calls accepted) (D.left disk.old) (D.left disk.new) (put_result result) }
+    ensures reads { D.reads disk.new ≡ D.reads disk.old }
     ensures cause { HasCause (D.faults disk.old) (D.faults disk.new) (D.steady disk.old) (D.steady disk.new) (put_result result) }
 {
     if !accepted {

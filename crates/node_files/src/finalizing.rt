@@ -42,6 +42,7 @@ pub fn finalize_segment<D: Disk>(
     ensures counts { IsCounted (name_cost accepted).calls (D.left disk.old) (D.left disk.new) (put_result result) }
     ensures cut { D.tells disk.old → (s : NodeState) (g : Segment) → HoldsState (D.view disk.old) s → CanFinalize start end s.segments g → g.accepted ≡ accepted
         → IsCutAt (λ _. name_cost accepted) s (after_effect s (MakeFinal start)) (D.left disk.old) (put_result result) (D.view disk.new) }
+    ensures reads { D.reads disk.new ≡ D.reads disk.old }
     ensures cause { HasCause (D.faults disk.old) (D.faults disk.new) (D.steady disk.old) (D.steady disk.new) (put_result result) }
 {
     match finalize(alloc, disk, start, end) {

@@ -44,6 +44,7 @@ pub fn remove_segment<D: Disk>(
     ensures cut { D.tells disk.old → (s : NodeState) (g : Segment) → HoldsState (D.view disk.old) s
         → CanDiscard segment.now.start segment.now.end segment.now.is_final s.segments g → g.accepted ≡ accepted
         → IsCutAt (λ _. name_cost accepted) s (after_effect s (Remove segment.now.start)) (D.left disk.old) (put_result result) (D.view disk.new) }
+    ensures reads { D.reads disk.new ≡ D.reads disk.old }
     ensures cause { HasCause (D.faults disk.old) (D.faults disk.new) (D.steady disk.old) (D.steady disk.new) (put_result result) }
 {
     match discard(alloc, disk, segment) {

@@ -10,6 +10,8 @@ mod lines;
 #[cfg(test)]
 mod nodes;
 #[cfg(test)]
+mod openings;
+#[cfg(test)]
 mod recent;
 #[cfg(test)]
 mod requests;

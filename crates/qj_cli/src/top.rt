@@ -94,14 +94,15 @@ fn play_or_list<S: Source, K: Sink, D: Disk>(
 ///   source with its reply line. Each reply is written, and the sink flushed, before the source is read again.
 ///
 /// A report and a listing are computed before any of it is written. `Usage`: other words, with the place, from 0, of the first
-/// word that is missing or wrong; nothing is read. `Limit`: the source has more than 1,048,576 bytes, the report would have
-/// more than 268,435,456, or the file has more than 134,217,728; of a node a line with more than 1,048,576, or a source with
-/// more than 1,073,741,824. `BadScript`: the first line, from 1, that breaks a rule, and the rule; of a node the first that
-/// isn't a request. `BadBytes`: the place of the file's first damage and its cause, `0 NoFile` where there is no such file;
-/// of a node `0 BadFile NAME` where this file isn't in its format, so that the node isn't opened. `ReadFault`: the source
-/// failed. `DiskFault`: the disk failed. `WriteFault`: the sink failed while the report, the listing or a reply was written;
-/// a prefix was. `OutOfMemory`: memory ran out. Each but `WriteFault` writes its line `error NAME ..`, behind the replies of a
-/// node to the lines before, and stays the status where that line's writing fails. The disk is given back.
+/// word that is missing or wrong; the source isn't called then, which no clause says. `Limit`: the source has more than
+/// 1,048,576 bytes, the report would have more than 268,435,456, or the file has more than 134,217,728; of a node a line with
+/// more than 1,048,576, or a source with more than 1,073,741,824. `BadScript`: the first line, from 1, that breaks a rule, and
+/// the rule; of a node the first that isn't a request. `BadBytes`: the place of the file's first damage and its cause, `0
+/// NoFile` where there is no such file; of a node `0 BadFile NAME` where this file isn't in its format, so that the node isn't
+/// opened. `ReadFault`: the source failed. `DiskFault`: the disk failed. `WriteFault`: the sink failed while the report, the
+/// listing or a reply was written; a prefix was. `OutOfMemory`: memory ran out. Each but `WriteFault` writes its line `error
+/// NAME ..`, behind the replies of a node to the lines before, and stays the status where that line's writing fails. The disk
+/// is given back.
 pub fn qjm<S: Source, K: Sink, D: Disk>(
     alloc: Global,
     words: &[String],

@@ -2,3 +2,4 @@ pub mod PrintLaws
 pub mod WordLaws
 pub mod ReadLaws
 pub mod LineLaws
+pub mod CountLaws

@@ -19,7 +19,7 @@ Keeps-on a b c p q = record { rest = p.rest ++ q.rest; same = q.same ∙ ap (λ 
 pub Keeps-cut : (a b : List ℕ) → Keeps a b → take (length a) b ≡ a
 Keeps-cut a b p = rw p.same (take_at a p.rest (length a) refl)
 
-numbers-append : (ms ns : List ℕ) → numbers_text (ms ++ ns) ≡ numbers_text ms ++ numbers_text ns
+pub numbers-append : (ms ns : List ℕ) → numbers_text (ms ++ ns) ≡ numbers_text ms ++ numbers_text ns
 unfolding numbers_text
 numbers-append [] ns = refl
 numbers-append (m ∷ ms) ns = ap (λ xs. spaced (decimal m) ++ xs) (numbers-append ms ns) ∙ sym (append_assoc (spaced (decimal m)) (numbers_text ms) (numbers_text ns))

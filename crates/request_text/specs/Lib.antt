@@ -4,3 +4,4 @@ pub mod Reading
 pub mod Words
 pub mod Lines
 pub mod ExampleTexts
+pub mod Counts

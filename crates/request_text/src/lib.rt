@@ -1,6 +1,8 @@
 //! The texts of requests and replies: printed, and of requests read.
 #![tactic(auto)]
 
+mod counting;
+mod counting_replies;
 mod examples;
 mod laws;
 mod printing;
@@ -11,6 +13,8 @@ mod request_word;
 mod requests;
 mod words;
 
+pub use counting::{count_bytes, count_number, count_numbers, count_request};
+pub use counting_replies::count_reply;
 pub use examples::{a_session_is_printed, a_session_is_read};
 pub use laws::texts_are_read;
 pub use reading::read_request;

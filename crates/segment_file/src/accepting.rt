@@ -29,6 +29,7 @@ fn stage_by<D: Disk>(disk: &mut D, way: &str, bytes: &[u8]) -> Result<(), DiskFa
     ensures quiet { D.tells disk.old → Quiet (Disturbs way.now) (D.view disk.old) (D.view disk.new) }
     ensures staged { D.tells disk.old → OnOk result (IsStaged way.now bytes.now (D.view disk.new)) }
     ensures counts { IsCounted 2 (D.left disk.old) (D.left disk.new) result }
+    ensures reads { D.reads disk.new ≡ D.reads disk.old }
     ensures cause { HasCause (D.faults disk.old) (D.faults disk.new) (D.steady disk.old) (D.steady disk.new) result }
 {
     disk.write_at(way, 0, bytes)?;
@@ -59,6 +60,7 @@ fn stage<D: Disk>(alloc: Global, disk: &mut D, epoch: u64, batch: &Batch) -> Res
     ensures staged { D.tells disk.old → OnOk result (IsStaged (name_of batch.now.first (UnderWay epoch)) (content_of batch.now.first epoch (frame_bytes batch.now)) (D.view disk.new)) }
     ensures good { OnOk result (broken_rule batch.now.first batch.now ≡ None) }
     ensures counts { IsCounted 2 (D.left disk.old) (D.left disk.new) result }
+    ensures reads { D.reads disk.new ≡ D.reads disk.old }
     ensures cause { HasCause (D.faults disk.old) (D.faults disk.new) (D.steady disk.old) (D.steady disk.new) result }
 {
     match content(alloc, epoch, batch) {
@@ -82,6 +84,7 @@ fn put_record<D: Disk>(
     ensures tells { D.tells disk.old ↔ D.tells disk.new }
     ensures put { D.tells disk.old → Effect (Disturbs (name_of batch.now.first FreshRecord)) (Puts (name_of batch.now.first Record) (name_of batch.now.first FreshRecord) (record_bytes (record { epoch = epoch; end = last_txid batch.now }))) result (D.view disk.old) (D.view disk.new) }
     ensures cut { PutCut (D.left disk.old) (D.left disk.new) (D.tells disk.old) (name_of batch.now.first FreshRecord) result (D.view disk.old) (D.view disk.new) }
+    ensures reads { D.reads disk.new ≡ D.reads disk.old }
     ensures cause { HasCause (D.faults disk.old) (D.faults disk.new) (D.steady disk.old) (D.steady disk.new) result }
 {
     as_result(PaxosFile::put(alloc, disk, batch.first(), epoch, batch.last()))
@@ -115,6 +118,7 @@ fn settle<D: Disk>(alloc: Global, disk: &mut D, epoch: u64, batch: &Batch) -> Re
     ensures tells { D.tells disk.old ↔ D.tells disk.new }
     ensures moves { D.tells disk.old → Atomic (Moves (name_of batch.now.first (UnderWay epoch)) (name_of batch.now.first InProgress)) result (D.view disk.old) (D.view disk.new) }
     ensures cut { OneCut (D.left disk.old) (D.left disk.new) (D.tells disk.old) result (D.view disk.old) (D.view disk.new) }
+    ensures reads { D.reads disk.new ≡ D.reads disk.old }
     ensures cause { HasCause (D.faults disk.old) (D.faults disk.new) (D.steady disk.old) (D.steady disk.new) result }
 {
     match both_names(alloc, epoch, batch) {
@@ -142,6 +146,7 @@ fn accept_by<D: Disk>(
     ensures counts { IsCounted 6 (D.left disk.old) (D.left disk.new) result }
     ensures cut { D.tells disk.old → (gs : List Segment) → IsReady (D.view disk.old) gs → CanReplace epoch batch.now gs (D.view disk.old)
         → IsCut (λ _. accept_cost false) gs (segments_after gs (Replace epoch batch.now)) (D.left disk.old) result (D.view disk.new) }
+    ensures reads { D.reads disk.new ≡ D.reads disk.old }
     ensures cause { HasCause (D.faults disk.old) (D.faults disk.new) (D.steady disk.old) (D.steady disk.new) result }
 {
     stage(alloc, disk, epoch, batch)?;
@@ -172,6 +177,7 @@ pub fn replace<D: Disk>(alloc: Global, disk: &mut D, epoch: u64, batch: &Batch) 
     ensures counts { IsCounted 6 (D.left disk.old) (D.left disk.new) (put_result result) }
     ensures cut { D.tells disk.old → (gs : List Segment) → IsReady (D.view disk.old) gs → CanReplace epoch batch.now gs (D.view disk.old)
         → IsCut (λ _. accept_cost false) gs (segments_after gs (Replace epoch batch.now)) (D.left disk.old) (put_result result) (D.view disk.new) }
+    ensures reads { D.reads disk.new ≡ D.reads disk.old }
     ensures cause { HasCause (D.faults disk.old) (D.faults disk.new) (D.steady disk.old) (D.steady disk.new) (put_result result) }
 {
     Put::from(accept_by(alloc, disk, epoch, batch))

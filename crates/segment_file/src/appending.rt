@@ -48,6 +48,7 @@ fn append_to<D: Disk>(alloc: Global, disk: &mut D, start: u64, at: u64, behind: 
     ensures stable { D.tells disk.old → OnOk (put_result result) (IsStable (name_of start InProgress) (D.view disk.new)) }
     ensures cut { D.tells disk.old → (k : ℕ) → D.left disk.old ≡ Some k → IsErrOf (put_result result) DiskFail.Failed → IsCutAfter k (name_of start InProgress) at behind.now (D.view disk.old) (D.view disk.new) }
     ensures counts { GateCounts (D.left disk.old) (D.left disk.new) (put_result result) }
+    ensures reads { D.reads disk.new ≡ D.reads disk.old }
     ensures cause { HasCause (D.faults disk.old) (D.faults disk.new) (D.steady disk.old) (D.steady disk.new) (put_result result) }
 {
     match progress_name(alloc, start) {
@@ -89,6 +90,7 @@ fn append_frame<D: Disk>(
     ensures stable { D.tells disk.old → OnOk (appended_result result) (IsStable (name_of start InProgress) (D.view disk.new)) }
     ensures cut { D.tells disk.old → (k : ℕ) → D.left disk.old ≡ Some k → IsErrOf (appended_result result) DiskFail.Failed → IsCutAfter k (name_of start InProgress) at (behind_gate batch.now) (D.view disk.old) (D.view disk.new) }
     ensures counts { GateCounts (D.left disk.old) (D.left disk.new) (appended_result result) }
+    ensures reads { D.reads disk.new ≡ D.reads disk.old }
     ensures cause { HasCause (D.faults disk.old) (D.faults disk.new) (D.steady disk.old) (D.steady disk.new) (appended_result result) }
 {
     match closed_frame(alloc, batch) {
@@ -124,6 +126,7 @@ pub fn append<D: Disk>(alloc: Global, disk: &mut D, start: u64, at: u64, batch: 
     ensures counts { IsCounted 4 (D.left disk.old) (D.left disk.new) (appended_result result) }
     ensures cut { D.tells disk.old → (gs : List Segment) (g : Segment) → IsReady (D.view disk.old) gs → CanAppend start at batch.now gs (D.view disk.old) g
         → IsCut append_cost gs (segments_after gs (Append start batch.now.bodies)) (D.left disk.old) (appended_result result) (D.view disk.new) }
+    ensures reads { D.reads disk.new ≡ D.reads disk.old }
     ensures cause { HasCause (D.faults disk.old) (D.faults disk.new) (D.steady disk.old) (D.steady disk.new) (appended_result result) }
 {
     append_frame(alloc, disk, start, at, batch)

@@ -62,6 +62,7 @@ pub fn place_segment<D: Disk>(
     ensures place { D.tells disk.old → Effect (Disturbs (name_of start Fresh)) (Places (name_of start InProgress) (name_of start Fresh) (content_of start epoch frame.now)) (put_result result) (D.view disk.old) (D.view disk.new) }
     ensures stable { D.tells disk.old → OnOk (put_result result) (IsStable (name_of start InProgress) (D.view disk.new)) }
     ensures cut { PutCut (D.left disk.old) (D.left disk.new) (D.tells disk.old) (name_of start Fresh) (put_result result) (D.view disk.old) (D.view disk.new) }
+    ensures reads { D.reads disk.new ≡ D.reads disk.old }
     ensures cause { HasCause (D.faults disk.old) (D.faults disk.new) (D.steady disk.old) (D.steady disk.new) (put_result result) }
 {
     match content_bytes(alloc, start, epoch, frame) {

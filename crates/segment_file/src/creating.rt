@@ -32,6 +32,7 @@ pub fn create<D: Disk>(alloc: Global, disk: &mut D, start: u64, epoch: u64) -> P
     ensures counts { IsCounted 3 (D.left disk.old) (D.left disk.new) (put_result result) }
     ensures cut { D.tells disk.old → (gs : List Segment) → IsReady (D.view disk.old) gs → CanCreate start epoch gs (D.view disk.old)
         → IsCut (λ _. segment_cost) gs (segments_after gs (NewSegment start epoch)) (D.left disk.old) (put_result result) (D.view disk.new) }
+    ensures reads { D.reads disk.new ≡ D.reads disk.old }
     ensures cause { HasCause (D.faults disk.old) (D.faults disk.new) (D.steady disk.old) (D.steady disk.new) (put_result result) }
 {
     place_segment(alloc, disk, start, epoch, &[])

@@ -26,6 +26,7 @@ fn remove_file<D: Disk>(alloc: Global, disk: &mut D, segment: &SegmentLine) -> P
     ensures tells { D.tells disk.old ↔ D.tells disk.new }
     ensures removes { D.tells disk.old → Atomic (ChangesOnly (name_of segment.now.start (kind_of segment.now.end segment.now.is_final)) IsGone) (put_result result) (D.view disk.old) (D.view disk.new) }
     ensures cut { OneCut (D.left disk.old) (D.left disk.new) (D.tells disk.old) (put_result result) (D.view disk.old) (D.view disk.new) }
+    ensures reads { D.reads disk.new ≡ D.reads disk.old }
     ensures cause { HasCause (D.faults disk.old) (D.faults disk.new) (D.steady disk.old) (D.steady disk.new) (put_result result) }
 {
     match kind_name(alloc, segment.start, segment.end, segment.is_final) {
@@ -50,6 +51,7 @@ pub fn discard<D: Disk>(alloc: Global, disk: &mut D, segment: &SegmentLine) -> P
     ensures counts { IsCounted 1 (D.left disk.old) (D.left disk.new) (put_result result) }
     ensures cut { D.tells disk.old → (gs : List Segment) (g : Segment) → IsReady (D.view disk.old) gs → CanDiscard segment.now.start segment.now.end segment.now.is_final gs g
         → IsCut (λ _. name_cost false) gs (segments_after gs (Remove segment.now.start)) (D.left disk.old) (put_result result) (D.view disk.new) }
+    ensures reads { D.reads disk.new ≡ D.reads disk.old }
     ensures cause { HasCause (D.faults disk.old) (D.faults disk.new) (D.steady disk.old) (D.steady disk.new) (put_result result) }
 {
     remove_file(alloc, disk, segment)

@@ -36,6 +36,7 @@ fn rename_to_final<D: Disk>(alloc: Global, disk: &mut D, start: u64, end: u64) -
     ensures tells { D.tells disk.old ↔ D.tells disk.new }
     ensures moves { D.tells disk.old → Atomic (Moves (name_of start InProgress) (name_of start (Final end))) (put_result result) (D.view disk.old) (D.view disk.new) }
     ensures cut { OneCut (D.left disk.old) (D.left disk.new) (D.tells disk.old) (put_result result) (D.view disk.old) (D.view disk.new) }
+    ensures reads { D.reads disk.new ≡ D.reads disk.old }
     ensures cause { HasCause (D.faults disk.old) (D.faults disk.new) (D.steady disk.old) (D.steady disk.new) (put_result result) }
 {
     match both_names(alloc, start, end) {
@@ -60,6 +61,7 @@ pub fn finalize<D: Disk>(alloc: Global, disk: &mut D, start: u64, end: u64) -> P
     ensures counts { IsCounted 1 (D.left disk.old) (D.left disk.new) (put_result result) }
     ensures cut { D.tells disk.old → (gs : List Segment) (g : Segment) → IsReady (D.view disk.old) gs → CanFinalize start end gs g
         → IsCut (λ _. name_cost false) gs (segments_after gs (MakeFinal start)) (D.left disk.old) (put_result result) (D.view disk.new) }
+    ensures reads { D.reads disk.new ≡ D.reads disk.old }
     ensures cause { HasCause (D.faults disk.old) (D.faults disk.new) (D.steady disk.old) (D.steady disk.new) (put_result result) }
 {
     rename_to_final(alloc, disk, start, end)

@@ -28,6 +28,7 @@ pub fn append_behind_gate<D: Disk>(
     ensures stable { D.tells disk.old → OnOk result (IsStable name.now (D.view disk.new)) }
     ensures cut { D.tells disk.old → (k : ℕ) → D.left disk.old ≡ Some k → IsErrOf result DiskFail.Failed → IsCutAfter k name.now at behind.now (D.view disk.old) (D.view disk.new) }
     ensures counts { GateCounts (D.left disk.old) (D.left disk.new) result }
+    ensures reads { D.reads disk.new ≡ D.reads disk.old }
     ensures cause { HasCause (D.faults disk.old) (D.faults disk.new) (D.steady disk.old) (D.steady disk.new) result }
 {
     disk.write_at(name, at + 1, behind)?;

@@ -20,6 +20,7 @@ fn place_by<D: Disk>(disk: &mut D, tmp: &str, name: &str, bytes: &[u8]) -> Resul
     ensures place { D.tells disk.old → Effect (Disturbs tmp.now) (Places name.now tmp.now bytes.now) result (D.view disk.old) (D.view disk.new) }
     ensures stable { D.tells disk.old → OnOk result (IsStable name.now (D.view disk.new)) }
     ensures cut { PutCut (D.left disk.old) (D.left disk.new) (D.tells disk.old) tmp.now result (D.view disk.old) (D.view disk.new) }
+    ensures reads { D.reads disk.new ≡ D.reads disk.old }
     ensures cause { HasCause (D.faults disk.old) (D.faults disk.new) (D.steady disk.old) (D.steady disk.new) result }
 {
     disk.write_at(tmp, 0, bytes)?;
@@ -46,6 +47,7 @@ pub fn place_content<D: Disk>(alloc: Global, disk: &mut D, start: u64, bytes: &[
     ensures place { D.tells disk.old → Effect (Disturbs (name_of start Fresh)) (Places (name_of start InProgress) (name_of start Fresh) bytes.now) (put_result result) (D.view disk.old) (D.view disk.new) }
     ensures stable { D.tells disk.old → OnOk (put_result result) (IsStable (name_of start InProgress) (D.view disk.new)) }
     ensures cut { PutCut (D.left disk.old) (D.left disk.new) (D.tells disk.old) (name_of start Fresh) (put_result result) (D.view disk.old) (D.view disk.new) }
+    ensures reads { D.reads disk.new ≡ D.reads disk.old }
     ensures cause { HasCause (D.faults disk.old) (D.faults disk.new) (D.steady disk.old) (D.steady disk.new) (put_result result) }
 {
     match both_names(alloc, start) {

@@ -25,6 +25,7 @@ fn place_frame<D: Disk>(alloc: Global, disk: &mut D, epoch: u64, batch: &Batch) 
     ensures tells { D.tells disk.old ↔ D.tells disk.new }
     ensures place { D.tells disk.old → Effect (Disturbs (name_of batch.now.first Fresh)) (PlacesFrame epoch batch.now) (put_result result) (D.view disk.old) (D.view disk.new) }
     ensures cut { PutCut (D.left disk.old) (D.left disk.new) (D.tells disk.old) (name_of batch.now.first Fresh) (put_result result) (D.view disk.old) (D.view disk.new) }
+    ensures reads { D.reads disk.new ≡ D.reads disk.old }
     ensures cause { HasCause (D.faults disk.old) (D.faults disk.new) (D.steady disk.old) (D.steady disk.new) (put_result result) }
 {
     match good_frame(alloc, batch) {
@@ -51,6 +52,7 @@ pub fn replace_again<D: Disk>(alloc: Global, disk: &mut D, epoch: u64, batch: &B
     ensures counts { IsCounted 3 (D.left disk.old) (D.left disk.new) (put_result result) }
     ensures cut { D.tells disk.old → (gs : List Segment) (g : Segment) → IsReady (D.view disk.old) gs → CanReplaceAgain epoch batch.now gs (D.view disk.old) g
         → IsCut (λ _. accept_cost true) gs (segments_after gs (Replace epoch batch.now)) (D.left disk.old) (put_result result) (D.view disk.new) }
+    ensures reads { D.reads disk.new ≡ D.reads disk.old }
     ensures cause { HasCause (D.faults disk.old) (D.faults disk.new) (D.steady disk.old) (D.steady disk.new) (put_result result) }
 {
     place_frame(alloc, disk, epoch, batch)

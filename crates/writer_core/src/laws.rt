@@ -58,7 +58,7 @@ pub fn room_is_exact()
     ensures { RoomIsExact }
 {}
 
-/// An aborted round was answered with the Ok kind by no majority.
+/// An aborted round whose own numbers are at most 2^62 was answered with the Ok kind by no majority.
 pub fn aborts_are_minorities()
     ensures { AbortsAreMinorities }
 {}

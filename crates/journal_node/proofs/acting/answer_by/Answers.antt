@@ -1,9 +1,9 @@
 use Rattle.std.proofs.Common.{sym, subst, ◌∙◌}
 use Rattle.journal_core.specs.declared.node_state.NodeState.{NodeState}
 use Rattle.recent_edits.specs.Recent.{AsksRecent}
-use Rattle.journal_node.proofs.Recalling.{recalls_rests, asks_front, asked_numbers}
+use Rattle.journal_node.proofs.Recalling.{recalls_rests, asks_front}
 use Rattle.journal_node.proofs.NodeStands.{rests_up}
-use Rattle.journal_node.proofs.ActingDone.{is_up, up_of, once_of, are_of}
+use Rattle.journal_node.proofs.ActingDone.{is_up, up_of}
 use Rattle.journal_node.proofs.ActingAnswer.{foretold_by, front_same, rests_then, rests_moments, up_stands, node_down, fault_down, memory_same}
 use Rattle.journal_node.proofs.acting.answer_by.Goals as goal
 
@@ -62,8 +62,6 @@ returns-in-Ok-clause-cached g c = λ t s up own.
 pub returns-in-Ok-clause-unread : goal.returns-in-Ok-clause-unread
 returns-in-Ok-clause-unread g c = λ t s up asks.
     c.finish.ensures.reads
-    (asked_numbers c.args.recent.now.start s c.args.request.now c.args.deeds.now asks (once_of (g.D.Disk.view c.args.disk.now) c.args.memory.now c.args.table.now s c.args.request.now c.args.deeds.now up c.requires.at_once c.requires.effects c.requires.due)
-    (are_of (g.D.Disk.view c.args.disk.now) c.args.memory.now c.args.table.now s c.args.request.now c.args.deeds.now up c.requires.at_once c.requires.effects c.requires.due))
     ∙ c.foretell.ensures.unread s.segments up.held.told (c.requires.recalls t s (is_up c.args.memory.now c.args.request.now c.requires.at_once) up)
     (subst (λ (x : NodeState). AsksRecent c.args.recent.now.start x c.args.request.now) (sym (front_same c.args.memory.now s c.behind_front-front.result c.args.request.now up.held.memory c.behind_front-front.ensures)) (asks_front c.args.recent.now.start s c.args.request.now asks))
 

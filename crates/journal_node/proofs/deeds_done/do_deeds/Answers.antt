@@ -1,8 +1,6 @@
 use Rattle.std.proofs.Common.{◌≡◌, ◌+◌, get_or, take, drop, refl, ◌∙◌, rules}
 use Rattle.std.proofs.lemmas.List.{drop_all}
-use Rattle.std.proofs.lemmas.List.Elements.{All-get_or}
 use Rattle.std.specs.Prelude.{IsErr}
-use Rattle.journal_node.specs.Doing.{IsNumber}
 use Rattle.segment_file.proofs.GateLemmas.{carried}
 use Rattle.segment_file.proofs.Counts.{counted_as}
 use Rattle.node_files.specs.declared.node_number.NodeNumber.TheVariants.{Promised}
@@ -12,7 +10,7 @@ use Rattle.journal_node.proofs.DoneStops.{failed_rows, failed_rest, can_here, ru
 use Rattle.journal_node.proofs.deeds_done.do_deeds.Goals as goal
 
 pub loop-deed-init : goal.loop-deed-init
-loop-deed-init g c = record { way = begun (g.D.Disk.tells c.args.disk.now) (g.D.Disk.view c.args.disk.now) (λ t. g.met.D.Disk.sound _ t) c.args.memory.now c.args.table.now c.args.request.now c.args.deeds.now (g.D.Disk.faults c.args.disk.now) (g.D.Disk.steady c.args.disk.now) (g.D.Disk.left c.args.disk.now) c.requires.due; unread = λ numbers. refl }
+loop-deed-init g c = record { way = begun (g.D.Disk.tells c.args.disk.now) (g.D.Disk.view c.args.disk.now) (λ t. g.met.D.Disk.sound _ t) c.args.memory.now c.args.table.now c.args.request.now c.args.deeds.now (g.D.Disk.faults c.args.disk.now) (g.D.Disk.steady c.args.disk.now) (g.D.Disk.left c.args.disk.now) c.requires.due; unread = refl }
 
 pub do_deed-requires-clause-held : goal.do_deed-requires-clause-held
 do_deed-requires-clause-held g c = λ tells.
@@ -76,7 +74,7 @@ loop-deed-preserved g c = record {
       (way_here (g.D.Disk.tells c.args.disk.now) (g.D.Disk.tells c.loop-deed.disk) (g.D.Disk.view c.args.disk.now) (g.D.Disk.view c.loop-deed.disk) c.args.memory.now c.loop-deed.memory c.args.table.now c.loop-deed.table c.args.request.now c.args.deeds.now c.loop-deed.deed-index (Number Promised 0) (g.D.Disk.faults c.args.disk.now) (g.D.Disk.faults c.loop-deed.disk) (g.D.Disk.steady c.args.disk.now) (g.D.Disk.steady c.loop-deed.disk) (g.D.Disk.left c.args.disk.now) (g.D.Disk.left c.loop-deed.disk) c.loop-deed-test.true c.loop-deed.invariant.way)
       (g.D.Disk.tells c.do_deed.new.disk) (g.D.Disk.view c.do_deed.new.disk) c.do_deed.new.memory c.do_deed.new.table (g.D.Disk.faults c.do_deed.new.disk) (g.D.Disk.steady c.do_deed.new.disk) (g.D.Disk.left c.do_deed.new.disk) c.do_deed.result c.do_deed.ensures.tells c.do_deed.ensures.effect c.do_deed.ensures.counts c.do_deed.ensures.cause
       (search rules) c.in_ok-do_deed.ensures.noted.done c.in_ok-do_deed.ensures.rows c.in_ok-do_deed.ensures.memory c.in_ok-do_deed.ensures.held c.in_ok-do_deed.ensures.opened);
-  unread = λ numbers. c.do_deed.ensures.reads (All-get_or IsNumber c.args.deeds.now c.loop-deed.deed-index (Number Promised 0) c.loop-deed-test.true numbers) ∙ c.loop-deed.invariant.unread numbers;
+  unread = c.do_deed.ensures.reads ∙ c.loop-deed.invariant.unread;
 }
 
 pub returns-clause-rest : goal.returns-clause-rest
@@ -100,7 +98,7 @@ returns-clause-counts g c = λ t s can keep cut. ended_counts (g.D.Disk.tells c.
     c.loop-deed.invariant.way (drop_all c.loop-deed.deed-index c.args.deeds.now c.loop-deed-test.false) t s can keep cut _ refl
 
 pub returns-in_err-do_deed-clause-reads : goal.returns-in_err-do_deed-clause-reads
-returns-in_err-do_deed-clause-reads g c = λ numbers. c.do_deed.ensures.reads (All-get_or IsNumber c.args.deeds.now c.loop-deed.deed-index (Number Promised 0) c.loop-deed-test.true numbers) ∙ c.loop-deed.invariant.unread numbers
+returns-in_err-do_deed-clause-reads g c = c.do_deed.ensures.reads ∙ c.loop-deed.invariant.unread
 
 pub returns-clause-reads : goal.returns-clause-reads
-returns-clause-reads g c = λ numbers. c.loop-deed.invariant.unread numbers
+returns-clause-reads g c = c.loop-deed.invariant.unread
