@@ -6,3 +6,4 @@ pub mod Done
 pub mod Node
 pub mod Opening
 pub mod Cutting
+pub mod Acted

@@ -8,6 +8,7 @@ ghost use Rattle.journal_core.specs.Answers.{Answers, FitsRequest, Rose};
 ghost use Rattle.journal_core.specs.Stops.{Stops, Kills, Restarts};
 ghost use Rattle.node_files.specs.Durable.{StandsAs};
 ghost use Rattle.recent_edits.specs.Recent.{AsksRecent, cached_behind, nothing};
+ghost use Rattle.journal_node.specs.Acted.{IsActed};
 ghost use Rattle.journal_node.specs.FileState.{state_of};
 ghost use Rattle.journal_node.specs.Held.{StandsStopped};
 ghost use Rattle.journal_node.specs.Node.{IsUp, IsNoFault, told_state};
@@ -63,6 +64,7 @@ impl<D: Disk> JournalNode<D> {
     pub fn act(&mut self, alloc: Global, request: &Request) -> Reply
         ensures step { Answers (told_state (D.is_told self.old.disk) (D.view self.old.disk).seen self.old.memory self.old.rows) request.now result (told_state (D.is_told self.new.disk) (D.view self.new.disk).seen self.new.memory self.new.rows) }
         ensures fits { FitsRequest request.now result }
+        ensures acted { IsActed D.tells D.view self.old request.now result self.new }
         ensures moments { D.tells self.old.disk → (s : AnyState) → IsUp (D.view self.old.disk) self.old.memory self.old.rows s → LeavesOnly (D.view self.old.disk) (D.view self.new.disk) (StandsStopped s (effects_of s request.now)) }
         ensures stable { D.tells self.old.disk → (s : AnyState) → IsUp (D.view self.old.disk) self.old.memory self.old.rows s → IsNoFault result → AllLeave (D.view self.new.disk) (λ c. StandsAs c (after_effects s (effects_of s request.now))) }
         ensures idle { self.old.memory.up ≡ false → self.new.disk ≡ self.old.disk }

@@ -3,3 +3,4 @@ pub mod ReaderLaws
 pub mod AnswerLaws
 pub mod SessionLaws
 pub mod EndLaws
+pub mod AskLaws

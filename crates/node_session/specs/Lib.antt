@@ -1,4 +1,5 @@
 pub mod Answering
+pub mod Asking
 pub mod Examples
 pub mod Lines
 pub mod Reader

@@ -103,10 +103,15 @@ abbrev pub AreWritten : Served → Option (List ℕ) → Option (List ℕ) → L
 AreWritten served.WriteFault before now text part = Appends before now (text ++ part)
 AreWritten _ before now text part = Appends before now text
 
+-- what was asked after them is the next line, where it is known what it was
+abbrev pub IsAskedNext : Option (List ℕ) → List ℕ → ℕ → Type 0
+IsAskedNext None rest room = Unit {0}
+IsAskedNext (Some line) rest room = IsNext line rest room
+
 -- A session, where the source told its bytes and the node its state: the lines that were answered, and whose replies were written, are lines
--- of the input from its front on.
-pub record IsSession (outcome : Served) (told : List ℕ) (left : Option (List ℕ)) (old new : NodeState) (before now : Option (List ℕ)) : Type 0 where
-  pub lines : List (List ℕ)
+-- of the input from its front on; and so is the one, if any, that was asked after them, and whose reply wasn't written.
+pub record IsSession (lines : List (List ℕ)) (next : Option (List ℕ)) (outcome : Served) (told : List ℕ) (left : Option (List ℕ)) (old new : NodeState)
+    (before now : Option (List ℕ)) : Type 0 where
   pub whole : AreLines lines
   pub rest : List ℕ
   pub text : List ℕ
@@ -115,10 +120,11 @@ pub record IsSession (outcome : Served) (told : List ℕ) (left : Option (List �
   pub part : List ℕ
   pub written : AreWritten outcome before now text part
   pub ends : EndsBy outcome told lines rest left state new part
+  pub asked_next : IsAskedNext next rest (room_behind lines)
 
 -- the same where the one or the other may not be told
-abbrev pub IsSessionOf : Served → Option (List ℕ) → Option (List ℕ) → Option NodeState → Option NodeState → Option (List ℕ) → Option (List ℕ) → Type 0
-IsSessionOf outcome (Some told) left (Some old) (Some new) before now = IsSession outcome told left old new before now
-IsSessionOf outcome (Some told) left (Some old) None before now = ⊥
-IsSessionOf outcome (Some told) left None new before now = Unit {0}
-IsSessionOf outcome None left old new before now = Unit {0}
+abbrev pub IsSessionOf : List (List ℕ) → Option (List ℕ) → Served → Option (List ℕ) → Option (List ℕ) → Option NodeState → Option NodeState → Option (List ℕ) → Option (List ℕ) → Type 0
+IsSessionOf lines next outcome (Some told) left (Some old) (Some new) before now = IsSession lines next outcome told left old new before now
+IsSessionOf lines next outcome (Some told) left (Some old) None before now = ⊥
+IsSessionOf lines next outcome (Some told) left None new before now = Unit {0}
+IsSessionOf lines next outcome None left old new before now = Unit {0}

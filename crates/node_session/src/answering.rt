@@ -4,9 +4,11 @@ ghost use Rattle.journal_core.specs.Answers.{Rose};
 ghost use Rattle.request_text.specs.Reading.{reading_of};
 ghost use Rattle.request_text.specs.Texts.{reply_text};
 ghost use Rattle.node_session.specs.Answering.{IsAnsweredOf, IsToldBy};
+ghost use Rattle.node_session.specs.Asking.{IsAskedFor};
 
 use crate::answered::Answered;
-use journal_core::{Node, Refusal, Reply, Request};
+use crate::session_node::SessionNode;
+use journal_core::{Refusal, Reply, Request};
 use qj_num::OutOfMemory;
 use request_text::{ReadRequest, print_reply, read_request};
 use std::alloc::Global;
@@ -50,30 +52,32 @@ fn answer_with(reply: &Reply, out: &mut Vec<u8>) -> Answered
 }
 
 /// Has a node answer a request.
-fn answer_request<N: Node>(
+fn answer_request<N: SessionNode>(
     alloc: Global,
     node: &mut N,
     request: &Request,
     out: &mut Vec<u8>,
 ) -> Answered
     ensures answer { (line : List ℕ) → reading_of line ≡ ReadRequest.Read request.now → IsAnsweredOf result line (N.state node.old) (N.state node.new) out.new.items }
+    ensures asked { (line : List ℕ) → reading_of line ≡ ReadRequest.Read request.now → IsAskedFor N.asked result line node.old node.new }
     ensures told { is_some (N.state node.new) ≡ is_some (N.state node.old) }
     ensures later { N.faults node.old ≤ N.faults node.new }
     ensures fault { result ≡ Answered.DiskFault → Rose (N.faults node.old) (N.faults node.new) }
     ensures steady { N.steady node.old → N.steady node.new × (result ≢ Answered.DiskFault) }
 {
-    let reply = node.act(alloc, request);
+    let reply = node.ask(alloc, request);
     answer_with(&reply, out)
 }
 
 /// Has a node answer a line, and makes `out` its reply's text and an LF. A reply that tells want of memory or a fault of the disk has no text.
-pub(crate) fn answer_line<N: Node>(
+pub(crate) fn answer_line<N: SessionNode>(
     alloc: Global,
     node: &mut N,
     line: &[u8],
     out: &mut Vec<u8>,
 ) -> Answered
     ensures answer { IsAnsweredOf result line.now (N.state node.old) (N.state node.new) out.new.items }
+    ensures asked { IsAskedFor N.asked result line.now node.old node.new }
     ensures told { is_some (N.state node.new) ≡ is_some (N.state node.old) }
     ensures later { N.faults node.old ≤ N.faults node.new }
     ensures fault { result ≡ Answered.DiskFault → Rose (N.faults node.old) (N.faults node.new) }

@@ -8,8 +8,10 @@ mod more;
 mod next;
 mod served;
 mod serving;
+mod session_node;
 mod worked;
 
 pub use served::Served;
 pub use serving::serve;
+pub use session_node::SessionNode;
 pub use worked::{two_lines_are_all, two_lines_are_answered};

@@ -1,8 +1,9 @@
 // A session at a node.
-ghost use Rattle.std.specs.Prelude.{◌≡◌, ◌≢◌, ◌≤◌, Some, is_some};
+ghost use Rattle.std.specs.Prelude.{◌≡◌, ◌≢◌, ◌≤◌, ℕ, List, Option, Some, is_some};
 ghost use Rattle.qj_outside.specs.Faults.{Rose};
 ghost use Rattle.journal_core.specs.Answers.{Rose as NodeRose};
 ghost use Rattle.node_session.specs.Answering.{IsServedOf};
+ghost use Rattle.node_session.specs.Asking.{IsAskedBy, IsTrail};
 ghost use Rattle.node_session.specs.Session.{IsSessionOf};
 
 use crate::answered::Answered;
@@ -10,12 +11,12 @@ use crate::answering::answer_line;
 use crate::line_reader::LineReader;
 use crate::next::Next;
 use crate::served::Served;
-use journal_core::Node;
+use crate::session_node::SessionNode;
 use qj_outside::{Sink, Source, write_all};
 use std::alloc::Global;
 
 /// Has a node answer the line of this number, and writes the reply; or how the session ends with it.
-fn serve_line<N: Node, K: Sink>(
+fn serve_line<N: SessionNode, K: Sink>(
     alloc: Global,
     node: &mut N,
     sink: &mut K,
@@ -24,6 +25,7 @@ fn serve_line<N: Node, K: Sink>(
     reply: &mut Vec<u8>,
 ) -> Option<Served>
     ensures served { IsServedOf result number line.now (N.state node.old) (N.state node.new) (K.taken sink.old) (K.taken sink.new) }
+    ensures asked { IsAskedBy N.asked result line.now node.old node.new }
     ensures told { is_some (N.state node.new) ≡ is_some (N.state node.old) }
     ensures write_fault { result ≡ Some Served.WriteFault → Rose (K.faults sink.old) (K.faults sink.new) }
     ensures no_write_fault { result ≢ Some Served.WriteFault → K.faults sink.new ≡ K.faults sink.old }
@@ -51,14 +53,15 @@ fn serve_line<N: Node, K: Sink>(
 /// of more than 1,048,576 bytes. `LongInput`: the source has more than 1,073,741,824 bytes. `ReadFault`, `WriteFault`:
 /// the source or the sink failed. `DiskFault`: the node answered that its disk failed. `OutOfMemory`: there was no
 /// memory, here or at the node. The lines before were answered. A node that tells its state tells it behind the session,
-/// and one that doesn't tell it doesn't begin to.
-pub fn serve<N: Node, S: Source, K: Sink>(
+/// and one that doesn't tell it doesn't begin to. What is known of each answer is known of the lines in their order.
+pub fn serve<N: SessionNode, S: Source, K: Sink>(
     alloc: Global,
     node: &mut N,
     source: &mut S,
     sink: &mut K,
 ) -> Served
-    ensures session { IsSessionOf result (S.left source.old) (S.left source.new) (N.state node.old) (N.state node.new) (K.taken sink.old) (K.taken sink.new) }
+    ensures session { (lines : List (List ℕ)) × (next : Option (List ℕ)) × IsTrail N.asked lines next node.old node.new
+        × IsSessionOf lines next result (S.left source.old) (S.left source.new) (N.state node.old) (N.state node.new) (K.taken sink.old) (K.taken sink.new) }
     ensures told { is_some (N.state node.new) ≡ is_some (N.state node.old) }
     ensures read_fault { result ≡ Served.ReadFault → Rose (S.faults source.old) (S.faults source.new) }
     ensures no_read_fault { result ≢ Served.ReadFault → S.faults source.new ≡ S.faults source.old }

@@ -91,18 +91,21 @@ module _ (ended : Served) (s : Status) (mid now : Option (List ℕ)) (u w : ℕ)
   }
   line_behind v rose same (inr n) = subst (λ (k : ℕ). WritesLine (end_line told.outcome) mid now k w) (same n) told.line
 
-  pub session_told : (bytes left : Option (List ℕ)) (old new : Option NodeState) (reads reads_now : ℕ) (before : Option (List ℕ)) (v : ℕ) (tells_now : Type 0) (disk_now : View)
-      → IsSessionOf ended bytes left old new before mid
+  pub session_told : (lines : List (List ℕ)) (next : Option (List ℕ)) (Trail : List (List ℕ) → Option (List ℕ) → Type 0) (bytes left : Option (List ℕ)) (old new : Option NodeState) (reads reads_now : ℕ) (before : Option (List ℕ)) (v : ℕ) (tells_now : Type 0) (disk_now : View)
+      → Trail lines next → IsSessionOf lines next ended bytes left old new before mid
       → (ended ≡ served.ReadFault → Rose reads reads_now) → (ended ≢ served.ReadFault → reads_now ≡ reads)
       → (ended ≡ served.WriteFault → Rose v u) → (ended ≢ served.WriteFault → u ≡ v)
       → ((t : NodeState) → new ≡ Some t → IsKept disk_now t) → (tells_now → (t : NodeState) × IsKept disk_now t)
-      → ServesFrom old tells_now disk_now bytes left reads reads_now s before now v w
-  session_told bytes left old new reads reads_now before v tells_now disk_now session unread read unwritten written kept stands = record {
+      → ServesFrom Trail old tells_now disk_now bytes left reads reads_now s before now v w
+  session_told lines next Trail bytes left old new reads reads_now before v tells_now disk_now trail session unread read unwritten written kept stands = record {
     outcome = told.outcome;
     status_is = told.status_is;
     replied = mid;
     new = new;
-    session = session_as ended told.outcome bytes left old new before mid told.told_as session;
+    lines = lines;
+    next = next;
+    trail = trail;
+    session = session_as lines next ended told.outcome bytes left old new before mid told.told_as session;
     kept = kept;
     stands = stands;
     line = line_behind v unwritten written (write_or_not ended);

@@ -7,3 +7,4 @@ pub mod OneListing
 pub mod ServingLaws
 pub mod NodeLaws
 pub mod EndedLaws
+pub mod CrashLaws

@@ -4,6 +4,7 @@ pub mod Report
 pub mod Due
 pub mod Listing
 pub mod Found
+pub mod Crashes
 pub mod Serving
 pub mod NodeEnds
 pub mod Scripts

@@ -35,14 +35,17 @@ pub record IsKept (disk_now : View) (s : NodeState) : Type 0 where
   pub stands : StandsAs disk_now.seen s
   pub lasting : s.up ≡ true → AllLeave disk_now (λ c. StandsAs c s)
 
--- A session at a node of this state, where it told one, and what is left of it in the files.
-pub record ServesFrom (old : Option NodeState) (tells_now : Type 0) (disk_now : View) (told left : Option (List ℕ)) (reads_before reads_now : ℕ) (s : Status)
+-- A session at a node of this state, where it told one, and what is left of it in the files. `Trail` holds of the lines that were asked.
+pub record ServesFrom (Trail : List (List ℕ) → Option (List ℕ) → Type 0) (old : Option NodeState) (tells_now : Type 0) (disk_now : View) (told left : Option (List ℕ)) (reads_before reads_now : ℕ) (s : Status)
     (before now : Option (List ℕ)) (writes_before writes_now : ℕ) : Type 0 where
   pub outcome : Served
   pub status_is : s ≡ status_of outcome
   pub replied : Option (List ℕ)
   pub new : Option NodeState
-  pub session : IsSessionOf outcome told left old new before replied
+  pub lines : List (List ℕ)
+  pub next : Option (List ℕ)
+  pub trail : Trail lines next
+  pub session : IsSessionOf lines next outcome told left old new before replied
   pub kept : (t : NodeState) → new ≡ Some t → IsKept disk_now t
   pub stands : tells_now → (t : NodeState) × IsKept disk_now t
   pub line : WritesLine (end_line outcome) replied now writes_before writes_now

@@ -1,5 +1,5 @@
 -- How the serving of a node ends, what it writes, and what it leaves in the node's files.
-use Rattle.std.specs.Prelude.{ℕ, ◌≡◌, ◌≢◌, ◌⊎◌, Bool, true, false, List, [], ◌∷◌, ◌++◌, Option, Some, None, codes, decimal}
+use Rattle.std.specs.Prelude.{ℕ, ◌≡◌, ◌≢◌, Bool, true, false, List, [], ◌∷◌, ◌++◌, Option, Some, None, codes, decimal}
 use Rattle.std.specs.Io.KnownBytes.{Appends}
 use Rattle.qj_outside.specs.Faults.{Rose}
 use Rattle.qj_outside.specs.Whole.{TakesFront}
@@ -15,6 +15,7 @@ use Rattle.node_session.specs.declared.served.Served.TheVariants as served
 use Rattle.qj_cli.specs.declared.status.Status.{Status}
 use Rattle.qj_cli.specs.declared.status.Status.TheVariants as status
 use Rattle.qj_cli.specs.Due.{error_line}
+use Rattle.qj_cli.specs.Crashes.{OutlastsCrashes}
 
 -- ## The status and the line that are due
 -- of a session that ended so
@@ -55,36 +56,42 @@ pub record WritesLine (line : List ℕ) (before now : Option (List ℕ)) (faults
 
 -- A session at the node that the files gave, where disk and source told their bytes: the state that the files stood for, which the
 -- node was opened with, and the one behind the session. The files behind it stand for that one, and so do those that each crash
--- would leave, unless a fault or want of memory ended it.
-pub record IsNodeSession (outcome : Served) (files : Files) (told : List ℕ) (left before now : Option (List ℕ)) (disk_now : View) : Type 0 where
+-- would leave, unless a fault or want of memory ended it. A crash in the middle left no fewer of the lines than were answered by then.
+pub record IsNodeSession {D : Type 0} (view : D → View) (outcome : Served) (disk_before disk_now : D) (told : List ℕ) (left before now : Option (List ℕ)) : Type 0 where
   pub state : NodeState
-  pub stood : StandsAs files state
+  pub stood : StandsAs (view disk_before).seen state
   pub filled : AreFilled state.segments
   pub new : NodeState
-  pub session : IsSession outcome told left (restarted state) new before now
-  pub stands : StandsAs disk_now.seen new
-  pub lasting : outcome ≢ served.DiskFault → outcome ≢ served.OutOfMemory → AllLeave disk_now (λ c. StandsAs c new)
+  pub lines : List (List ℕ)
+  pub next : Option (List ℕ)
+  pub session : IsSession lines next outcome told left (restarted state) new before now
+  pub stands : StandsAs (view disk_now).seen new
+  pub lasting : outcome ≢ served.DiskFault → outcome ≢ served.OutOfMemory → AllLeave (view disk_now) (λ c. StandsAs c new)
+  pub crashes : OutlastsCrashes view disk_before disk_now (restarted state) lines next
 
--- the files stood for the state of a node, and stand for one
-pub record HoldsNode (files : Files) (disk_now : View) : Type 0 where
+-- the files stood for the state of a node, and stand for one; a crash in the middle left no fewer of some lines than were answered by then
+pub record HoldsNode {D : Type 0} (view : D → View) (disk_before disk_now : D) : Type 0 where
   pub state : NodeState
-  pub stood : StandsAs files state
+  pub stood : StandsAs (view disk_before).seen state
   pub filled : AreFilled state.segments
   pub new : NodeState
-  pub stands : StandsAs disk_now.seen new
+  pub stands : StandsAs (view disk_now).seen new
+  pub lines : List (List ℕ)
+  pub next : Option (List ℕ)
+  pub crashes : OutlastsCrashes view disk_before disk_now (restarted state) lines next
 
 -- the same where the source may not tell its bytes
-abbrev pub IsNodeSessionOf : Served → Files → Option (List ℕ) → Option (List ℕ) → Option (List ℕ) → Option (List ℕ) → View → Type 0
-IsNodeSessionOf outcome files (Some told) left before now disk_now = IsNodeSession outcome files told left before now disk_now
-IsNodeSessionOf outcome files None left before now disk_now = HoldsNode files disk_now
+abbrev pub IsNodeSessionOf : {D : Type 0} → (D → View) → Served → D → D → Option (List ℕ) → Option (List ℕ) → Option (List ℕ) → Option (List ℕ) → Type 0
+IsNodeSessionOf view outcome disk_before disk_now (Some told) left before now = IsNodeSession view outcome disk_before disk_now told left before now
+IsNodeSessionOf view outcome disk_before disk_now None left before now = HoldsNode view disk_before disk_now
 
 -- A node was served: how that ended, which is the status; the replies, with which the sink stood there; and the line behind them.
-pub record ServesNode (tells : Type 0) (disk_before disk_now : View) (told left : Option (List ℕ)) (reads_before reads_now : ℕ) (s : Status)
+pub record ServesNode {D : Type 0} (view : D → View) (tells : Type 0) (disk_before disk_now : D) (told left : Option (List ℕ)) (reads_before reads_now : ℕ) (s : Status)
     (before now : Option (List ℕ)) (writes_before writes_now : ℕ) : Type 0 where
   pub outcome : Served
   pub status_is : s ≡ status_of outcome
   pub replied : Option (List ℕ)
-  pub session : tells → IsNodeSessionOf outcome disk_before.seen told left before replied disk_now
+  pub session : tells → IsNodeSessionOf view outcome disk_before disk_now told left before replied
   pub line : WritesLine (end_line outcome) replied now writes_before writes_now
   -- a read fault comes exactly of a read that failed
   pub read_fault : s ≡ status.ReadFault → Rose reads_before reads_now
@@ -110,10 +117,10 @@ IsUnopened tells files now status.OutOfMemory Writes = Writes (error_line (codes
 IsUnopened tells files now _ Writes = ⊥
 
 -- How serving a node ended: a node was served, or none was opened.
-pub data Serves (tells : Type 0) (disk_before disk_now : View) (told left : Option (List ℕ)) (reads_before reads_now : ℕ) (s : Status)
+pub data Serves {D : Type 0} (view : D → View) (tells : Type 0) (disk_before disk_now : D) (told left : Option (List ℕ)) (reads_before reads_now : ℕ) (s : Status)
     (before now : Option (List ℕ)) (writes_before writes_now : ℕ) : Type 0 where
-  opened : ServesNode tells disk_before disk_now told left reads_before reads_now s before now writes_before writes_now
-      → Serves tells disk_before disk_now told left reads_before reads_now s before now writes_before writes_now
-  unopened : OpensNone tells disk_before disk_now told left reads_before reads_now
-      → IsUnopened tells disk_before.seen disk_now.seen s (λ line. WritesLine line before now writes_before writes_now)
-      → Serves tells disk_before disk_now told left reads_before reads_now s before now writes_before writes_now
+  opened : ServesNode view tells disk_before disk_now told left reads_before reads_now s before now writes_before writes_now
+      → Serves view tells disk_before disk_now told left reads_before reads_now s before now writes_before writes_now
+  unopened : OpensNone tells (view disk_before) (view disk_now) told left reads_before reads_now
+      → IsUnopened tells (view disk_before).seen (view disk_now).seen s (λ line. WritesLine line before now writes_before writes_now)
+      → Serves view tells disk_before disk_now told left reads_before reads_now s before now writes_before writes_now

@@ -3,12 +3,14 @@
 #![tactic(auto)]
 
 mod asked;
+mod crash_examples;
 mod ending;
 mod exit;
 mod found;
 mod laws;
 mod listing;
 mod outcome;
+mod served_node;
 mod serving;
 mod status;
 mod tool;
@@ -16,6 +18,7 @@ mod top;
 mod usage;
 mod writing;
 
+pub use crash_examples::{crashes_in_two_lines, next_lines_are_behind};
 pub use exit::Exit;
 pub use laws::{
     files_have_one_listing, scripts_are_playable, scripts_have_one_report,

@@ -2,11 +2,13 @@
 ghost use Rattle.std.specs.Prelude.{◌≡◌, ◌↔◌, IfOk};
 ghost use Rattle.journal_node.specs.Node.{told_state};
 ghost use Rattle.journal_node.specs.Opening.{IsCauseOf, disk_in};
+ghost use Rattle.qj_cli.specs.Crashes.{WasAsked};
 ghost use Rattle.qj_cli.specs.Serving.{bad_file_line, is_disk_fault, Serves};
 ghost use Rattle.qj_cli.specs.NodeEnds.{TellsEnd, ServesFrom, TellsBadFile, TellsUnopened};
 
 use crate::ending::script_line;
 use crate::exit::Exit;
+use crate::served_node::ServedNode;
 use crate::status::Status;
 use crate::writing::write_ending;
 use journal_core::OutOfMemory;
@@ -67,13 +69,13 @@ fn serve_opened<S: Source, K: Sink, D: Disk>(
     source: &mut S,
     sink: &mut K,
 ) -> Exit<D>
-    ensures session { ServesFrom (told_state (D.is_told node.disk) (D.view node.disk).seen node.memory node.rows) (D.tells result.disk) (D.view result.disk)
+    ensures session { ServesFrom (WasAsked D.tells D.view node result.disk) (told_state (D.is_told node.disk) (D.view node.disk).seen node.memory node.rows) (D.tells result.disk) (D.view result.disk)
         (S.left source.old) (S.left source.new) (S.faults source.old) (S.faults source.new)
         result.status (K.taken sink.old) (K.taken sink.new) (K.faults sink.old) (K.faults sink.new) }
     ensures tells { D.tells node.disk ↔ D.tells result.disk }
     ensures cause { IsCauseOf (D.faults node.disk) (D.faults result.disk) (D.steady node.disk) (D.steady result.disk) (is_disk_fault result.status) }
 {
-    let mut node = node;
+    let mut node = ServedNode { node };
     let served = serve(alloc, &mut node, source, sink);
     let status = end_session(alloc, served, sink);
     Exit {
@@ -113,14 +115,15 @@ fn end_unopened<K: Sink, D: Disk>(alloc: Global, fail: OpenFail<D>, sink: &mut K
     }
 }
 
-/// Opens a node on the disk, answers the request lines of the source at it, and gives the disk back.
+/// Opens a node on the disk, answers the request lines of the source at it, and gives the disk back. A crash at any moment of the call leaves
+/// files that stand for the state after some of the lines, stopped inside the next one, and no fewer than were answered by then.
 pub fn serve_node<S: Source, K: Sink, D: Disk>(
     alloc: Global,
     source: &mut S,
     sink: &mut K,
     disk: D,
 ) -> Exit<D>
-    ensures served { Serves (D.tells disk) (D.view disk) (D.view result.disk) (S.left source.old) (S.left source.new) (S.faults source.old) (S.faults source.new)
+    ensures served { Serves D.view (D.tells disk) disk result.disk (S.left source.old) (S.left source.new) (S.faults source.old) (S.faults source.new)
         result.status (K.taken sink.old) (K.taken sink.new) (K.faults sink.old) (K.faults sink.new) }
     ensures tells { D.tells disk ↔ D.tells result.disk }
     ensures cause { IsCauseOf (D.faults disk) (D.faults result.disk) (D.steady disk) (D.steady result.disk) (is_disk_fault result.status) }

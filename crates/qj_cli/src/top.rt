@@ -91,7 +91,9 @@ fn play_or_list<S: Source, K: Sink, D: Disk>(
 /// - `oev list NAME` and `oev stats NAME` read the disk's file of that name, and write a line for each of its edits, or
 ///   how many there are of each kind. The source isn't read, and the disk isn't changed.
 /// - `node` opens a JournalNode on the disk, which keeps its state in the disk's files, and answers each request line of the
-///   source with its reply line. Each reply is written, and the sink flushed, before the source is read again.
+///   source with its reply line. Each reply is written, and the sink flushed, before the source is read again. A crash at any
+///   moment of the call leaves files that stand for the state after some of the lines, stopped inside the next one, and no
+///   fewer than were answered by then.
 ///
 /// A report and a listing are computed before any of it is written. `Usage`: other words, with the place, from 0, of the first
 /// word that is missing or wrong; the source isn't called then, which no clause says. `Limit`: the source has more than
@@ -128,7 +130,7 @@ pub fn qjm<S: Source, K: Sink, D: Disk>(
 
     // A node is served.
     ensures served { bytes_of words.now ≡ node_words
-        → Serves (D.tells disk) (D.view disk) (D.view result.disk) (S.left source.old) (S.left source.new) (S.faults source.old) (S.faults source.new)
+        → Serves D.view (D.tells disk) disk result.disk (S.left source.old) (S.left source.new) (S.faults source.old) (S.faults source.new)
         result.status (K.taken sink.old) (K.taken sink.new) (K.faults sink.old) (K.faults sink.new) }
     ensures node_cause { bytes_of words.now ≡ node_words
         → IsCauseOf (D.faults disk) (D.faults result.disk) (D.steady disk) (D.steady result.disk) (is_disk_fault result.status) }

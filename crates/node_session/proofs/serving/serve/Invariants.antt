@@ -1,21 +1,22 @@
-use Rattle.std.proofs.Common.{◌≡◌, ◌≤◌, ◌+◌, ◌-◌, is_some}
+use Rattle.std.proofs.Common.{ℕ, ◌≡◌, ◌≤◌, ◌+◌, ◌-◌, List, is_some}
 use Rattle.node_session.specs.Lines.{longest_input}
 use Rattle.node_session.specs.Reader.{to_come}
+use Rattle.node_session.specs.Asking.{AreAsked}
 use Rattle.node_session.proofs.SessionLaws.{SoFar}
 use Rattle.node_session.proofs.serving.serve.Given as goal
 
 -- the lines so far were answered, and nothing failed
 abbrev pub invariant-loop-node : goal.invariant-loop-node
 invariant-loop-node g l = record {
-  so_far : SoFar (g.S.Source.left l.fn.source) (g.N.Node.state l.fn.node) (to_come l.reader (g.S.Source.left l.source)) (g.N.Node.state l.node)
+  so_far : (lines : List (List ℕ)) × AreAsked g.N.SessionNode.asked lines l.fn.node l.node × SoFar lines (g.S.Source.left l.fn.source) (g.N.SessionNode.state l.fn.node) (to_come l.reader (g.S.Source.left l.source)) (g.N.SessionNode.state l.node)
       (g.K.Sink.taken l.fn.sink) (g.K.Sink.taken l.sink) l.reader.taken l.number;
   within : l.reader.taken ≤ longest_input;
   number : l.number ≤ l.reader.taken + 1;
   read : g.S.Source.faults l.source ≡ g.S.Source.faults l.fn.source;
   wrote : g.K.Sink.faults l.sink ≡ g.K.Sink.faults l.fn.sink;
-  told : is_some (g.N.Node.state l.node) ≡ is_some (g.N.Node.state l.fn.node);
-  later : g.N.Node.faults l.fn.node ≤ g.N.Node.faults l.node;
-  steady : g.N.Node.steady l.fn.node → g.N.Node.steady l.node;
+  told : is_some (g.N.SessionNode.state l.node) ≡ is_some (g.N.SessionNode.state l.fn.node);
+  later : g.N.SessionNode.faults l.fn.node ≤ g.N.SessionNode.faults l.node;
+  steady : g.N.SessionNode.steady l.fn.node → g.N.SessionNode.steady l.node;
 }
 
 -- how many bytes the input may still have

@@ -1,6 +1,7 @@
 use Rattle.std.proofs.Common.{subst, ◌≡◌, Option}
 use Rattle.recent_edits.specs.Recent.{AsksRecent}
 use Rattle.journal_core.specs.declared.node_state.NodeState.{NodeState}
+use Rattle.journal_node.specs.Acted.{IsActed}
 use Rattle.journal_node.specs.Node.{told_state, IsUp, IsNoFault}
 use Rattle.journal_node.proofs.NodeStands.{told_both}
 use Rattle.qj_disk.specs.View.{AllLeave}
@@ -24,3 +25,15 @@ returns-clause-stable g c =
 pub returns-clause-unread : goal.returns-clause-unread
 returns-clause-unread g c =
     subst (λ p. g.D.Disk.tells p.disk → (s : NodeState) → IsUp (g.D.Disk.view p.disk) p.memory p.rows s → AsksRecent p.recent.start s c.args.request.now → g.D.Disk.reads c.answer.new.disk ≡ g.D.Disk.reads p.disk) c.self.view_is c.answer.ensures.unread
+
+pub returns-clause-acted : goal.returns-clause-acted
+returns-clause-acted g c =
+    subst
+    (λ p. IsActed g.D.Disk.tells g.D.Disk.view p c.args.request.now c.answer.result
+    (record { disk = c.answer.new.disk; memory = c.answer.new.memory; rows = c.answer.new.table; recent = c.answer.new.recent })) c.self.view_is
+    (record {
+      tells_still = c.answer.ensures.tells.0;
+      sound = λ t. g.met.D.Disk.sound c.answer.new.disk t;
+      goes = c.answer.ensures.answer;
+      moments = c.answer.ensures.moments;
+    })
