@@ -29,3 +29,5 @@ pub mod Ends
 pub mod LineLaws
 pub mod OtherLaws
 pub mod PlayLaws
+pub mod NodesLeft
+pub mod FaultlessLaws

@@ -105,7 +105,7 @@ under_way_more nodes lines l ls old new u t =
       at_rest = step.2;
     }
 
-replicated : {A : Type 0} (n : ℕ) (x : A) → length (replicate n x) ≡ n
+pub replicated : {A : Type 0} (n : ℕ) (x : A) → length (replicate n x) ≡ n
 replicated zero x = refl
 replicated (suc n) x = ap suc (replicated n x)
 

@@ -15,7 +15,9 @@ use Rattle.node_world.specs.declared.record.Told.{Told}
 use Rattle.node_world.specs.declared.mark.Mark.{Mark}
 use Rattle.node_world.specs.declared.mark.MarkKind.{MarkKind}
 use Rattle.node_world.specs.declared.mark.MarkKind.TheVariants as kind
-use Rattle.node_world.specs.Cell.{cell_takes}
+use Rattle.journal_core.specs.declared.node_state.NodeState.{NodeState}
+use Rattle.node_world.specs.declared.history_line.HistoryLine.{HistoryLine}
+use Rattle.node_world.specs.Cell.{fresh_cell, cell_takes, cell_after}
 use Rattle.node_world.specs.NodeCells.{CellView, new_cell}
 use Rattle.cluster_runner.specs.Lines.{Line}
 use Rattle.cluster_runner.specs.Results.{results_of, late_none}
@@ -219,6 +221,14 @@ mesh_kept k =
 
 abbrev pub ends_kept : Kept → List End
 ends_kept k = map (λ a. record { name = a.name }) k.actors
+
+-- ## The nodes at the end
+abbrev pub states_kept : Kept → List (Option NodeState)
+states_kept k = map (λ v. Some v.cell.state) k.nodes
+
+-- the states that nodes tell after these histories
+abbrev pub states_behind : List (List HistoryLine) → List (Option NodeState)
+states_behind histories = map (λ h. Some (cell_after fresh_cell h).state) histories
 
 -- This is what some play of a script with these lines is known by at its end.
 pub record IsPlayed (nodes : ℕ) (lines : List Line) (m : Mesh) (ends : List End) : Type 0 where

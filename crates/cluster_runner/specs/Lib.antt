@@ -17,3 +17,4 @@ pub mod Shown
 pub mod Called
 pub mod Ready
 pub mod Goal
+pub mod Faultless

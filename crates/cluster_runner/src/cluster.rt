@@ -1,21 +1,24 @@
 // The nodes and the actors of a play.
 ghost use Rattle.std.specs.Prelude.{◌≡◌, ◌≤◌, ◌<◌, ◌+◌, ◌-◌, ◌++◌, ◌∷◌, [], OnOk, IfOk, length, ℕ, List, map, Some, None, true, slice_index_or, slice_set, replicate};
+ghost use Rattle.std.specs.List.{All};
 ghost use Rattle.journal_core.specs.Limits.{max_number};
+ghost use Rattle.journal_core.specs.Step.{fresh_state};
 ghost use Rattle.node_world.specs.declared.mark.MarkKind.TheVariants as kind;
 ghost use Rattle.node_world.specs.declared.record.Record.{Record};
 ghost use Rattle.node_world.specs.NodeCells.{new_cell};
 ghost use Rattle.writer_core.specs.Writer.{next_call, writer_begun, HasBody, is_under_way};
 ghost use Rattle.cluster_runner.specs.Plays.{told_of, is_done};
-ghost use Rattle.cluster_runner.specs.Kept.{new_kept, with_actor, with_writer, actor_of, said, lost, late, operates, mesh_kept, ends_kept, reached_by, told_by, cell_copied, actor_copied, earlier_call};
+ghost use Rattle.cluster_runner.specs.Kept.{new_kept, with_actor, with_writer, actor_of, said, lost, late, operates, mesh_kept, ends_kept, states_kept, reached_by, told_by, cell_copied, actor_copied, earlier_call};
 ghost use Rattle.cluster_runner.specs.Shown.{PlayerView};
 ghost use Rattle.cluster_runner.specs.Called.{kept, IsNextCall};
 ghost use Rattle.node_world.specs.Sized.{Sized};
 ghost use Rattle.cluster_runner.specs.Ready.{AreReady, GoesOn};
 
 use crate::delivery::Delivery;
+use crate::played::Played;
 use crate::player::{Left, Player};
 use crate::results::no_call;
-use journal_core::{Bytes, OutOfMemory, PlainNode, SharedRequest};
+use journal_core::{Bytes, CutNode, OutOfMemory, SharedRequest};
 use mesh::{End, EndList, HistoryTable, Mesh, RecordTable};
 use node_world::{NodeAnswer, NodeAsk, NodeCell, Plan, Record, RecordList, Told};
 use std::alloc::Global;
@@ -24,14 +27,14 @@ use writer_core::{Begun, Cause, Task, Turn};
 
 /// The nodes and the actors of a play, and the operator's number and record. Contracts see what is kept of the play.
 #[derive(Drop)]
-pub(crate) struct Cluster {
-    cells: Vec<NodeCell<PlainNode>>,
+pub(crate) struct Cluster<N: CutNode> {
+    cells: Vec<NodeCell<N>>,
     players: Vec<Player>,
     operator: u32,
     operated: RecordList,
 }
 
-impl Model for Cluster {
+impl<N: CutNode> Model for Cluster<N> {
     ghost use Rattle.cluster_runner.specs.Kept.{Kept};
     ghost use Rattle.cluster_runner.specs.Called.{kept};
 
@@ -56,9 +59,9 @@ fn told_of(answer: NodeAnswer) -> Told
 
 /// The call reaches the node, where it is delivered; what its caller is told.
 #[tactic(auto, unfolding(crate::specs::Plays::told_of))]
-fn deliver(
+fn deliver<N: CutNode>(
     alloc: Global,
-    cell: &mut NodeCell<PlainNode>,
+    cell: &mut NodeCell<N>,
     delivery: Delivery,
     caller: u32,
     request: &SharedRequest,
@@ -81,9 +84,9 @@ fn deliver(
 }
 
 /// Makes the actor's next call, if there is one, and hears it.
-fn call(
+fn call<N: CutNode>(
     alloc: Global,
-    cells: &mut [NodeCell<PlainNode>],
+    cells: &mut [NodeCell<N>],
     player: &mut Player,
     actor: u32,
 ) -> Result<Option<Turn>, OutOfMemory>
@@ -101,9 +104,9 @@ fn call(
 }
 
 /// A copy of the actor's `call`-th call to this node reaches the cell, if there was such a call.
-fn copy_call(
+fn copy_call<N: CutNode>(
     alloc: Global,
-    cell: &mut NodeCell<PlainNode>,
+    cell: &mut NodeCell<N>,
     player: &mut Player,
     actor: u32,
     node: usize,
@@ -142,16 +145,50 @@ fn is_done(answer: &NodeAnswer) -> bool
     }
 }
 
-/// The histories of these nodes.
-fn histories_of(alloc: Global, cells: Vec<NodeCell<PlainNode>>) -> Result<HistoryTable, OutOfMemory>
-    ensures { IfOk result (λ table. table ≡ map (λ v. v.history) cells.items) }
+/// Cells of these nodes, each fresh and steady.
+#[tactic(auto, using(crate::proofs::ClusterLaws::replicated_more))]
+fn cells_of<N: CutNode + Drop>(
+    alloc: Global,
+    nodes: Vec<N>,
+) -> Result<Vec<NodeCell<N>>, OutOfMemory>
+    requires fresh { All (λ n. N.state n ≡ Some fresh_state) nodes.items }
+    requires steady { All (λ n. N.steady n) nodes.items }
+    ensures { IfOk result (λ cells. cells.items ≡ replicate (length nodes.items) new_cell) }
 {
+    let mut cells = Vec::with_capacity(alloc, nodes.len())?;
+    for node in nodes {
+        cells.push(NodeCell::new(alloc, node))?;
+    }
+    Ok(cells)
+}
+
+/// What is left of the nodes: as they stand, and their histories.
+#[derive(Drop)]
+struct NodesLeft<N> {
+    nodes: Vec<N>,
+    histories: HistoryTable,
+}
+
+/// What these cells leave.
+fn nodes_of<N: CutNode + Drop>(
+    alloc: Global,
+    cells: Vec<NodeCell<N>>,
+) -> Result<NodesLeft<N>, OutOfMemory>
+    ensures states { IfOk result (λ l. map (λ n. N.state n) l.nodes.items ≡ map (λ v. Some v.cell.state) cells.items) }
+    ensures steady { IfOk result (λ l. All (λ n. N.steady n) l.nodes.items) }
+    ensures histories { IfOk result (λ l. l.histories ≡ map (λ v. v.history) cells.items) }
+{
+    let mut nodes = Vec::with_capacity(alloc, cells.len())?;
     let mut histories = Vec::with_capacity(alloc, cells.len())?;
     for cell in cells {
-        let (_, history) = cell.into_parts();
+        let (node, history) = cell.into_parts();
+        nodes.push(node)?;
         histories.push(history)?;
     }
-    Ok(HistoryTable::of(histories))
+    Ok(NodesLeft {
+        nodes,
+        histories: HistoryTable::of(histories),
+    })
 }
 
 /// What is left of the actors: their ends, their records, and their marks.
@@ -184,24 +221,53 @@ fn lists_of(alloc: Global, players: Vec<Player>) -> Result<Lists, OutOfMemory>
     })
 }
 
-impl Cluster {
-    /// That many fresh nodes, no actors, and an operator of this number.
-    #[tactic(auto, using(crate::proofs::ClusterLaws::replicated_more))]
-    pub(crate) fn new(alloc: Global, nodes: usize, operator: u32) -> Result<Cluster, OutOfMemory>
-        ensures { IfOk result (λ cluster. cluster ≡ new_kept nodes operator) }
+impl<N: CutNode + Drop> Cluster<N> {
+    /// These nodes, each fresh and steady, no actors, and an operator of this number.
+    pub(crate) fn of(alloc: Global, nodes: Vec<N>, operator: u32) -> Result<Cluster<N>, OutOfMemory>
+        requires fresh { All (λ n. N.state n ≡ Some fresh_state) nodes.items }
+        requires steady { All (λ n. N.steady n) nodes.items }
+        ensures { IfOk result (λ cluster. cluster ≡ new_kept (length nodes.items) operator) }
     {
-        let mut cells = Vec::with_capacity(alloc, nodes)?;
-        for _ in 0..nodes {
-            cells.push(NodeCell::new(alloc, PlainNode::new(alloc)))?;
-        }
         Ok(Cluster {
-            cells,
+            cells: cells_of(alloc, nodes)?,
             players: Vec::new(alloc),
             operator,
             operated: RecordList::new(alloc),
         })
     }
 
+    /// What is left at the end of a play.
+    pub(crate) fn into_played(self, alloc: Global) -> Result<Played<N>, OutOfMemory>
+        ensures mesh { IfOk result (λ played. played.mesh ≡ mesh_kept self) }
+        ensures ends { IfOk result (λ played. played.ends ≡ ends_kept self) }
+        ensures states { IfOk result (λ played. map (λ n. N.state n) played.nodes.items ≡ states_kept self) }
+        ensures steady { IfOk result (λ played. All (λ n. N.steady n) played.nodes.items) }
+    {
+        let Cluster {
+            cells,
+            players,
+            operator: _,
+            operated,
+        } = self;
+        let count = cells.len();
+        let left = nodes_of(alloc, cells)?;
+        let mut lists = lists_of(alloc, players)?;
+        lists.records.push(operated)?;
+        let mesh = Mesh {
+            nodes: count,
+            histories: left.histories,
+            records: RecordTable::of(lists.records),
+            plan: lists.plan,
+        };
+        Ok(Played {
+            mesh,
+            ends: lists.ends,
+            nodes: left.nodes,
+        })
+    }
+}
+
+impl<N: CutNode> Cluster<N> {
     /// One more actor.
     #[tactic(auto, using(crate::proofs::ClusterLaws::one_more_actor))]
     pub(crate) fn declare(&mut self, alloc: Global, name: &Bytes) -> Result<(), OutOfMemory>
@@ -351,29 +417,5 @@ impl Cluster {
         let done = is_done(&answer);
         self.operated.push(Record::Operator { node, ask, done })?;
         Ok(())
-    }
-
-    /// The mesh of all lists, and the actors' ends.
-    pub(crate) fn into_lists(self, alloc: Global) -> Result<(Mesh, EndList), OutOfMemory>
-        ensures mesh { IfOk result (λ lists. lists.0 ≡ mesh_kept self) }
-        ensures ends { IfOk result (λ lists. lists.1 ≡ ends_kept self) }
-    {
-        let Cluster {
-            cells,
-            players,
-            operator: _,
-            operated,
-        } = self;
-        let nodes = cells.len();
-        let histories = histories_of(alloc, cells)?;
-        let mut lists = lists_of(alloc, players)?;
-        lists.records.push(operated)?;
-        let mesh = Mesh {
-            nodes,
-            histories,
-            records: RecordTable::of(lists.records),
-            plan: lists.plan,
-        };
-        Ok((mesh, lists.ends))
     }
 }

@@ -1,5 +1,6 @@
 // What holds of every play.
 ghost use Rattle.cluster_runner.specs.Laws.{LinesAgree, LinesFollow, PlaysAgree, PlaysFollow, LinesAreRuns, PlaysAreRuns, MeshesAreSafe, OnePlay, LocalRuns, LinesOneByOne, LineLater, LedIsMade, OneRecord, EachResult};
+ghost use Rattle.cluster_runner.specs.Faultless.{MeshesShowNoFault};
 
 /// The lists of all nodes and of all callers of a play agree.
 pub fn a_play_agrees()
@@ -23,6 +24,11 @@ pub fn a_play_is_a_run()
 /// namespace yet.
 pub fn a_mesh_that_agrees_is_safe()
     ensures { MeshesAreSafe }
+{}
+
+/// No history and no record of a mesh that agrees shows a fault of a disk, a want of memory or a bad file.
+pub fn a_mesh_that_agrees_shows_no_fault()
+    ensures { MeshesShowNoFault }
 {}
 
 /// A script has one play.

@@ -1,4 +1,4 @@
-//! Plays of scripts: nodes and actors in memory, taken through a script's lines in order; what a play is, and what holds of every play.
+//! Plays of scripts: nodes and actors, taken through a script's lines in order; what a play is, and what holds of every play.
 #![tactic(auto)]
 
 mod calls_to;
@@ -19,8 +19,8 @@ pub use examples::{
     shows_stopped_in_prepare,
 };
 pub use laws::{
-    a_mesh_that_agrees_is_safe, a_play_agrees, a_play_follows, a_play_is_a_run,
-    an_actor_does_its_tasks, answers_fix_the_record, each_edit_has_one_result,
+    a_mesh_that_agrees_is_safe, a_mesh_that_agrees_shows_no_fault, a_play_agrees, a_play_follows,
+    a_play_is_a_run, an_actor_does_its_tasks, answers_fix_the_record, each_edit_has_one_result,
     histories_are_local_runs, lines_one_by_one, one_script_has_one_play,
 };
-pub use played::{Played, play};
+pub use played::{Played, play, play_on};

@@ -5,14 +5,14 @@ ghost use Rattle.cluster_runner.specs.Lines.{Acts, DoDrop, DoMute, DoLate, Opera
 ghost use Rattle.cluster_runner.specs.Ready.{IsIdle, TakesLine};
 
 use crate::cluster::Cluster;
-use journal_core::OutOfMemory;
+use journal_core::{CutNode, OutOfMemory};
 use node_world::NodeAsk;
 use std::alloc::Global;
 
 /// One of the actor's next calls to this node isn't delivered.
 #[tactic(auto, using(crate::proofs::OtherLaws::others))]
-pub(crate) fn take_drop(
-    cluster: &mut Cluster,
+pub(crate) fn take_drop<N: CutNode>(
+    cluster: &mut Cluster<N>,
     actor: u32,
     node: usize,
     call: u64,
@@ -31,8 +31,8 @@ pub(crate) fn take_drop(
 
 /// The reply to one of the actor's next calls to this node is lost.
 #[tactic(auto, using(crate::proofs::OtherLaws::others))]
-pub(crate) fn take_mute(
-    cluster: &mut Cluster,
+pub(crate) fn take_mute<N: CutNode>(
+    cluster: &mut Cluster<N>,
     actor: u32,
     node: usize,
     call: u64,
@@ -51,9 +51,9 @@ pub(crate) fn take_mute(
 
 /// A copy of one of the actor's calls to this node comes late.
 #[tactic(auto, using(crate::proofs::OtherLaws::others))]
-pub(crate) fn take_late(
+pub(crate) fn take_late<N: CutNode>(
     alloc: Global,
-    cluster: &mut Cluster,
+    cluster: &mut Cluster<N>,
     actor: u32,
     node: usize,
     call: u64,
@@ -71,9 +71,9 @@ pub(crate) fn take_late(
 
 /// The operator kills, restarts or arms the node.
 #[tactic(auto, using(crate::proofs::OtherLaws::others))]
-pub(crate) fn take_operation(
+pub(crate) fn take_operation<N: CutNode>(
     alloc: Global,
-    cluster: &mut Cluster,
+    cluster: &mut Cluster<N>,
     node: usize,
     ask: NodeAsk,
 ) -> Result<(), OutOfMemory>

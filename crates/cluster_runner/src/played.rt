@@ -1,31 +1,38 @@
 // Scripts are played.
-ghost use Rattle.std.specs.Prelude.{◌≡◌, ◌≤◌, ◌<◌, ◌^◌, ◌∷◌, [], IfOk, OnOk, length, map, drop};
+ghost use Rattle.std.specs.Prelude.{◌≡◌, ◌≤◌, ◌<◌, ◌^◌, ◌∷◌, [], IfOk, OnOk, Some, length, map, drop, replicate};
+ghost use Rattle.std.specs.List.{All};
+ghost use Rattle.journal_core.specs.Step.{fresh_state};
 ghost use Rattle.script_text.specs.declared.script_line.ScriptLine.{ScriptLine};
 ghost use Rattle.cluster_runner.specs.Lines.{line_of, lines_of, declared, IsPlayable, NumbersFit};
-ghost use Rattle.cluster_runner.specs.Kept.{IsPlayed, mesh_kept, ends_kept};
+ghost use Rattle.cluster_runner.specs.Kept.{IsPlayed, mesh_kept, ends_kept, states_kept, states_behind};
 ghost use Rattle.cluster_runner.specs.Ready.{IsIdle, TakesLine};
 ghost use Rattle.cluster_runner.specs.Goal.{MayTake, actors_after, IsUnderWay};
 
 use crate::cluster::Cluster;
 use crate::other_line::{take_drop, take_late, take_mute, take_operation};
 use crate::task_line::take_task;
-use journal_core::OutOfMemory;
+use journal_core::{CutNode, OutOfMemory, PlainNode};
 use mesh::{EndList, Mesh};
 use node_world::NodeAsk;
 use script_text::{Script, ScriptLine};
 use std::alloc::Global;
 use writer_core::Task;
 
-/// What a play leaves: the mesh of all lists, and the actors' ends.
+/// What a play leaves: the mesh of all lists, the actors' ends, and the nodes as they stand.
 #[derive(Drop)]
-pub struct Played {
+pub struct Played<N> {
     pub mesh: Mesh,
     pub ends: EndList,
+    pub nodes: Vec<N>,
 }
 
 /// One line of a script, with all its calls.
 #[tactic(auto, using(crate::proofs::PlayLaws::takes))]
-fn take_line(alloc: Global, cluster: &mut Cluster, line: &ScriptLine) -> Result<(), OutOfMemory>
+fn take_line<N: CutNode>(
+    alloc: Global,
+    cluster: &mut Cluster<N>,
+    line: &ScriptLine,
+) -> Result<(), OutOfMemory>
     requires idle { IsIdle cluster.old }
     requires may { MayTake (length cluster.old.nodes) (length cluster.old.actors) line.now }
     ensures { OnOk result (TakesLine (line_of line.now) (actors_after (length cluster.old.actors) line.now) cluster.old cluster.new) }
@@ -91,18 +98,50 @@ fn actors_in(lines: &[ScriptLine]) -> u32
     actors
 }
 
-/// Plays a script in order, each line with all its calls, over fresh nodes in memory.
+/// Plays a script in order, each line with all its calls, over these nodes: as many as the script says, each fresh, steady and
+/// telling its state. They are handed back as their histories leave them.
 #[tactic(auto, using(crate::proofs::PlayLaws::plays))]
-pub fn play(alloc: Global, script: &Script) -> Result<Played, OutOfMemory>
+pub fn play_on<N: CutNode + Drop>(
+    alloc: Global,
+    nodes: Vec<N>,
+    script: &Script,
+) -> Result<Played<N>, OutOfMemory>
+    requires playable { IsPlayable script.now }
+    requires numbers { NumbersFit script.now }
+    requires count { length nodes.items ≡ script.now.nodes }
+    requires fresh { All (λ n. N.state n ≡ Some fresh_state) nodes.items }
+    requires steady { All (λ n. N.steady n) nodes.items }
+    ensures played { IfOk result (λ played. IsPlayed script.now.nodes (lines_of script.now) played.mesh played.ends) }
+    ensures states { IfOk result (λ played. map (λ n. N.state n) played.nodes.items ≡ states_behind played.mesh.histories) }
+    ensures steady { IfOk result (λ played. All (λ n. N.steady n) played.nodes.items) }
+{
+    let operator = actors_in(script.lines());
+    let mut cluster = Cluster::of(alloc, nodes, operator)?;
+    for line in script.lines() {
+        take_line(alloc, &mut cluster, line)?;
+    }
+    let played = cluster.into_played(alloc)?;
+    Ok(played)
+}
+
+/// That many fresh nodes in memory.
+#[tactic(auto, using(crate::proofs::ClusterLaws::replicated_more))]
+fn plain_nodes(alloc: Global, count: usize) -> Result<Vec<PlainNode>, OutOfMemory>
+    ensures { IfOk result (λ nodes. nodes.items ≡ replicate count fresh_state) }
+{
+    let mut nodes = Vec::with_capacity(alloc, count)?;
+    for _ in 0..count {
+        nodes.push(PlainNode::new(alloc))?;
+    }
+    Ok(nodes)
+}
+
+/// Plays a script in order, each line with all its calls, over fresh nodes in memory.
+pub fn play(alloc: Global, script: &Script) -> Result<Played<PlainNode>, OutOfMemory>
     requires playable { IsPlayable script.now }
     requires numbers { NumbersFit script.now }
     ensures { IfOk result (λ played. IsPlayed script.now.nodes (lines_of script.now) played.mesh played.ends) }
 {
-    let operator = actors_in(script.lines());
-    let mut cluster = Cluster::new(alloc, script.nodes(), operator)?;
-    for line in script.lines() {
-        take_line(alloc, &mut cluster, line)?;
-    }
-    let (mesh, ends) = cluster.into_lists(alloc)?;
-    Ok(Played { mesh, ends })
+    let nodes = plain_nodes(alloc, script.nodes())?;
+    play_on(alloc, nodes, script)
 }

@@ -9,7 +9,7 @@ ghost use Rattle.cluster_runner.specs.Ready.{IsIdle, TakesLine};
 
 use crate::cluster::Cluster;
 use crate::results::{inactive, results, too_long};
-use journal_core::OutOfMemory;
+use journal_core::{CutNode, OutOfMemory};
 use std::alloc::Global;
 use writer_core::{Begun, Task};
 
@@ -39,9 +39,9 @@ fn edits_of(task: &Task) -> Option<usize>
 
 /// The actor's task: its calls, and its results.
 #[tactic(auto, using(crate::proofs::LineLaws::lines))]
-pub(crate) fn take_task(
+pub(crate) fn take_task<N: CutNode>(
     alloc: Global,
-    cluster: &mut Cluster,
+    cluster: &mut Cluster<N>,
     actor: u32,
     task: Task,
 ) -> Result<(), OutOfMemory>

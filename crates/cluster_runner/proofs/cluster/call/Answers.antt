@@ -7,13 +7,13 @@ use Rattle.cluster_runner.proofs.ClusterLaws.{there_is, same_is, call_made}
 use Rattle.cluster_runner.proofs.cluster.call.Goals as goal
 
 pub returns-in_default : goal.returns-in_default
-returns-in_default c players d o os is l = (
+returns-in_default g c players d o os is l = (
   ap (λ a. next_call a.writer) (there_is c.args.cells.now players o os c.args.actor c.args.player.now d is l) ∙ sym c.in_ok-node.ensures.call ∙ c.in_default.is,
   same_is c.args.cells.now players o os c.args.actor c.args.player.now c.next.new.self d is c.in_ok-node.ensures.same,
 )
 
 pub returns : goal.returns
-returns c players d o os is l =
+returns g c players d o os is l =
     let mine : next_call c.args.player.now.actor.writer ≡ Some (c.in-Some.node, c.in-Some.request) = sym c.in_ok-node.ensures.call ∙ c.in-Some.is in
     let within : (1 ≤ c.in-Some.node) × (c.in-Some.node ≤ length c.args.cells.now) =
     call_within (length c.args.cells.now) c.args.player.now.actor.writer c.in-Some.node c.in-Some.request c.requires mine in

@@ -1,29 +1,18 @@
-use Rattle.std.proofs.Common.{◌≡◌, ◌∙◌, ap, sym, subst, arith, length, drop, map, List, ℕ}
-use Rattle.mesh.specs.declared.whole.Mesh.{Mesh}
-use Rattle.mesh.specs.declared.end.End.{End}
-use Rattle.script_text.specs.declared.script_line.ScriptLine.{ScriptLine}
-use Rattle.cluster_runner.specs.Lines.{line_of, lines_of, declared}
-use Rattle.cluster_runner.specs.Goal.{MayTake, IsUnderWay}
-use Rattle.cluster_runner.specs.Kept.{IsPlayed, mesh_kept}
-use Rattle.cluster_runner.proofs.PlayLaws.{may_on, under_way_first, under_way_end}
+use Rattle.std.proofs.Common.{◌≡◌, ◌∙◌, Some, refl, sym, ap, subst, length, List}
+use Rattle.std.specs.List.{All}
+use Rattle.journal_core.specs.declared.node_state.NodeState.{NodeState}
+use Rattle.journal_core.specs.Step.{fresh_state}
+use Rattle.std.proofs.lemmas.List.Elements.{All-replicate}
+use Rattle.cluster_runner.proofs.PlayLaws.{replicated}
 use Rattle.cluster_runner.proofs.played.play.Goals as goal
 
-pub take_line-requires-clause-may : goal.take_line-requires-clause-may
-take_line-requires-clause-may c =
-    let P : ScriptLine → Type 0 = λ x. MayTake (length c.loop-line.cluster.nodes) (length c.loop-line.cluster.actors) x in
-    subst P (sym c.line-item.is) (may_on c.args.script.now.nodes (lines_of c.args.script.now) c.lines-line-items.result.now c.loop-line.line-index c.line-item.result c.loop-line.cluster c.loop-line-test.true c.loop-line.invariant)
+pub play_on-requires-clause-fresh : goal.play_on-requires-clause-fresh
+play_on-requires-clause-fresh c =
+    subst (λ (ns : List NodeState). All (λ n. Some n ≡ Some fresh_state) ns) (sym c.in_ok-nodes.ensures) (All-replicate (λ n. Some n ≡ Some fresh_state) c.nodes.result fresh_state refl)
 
-pub returns : goal.returns
-returns c =
-    let e : c.loop-line.line-index ≡ length c.lines-line-items.result.now = omega (arith, c.loop-line-test.false, c.loop-line.auto.line-index-end) in
-    let P : ℕ → Type 0 = λ i. IsUnderWay c.args.script.now.nodes (lines_of c.args.script.now) (drop i c.lines-line-items.result.now) c.loop-line.cluster in
-    let Q : Mesh → Type 0 = λ m. IsPlayed c.args.script.now.nodes (lines_of c.args.script.now) m c.in_ok-mesh.ends in
-    let R : List End → Type 0 = λ ends. IsPlayed c.args.script.now.nodes (lines_of c.args.script.now) (mesh_kept c.loop-line.cluster) ends in
-    subst Q (sym c.in_ok-mesh.ensures.mesh)
-    (subst R (sym c.in_ok-mesh.ensures.ends)
-    (under_way_end c.args.script.now.nodes (lines_of c.args.script.now) c.lines-line-items.result.now c.loop-line.cluster (subst P e c.loop-line.invariant)))
+pub play_on-requires-clause-steady : goal.play_on-requires-clause-steady
+play_on-requires-clause-steady c =
+    subst (λ (ns : List NodeState). All (λ n. Unit {0}) ns) (sym c.in_ok-nodes.ensures) (All-replicate (λ n. Unit {0}) c.nodes.result fresh_state tt)
 
-pub loop-line-init : goal.loop-line-init
-loop-line-init c =
-    under_way_first c.args.script.now c.nodes.result c.actors_in-operator.result c.lines-line-items.result.now c.in_ok-cluster.cluster c.requires.playable c.requires.numbers c.nodes.ensures
-    c.lines-line-items.ensures (c.actors_in-operator.ensures ∙ ap (λ xs. declared (map line_of xs)) (c.lines.ensures ∙ sym c.lines-line-items.ensures)) c.in_ok-cluster.ensures
+pub play_on-requires-clause-count : goal.play_on-requires-clause-count
+play_on-requires-clause-count c = ap length c.in_ok-nodes.ensures ∙ replicated c.nodes.result fresh_state ∙ c.nodes.ensures

@@ -8,16 +8,16 @@ use Rattle.cluster_runner.proofs.task_line.take_task.Goals.{in-Going+in_ok-turn-
 use Rattle.cluster_runner.proofs.task_line.take_task.Goals as goal
 
 pub finish-requires-clause-ready : goal.finish-requires-clause-ready
-finish-requires-clause-ready c =
+finish-requires-clause-ready g c =
     begun_ready c.args.cluster.now c.begin.new.self c.args.actor c.args.task begun.Going c.requires.there c.requires.idle c.in-Going.ensures.begun c.in-Going.ensures.others
 
 pub results-requires-clause-few : goal.results-requires-clause-few
-results-requires-clause-few c =
+results-requires-clause-few g c =
     let P : Option ℕ → Type 0 = λ o. AreFew o in
     subst P (sym c.edits_of-edits.ensures) (few_edits (actor_of c.args.cluster.now c.args.actor).writer c.args.task (actor_of c.begin.new.self c.args.actor).writer c.in-Going.ensures.begun)
 
 pub returns : goal.returns
-returns c = elim c.match-begin.branch [
+returns g c = elim c.match-begin.branch [
   | in-Going+in_ok-turn-in-Going+in_ok-texts-in-Going w ↦
       takes_going c.args.cluster.now c.begin.new.self w.finish.new.self c.say.new.self c.args.actor c.args.task w.in_ok-turn-in-Going.turn c.match-begin.texts.items
       c.requires.there c.requires.idle w.in-Going.ensures.begun w.in-Going.ensures.others w.in_ok-turn-in-Going.ensures.went w.in_ok-turn-in-Going.ensures.ended

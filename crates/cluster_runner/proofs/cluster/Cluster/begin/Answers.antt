@@ -5,7 +5,7 @@ use Rattle.cluster_runner.proofs.ClusterLaws.{there_is, now_is, acted_is, player
 use Rattle.cluster_runner.proofs.cluster.Cluster.begin.Goals as goal
 
 pub returns-clause-begun : goal.returns-clause-begun
-returns-clause-begun c =
+returns-clause-begun g c =
     let l : c.args.actor < length c.self.inside.players.items =
     players_there c.self.inside.cells.items c.self.inside.players.items c.self.inside.operator c.self.inside.operated c.args.self.now c.args.actor c.self.view_is c.requires.there in
     ap (λ k. writer_begun (actor_of k c.args.actor).writer c.args.task) (sym c.self.view_is)
@@ -16,7 +16,7 @@ returns-clause-begun c =
     (sym (now_is c.self.inside.cells.items c.self.inside.players.items c.self.inside.operator c.self.inside.operated c.args.actor c.begin.new.self l))
 
 pub returns-clause-others : goal.returns-clause-others
-returns-clause-others c =
+returns-clause-others g c =
     let l : c.args.actor < length c.self.inside.players.items =
     players_there c.self.inside.cells.items c.self.inside.players.items c.self.inside.operator c.self.inside.operated c.args.self.now c.args.actor c.self.view_is c.requires.there in
     acted_is (λ a. record a { writer = c.begin.new.self.actor.writer }) c.self.inside.cells.items c.self.inside.players.items c.self.inside.operator c.self.inside.operated c.args.self.now c.args.actor

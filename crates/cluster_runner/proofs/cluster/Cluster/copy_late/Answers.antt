@@ -4,7 +4,7 @@ use Rattle.cluster_runner.proofs.ClusterLaws.{copied_is}
 use Rattle.cluster_runner.proofs.cluster.Cluster.copy_late.Goals as goal
 
 pub returns : goal.returns
-returns c =
+returns g c =
     let e : length c.self.inside.cells.items ≡ length c.args.self.now.nodes = ap (λ k. length k.nodes) c.self.view_is in
     let low : 1 ≤ c.args.node = c.requires.low in
     let high : c.args.node ≤ length c.args.self.now.nodes = c.requires.high in

@@ -5,7 +5,7 @@ use Rattle.cluster_runner.specs.Ready.{GoesOn}
 use Rattle.cluster_runner.proofs.cluster.Cluster.finish.Given as goal
 
 abbrev pub invariant-loop-heard : goal.invariant-loop-heard
-invariant-loop-heard l = GoesOn l.actor l.initial.self l.self l.turn × (l.actor < length l.self.actors)
+invariant-loop-heard g l = GoesOn l.actor l.initial.self l.self l.turn × (l.actor < length l.self.actors)
 
 abbrev pub decreases-loop-heard : goal.decreases-loop-heard
-decreases-loop-heard l = calls_left (actor_of l.self l.actor).writer
+decreases-loop-heard g l = calls_left (actor_of l.self l.actor).writer
