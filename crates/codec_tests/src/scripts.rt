@@ -6,7 +6,7 @@ use std::test::Fail;
 const EVERY_KIND: &[u8] =
     b"# a line of each kind\nraw 15\n\nwriter a\nwriter b1\ndrop b1 2 3\nmute a 15 1\n\
 stop 2 1 0\ntakeover a\n# two bodies\nlog a 0a ff00\nroll a\npurge a 4611686018427387904\nkill 3\nrestart 3\n\
-late a 1 10\nclose a\n";
+late a 1 10\ncut 15 2 0 a5\nclose a\n";
 
 #[test]
 fn a_script_is_read_and_printed(rt: HostRuntime) -> Result<(), Fail> {
@@ -14,12 +14,12 @@ fn a_script_is_read_and_printed(rt: HostRuntime) -> Result<(), Fail> {
         return Err(Fail::from("no script"));
     };
     assert_eq!(rt; script.nodes(), 15);
-    assert_eq!(rt; script.lines().len(), 13);
+    assert_eq!(rt; script.lines().len(), 14);
     let printed = print_script(rt.alloc(), &script)?;
     assert_eq!(rt;
         printed.as_slice(),
         b"raw 15\nwriter a\nwriter b1\ndrop b1 2 3\nmute a 15 1\nstop 2 1 0\ntakeover a\nlog a 0a ff00\nroll a\n\
-purge a 4611686018427387904\nkill 3\nrestart 3\nlate a 1 10\nclose a\n"
+purge a 4611686018427387904\nkill 3\nrestart 3\nlate a 1 10\ncut 15 2 0 a5\nclose a\n"
             .as_slice()
     );
     let ScriptLine::Log { actor, bodies } = &script.lines()[6] else {
@@ -38,7 +38,7 @@ const BROKEN: [(&[u8], u64, u32); 24] = [
     (b"raw 16\n", 1, 1),
     (b"raw 3\nwriter a\ntakeo", 3, 10),
     (b"raw 3\nwriter a\nraw 3\n", 3, 2),
-    (b"raw 3\nwriter a\ncut 1 1 1 old\n", 3, 2),
+    (b"raw 3\nwriter a\ncut 1 1 1 A5\n", 3, 7),
     (b"raw 3\nwriter a\nlog a\n", 3, 3),
     (b"raw 3\nwriter a\nstop 1 1\n", 3, 3),
     (b"raw 3\nwriter a\n kill 1\n", 3, 3),

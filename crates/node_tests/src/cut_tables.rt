@@ -24,7 +24,7 @@ const AT_EMPTY: [(u64, &str); 7] = [
 ];
 
 // A request of epoch 2 with three calls is refused after its promise, or has no other effect.
-const AT_OPEN: [(u64, &str); 11] = [
+const AT_OPEN: [(u64, &str); 13] = [
     (3, "new 2"),
     (0, "start 1 3 1 1"),
     (3, "start 2 1 1 1"),
@@ -36,6 +36,8 @@ const AT_OPEN: [(u64, &str); 11] = [
     (4, "finalize 1 3 2 1 2"),
     (3, "finalize 2 1 2 1 2"),
     (3, "purge 2 1 2 3"),
+    (3, "prepare 2 1 2 1"),
+    (3, "fetch 2 1 2 1 1"),
 ];
 
 // A final segment, and an open one after it.

@@ -12,7 +12,7 @@ fn bad_scripts_are_refused(rt: HostRuntime) -> Result<(), Fail> {
         (b"raw 3\nwriter a\ntakeo", b"error BadScript 3 10\n"),
         (b"raw 3\nfoo\n", b"error BadScript 2 2\n"),
         (b"raw 3\nraw 3\n", b"error BadScript 2 2\n"),
-        (b"raw 3\ncut 1 1 3 old\n", b"error BadScript 2 2\n"),
+        (b"raw 3\ncut 1 1 3 A5\n", b"error BadScript 2 7\n"),
         (b"raw 3\nwriter a\n takeover a\n", b"error BadScript 3 3\n"),
         (b"raw 3\nwriter ops\n", b"error BadScript 2 4\n"),
         (b"raw 3\ntakeover a\n", b"error BadScript 2 5\n"),

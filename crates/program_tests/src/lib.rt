@@ -8,6 +8,8 @@ mod known_scripts;
 #[cfg(test)]
 mod listings;
 #[cfg(test)]
+mod long_logs;
+#[cfg(test)]
 mod node_faults;
 #[cfg(test)]
 mod nodes;

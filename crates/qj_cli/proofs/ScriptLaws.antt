@@ -24,7 +24,7 @@ lines_playable said (line.Late actor i k ∷ lines) h = (h.0.sense.0, h.0.sense.
 lines_playable said (line.Kill i ∷ lines) h = (h.0.sense.0, h.0.sense.1, tt, lines_playable said lines h.1)
 lines_playable said (line.Restart i ∷ lines) h = (h.0.sense.0, h.0.sense.1, tt, lines_playable said lines h.1)
 lines_playable said (line.Arm i calls (stop.Effects keep) ∷ lines) h = (h.0.sense.0.0, h.0.sense.0.1, tt, lines_playable said lines h.1)
-lines_playable said (line.Arm i calls (stop.DiskCalls after cut) ∷ lines) h = absurd h.0.sense
+lines_playable said (line.Arm i calls (stop.DiskCalls after cut) ∷ lines) h = (h.0.sense.0.0, h.0.sense.0.1, tt, lines_playable said lines h.1)
 
 pub playable : (s : ScriptView) → IsScript s → IsPlayable s
 playable s h = record { nodes = omega (arith, h.some); lines = lines_playable (nothing_said s.nodes) s.lines h.lines }
@@ -45,7 +45,7 @@ lines_fit said (line.Late actor i k ∷ lines) h = ((h.0.sense.1.0, h.0.sense.1.
 lines_fit said (line.Kill i ∷ lines) h = (tt, lines_fit said lines h.1)
 lines_fit said (line.Restart i ∷ lines) h = (tt, lines_fit said lines h.1)
 lines_fit said (line.Arm i calls (stop.Effects keep) ∷ lines) h = (tt, lines_fit said lines h.1)
-lines_fit said (line.Arm i calls (stop.DiskCalls after cut) ∷ lines) h = absurd h.0.sense
+lines_fit said (line.Arm i calls (stop.DiskCalls after cut) ∷ lines) h = (tt, lines_fit said lines h.1)
 
 -- a script declares at most eight actors
 few_declared : (said : SaidView) (lines : List ScriptLine) → AreLines said lines → length said.names ≤ 8 → declared (map line_of lines) + length said.names ≤ 8
@@ -66,7 +66,8 @@ few_declared said (line.Mute actor i k ∷ lines) h l = few_declared said lines 
 few_declared said (line.Late actor i k ∷ lines) h l = few_declared said lines h.1 l
 few_declared said (line.Kill i ∷ lines) h l = few_declared said lines h.1 l
 few_declared said (line.Restart i ∷ lines) h l = few_declared said lines h.1 l
-few_declared said (line.Arm i calls how ∷ lines) h l = few_declared said lines h.1 l
+few_declared said (line.Arm i calls (stop.Effects keep) ∷ lines) h l = few_declared said lines h.1 l
+few_declared said (line.Arm i calls (stop.DiskCalls after cut) ∷ lines) h l = few_declared said lines h.1 l
 
 pub numbers_fit : (s : ScriptView) → IsScript s → NumbersFit s
 numbers_fit s h =

@@ -7,6 +7,7 @@ use Rattle.script_text.specs.Views.{ScriptView}
 use Rattle.script_text.specs.Grammar.{IsScriptText}
 use Rattle.cluster_runner.specs.Plays.{Play, Plays, mesh_of, ends_of}
 use Rattle.cluster_runner.specs.Follows.{FollowsScript}
+use Rattle.cluster_runner.specs.Faultless.{ShowsNoFault}
 use Rattle.cluster_runner.specs.Safe.{IsSafeWithEnds}
 use Rattle.report_text.specs.Text.{text_of}
 use Rattle.report_text.specs.Limit.{longest_report}
@@ -46,3 +47,7 @@ IsReportOf bytes TooLong = HasLongReport bytes
 -- a text is one script's, and a script has one report
 abbrev pub ScriptsHaveOneReport : Type 0
 ScriptsHaveOneReport = (bytes a b : List ℕ) → IsReport bytes a → IsReport bytes b → a ≡ b
+
+-- no report shows a fault of a disk, a want of memory or a bad file
+abbrev pub ReportsShowNoFault : Type 0
+ReportsShowNoFault = (bytes text : List ℕ) → (r : IsReport bytes text) → ShowsNoFault (mesh_of r.play)

@@ -9,7 +9,8 @@ use crate::laws::scripts_are_playable;
 use crate::outcome::{Outcome, fault_line};
 use crate::status::Status;
 use crate::usage::usage_fault;
-use cluster_runner::{a_mesh_that_agrees_is_safe, a_play_agrees, a_play_follows, play};
+use cluster_runner::{a_mesh_that_agrees_is_safe, a_play_agrees, a_play_follows, play_on};
+use disk_nodes::fresh_nodes;
 use journal_core::OutOfMemory;
 use mesh::epoch_order_is_a_run;
 use qj_num::put_decimal;
@@ -42,7 +43,7 @@ pub fn script_line(alloc: Global, line: u64, rule: u64) -> Result<Vec<u8>, OutOf
     Ok(text)
 }
 
-/// The report of a script.
+/// The report of a script, played over fresh nodes on disks in memory.
 fn report(alloc: Global, script: &Script) -> Result<Report, OutOfMemory>
     requires { IsScript script.now }
     ensures { IfOk result (λ report. (bytes : List ℕ) → IsScriptText bytes script.now → IsReportOf bytes report) }
@@ -52,7 +53,8 @@ fn report(alloc: Global, script: &Script) -> Result<Report, OutOfMemory>
     a_play_follows();
     epoch_order_is_a_run();
     a_mesh_that_agrees_is_safe();
-    let played = play(alloc, script)?;
+    let nodes = fresh_nodes(alloc, script.nodes())?;
+    let played = play_on(alloc, nodes, script)?;
     let report = report_of(alloc, &played.mesh, &played.ends)?;
     Ok(report)
 }

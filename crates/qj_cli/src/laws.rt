@@ -1,10 +1,10 @@
 // What holds of every script, of all words and of every file.
 ghost use Rattle.qj_cli.specs.Scripts.{ScriptsArePlayable, ScriptNumbersFit};
-ghost use Rattle.qj_cli.specs.Report.{ScriptsHaveOneReport};
+ghost use Rattle.qj_cli.specs.Report.{ScriptsHaveOneReport, ReportsShowNoFault};
 ghost use Rattle.qj_cli.specs.Words.{UsageIsOfFirstWrongWord};
 ghost use Rattle.qj_cli.specs.Listing.{FilesHaveOneListing};
 
-use cluster_runner::one_script_has_one_play;
+use cluster_runner::{a_mesh_that_agrees_shows_no_fault, one_script_has_one_play};
 use script_text::text_is_of_one_script;
 
 /// A script of the grammar can be played: it has a node, its lines speak of declared writers and of its nodes, and the program can hold
@@ -20,6 +20,13 @@ pub fn scripts_have_one_report()
 {
     text_is_of_one_script();
     one_script_has_one_play();
+}
+
+/// No report shows a fault of a disk, a want of memory or a bad file: no answer and nothing that a caller was told is one.
+pub fn reports_show_no_fault()
+    ensures { ReportsShowNoFault }
+{
+    a_mesh_that_agrees_shows_no_fault();
 }
 
 /// The place that is told of wrong words is the first at which they stop being those that a command begins with.

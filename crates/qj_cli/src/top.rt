@@ -87,7 +87,8 @@ fn play_or_list<S: Source, K: Sink, D: Disk>(
 
 /// Plays a script, lists the edits of a segment's file, or serves a node. `words` are those behind the program's name:
 ///
-/// - `play` plays the script that the source gives, and writes the report to the sink. The disk isn't called.
+/// - `play` plays the script that the source gives, over nodes on disks in memory, and writes the report to the sink. The disk
+///   isn't called.
 /// - `oev list NAME` and `oev stats NAME` read the disk's file of that name, and write a line for each of its edits, or
 ///   how many there are of each kind. The source isn't read, and the disk isn't changed.
 /// - `node` opens a JournalNode on the disk, which keeps its state in the disk's files, and answers each request line of the

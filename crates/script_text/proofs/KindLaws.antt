@@ -35,6 +35,7 @@ kind_is (kind.Call call.Late) = refl
 kind_is (kind.Node node.Kill) = refl
 kind_is (kind.Node node.Restart) = refl
 kind_is kind.Stop = refl
+kind_is kind.Cut = refl
 
 find_here : (p : Kind → Bool) (x : Kind) (xs : List Kind) (k : Kind) (b : Bool) → p x ≡ b → (find p xs ≡ Some k → p k ≡ true) → cond b (Some x) (find p xs) ≡ Some k → p k ≡ true
 find_here p x xs k true h rest e = let same : x ≡ k = cc in ap p (sym same) ∙ h
@@ -80,6 +81,7 @@ few kind.Purge = refl
 few (kind.Call c) = refl
 few (kind.Node n) = refl
 few kind.Stop = refl
+few kind.Cut = refl
 
 -- one word alone is too few
 pub too_few : (k : Kind) (words : List (List ℕ)) (w : List ℕ) → words ≡ w ∷ [] → bad_spacing k words ≡ true
@@ -101,6 +103,9 @@ behind_two n e = grind (arith, nat_tests)
 pub behind_three : (n : ℕ) → ((n + 1) == 4) ≡ true → n ≡ 3
 behind_three n e = grind (arith, nat_tests)
 
+pub behind_four : (n : ℕ) → ((n + 1) == 5) ≡ true → n ≡ 4
+behind_four n e = grind (arith, nat_tests)
+
 pub behind_some : (n : ℕ) → nat_le 3 (n + 1) ≡ true → 2 ≤ n
 behind_some n e = grind (arith, nat_tests)
 
@@ -113,7 +118,7 @@ no_bodies text e s =
     let m : length (words_of text) ≡ 1 = ap length s in
     omega arith
 
-pub ruleset arities = (behind_two, behind_three, one_operand)
+pub ruleset arities = (behind_two, behind_three, behind_four, one_operand)
 
 -- ## The first tests
 pub no_kind : (said : SaidView) (text : List ℕ) → kind_of (first_word (words_of text)) ≡ None → rule_said (Some said) text ≡ Some 2

@@ -2,6 +2,8 @@
 use Rattle.std.proofs.Common.{ℕ, ◌≡◌, ◌<◌, List, [], ◌∷◌, length, Option, Some, None, refl, sym, ap, arith, ◌∙◌, map, decimal}
 use Rattle.std.specs.Str.Parse.{digits_value}
 use Rattle.request_text.specs.Texts.{hex_text}
+use Rattle.journal_core.specs.declared.cut.Cut.{Cut}
+use Rattle.journal_core.specs.declared.cut.Cut.TheVariants as choice
 use Rattle.node_world.specs.declared.stop.Stop.TheVariants as stop
 use Rattle.script_text.specs.declared.task_word.TaskWord.TheVariants as task
 use Rattle.script_text.specs.declared.call_word.CallWord.TheVariants as call
@@ -11,11 +13,11 @@ use Rattle.script_text.specs.declared.kind.Kind.TheVariants as kind
 use Rattle.script_text.specs.declared.script_line.ScriptLine.{ScriptLine}
 use Rattle.script_text.specs.declared.script_line.ScriptLine.TheVariants as line
 use Rattle.script_text.specs.Views.{SaidView}
-use Rattle.script_text.specs.Words.{actor_of, name_at}
+use Rattle.script_text.specs.Words.{actor_of, name_at, choice_word, choice_of}
 use Rattle.script_text.specs.Grammar.{keyword, kind_in, operands, words_in, IsNode, IsCount, HasSense}
 use Rattle.script_text.specs.Rules.{kind_of}
 use Rattle.script_text.proofs.BodyLaws.{unhex, bodies_back}
-use Rattle.script_text.proofs.NumberLaws.{number_again}
+use Rattle.script_text.proofs.NumberLaws.{number_again, choice_again}
 use Rattle.script_text.proofs.NameLaws.{AreKnown}
 use Rattle.script_text.proofs.KindLaws.{kind_is}
 use Rattle.script_text.proofs.SenseLaws.{AreFew}
@@ -23,6 +25,10 @@ use Rattle.script_text.proofs.SenseLaws.{AreFew}
 abbrev or_first : Option ℕ → ℕ
 or_first None = 0
 or_first (Some n) = n
+
+abbrev or_old : Option Cut → Cut
+or_old None = choice.Old
+or_old (Some c) = c
 
 abbrev place_of : List (List ℕ) → List ℕ → ℕ
 place_of names name = or_first (actor_of names name)
@@ -41,6 +47,8 @@ made names (kind.Call call.Late) (name ∷ i ∷ k ∷ []) = line.Late (place_of
 made names (kind.Node node.Kill) (i ∷ []) = line.Kill (digits_value 10 i)
 made names (kind.Node node.Restart) (i ∷ []) = line.Restart (digits_value 10 i)
 made names kind.Stop (i ∷ calls ∷ keep ∷ []) = line.Arm (digits_value 10 i) (digits_value 10 calls) (stop.Effects (digits_value 10 keep))
+made names kind.Cut (i ∷ calls ∷ after ∷ word ∷ []) =
+    line.Arm (digits_value 10 i) (digits_value 10 calls) (stop.DiskCalls (digits_value 10 after) (or_old (choice_of word)))
 made names k words = line.Declare []
 
 module _ (said : SaidView) (k : AreKnown said.names) (f : AreFew said) where
@@ -71,7 +79,10 @@ module _ (said : SaidView) (k : AreKnown said.names) (f : AreFew said) where
   made_again (line.Arm i calls (stop.Effects keep)) s =
       ap (λ x. line.Arm x (digits_value 10 (decimal calls)) (stop.Effects (digits_value 10 (decimal keep)))) (node_again i s.0)
       ∙ ap (λ x. line.Arm i x (stop.Effects (digits_value 10 (decimal keep)))) (count_again calls s.1) ∙ ap (λ x. line.Arm i calls (stop.Effects x)) (number_again keep s.2)
-  made_again (line.Arm i calls (stop.DiskCalls after cut)) s = absurd s
+  made_again (line.Arm i calls (stop.DiskCalls after word)) s =
+      ap (λ x. line.Arm x (digits_value 10 (decimal calls)) (stop.DiskCalls (digits_value 10 (decimal after)) (or_old (choice_of (choice_word word))))) (node_again i s.0)
+      ∙ ap (λ x. line.Arm i x (stop.DiskCalls (digits_value 10 (decimal after)) (or_old (choice_of (choice_word word))))) (count_again calls s.1)
+      ∙ ap (λ x. line.Arm i calls (stop.DiskCalls x (or_old (choice_of (choice_word word))))) (number_again after s.2) ∙ ap (λ c. line.Arm i calls (stop.DiskCalls after (or_old c))) (choice_again word)
 
   pub same_line : (x y : ScriptLine) → HasSense said x → HasSense said y → words_in said.names x ≡ words_in said.names y → x ≡ y
   same_line x y s t e =

@@ -6,6 +6,7 @@ use Rattle.std.specs.Str.Parse.{digits_value}
 use Rattle.std.proofs.lemmas.Bool.{false≢true}
 use Rattle.std.proofs.lemmas.Bool.Decides.{leb_tells}
 use Rattle.request_text.specs.Texts.{hex_text}
+use Rattle.journal_core.specs.declared.cut.Cut.{Cut}
 use Rattle.node_world.specs.declared.stop.Stop.TheVariants as stop
 use Rattle.script_text.specs.declared.task_word.TaskWord.{TaskWord}
 use Rattle.script_text.specs.declared.task_word.TaskWord.TheVariants as task
@@ -19,14 +20,14 @@ use Rattle.script_text.specs.declared.script_line.ScriptLine.{ScriptLine}
 use Rattle.script_text.specs.declared.script_line.ScriptLine.TheVariants as line
 use Rattle.script_text.specs.declared.line_read.LineRead.TheVariants as line_read
 use Rattle.script_text.specs.Views.{SaidView}
-use Rattle.script_text.specs.Words.{is_name, actor_of, is_number, is_body, greatest, IsBody}
+use Rattle.script_text.specs.Words.{is_name, actor_of, is_number, choice_word, choice_of, is_body, greatest, IsBody}
 use Rattle.script_text.specs.Grammar.{most_actors}
 use Rattle.script_text.specs.Rules.{has_length, later_rule}
 use Rattle.script_text.specs.Reading.{IsRead, Names, Tells}
 use Rattle.script_text.proofs.BodyLaws.{both, bodies_of}
-use Rattle.script_text.proofs.NumberLaws.{told_number}
+use Rattle.script_text.proofs.NumberLaws.{told_number, chosen}
 use Rattle.script_text.proofs.NameLaws.{named}
-use Rattle.script_text.proofs.KindLaws.{not_false, behind_one, behind_two, behind_three, behind_some}
+use Rattle.script_text.proofs.KindLaws.{not_false, behind_one, behind_two, behind_three, behind_four, behind_some}
 
 -- ## Lists of so many words
 one_of : (ws : List (List ℕ)) → length ws ≡ 1 → (a : List ℕ) × (ws ≡ a ∷ [])
@@ -41,6 +42,10 @@ two_of (a ∷ ws) n = let rest = one_of ws (omega arith) in (a, rest.0, ap (λ x
 three_of : (ws : List (List ℕ)) → length ws ≡ 3 → (a b c : List ℕ) × (ws ≡ a ∷ b ∷ c ∷ [])
 three_of [] n = absurd (omega arith)
 three_of (a ∷ ws) n = let rest = two_of ws (omega arith) in (a, rest.0, rest.1, ap (λ xs. a ∷ xs) rest.2)
+
+four_of : (ws : List (List ℕ)) → length ws ≡ 4 → (a b c d : List ℕ) × (ws ≡ a ∷ b ∷ c ∷ d ∷ [])
+four_of [] n = absurd (omega arith)
+four_of (a ∷ ws) n = let rest = three_of ws (omega arith) in (a, rest.0, rest.1, rest.2, ap (λ xs. a ∷ xs) rest.3)
 
 more_of : (ws : List (List ℕ)) → 2 ≤ length ws → (a : List ℕ) × (rest : List (List ℕ)) × (rest ≢ []) × (ws ≡ a ∷ rest)
 more_of [] n = absurd (omega arith)
@@ -117,6 +122,16 @@ means_stop : (said : SaidView) (i calls keep : List ℕ) (x y z : ℕ) → Tells
     → later_rule said kind.Stop (i ∷ calls ∷ keep ∷ []) ≡ None → Meaning said kind.Stop (i ∷ calls ∷ keep ∷ [])
 means_stop said i calls keep x y z t u v e = (line.Arm x y (stop.Effects z), (e, refl, cc, ((t.2, t.3), (u.2, u.3), v.3)))
 
+means_cut : (said : SaidView) (i calls made word : List ℕ) (x y z : ℕ) (c : Cut) → Tells 1 said.nodes i x → Tells 1 greatest calls y → Tells 0 greatest made z → choice_of word ≡ Some c
+    → later_rule said kind.Cut (i ∷ calls ∷ made ∷ word ∷ []) ≡ None → Meaning said kind.Cut (i ∷ calls ∷ made ∷ word ∷ [])
+means_cut said i calls made word x y z c t u v w e =
+    let same : choice_word c ≡ word = chosen word c w in
+    (line.Arm x y (stop.DiskCalls z c), (e, refl, cc, ((t.2, t.3), (u.2, u.3), v.3)))
+
+choice_is : (o : Option Cut) → is_some o ≡ true → (c : Cut) × (o ≡ Some c)
+choice_is None e = absurd (false≢true e)
+choice_is (Some c) e = (c, refl)
+
 -- ## Any kind
 abbrev Words : SaidView → Kind → List (List ℕ) → Type 0
 Words said k words = later_rule said k words ≡ None → Meaning said k words
@@ -150,6 +165,16 @@ stop_words said i calls keep e =
     let u = both (is_number 1 said.nodes i) (is_number 1 greatest calls) t.0 in
     means_stop said i calls keep _ _ _ (told_number 1 said.nodes i u.0) (told_number 1 greatest calls u.1) (told_number 0 greatest keep t.1) e
 
+cut_words : (said : SaidView) (i calls made word : List ℕ) → Words said kind.Cut (i ∷ calls ∷ made ∷ word ∷ [])
+cut_words said i calls made word e =
+    let all : Bool = is_number 1 said.nodes i && is_number 1 greatest calls && is_number 0 greatest made && is_some (choice_of word) in
+    let a = unless (not all) 7 _ e in
+    let h = both (is_number 1 said.nodes i && is_number 1 greatest calls && is_number 0 greatest made) (is_some (choice_of word)) (not_false all a.0) in
+    let t = both (is_number 1 said.nodes i && is_number 1 greatest calls) (is_number 0 greatest made) h.0 in
+    let u = both (is_number 1 said.nodes i) (is_number 1 greatest calls) t.0 in
+    let c = choice_is (choice_of word) h.1 in
+    means_cut said i calls made word _ _ _ c.0 (told_number 1 said.nodes i u.0) (told_number 1 greatest calls u.1) (told_number 0 greatest made t.1) c.1 e
+
 pub means_kind : (said : SaidView) (k : Kind) (words : List (List ℕ)) → has_length k (length words + 1) ≡ true → later_rule said k words ≡ None → (l : ScriptLine) × IsRead said k words (line_read.Says l)
 means_kind said kind.Writer words n =
     let w = one_of words (behind_one (length words) n) in
@@ -172,6 +197,9 @@ means_kind said (kind.Node t) words n =
 means_kind said kind.Stop words n =
     let w = three_of words (behind_three (length words) n) in
     with_words said kind.Stop words (w.0 ∷ w.1 ∷ w.2 ∷ []) w.3 (stop_words said w.0 w.1 w.2)
+means_kind said kind.Cut words n =
+    let w = four_of words (behind_four (length words) n) in
+    with_words said kind.Cut words (w.0 ∷ w.1 ∷ w.2 ∷ w.3 ∷ []) w.4 (cut_words said w.0 w.1 w.2 w.3)
 
 -- ## What is read
 pub no_name : (name : List ℕ) → name ≡ [] → is_name name ≡ true → ⊥

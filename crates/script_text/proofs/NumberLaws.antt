@@ -1,12 +1,14 @@
--- Words that are numbers.
-use Rattle.std.proofs.Common.{ℕ, ◌≡◌, ◌≢◌, ◌<◌, ◌≤◌, ◌^◌, List, [], ◌∷◌, Bool, true, false, ◌&&◌, inl, inr, refl, sym, ap, arith, ◌∙◌, nat_le, decimal}
+-- Words that are numbers, and words of choices.
+use Rattle.std.proofs.Common.{ℕ, ◌≡◌, ◌≢◌, ◌<◌, ◌≤◌, ◌^◌, List, [], ◌∷◌, Option, Some, None, cond, codes, Bool, true, false, ◌&&◌, inl, inr, refl, sym, ap, arith, ◌∙◌, nat_le, decimal}
 use Rattle.std.specs.Str.{bytes_eq}
 use Rattle.std.specs.Str.Parse.{AllDigits, digits_value}
 use Rattle.std.proofs.lemmas.Bool.Decides.{leb_tells}
 use Rattle.std.proofs.lemmas.Fmt.{decimal_is_IsNumeral, decimal_nonempty}
 use Rattle.std.proofs.lemmas.Slice.Eq.{bytes_eq-Decides}
 use Rattle.std.proofs.lemmas.Str.Parse.{digit_from_value}
-use Rattle.script_text.specs.Words.{is_empty, greatest, is_number}
+use Rattle.journal_core.specs.declared.cut.Cut.{Cut}
+use Rattle.journal_core.specs.declared.cut.Cut.TheVariants as choice
+use Rattle.script_text.specs.Words.{is_empty, greatest, is_number, choice_word, choice_of}
 use Rattle.script_text.specs.Reading.{Tells}
 use Rattle.script_text.proofs.WordLaws.{some_of}
 use Rattle.script_text.proofs.BodyLaws.{both, le_is, le_from, between_is, is_word_byte, IsWord}
@@ -90,3 +92,25 @@ pub number_is_word : (n : ℕ) → n ≤ greatest → IsWord (decimal n) × (is_
 number_is_word n l =
     let small : n < 2 ^ 64 = omega arith in
     (digits_are_word (decimal n) (decimal_is_IsNumeral n small).0.1, some_of (decimal n) (decimal_nonempty n small))
+
+-- ## Choices
+pub choice_again : (c : Cut) → choice_of (choice_word c) ≡ Some c
+unfolding choice_of
+choice_again choice.Old = refl
+choice_again choice.New = refl
+choice_again choice.A5 = refl
+
+chosen_here : (word : List ℕ) (x c : Cut) (b : Bool) (later : Option Cut) → bytes_eq word (choice_word x) ≡ b → (later ≡ Some c → choice_word c ≡ word) → cond b (Some x) later ≡ Some c → choice_word c ≡ word
+chosen_here word x c true later h rest e = let same : x ≡ c = cc in ap choice_word (sym same) ∙ sym ((bytes_eq-Decides word (choice_word x)).0 h)
+chosen_here word x c false later h rest e = rest e
+
+-- the word of the choice that a word is
+pub chosen : (word : List ℕ) (c : Cut) → choice_of word ≡ Some c → choice_word c ≡ word
+unfolding choice_of
+chosen word c e =
+    chosen_here word choice.Old c (bytes_eq word (codes "old")) _ refl
+    (chosen_here word choice.New c (bytes_eq word (codes "new")) _ refl
+    (chosen_here word choice.A5 c (bytes_eq word (codes "a5")) None refl (λ n. cc)))
+    e
+
+pub ruleset choices = (chosen)

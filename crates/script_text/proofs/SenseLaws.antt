@@ -3,6 +3,8 @@ use Rattle.std.proofs.Common.{ℕ, ◌≡◌, ◌≢◌, ◌<◌, ◌≤◌, Lis
 use Rattle.std.specs.List.{list_all, list_any, AllByRecursion}
 use Rattle.std.proofs.lemmas.Bool.Decides.{nat_tests, leb_tells}
 use Rattle.request_text.specs.Texts.{hex_text}
+use Rattle.journal_core.specs.declared.cut.Cut.{Cut}
+use Rattle.journal_core.specs.declared.cut.Cut.TheVariants as choice
 use Rattle.node_world.specs.declared.stop.Stop.TheVariants as stop
 use Rattle.script_text.specs.declared.task_word.TaskWord.TheVariants as task
 use Rattle.script_text.specs.declared.call_word.CallWord.TheVariants as call
@@ -12,12 +14,12 @@ use Rattle.script_text.specs.declared.kind.Kind.TheVariants as kind
 use Rattle.script_text.specs.declared.script_line.ScriptLine.{ScriptLine}
 use Rattle.script_text.specs.declared.script_line.ScriptLine.TheVariants as line
 use Rattle.script_text.specs.Views.{SaidView}
-use Rattle.script_text.specs.Words.{joined, words_of, is_empty, first_word, actor_of, name_at, greatest, is_number, is_body, IsBody}
+use Rattle.script_text.specs.Words.{joined, words_of, is_empty, first_word, actor_of, name_at, greatest, is_number, choice_word, is_body, IsBody}
 use Rattle.script_text.specs.Grammar.{keyword, kind_in, operands, words_in, line_text, said_after, most_actors, IsActor, IsNode, IsCount, HasSense, is_silent}
 use Rattle.script_text.specs.Rules.{kind_of, has_length, bad_spacing, later_rule, rule_in, rule_said}
 use Rattle.script_text.specs.Reading.{Says}
 use Rattle.script_text.proofs.BodyLaws.{IsWord, words_again, name_is_word, body_is_word, body_again}
-use Rattle.script_text.proofs.NumberLaws.{number_is, number_is_word}
+use Rattle.script_text.proofs.NumberLaws.{number_is, number_is_word, choice_again}
 use Rattle.script_text.proofs.NameLaws.{AreKnown, known_push, name_good}
 use Rattle.script_text.proofs.KindLaws.{kind_is}
 
@@ -35,6 +37,7 @@ keyword_is_word (kind.Call call.Late) = refl
 keyword_is_word (kind.Node node.Kill) = refl
 keyword_is_word (kind.Node node.Restart) = refl
 keyword_is_word kind.Stop = refl
+keyword_is_word kind.Cut = refl
 
 -- a word that isn't empty
 abbrev IsFull : List ℕ → Type 0
@@ -80,6 +83,11 @@ call_full : (said : SaidView) (actor i k : ℕ) → AreKnown said.names → AreF
 call_full said actor i k known f s =
     three_full (name_at said.names actor) (decimal i) (decimal k) (actor_full said.names actor known s.0) (node_full said i f s.1) (number_is_word k s.2.1)
 
+choice_full : (choice : Cut) → IsFull (choice_word choice)
+choice_full choice.Old = (refl, refl)
+choice_full choice.New = (refl, refl)
+choice_full choice.A5 = (refl, refl)
+
 pub operands_full : (said : SaidView) (l : ScriptLine) → AreKnown said.names → AreFew said → HasSense said l → AllByRecursion IsWord (operands said.names l) × (list_any is_empty (operands said.names l) ≡ false)
 operands_full said (line.Declare name) k f s = one_full name (name_is_word name s.0)
 operands_full said (line.Takeover actor) k f s = one_full (name_at said.names actor) (actor_full said.names actor k s)
@@ -94,7 +102,9 @@ operands_full said (line.Kill i) k f s = one_full (decimal i) (node_full said i 
 operands_full said (line.Restart i) k f s = one_full (decimal i) (node_full said i f s)
 operands_full said (line.Arm i calls (stop.Effects keep)) k f s =
     three_full (decimal i) (decimal calls) (decimal keep) (node_full said i f s.0) (number_is_word calls s.1.1) (number_is_word keep s.2)
-operands_full said (line.Arm i calls (stop.DiskCalls after cut)) k f s = absurd s
+operands_full said (line.Arm i calls (stop.DiskCalls made choice)) k f s =
+    more_full (decimal i) (decimal calls ∷ decimal made ∷ choice_word choice ∷ []) (node_full said i f s.0)
+    (three_full (decimal calls) (decimal made) (choice_word choice) (number_is_word calls s.1.1) (number_is_word made s.2) (choice_full choice))
 
 pub words_are_words : (said : SaidView) (l : ScriptLine) → AreKnown said.names → AreFew said → HasSense said l → AllByRecursion IsWord (words_in said.names l)
 words_are_words said l k f s = (keyword_is_word (kind_in l), (operands_full said l k f s).0)
@@ -120,7 +130,7 @@ counted said (line.Late actor i n) s = refl
 counted said (line.Kill i) s = refl
 counted said (line.Restart i) s = refl
 counted said (line.Arm i calls (stop.Effects keep)) s = refl
-counted said (line.Arm i calls (stop.DiskCalls after cut)) s = absurd s
+counted said (line.Arm i calls (stop.DiskCalls made choice)) s = refl
 
 keyword_full : (k : Kind) → is_empty (keyword k) ≡ false
 keyword_full kind.Writer = refl
@@ -135,6 +145,7 @@ keyword_full (kind.Call call.Late) = refl
 keyword_full (kind.Node node.Kill) = refl
 keyword_full (kind.Node node.Restart) = refl
 keyword_full kind.Stop = refl
+keyword_full kind.Cut = refl
 
 spacing_good : (said : SaidView) (l : ScriptLine) → AreKnown said.names → AreFew said → HasSense said l → bad_spacing (kind_in l) (words_in said.names l) ≡ false
 spacing_good said l k f s =
@@ -172,7 +183,7 @@ rule_none said (line.Late actor i n) k f s = rw (actor_rule said actor k s.0, no
 rule_none said (line.Kill i) k f s = rw (node_number said i f s) refl
 rule_none said (line.Restart i) k f s = rw (node_number said i f s) refl
 rule_none said (line.Arm i calls (stop.Effects keep)) k f s = rw (node_number said i f s.0, count_number calls s.1, any_number keep s.2) refl
-rule_none said (line.Arm i calls (stop.DiskCalls after cut)) k f s = absurd s
+rule_none said (line.Arm i calls (stop.DiskCalls made choice)) k f s = rw (node_number said i f s.0, count_number calls s.1, any_number made s.2, choice_again choice) refl
 
 first_keyword : (k : Kind) (words : List (List ℕ)) → first_word (keyword k ∷ words) ≡ keyword k
 first_keyword kind.Writer words = refl
@@ -187,6 +198,7 @@ first_keyword (kind.Call call.Late) words = refl
 first_keyword (kind.Node node.Kill) words = refl
 first_keyword (kind.Node node.Restart) words = refl
 first_keyword kind.Stop words = refl
+first_keyword kind.Cut words = refl
 
 pub kind_of_words : (names : List (List ℕ)) (l : ScriptLine) → kind_of (first_word (words_in names l)) ≡ Some (kind_in l)
 kind_of_words names l = ap kind_of (first_keyword (kind_in l) (operands names l)) ∙ kind_is (kind_in l)
@@ -219,7 +231,8 @@ known_after said (line.Mute actor i n) k s = k
 known_after said (line.Late actor i n) k s = k
 known_after said (line.Kill i) k s = k
 known_after said (line.Restart i) k s = k
-known_after said (line.Arm i calls how) k s = k
+known_after said (line.Arm i calls (stop.Effects keep)) k s = k
+known_after said (line.Arm i calls (stop.DiskCalls made choice)) k s = k
 
 pub nodes_after : (said : SaidView) (l : ScriptLine) → (said_after said l).nodes ≡ said.nodes
 nodes_after said (line.Declare name) = refl
@@ -233,7 +246,8 @@ nodes_after said (line.Mute actor i n) = refl
 nodes_after said (line.Late actor i n) = refl
 nodes_after said (line.Kill i) = refl
 nodes_after said (line.Restart i) = refl
-nodes_after said (line.Arm i calls how) = refl
+nodes_after said (line.Arm i calls (stop.Effects keep)) = refl
+nodes_after said (line.Arm i calls (stop.DiskCalls made choice)) = refl
 
 -- a line that declares nobody leaves what was said
 pub said_same : (said : SaidView) (l : ScriptLine) → ((name : List ℕ) → l ≡ line.Declare name → ⊥) → said ≡ said_after said l
@@ -248,7 +262,8 @@ said_same said (line.Mute actor i n) h = refl
 said_same said (line.Late actor i n) h = refl
 said_same said (line.Kill i) h = refl
 said_same said (line.Restart i) h = refl
-said_same said (line.Arm i calls how) h = refl
+said_same said (line.Arm i calls (stop.Effects keep)) h = refl
+said_same said (line.Arm i calls (stop.DiskCalls made choice)) h = refl
 
 speaks : (k : Kind) (words : List (List ℕ)) → is_silent (joined (keyword k ∷ words)) ≡ false
 speaks k [] = first_speaks k
@@ -266,6 +281,7 @@ speaks k [] = first_speaks k
     first_speaks (kind.Node node.Kill) = refl
     first_speaks (kind.Node node.Restart) = refl
     first_speaks kind.Stop = refl
+    first_speaks kind.Cut = refl
 speaks k (w ∷ ws) = more_speaks k (32 ∷ joined (w ∷ ws))
   where
     more_speaks : (k : Kind) (rest : List ℕ) → is_silent (keyword k ++ rest) ≡ false
@@ -281,6 +297,7 @@ speaks k (w ∷ ws) = more_speaks k (32 ∷ joined (w ∷ ws))
     more_speaks (kind.Node node.Kill) rest = refl
     more_speaks (kind.Node node.Restart) rest = refl
     more_speaks kind.Stop rest = refl
+    more_speaks kind.Cut rest = refl
 
 pub not_silent : (names : List (List ℕ)) (l : ScriptLine) → is_silent (line_text names l) ≡ false
 not_silent names l = speaks (kind_in l) (operands names l)

@@ -1,5 +1,6 @@
 -- Scripts and texts, worked out at check time.
 use Rattle.std.specs.Prelude.{ℕ, List, [], ◌∷◌, ◌++◌, codes}
+use Rattle.journal_core.specs.declared.cut.Cut.TheVariants as cut
 use Rattle.node_world.specs.declared.stop.Stop.TheVariants as stop
 use Rattle.script_text.specs.declared.script_line.ScriptLine.TheVariants.{Declare, Takeover, Roll, Close, Log, Purge, Drop, Mute, Late, Kill, Restart, Arm}
 use Rattle.script_text.specs.Views.{ScriptView}
@@ -29,13 +30,13 @@ every_kind =
       nodes = 15;
       lines =
           Declare (97 ∷ []) ∷ Declare (98 ∷ 49 ∷ []) ∷ Drop 1 2 3 ∷ Mute 0 15 1 ∷ Arm 2 1 (stop.Effects 0) ∷ Takeover 0 ∷ Log 0 ((10 ∷ []) ∷ (255 ∷ 0 ∷ []) ∷ []) ∷ Roll 0 ∷ Purge 0 3 ∷ Kill 3 ∷ Restart 3
-          ∷ Late 0 1 10 ∷ Close 0 ∷ [];
+          ∷ Late 0 1 10 ∷ Arm 15 2 (stop.DiskCalls 0 cut.A5) ∷ Close 0 ∷ [];
     }
 
 abbrev pub every_kind_lines : List (List ℕ)
 every_kind_lines =
     codes "raw 15" ∷ codes "writer a" ∷ codes "writer b1" ∷ codes "drop b1 2 3" ∷ codes "mute a 15 1" ∷ codes "stop 2 1 0" ∷ codes "takeover a" ∷ codes "log a 0a ff00" ∷ codes "roll a" ∷ codes "purge a 3" ∷ codes "kill 3"
-    ∷ codes "restart 3" ∷ codes "late a 1 10" ∷ codes "close a" ∷ []
+    ∷ codes "restart 3" ∷ codes "late a 1 10" ∷ codes "cut 15 2 0 a5" ∷ codes "close a" ∷ []
 
 -- three nodes and two writers, and then these lines
 abbrev pub after_two : List (List ℕ) → List ℕ

@@ -12,7 +12,7 @@ use Rattle.script_text.specs.declared.script_line.ScriptLine.{ScriptLine}
 use Rattle.script_text.specs.declared.script_line.ScriptLine.TheVariants as line
 use Rattle.script_text.specs.Views.{ScriptView, SaidView}
 use Rattle.script_text.specs.Lines.{Line, Ended, Open, lines_of, ended, longest_line, is_whole}
-use Rattle.script_text.specs.Words.{joined, word_at, is_name, actor_of, name_at, greatest, IsBody}
+use Rattle.script_text.specs.Words.{joined, word_at, is_name, actor_of, name_at, greatest, choice_word, IsBody}
 
 -- ## The kinds of line
 abbrev pub keyword : Kind → List ℕ
@@ -28,6 +28,7 @@ keyword (kind.Call call.Late) = codes "late"
 keyword (kind.Node node.Kill) = codes "kill"
 keyword (kind.Node node.Restart) = codes "restart"
 keyword kind.Stop = codes "stop"
+keyword kind.Cut = codes "cut"
 
 abbrev pub kind_in : ScriptLine → Kind
 kind_in (line.Declare name) = kind.Writer
@@ -41,9 +42,10 @@ kind_in (line.Mute actor i k) = kind.Call call.Mute
 kind_in (line.Late actor i k) = kind.Call call.Late
 kind_in (line.Kill i) = kind.Node node.Kill
 kind_in (line.Restart i) = kind.Node node.Restart
-kind_in (line.Arm i calls how) = kind.Stop
+kind_in (line.Arm i calls (stop.Effects keep)) = kind.Stop
+kind_in (line.Arm i calls (stop.DiskCalls made choice)) = kind.Cut
 
--- the words behind the first, after lines that declared these names; a stop by disk calls has no text yet
+-- the words behind the first, after lines that declared these names
 abbrev pub operands : List (List ℕ) → ScriptLine → List (List ℕ)
 operands names (line.Declare name) = name ∷ []
 operands names (line.Takeover actor) = name_at names actor ∷ []
@@ -57,7 +59,7 @@ operands names (line.Late actor i k) = name_at names actor ∷ decimal i ∷ dec
 operands names (line.Kill i) = decimal i ∷ []
 operands names (line.Restart i) = decimal i ∷ []
 operands names (line.Arm i calls (stop.Effects keep)) = decimal i ∷ decimal calls ∷ decimal keep ∷ []
-operands names (line.Arm i calls (stop.DiskCalls after cut)) = []
+operands names (line.Arm i calls (stop.DiskCalls made choice)) = decimal i ∷ decimal calls ∷ decimal made ∷ choice_word choice ∷ []
 
 abbrev pub words_in : List (List ℕ) → ScriptLine → List (List ℕ)
 words_in names line = keyword (kind_in line) ∷ operands names line
@@ -114,7 +116,7 @@ HasSense said (line.Late actor i k) = IsActor said actor × IsNode said i × IsC
 HasSense said (line.Kill i) = IsNode said i
 HasSense said (line.Restart i) = IsNode said i
 HasSense said (line.Arm i calls (stop.Effects keep)) = IsNode said i × IsCount calls × (keep ≤ greatest)
-HasSense said (line.Arm i calls (stop.DiskCalls after cut)) = ⊥
+HasSense said (line.Arm i calls (stop.DiskCalls made choice)) = IsNode said i × IsCount calls × (made ≤ greatest)
 
 pub record MaySay (said : SaidView) (line : ScriptLine) : Type 0 where
   pub sense : HasSense said line

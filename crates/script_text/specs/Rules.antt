@@ -9,7 +9,7 @@ use Rattle.script_text.specs.declared.kind.Kind.{Kind}
 use Rattle.script_text.specs.declared.kind.Kind.TheVariants as kind
 use Rattle.script_text.specs.Views.{SaidView}
 use Rattle.script_text.specs.Lines.{Line, Ended, Open, lines_of, is_line}
-use Rattle.script_text.specs.Words.{words_of, is_empty, first_word, word_at, is_name, actor_of, greatest, is_number, is_body}
+use Rattle.script_text.specs.Words.{words_of, is_empty, first_word, word_at, is_name, actor_of, greatest, is_number, choice_of, is_body}
 use Rattle.script_text.specs.Grammar.{keyword, first_line, nothing_said, said_by, most_actors, is_silent}
 
 -- the number of nodes that a first line tells
@@ -20,7 +20,7 @@ nodes_of line = find (λ nodes. bytes_eq line (first_line nodes)) (range_with_le
 abbrev pub all_kinds : List Kind
 all_kinds =
     kind.Writer ∷ kind.Task task.Takeover ∷ kind.Task task.Roll ∷ kind.Task task.Close ∷ kind.Log ∷ kind.Purge ∷ kind.Call call.Drop ∷ kind.Call call.Mute ∷ kind.Call call.Late
-    ∷ kind.Node node.Kill ∷ kind.Node node.Restart ∷ kind.Stop ∷ []
+    ∷ kind.Node node.Kill ∷ kind.Node node.Restart ∷ kind.Stop ∷ kind.Cut ∷ []
 
 -- the kind of line that a first word begins
 unfoldable pub kind_of : List ℕ → Option Kind
@@ -35,6 +35,7 @@ has_length kind.Purge n = n == 3
 has_length (kind.Call c) n = n == 4
 has_length (kind.Node t) n = n == 2
 has_length kind.Stop n = n == 4
+has_length kind.Cut n = n == 5
 
 abbrev pub bad_spacing : Kind → List (List ℕ) → Bool
 bad_spacing k words = list_any is_empty words || not (has_length k (length words))
@@ -67,12 +68,14 @@ names_actor _ = false
 abbrev pub bad_actor : SaidView → Kind → List (List ℕ) → Bool
 bad_actor said k words = names_actor k && is_none (actor_of said.names (word_at words 0))
 
--- rule 7: the numbers, those of nodes among them
+-- rule 7: the numbers, those of nodes among them, and the choices
 abbrev pub bad_number : SaidView → Kind → List (List ℕ) → Bool
 bad_number said kind.Purge (name ∷ min ∷ []) = not (is_number 0 greatest min)
 bad_number said (kind.Call c) (name ∷ i ∷ k ∷ []) = not (is_number 1 said.nodes i && is_number 1 greatest k)
 bad_number said (kind.Node t) (i ∷ []) = not (is_number 1 said.nodes i)
 bad_number said kind.Stop (i ∷ calls ∷ keep ∷ []) = not (is_number 1 said.nodes i && is_number 1 greatest calls && is_number 0 greatest keep)
+bad_number said kind.Cut (i ∷ calls ∷ made ∷ choice ∷ []) =
+    not (is_number 1 said.nodes i && is_number 1 greatest calls && is_number 0 greatest made && is_some (choice_of choice))
 bad_number said _ words = false
 
 -- rule 8: the bodies

@@ -1,8 +1,10 @@
 -- The words of a line: names, numbers and bodies.
 use Rattle.std.specs.Prelude.{ℕ, ◌≡◌, ◌/◌, ◌%◌, ◌^◌, ◌<◌, ◌≤◌, List, [], ◌∷◌, Bool, true, false, not, Option, ◌==◌, ◌&&◌, ◌||◌, nat_lt, nat_le, length, codes, slice_index_or, position, decimal}
-use Rattle.std.specs.List.{list_all, join_with_byte, slice_split, AllByRecursion}
+use Rattle.std.specs.List.{list_all, find, join_with_byte, slice_split, AllByRecursion}
 use Rattle.std.specs.Str.{bytes_eq}
 use Rattle.std.specs.Str.Parse.{digits_value}
+use Rattle.journal_core.specs.declared.cut.Cut.{Cut}
+use Rattle.journal_core.specs.declared.cut.Cut.TheVariants as cut
 use Rattle.request_text.specs.Texts.{hex_digit, hex_text}
 
 -- words, with one space between two
@@ -64,6 +66,19 @@ greatest = 2 ^ 62
 -- a word that is a number of that range
 unfoldable pub is_number : ℕ → ℕ → List ℕ → Bool
 is_number least most word = nat_le least (digits_value 10 word) && nat_le (digits_value 10 word) most && bytes_eq word (decimal (digits_value 10 word))
+
+-- ## What a crash leaves of bytes that weren't synced
+abbrev pub choice_word : Cut → List ℕ
+choice_word cut.Old = codes "old"
+choice_word cut.New = codes "new"
+choice_word cut.A5 = codes "a5"
+
+abbrev pub all_choices : List Cut
+all_choices = cut.Old ∷ cut.New ∷ cut.A5 ∷ []
+
+-- the choice that a word is
+unfoldable pub choice_of : List ℕ → Option Cut
+choice_of word = find (λ c. bytes_eq word (choice_word c)) all_choices
 
 -- ## Bodies, in lower-case hexadecimal
 -- the two digits of a byte

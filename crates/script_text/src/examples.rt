@@ -46,13 +46,13 @@ pub fn words_are_told()
     ensures unknown_word { fault_of (after_two (codes "foo" ∷ [])) ≡ Some (4, 2) }
     ensures raw_again { fault_of (after_two (codes "raw 3" ∷ [])) ≡ Some (4, 2) }
     ensures names_again { fault_of (after_two (codes "names 3" ∷ [])) ≡ Some (4, 2) }
-    ensures cut { fault_of (after_two (codes "cut 1 1 1 old" ∷ [])) ≡ Some (4, 2) }
     ensures spaces_alone { fault_of (after_two (codes "  " ∷ [])) ≡ Some (4, 2) }
     ensures leading_space { fault_of (after_two (codes " takeover a" ∷ [])) ≡ Some (4, 3) }
     ensures double_space { fault_of (after_two (codes "drop a  1 1" ∷ [])) ≡ Some (4, 3) }
     ensures trailing_space { fault_of (after_two (codes "kill 1 " ∷ [])) ≡ Some (4, 3) }
     ensures no_body { fault_of (after_two (codes "log a" ∷ [])) ≡ Some (4, 3) }
     ensures no_effects { fault_of (after_two (codes "stop 1 1" ∷ [])) ≡ Some (4, 3) }
+    ensures no_choice { fault_of (after_two (codes "cut 1 1 1" ∷ [])) ≡ Some (4, 3) }
     ensures count_first { fault_of (after_two (codes "purge c" ∷ [])) ≡ Some (4, 3) }
 {}
 
@@ -84,6 +84,9 @@ pub fn numbers_are_told()
     ensures up_again { fault_of (after_two (codes "restart 4" ∷ [])) ≡ Some (4, 7) }
     ensures no_effect { fault_of (after_two (codes "stop 1 1 0" ∷ [])) ≡ None }
     ensures stop_at_none { fault_of (after_two (codes "stop 1 0 1" ∷ [])) ≡ Some (4, 7) }
+    ensures cut_at_once { fault_of (after_two (codes "cut 1 1 0 old" ∷ codes "cut 1 1 1 new" ∷ [])) ≡ None }
+    ensures cut_at_none { fault_of (after_two (codes "cut 1 0 1 old" ∷ [])) ≡ Some (4, 7) }
+    ensures bad_choice { fault_of (after_two (codes "cut 1 1 1 A5" ∷ [])) ≡ Some (4, 7) }
     ensures odd_digits { fault_of (after_two (codes "log a 0" ∷ [])) ≡ Some (4, 8) }
     ensures capital_digits { fault_of (after_two (codes "log a 0a 0A" ∷ [])) ≡ Some (4, 8) }
     ensures nobody_logs { fault_of (after_two (codes "log c 0A" ∷ [])) ≡ Some (4, 5) }

@@ -25,6 +25,8 @@ pub enum Kind {
     Node(NodeWord),
     /// `stop I J K`
     Stop,
+    /// `cut I J D CHOICE`
+    Cut,
 }
 
 /// The kind of line that a first word begins.
@@ -56,6 +58,8 @@ pub fn kind_of(word: &[u8]) -> Option<Kind>
         Some(Kind::Node(NodeWord::Restart))
     } else if word == b"stop".as_slice() {
         Some(Kind::Stop)
+    } else if word == b"cut".as_slice() {
+        Some(Kind::Cut)
     } else {
         None
     }
@@ -76,6 +80,7 @@ fn has_bad_spacing(kind: Kind, line: &[u8]) -> bool
         Kind::Call(_) => count != 4,
         Kind::Node(_) => count != 2,
         Kind::Stop => count != 4,
+        Kind::Cut => count != 5,
     }
 }
 

@@ -17,7 +17,8 @@ use crate::said::Said;
 use crate::script_line::ScriptLine;
 use crate::task_word::TaskWord;
 use crate::words::{
-    first_word, is_name, number_of, read_bodies, split_word, three_words, two_words,
+    choice_of, first_word, four_words, is_name, number_of, read_bodies, split_word, three_words,
+    two_words,
 };
 use journal_core::{Bytes, OutOfMemory};
 use node_world::Stop;
@@ -155,6 +156,30 @@ fn read_stop(said: &Said, node: &[u8], calls: &[u8], keep: &[u8]) -> LineRead
     })
 }
 
+/// A cut that a node is armed with.
+#[tactic(auto, using(crate::proofs::NumberLaws::choices))]
+fn read_cut(said: &Said, node: &[u8], calls: &[u8], made: &[u8], choice: &[u8]) -> LineRead
+    ensures { IsRead said.now kind.Cut (node.now ∷ calls.now ∷ made.now ∷ choice.now ∷ []) result }
+{
+    let Some(node) = said.node_of(node) else {
+        return LineRead::Broken { rule: BAD_NUMBER };
+    };
+    let Some(calls) = number_of(calls, 1, MAX) else {
+        return LineRead::Broken { rule: BAD_NUMBER };
+    };
+    let Some(made) = number_of(made, 0, MAX) else {
+        return LineRead::Broken { rule: BAD_NUMBER };
+    };
+    let Some(cut) = choice_of(choice) else {
+        return LineRead::Broken { rule: BAD_NUMBER };
+    };
+    LineRead::Says(ScriptLine::Arm {
+        node,
+        calls,
+        stop: Stop::DiskCalls { calls: made, cut },
+    })
+}
+
 /// The words behind the first of a line of that kind, of which there are as many as the kind wants.
 #[tactic(auto, using(crate::proofs::KindLaws::arities))]
 fn read_operands(
@@ -187,6 +212,10 @@ fn read_operands(
         Kind::Stop => {
             let (node, calls, keep) = three_words(text);
             Ok(read_stop(said, node, calls, keep))
+        }
+        Kind::Cut => {
+            let (node, calls, made, choice) = four_words(text);
+            Ok(read_cut(said, node, calls, made, choice))
         }
     }
 }

@@ -1,13 +1,13 @@
 // Scripts are printed.
 ghost use Rattle.std.specs.Prelude.{◌≡◌, ◌++◌, ◌∷◌, [], ◌<◌, ◌≤◌, OnOk, IfOk, codes, decimal, map};
 ghost use Rattle.request_text.specs.Texts.{hex_digit, hex_text, bodies_text};
-ghost use Rattle.script_text.specs.Words.{joined};
+ghost use Rattle.script_text.specs.Words.{joined, choice_word};
 ghost use Rattle.script_text.specs.Grammar.{first_line, line_text, script_text, HasSense, IsScript, IsScriptText};
 
 use crate::said::Said;
 use crate::script::Script;
 use crate::script_line::ScriptLine;
-use journal_core::{BodyList, OutOfMemory};
+use journal_core::{BodyList, Cut, OutOfMemory};
 use node_world::Stop;
 use qj_num::put_decimal;
 use std::alloc::Global;
@@ -118,6 +118,33 @@ fn push_stop(out: &mut Vec<u8>, node: usize, calls: u64, keep: u64) -> Result<()
     push_number(out, keep)
 }
 
+/// The word of what a crash leaves of bytes that weren't synced.
+fn choice_word(cut: Cut) -> &'static [u8]
+    ensures { result.now ≡ choice_word cut }
+{
+    match cut {
+        Cut::Old => b"old",
+        Cut::New => b"new",
+        Cut::A5 => b"a5",
+    }
+}
+
+#[tactic(auto, using(crate::proofs::PushLaws::pushes))]
+fn push_cut(
+    out: &mut Vec<u8>,
+    node: usize,
+    calls: u64,
+    made: u64,
+    cut: Cut,
+) -> Result<(), OutOfMemory>
+    ensures { OnOk result (out.new.items ≡ out.old.items ++ joined (codes "cut" ∷ decimal node ∷ decimal calls ∷ decimal made ∷ choice_word cut ∷ [])) }
+{
+    push_visit(out, b"cut", node)?;
+    push_number(out, calls)?;
+    push_number(out, made)?;
+    push_word(out, choice_word(cut))
+}
+
 /// The line `raw N`.
 fn push_first_line(out: &mut Vec<u8>, nodes: usize) -> Result<(), OutOfMemory>
     ensures { OnOk result (out.new.items ≡ out.old.items ++ first_line nodes) }
@@ -151,7 +178,7 @@ fn push_line(out: &mut Vec<u8>, said: &Said, line: &ScriptLine) -> Result<(), Ou
         ScriptLine::Restart { node } => push_visit(out, b"restart", *node),
         ScriptLine::Arm { node, calls, stop } => match stop {
             Stop::Effects { keep } => push_stop(out, *node, *calls, *keep),
-            Stop::DiskCalls { .. } => Ok(()),
+            Stop::DiskCalls { calls: made, cut } => push_cut(out, *node, *calls, *made, *cut),
         },
     }
 }

@@ -29,6 +29,7 @@ pub enum ScriptLine {
     /// `restart I`: the node comes up again.
     Restart { node: usize },
     /// `stop I J K`: the `calls`-th next call that reaches the node while it is up is stopped inside it,
-    /// after K effects. A stop after disk calls has no text yet.
+    /// after K effects. `cut I J D CHOICE`: the same after D disk calls, and the crash leaves by this choice
+    /// what wasn't synced.
     Arm { node: usize, calls: u64, stop: Stop },
 }

@@ -2,11 +2,11 @@
 ghost use Rattle.std.specs.Prelude.{◌≡◌, ◌≢◌, ◌+◌, ◌&&◌, ◌++◌, ◌∷◌, [], ◌<◌, ◌≤◌, ◌-◌, ◌*◌, ◌/◌, take, true, false, Some, None, OnOk, IfOk, IfSome, MatchOption, IsTrue, length, map};
 ghost use Rattle.std.specs.List.{list_all, list_any, AllByRecursion};
 ghost use Rattle.request_text.specs.Texts.{hex_digit, hex_text};
-ghost use Rattle.script_text.specs.Words.{words_of, first_word, StandFor, is_name, is_name_byte, is_letter, is_word_of_name, is_number, hex_byte, is_hex_digit, is_hex, is_body, IsByte, IsBody};
+ghost use Rattle.script_text.specs.Words.{words_of, first_word, StandFor, is_name, is_name_byte, is_letter, is_word_of_name, is_number, choice_of, hex_byte, is_hex_digit, is_hex, is_body, IsByte, IsBody};
 ghost use Rattle.script_text.specs.Reading.{word_count, Tells};
 
 use crate::lines::split_byte;
-use journal_core::{BodyList, Bytes, OutOfMemory};
+use journal_core::{BodyList, Bytes, Cut, OutOfMemory};
 use qj_num::read_number;
 use std::alloc::Global;
 
@@ -83,6 +83,21 @@ pub fn three_words(text: &[u8]) -> (&[u8], &[u8], &[u8])
     }
 }
 
+/// The four words of a text of four.
+#[tactic(auto, using(crate::proofs::WordLaws::counted))]
+pub fn four_words(text: &[u8]) -> (&[u8], &[u8], &[u8], &[u8])
+    requires { length (words_of text.now) ≡ 4 }
+    ensures { words_of text.now ≡ result.0.now ∷ result.1.now ∷ result.2.now ∷ result.3.now ∷ [] }
+{
+    match split_word(text) {
+        Some((first, others)) => {
+            let (second, third, fourth) = three_words(others);
+            (first, second, third, fourth)
+        }
+        None => (text, text, text, text),
+    }
+}
+
 fn is_letter(b: u8) -> bool
     ensures { result ≡ is_letter b }
 {
@@ -131,6 +146,22 @@ pub fn number_of(word: &[u8], least: u64, most: u64) -> Option<u64>
         return None;
     }
     Some(number)
+}
+
+/// What a crash leaves of bytes that weren't synced, by its word.
+#[tactic(auto, unfolding(crate::specs::Words::choice_of))]
+pub fn choice_of(word: &[u8]) -> Option<Cut>
+    ensures { result ≡ choice_of word.now }
+{
+    if word == b"old".as_slice() {
+        Some(Cut::Old)
+    } else if word == b"new".as_slice() {
+        Some(Cut::New)
+    } else if word == b"a5".as_slice() {
+        Some(Cut::A5)
+    } else {
+        None
+    }
 }
 
 /// The number that a digit stands for.
