@@ -15,3 +15,4 @@ pub mod Renames
 pub mod Turning
 pub mod Ancestors
 pub mod Names
+pub mod Last
