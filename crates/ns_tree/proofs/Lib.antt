@@ -17,3 +17,4 @@ pub mod Renames
 pub mod Turning
 pub mod Ancestors
 pub mod Names
+pub mod Last

@@ -57,7 +57,7 @@ others_snoc : (call other : Call) (txid : ℕ) (ns : List Noted) → same_call o
 others_snoc call other txid [] e h = (e, tt)
 others_snoc call other txid (n ∷ ns) e h = (h.0, others_snoc call other txid ns e h.1)
 
-same_swapped : (a b : Call) → same_call a b ≡ false → same_call b a ≡ false
+pub same_swapped : (a b : Call) → same_call a b ≡ false → same_call b a ≡ false
 same_swapped a b e = by (same_call b a) refl
   where
     numbers : (x y : ℕ) (c : Bool) → ((x == y) && c) ≡ true → (x ≡ y) × (c ≡ true)

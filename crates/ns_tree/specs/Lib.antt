@@ -1,6 +1,7 @@
 pub mod Path
 pub mod Space
 pub mod Places
+pub mod Last
 pub mod Examples
 pub mod Marks
 pub mod Components

@@ -1,6 +1,7 @@
 //! The namespace: directories and files by their paths, and the calls that it remembers.
 #![tactic(auto)]
 
+mod appending;
 mod end;
 mod examples;
 mod grammar;

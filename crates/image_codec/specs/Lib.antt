@@ -1,0 +1,4 @@
+pub mod Layouts
+pub mod Reading
+pub mod Laws
+pub mod Examples

@@ -1,0 +1,5 @@
+//! Tests of images: their bytes, and what is wrong with other bytes.
+#![tactic(auto)]
+
+#[cfg(test)]
+mod codec;
