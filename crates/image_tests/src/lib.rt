@@ -1,5 +1,11 @@
-//! Tests of images: their bytes, and what is wrong with other bytes.
+//! Tests of images: their bytes, what is wrong with other bytes, and the files that they are kept in.
 #![tactic(auto)]
 
 #[cfg(test)]
 mod codec;
+#[cfg(test)]
+mod store;
+#[cfg(test)]
+mod store_disk;
+#[cfg(test)]
+mod store_kept;

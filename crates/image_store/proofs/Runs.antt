@@ -1,0 +1,71 @@
+-- Runs of disk calls, one after the other.
+use Rattle.std.proofs.Common.{inl, inr, ◌⊎◌, subst}
+use Rattle.std.specs.Prelude.{Result, Ok, Err, OnOk}
+use Rattle.qj_disk.specs.Files.{Files, Follows}
+use Rattle.qj_disk.specs.View.{View, IsSound, LeavesOnly}
+use Rattle.qj_disk.specs.Calls.{Effect, Happens, Keeps}
+use Rattle.qj_disk.specs.Runs.{Quiet, weaker, joined, quiet_start, quiet_keeps}
+
+-- each crash leaves what an old outcome is after this
+abbrev pub From : View → (Files → Files → Type 0) → Files → Type 0
+From u N c = (d : Files) × u.may_leave d × N d c
+
+-- a quiet run after calls that only read
+pub keeps_then : (K : Files → Files → Type 0) (u v w : View) → IsSound u → ((d : Files) → K d d) → Keeps u v → Quiet K v w → Quiet K u w
+keeps_then K u v w sound same keeps quiet = record {
+  moments = weaker u w (λ c. From u K c ⊎ From v K c) (From u K) by (joined u v w (From u K) (From v K) (quiet_keeps K u u v (quiet_start K u sound (λ c left. same c)) keeps).moments quiet.moments);
+  now = λ c left. by c (inr (quiet.now c left));
+  seen = subst (λ (f : Files). K f w.seen) keeps.seen quiet.seen;
+}
+  where
+    by : (c : Files) → From u K c ⊎ From v K c → From u K c
+    by c (inl from) = from
+    by c (inr from) = (from.0, keeps.crash from.0 from.1, from.2)
+
+pub quiet_weaker : (N K : Files → Files → Type 0) (u v : View) → ((d c : Files) → N d c → K d c) → Quiet N u v → Quiet K u v
+quiet_weaker N K u v more quiet = record {
+  moments = weaker u v (From u N) (From u K) (λ c from. (from.0, from.1, more from.0 c from.2)) quiet.moments;
+  now = λ c left. let from = quiet.now c left in (from.0, from.1, more from.0 c from.2);
+  seen = more u.seen v.seen quiet.seen;
+}
+
+module _ (N M K : Files → Files → Type 0) (u v w : View) (sound_u : IsSound u) (sound_v : IsSound v) where
+  -- one quiet run after another
+  pub quiet_then : ((d c : Files) → N d c → K d c) → ((d e c : Files) → u.may_leave d → v.may_leave e → N d e → M e c → K d c) → Quiet N u v → Quiet M v w → Quiet K u w
+  quiet_then more both one two = record {
+    moments = weaker u w (λ c. From u N c ⊎ From v M c) (From u K) by (joined u v w (From u N) (From v M) one.moments two.moments);
+    now = λ c left. by c (inr (two.now c left));
+    seen = both u.seen v.seen w.seen sound_u.seen_now sound_v.seen_now one.seen two.seen;
+  }
+    where
+      by : (c : Files) → From u N c ⊎ From v M c → From u K c
+      by c (inl from) = (from.0, from.1, more from.0 c from.2)
+      by c (inr from) = let old = one.now from.0 from.1 in (old.0, old.1, both old.0 from.0 c old.1 from.1 old.2 from.2)
+
+  -- an effect after calls that left no more than noise, and led to N
+  pub effect_then : (S T : Files → Files → Type 0) {X E : Type 0} (r : Result X E) → LeavesOnly u v (From u K) → Follows N u.may_leave v.may_leave → N u.seen v.seen
+      → ((d e c : Files) → u.may_leave d → v.may_leave e → N d e → M e c → K d c) → ((d e c : Files) → u.may_leave d → v.may_leave e → N d e → S e c → T d c) → Effect M S r v w → Effect K T r u w
+  effect_then S T {X = X} {E = E} r moments now seen noise deed effect = record {
+    any_moment = weaker u w (λ c. From u K c ⊎ ((e : Files) × v.may_leave e × (M e c ⊎ S e c))) (λ c. (d : Files) × u.may_leave d × (K d c ⊎ T d c)) by
+        (joined u v w (From u K) (λ c. (e : Files) × v.may_leave e × (M e c ⊎ S e c)) moments effect.any_moment);
+    done = done r effect.done;
+    failed = either u.seen v.seen w.seen sound_u.seen_now sound_v.seen_now seen effect.failed;
+  }
+    where
+      either : (d e c : Files) → u.may_leave d → v.may_leave e → N d e → M e c ⊎ S e c → K d c ⊎ T d c
+      either d e c left_d left_e first (inl noisy) = inl (noise d e c left_d left_e first noisy)
+      either d e c left_d left_e first (inr done) = inr (deed d e c left_d left_e first done)
+
+      by : (c : Files) → From u K c ⊎ ((e : Files) × v.may_leave e × (M e c ⊎ S e c)) → (d : Files) × u.may_leave d × (K d c ⊎ T d c)
+      by c (inl from) = (from.0, from.1, inl from.2)
+      by c (inr from) = let old = now from.0 from.1 in (old.0, old.1, either old.0 from.0 c old.1 from.1 old.2 from.2)
+
+      happened : Happens S v w → Happens T u w
+      happened h = record {
+        seen = deed u.seen v.seen w.seen sound_u.seen_now sound_v.seen_now seen h.seen;
+        crash = λ c left. let from = h.crash c left in let old = now from.0 from.1 in (old.0, old.1, deed old.0 from.0 c old.1 from.1 old.2 from.2);
+      }
+
+      done : (s : Result X E) → OnOk s (Happens S v w) → OnOk s (Happens T u w)
+      done (Ok x) h = happened h
+      done (Err e) h = tt

@@ -1,0 +1,7 @@
+pub mod Names
+pub mod Images
+pub mod Digests
+pub mod Saves
+pub mod Lists
+pub mod Answers
+pub mod Examples

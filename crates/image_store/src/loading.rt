@@ -1,0 +1,85 @@
+//! The bytes of an image are read.
+ghost use Rattle.std.specs.Prelude.{◌≡◌, ◌↔◌, ◌≤◌, ◌^◌, List, ℕ, Some, option_map, length, IfOk};
+ghost use Rattle.qj_disk.specs.Calls.{HasCause, Rests};
+ghost use Rattle.image_store.specs.Names.{name_of, Itself};
+ghost use Rattle.image_store.specs.Images.{image_in};
+ghost use Rattle.image_store.specs.Digests.{IsStored};
+ghost use Rattle.image_store.specs.Answers.{IsJudged, IsLoadedOf, IsLoaded};
+
+use crate::digest_line::digest_of;
+use crate::file_bytes::read_bytes;
+use crate::image_names::ImageNames;
+use crate::loaded_bytes::LoadedBytes;
+use crate::stored::{Stored, read_stored};
+use qj_disk::{Disk, DiskFail};
+use qj_num::MAX;
+use std::alloc::Global;
+
+// The bytes of an image, or that they have another digest than the stored one.
+fn judge(bytes: Vec<u8>, stored: [u8; 16]) -> LoadedBytes
+    ensures { IsJudged bytes.items stored result }
+{
+    let computed = digest_of(&bytes);
+    if computed == stored {
+        LoadedBytes::Bytes(bytes)
+    } else {
+        LoadedBytes::DigestDiffers { stored, computed }
+    }
+}
+
+// What the files of an image tell, of which the image's own has so many bytes.
+fn load_sized<D: Disk>(
+    alloc: Global,
+    disk: &mut D,
+    names: &ImageNames,
+    size: u64,
+) -> Result<LoadedBytes, DiskFail>
+    requires { D.tells disk.old → Some size ≡ option_map length ((D.view disk.old).seen (name_of names.now Itself)) }
+
+    ensures tells { D.tells disk.old ↔ D.tells disk.new }
+    ensures loaded { D.tells disk.old → IfOk result (IsLoadedOf names.now (image_in (D.view disk.old).seen names.now)) }
+    ensures disk { D.tells disk.old → Rests (D.view disk.old) (D.view disk.new) }
+    ensures cause { HasCause (D.faults disk.old) (D.faults disk.new) (D.steady disk.old) (D.steady disk.new) result }
+{
+    match read_stored(alloc, disk, names)? {
+        Stored::Digest(stored) => {
+            let bytes = read_bytes(alloc, disk, names.itself(), size)?;
+            Ok(judge(bytes, stored))
+        }
+        Stored::Bad => Ok(LoadedBytes::BadDigest),
+        Stored::Absent => Ok(LoadedBytes::NoImage),
+    }
+}
+
+// What the files of an image tell.
+fn load_named<D: Disk>(
+    alloc: Global,
+    disk: &mut D,
+    names: &ImageNames,
+) -> Result<LoadedBytes, DiskFail>
+    ensures tells { D.tells disk.old ↔ D.tells disk.new }
+    ensures loaded { D.tells disk.old → IfOk result (IsLoadedOf names.now (image_in (D.view disk.old).seen names.now)) }
+    ensures disk { D.tells disk.old → Rests (D.view disk.old) (D.view disk.new) }
+    ensures cause { HasCause (D.faults disk.old) (D.faults disk.new) (D.steady disk.old) (D.steady disk.new) result }
+{
+    match disk.length(names.itself())? {
+        Some(size) => load_sized(alloc, disk, names, size),
+        None => Ok(LoadedBytes::NoImage),
+    }
+}
+
+/// The bytes of the image of this txid, whose digest is compared with the stored one. `NoImage` comes
+/// exactly where none counts, also for a txid above 2^62. A file that is too long for the memory is
+/// answered as want of it. Nothing changes.
+pub fn load_bytes<D: Disk>(alloc: Global, disk: &mut D, txid: u64) -> Result<LoadedBytes, DiskFail>
+    ensures tells { D.tells disk.old ↔ D.tells disk.new }
+    ensures loaded { D.tells disk.old → IfOk result (IsLoaded (D.view disk.old).seen txid) }
+    ensures disk { D.tells disk.old → Rests (D.view disk.old) (D.view disk.new) }
+    ensures cause { HasCause (D.faults disk.old) (D.faults disk.new) (D.steady disk.old) (D.steady disk.new) result }
+{
+    if txid > MAX {
+        return Ok(LoadedBytes::NoImage);
+    }
+    let names = ImageNames::new(alloc, txid)?;
+    load_named(alloc, disk, &names)
+}

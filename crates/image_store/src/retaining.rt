@@ -1,0 +1,83 @@
+//! Older images are removed.
+ghost use Rattle.std.specs.Prelude.{◌≡◌, ◌↔◌, ◌≤◌, ◌^◌, OnOk};
+ghost use Rattle.qj_disk.specs.Calls.{HasCause};
+ghost use Rattle.qj_disk.specs.Runs.{Quiet};
+ghost use Rattle.small_files.specs.Answers.{put_result};
+ghost use Rattle.image_store.specs.Lists.{AllSmall, older_than};
+ghost use Rattle.image_store.specs.Saves.{Removes, Thins, IsRemoved, AreRemoved, Retains};
+
+use crate::clearing::clear;
+use crate::counting::counting;
+use crate::image_names::ImageNames;
+use qj_disk::{Disk, DiskFail};
+use small_files::Put;
+use std::alloc::Global;
+
+// Removes the files of an image, its own first.
+fn remove_named<D: Disk>(disk: &mut D, names: &ImageNames) -> Result<(), DiskFail>
+    ensures tells { D.tells disk.old ↔ D.tells disk.new }
+    ensures quiet { D.tells disk.old → Quiet (Removes names.now) (D.view disk.old) (D.view disk.new) }
+    ensures removed { D.tells disk.old → OnOk result (IsRemoved names.now (D.view disk.new).seen) }
+    ensures cause { HasCause (D.faults disk.old) (D.faults disk.new) (D.steady disk.old) (D.steady disk.new) result }
+{
+    clear(disk, names.itself())?;
+    clear(disk, names.digest())
+}
+
+// Removes the files of the image of this txid.
+fn remove_image<D: Disk>(alloc: Global, disk: &mut D, txid: u64) -> Result<(), DiskFail>
+    requires { txid ≤ 2 ^ 62 }
+
+    ensures tells { D.tells disk.old ↔ D.tells disk.new }
+    ensures quiet { D.tells disk.old → Quiet (Removes txid) (D.view disk.old) (D.view disk.new) }
+    ensures removed { D.tells disk.old → OnOk result (IsRemoved txid (D.view disk.new).seen) }
+    ensures cause { HasCause (D.faults disk.old) (D.faults disk.new) (D.steady disk.old) (D.steady disk.new) result }
+{
+    let names = ImageNames::new(alloc, txid)?;
+    remove_named(disk, &names)
+}
+
+// Removes the images of these txids.
+fn remove_all<D: Disk>(alloc: Global, disk: &mut D, txids: &[u64]) -> Result<(), DiskFail>
+    requires { AllSmall txids.now }
+
+    ensures tells { D.tells disk.old ↔ D.tells disk.new }
+    ensures quiet { D.tells disk.old → Quiet (Thins txids.now) (D.view disk.old) (D.view disk.new) }
+    ensures removed { D.tells disk.old → OnOk result (AreRemoved txids.now (D.view disk.new).seen) }
+    ensures cause { HasCause (D.faults disk.old) (D.faults disk.new) (D.steady disk.old) (D.steady disk.new) result }
+{
+    for txid in txids {
+        remove_image(alloc, disk, *txid)?;
+    }
+    Ok(())
+}
+
+// All but the last of these txids, so many of them.
+fn older(txids: &[u64], count: u64) -> &[u64]
+    ensures { result.now ≡ older_than count txids.now }
+{
+    let kept = (txids.len() as u64).min(count) as usize;
+    &txids[..txids.len() - kept]
+}
+
+// Removes all but so many of the images that count.
+fn retain_by<D: Disk>(alloc: Global, disk: &mut D, count: u64) -> Result<(), DiskFail>
+    ensures tells { D.tells disk.old ↔ D.tells disk.new }
+    ensures retains { D.tells disk.old → Retains count result (D.view disk.old) (D.view disk.new) }
+    ensures cause { HasCause (D.faults disk.old) (D.faults disk.new) (D.steady disk.old) (D.steady disk.new) result }
+{
+    let txids = counting(alloc, disk)?;
+    remove_all(alloc, disk, older(&txids, count))
+}
+
+/// Removes all but the `count` newest of the images that count, the oldest first, and of each its own
+/// file before that of its digest. A crash at any moment leaves the newest ones as they were, and each
+/// other one as it was or not counting; once this answered Done, none of these is there. On an error
+/// some may be removed.
+pub fn retain<D: Disk>(alloc: Global, disk: &mut D, count: u64) -> Put
+    ensures tells { D.tells disk.old ↔ D.tells disk.new }
+    ensures retains { D.tells disk.old → Retains count (put_result result) (D.view disk.old) (D.view disk.new) }
+    ensures cause { HasCause (D.faults disk.old) (D.faults disk.new) (D.steady disk.old) (D.steady disk.new) (put_result result) }
+{
+    Put::from(retain_by(alloc, disk, count))
+}
