@@ -17,7 +17,12 @@ const RECORD: &[u8] =
     b"actor a\n1 state -> state 0\n1 new 1 -> new none\n1 start 1 1 0 1 -> ok\n1 journal 1 2 0 1 1 18 -> ok\n= takeover 1 1\n";
 
 /// These bytes, and that many times these.
-fn repeated(alloc: Global, front: &[u8], count: usize, piece: &[u8]) -> Result<Vec<u8>, AllocError> {
+fn repeated(
+    alloc: Global,
+    front: &[u8],
+    count: usize,
+    piece: &[u8],
+) -> Result<Vec<u8>, AllocError> {
     let mut bytes = front.to_vec(alloc)?;
     for _ in 0..count {
         bytes.extend_from_slice(piece)?;
