@@ -5,4 +5,4 @@ use Rattle.node_tests.proofs.deeds_done.do_stages.Given as goal
 
 -- the table tells some segments, and what is known to be committed is as before
 abbrev pub invariant-loop-stage : goal.invariant-loop-stage
-invariant-loop-stage l = ((gs : List Segment) × Tells gs l.table) × (l.memory.known ≡ l.fn.memory.known)
+invariant-loop-stage g l = ((gs : List Segment) × Tells gs l.table) × (l.memory.known ≡ l.fn.memory.known)
