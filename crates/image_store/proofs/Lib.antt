@@ -6,3 +6,4 @@ pub mod ListLaws
 pub mod LoadLaws
 pub mod ThinLaws
 pub mod CountLaws
+pub mod AnswerLaws

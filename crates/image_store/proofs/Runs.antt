@@ -1,5 +1,5 @@
 -- Runs of disk calls, one after the other.
-use Rattle.std.proofs.Common.{inl, inr, ◌⊎◌, subst}
+use Rattle.std.proofs.Common.{inl, inr, ⊎_elim, ◌⊎◌, subst}
 use Rattle.std.specs.Prelude.{Result, Ok, Err, OnOk}
 use Rattle.qj_disk.specs.Files.{Files, Follows}
 use Rattle.qj_disk.specs.View.{View, IsSound, LeavesOnly}
@@ -28,6 +28,19 @@ quiet_weaker N K u v more quiet = record {
   now = λ c left. let from = quiet.now c left in (from.0, from.1, more from.0 c from.2);
   seen = more u.seen v.seen quiet.seen;
 }
+
+-- an effect whose step is more
+pub effect_by : (N S T : Files → Files → Type 0) {X E : Type 0} (r : Result X E) (u v : View) → ((d c : Files) → S d c → T d c) → Effect N S r u v → Effect N T r u v
+effect_by N S T {X = X} {E = E} r u v more effect = record {
+  any_moment = weaker u v (λ c. (d : Files) × u.may_leave d × (N d c ⊎ S d c)) (λ c. (d : Files) × u.may_leave d × (N d c ⊎ T d c))
+      (λ c from. (from.0, from.1, ⊎_elim (λ n. inl n) (λ s. inr (more from.0 c s)) from.2)) effect.any_moment;
+  done = done r effect.done;
+  failed = ⊎_elim (λ n. inl n) (λ s. inr (more u.seen v.seen s)) effect.failed;
+}
+  where
+    done : (s : Result X E) → OnOk s (Happens S u v) → OnOk s (Happens T u v)
+    done (Ok x) h = record { seen = more u.seen v.seen h.seen; crash = λ c left. let from = h.crash c left in (from.0, from.1, more from.0 c from.2) }
+    done (Err e) h = tt
 
 module _ (N M K : Files → Files → Type 0) (u v w : View) (sound_u : IsSound u) (sound_v : IsSound v) where
   -- one quiet run after another

@@ -4,4 +4,5 @@ pub mod Digests
 pub mod Saves
 pub mod Lists
 pub mod Answers
+pub mod Loads
 pub mod Examples

@@ -1,8 +1,12 @@
 //! Laws of the images in a folder.
 ghost use Rattle.std.specs.Prelude.{◌≡◌, ◌≢◌, ◌⊎◌, ◌≤◌, ◌^◌, ℕ, List, Some, None, Contains};
 ghost use Rattle.qj_disk.specs.Files.{Files};
+ghost use Rattle.ns_tree.specs.Space.{Space};
 ghost use Rattle.image_store.specs.Images.{image_in, ListsImages};
 ghost use Rattle.image_store.specs.Saves.{Prepares, Saves, Thins};
+ghost use Rattle.image_store.specs.declared.loaded.Loaded.{Loaded};
+ghost use Rattle.image_store.specs.declared.loaded.Loaded.TheVariants as loaded;
+ghost use Rattle.image_store.specs.Loads.{SavesImage, LoadsAs, IsAnswer};
 
 /// While an image is saved, and after it, each other image is as it was.
 pub fn others_stay_in_a_save()
@@ -14,6 +18,17 @@ pub fn others_stay_in_a_save()
 pub fn an_image_is_saved_wholly()
     ensures before { (txid : ℕ) (old new : Files) → Prepares txid old new → (image_in new txid ≡ image_in old txid) ⊎ (image_in new txid ≡ None) }
     ensures after { (txid : ℕ) (bytes line : List ℕ) (old new : Files) → Saves txid bytes line old new → image_in new txid ≡ Some (record { bytes = bytes; digest = line }) }
+{}
+
+/// Once a namespace is saved, what is loaded of its txid is this namespace and txid.
+pub fn a_saved_namespace_is_loaded()
+    ensures { (txid : ℕ) (namespace : Space) (old new : Files) → txid ≤ 2 ^ 62 → SavesImage txid namespace old new → LoadsAs txid namespace new }
+{}
+
+/// While a namespace is saved, what is loaded of its txid is as before or none, and of another one as before.
+pub fn a_load_in_a_save()
+    ensures here { (txid : ℕ) (old new : Files) (answer : Loaded) → txid ≤ 2 ^ 62 → Prepares txid old new → IsAnswer new txid answer → IsAnswer old txid answer ⊎ (answer ≡ loaded.NoImage) }
+    ensures other { (txid other : ℕ) (old new : Files) (answer : Loaded) → txid ≤ 2 ^ 62 → other ≤ 2 ^ 62 → other ≢ txid → Prepares txid old new → IsAnswer new other answer → IsAnswer old other answer }
 {}
 
 /// While images are removed, each other one is as it was.

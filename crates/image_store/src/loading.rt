@@ -1,18 +1,22 @@
-//! The bytes of an image are read.
+//! An image is read.
 ghost use Rattle.std.specs.Prelude.{◌≡◌, ◌↔◌, ◌≤◌, ◌^◌, List, ℕ, Some, option_map, length, IfOk};
 ghost use Rattle.qj_disk.specs.Calls.{HasCause, Rests};
 ghost use Rattle.image_store.specs.Names.{name_of, Itself};
 ghost use Rattle.image_store.specs.Images.{image_in};
 ghost use Rattle.image_store.specs.Digests.{IsStored};
 ghost use Rattle.image_store.specs.Answers.{IsJudged, IsLoadedOf, IsLoaded};
+ghost use Rattle.image_store.specs.Loads.{IsAnswer, IsWithin, answer_of, answer_to};
+ghost use Rattle.image_codec.specs.Reading.{reading_of};
 
 use crate::digest_line::digest_of;
 use crate::file_bytes::read_bytes;
 use crate::image_names::ImageNames;
+use crate::loaded::Loaded;
 use crate::loaded_bytes::LoadedBytes;
 use crate::stored::{Stored, read_stored};
+use image_codec::{ImageCause, ReadImage, read_image};
 use qj_disk::{Disk, DiskFail};
-use qj_num::MAX;
+use qj_num::{MAX, OutOfMemory};
 use std::alloc::Global;
 
 // The bytes of an image, or that they have another digest than the stored one.
@@ -82,4 +86,48 @@ pub fn load_bytes<D: Disk>(alloc: Global, disk: &mut D, txid: u64) -> Result<Loa
     }
     let names = ImageNames::new(alloc, txid)?;
     load_named(alloc, disk, &names)
+}
+
+// What bytes tell whose digest is the stored one.
+fn answer_of_bytes(alloc: Global, bytes: &[u8]) -> Result<Loaded, OutOfMemory>
+    ensures answer { IfOk result (λ answer. answer ≡ answer_of (reading_of bytes.now)) }
+    ensures within { IfOk result (λ answer. IsWithin answer) }
+{
+    match read_image(alloc, bytes)? {
+        ReadImage::Image { namespace, txid } => Ok(Loaded::Image { namespace, txid }),
+        ReadImage::BadImage { place, cause } => Ok(Loaded::BadImage { place, cause }),
+    }
+}
+
+// What is told of what was read.
+fn answer(alloc: Global, found: LoadedBytes) -> Result<Loaded, OutOfMemory>
+    ensures answer { IfOk result (λ answer. answer ≡ answer_to found) }
+    ensures within { IfOk result (λ answer. IsWithin answer) }
+{
+    match found {
+        LoadedBytes::Bytes(bytes) => answer_of_bytes(alloc, &bytes),
+        LoadedBytes::NoImage => Ok(Loaded::NoImage),
+        LoadedBytes::DigestDiffers { stored, computed } => {
+            Ok(Loaded::DigestDiffers { stored, computed })
+        }
+        LoadedBytes::BadDigest => Ok(Loaded::BadImage {
+            place: 0,
+            cause: ImageCause::Digest,
+        }),
+    }
+}
+
+/// The namespace of the image of this txid, and the txid that the image's bytes tell, which isn't compared
+/// with that of the name. The digest is compared first, and then the bytes are read. `NoImage` comes exactly
+/// where none counts, also for a txid above 2^62. A file that is too long for the memory is answered as want
+/// of it. Nothing changes.
+pub fn load<D: Disk>(alloc: Global, disk: &mut D, txid: u64) -> Result<Loaded, DiskFail>
+    ensures tells { D.tells disk.old ↔ D.tells disk.new }
+    ensures loaded { D.tells disk.old → IfOk result (IsAnswer (D.view disk.old).seen txid) }
+    ensures within { IfOk result (λ answer. IsWithin answer) }
+    ensures disk { D.tells disk.old → Rests (D.view disk.old) (D.view disk.new) }
+    ensures cause { HasCause (D.faults disk.old) (D.faults disk.new) (D.steady disk.old) (D.steady disk.new) result }
+{
+    let found = load_bytes(alloc, disk, txid)?;
+    Ok(answer(alloc, found)?)
 }

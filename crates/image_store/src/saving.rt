@@ -1,15 +1,20 @@
 //! An image is saved.
-ghost use Rattle.std.specs.Prelude.{◌≡◌, ◌↔◌, ◌≤◌, ◌^◌, IfOk, string_bytes};
+ghost use Rattle.std.specs.Prelude.{◌≡◌, ◌↔◌, ◌≤◌, ◌^◌, IfOk, OnOk, string_bytes};
+ghost use Rattle.qj_disk.specs.View.{AllLeave};
 ghost use Rattle.qj_disk.specs.Calls.{Effect, HasCause};
 ghost use Rattle.small_files.specs.Answers.{put_result};
 ghost use Rattle.md5.specs.Md5.{md5};
 ghost use Rattle.image_store.specs.Digests.{digest_line};
 ghost use Rattle.image_store.specs.Saves.{Prepares, Saves};
+ghost use Rattle.image_store.specs.Loads.{SavesImage, LoadsAs};
+ghost use Rattle.ns_tree.specs.Space.{AreRising};
 
 use crate::digest_line::{digest_of, line_of};
 use crate::image_names::ImageNames;
 use crate::publishing::{make_way, publish};
 use crate::storing::store;
+use image_codec::image_of;
+use ns_tree::Namespace;
 use qj_disk::{Disk, DiskFail};
 use small_files::Put;
 use std::alloc::{AllocError, Global};
@@ -58,6 +63,24 @@ pub fn save_bytes<D: Disk>(alloc: Global, disk: &mut D, txid: u64, bytes: &[u8])
 {
     match names_and_line(alloc, txid, bytes) {
         Ok((names, line)) => Put::from(save_by(disk, &names, line.as_bytes(), bytes)),
+        Err(_) => Put::OutOfMemory,
+    }
+}
+
+/// Saves the image of a namespace at a txid of at most 2^62, above which is no call that it remembers, as
+/// `save_bytes` does. Where there is no memory for the image, the disk isn't called. Once this answered Done,
+/// what is loaded of the txid is this namespace, whatever crashes.
+pub fn save<D: Disk>(alloc: Global, disk: &mut D, namespace: &Namespace, txid: u64) -> Put
+    requires txid { txid ≤ 2 ^ 62 }
+    requires calls { AreRising 0 txid namespace.now.calls }
+
+    ensures tells { D.tells disk.old ↔ D.tells disk.new }
+    ensures save { D.tells disk.old → Effect (Prepares txid) (SavesImage txid namespace.now) (put_result result) (D.view disk.old) (D.view disk.new) }
+    ensures loads { D.tells disk.old → OnOk (put_result result) (AllLeave (D.view disk.new) (LoadsAs txid namespace.now)) }
+    ensures cause { HasCause (D.faults disk.old) (D.faults disk.new) (D.steady disk.old) (D.steady disk.new) (put_result result) }
+{
+    match image_of(alloc, namespace, txid) {
+        Ok(bytes) => save_bytes(alloc, disk, txid, &bytes),
         Err(_) => Put::OutOfMemory,
     }
 }

@@ -1,10 +1,13 @@
 //! Worked examples of names, digests and folders, computed when the crate is checked.
-ghost use Rattle.std.specs.Prelude.{◌≡◌, ◌++◌, ◌∷◌, [], Some, None, codes};
+ghost use Rattle.std.specs.Prelude.{◌≡◌, ◌+◌, ◌^◌, ◌++◌, ◌∷◌, [], Some, None, codes};
 ghost use Rattle.md5.specs.Md5.{md5};
 ghost use Rattle.image_store.specs.Names.{name_of, Itself, Checkpoint, Digest, FreshDigest};
 ghost use Rattle.image_store.specs.Images.{image_in};
 ghost use Rattle.image_store.specs.Digests.{digest_line};
 ghost use Rattle.image_store.specs.Lists.{older_than, kept_from};
+ghost use Rattle.image_store.specs.Loads.{IsAnswer};
+ghost use Rattle.image_store.specs.declared.loaded.Loaded.TheVariants as loaded;
+ghost use Rattle.image_codec.specs.declared.image_cause.ImageCause.TheVariants as causes;
 ghost use Rattle.image_store.specs.Examples.{folder};
 
 /// The names of the files of the image of txid 4.
@@ -25,6 +28,13 @@ pub fn images_in_a_folder()
     ensures both { image_in folder 4 ≡ Some (record { bytes = codes "four"; digest = codes "digest" }) }
     ensures no_digest { image_in folder 7 ≡ None }
     ensures no_image { image_in folder 9 ≡ None }
+{}
+
+/// What is loaded of images in that folder.
+pub fn images_that_are_loaded()
+    ensures bad_digest { IsAnswer folder 4 (loaded.BadImage 0 causes.Digest) }
+    ensures no_digest { IsAnswer folder 7 loaded.NoImage }
+    ensures too_high { IsAnswer folder (2 ^ 62 + 1) loaded.NoImage }
 {}
 
 /// Of the images of txids 4, 7 and 12 two are retained, and the log is kept from the older of two.

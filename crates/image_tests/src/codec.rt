@@ -11,7 +11,7 @@ use std::test::Fail;
 
 /// The image of the empty namespace at txid 0, in layout 2. The first 68 bytes with 1 as the eighth are that
 /// of layout 1.
-const EMPTY: [u8; 72] = [
+pub const EMPTY: [u8; 72] = [
     0x51, 0x4a, 0x49, 0x4d, 0, 0, 0, 2, 0, 0, 0, 0, 0, 0, 0, 0, 0, 0, 0, 1, 0, 1, 0x2f, 0, 0, 0, 0,
     0, 0, 0, 0, 0, 0x01, 0xed, 0, 4, 0x68, 0x64, 0x66, 0x73, 0, 0x0a, 0x73, 0x75, 0x70, 0x65, 0x72,
     0x67, 0x72, 0x6f, 0x75, 0x70, 0, 0, 0, 0, 0, 0, 0, 0, 0, 0, 0, 0, 0, 0, 0, 0, 0, 0, 0, 0,
@@ -126,7 +126,8 @@ fn last_up_to(numbers: &[usize], limit: usize) -> usize {
     last
 }
 
-fn call(number: u32) -> Call
+/// A call of one client.
+pub fn call(number: u32) -> Call
     ensures { result.number ≡ number }
 {
     Call {
@@ -238,8 +239,8 @@ fn put(alloc: Global, space: &mut Namespace, path: &[u8], inode: Inode) -> Resul
     Ok(())
 }
 
-// The root, `/u` and `/u/f`.
-fn tree(alloc: Global) -> Result<Namespace, OutOfMemory>
+/// The root, `/u` and `/u/f`.
+pub fn tree(alloc: Global) -> Result<Namespace, OutOfMemory>
     ensures { IfOk result (λ space. space.calls ≡ []) }
 {
     let mut space = Namespace::new(alloc)?;
@@ -273,8 +274,8 @@ fn a_tree_with_a_call_has_its_image(rt: HostRuntime) -> Result<(), Fail> {
     Ok(())
 }
 
-// Whether the namespace is that of the known image.
-fn is_known(space: &Namespace) -> bool {
+/// Whether the namespace is that of the known image.
+pub fn is_known(space: &Namespace) -> bool {
     let dir = matches!(space.lookup(b"/u"), Some(Inode::Dir { mtime: 10, .. }));
     let file = matches!(
         space.lookup(b"/u/f"),

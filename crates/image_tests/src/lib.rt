@@ -4,6 +4,8 @@
 #[cfg(test)]
 mod codec;
 #[cfg(test)]
+mod loads;
+#[cfg(test)]
 mod store;
 #[cfg(test)]
 mod store_disk;
