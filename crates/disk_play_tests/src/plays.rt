@@ -10,7 +10,7 @@ const JOURNAL_SCRIPT: &[u8] =
     b"raw 3\nwriter a\ntakeover a\ncut 1 1 3 ~\nlog a 0a\nrestart 1\ntakeover a\n";
 
 const ACCEPTANCE_SCRIPT: &[u8] =
-    b"raw 3\nwriter a\nwriter b\ntakeover a\ncut 1 5 ~ old\ntakeover b\nrestart 1\ntakeover a\n";
+    b"raw 3\nwriter a\nwriter b\ntakeover a\ncut 1 5 ~ ~\ntakeover b\nrestart 1\ntakeover a\n";
 
 const PURGE_SCRIPT: &[u8] =
     b"raw 1\nwriter a\ntakeover a\nlog a 0a\nroll a\nlog a 0b\nroll a\ncut 1 1 1 old\npurge a 7\nrestart 1\ntakeover a\n";
@@ -83,6 +83,18 @@ fn a_journal_is_cut_after_three_calls(rt: HostRuntime) -> Result<(), Fail> {
     Ok(())
 }
 
+/// An acceptance that is cut after so many calls, by this choice, keeps so many effects.
+fn is_cut_so(alloc: Global, calls: &str, choice: &str, kept: &str) -> Result<bool, Fail> {
+    let told = [calls, choice, kept, calls, choice];
+    Ok(has_report(
+        alloc,
+        ACCEPTANCE_SCRIPT,
+        &[calls, choice],
+        ACCEPTANCE,
+        &told,
+    )?)
+}
+
 #[test]
 fn an_acceptance_is_cut_after_each_call(rt: HostRuntime) -> Result<(), Fail> {
     let alloc = rt.alloc();
@@ -96,8 +108,9 @@ fn an_acceptance_is_cut_after_each_call(rt: HostRuntime) -> Result<(), Fail> {
         ("6", "1"),
     ];
     for (calls, kept) in cases.iter() {
-        let told = [*calls, *kept, *calls];
-        assert!(rt; has_report(alloc, ACCEPTANCE_SCRIPT, &[*calls], ACCEPTANCE, &told)?);
+        assert!(rt; is_cut_so(alloc, calls, "old", kept)?);
+        assert!(rt; is_cut_so(alloc, calls, "new", kept)?);
+        assert!(rt; is_cut_so(alloc, calls, "a5", kept)?);
     }
     Ok(())
 }
