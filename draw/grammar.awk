@@ -13,7 +13,7 @@ function words_after(text, many,    at) {
 function are_bodies(text) { return text != "" && text !~ /[^0-9a-f ]/ && text !~ /  / && text !~ / $/ && text !~ /^ / }
 
 function is_operation(text) {
-  return text == "kill" || text == "restart" || text ~ /^stop [0-9]+ [0-9]+$/ || text ~ /^cut [0-9]+ [0-9]+ [a-z]+$/
+  return text == "kill" || text == "restart" || text ~ /^stop [0-9]+ [0-9]+$/ || text ~ /^cut [0-9]+ [0-9]+ (old|new|a5)$/
 }
 
 function is_request(text) {
@@ -38,17 +38,27 @@ function is_reply(text,    words) {
   return text ~ /^segments( [0-9]+ [0-9]+ (final|inprogress) [0-9]+)+$/
 }
 
-function is_result(text,    words, many, k, first) {
-  if (text ~ /^takeover [0-9]+ [0-9]+$/ || text ~ /^takeover limit [0-9]+$/ || text ~ /^(acked|toolong|roll|close) [0-9]+$/) {
-    return 1
+function is_result(text,    words) {
+  if (text ~ /^takeover [0-9]+ [0-9]+$/ || text ~ /^(takeover|tail) purged [0-9]+$/ || text ~ /^takeover limit [0-9]+$/) return 1
+  if (text ~ /^(acked|repeated|toolong|roll|close|tail|checkpoint|reload|trim) [0-9]+$/) return 1
+  if (text ~ /^(inactive|active|late none|purge ok|trim noimage)$/ || text ~ /^(roll|close|purge|trim) inactive$/) return 1
+  if (text ~ /^refused [0-9]+ [A-Za-z]+$/) {
+    split(text, words, " ")
+    return admission_name[words[2] + 0] == words[3]
   }
-  if (text == "inactive" || text == "late none" || text == "purge ok" || text ~ /^(roll|close|purge) inactive$/) return 1
-  if (text !~ /^((takeover|roll|close|purge) )?aborted /) return 0
+  if (text ~ /^aborted /) return are_causes(words_after(text, 1))
+  if (text ~ /^(takeover|roll|close|purge|trim) aborted /) return are_causes(words_after(text, 2))
+  return text ~ /^(takeover|tail) behind [0-9]+ / && are_causes(words_after(text, 3))
+}
+
+# One cause for each node.
+function are_causes(text,    words, many, k) {
   many = split(text, words, " ")
-  first = words[1] == "aborted" ? 2 : 3
-  if (many - first + 1 != nodes) return 0
-  for (k = first; k <= many; k++) {
-    if (words[k] !~ /^[A-Za-z]+(:[0-9]+)?$/) return 0
-  }
-  return 1
+  for (k = 1; k <= many; k++) if (words[k] !~ /^[A-Za-z]+(:[0-9]+)?$/) return 0
+  return many == nodes
+}
+
+# A row of a namespace: a path from `/` on, and eleven columns behind it.
+function is_row(text,    columns) {
+  return substr(text, 1, 3) == ". /" && split(text, columns, "\t") == 12 && columns[10] ~ /^[d-][r-][w-][x-][r-][w-][x-][r-][w-][xtT-]$/
 }

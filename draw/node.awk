@@ -49,6 +49,7 @@ function step(i, request, answer, kept) {
     return "stop||✕ stop, stored " kept "/" effect_count
   }
   if (passes_front) leave_front(i)
+  if (kind == "read" && answer ~ /^refused 15 /) return "idle||" (answer ~ / 0$/ ? "serves nothing yet" : "serves up to " words_after(answer, 3))
   return answer ~ /^refused/ ? "bad||✕ " substr(answer, 9) : picture_of(i, answer)
 }
 
@@ -222,6 +223,8 @@ function picture_of(i, answer) {
   if (kind == "new") return "ok|" epoch "|✓ " (answer == "new none" ? "holds nothing" : "newest segment " substr(answer, 5))
   if (kind == "prepare") return picture_of_prepared(answer)
   if (kind == "fetch") return "ok|" ((i, start) in segment_epoch ? segment_epoch[i, start] : "") "|gives " range_given(answer)
+  if (kind == "read") return "ok||gives " range_given(answer)
+  if (kind == "manifest") return "ok||✓ its segments"
   if (kind == "purge") return "ok|" epoch "|✓ " (removed ? "removed " removed : "nothing to remove")
   if (!((i, start) in segment_epoch)) return "ok|" epoch "|✓ ok"
   if (kind == "start") return "ok|" epoch "|✓ begins " start

@@ -12,9 +12,10 @@ END {
   draw_body()
   lanes_end = is_big ? 0 : y
   ends()
+  if (has_names) spaces()
   legend()
   if (title == "") title = "A quorum journal"
-  page_title = escape(title) ": " count(nodes, "node") ", " count(drawn_writers, "writer")
+  page_title = escape(title) ": " count(nodes, "node") ", " count(drawn_writers, has_names ? "name node" : "writer")
   page_width = results_left + results_width + 30
   if (page_width < 1040) page_width = 1040
   if (format == "svg") print_svg()
@@ -69,15 +70,22 @@ function totals() {
   also("ops kill", total["ops kill"] == 1 ? " kill" : " kills")
   also("ops restart", total["ops restart"] == 1 ? " restart" : " restarts")
   counted = counted ". Results: " count(total["= takeover"], "takeover")
-  aborted = total["= takeover aborted"] + total["= takeover limit"]
+  aborted = total["= takeover aborted"] + total["= takeover limit"] + total["= takeover behind"] + total["= takeover purged"]
   if (aborted) counted = counted " and " aborted " aborted"
   counted = counted ", " count(total["= acked"], "edit") " acknowledged"
+  also("= refused", " refused by the namespace")
+  also("= repeated", total["= repeated"] == 1 ? " repeated call" : " repeated calls")
   also("= aborted", " aborted")
   also("= inactive", " inactive")
   also("= toolong", " too long")
   also("= roll", total["= roll"] == 1 ? " roll" : " rolls")
   also("= close", total["= close"] == 1 ? " close" : " closes")
   also("= purge", total["= purge"] == 1 ? " purge" : " purges")
+  also("= trim", total["= trim"] == 1 ? " trim" : " trims")
+  tails = total["= tail"] + total["= tail behind"] + total["= tail purged"]
+  if (tails) counted = counted ", " count(tails, "tail") (tails > total["= tail"] + 0 ? " (" (total["= tail"] + 0) " caught up)" : "")
+  also("= checkpoint", total["= checkpoint"] == 1 ? " image" : " images")
+  also("= reload", total["= reload"] == 1 ? " reload" : " reloads")
   return counted "."
 }
 
@@ -125,7 +133,7 @@ function print_names(    a, i) {
   if (is_merged) print text_at("l2", 16, 22, "what is asked")
   for (a = 1; is_merged && a <= actor_count; a++)
     if (actor_name[a] != "ops")
-      print text_at("an", actor_center(a), 22, shorten(actor_name[a], 5) "<title>writer " actor_name[a] "</title>")
+      print text_at("an", actor_center(a), 22, shorten(actor_name[a], 5) "<title>" (has_names ? "name node " : "writer ") actor_name[a] "</title>")
   for (i = 1; i <= nodes; i++)
     print "<rect class='pl' x='" (lane_center(i) - 40) "' y='6' width='80' height='22' rx='4'/>" text_at("hn", lane_center(i), 22, "node " i)
   if (is_merged) print text_at("l2", results_left + 10, 22, "what came of it")

@@ -2,7 +2,8 @@
 #
 # Line k of node i's history: line_caller[i, k] (with ` late` for a late copy), line_request, line_reply, line_view (what the picture
 # says of it), line_number. Event e of actor a's record: event_kind[a, e] (c a call, l a late copy, o the operator's, r a result),
-# event_node, event_request (or the result's words), event_heard, event_number.
+# event_node, event_request (or the result's words), event_heard, event_number. Of an actor with a namespace position_of[a], and
+# space_row[a, 1 ..], its rows; space_rows[a] is how many.
 
 BEGIN {
   if (maxlines == "") maxlines = 150000
@@ -11,6 +12,7 @@ BEGIN {
   part = "begin"
   split("Down Limit EpochRefused OldSerial NotWriter NoOpenSegment WrongSegment WrongTxid SegmentFinal SegmentHasEdits NoSegment " \
     "OtherEpoch LengthDiffers Purged NotHere DiskFault OutOfMemory BadFile", refusal_name, " ")
+  split("NoParent Exists Missing NotDirectory NotFile NotEmpty UnderConstruction Root IntoItself BadName BadNumber", admission_name, " ")
 }
 
 {
@@ -42,6 +44,8 @@ function read_actor_line() {
   if ($0 == "end") part = "done"
   else if ($0 ~ /^actor [a-z][a-z0-9]*$/) begin_actor(substr($0, 7))
   else if (actor_count == 0) fail("`actor NAME` or `end` is wanted")
+  else if ($0 ~ /^position [0-9]+$/) begin_space(actor_count, substr($0, 10))
+  else if (actor_count in position_of) read_row(actor_count)
   else if (substr($0, 1, 2) == "= ") read_result(actor_count, substr($0, 3))
   else read_event(actor_count)
 }
@@ -55,6 +59,21 @@ function begin_actor(name) {
   if (name != "ops" && ++writer_count > 8) fail("a ninth actor")
 }
 
+# The end of an actor with names: how far it has replayed the log, and the rows of its namespace.
+function begin_space(a, position) {
+  if (a in position_of) fail("a position twice")
+  if (actor_name[a] == "ops") fail("a position of the operator")
+  position_of[a] = position
+  space_rows[a] = 0
+  has_names = 1
+}
+
+function read_row(a) {
+  if (!is_row($0)) fail("not a row of a namespace")
+  space_rows[a]++
+  if (!is_big) space_row[a, space_rows[a]] = substr($0, 3)
+}
+
 function fail(text) {
   printf "draw: line %d: %s\n", (NR ? NR : 1), text | "cat 1>&2"
   close("cat 1>&2")
@@ -66,6 +85,7 @@ function fail(text) {
 function sum_only() {
   is_big = 1
   split("", line_caller); split("", line_request); split("", line_reply); split("", line_view); split("", line_number)
+  split("", space_row)
   split("", event_kind); split("", event_node); split("", event_request); split("", event_heard); split("", event_number)
 }
 
@@ -128,7 +148,7 @@ function read_result(a, result,    words, what) {
   if (!is_result(result)) fail("not a result line")
   if (actor_name[a] == "ops") fail("a result of the operator")
   split(result, words, " ")
-  what = words[1] (words[2] ~ /^(aborted|limit|inactive)$/ ? " " words[2] : "")
+  what = words[1] (words[2] ~ /^(aborted|limit|inactive|behind|purged|noimage)$/ ? " " words[2] : "")
   total["= " what]++
   event_count[a]++
   if (!is_big) keep_event(a SUBSEP event_count[a], "r", "", result, "")

@@ -94,7 +94,7 @@ function draw_round(r, last, rounds, a, q,    what, hint, tip, left) {
   hint = request_hint(q)
   tip = q
   left = in_group ? 28 : 16
-  if (!in_group && hint == "" && q ~ /^journal/) hint = shorten(words_after(q, 6), 34)
+  if (!in_group && hint == "" && q ~ /^journal/) hint = shorten(has_names ? edits_words(words_after(q, 6)) : words_after(q, 6), 34)
   if (!in_group) {
     sub(/^journal/, actor_name[a] " logs", what)
     sub(/^purge/, actor_name[a] " purges", what)
@@ -119,11 +119,17 @@ function draw_line(r, rounds, a,    x, class, far, i) {
   x = actor_center(a)
   for (i = 1; i <= nodes; i++) if ((r, i) in cell_event) far = i
   class = "<g class='" epoch_class(request_epoch(row_request[r])) "'>"
-  if (row_kind[r] == "n") draw(dot("nd", x, y + 10, 3.5))
+  if (row_kind[r] == "n") draw(saves_image(r, a) ? "<rect class='im' x='" (x - 5) "' y='" (y + 4) "' width='10' height='12' rx='1'/>" : dot("nd", x, y + 10, 3.5))
   if (row_kind[r] != "c" && row_kind[r] != "l") return
   draw(class "<path class='bus" (row_kind[r] == "l" ? " lt" : "") "' d='M" x " " (y + 8) "H" lane_center(far) "'/>" \
     dot("dot", x, y + 8, 4.5) "</g>")
   if (rounds > 1) draw(class dot("dot", x, y + 17, 3) dot("dot", x, y + 24, 2) "</g>")
+}
+
+# Whether a row of results has a saved image.
+function saves_image(r, a,    e) {
+  for (e = row_first[r]; e <= row_last[r]; e++) if (event_request[a, e] ~ /^checkpoint/) return 1
+  return 0
 }
 
 function draw_answers(r, last, rounds,    i, best) {

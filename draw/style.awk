@@ -13,6 +13,7 @@ function print_style(    i) {
   print ".op{font-style:italic}.gap{fill:var(--bad);font-weight:600}.ln{stroke:var(--ln);stroke-width:2}"
   print ".al{stroke:var(--ln);stroke-width:1;stroke-dasharray:3 3}.down{fill:var(--dn);fill-opacity:.22}"
   print ".bus,.ar{stroke:var(--c,var(--k9));stroke-width:1.6;fill:none}.lt{stroke-dasharray:5 4}.dot,.hd{fill:var(--c,var(--k9))}"
+  if (has_names) print ".im{fill:var(--ok);fill-opacity:.35;stroke:var(--ok);stroke-width:1.5}.sr{font:11px ui-monospace,monospace}"
   print ".nd{fill:var(--bg);stroke:var(--k9)}.cutl{stroke:var(--bad);stroke-dasharray:2 2}.x{stroke:var(--bad);stroke-width:2;fill:none}"
   print ".lost{fill:var(--bad);font-size:11px}.pl{fill:var(--bg);stroke:var(--c,var(--k9));stroke-width:1.3}"
   print "g[class^=e]>.pl{fill:color-mix(in srgb,var(--c) 15%,var(--bg))}.mu{stroke-dasharray:3 2}.best{stroke-width:2.6}"
@@ -71,6 +72,7 @@ function legend_bars(top) {
   draw(swatch("e0", "sa", 106, top, 40, 0, "") plain_text(152, top + 4, "accepted in a recovery"))
   draw(swatch("e0", "sp", 296, top, 40, 0, "") plain_text(342, top + 4, "in progress"))
   draw("<path class='bus lt' d='M426 " top "h40'/>" plain_text(472, top + 4, "late copy"))
+  if (has_names) draw("<rect class='im' x='906' y='" (top - 6) "' width='10' height='12' rx='1'/>" plain_text(922, top + 4, "image saved"))
   draw("<text class='lo' style='text-anchor:start' x='546' y='" (top + 4) \
     "'>left out: not called since it missed something in this segment</text>")
 }

@@ -51,6 +51,7 @@ function request_words(request,    words, bodies, what) {
   what = words[1]
   if (what == "state") return "state"
   if (what == "new") return "new epoch " words[2]
+  if (what == "read") return "read from txid " words[2]
   if (what == "prepare") return "prepare segment " words[5]
   if (what == "fetch") return "fetch edits from " words[6]
   if (what == "start") return "start segment " words[5]
@@ -73,6 +74,7 @@ function request_hint(request,    words, many, what) {
   what = words[1]
   if (what == "state") return "which epoch did you promise?"
   if (what == "new") return "promise it, refuse lower ones"
+  if (what == "read") return "the first that has edits gives them"
   if (what == "prepare") return "how much of it do you hold?"
   if (what == "fetch") return "from the best answer (★)"
   if (what == "accept") return "everybody take this as segment " words[5]
@@ -110,6 +112,8 @@ function heading(a, request, result) {
   if (result ~ /^takeover/ || (result == "" && request == "state")) return actor_name[a] " takes over"
   if (result ~ /^roll/) return actor_name[a] " rolls: ends its segment, begins the next"
   if (result ~ /^close/) return actor_name[a] " closes its segment"
+  if (result ~ /^tail/ || request ~ /^read/) return actor_name[a] " tails the log"
+  if (result ~ /^trim/) return actor_name[a] " lets old segments go"
   return actor_name[a]
 }
 
