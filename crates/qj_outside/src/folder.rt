@@ -1,9 +1,10 @@
 // A folder of the system, and the calls that are made of it.
 ghost use Rattle.std.specs.Prelude.{◌≤◌, length, IfOk};
 
+use crate::written_file::WrittenFile;
 use std::alloc::AllocError;
 use std::fs::{File, Files, OpenFile, OpenOptions};
-use std::io::{ErrorKind, Read, Seek, SeekFrom, Write};
+use std::io::{ErrorKind, Read, Seek, SeekFrom};
 use std::path::{Path, PathBuf};
 use std::{fs, io};
 
@@ -13,20 +14,25 @@ const SUBFOLDER: &str = "paxos";
 /// What the names of its files begin with.
 const IN_SUBFOLDER: &str = "paxos/";
 
-/// A folder of the system. Its files are opened anew for each call.
+/// A folder of the system. Its files are opened anew for each call, but for the one that was written last: it stays open, so that
+/// it is synced through the descriptor that wrote it, until another is written, a name changes or a call of it fails.
 #[derive(Drop)]
 pub struct Folder<R: Files + Drop> {
     rt: R,
     path: String,
     // no name changed since the folders were synced
     are_names_synced: bool,
+    written: Option<WrittenFile<R::File>>,
 }
 
 /// There is no file of such a name.
 fn is_absence(error: &io::Error) -> bool {
     matches!(
         error.kind(),
-        ErrorKind::NotFound | ErrorKind::NotADirectory | ErrorKind::InvalidFilename
+        ErrorKind::NotFound
+            | ErrorKind::NotADirectory
+            | ErrorKind::InvalidFilename
+            | ErrorKind::FilesystemLoop
     )
 }
 
@@ -58,6 +64,7 @@ impl<R: Files + AllocGlobal + Clone + Drop> Folder<R> {
             rt,
             path,
             are_names_synced: false,
+            written: None,
         })
     }
 
@@ -105,21 +112,40 @@ impl<R: Files + AllocGlobal + Clone + Drop> Folder<R> {
         fill(&mut file, into)
     }
 
-    pub fn write_at(&mut self, name: &str, at: u64, bytes: &[u8]) -> io::Result<()> {
-        if !self.expect_length(name, at)? {
+    /// The file that was written last, where it has this name. It is no longer kept.
+    fn take_written(&mut self, name: &str) -> Option<WrittenFile<R::File>> {
+        match self.written.take() {
+            Some(file) if file.has_name(name) => Some(file),
+            _ => None,
+        }
+    }
+
+    /// Opens a file that has at least so many bytes for writing, and makes it where it is absent and none are wanted.
+    fn open_to_write(&mut self, name: &str, least: u64) -> io::Result<WrittenFile<R::File>> {
+        if !self.expect_length(name, least)? {
             self.are_names_synced = false;
         }
         self.make_subfolder(name)?;
         let path = self.path_of(name)?;
-        let mut file = OpenOptions::new()
+        let file = OpenOptions::new()
             .write(true)
             .create(true)
             .open(&self.rt, path.as_path())?;
-        file.seek(SeekFrom::Start(at))?;
-        file.write_all(bytes)
+        Ok(WrittenFile::new(String::from_str(self.rt.alloc(), name)?, file))
     }
 
-    pub fn cut(&self, name: &str, to: u64) -> io::Result<()> {
+    pub fn write_at(&mut self, name: &str, at: u64, bytes: &[u8]) -> io::Result<()> {
+        let mut file = match self.take_written(name) {
+            Some(file) => file,
+            None => self.open_to_write(name, at)?,
+        };
+        file.write_at(at, bytes)?;
+        self.written = Some(file);
+        Ok(())
+    }
+
+    pub fn cut(&mut self, name: &str, to: u64) -> io::Result<()> {
+        self.written = None;
         let _there = self.expect_length(name, to)?;
         let path = self.path_of(name)?;
         let file = OpenOptions::new()
@@ -130,18 +156,26 @@ impl<R: Files + AllocGlobal + Clone + Drop> Folder<R> {
 
     /// Syncs the file, and the folders where a name changed since they were synced.
     pub fn sync(&mut self, name: &str) -> io::Result<()> {
-        self.expect_file(name)?;
-        self.sync_file(name)?;
+        match self.take_written(name) {
+            Some(file) => {
+                file.sync()?;
+                self.written = Some(file);
+            }
+            None => self.sync_closed(name)?,
+        }
         self.sync_names()
     }
 
-    fn sync_file(&self, name: &str) -> io::Result<()> {
+    /// Syncs a file that isn't kept open.
+    fn sync_closed(&self, name: &str) -> io::Result<()> {
+        self.expect_file(name)?;
         let path = self.path_of(name)?;
         let file = File::open(&self.rt, path.as_path())?;
         file.sync_data()
     }
 
     pub fn rename(&mut self, from: &str, to: &str) -> io::Result<()> {
+        self.written = None;
         self.expect_file(from)?;
         self.make_subfolder(to)?;
         let (old, new) = (self.path_of(from)?, self.path_of(to)?);
@@ -151,6 +185,7 @@ impl<R: Files + AllocGlobal + Clone + Drop> Folder<R> {
     }
 
     pub fn remove(&mut self, name: &str) -> io::Result<()> {
+        self.written = None;
         let path = self.path_of(name)?;
         self.are_names_synced = false;
         fs::remove_file(&self.rt, path.as_path())?;

@@ -16,8 +16,9 @@ use std::marker::Model;
 ///
 /// A name under which no file stands, be it nothing, a folder or too long for a file, is absent: it has no length and no
 /// bytes. A name that begins with `/` is one of the whole system. Names that aren't UTF-8 are left out. A file is opened
-/// anew for each call, and none is locked. A sync syncs the file, and the folders too where a name changed since they were
-/// synced; a rename or a removal syncs the folders, and answers Failed where it can't: then it has happened, and a crash may
+/// anew for each call, but for the one that was written last: it stays open until another is written, a name changes or a call
+/// of it fails, so that a sync goes through the descriptor that wrote. None is locked. A sync syncs the file, and the folders
+/// too where a name changed since they were synced; a rename or a removal syncs the folders, and answers Failed where it can't: then it has happened, and a crash may
 /// undo it. What a device loses although it told that it had stored it, isn't seen.
 #[derive(Drop)]
 pub struct FolderDisk<R: Files + Drop> {

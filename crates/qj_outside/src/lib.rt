@@ -12,6 +12,7 @@ mod no_fault;
 mod reading;
 mod standard;
 mod writing;
+mod written_file;
 
 pub use ends::{Failed, Sink, Source};
 pub use examples::{calls_fail_where_listed, counts_stand_still, full_sinks_fail};
