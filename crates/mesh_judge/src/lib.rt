@@ -9,3 +9,4 @@ mod reached;
 mod won;
 
 pub use ordering::ordered;
+pub use reached::{Reach, ReachList, reached_by_node};

@@ -12,14 +12,14 @@ use std::marker::Model;
 
 /// A line that reached a node: its place in the caller's record, from 1, and whether the reply to it was lost.
 #[derive(Clone, Copy, Debug, PartialEq, Eq)]
-pub(crate) struct Reach {
-    pub(crate) place: usize,
-    pub(crate) is_muted: bool,
+pub struct Reach {
+    pub place: usize,
+    pub is_muted: bool,
 }
 
 /// The lines of one caller that reached one node, in the order of its record.
 #[derive(Drop)]
-pub(crate) struct ReachList {
+pub struct ReachList {
     items: Vec<Reach>,
 }
 
@@ -43,7 +43,7 @@ impl ReachList {
     }
 
     /// The lines.
-    pub(crate) fn as_slice(&self) -> &[Reach]
+    pub fn as_slice(&self) -> &[Reach]
         ensures { result.now ≡ self.now }
     {
         self.items.as_slice()
@@ -99,7 +99,7 @@ fn empty_lists(alloc: Global, nodes: usize) -> Result<Vec<ReachList>, OutOfMemor
 }
 
 /// The lines of a record that reached each of that many nodes.
-pub(crate) fn reached_by_node(
+pub fn reached_by_node(
     alloc: Global,
     nodes: usize,
     lines: &[Record],

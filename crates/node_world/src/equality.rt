@@ -26,7 +26,8 @@ fn same_bodies(a: &[Bytes], b: &[Bytes]) -> bool
     true
 }
 
-fn same_batch(a: &Batch, b: &Batch) -> bool
+/// Both are the same edits from the same txid on.
+pub fn same_batch(a: &Batch, b: &Batch) -> bool
     ensures { result ≡ same_batch a.now b.now }
 {
     a.first() == b.first() && same_bodies(a.bodies().as_slice(), b.bodies().as_slice())

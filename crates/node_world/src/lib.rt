@@ -19,7 +19,7 @@ mod stop;
 mod world;
 
 pub use arming::Arming;
-pub use equality::same;
+pub use equality::{same, same_batch};
 pub use event::{Event, Fate};
 pub use history_line::{HistoryLine, HistoryList};
 pub use mark::{ActorPlan, Mark, MarkKind, Plan};

@@ -21,3 +21,4 @@ pub mod Turns
 pub mod Room
 pub mod RankExamples
 pub mod Minorities
+pub mod Alike

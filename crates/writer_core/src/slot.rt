@@ -1,5 +1,8 @@
 // A node's part in a round.
-use journal_core::Heard;
+ghost use Rattle.std.specs.Prelude.{◌≡◌, IfOk};
+
+use journal_core::{Heard, OutOfMemory};
+use std::alloc::Global;
 
 /// What a round has of one node.
 #[derive(Drop)]
@@ -10,4 +13,17 @@ pub enum Slot {
     LeftOut,
     /// It was called, and this was heard.
     Told(Heard),
+}
+
+impl Slot {
+    /// The same once more; edits are shared.
+    pub(crate) fn share(&self, alloc: Global) -> Result<Slot, OutOfMemory>
+        ensures { IfOk result (λ slot. slot ≡ self.now) }
+    {
+        Ok(match self {
+            Slot::Waiting => Slot::Waiting,
+            Slot::LeftOut => Slot::LeftOut,
+            Slot::Told(heard) => Slot::Told(heard.share(alloc)?),
+        })
+    }
 }

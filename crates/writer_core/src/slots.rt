@@ -52,6 +52,17 @@ pub(crate) fn waiting_nodes(alloc: Global, slots: &[Slot]) -> Result<Vec<usize>,
     Ok(nodes)
 }
 
+/// The same slots once more; edits are shared.
+pub(crate) fn share_slots(alloc: Global, slots: &[Slot]) -> Result<Vec<Slot>, OutOfMemory>
+    ensures { IfOk result (λ shared. shared.items ≡ slots.now) }
+{
+    let mut shared = Vec::with_capacity(alloc, slots.len())?;
+    for slot in slots {
+        shared.push(slot.share(alloc)?)?;
+    }
+    Ok(shared)
+}
+
 fn fits_newest(newest: Option<u64>) -> bool
     ensures { result ≡ fits_newest newest }
 {

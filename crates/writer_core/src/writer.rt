@@ -9,6 +9,7 @@ ghost use Rattle.writer_core.specs.Room.{room_of};
 mod asking;
 mod fetching;
 mod judging;
+mod sharing;
 
 use crate::cause::Cause;
 use crate::phase::Aim;
