@@ -6,7 +6,9 @@ mod caller_log;
 mod calls_to;
 mod delivery;
 mod seats;
+mod telling;
 
 pub use caller_log::CallerLog;
 pub use delivery::Delivery;
 pub use seats::Seats;
+pub use telling::{heard_of, is_done, told_of};

@@ -43,15 +43,15 @@ lines_off : (c : ℕ) (hs : List HistoryLine) (h : HistoryLine) → h.caller ≢
 unfolding lines_of
 lines_off c hs h e = filter_snoc (λ (x : HistoryLine). x.caller == c) hs h ∙ cond_false (h.caller == c) _ _ (other_test h.caller c e)
 
-reached_at : (k : ℕ) (rs : List Record) (r : Record) → reaches k r ≡ true → reached k (rs ++ r ∷ []) ≡ reached k rs ++ r ∷ []
+pub reached_at : (k : ℕ) (rs : List Record) (r : Record) → reaches k r ≡ true → reached k (rs ++ r ∷ []) ≡ reached k rs ++ r ∷ []
 unfolding reached
 reached_at k rs r e = filter_snoc (reaches k) rs r ∙ cond_true (reaches k r) _ _ e
 
-reached_off : (k : ℕ) (rs : List Record) (r : Record) → reaches k r ≡ false → reached k (rs ++ r ∷ []) ≡ reached k rs
+pub reached_off : (k : ℕ) (rs : List Record) (r : Record) → reaches k r ≡ false → reached k (rs ++ r ∷ []) ≡ reached k rs
 unfolding reached
 reached_off k rs r e = filter_snoc (reaches k) rs r ∙ cond_false (reaches k r) _ _ e
 
-same_snoc : (rs : List Record) (hs : List HistoryLine) (r : Record) (h : HistoryLine) → AreSame rs hs → IsSame r h → AreSame (rs ++ r ∷ []) (hs ++ h ∷ [])
+pub same_snoc : (rs : List Record) (hs : List HistoryLine) (r : Record) (h : HistoryLine) → AreSame rs hs → IsSame r h → AreSame (rs ++ r ∷ []) (hs ++ h ∷ [])
 unfolding AreSame
 same_snoc [] [] r h s e = (e, tt)
 same_snoc [] (x ∷ hs) r h s e = absurd s

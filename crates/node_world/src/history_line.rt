@@ -1,5 +1,5 @@
 // A node's history.
-ghost use Rattle.std.specs.Prelude.{◌≡◌, ◌++◌, [], ◌∷◌, List, OnOk, OnErr, length};
+ghost use Rattle.std.specs.Prelude.{◌≡◌, ◌++◌, ◌<◌, ◌^◌, [], ◌∷◌, List, OnOk, OnErr, length};
 ghost use Rattle.node_world.specs.declared.history_line.HistoryLine.{HistoryLine};
 
 use crate::node_ask::{NodeAnswer, NodeAsk};
@@ -50,6 +50,7 @@ impl HistoryList {
     /// One more line at the end.
     pub fn push(&mut self, line: HistoryLine) -> Result<(), OutOfMemory>
         ensures ok { OnOk result (self.new ≡ self.old ++ line ∷ []) }
+        ensures room { OnOk result (length self.new < 2 ^ 63) }
         ensures err { OnErr result (self.new ≡ self.old) }
     {
         self.items.push(line)?;

@@ -1,5 +1,5 @@
 // A node with its arming and its history.
-ghost use Rattle.std.specs.Prelude.{◌≡◌, ◌≢◌, Some, true, is_some, IfOk, OnOk, IsTrue, ◌↔◌};
+ghost use Rattle.std.specs.Prelude.{◌≡◌, ◌≢◌, ◌<◌, ◌^◌, length, Some, true, is_some, IfOk, OnOk, OnErr, IsTrue, ◌↔◌};
 ghost use Rattle.journal_core.specs.Step.{node_step, fresh_state, stopped};
 ghost use Rattle.node_world.specs.Cell.{kept_by, replies, stops, counted, requested, killed, started_again, armed, cell_takes};
 ghost use Rattle.node_world.specs.NodeCells.{state_told, new_cell, IsTaken};
@@ -136,7 +136,7 @@ impl<N: CutNode> NodeCell<N> {
     /// The node replies; the arming stays.
     fn reply(&mut self, alloc: Global, request: &Request) -> Result<NodeAnswer, OutOfMemory>
         ensures taken { IfOk result (λ answer. replies self.old.cell.state request.now self.old.cell.arming ≡ record { answer = answer; cell = self.new.cell }) }
-        ensures history { OnOk result (self.new.history ≡ self.old.history) }
+        ensures history { self.new.history ≡ self.old.history }
     {
         match reply_of(alloc, &mut self.node, request) {
             Ok(reply) => Ok(NodeAnswer::Replied(reply)),
@@ -156,7 +156,7 @@ impl<N: CutNode> NodeCell<N> {
     ) -> Result<NodeAnswer, OutOfMemory>
         requires up { self.old.cell.state.up ≡ true }
         ensures taken { IfOk result (λ answer. counted self.old.cell.state request.now (Some arming) ≡ record { answer = answer; cell = self.new.cell }) }
-        ensures history { OnOk result (self.new.history ≡ self.old.history) }
+        ensures history { self.new.history ≡ self.old.history }
     {
         if arming.calls > 1 {
             self.arming = Some(Arming {
@@ -187,7 +187,7 @@ impl<N: CutNode> NodeCell<N> {
     ) -> Result<NodeAnswer, OutOfMemory>
         requires up { is_up ≡ self.old.cell.state.up }
         ensures taken { IfOk result (λ answer. requested is_up self.old.cell request.now ≡ record { answer = answer; cell = self.new.cell }) }
-        ensures history { OnOk result (self.new.history ≡ self.old.history) }
+        ensures history { self.new.history ≡ self.old.history }
     {
         match self.arming {
             Some(arming) if is_up => self.count(alloc, arming, request),
@@ -212,7 +212,7 @@ impl<N: CutNode> NodeCell<N> {
     /// The node comes up; idle where it was up.
     fn restart(&mut self, alloc: Global) -> Result<NodeAnswer, OutOfMemory>
         ensures taken { IfOk result (λ answer. started_again self.old.cell.state.up self.old.cell ≡ record { answer = answer; cell = self.new.cell }) }
-        ensures history { OnOk result (self.new.history ≡ self.old.history) }
+        ensures history { self.new.history ≡ self.old.history }
     {
         match self.node.restart(alloc) {
             Ok(true) => {
@@ -244,7 +244,7 @@ impl<N: CutNode> NodeCell<N> {
     #[tactic(auto, unfolding(crate::specs::Cell::cell_takes))]
     fn reach(&mut self, alloc: Global, ask: &NodeAsk) -> Result<NodeAnswer, OutOfMemory>
         ensures taken { IfOk result (λ answer. cell_takes self.old.cell ask.now ≡ record { answer = answer; cell = self.new.cell }) }
-        ensures history { OnOk result (self.new.history ≡ self.old.history) }
+        ensures history { self.new.history ≡ self.old.history }
     {
         let Some(is_up) = self.is_up else {
             return Err(AllocError);
@@ -298,14 +298,16 @@ impl<N: CutNode> NodeCell<N> {
     }
 
     /// The node takes what this caller asks, lists it with its answer, and answers. `OutOfMemory` where the node lacks memory, then
-    /// and in every later call, and where the history can't grow: from then on nothing more is told of the cell.
+    /// and in every later call, and where the history can't grow: nothing is listed then, and nothing more is told of the cell.
     pub fn take(
         &mut self,
         alloc: Global,
         caller: u32,
         ask: NodeAsk,
     ) -> Result<NodeAnswer, OutOfMemory>
-        ensures { IfOk result (λ answer. IsTaken self.old caller ask answer self.new) }
+        ensures ok { IfOk result (λ answer. IsTaken self.old caller ask answer self.new) }
+        ensures room { OnOk result (length self.new.history < 2 ^ 63) }
+        ensures err { OnErr result (self.new.history ≡ self.old.history) }
     {
         let answer = self.reach(alloc, &ask)?;
         let listed = answer.share(alloc)?;
