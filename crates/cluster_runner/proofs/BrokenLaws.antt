@@ -1,9 +1,8 @@
 -- Meshes that must not agree, each refused by the part of the agreement that it breaks.
-use Rattle.std.proofs.Common.{◌≡◌, List, [], ◌∷◌, refl, subst, arith}
+use Rattle.std.proofs.Common.{◌≡◌, ℕ, ◌+◌, List, [], ◌∷◌, refl, subst, arith}
 use Rattle.std.specs.Fmt.{digits}
 use Rattle.journal_core.specs.declared.request.Request.TheVariants as request
 use Rattle.journal_core.specs.declared.reply.Reply.TheVariants as reply
-use Rattle.writer_core.specs.declared.task.Task.{Task}
 use Rattle.writer_core.specs.declared.task.Task.TheVariants as task
 use Rattle.writer_core.specs.Views.{WriterView}
 use Rattle.node_world.specs.declared.record.Told.TheVariants as told
@@ -19,15 +18,16 @@ use Rattle.journal_core.specs.Cuts.{standing}
 use Rattle.node_world.specs.Cell.{cell_takes, cell_after, IsLocalRun}
 use Rattle.node_world.specs.Moving.{epoch_of, moves, move_of, entry_of, moving_of}
 use Rattle.mesh.specs.Marks.{calls_to, IsMarked}
-use Rattle.mesh.specs.Makers.{maker_of, maker_hears, IsMade, IsOperators, heard_of, Maker}
+use Rattle.std.specs.Prelude.{None}
+use Rattle.mesh.specs.Makers.{Chore, Writes, Tails, maker_of, maker_hears, IsMade, IsOperators, heard_of, Maker}
 use Rattle.mesh.specs.Matches.{reaches, reached, lines_of, AreSame, IsSame}
 use Rattle.mesh.specs.Owners.{wins, owns}
 use Rattle.mesh.specs.Order.{placed_from, place_of, key_of, is_below, tags_of, blocks_cut, blocks_from, put_block, sorted, entries_in, epoch_order}
 use Rattle.cluster_runner.specs.Lines.{declared, names_in, deeds_of, operations_in}
 use Rattle.request_text.specs.Texts.{refusal_cause_text, refusal_name}
 use Rattle.cluster_runner.specs.Results.{cause_word, cause_words, name_of, for_each, acked_from, acked, done_results, results_of, inactive_results, too_long_results, late_none}
-use Rattle.cluster_runner.specs.Actor.{fresh_actor, call_wanted, copy_first, says_first, wants, is_wanting, task_begun, copied, deed_taken, settled, handed, turn_taken, moved_on, resettled, goes_on, actor_after}
-use Rattle.cluster_runner.specs.Plays.{play_begins, actor_at, node_asked, noted, same_kind, is_marked, delivery, told_of, call_made, copy_made, wanted, is_done, line_taken, next_line, turned, play_step, play_steps, no_lines, has_ended, history_of, histories_from, mesh_of, ends_of}
+use Rattle.cluster_runner.specs.Actor.{fresh_actor, call_wanted, copy_first, read_first, says_first, wants, is_wanting, is_broken, task_begun, copied, deed_taken, settled, handed, turn_taken, turn_with, moved_on, heard_by, resettled, goes_on, actor_after}
+use Rattle.cluster_runner.specs.Plays.{play_begins, actor_at, node_asked, noted, same_kind, is_marked, delivery, told_of, call_made, copy_made, wanted, is_done, line_taken, next_line, turned, play_step, play_steps, no_lines, has_ended, history_of, histories_from, mesh_of, ends_of, ends_from}
 use Rattle.cluster_runner.specs.Told.{told_in, results_in}
 use Rattle.cluster_runner.specs.Examples.{played, results_at, listed, dropped_call, killed_nodes, competing_takeovers, fenced_writer, fencing_lines, before_recovery, recovered_edit, recovering_lines, lost_fetch, second_fetch_lines, late_copies, late_lines, rolled_and_purged, purging_lines, stopped_in_prepare, stopping_lines, cut_in_accept, cut_lines}
 use Rattle.cluster_runner.specs.FirstRun.{asking, called, first_script, first_play, first_history, first_takeover, first_record, first_mesh, first_ends, first_entries}
@@ -39,27 +39,27 @@ use Rattle.cluster_runner.proofs.Makes.{busy_by}
 use Rattle.cluster_runner.proofs.Wanting.{sending, same_sending}
 
 pub lost : Agrees lost_line → ⊥
-unfolding digits find_segment put_segment remove_segment newest limit_of after_effects serving last_below least_served edits_from manifest_of node_step effects_of best_from greatest_promise greatest_newest judged fetched log_limit writer_begun writer_heard standing cell_takes cell_after epoch_of moves move_of entry_of moving_of calls_to maker_of maker_hears reaches reached lines_of wins owns placed_from place_of key_of is_below tags_of blocks_cut blocks_from put_block sorted entries_in epoch_order declared names_in deeds_of operations_in refusal_cause_text refusal_name cause_word cause_words name_of for_each acked_from acked done_results results_of inactive_results too_long_results late_none fresh_actor call_wanted copy_first says_first wants is_wanting task_begun copied deed_taken settled handed turn_taken moved_on resettled goes_on actor_after play_begins actor_at node_asked noted same_kind is_marked delivery told_of call_made copy_made wanted is_done line_taken next_line turned play_step play_steps no_lines has_ended history_of histories_from mesh_of ends_of told_in results_in played results_at listed dropped_call killed_nodes competing_takeovers fenced_writer fencing_lines before_recovery recovered_edit recovering_lines lost_fetch second_fetch_lines late_copies late_lines rolled_and_purged purging_lines stopped_in_prepare stopping_lines cut_in_accept cut_lines first_script first_play first_history first_takeover first_record first_mesh first_ends first_entries lost_line doubled_line swapped_lines made_up wrong_epoch undropped asking_operator losing_proposal came_about by_promise IsLocalRun IsMarked IsMade IsOperators AreSame IsSame
+unfolding digits find_segment put_segment remove_segment newest limit_of after_effects serving last_below least_served edits_from manifest_of node_step effects_of best_from greatest_promise greatest_newest judged fetched log_limit writer_begun writer_heard standing cell_takes cell_after epoch_of moves move_of entry_of moving_of calls_to maker_of maker_hears reaches reached lines_of wins owns placed_from place_of key_of is_below tags_of blocks_cut blocks_from put_block sorted entries_in epoch_order declared names_in deeds_of operations_in refusal_cause_text refusal_name cause_word cause_words name_of for_each acked_from acked done_results results_of inactive_results too_long_results late_none fresh_actor call_wanted copy_first read_first says_first wants is_wanting is_broken task_begun copied deed_taken settled handed turn_taken turn_with moved_on heard_by resettled goes_on actor_after play_begins actor_at node_asked noted same_kind is_marked delivery told_of call_made copy_made wanted is_done line_taken next_line turned play_step play_steps no_lines has_ended history_of histories_from mesh_of ends_of ends_from told_in results_in played results_at listed dropped_call killed_nodes competing_takeovers fenced_writer fencing_lines before_recovery recovered_edit recovering_lines lost_fetch second_fetch_lines late_copies late_lines rolled_and_purged purging_lines stopped_in_prepare stopping_lines cut_in_accept cut_lines first_script first_play first_history first_takeover first_record first_mesh first_ends first_entries lost_line doubled_line swapped_lines made_up wrong_epoch undropped asking_operator losing_proposal came_about by_promise IsLocalRun IsMarked IsMade IsOperators AreSame IsSame
 lost h = (h.lists.same 0 0 (omega arith) (omega arith)).1.1.1.1.1.1
 
 pub doubled : Agrees doubled_line → ⊥
-unfolding digits find_segment put_segment remove_segment newest limit_of after_effects serving last_below least_served edits_from manifest_of node_step effects_of best_from greatest_promise greatest_newest judged fetched log_limit writer_begun writer_heard standing cell_takes cell_after epoch_of moves move_of entry_of moving_of calls_to maker_of maker_hears reaches reached lines_of wins owns placed_from place_of key_of is_below tags_of blocks_cut blocks_from put_block sorted entries_in epoch_order declared names_in deeds_of operations_in refusal_cause_text refusal_name cause_word cause_words name_of for_each acked_from acked done_results results_of inactive_results too_long_results late_none fresh_actor call_wanted copy_first says_first wants is_wanting task_begun copied deed_taken settled handed turn_taken moved_on resettled goes_on actor_after play_begins actor_at node_asked noted same_kind is_marked delivery told_of call_made copy_made wanted is_done line_taken next_line turned play_step play_steps no_lines has_ended history_of histories_from mesh_of ends_of told_in results_in played results_at listed dropped_call killed_nodes competing_takeovers fenced_writer fencing_lines before_recovery recovered_edit recovering_lines lost_fetch second_fetch_lines late_copies late_lines rolled_and_purged purging_lines stopped_in_prepare stopping_lines cut_in_accept cut_lines first_script first_play first_history first_takeover first_record first_mesh first_ends first_entries lost_line doubled_line swapped_lines made_up wrong_epoch undropped asking_operator losing_proposal came_about by_promise IsLocalRun IsMarked IsMade IsOperators AreSame IsSame
+unfolding digits find_segment put_segment remove_segment newest limit_of after_effects serving last_below least_served edits_from manifest_of node_step effects_of best_from greatest_promise greatest_newest judged fetched log_limit writer_begun writer_heard standing cell_takes cell_after epoch_of moves move_of entry_of moving_of calls_to maker_of maker_hears reaches reached lines_of wins owns placed_from place_of key_of is_below tags_of blocks_cut blocks_from put_block sorted entries_in epoch_order declared names_in deeds_of operations_in refusal_cause_text refusal_name cause_word cause_words name_of for_each acked_from acked done_results results_of inactive_results too_long_results late_none fresh_actor call_wanted copy_first read_first says_first wants is_wanting is_broken task_begun copied deed_taken settled handed turn_taken turn_with moved_on heard_by resettled goes_on actor_after play_begins actor_at node_asked noted same_kind is_marked delivery told_of call_made copy_made wanted is_done line_taken next_line turned play_step play_steps no_lines has_ended history_of histories_from mesh_of ends_of ends_from told_in results_in played results_at listed dropped_call killed_nodes competing_takeovers fenced_writer fencing_lines before_recovery recovered_edit recovering_lines lost_fetch second_fetch_lines late_copies late_lines rolled_and_purged purging_lines stopped_in_prepare stopping_lines cut_in_accept cut_lines first_script first_play first_history first_takeover first_record first_mesh first_ends first_entries lost_line doubled_line swapped_lines made_up wrong_epoch undropped asking_operator losing_proposal came_about by_promise IsLocalRun IsMarked IsMade IsOperators AreSame IsSame
 doubled h = (h.lists.same 0 0 (omega arith) (omega arith)).1
 
 pub swapped : Agrees swapped_lines → ⊥
-unfolding digits find_segment put_segment remove_segment newest limit_of after_effects serving last_below least_served edits_from manifest_of node_step effects_of best_from greatest_promise greatest_newest judged fetched log_limit writer_begun writer_heard standing cell_takes cell_after epoch_of moves move_of entry_of moving_of calls_to maker_of maker_hears reaches reached lines_of wins owns placed_from place_of key_of is_below tags_of blocks_cut blocks_from put_block sorted entries_in epoch_order declared names_in deeds_of operations_in refusal_cause_text refusal_name cause_word cause_words name_of for_each acked_from acked done_results results_of inactive_results too_long_results late_none fresh_actor call_wanted copy_first says_first wants is_wanting task_begun copied deed_taken settled handed turn_taken moved_on resettled goes_on actor_after play_begins actor_at node_asked noted same_kind is_marked delivery told_of call_made copy_made wanted is_done line_taken next_line turned play_step play_steps no_lines has_ended history_of histories_from mesh_of ends_of told_in results_in played results_at listed dropped_call killed_nodes competing_takeovers fenced_writer fencing_lines before_recovery recovered_edit recovering_lines lost_fetch second_fetch_lines late_copies late_lines rolled_and_purged purging_lines stopped_in_prepare stopping_lines cut_in_accept cut_lines first_script first_play first_history first_takeover first_record first_mesh first_ends first_entries lost_line doubled_line swapped_lines made_up wrong_epoch undropped asking_operator losing_proposal came_about by_promise IsLocalRun IsMarked IsMade IsOperators AreSame IsSame
+unfolding digits find_segment put_segment remove_segment newest limit_of after_effects serving last_below least_served edits_from manifest_of node_step effects_of best_from greatest_promise greatest_newest judged fetched log_limit writer_begun writer_heard standing cell_takes cell_after epoch_of moves move_of entry_of moving_of calls_to maker_of maker_hears reaches reached lines_of wins owns placed_from place_of key_of is_below tags_of blocks_cut blocks_from put_block sorted entries_in epoch_order declared names_in deeds_of operations_in refusal_cause_text refusal_name cause_word cause_words name_of for_each acked_from acked done_results results_of inactive_results too_long_results late_none fresh_actor call_wanted copy_first read_first says_first wants is_wanting is_broken task_begun copied deed_taken settled handed turn_taken turn_with moved_on heard_by resettled goes_on actor_after play_begins actor_at node_asked noted same_kind is_marked delivery told_of call_made copy_made wanted is_done line_taken next_line turned play_step play_steps no_lines has_ended history_of histories_from mesh_of ends_of ends_from told_in results_in played results_at listed dropped_call killed_nodes competing_takeovers fenced_writer fencing_lines before_recovery recovered_edit recovering_lines lost_fetch second_fetch_lines late_copies late_lines rolled_and_purged purging_lines stopped_in_prepare stopping_lines cut_in_accept cut_lines first_script first_play first_history first_takeover first_record first_mesh first_ends first_entries lost_line doubled_line swapped_lines made_up wrong_epoch undropped asking_operator losing_proposal came_about by_promise IsLocalRun IsMarked IsMade IsOperators AreSame IsSame
 swapped h = absurd (cc (h.lists.local 0 (omega arith)).1.0)
 
 pub invented : Agrees made_up → ⊥
-unfolding digits find_segment put_segment remove_segment newest limit_of after_effects serving last_below least_served edits_from manifest_of node_step effects_of best_from greatest_promise greatest_newest judged fetched log_limit writer_begun writer_heard standing cell_takes cell_after epoch_of moves move_of entry_of moving_of calls_to maker_of maker_hears reaches reached lines_of wins owns placed_from place_of key_of is_below tags_of blocks_cut blocks_from put_block sorted entries_in epoch_order declared names_in deeds_of operations_in refusal_cause_text refusal_name cause_word cause_words name_of for_each acked_from acked done_results results_of inactive_results too_long_results late_none fresh_actor call_wanted copy_first says_first wants is_wanting task_begun copied deed_taken settled handed turn_taken moved_on resettled goes_on actor_after play_begins actor_at node_asked noted same_kind is_marked delivery told_of call_made copy_made wanted is_done line_taken next_line turned play_step play_steps no_lines has_ended history_of histories_from mesh_of ends_of told_in results_in played results_at listed dropped_call killed_nodes competing_takeovers fenced_writer fencing_lines before_recovery recovered_edit recovering_lines lost_fetch second_fetch_lines late_copies late_lines rolled_and_purged purging_lines stopped_in_prepare stopping_lines cut_in_accept cut_lines first_script first_play first_history first_takeover first_record first_mesh first_ends first_entries lost_line doubled_line swapped_lines made_up wrong_epoch undropped asking_operator losing_proposal came_about by_promise IsLocalRun IsMarked IsMade IsOperators AreSame IsSame
+unfolding digits find_segment put_segment remove_segment newest limit_of after_effects serving last_below least_served edits_from manifest_of node_step effects_of best_from greatest_promise greatest_newest judged fetched log_limit writer_begun writer_heard standing cell_takes cell_after epoch_of moves move_of entry_of moving_of calls_to maker_of maker_hears reaches reached lines_of wins owns placed_from place_of key_of is_below tags_of blocks_cut blocks_from put_block sorted entries_in epoch_order declared names_in deeds_of operations_in refusal_cause_text refusal_name cause_word cause_words name_of for_each acked_from acked done_results results_of inactive_results too_long_results late_none fresh_actor call_wanted copy_first read_first says_first wants is_wanting is_broken task_begun copied deed_taken settled handed turn_taken turn_with moved_on heard_by resettled goes_on actor_after play_begins actor_at node_asked noted same_kind is_marked delivery told_of call_made copy_made wanted is_done line_taken next_line turned play_step play_steps no_lines has_ended history_of histories_from mesh_of ends_of ends_from told_in results_in played results_at listed dropped_call killed_nodes competing_takeovers fenced_writer fencing_lines before_recovery recovered_edit recovering_lines lost_fetch second_fetch_lines late_copies late_lines rolled_and_purged purging_lines stopped_in_prepare stopping_lines cut_in_accept cut_lines first_script first_play first_history first_takeover first_record first_mesh first_ends first_entries lost_line doubled_line swapped_lines made_up wrong_epoch undropped asking_operator losing_proposal came_about by_promise IsLocalRun IsMarked IsMade IsOperators AreSame IsSame
 invented h = absurd (cc (h.lists.same 0 0 (omega arith) (omega arith)).0.1)
 
 pub kept : Agrees undropped → ⊥
-unfolding digits find_segment put_segment remove_segment newest limit_of after_effects serving last_below least_served edits_from manifest_of node_step effects_of best_from greatest_promise greatest_newest judged fetched log_limit writer_begun writer_heard standing cell_takes cell_after epoch_of moves move_of entry_of moving_of calls_to maker_of maker_hears reaches reached lines_of wins owns placed_from place_of key_of is_below tags_of blocks_cut blocks_from put_block sorted entries_in epoch_order declared names_in deeds_of operations_in refusal_cause_text refusal_name cause_word cause_words name_of for_each acked_from acked done_results results_of inactive_results too_long_results late_none fresh_actor call_wanted copy_first says_first wants is_wanting task_begun copied deed_taken settled handed turn_taken moved_on resettled goes_on actor_after play_begins actor_at node_asked noted same_kind is_marked delivery told_of call_made copy_made wanted is_done line_taken next_line turned play_step play_steps no_lines has_ended history_of histories_from mesh_of ends_of told_in results_in played results_at listed dropped_call killed_nodes competing_takeovers fenced_writer fencing_lines before_recovery recovered_edit recovering_lines lost_fetch second_fetch_lines late_copies late_lines rolled_and_purged purging_lines stopped_in_prepare stopping_lines cut_in_accept cut_lines first_script first_play first_history first_takeover first_record first_mesh first_ends first_entries lost_line doubled_line swapped_lines made_up wrong_epoch undropped asking_operator losing_proposal came_about by_promise IsLocalRun IsMarked IsMade IsOperators AreSame IsSame
+unfolding digits find_segment put_segment remove_segment newest limit_of after_effects serving last_below least_served edits_from manifest_of node_step effects_of best_from greatest_promise greatest_newest judged fetched log_limit writer_begun writer_heard standing cell_takes cell_after epoch_of moves move_of entry_of moving_of calls_to maker_of maker_hears reaches reached lines_of wins owns placed_from place_of key_of is_below tags_of blocks_cut blocks_from put_block sorted entries_in epoch_order declared names_in deeds_of operations_in refusal_cause_text refusal_name cause_word cause_words name_of for_each acked_from acked done_results results_of inactive_results too_long_results late_none fresh_actor call_wanted copy_first read_first says_first wants is_wanting is_broken task_begun copied deed_taken settled handed turn_taken turn_with moved_on heard_by resettled goes_on actor_after play_begins actor_at node_asked noted same_kind is_marked delivery told_of call_made copy_made wanted is_done line_taken next_line turned play_step play_steps no_lines has_ended history_of histories_from mesh_of ends_of ends_from told_in results_in played results_at listed dropped_call killed_nodes competing_takeovers fenced_writer fencing_lines before_recovery recovered_edit recovering_lines lost_fetch second_fetch_lines late_copies late_lines rolled_and_purged purging_lines stopped_in_prepare stopping_lines cut_in_accept cut_lines first_script first_play first_history first_takeover first_record first_mesh first_ends first_entries lost_line doubled_line swapped_lines made_up wrong_epoch undropped asking_operator losing_proposal came_about by_promise IsLocalRun IsMarked IsMade IsOperators AreSame IsSame
 kept h = absurd (cc ((h.lists.marked 0 (omega arith)).0.0.1 (contains_head _ [] _ refl)))
 
 pub asked : Agrees asking_operator → ⊥
-unfolding digits find_segment put_segment remove_segment newest limit_of after_effects serving last_below least_served edits_from manifest_of node_step effects_of best_from greatest_promise greatest_newest judged fetched log_limit writer_begun writer_heard standing cell_takes cell_after epoch_of moves move_of entry_of moving_of calls_to maker_of maker_hears reaches reached lines_of wins owns placed_from place_of key_of is_below tags_of blocks_cut blocks_from put_block sorted entries_in epoch_order declared names_in deeds_of operations_in refusal_cause_text refusal_name cause_word cause_words name_of for_each acked_from acked done_results results_of inactive_results too_long_results late_none fresh_actor call_wanted copy_first says_first wants is_wanting task_begun copied deed_taken settled handed turn_taken moved_on resettled goes_on actor_after play_begins actor_at node_asked noted same_kind is_marked delivery told_of call_made copy_made wanted is_done line_taken next_line turned play_step play_steps no_lines has_ended history_of histories_from mesh_of ends_of told_in results_in played results_at listed dropped_call killed_nodes competing_takeovers fenced_writer fencing_lines before_recovery recovered_edit recovering_lines lost_fetch second_fetch_lines late_copies late_lines rolled_and_purged purging_lines stopped_in_prepare stopping_lines cut_in_accept cut_lines first_script first_play first_history first_takeover first_record first_mesh first_ends first_entries lost_line doubled_line swapped_lines made_up wrong_epoch undropped asking_operator losing_proposal came_about by_promise IsLocalRun IsMarked IsMade IsOperators AreSame IsSame
+unfolding digits find_segment put_segment remove_segment newest limit_of after_effects serving last_below least_served edits_from manifest_of node_step effects_of best_from greatest_promise greatest_newest judged fetched log_limit writer_begun writer_heard standing cell_takes cell_after epoch_of moves move_of entry_of moving_of calls_to maker_of maker_hears reaches reached lines_of wins owns placed_from place_of key_of is_below tags_of blocks_cut blocks_from put_block sorted entries_in epoch_order declared names_in deeds_of operations_in refusal_cause_text refusal_name cause_word cause_words name_of for_each acked_from acked done_results results_of inactive_results too_long_results late_none fresh_actor call_wanted copy_first read_first says_first wants is_wanting is_broken task_begun copied deed_taken settled handed turn_taken turn_with moved_on heard_by resettled goes_on actor_after play_begins actor_at node_asked noted same_kind is_marked delivery told_of call_made copy_made wanted is_done line_taken next_line turned play_step play_steps no_lines has_ended history_of histories_from mesh_of ends_of ends_from told_in results_in played results_at listed dropped_call killed_nodes competing_takeovers fenced_writer fencing_lines before_recovery recovered_edit recovering_lines lost_fetch second_fetch_lines late_copies late_lines rolled_and_purged purging_lines stopped_in_prepare stopping_lines cut_in_accept cut_lines first_script first_play first_history first_takeover first_record first_mesh first_ends first_entries lost_line doubled_line swapped_lines made_up wrong_epoch undropped asking_operator losing_proposal came_about by_promise IsLocalRun IsMarked IsMade IsOperators AreSame IsSame
 asked h = h.lists.operated
 
 apart : request.NewEpoch 1 ≡ request.NewEpoch 5 → ⊥
@@ -68,22 +68,26 @@ apart e = cc e
 one_or_five : sending 1 (request.NewEpoch 1) ≡ sending 1 (request.NewEpoch 5) → ⊥
 one_or_five e = apart (same_sending 1 1 (request.NewEpoch 1) (request.NewEpoch 5) e).1
 
-never : (ts : List Task) → IsMade (maker_of ts (new_writer 1)) (called 1 asking ∷ called 1 proposing_five ∷ []) → ⊥
-unfolding digits find_segment put_segment remove_segment newest limit_of after_effects serving last_below least_served edits_from manifest_of node_step effects_of best_from greatest_promise greatest_newest judged fetched log_limit writer_begun writer_heard standing cell_takes cell_after epoch_of moves move_of entry_of moving_of calls_to maker_of maker_hears reaches reached lines_of wins owns placed_from place_of key_of is_below tags_of blocks_cut blocks_from put_block sorted entries_in epoch_order declared names_in deeds_of operations_in refusal_cause_text refusal_name cause_word cause_words name_of for_each acked_from acked done_results results_of inactive_results too_long_results late_none fresh_actor call_wanted copy_first says_first wants is_wanting task_begun copied deed_taken settled handed turn_taken moved_on resettled goes_on actor_after play_begins actor_at node_asked noted same_kind is_marked delivery told_of call_made copy_made wanted is_done line_taken next_line turned play_step play_steps no_lines has_ended history_of histories_from mesh_of ends_of told_in results_in played results_at listed dropped_call killed_nodes competing_takeovers fenced_writer fencing_lines before_recovery recovered_edit recovering_lines lost_fetch second_fetch_lines late_copies late_lines rolled_and_purged purging_lines stopped_in_prepare stopping_lines cut_in_accept cut_lines first_script first_play first_history first_takeover first_record first_mesh first_ends first_entries lost_line doubled_line swapped_lines made_up wrong_epoch undropped asking_operator losing_proposal came_about by_promise IsLocalRun IsMarked IsMade IsOperators AreSame IsSame
+tailing : (position : ℕ) → request.Read (position + 1) ≡ request.State → ⊥
+tailing position e = cc e
+
+never : (cs : List Chore) → IsMade (maker_of cs (new_writer 1)) (called 1 asking ∷ called 1 proposing_five ∷ []) → ⊥
+unfolding digits find_segment put_segment remove_segment newest limit_of after_effects serving last_below least_served edits_from manifest_of node_step effects_of best_from greatest_promise greatest_newest judged fetched log_limit writer_begun writer_heard standing cell_takes cell_after epoch_of moves move_of entry_of moving_of calls_to maker_of maker_hears reaches reached lines_of wins owns placed_from place_of key_of is_below tags_of blocks_cut blocks_from put_block sorted entries_in epoch_order declared names_in deeds_of operations_in refusal_cause_text refusal_name cause_word cause_words name_of for_each acked_from acked done_results results_of inactive_results too_long_results late_none fresh_actor call_wanted copy_first read_first says_first wants is_wanting is_broken task_begun copied deed_taken settled handed turn_taken turn_with moved_on heard_by resettled goes_on actor_after play_begins actor_at node_asked noted same_kind is_marked delivery told_of call_made copy_made wanted is_done line_taken next_line turned play_step play_steps no_lines has_ended history_of histories_from mesh_of ends_of ends_from told_in results_in played results_at listed dropped_call killed_nodes competing_takeovers fenced_writer fencing_lines before_recovery recovered_edit recovering_lines lost_fetch second_fetch_lines late_copies late_lines rolled_and_purged purging_lines stopped_in_prepare stopping_lines cut_in_accept cut_lines first_script first_play first_history first_takeover first_record first_mesh first_ends first_entries lost_line doubled_line swapped_lines made_up wrong_epoch undropped asking_operator losing_proposal came_about by_promise IsLocalRun IsMarked IsMade IsOperators AreSame IsSame
 never [] h = absurd (cc h.0)
-never (task.Log bodies ∷ ts) h = never ts h
-never (task.Roll ∷ ts) h = never ts h
-never (task.Close ∷ ts) h = never ts h
-never (task.Purge min ∷ ts) h = never ts h
-never (task.Takeover ∷ ts) h =
+never (Tails position more ∷ cs) h = tailing position (same_sending 1 1 (request.Read (position + 1)) request.State h.0).1
+never (Writes (task.Log bodies) ∷ cs) h = never cs h
+never (Writes task.Roll ∷ cs) h = never cs h
+never (Writes task.Close ∷ cs) h = never cs h
+never (Writes (task.Purge min) ∷ cs) h = never cs h
+never (Writes task.Takeover ∷ cs) h =
     let w : WriterView = (writer_begun (new_writer 1) task.Takeover).writer in
-    let first : IsMade (record { tasks = ts; writer = w }) (called 1 asking ∷ called 1 proposing_five ∷ []) =
-    subst (λ (m : Maker). IsMade m (called 1 asking ∷ called 1 proposing_five ∷ [])) (busy_by ts w (1, request.State) refl) h in
+    let first : IsMade (record { chores = cs; writer = w; reading = None }) (called 1 asking ∷ called 1 proposing_five ∷ []) =
+    subst (λ (m : Maker). IsMade m (called 1 asking ∷ called 1 proposing_five ∷ [])) (busy_by cs w (1, request.State) refl) h in
     let v : WriterView = (writer_heard w 1 (heard_of (told.Reply (reply.State 0)))).writer in
-    let second : IsMade (record { tasks = ts; writer = v }) (called 1 proposing_five ∷ []) =
-    subst (λ (m : Maker). IsMade m (called 1 proposing_five ∷ [])) (busy_by ts v (1, request.NewEpoch 1) refl) first.1 in
+    let second : IsMade (record { chores = cs; writer = v; reading = None }) (called 1 proposing_five ∷ []) =
+    subst (λ (m : Maker). IsMade m (called 1 proposing_five ∷ [])) (busy_by cs v (1, request.NewEpoch 1) refl) first.1 in
     one_or_five second.0
 
 pub unmade : Agrees wrong_epoch → ⊥
-unfolding digits find_segment put_segment remove_segment newest limit_of after_effects serving last_below least_served edits_from manifest_of node_step effects_of best_from greatest_promise greatest_newest judged fetched log_limit writer_begun writer_heard standing cell_takes cell_after epoch_of moves move_of entry_of moving_of calls_to maker_of maker_hears reaches reached lines_of wins owns placed_from place_of key_of is_below tags_of blocks_cut blocks_from put_block sorted entries_in epoch_order declared names_in deeds_of operations_in refusal_cause_text refusal_name cause_word cause_words name_of for_each acked_from acked done_results results_of inactive_results too_long_results late_none fresh_actor call_wanted copy_first says_first wants is_wanting task_begun copied deed_taken settled handed turn_taken moved_on resettled goes_on actor_after play_begins actor_at node_asked noted same_kind is_marked delivery told_of call_made copy_made wanted is_done line_taken next_line turned play_step play_steps no_lines has_ended history_of histories_from mesh_of ends_of told_in results_in played results_at listed dropped_call killed_nodes competing_takeovers fenced_writer fencing_lines before_recovery recovered_edit recovering_lines lost_fetch second_fetch_lines late_copies late_lines rolled_and_purged purging_lines stopped_in_prepare stopping_lines cut_in_accept cut_lines first_script first_play first_history first_takeover first_record first_mesh first_ends first_entries lost_line doubled_line swapped_lines made_up wrong_epoch undropped asking_operator losing_proposal came_about by_promise IsLocalRun IsMarked IsMade IsOperators AreSame IsSame
+unfolding digits find_segment put_segment remove_segment newest limit_of after_effects serving last_below least_served edits_from manifest_of node_step effects_of best_from greatest_promise greatest_newest judged fetched log_limit writer_begun writer_heard standing cell_takes cell_after epoch_of moves move_of entry_of moving_of calls_to maker_of maker_hears reaches reached lines_of wins owns placed_from place_of key_of is_below tags_of blocks_cut blocks_from put_block sorted entries_in epoch_order declared names_in deeds_of operations_in refusal_cause_text refusal_name cause_word cause_words name_of for_each acked_from acked done_results results_of inactive_results too_long_results late_none fresh_actor call_wanted copy_first read_first says_first wants is_wanting is_broken task_begun copied deed_taken settled handed turn_taken turn_with moved_on heard_by resettled goes_on actor_after play_begins actor_at node_asked noted same_kind is_marked delivery told_of call_made copy_made wanted is_done line_taken next_line turned play_step play_steps no_lines has_ended history_of histories_from mesh_of ends_of ends_from told_in results_in played results_at listed dropped_call killed_nodes competing_takeovers fenced_writer fencing_lines before_recovery recovered_edit recovering_lines lost_fetch second_fetch_lines late_copies late_lines rolled_and_purged purging_lines stopped_in_prepare stopping_lines cut_in_accept cut_lines first_script first_play first_history first_takeover first_record first_mesh first_ends first_entries lost_line doubled_line swapped_lines made_up wrong_epoch undropped asking_operator losing_proposal came_about by_promise IsLocalRun IsMarked IsMade IsOperators AreSame IsSame
 unmade h = never (h.made 0 (omega arith)).0 (h.made 0 (omega arith)).2

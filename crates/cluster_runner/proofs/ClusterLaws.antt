@@ -1,20 +1,15 @@
 -- What the program's nodes and actors become is what is kept of a play.
-use Rattle.std.proofs.Common.{◌≡◌, ℕ, ◌-◌, ◌+◌, ◌<◌, List, [], ◌∷◌, ◌++◌, length, map, refl, sym, ap, ◌∙◌, set, get_or, arith, zero, suc, replicate}
+use Rattle.std.proofs.Common.{◌≡◌, ℕ, ◌+◌, List, [], ◌∷◌, ◌++◌, length, map, refl, sym, ap, ◌∙◌, arith, zero, suc, replicate}
 use Rattle.std.proofs.lemmas.List.{map-append}
-use Rattle.node_world.specs.declared.node_ask.NodeAsk.{NodeAsk}
-use Rattle.node_world.specs.declared.node_ask.NodeAnswer.{NodeAnswer}
 use Rattle.node_world.specs.declared.history_line.HistoryLine.{HistoryLine}
 use Rattle.node_world.specs.declared.record.Record.{Record}
-use Rattle.node_world.specs.declared.record.Record.TheVariants.{Operator}
 use Rattle.node_world.specs.declared.mark.Mark.{Mark}
-use Rattle.node_world.specs.NodeCells.{CellView, new_cell, IsTaken}
+use Rattle.node_world.specs.NodeCells.{CellView}
 use Rattle.mesh.specs.declared.whole.Mesh.{Mesh}
 use Rattle.mesh.specs.declared.end.End.{End}
 use Rattle.cluster_runner.specs.declared.player.Player.{Player}
-use Rattle.cluster_runner.specs.Plays.{is_done}
-use Rattle.cluster_runner.specs.Kept.{Kept, KeptActor, new_actor, listed, answer_to, with_actor, operates, mesh_kept, ends_kept}
+use Rattle.cluster_runner.specs.Kept.{Kept, KeptActor, new_actor, with_actor, mesh_kept, ends_kept}
 use Rattle.cluster_runner.specs.Shown.{keeps, kept}
-use Rattle.cluster_runner.proofs.KeptLists.{same_place}
 
 abbrev with_actors : List CellView → ℕ → List Record → List KeptActor → Kept
 with_actors nodes o os xs = record { nodes = nodes; actors = xs; operator = o; operated = os }

@@ -1,6 +1,6 @@
 -- An actor that is led to its end has said, deed by deed, as many results as are due.
 use Rattle.std.proofs.Common.{◌≡◌, ℕ, suc, ◌+◌, ◌≤◌, List, [], ◌∷◌, ◌++◌, Bool, true, false, cond, refl, sym, ap, ◌∙◌, subst, arith, length, drop, ◌⊎◌, inl, inr}
-use Rattle.std.specs.Prelude.{Option, Some, None, ◌≢◌}
+use Rattle.std.specs.Prelude.{Option, Some, None, ◌≢◌, ◌||◌}
 use Rattle.std.proofs.lemmas.List.{length-map}
 use Rattle.journal_core.specs.declared.request.Request.{Request}
 use Rattle.writer_core.specs.declared.phase.Phase.{Phase}
@@ -24,17 +24,19 @@ use Rattle.node_world.specs.declared.record.Record.{Record}
 use Rattle.node_world.specs.declared.record.Record.TheVariants.{Call, Late, Operator, Outcome}
 use Rattle.node_world.specs.declared.record.Told.{Told}
 use Rattle.mesh.specs.Makers.{heard_of}
-use Rattle.cluster_runner.specs.Lines.{Deed, Does, DoDrop, DoMute, DoLate}
+use Rattle.cluster_runner.specs.Lines.{Deed, Does, DoDrop, DoMute, DoLate, Submits, Trims, DoTail, Saves, Reloads}
 use Rattle.cluster_runner.specs.Results.{for_each, acked_from, acked, done_results, results_of, inactive_results, too_long_results, late_none}
-use Rattle.cluster_runner.specs.Actor.{Actor, Rests, fresh_actor, wants, is_wanting, task_begun, copied, deed_taken, settled, turn_taken, moved_on, resettled, goes_on, Fits, IsLed, actor_after}
+use Rattle.cluster_runner.specs.Actor.{Actor, Rests, fresh_actor, wants, is_wanting, is_broken, task_begun, copied, deed_taken, settled, is_broken_holding, turn_with, turn_taken, moved_on, resettled, goes_on, Fits, IsLed, actor_after}
 use Rattle.cluster_runner.specs.Told.{results_in}
-use Rattle.cluster_runner.specs.EditResults.{results_due, AreResultsOf, AreResults}
+use Rattle.cluster_runner.specs.EditResults.{results_due, AreResultsOf, AreResults, IsRaw, AreRaw}
 use Rattle.cluster_runner.proofs.Led.{moved_keeps}
-use Rattle.cluster_runner.proofs.Wanting.{Calling, Resting, Saying, resting, rests_is, fits_calling, fits_saying, no_operation}
+use Rattle.cluster_runner.proofs.Holds.{RawActor, raw_with, raw_heard, raw_taken, raw_moved, raw_settled, raw_goes}
+use Rattle.cluster_runner.proofs.Sound.{or_false}
+use Rattle.cluster_runner.proofs.Wanting.{Calling, Resting, Saying, resting, rests_is, fits_calling, fits_saying, no_operation, raw_call, raw_rest}
 use Rattle.cluster_runner.proofs.WriterTurns.{IsBetween, Course, TurnOf, Turned, Begins, begun_turn, heard_turn, new_course, call_some, call_none}
 
 -- ## As many results as are due
-each_length : (t : Task) (text : List ℕ) → length (for_each t text) ≡ results_due t
+pub each_length : (t : Task) (text : List ℕ) → length (for_each t text) ≡ results_due t
 unfolding for_each
 each_length task.Takeover text = refl
 each_length (task.Log bodies) text = length-map bodies _
@@ -128,13 +130,18 @@ unfolding copied
 copied_live k n None a l none = record { kind = l.kind; course = l.course; doing = subst (λ (o : Option Task). IsDoing l.kind a.writer.phase (late_none ∷ []) o) (sym none) (between a l none) }
 copied_live k n (Some q) a l none = record { kind = l.kind; course = l.course; doing = l.doing }
 
-taken_live : (d : Deed) (a : Actor) → Resting a → Live a → Live (deed_taken d a)
+taken_live : (d : Deed) (a : Actor) → IsRaw d → a.holds ≡ None → Resting a → Live a → Live (deed_taken d a)
 unfolding deed_taken Begins
-taken_live (Does t) a r l =
-    begun_by t a (writer_begun a.writer t).writer (writer_begun a.writer t).begun l (doing_none a l r.call) r.says (begun_turn t a.writer l.course.other)
-taken_live (DoDrop k n) a r l = record { kind = l.kind; course = l.course; doing = l.doing }
-taken_live (DoMute k n) a r l = record { kind = l.kind; course = l.course; doing = l.doing }
-taken_live (DoLate k n) a r l = copied_live k n _ a l (doing_none a l r.call)
+taken_live (Does t) a raw e r l =
+    begun_by t a (writer_begun a.writer t).writer (writer_begun a.writer t).begun l (doing_none a l (raw_rest a e r)) r.says (begun_turn t a.writer l.course.other)
+taken_live (DoDrop k n) a raw e r l = record { kind = l.kind; course = l.course; doing = l.doing }
+taken_live (DoMute k n) a raw e r l = record { kind = l.kind; course = l.course; doing = l.doing }
+taken_live (DoLate k n) a raw e r l = copied_live k n _ a l (doing_none a l (raw_rest a e r))
+taken_live (Submits es) a raw e r l = absurd raw
+taken_live (Trims extra) a raw e r l = absurd raw
+taken_live DoTail a raw e r l = absurd raw
+taken_live Saves a raw e r l = absurd raw
+taken_live Reloads a raw e r l = absurd raw
 
 -- what it now owes is what the deed's results are
 owes_task : (t : Task) (a : Actor) (w : WriterView) (b : Begun) (ds : List Deed) (texts : List (List ℕ)) → a.doing ≡ None → a.says ≡ [] → Owes (task_begun t w a b).says (task_begun t w a b).doing ds texts
@@ -191,63 +198,82 @@ owes_copy k n None a ds texts none quiet h =
       are_results = (late_none ∷ [], h.rest, h.all ∙ ap (λ (x : List (List ℕ)). late_none ∷ (x ++ h.rest)) empty, omega arith, h.are_results);
     }
 
-owes_deed : (d : Deed) (ds : List Deed) (a : Actor) (texts : List (List ℕ)) → Resting a → a.doing ≡ None → Owes (deed_taken d a).says (deed_taken d a).doing ds texts → Owes [] None (d ∷ ds) texts
+owes_deed : (d : Deed) (ds : List Deed) (a : Actor) (texts : List (List ℕ)) → IsRaw d → Resting a → a.doing ≡ None → Owes (deed_taken d a).says (deed_taken d a).doing ds texts → Owes [] None (d ∷ ds) texts
 unfolding deed_taken
-owes_deed (Does t) ds a texts r none h = owes_task t a (writer_begun a.writer t).writer (writer_begun a.writer t).begun ds texts none r.says h
-owes_deed (DoDrop k n) ds a texts r none h = owes_same a (DoDrop k n) ds texts refl none r.says h
-owes_deed (DoMute k n) ds a texts r none h = owes_same a (DoMute k n) ds texts refl none r.says h
-owes_deed (DoLate k n) ds a texts r none h = owes_copy k n _ a ds texts none r.says h
+owes_deed (Does t) ds a texts raw r none h = owes_task t a (writer_begun a.writer t).writer (writer_begun a.writer t).begun ds texts none r.says h
+owes_deed (DoDrop k n) ds a texts raw r none h = owes_same a (DoDrop k n) ds texts refl none r.says h
+owes_deed (DoMute k n) ds a texts raw r none h = owes_same a (DoMute k n) ds texts refl none r.says h
+owes_deed (DoLate k n) ds a texts raw r none h = owes_copy k n _ a ds texts none r.says h
+owes_deed (Submits es) ds a texts raw r none h = absurd raw
+owes_deed (Trims extra) ds a texts raw r none h = absurd raw
+owes_deed DoTail ds a texts raw r none h = absurd raw
+owes_deed Saves ds a texts raw r none h = absurd raw
+owes_deed Reloads ds a texts raw r none h = absurd raw
 
 along : (s t : List (List ℕ)) (d e : Option Task) (ds : List Deed) (texts : List (List ℕ)) → s ≡ t → d ≡ e → Owes s d ds texts → Owes t e ds texts
 along s t d e ds texts x y h = subst (λ (z : Option Task). Owes t z ds texts) y (subst (λ (z : List (List ℕ)). Owes z d ds texts) x h)
 
 -- ## Deeds that are taken
-settled_by : (b : Bool) (d : Deed) (ds : List Deed) (a : Actor) → is_wanting (wants a) ≡ b → Live a → (Live (deed_taken d a) → Live (settled ds (deed_taken d a))) → Live (cond b (record a { todo = d ∷ ds }) (settled ds (deed_taken d a)))
-settled_by true d ds a is l go = record { kind = l.kind; course = l.course; doing = l.doing }
-settled_by false d ds a is l go = go (taken_live d a (resting a is) l)
+rested : (a : Actor) → (is_wanting (wants a) || is_broken a) ≡ false → Resting a
+rested a is = resting a (or_false (is_wanting (wants a)) (is_broken a) is)
 
-settled_live : (ds : List Deed) (a : Actor) → Live a → Live (settled ds a)
+settled_by : (b : Bool) (d : Deed) (ds : List Deed) (a : Actor) → (is_wanting (wants a) || is_broken a) ≡ b → IsRaw d → a.holds ≡ None → Live a
+    → (Live (deed_taken d a) → Live (settled ds (deed_taken d a))) → Live (cond b (record a { todo = d ∷ ds }) (settled ds (deed_taken d a)))
+settled_by true d ds a is raw e l go = record { kind = l.kind; course = l.course; doing = l.doing }
+settled_by false d ds a is raw e l go = go (taken_live d a raw e (rested a is) l)
+
+settled_live : (ds : List Deed) (a : Actor) → AreRaw ds → a.holds ≡ None → Live a → Live (settled ds a)
 unfolding settled
-settled_live [] a l = record { kind = l.kind; course = l.course; doing = l.doing }
-settled_live (d ∷ ds) a l = settled_by (is_wanting (wants a)) d ds a refl l (settled_live ds (deed_taken d a))
+settled_live [] a raw e l = record { kind = l.kind; course = l.course; doing = l.doing }
+settled_live (d ∷ ds) a raw e l = settled_by (is_wanting (wants a) || is_broken a) d ds a refl raw.0 e l (settled_live ds (deed_taken d a) raw.1 (raw_taken d a raw.0 ∙ e))
 
-owes_by : (b : Bool) (d : Deed) (ds : List Deed) (a : Actor) (texts : List (List ℕ)) → is_wanting (wants a) ≡ b → Live a
+owes_by : (b : Bool) (d : Deed) (ds : List Deed) (a : Actor) (texts : List (List ℕ)) → (is_wanting (wants a) || is_broken a) ≡ b → IsRaw d → a.holds ≡ None → Live a
     → (Live (deed_taken d a) → Owes (settled ds (deed_taken d a)).says (settled ds (deed_taken d a)).doing (settled ds (deed_taken d a)).todo texts → Owes (deed_taken d a).says (deed_taken d a).doing ds texts)
     → Owes (cond b (record a { todo = d ∷ ds }) (settled ds (deed_taken d a))).says (cond b (record a { todo = d ∷ ds }) (settled ds (deed_taken d a))).doing (cond b (record a { todo = d ∷ ds }) (settled ds (deed_taken d a))).todo texts
     → Owes a.says a.doing (d ∷ ds) texts
-owes_by true d ds a texts is l go h = h
-owes_by false d ds a texts is l go h =
-    let r : Resting a = resting a is in
-    let none : a.doing ≡ None = doing_none a l r.call in
-    along [] a.says None a.doing (d ∷ ds) texts (sym r.says) (sym none) (owes_deed d ds a texts r none (go (taken_live d a r l) h))
+owes_by true d ds a texts is raw e l go h = h
+owes_by false d ds a texts is raw e l go h =
+    let r : Resting a = rested a is in
+    let none : a.doing ≡ None = doing_none a l (raw_rest a e r) in
+    along [] a.says None a.doing (d ∷ ds) texts (sym r.says) (sym none) (owes_deed d ds a texts raw r none (go (taken_live d a raw e r l) h))
 
-settled_owes : (ds : List Deed) (a : Actor) (texts : List (List ℕ)) → Live a → Owes (settled ds a).says (settled ds a).doing (settled ds a).todo texts → Owes a.says a.doing ds texts
+settled_owes : (ds : List Deed) (a : Actor) (texts : List (List ℕ)) → AreRaw ds → a.holds ≡ None → Live a → Owes (settled ds a).says (settled ds a).doing (settled ds a).todo texts → Owes a.says a.doing ds texts
 unfolding settled
-settled_owes [] a texts l h = h
-settled_owes (d ∷ ds) a texts l h = owes_by (is_wanting (wants a)) d ds a texts refl l (settled_owes ds (deed_taken d a) texts) h
+settled_owes [] a texts raw e l h = h
+settled_owes (d ∷ ds) a texts raw e l h =
+    owes_by (is_wanting (wants a) || is_broken a) d ds a texts refl raw.0 e l (settled_owes ds (deed_taken d a) texts raw.1 (raw_taken d a raw.0 ∙ e)) h
 
 todo_wants : (a : Actor) (x : List Deed) → wants (record a { todo = x }) ≡ wants a
 unfolding wants
 todo_wants a x = refl
 
-done_by : (b : Bool) (d : Deed) (ds : List Deed) (a : Actor) → is_wanting (wants a) ≡ b → (is_wanting (wants (settled ds (deed_taken d a))) ≡ false → (settled ds (deed_taken d a)).todo ≡ [])
+raw_whole : (a : Actor) → a.holds ≡ None → is_broken a ≡ false
+unfolding is_broken
+raw_whole a e = ap is_broken_holding e
+
+neither : (b c : Bool) → (b || c) ≡ true → b ≡ false → c ≡ false → ⊥
+neither true c is e f = absurd (cc e)
+neither false c is e f = absurd (cc (is, f))
+
+done_by : (b : Bool) (d : Deed) (ds : List Deed) (a : Actor) → (is_wanting (wants a) || is_broken a) ≡ b → a.holds ≡ None
+    → (is_wanting (wants (settled ds (deed_taken d a))) ≡ false → (settled ds (deed_taken d a)).todo ≡ [])
     → is_wanting (wants (cond b (record a { todo = d ∷ ds }) (settled ds (deed_taken d a)))) ≡ false → (cond b (record a { todo = d ∷ ds }) (settled ds (deed_taken d a))).todo ≡ []
-done_by true d ds a is go e = let f : is_wanting (wants a) ≡ false = ap is_wanting (sym (todo_wants a (d ∷ ds))) ∙ e in absurd (cc (is, f))
-done_by false d ds a is go e = go e
+done_by true d ds a is n go e = absurd (neither (is_wanting (wants a)) (is_broken a) is (ap is_wanting (sym (todo_wants a (d ∷ ds))) ∙ e) (raw_whole a n))
+done_by false d ds a is n go e = go e
 
 -- one that wants nothing has nothing to do
-settled_done : (ds : List Deed) (a : Actor) → is_wanting (wants (settled ds a)) ≡ false → (settled ds a).todo ≡ []
+settled_done : (ds : List Deed) (a : Actor) → AreRaw ds → a.holds ≡ None → is_wanting (wants (settled ds a)) ≡ false → (settled ds a).todo ≡ []
 unfolding settled
-settled_done [] a e = refl
-settled_done (d ∷ ds) a e = done_by (is_wanting (wants a)) d ds a refl (settled_done ds (deed_taken d a)) e
+settled_done [] a raw n e = refl
+settled_done (d ∷ ds) a raw n e = done_by (is_wanting (wants a) || is_broken a) d ds a refl n (settled_done ds (deed_taken d a) raw.1 (raw_taken d a raw.0 ∙ n)) e
 
 -- ## A line of the record
-turn_live : (a : Actor) (t : Task) (k : Aim) (x : Turn) → aim_of t ≡ k → a.says ≡ [] → a.doing ≡ Some t → Course k a.writer → TurnOf k a.writer.phase x → Live (turn_taken x (Some t) a)
-unfolding turn_taken
-turn_live a t k turn.Going e quiet is c h = record { kind = k; course = c; doing = subst (λ (o : Option Task). IsDoing k a.writer.phase a.says o) (sym is) (e, h, quiet) }
-turn_live a t k (turn.Done o) e quiet is c h = record { kind = k; course = c; doing = h.1 }
-turn_live a t k turn.Aborted e quiet is c h = record { kind = k; course = c; doing = h }
-turn_live a t k (turn.EpochLimit n) e quiet is c h = record { kind = k; course = c; doing = h.1 }
+turn_live : (a : Actor) (t : Task) (k : Aim) (x : Turn) → a.holds ≡ None → aim_of t ≡ k → a.says ≡ [] → a.doing ≡ Some t → Course k a.writer → TurnOf k a.writer.phase x → Live (turn_taken x (Some t) a)
+unfolding turn_taken turn_with
+turn_live a t k turn.Going n e quiet is c h = record { kind = k; course = c; doing = subst (λ (o : Option Task). IsDoing k a.writer.phase a.says o) (sym is) (e, h, quiet) }
+turn_live a t k (turn.Done o) n e quiet is c h = subst Live (sym (raw_with a.holds (turn.Done o) t (record a { doing = None }) n)) (record { kind = k; course = c; doing = h.1 })
+turn_live a t k turn.Aborted n e quiet is c h = subst Live (sym (raw_with a.holds turn.Aborted t (record a { doing = None }) n)) (record { kind = k; course = c; doing = h })
+turn_live a t k (turn.EpochLimit m) n e quiet is c h = subst Live (sym (raw_with a.holds (turn.EpochLimit m) t (record a { doing = None }) n)) (record { kind = k; course = c; doing = h.1 })
 
 results_length : (t : Task) (k : Aim) (p : Phase) (x : Turn) (causes : List Cause) → aim_of t ≡ k → TurnOf k p x → x ≢ turn.Going → length (results_of t x causes) ≡ results_due t
 unfolding results_of
@@ -268,13 +294,24 @@ ended_owes a t texts says long quiet is h =
       are_results = h.are_results;
     }
 
-turn_owes : (a : Actor) (t : Task) (k : Aim) (x : Turn) (texts : List (List ℕ)) → aim_of t ≡ k → a.says ≡ [] → a.doing ≡ Some t → TurnOf k a.writer.phase x
+-- without names
+raw_owes : (a : Actor) (t : Task) (x : Turn) (todo : List Deed) (texts : List (List ℕ)) → a.holds ≡ None
+    → Owes (turn_with a.holds x t a).says (turn_with a.holds x t a).doing todo texts → Owes (turn_with None x t a).says (turn_with None x t a).doing todo texts
+raw_owes a t x todo texts n h = subst (λ (b : Actor). Owes b.says b.doing todo texts) (raw_with a.holds x t a n) h
+
+turn_owes : (a : Actor) (t : Task) (k : Aim) (x : Turn) (texts : List (List ℕ)) → a.holds ≡ None → aim_of t ≡ k → a.says ≡ [] → a.doing ≡ Some t → TurnOf k a.writer.phase x
     → Owes (turn_taken x (Some t) a).says (turn_taken x (Some t) a).doing a.todo texts → Owes a.says a.doing a.todo texts
-unfolding turn_taken
-turn_owes a t k turn.Going texts e quiet is h o = o
-turn_owes a t k (turn.Done z) texts e quiet is h o = ended_owes a t texts (results_of t (turn.Done z) a.writer.causes) (results_length t k a.writer.phase (turn.Done z) a.writer.causes e h (λ (f : turn.Done z ≡ turn.Going). cc f)) quiet is o
-turn_owes a t k turn.Aborted texts e quiet is h o = ended_owes a t texts (results_of t turn.Aborted a.writer.causes) (results_length t k a.writer.phase turn.Aborted a.writer.causes e h (λ (f : turn.Aborted ≡ turn.Going). cc f)) quiet is o
-turn_owes a t k (turn.EpochLimit n) texts e quiet is h o = ended_owes a t texts (results_of t (turn.EpochLimit n) a.writer.causes) (results_length t k a.writer.phase (turn.EpochLimit n) a.writer.causes e h (λ (f : turn.EpochLimit n ≡ turn.Going). cc f)) quiet is o
+unfolding turn_taken turn_with
+turn_owes a t k turn.Going texts n e quiet is h o = o
+turn_owes a t k (turn.Done z) texts n e quiet is h o =
+    ended_owes a t texts (results_of t (turn.Done z) a.writer.causes) (results_length t k a.writer.phase (turn.Done z) a.writer.causes e h (λ (f : turn.Done z ≡ turn.Going). cc f)) quiet is
+    (raw_owes (record a { doing = None }) t (turn.Done z) a.todo texts n o)
+turn_owes a t k turn.Aborted texts n e quiet is h o =
+    ended_owes a t texts (results_of t turn.Aborted a.writer.causes) (results_length t k a.writer.phase turn.Aborted a.writer.causes e h (λ (f : turn.Aborted ≡ turn.Going). cc f)) quiet is
+    (raw_owes (record a { doing = None }) t turn.Aborted a.todo texts n o)
+turn_owes a t k (turn.EpochLimit m) texts n e quiet is h o =
+    ended_owes a t texts (results_of t (turn.EpochLimit m) a.writer.causes) (results_length t k a.writer.phase (turn.EpochLimit m) a.writer.causes e h (λ (f : turn.EpochLimit m ≡ turn.Going). cc f)) quiet is
+    (raw_owes (record a { doing = None }) t (turn.EpochLimit m) a.todo texts n o)
 
 task_of : (o : Option Task) → (k : Aim) (p : Phase) (says : List (List ℕ)) → IsDoing k p says o → IsInRound p → (t : Task) × (o ≡ Some t)
 task_of None k p says h i = absurd (apart p h i)
@@ -308,9 +345,9 @@ record Calls (a : Actor) (j : Judged) : Type 0 where
   quiet : a.says ≡ []
   turned : Turned kind j
 
-calls : (a : Actor) (k : ℕ) (q : Request) (t : Told) → Live a → Calling k q a → Calls a (writer_heard a.writer k (heard_of t))
-calls a k q t l c =
-    let i : IsInRound a.writer.phase = in_round a.writer (k, q) c.call in
+calls : (a : Actor) (k : ℕ) (q : Request) (t : Told) → a.holds ≡ None → Live a → Calling k q a → Calls a (writer_heard a.writer k (heard_of t))
+calls a k q t n l c =
+    let i : IsInRound a.writer.phase = in_round a.writer (k, q) (raw_call a k q n c) in
     let x : (t : Task) × (a.doing ≡ Some t) = task_of a.doing l.kind a.writer.phase a.says l.doing i in
     let d : IsDoing l.kind a.writer.phase a.says (Some x.0) = subst (λ (o : Option Task). IsDoing l.kind a.writer.phase a.says o) x.1 l.doing in
     record { task = x.0; kind = l.kind; doing = x.1; aims = d.0; quiet = c.says; turned = heard_turn l.kind a.writer k (heard_of t) l.course i }
@@ -319,28 +356,28 @@ calls a k q t l c =
 told : Actor → List Record → Judged → Actor
 told a past j = record a { past = past; writer = j.writer }
 
-moved_call : (a : Actor) (k : ℕ) (q : Request) (t : Told) (task : Task) → a.doing ≡ Some task
+moved_call : (a : Actor) (k : ℕ) (q : Request) (t : Told) (task : Task) → a.holds ≡ None → a.doing ≡ Some task
     → moved_on (Call k q t) (record a { past = a.past ++ Call k q t ∷ [] }) ≡ turn_taken (writer_heard a.writer k (heard_of t)).turn (Some task) (told a (a.past ++ Call k q t ∷ []) (writer_heard a.writer k (heard_of t)))
 unfolding moved_on told
-moved_call a k q t task e =
+moved_call a k q t task n e =
     let j : Judged = writer_heard a.writer k (heard_of t) in
-    ap (λ (o : Option Task). turn_taken j.turn o (record a { past = a.past ++ Call k q t ∷ []; writer = j.writer })) e
+    raw_heard a.holds k (heard_of t) (record a { past = a.past ++ Call k q t ∷ [] }) n ∙ ap (λ (o : Option Task). turn_taken j.turn o (record a { past = a.past ++ Call k q t ∷ []; writer = j.writer })) e
 
-call_live : (a : Actor) (k : ℕ) (q : Request) (t : Told) → Live a → Calling k q a → Live (moved_on (Call k q t) (record a { past = a.past ++ Call k q t ∷ [] }))
+call_live : (a : Actor) (k : ℕ) (q : Request) (t : Told) → a.holds ≡ None → Live a → Calling k q a → Live (moved_on (Call k q t) (record a { past = a.past ++ Call k q t ∷ [] }))
 unfolding told
-call_live a k q t l c =
+call_live a k q t n l c =
     let j : Judged = writer_heard a.writer k (heard_of t) in
-    let x : Calls a j = calls a k q t l c in
-    subst Live (sym (moved_call a k q t x.task x.doing)) (turn_live (told a (a.past ++ Call k q t ∷ []) j) x.task x.kind j.turn x.aims x.quiet x.doing x.turned.course x.turned.turn)
+    let x : Calls a j = calls a k q t n l c in
+    subst Live (sym (moved_call a k q t x.task n x.doing)) (turn_live (told a (a.past ++ Call k q t ∷ []) j) x.task x.kind j.turn n x.aims x.quiet x.doing x.turned.course x.turned.turn)
 
-call_owes : (a : Actor) (k : ℕ) (q : Request) (t : Told) (texts : List (List ℕ)) → Live a → Calling k q a
+call_owes : (a : Actor) (k : ℕ) (q : Request) (t : Told) (texts : List (List ℕ)) → a.holds ≡ None → Live a → Calling k q a
     → Owes (moved_on (Call k q t) (record a { past = a.past ++ Call k q t ∷ [] })).says (moved_on (Call k q t) (record a { past = a.past ++ Call k q t ∷ [] })).doing a.todo texts → Owes a.says a.doing a.todo texts
 unfolding told
-call_owes a k q t texts l c h =
+call_owes a k q t texts n l c h =
     let j : Judged = writer_heard a.writer k (heard_of t) in
-    let x : Calls a j = calls a k q t l c in
-    turn_owes (told a (a.past ++ Call k q t ∷ []) j) x.task x.kind j.turn texts x.aims x.quiet x.doing x.turned.turn
-    (subst (λ (b : Actor). Owes b.says b.doing a.todo texts) (moved_call a k q t x.task x.doing) h)
+    let x : Calls a j = calls a k q t n l c in
+    turn_owes (told a (a.past ++ Call k q t ∷ []) j) x.task x.kind j.turn texts n x.aims x.quiet x.doing x.turned.turn
+    (subst (λ (b : Actor). Owes b.says b.doing a.todo texts) (moved_call a k q t x.task n x.doing) h)
 
 said_live : (a : Actor) (x : List ℕ) (past : List Record) → Live a → Saying x a → Live (record a { past = past; says = drop 1 a.says })
 said_live a x past l s = record { kind = l.kind; course = l.course; doing = by a.doing l.doing }
@@ -361,57 +398,68 @@ said_owes a x texts s h =
     }
 
 -- ## Along a record
-moved_live : (a : Actor) (r : Record) → Live a → Fits (wants a) r → Live (moved_on r (record a { past = a.past ++ r ∷ [] }))
-moved_live a (Call k q t) l f = call_live a k q t l (fits_calling a k q t f)
-moved_live a (Late k q) l f = unfold moved_on in record { kind = l.kind; course = l.course; doing = l.doing }
-moved_live a (Operator k ask d) l f = absurd (no_operation (wants a) k ask d f)
-moved_live a (Outcome x) l f = unfold moved_on in said_live a x (a.past ++ Outcome x ∷ []) l (fits_saying a x f)
+moved_live : (a : Actor) (r : Record) → a.holds ≡ None → Live a → Fits (wants a) r → Live (moved_on r (record a { past = a.past ++ r ∷ [] }))
+moved_live a (Call k q t) n l f = call_live a k q t n l (fits_calling a k q t f)
+moved_live a (Late k q) n l f = unfold moved_on in record { kind = l.kind; course = l.course; doing = l.doing }
+moved_live a (Operator k ask d) n l f = absurd (no_operation (wants a) k ask d f)
+moved_live a (Outcome x) n l f = unfold moved_on in said_live a x (a.past ++ Outcome x ∷ []) l (fits_saying a x f)
 
-goes_live : (a : Actor) (r : Record) → Live a → Fits (wants a) r → Live (goes_on a r)
+-- what is still to do once a line was heard
+raw_todo : (a : Actor) (r : Record) → RawActor a → AreRaw (moved_on r (record a { past = a.past ++ r ∷ [] })).todo
+raw_todo a r raw = subst AreRaw (sym (moved_keeps r (record a { past = a.past ++ r ∷ [] })).0) raw.deeds
+
+goes_live : (a : Actor) (r : Record) → RawActor a → Live a → Fits (wants a) r → Live (goes_on a r)
 unfolding goes_on resettled
-goes_live a r l f = let b : Actor = moved_on r (record a { past = a.past ++ r ∷ [] }) in settled_live b.todo b (moved_live a r l f)
+goes_live a r raw l f =
+    let b : Actor = moved_on r (record a { past = a.past ++ r ∷ [] }) in
+    settled_live b.todo b (raw_todo a r raw) (raw_moved r (record a { past = a.past ++ r ∷ [] }) raw.holds) (moved_live a r raw.holds l f)
 
-moved_owes : (a : Actor) (r : Record) (rs : List Record) → Live a → Fits (wants a) r
+moved_owes : (a : Actor) (r : Record) (rs : List Record) → a.holds ≡ None → Live a → Fits (wants a) r
     → Owes (moved_on r (record a { past = a.past ++ r ∷ [] })).says (moved_on r (record a { past = a.past ++ r ∷ [] })).doing a.todo (results_in rs) → Owes a.says a.doing a.todo (results_in (r ∷ rs))
 unfolding results_in
-moved_owes a (Call k q t) rs l f h = call_owes a k q t (results_in rs) l (fits_calling a k q t f) h
-moved_owes a (Late k q) rs l f h = unfold moved_on in h
-moved_owes a (Operator k ask d) rs l f h = absurd (no_operation (wants a) k ask d f)
-moved_owes a (Outcome x) rs l f h = said_owes a x (results_in rs) (fits_saying a x f) (unfold moved_on in h)
+moved_owes a (Call k q t) rs n l f h = call_owes a k q t (results_in rs) n l (fits_calling a k q t f) h
+moved_owes a (Late k q) rs n l f h = unfold moved_on in h
+moved_owes a (Operator k ask d) rs n l f h = absurd (no_operation (wants a) k ask d f)
+moved_owes a (Outcome x) rs n l f h = said_owes a x (results_in rs) (fits_saying a x f) (unfold moved_on in h)
 
-goes_owes : (a : Actor) (r : Record) (rs : List Record) → Live a → Fits (wants a) r → Owes (goes_on a r).says (goes_on a r).doing (goes_on a r).todo (results_in rs) → Owes a.says a.doing a.todo (results_in (r ∷ rs))
+goes_owes : (a : Actor) (r : Record) (rs : List Record) → RawActor a → Live a → Fits (wants a) r → Owes (goes_on a r).says (goes_on a r).doing (goes_on a r).todo (results_in rs) → Owes a.says a.doing a.todo (results_in (r ∷ rs))
 unfolding goes_on resettled
-goes_owes a r rs l f h =
-    let b : Actor = moved_on r (record a { past = a.past ++ r ∷ [] }) in
-    moved_owes a r rs l f (subst (λ (ds : List Deed). Owes b.says b.doing ds (results_in rs)) (moved_keeps r (record a { past = a.past ++ r ∷ [] })).0
-    (settled_owes b.todo b (results_in rs) (moved_live a r l f) h))
+goes_owes a r rs raw l f h =
+    let old : Actor = record a { past = a.past ++ r ∷ [] } in
+    let b : Actor = moved_on r old in
+    moved_owes a r rs raw.holds l f (subst (λ (ds : List Deed). Owes b.says b.doing ds (results_in rs)) (moved_keeps r old).0
+    (settled_owes b.todo b (results_in rs) (raw_todo a r raw) (raw_moved r old raw.holds) (moved_live a r raw.holds l f) h))
 
-goes_done : (a : Actor) (r : Record) → is_wanting (wants (goes_on a r)) ≡ false → (goes_on a r).todo ≡ []
+goes_done : (a : Actor) (r : Record) → RawActor a → is_wanting (wants (goes_on a r)) ≡ false → (goes_on a r).todo ≡ []
 unfolding goes_on resettled
-goes_done a r e = let b : Actor = moved_on r (record a { past = a.past ++ r ∷ [] }) in settled_done b.todo b e
+goes_done a r raw e =
+    let old : Actor = record a { past = a.past ++ r ∷ [] } in
+    let b : Actor = moved_on r old in settled_done b.todo b (raw_todo a r raw) (raw_moved r old raw.holds) e
 
-led_owes : (rs : List Record) (a : Actor) → Live a → (is_wanting (wants a) ≡ false → a.todo ≡ []) → IsLed a rs → wants (actor_after a rs) ≡ Rests → Owes a.says a.doing a.todo (results_in rs)
+led_owes : (rs : List Record) (a : Actor) → RawActor a → Live a → (is_wanting (wants a) ≡ false → a.todo ≡ []) → IsLed a rs → wants (actor_after a rs) ≡ Rests → Owes a.says a.doing a.todo (results_in rs)
 unfolding IsLed actor_after results_in AreResults
-led_owes [] a l done h e =
+led_owes [] a raw l done h e =
     let off : is_wanting (wants a) ≡ false = rests_is (wants a) e in
     let r : Resting a = resting a off in
     record {
       due = [];
       rest = [];
       all = ap (λ (x : List (List ℕ)). x ++ []) (sym r.says);
-      is_due = subst (λ (o : Option Task). IsDue o []) (sym (doing_none a l r.call)) refl;
+      is_due = subst (λ (o : Option Task). IsDue o []) (sym (doing_none a l (raw_rest a raw.holds r))) refl;
       are_results = subst (λ (ds : List Deed). AreResults ds []) (sym (done off)) refl;
     }
-led_owes (r ∷ rs) a l done h e = goes_owes a r rs l h.0 (led_owes rs (goes_on a r) (goes_live a r l h.0) (goes_done a r) h.1 e)
+led_owes (r ∷ rs) a raw l done h e = goes_owes a r rs raw l h.0 (led_owes rs (goes_on a r) (raw_goes a r raw) (goes_live a r raw l h.0) (goes_done a r raw) h.1 e)
 
-fresh_live : (n : ℕ) → 1 ≤ n → Live (fresh_actor n)
+fresh_live : (n : ℕ) → 1 ≤ n → Live (fresh_actor false n)
 unfolding fresh_actor
 fresh_live n h = record { kind = aim.Takeover; course = new_course n h; doing = tt }
 
-pub each_result : (n : ℕ) (ds : List Deed) (rs : List Record) → 1 ≤ n → IsLed (settled ds (fresh_actor n)) rs → wants (actor_after (settled ds (fresh_actor n)) rs) ≡ Rests → AreResults ds (results_in rs)
+pub each_result : (n : ℕ) (ds : List Deed) (rs : List Record) → 1 ≤ n → AreRaw ds → IsLed (settled ds (fresh_actor false n)) rs → wants (actor_after (settled ds (fresh_actor false n)) rs) ≡ Rests
+    → AreResults ds (results_in rs)
 unfolding fresh_actor
-each_result n ds rs h led e =
+each_result n ds rs h raw led e =
+    let new : Actor = fresh_actor false n in
     let o : Owes [] None ds (results_in rs) =
-    settled_owes ds (fresh_actor n) (results_in rs) (fresh_live n h)
-    (led_owes rs (settled ds (fresh_actor n)) (settled_live ds (fresh_actor n) (fresh_live n h)) (settled_done ds (fresh_actor n)) led e) in
+    settled_owes ds new (results_in rs) raw refl (fresh_live n h)
+    (led_owes rs (settled ds new) (raw_settled ds new raw refl) (settled_live ds new raw refl (fresh_live n h)) (settled_done ds new raw refl) led e) in
     subst (AreResults ds) (sym (o.all ∙ ap (λ (x : List (List ℕ)). x ++ o.rest) o.is_due)) o.are_results

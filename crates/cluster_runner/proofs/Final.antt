@@ -1,6 +1,6 @@
 -- The mesh of a play agrees, and follows its script; and the moving entries of its trace are a run.
 use Rattle.std.proofs.Common.{◌≡◌, ℕ, zero, suc, ◌+◌, ◌<◌, ◌≤◌, List, [], ◌∷◌, ◌++◌, true, refl, sym, ap, ◌∙◌, subst, arith, length, get_or, map, Contains, ◌⊎◌, inl, inr}
-use Rattle.std.specs.Prelude.{Option, Some, None, ◌&&◌, is_none}
+use Rattle.std.specs.Prelude.{Option, Some, None, ◌&&◌, is_none, slice_get, Bool}
 use Rattle.std.proofs.lemmas.List.{get_or_append_left, length-append, length-map}
 use Rattle.std.proofs.Math.Seq.{get_or-append_seam}
 use Rattle.journal_core.specs.declared.request.Request.{Request}
@@ -10,24 +10,25 @@ use Rattle.node_world.specs.declared.mark.Mark.{Mark}
 use Rattle.node_world.specs.Cell.{fresh_cell, IsLocalRun}
 use Rattle.node_world.specs.Moving.{Placed, moving_of}
 use Rattle.node_world.specs.Run.{IsRun}
-use Rattle.mesh.specs.declared.end.End.{End}
+use Rattle.ns_tree.specs.declared.end.End.{End}
 use Rattle.mesh.specs.Marks.{IsMarked, AreCopied}
-use Rattle.mesh.specs.Makers.{IsOfTasks, IsOperators}
+use Rattle.mesh.specs.Makers.{IsOfChores, IsOperators}
 use Rattle.mesh.specs.Matches.{reached, lines_of, AreSame, AreWithin, CallersWithin}
+use Rattle.mesh.specs.Order.{placed_at, entries_at}
 use Rattle.mesh.specs.Agree.{Agrees, operator_of, history_at, record_of, plan_of}
-use Rattle.cluster_runner.specs.Lines.{Line, declared, names_in, deeds_of, operations_in, ArePlayable}
+use Rattle.cluster_runner.specs.Lines.{Line, declared, names_in, deeds_of, operations_in, ArePlayable, HasNodes, Declares, Acts, Operates}
 use Rattle.cluster_runner.specs.Actor.{Actor, fresh_actor, wants}
-use Rattle.cluster_runner.specs.Plays.{Play, play_steps, play_begins, has_ended, no_lines, actor_at, history_of, histories_from, mesh_of, ends_of, IsPlay}
+use Rattle.cluster_runner.specs.Plays.{Play, play_steps, play_begins, has_ended, no_lines, actor_at, history_of, histories_from, mesh_of, last_of, ends_from, ends_of, IsPlay}
 use Rattle.cluster_runner.specs.Follows.{Follows, AreOperations, FollowsLines}
 use Rattle.mesh.proofs.Lists.{Alike, alike, append_none}
 use Rattle.cluster_runner.proofs.Wanting.{Resting, resting, rests_is}
-use Rattle.cluster_runner.proofs.Makes.{lines_made}
+use Rattle.cluster_runner.proofs.ChoresMade.{chores_made}
 use Rattle.cluster_runner.proofs.Goes.{Goes, GoesBy, all_copied}
 use Rattle.mesh.proofs.Tied.{Tied, callers_within}
 use Rattle.mesh.specs.Traces.{InStep, IsInMesh, IsTrace}
 use Rattle.mesh.proofs.InStep.{tied_of}
 use Rattle.cluster_runner.proofs.Links.{IsOf}
-use Rattle.mesh.proofs.Traced.{trace_runs}
+use Rattle.mesh.proofs.Traced.{trace_runs, trace_at_nodes}
 use Rattle.cluster_runner.proofs.Parts.{ActorOk}
 use Rattle.cluster_runner.proofs.Playing.{Holds}
 use Rattle.cluster_runner.proofs.Taking.{begins_hold, steps_hold}
@@ -66,7 +67,7 @@ record_is : (p : Play) (c : ℕ) → c < length p.actors → record_of (mesh_of 
 unfolding mesh_of actor_at
 record_is p c below =
     get_or_append_left (map (λ (a : Actor). a.past) p.actors) (p.operated ∷ []) [] c (omega (arith, below, length-map p.actors (λ (a : Actor). a.past)))
-    ∙ pasts_at p.actors c (fresh_actor p.nodes) below
+    ∙ pasts_at p.actors c (fresh_actor p.named p.nodes) below
 
 last_is : (p : Play) (c : ℕ) → c ≡ length p.actors → record_of (mesh_of p) c ≡ p.operated
 unfolding mesh_of
@@ -76,7 +77,7 @@ last_is p c e =
 
 plan_is : (p : Play) (c : ℕ) → c < length p.actors → plan_of (mesh_of p) c ≡ (actor_at p c).marks
 unfolding mesh_of actor_at
-plan_is p c below = marks_at p.actors c (fresh_actor p.nodes) below
+plan_is p c below = marks_at p.actors c (fresh_actor p.named p.nodes) below
 
 nodes_are : (p : Play) → (mesh_of p).nodes ≡ p.nodes
 unfolding mesh_of
@@ -108,7 +109,32 @@ ended_turn p e = by p.lines p.turn e
     by [] (Some a) h = absurd (cc h)
     by (l ∷ ls) (Some a) h = absurd (cc h)
 
-module _ (n : ℕ) (lines : List Line) (p : Play) (h : Holds n lines p) (e : has_ended p ≡ true) where
+-- ## Its ends
+names_count : (ls : List Line) → length (names_in ls) ≡ declared ls
+unfolding names_in declared
+names_count [] = refl
+names_count (Declares x ∷ ls) = ap suc (names_count ls)
+names_count (Acts a d ∷ ls) = names_count ls
+names_count (Operates k ask ∷ ls) = names_count ls
+
+ends_names : (names : List (List ℕ)) (as_ : List Actor) → length names ≡ length as_ → map (λ (x : End). x.name) (ends_from names as_) ≡ names
+unfolding ends_from
+ends_names [] as_ same = refl
+ends_names (x ∷ names) [] same = absurd (omega (arith, same))
+ends_names (x ∷ names) (a ∷ as_) same = ap (λ (l : List (List ℕ)). x ∷ l) (ends_names names as_ (omega (arith, same)))
+
+end_at : (names : List (List ℕ)) (as_ : List Actor) (c : ℕ) (d : Actor) (x : End) → slice_get (ends_from names as_) c ≡ Some x → x.last ≡ last_of (get_or as_ c d).holds
+unfolding ends_from
+end_at [] as_ c d x e = absurd (cc e)
+end_at (name ∷ names) [] c d x e = absurd (cc e)
+end_at (name ∷ names) (a ∷ as_) zero d x e = let same : record { name = name; last = last_of a.holds } ≡ x = cc e in sym (ap (λ (y : End). y.last) same)
+end_at (name ∷ names) (a ∷ as_) (suc c) d x e = end_at names as_ c d x e
+
+-- the calls of each actor are those of some chores
+abbrev pub AreMade : Play → Type 0
+AreMade p = (c : ℕ) → c < length p.actors → IsOfChores p.nodes (actor_at p c).past
+
+module _ (named : Bool) (n : ℕ) (lines : List Line) (p : Play) (h : Holds named n lines p) (e : has_ended p ≡ true) where
   taken_is : lines ≡ h.taken
   taken_is = h.all ∙ (ap (λ (x : List Line). h.taken ++ x) (ended_lines p e) ∙ append_none h.taken)
 
@@ -118,7 +144,7 @@ module _ (n : ℕ) (lines : List Line) (p : Play) (h : Holds n lines p) (e : has
   below_is : (c : ℕ) → c < operator_of (mesh_of p) → c < length p.actors
   below_is c below = subst (λ (m : ℕ). c < m) (actors_are p) below
 
-  ok_of : (c : ℕ) → c < length p.actors → ActorOk p.nodes (deeds_of c h.taken) (actor_at p c)
+  ok_of : (c : ℕ) → c < length p.actors → ActorOk p.named p.nodes (deeds_of c h.taken) (actor_at p c)
   unfolding actor_at
   ok_of c below = h.actors.each c below
 
@@ -131,10 +157,10 @@ module _ (n : ℕ) (lines : List Line) (p : Play) (h : Holds n lines p) (e : has
   local_of : (i : ℕ) → i < (mesh_of p).nodes → IsLocalRun fresh_cell (history_at (mesh_of p) i)
   local_of i below = subst (λ (x : List HistoryLine). IsLocalRun fresh_cell x) (sym (history_is p i (node_below i below))) (h.cells.local i (node_below i below))
 
-  made_of : (c : ℕ) → c < operator_of (mesh_of p) → IsOfTasks (mesh_of p).nodes (record_of (mesh_of p) c)
-  made_of c below =
+  made_of : AreMade p → (c : ℕ) → c < operator_of (mesh_of p) → IsOfChores (mesh_of p).nodes (record_of (mesh_of p) c)
+  made_of made c below =
       let u : c < length p.actors = below_is c below in
-      subst (λ (m : ℕ). IsOfTasks m (record_of (mesh_of p) c)) (sym (nodes_are p)) (subst (λ (x : List Record). IsOfTasks p.nodes x) (sym (record_is p c u)) (lines_made p.nodes (deeds_of c h.taken) (actor_at p c).past (ok_of c u).deeds (ok_of c u).led))
+      subst (λ (m : ℕ). IsOfChores m (record_of (mesh_of p) c)) (sym (nodes_are p)) (subst (λ (x : List Record). IsOfChores p.nodes x) (sym (record_is p c u)) (made c u))
 
   step_by : (c : ℕ) → c ≤ length p.actors → Alike c (length p.actors) → InStep c (record_of (mesh_of p) c) p.trace
   unfolding Alike actor_at
@@ -184,8 +210,8 @@ module _ (n : ℕ) (lines : List Line) (p : Play) (h : Holds n lines p) (e : has
   callers_of i below = subst (λ (x : List HistoryLine). CallersWithin (operator_of (mesh_of p)) x) (sym (history_is p i (node_below i below)))
       (callers_within (operator_of (mesh_of p)) (i + 1) p.trace (λ x j. (line_within x j).caller))
 
-  agrees_of : Agrees (mesh_of p)
-  agrees_of = record {
+  agrees_of : AreMade p → Agrees (mesh_of p)
+  agrees_of made = record {
     lists = record {
       local = local_of;
       operated = subst IsOperators (sym (last_is p (operator_of (mesh_of p)) (actors_are p))) h.operated.theirs;
@@ -195,7 +221,7 @@ module _ (n : ℕ) (lines : List Line) (p : Play) (h : Holds n lines p) (e : has
       callers = callers_of;
       within = λ c v. subst (λ (m : ℕ). AreWithin m (record_of (mesh_of p) c)) (sym (nodes_are p)) (within_by c (subst (λ (m : ℕ). c ≤ m) (actors_are p) v) (alike c (length p.actors)));
     };
-    made = made_of;
+    made = made_of made;
     histories = count_is p ∙ sym (nodes_are p);
     records = records_are p ∙ ap (λ (x : ℕ). x + 1) (sym (actors_are p));
   }
@@ -203,35 +229,37 @@ module _ (n : ℕ) (lines : List Line) (p : Play) (h : Holds n lines p) (e : has
   traced_of : IsTrace (mesh_of p) p.trace
   traced_of = record { histories = λ i below. history_is p i (node_below i below); records = step_of; lines = line_within }
 
-  runs_of : IsRun n (moving_of p.trace)
-  runs_of = subst (λ (m : ℕ). IsRun m (moving_of p.trace)) (nodes_are p ∙ h.nodes) (trace_runs (mesh_of p) p.trace agrees_of traced_of)
+  runs_of : AreMade p → IsRun n (moving_of p.trace)
+  runs_of made = subst (λ (m : ℕ). IsRun m (moving_of p.trace)) (nodes_are p ∙ h.nodes) (trace_runs (mesh_of p) p.trace (agrees_of made) traced_of)
 
-  follows_of : (c : ℕ) → c < length p.actors → Follows p.nodes (deeds_of c h.taken) (actor_at p c).past (actor_at p c).marks
-  follows_of c u =
-      let ok : ActorOk p.nodes (deeds_of c h.taken) (actor_at p c) = ok_of c u in
+  in_order_of : AreMade p → (i : ℕ) → i < n → entries_at (i + 1) (moving_of p.trace) ≡ moving_of (placed_at (mesh_of p) i)
+  in_order_of made i below = trace_at_nodes (mesh_of p) p.trace (agrees_of made) traced_of i (subst (λ (m : ℕ). i < m) (sym (nodes_are p ∙ h.nodes)) below)
+
+  follows_of : (c : ℕ) (x : End) → c < length p.actors → slice_get (ends_of p) c ≡ Some x → Follows p.named p.nodes (deeds_of c h.taken) (actor_at p c).past (actor_at p c).marks x
+  unfolding ends_of actor_at
+  follows_of c x u f =
+      let ok : ActorOk p.named p.nodes (deeds_of c h.taken) (actor_at p c) = ok_of c u in
       record {
         led = ok.led;
-        ended = ap wants ok.is ∙ h.rests c u (λ (f : p.turn ≡ Some c). cc (f, ended_turn p e));
+        ended = ap wants ok.is ∙ h.rests c u (λ (g : p.turn ≡ Some c). cc (g, ended_turn p e));
         marks = ap (λ (a : Actor). a.marks) (sym ok.is);
+        end = end_at p.names p.actors c (fresh_actor p.named p.nodes) x f ∙ ap (λ (a : Actor). last_of a.holds) (sym ok.is);
       }
 
-  each_follows : (c : ℕ) → c < operator_of (mesh_of p) → Follows n (deeds_of c lines) (record_of (mesh_of p) c) (plan_of (mesh_of p) c)
-  each_follows c below =
+  each_follows : (c : ℕ) (x : End) → c < operator_of (mesh_of p) → slice_get (ends_of p) c ≡ Some x → Follows named n (deeds_of c lines) (record_of (mesh_of p) c) (plan_of (mesh_of p) c) x
+  each_follows c x below f =
       let u : c < length p.actors = below_is c below in
-      subst (λ (m : ℕ). Follows m (deeds_of c lines) (record_of (mesh_of p) c) (plan_of (mesh_of p) c)) h.nodes
-      (subst (λ (ls : List Line). Follows p.nodes (deeds_of c ls) (record_of (mesh_of p) c) (plan_of (mesh_of p) c)) (sym taken_is)
-      (subst (λ (x : List Record). Follows p.nodes (deeds_of c h.taken) x (plan_of (mesh_of p) c)) (sym (record_is p c u))
-      (subst (λ (x : List Mark). Follows p.nodes (deeds_of c h.taken) (actor_at p c).past x) (sym (plan_is p c u)) (follows_of c u))))
+      subst (λ (b : Bool). Follows b n (deeds_of c lines) (record_of (mesh_of p) c) (plan_of (mesh_of p) c) x) h.named_is
+      (subst (λ (m : ℕ). Follows p.named m (deeds_of c lines) (record_of (mesh_of p) c) (plan_of (mesh_of p) c) x) h.nodes
+      (subst (λ (ls : List Line). Follows p.named p.nodes (deeds_of c ls) (record_of (mesh_of p) c) (plan_of (mesh_of p) c) x) (sym taken_is)
+      (subst (λ (y : List Record). Follows p.named p.nodes (deeds_of c h.taken) y (plan_of (mesh_of p) c) x) (sym (record_is p c u))
+      (subst (λ (y : List Mark). Follows p.named p.nodes (deeds_of c h.taken) (actor_at p c).past y x) (sym (plan_is p c u)) (follows_of c x u f)))))
 
   names_of : map (λ (x : End). x.name) (ends_of p) ≡ names_in lines
   unfolding ends_of
-  names_of = same p.names ∙ (h.names ∙ ap names_in (sym taken_is))
-    where
-      same : (xs : List (List ℕ)) → map (λ (x : End). x.name) (map (λ (name : List ℕ). record { name = name }) xs) ≡ xs
-      same [] = refl
-      same (x ∷ xs) = ap (λ (l : List (List ℕ)). x ∷ l) (same xs)
+  names_of = ends_names p.names p.actors (ap length h.names ∙ names_count h.taken ∙ sym h.counted) ∙ (h.names ∙ ap names_in (sym taken_is))
 
-  follows_all : FollowsLines n lines (mesh_of p) (ends_of p)
+  follows_all : FollowsLines named n lines (mesh_of p) (ends_of p)
   follows_all = record {
     nodes_are = nodes_are p ∙ h.nodes;
     actors_are = actors_are p ∙ (h.counted ∙ ap declared (sym taken_is));
@@ -241,21 +269,36 @@ module _ (n : ℕ) (lines : List Line) (p : Play) (h : Holds n lines p) (e : has
         (subst (λ (ls : List Line). AreOperations (operations_in ls) p.operated) (sym taken_is) h.operated.follows);
   }
 
-pub holds_at : (n : ℕ) (lines : List Line) (p : Play) → ArePlayable n 0 lines → IsPlay n lines p → Holds n lines p
-holds_at n lines p can h = subst (Holds n lines) h.reached (steps_hold h.steps n lines (play_begins n lines) (begins_hold n lines can))
+pub holds_at : (named : Bool) (n : ℕ) (lines : List Line) (p : Play) → HasNodes named n → ArePlayable named n 0 lines → IsPlay named n lines p → Holds named n lines p
+holds_at named n lines p some can h = subst (Holds named n lines) h.reached (steps_hold named h.steps n lines (play_begins named n lines) (begins_hold named n lines some can))
 
-pub play_agrees : (n : ℕ) (lines : List Line) (p : Play) → ArePlayable n 0 lines → IsPlay n lines p → Agrees (mesh_of p)
-play_agrees n lines p can h = agrees_of n lines p (holds_at n lines p can h) h.ended
+made_at : (named : Bool) (n : ℕ) (lines : List Line) (p : Play) → Holds named n lines p → AreMade p
+unfolding actor_at
+made_at named n lines p h c below =
+    let ok : ActorOk p.named p.nodes (deeds_of c h.taken) (get_or p.actors c (fresh_actor p.named p.nodes)) = h.actors.each c below in
+    chores_made p.named p.nodes (deeds_of c h.taken) (actor_at p c).past ok.deeds ok.led
+
+pub play_agrees : (named : Bool) (n : ℕ) (lines : List Line) (p : Play) → HasNodes named n → ArePlayable named n 0 lines → IsPlay named n lines p → Agrees (mesh_of p)
+play_agrees named n lines p some can h =
+    let g : Holds named n lines p = holds_at named n lines p some can h in agrees_of named n lines p g h.ended (made_at named n lines p g)
 
 -- the moving entries of the trace, in its order, are a run
-pub play_runs : (n : ℕ) (lines : List Line) (p : Play) → ArePlayable n 0 lines → IsPlay n lines p → IsRun n (moving_of p.trace)
-play_runs n lines p can h = runs_of n lines p (holds_at n lines p can h) h.ended
+pub play_runs : (named : Bool) (n : ℕ) (lines : List Line) (p : Play) → HasNodes named n → ArePlayable named n 0 lines → IsPlay named n lines p → IsRun n (moving_of p.trace)
+play_runs named n lines p some can h =
+    let g : Holds named n lines p = holds_at named n lines p some can h in runs_of named n lines p g h.ended (made_at named n lines p g)
 
-pub play_follows : (n : ℕ) (lines : List Line) (p : Play) → ArePlayable n 0 lines → IsPlay n lines p → FollowsLines n lines (mesh_of p) (ends_of p)
-play_follows n lines p can h = follows_all n lines p (holds_at n lines p can h) h.ended
+-- and at each node these are the node's, in its order
+pub play_in_order : (named : Bool) (n : ℕ) (lines : List Line) (p : Play) → HasNodes named n → ArePlayable named n 0 lines → IsPlay named n lines p
+    → (i : ℕ) → i < n → entries_at (i + 1) (moving_of p.trace) ≡ moving_of (placed_at (mesh_of p) i)
+play_in_order named n lines p some can h =
+    let g : Holds named n lines p = holds_at named n lines p some can h in in_order_of named n lines p g h.ended (made_at named n lines p g)
 
-pub local_runs : (n : ℕ) (lines : List Line) (steps i : ℕ) → ArePlayable n 0 lines → i < n → IsLocalRun fresh_cell (history_of (i + 1) (play_steps steps (play_begins n lines)).trace)
-local_runs n lines steps i can below =
-    let p : Play = play_steps steps (play_begins n lines) in
-    let h : Holds n lines p = steps_hold steps n lines (play_begins n lines) (begins_hold n lines can) in
+pub play_follows : (named : Bool) (n : ℕ) (lines : List Line) (p : Play) → HasNodes named n → ArePlayable named n 0 lines → IsPlay named n lines p → FollowsLines named n lines (mesh_of p) (ends_of p)
+play_follows named n lines p some can h = follows_all named n lines p (holds_at named n lines p some can h) h.ended
+
+pub local_runs : (named : Bool) (n : ℕ) (lines : List Line) (steps i : ℕ) → HasNodes named n → ArePlayable named n 0 lines → i < n
+    → IsLocalRun fresh_cell (history_of (i + 1) (play_steps steps (play_begins named n lines)).trace)
+local_runs named n lines steps i some can below =
+    let p : Play = play_steps steps (play_begins named n lines) in
+    let h : Holds named n lines p = steps_hold named steps n lines (play_begins named n lines) (begins_hold named n lines some can) in
     h.cells.local i (subst (λ (m : ℕ). i < m) (sym h.nodes) below)

@@ -1,5 +1,5 @@
 -- An actor's record goes by its marks, line by line and deed by deed.
-use Rattle.std.proofs.Common.{◌≡◌, ℕ, ◌+◌, ◌-◌, ◌≤◌, List, [], ◌∷◌, ◌++◌, Contains, refl, sym, ap, subst, arith, ◌⊎◌, inl, inr}
+use Rattle.std.proofs.Common.{◌≡◌, ℕ, ◌+◌, ◌-◌, ◌≤◌, Bool, List, [], ◌∷◌, ◌++◌, Contains, refl, sym, ap, subst, arith, ◌⊎◌, inl, inr}
 use Rattle.std.specs.Prelude.{Option, Some, None, ◌≢◌, slice_get}
 use Rattle.std.proofs.lemmas.List.Elements.{Contains-append_left, Contains-push, Contains-push_cases}
 use Rattle.journal_core.specs.declared.request.Request.{Request}
@@ -7,18 +7,16 @@ use Rattle.writer_core.specs.declared.task.Task.{Task}
 use Rattle.writer_core.specs.declared.task.Begun.{Begun}
 use Rattle.writer_core.specs.declared.task.Begun.TheVariants as begun
 use Rattle.writer_core.specs.Views.{WriterView}
-use Rattle.writer_core.specs.Rounds.{Judged}
-use Rattle.writer_core.specs.Writer.{writer_begun, writer_heard}
+use Rattle.writer_core.specs.Writer.{writer_begun}
 use Rattle.node_world.specs.declared.record.Record.{Record}
 use Rattle.node_world.specs.declared.record.Record.TheVariants.{Call, Late, Operator, Outcome}
-use Rattle.node_world.specs.declared.record.Told.{Told}
 use Rattle.node_world.specs.declared.mark.Mark.{Mark}
 use Rattle.node_world.specs.declared.mark.MarkKind.TheVariants as kind
 use Rattle.mesh.specs.Marks.{mark, calls_to, next_number, Asked, IsAsMarked, IsCopy, IsMarked, AreCopied}
-use Rattle.mesh.specs.Makers.{heard_of}
-use Rattle.cluster_runner.specs.Lines.{Deed, Does, DoDrop, DoMute, DoLate, IsDeed}
-use Rattle.cluster_runner.specs.Actor.{Actor, wants, task_begun, copied, deed_taken, moved_on, Fits}
-use Rattle.cluster_runner.proofs.Led.{turn_keeps, moved_keeps}
+use Rattle.name_node.specs.Holding.{Holding}
+use Rattle.cluster_runner.specs.Lines.{Deed, Does, DoDrop, DoMute, DoLate, Submits, Trims, DoTail, Saves, Reloads, IsDeed}
+use Rattle.cluster_runner.specs.Actor.{Actor, wants, task_begun, copied, held_deed, deed_taken, moved_on, Fits}
+use Rattle.cluster_runner.proofs.Led.{held_framed, framed_keeps, moved_keeps, call_copies}
 use Rattle.cluster_runner.proofs.Wanting.{sending, same_sending, Copying, fits_copying, no_operation}
 use Rattle.caller_seats.proofs.MarkLaws.{asked_more, asked_one, copy_more, copy_planned, IsLater, more_marks, marked_snoc}
 
@@ -140,18 +138,33 @@ unfolding copied GoesBy
 copied_goes k n None a e l none h = h
 copied_goes k n (Some q) a e l none h = one_copy a.marks a.past k n q (l, e) (subst (λ (z : Option (ℕ × Request)). Goes a.marks a.past z) none h)
 
-pub taken_goes : (d : Deed) (a : Actor) → IsDeed d → a.copies ≡ None → GoesBy a → GoesBy (deed_taken d a)
+along : (m n : List Mark) (p o : List Record) (c e : Option (ℕ × Request)) → m ≡ n → p ≡ o → c ≡ e → Goes m p c → Goes n o e
+along m n p o c e x y z h = subst (λ (u : Option (ℕ × Request)). Goes n o u) z (subst (λ (u : List Record). Goes n u c) y (subst (λ (u : List Mark). Goes u p c) x h))
+
+held_goes : (d : Deed) (o : Option Holding) (a : Actor) → GoesBy a → GoesBy (held_deed d o a)
+unfolding GoesBy
+held_goes d o a h =
+    let e : ((held_deed d o a).todo ≡ a.todo) × ((held_deed d o a).past ≡ a.past) × ((held_deed d o a).marks ≡ a.marks) × ((held_deed d o a).copies ≡ a.copies) =
+    framed_keeps (held_deed d o) (held_framed d o) a in
+    along a.marks (held_deed d o a).marks a.past (held_deed d o a).past a.copies (held_deed d o a).copies (sym e.2) (sym e.1) (sym e.3) h
+
+pub taken_goes : (named : Bool) (d : Deed) (a : Actor) → IsDeed named d → a.copies ≡ None → GoesBy a → GoesBy (deed_taken d a)
 unfolding deed_taken GoesBy IsLater
-taken_goes (Does t) a d none h = unfold GoesBy in begun_goes t (writer_begun a.writer t).writer a (writer_begun a.writer t).begun h
-taken_goes (DoDrop k n) a d none h = one_mark a.marks a.past a.copies (mark k (next_number k a.past + (n - 1)) kind.Dropped) (inr (omega arith)) (λ i j e. absurd (kinds (ap (λ (m : Mark). m.kind) e))) h
+taken_goes named (Does t) a d none h = unfold GoesBy in begun_goes t (writer_begun a.writer t).writer a (writer_begun a.writer t).begun h
+taken_goes named (DoDrop k n) a d none h = one_mark a.marks a.past a.copies (mark k (next_number k a.past + (n - 1)) kind.Dropped) (inr (omega arith)) (λ i j e. absurd (kinds (ap (λ (m : Mark). m.kind) e))) h
   where
     kinds : kind.Dropped ≡ kind.Late → ⊥
     kinds e = cc e
-taken_goes (DoMute k n) a d none h = one_mark a.marks a.past a.copies (mark k (next_number k a.past + (n - 1)) kind.Muted) (inr (omega arith)) (λ i j e. absurd (kinds (ap (λ (m : Mark). m.kind) e))) h
+taken_goes named (DoMute k n) a d none h = one_mark a.marks a.past a.copies (mark k (next_number k a.past + (n - 1)) kind.Muted) (inr (omega arith)) (λ i j e. absurd (kinds (ap (λ (m : Mark). m.kind) e))) h
   where
     kinds : kind.Muted ≡ kind.Late → ⊥
     kinds e = cc e
-taken_goes (DoLate k n) a d none h = copied_goes k n (slice_get (calls_to k a.past) (n - 1)) a refl d none h
+taken_goes named (DoLate k n) a d none h = copied_goes k n (slice_get (calls_to k a.past) (n - 1)) a refl d none h
+taken_goes named (Submits es) a d none h = unfold GoesBy in held_goes (Submits es) a.holds a h
+taken_goes named (Trims extra) a d none h = unfold GoesBy in held_goes (Trims extra) a.holds a h
+taken_goes named DoTail a d none h = unfold GoesBy in held_goes DoTail a.holds a h
+taken_goes named Saves a d none h = unfold GoesBy in held_goes Saves a.holds a h
+taken_goes named Reloads a d none h = unfold GoesBy in held_goes Reloads a.holds a h
 
 -- what the actor is told of a call is as its marks say
 unfoldable pub IsTold : Actor → Record → Type 0
@@ -160,19 +173,12 @@ IsTold a (Late k q) = Unit {0}
 IsTold a (Operator k ask d) = Unit {0}
 IsTold a (Outcome x) = Unit {0}
 
-call_keeps : (k : ℕ) (q : Request) (t : Told) (a : Actor) → (moved_on (Call k q t) a).copies ≡ a.copies
-unfolding moved_on
-call_keeps k q t a = let j : Judged = writer_heard a.writer k (heard_of t) in (turn_keeps j.turn a.doing (record a { writer = j.writer })).2
-
-along : (m n : List Mark) (p o : List Record) (c e : Option (ℕ × Request)) → m ≡ n → p ≡ o → c ≡ e → Goes m p c → Goes n o e
-along m n p o c e x y z h = subst (λ (u : Option (ℕ × Request)). Goes n o u) z (subst (λ (u : List Record). Goes n u c) y (subst (λ (u : List Mark). Goes u p c) x h))
-
 pub moved_goes : (r : Record) (a : Actor) → Fits (wants a) r → IsTold a r → GoesBy a → GoesBy (moved_on r (record a { past = a.past ++ r ∷ [] }))
 unfolding GoesBy IsTold IsMarked
 moved_goes (Call k q t) a f told h =
     let b : Actor = record a { past = a.past ++ Call k q t ∷ [] } in
     let keeps : ((moved_on (Call k q t) b).todo ≡ b.todo) × ((moved_on (Call k q t) b).past ≡ b.past) × ((moved_on (Call k q t) b).marks ≡ b.marks) = moved_keeps (Call k q t) b in
-    along b.marks (moved_on (Call k q t) b).marks b.past (moved_on (Call k q t) b).past b.copies (moved_on (Call k q t) b).copies (sym keeps.2) (sym keeps.1) (sym (call_keeps k q t b))
+    along b.marks (moved_on (Call k q t) b).marks b.past (moved_on (Call k q t) b).past b.copies (moved_on (Call k q t) b).copies (sym keeps.2) (sym keeps.1) (sym (call_copies k q t b))
     (one_line a.marks a.past a.copies (Call k q t) (told, tt) h)
 moved_goes (Late k q) a f told h =
     let c : Copying k q a = fits_copying a k q f in

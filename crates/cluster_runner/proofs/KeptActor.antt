@@ -1,5 +1,6 @@
 -- An actor's steps: it is handed a task, hears an answer, says a result, rests.
 use Rattle.std.proofs.Common.{◌≡◌, ℕ, List, [], ◌∷◌, ◌++◌, false, refl, ap, ◌∙◌, Option, Some, None, cond}
+use Rattle.std.specs.Prelude.{◌||◌}
 use Rattle.journal_core.specs.declared.request.Request.{Request}
 use Rattle.writer_core.specs.declared.task.Task.{Task}
 use Rattle.writer_core.specs.declared.task.Begun.TheVariants as begun
@@ -14,15 +15,15 @@ use Rattle.mesh.specs.Marks.{mark}
 use Rattle.mesh.specs.Makers.{heard_of}
 use Rattle.cluster_runner.specs.Lines.{Deed, Does, DoDrop, DoMute, DoLate}
 use Rattle.cluster_runner.specs.Results.{results_of, inactive_results, too_long_results, late_none}
-use Rattle.cluster_runner.specs.Actor.{Actor, Want, WantsCall, WantsCopy, Says, Rests, wants, says_first, copy_first, call_wanted, is_wanting, goes_on, handed, settled, resettled, deed_taken, task_begun, moved_on, turn_taken, copied}
+use Rattle.cluster_runner.specs.Actor.{Actor, Want, WantsCall, WantsCopy, Says, Rests, wants, says_first, copy_first, read_first, call_wanted, is_wanting, is_broken, turn_with, heard_by, goes_on, handed, settled, resettled, deed_taken, task_begun, moved_on, turn_taken, copied}
 use Rattle.cluster_runner.specs.Kept.{KeptActor, shown, resting, hears, says, loses, copies, earlier_call, doing_after}
 
 pub rests : (a : KeptActor) (doing : Option Task) → next_call a.writer ≡ None → wants (shown doing [] a) ≡ Rests
-unfolding wants says_first copy_first call_wanted
+unfolding wants says_first copy_first read_first call_wanted
 rests a doing e = ap call_wanted e
 
 pub wants_call : (a : KeptActor) (doing : Option Task) (node : ℕ) (r : Request) → next_call a.writer ≡ Some (node, r) → wants (shown doing [] a) ≡ WantsCall node r
-unfolding wants says_first copy_first call_wanted
+unfolding wants says_first copy_first read_first call_wanted
 wants_call a doing node r e = ap call_wanted e
 
 pub wants_said : (a : KeptActor) (doing : Option Task) (text : List ℕ) (texts : List (List ℕ)) → wants (shown doing (text ∷ texts) a) ≡ Says text
@@ -30,7 +31,7 @@ unfolding wants says_first
 wants_said a doing text texts = refl
 
 by_turn : (t : Task) (b : KeptActor) (u : Turn) → resettled (turn_taken u (Some t) (shown (Some t) [] b)) ≡ shown (doing_after t u) (results_of t u b.writer.causes) b
-unfolding resettled settled turn_taken results_of
+unfolding resettled settled turn_taken turn_with results_of
 by_turn t b turn.Going = refl
 by_turn t b (turn.Done o) = refl
 by_turn t b turn.Aborted = refl
@@ -41,7 +42,7 @@ pub goes_call : (t : Task) (a : KeptActor) (node : ℕ) (r : Request) (x : Told)
     → goes_on (shown (Some t) [] a) (Call node r x)
     ≡ shown (doing_after t (writer_heard a.writer node (heard_of x)).turn)
     (results_of t (writer_heard a.writer node (heard_of x)).turn (writer_heard a.writer node (heard_of x)).writer.causes) (hears a node r x)
-unfolding goes_on moved_on
+unfolding goes_on moved_on heard_by
 goes_call t a node r x = by_turn t (hears a node r x) (writer_heard a.writer node (heard_of x)).turn
 
 -- a result is said
@@ -51,8 +52,8 @@ goes_said a text texts = refl
 
 handed_by : (a : KeptActor) (d : Deed) (w : Want) → wants (resting a) ≡ w → is_wanting w ≡ false
     → handed d (resting a) ≡ record (deed_taken d (resting a)) { todo = [] }
-unfolding handed settled
-handed_by a d w e f = ap (λ b. cond b (record (resting a) { todo = d ∷ [] }) (record (deed_taken d (resting a)) { todo = [] })) (ap is_wanting e ∙ f)
+unfolding handed settled is_broken
+handed_by a d w e f = ap (λ b. cond (b || false) (record (resting a) { todo = d ∷ [] }) (record (deed_taken d (resting a)) { todo = [] })) (ap is_wanting e ∙ f)
 
 pub handed_rest : (a : KeptActor) (d : Deed) → next_call a.writer ≡ None → handed d (resting a) ≡ record (deed_taken d (resting a)) { todo = [] }
 unfolding is_wanting

@@ -1,5 +1,5 @@
 -- What is kept of a play goes along with it: the beginning, a line taken, the end.
-use Rattle.std.proofs.Common.{◌≡◌, ℕ, zero, suc, ◌+◌, ◌<◌, List, [], ◌∷◌, ◌++◌, length, map, refl, sym, ap, ◌∙◌, subst, Option, Some, None, set, get_or, replicate, ◌&&◌}
+use Rattle.std.proofs.Common.{◌≡◌, ℕ, zero, suc, ◌+◌, ◌<◌, List, [], ◌∷◌, ◌++◌, length, map, refl, sym, ap, ◌∙◌, subst, Option, Some, None, set, get_or, replicate, ◌&&◌, false}
 use Rattle.std.specs.Prelude.{is_none}
 use Rattle.std.proofs.lemmas.List.{map-append}
 use Rattle.std.proofs.Math.ListN.{get_or-map}
@@ -10,11 +10,10 @@ use Rattle.node_world.specs.declared.mark.Mark.{Mark}
 use Rattle.node_world.specs.Cell.{fresh_cell}
 use Rattle.node_world.specs.NodeCells.{CellView, new_cell}
 use Rattle.mesh.specs.declared.whole.Mesh.{Mesh}
-use Rattle.mesh.specs.declared.end.End.{End}
 use Rattle.mesh.specs.Marks.{IsMarked}
 use Rattle.cluster_runner.specs.Lines.{Line, Deed, Declares, Acts, declared}
 use Rattle.cluster_runner.specs.Actor.{Actor, IsLed, actor_after, handed, fresh_actor}
-use Rattle.cluster_runner.specs.Plays.{Play, play_step, play_begins, line_taken, actor_at, histories_from, history_of, has_ended, no_lines, mesh_of, ends_of}
+use Rattle.cluster_runner.specs.Plays.{Play, play_step, play_begins, line_taken, actor_at, histories_from, history_of, has_ended, no_lines, mesh_of, ends_from, ends_of, raw_end}
 use Rattle.cluster_runner.specs.Kept.{Kept, KeptActor, actor_of, new_actor, resting, Stands, IsAtRest, Leads, LeadsTo, with_actor, with_actor_at, new_kept, mesh_kept, ends_kept, IsPlayed}
 use Rattle.cluster_runner.specs.PlaySeats.{LinesGo}
 use Rattle.cluster_runner.proofs.KeptLists.{same_place}
@@ -27,8 +26,9 @@ use Rattle.cluster_runner.proofs.Sound.{handed_past}
 resting_there : (k : Kept) (p : Play) (ls : List Line) (c : ℕ) → Stands k p → p.actors ≡ map resting k.actors → actor_at (record p { lines = ls }) c ≡ resting (actor_of k c)
 unfolding actor_at fresh_actor
 resting_there k p ls c s e =
-    ap (λ xs. get_or xs c (fresh_actor p.nodes)) e
-    ∙ ap (λ n. get_or (map resting k.actors) c (fresh_actor n)) (sym s.nodes)
+    ap (λ xs. get_or xs c (fresh_actor p.named p.nodes)) e
+    ∙ ap (λ b. get_or (map resting k.actors) c (fresh_actor b p.nodes)) s.named
+    ∙ ap (λ n. get_or (map resting k.actors) c (fresh_actor false n)) (sym s.nodes)
     ∙ get_or-map resting k.actors c (new_actor (length k.nodes) [])
 
 -- the play once the line was taken
@@ -45,7 +45,7 @@ step_handed k p ls c d x h e =
 
 -- the same nodes, names and operator
 pub stands_same : (k : Kept) (p : Play) (ls : List Line) (turn : Option ℕ) (xs : List Actor) → Stands k p → Stands k (record p { lines = ls; turn = turn; actors = xs })
-stands_same k p ls turn xs s = record { nodes = s.nodes; cells = s.cells; histories = s.histories; names = s.names; operator = s.operator; operated = s.operated }
+stands_same k p ls turn xs s = record { named = s.named; nodes = s.nodes; cells = s.cells; histories = s.histories; names = s.names; operator = s.operator; operated = s.operated }
 
 -- an actor is known without the nodes
 pub actor_as : (k : Kept) (cells : List CellView) (c : ℕ) → c < length k.actors → actor_of (with_cells k cells) c ≡ actor_of k c
@@ -76,13 +76,13 @@ deed_leads k ls c d lines b cells l none led after over name marked go p h =
 
 -- ## A declaration
 abbrev declared_play : Play → List Line → List ℕ → Play
-declared_play p ls name = record p { lines = ls; names = p.names ++ name ∷ []; actors = p.actors ++ fresh_actor p.nodes ∷ [] }
+declared_play p ls name = record p { lines = ls; names = p.names ++ name ∷ []; actors = p.actors ++ fresh_actor p.named p.nodes ∷ [] }
 
 step_declared : (p : Play) (ls : List Line) (name : List ℕ) → p.turn ≡ None → p.lines ≡ Declares name ∷ ls → play_step p ≡ declared_play p ls name
 unfolding line_taken
 step_declared p ls name turn lines = step_line p (Declares name) ls turn lines
 
-fresh_last : (k : Kept) (name : List ℕ) → map resting k.actors ++ fresh_actor (length k.nodes) ∷ [] ≡ map resting (with_actor k name).actors
+fresh_last : (k : Kept) (name : List ℕ) → map resting k.actors ++ fresh_actor false (length k.nodes) ∷ [] ≡ map resting (with_actor k name).actors
 unfolding fresh_actor
 fresh_last k name = sym (map-append resting k.actors (new_actor (length k.nodes) name ∷ []))
 
@@ -92,6 +92,7 @@ declare_leads k ls name p h = (
   leads_one p (declared_play p ls name) (step_declared p ls name h.turn h.lines_are),
   record {
     stands = record {
+      named = h.stands.named;
       nodes = h.stands.nodes;
       cells = h.stands.cells;
       histories = h.stands.histories;
@@ -102,8 +103,9 @@ declare_leads k ls name p h = (
     lines_are = refl;
     turn = h.turn;
     actors =
-        ap (λ xs. xs ++ fresh_actor p.nodes ∷ []) h.actors
-        ∙ ap (λ n. map resting k.actors ++ fresh_actor n ∷ []) (sym h.stands.nodes)
+        ap (λ xs. xs ++ fresh_actor p.named p.nodes ∷ []) h.actors
+        ∙ ap (λ b. map resting k.actors ++ fresh_actor b p.nodes ∷ []) h.stands.named
+        ∙ ap (λ n. map resting k.actors ++ fresh_actor false n ∷ []) (sym h.stands.nodes)
         ∙ fresh_last k name;
   },
 )
@@ -126,11 +128,12 @@ replicated : {A : Type 0} (n : ℕ) (x : A) → length (replicate n x) ≡ n
 replicated zero x = refl
 replicated (suc n) x = ap suc (replicated n x)
 
-pub begins_at_rest : (n : ℕ) (ls : List Line) → IsAtRest ls (new_kept n (declared ls)) (play_begins n ls)
+pub begins_at_rest : (n : ℕ) (ls : List Line) → IsAtRest ls (new_kept n (declared ls)) (play_begins false n ls)
 unfolding play_begins
 begins_at_rest n ls =
     record {
       stands = record {
+        named = refl;
         nodes = replicated n new_cell;
         cells = fresh_cells n;
         histories = no_histories 1 n ∙ fresh_histories n;
@@ -154,14 +157,12 @@ marks_of (a ∷ xs) = ap (λ ys. a.marks ∷ ys) (marks_of xs)
 abbrev mesh_with : ℕ → List (List HistoryLine) → List (List Record) → List Record → List (List Mark) → Mesh
 mesh_with n hs rs os ms = record { nodes = n; histories = hs; records = rs ++ os ∷ []; plan = ms }
 
-abbrev named_end : List ℕ → End
-named_end name = record { name = name }
+ends_are : (xs : List KeptActor) → map raw_end (map (λ a. record { name = a.name }) xs) ≡ ends_from (map (λ a. a.name) xs) (map resting xs)
+unfolding ends_from
+ends_are [] = refl
+ends_are (a ∷ xs) = ap (λ ys. record { name = a.name; last = None } ∷ ys) (ends_are xs)
 
-named : (xs : List KeptActor) → map (λ name. named_end name) (map (λ a. a.name) xs) ≡ map (λ a. named_end a.name) xs
-named [] = refl
-named (a ∷ xs) = ap (λ ys. named_end a.name ∷ ys) (named xs)
-
-pub is_played : (n : ℕ) (ls : List Line) (k : Kept) (p : Play) → Leads (play_begins n ls) p → IsAtRest [] k p → IsPlayed n ls (mesh_kept k) (ends_kept k)
+pub is_played : (n : ℕ) (ls : List Line) (k : Kept) (p : Play) → Leads (play_begins false n ls) p → IsAtRest [] k p → IsPlayed false n ls (mesh_kept k) (map raw_end (ends_kept k))
 unfolding has_ended no_lines mesh_of ends_of
 is_played n ls k p leads h =
     record {
@@ -173,5 +174,5 @@ is_played n ls k p leads h =
           ∙ ap (λ rs. mesh_with p.nodes (histories_from 1 p.nodes p.trace) rs k.operated (map (λ a. a.marks) k.actors)) (sym (ap (map (λ a. a.past)) h.actors ∙ pasts k.actors))
           ∙ ap (λ os. mesh_with p.nodes (histories_from 1 p.nodes p.trace) (map (λ a. a.past) p.actors) os (map (λ a. a.marks) k.actors)) (sym h.stands.operated)
           ∙ ap (λ ms. mesh_with p.nodes (histories_from 1 p.nodes p.trace) (map (λ a. a.past) p.actors) p.operated ms) (sym (ap (map (λ a. a.marks)) h.actors ∙ marks_of k.actors));
-      ends_are = sym (ap (map (λ name. named_end name)) h.stands.names ∙ named k.actors);
+      ends_are = ends_are k.actors ∙ ap (λ ns. ends_from ns (map resting k.actors)) (sym h.stands.names) ∙ ap (λ xs. ends_from p.names xs) (sym h.actors);
     }

@@ -46,8 +46,8 @@ step_call d p c node r a v turn actor want goes cell =
   where
     by : (e : Delivery) → call_made e c node r p ≡ called_play e p c node r a v
     by NotDelivered = ap (λ x. called_play NotDelivered p c node r x v) actor
-    by ReplyLost = ap (λ y. called_play ReplyLost p c node r (get_or p.actors c (fresh_actor p.nodes)) y) cell ∙ ap (λ x. called_play ReplyLost p c node r x v) actor
-    by Delivered = ap (λ y. called_play Delivered p c node r (get_or p.actors c (fresh_actor p.nodes)) y) cell ∙ ap (λ x. called_play Delivered p c node r x v) actor
+    by ReplyLost = ap (λ y. called_play ReplyLost p c node r (get_or p.actors c (fresh_actor p.named p.nodes)) y) cell ∙ ap (λ x. called_play ReplyLost p c node r x v) actor
+    by Delivered = ap (λ y. called_play Delivered p c node r (get_or p.actors c (fresh_actor p.named p.nodes)) y) cell ∙ ap (λ x. called_play Delivered p c node r x v) actor
 
 -- the play once a late copy has come
 abbrev pub copied_play : Play → ℕ → ℕ → Request → Actor → Cell → Play
@@ -60,7 +60,7 @@ step_copy p c node r a v turn actor want cell =
     ap (λ t. turned t p) turn
     ∙ ap (λ x. wanted (wants x) c p) actor
     ∙ ap (λ w. wanted w c p) want
-    ∙ ap (λ y. copied_play p c node r (get_or p.actors c (fresh_actor p.nodes)) y) cell
+    ∙ ap (λ y. copied_play p c node r (get_or p.actors c (fresh_actor p.named p.nodes)) y) cell
     ∙ ap (λ x. copied_play p c node r x v) actor
 
 pub step_says : (p : Play) (c : ℕ) (text : List ℕ) (a : Actor) → p.turn ≡ Some c → actor_at p c ≡ a → wants a ≡ Says text → play_step p ≡ noted_play p c a (Outcome text)

@@ -67,6 +67,7 @@ pub stands_asked : (k : Kept) (p : Play) (node c : ℕ) (muted : Bool) (ask : No
 stands_asked k p node c muted ask s low high =
     let v : CellView = listed (node_at k node) c ask in
     record {
+      named = s.named;
       nodes = length-set k.nodes (node - 1) v ∙ s.nodes;
       cells = ap (λ xs. set xs (node - 1) v.cell) s.cells ∙ sym (map-set (λ x. x.cell) k.nodes (node - 1) v);
       histories =
@@ -96,7 +97,7 @@ stands_reached Delivered k p node c r s low high = stands_asked k p node c false
 pub stands_actor : (k : Kept) (p : Play) (c : ℕ) (b d : KeptActor) (xs : List Actor) → b.name ≡ (get_or k.actors c d).name → Stands k p
     → Stands (with_actor_at k c b) (record p { actors = xs })
 stands_actor k p c b d xs e s =
-    record { nodes = s.nodes; cells = s.cells; histories = s.histories; names = s.names ∙ sym (same_names k.actors c b d e); operator = s.operator; operated = s.operated }
+    record { named = s.named; nodes = s.nodes; cells = s.cells; histories = s.histories; names = s.names ∙ sym (same_names k.actors c b d e); operator = s.operator; operated = s.operated }
 
 -- ## A call
 lines_stay : (d : Delivery) (p : Play) (node c : ℕ) (r : Request) (v : Cell) → (reached_play d p node c r v).lines ≡ p.lines
@@ -129,10 +130,10 @@ acting_there : (ls : List Line) (c : ℕ) (x : Actor) (k : Kept) (p : Play) → 
 unfolding actor_at
 acting_there ls c x k p l h =
     let b : c < length (map resting k.actors) = let e = length-map k.actors resting in omega (arith, l, e) in
-    ap (λ xs. get_or xs c (fresh_actor p.nodes)) h.actors ∙ get_or-set_same (map resting k.actors) c x (fresh_actor p.nodes) b
+    ap (λ xs. get_or xs c (fresh_actor p.named p.nodes)) h.actors ∙ get_or-set_same (map resting k.actors) c x (fresh_actor p.named p.nodes) b
 
 stands_acted : (k : Kept) (p : Play) (xs : List Actor) → Stands k p → Stands k (record p { actors = xs })
-stands_acted k p xs s = record { nodes = s.nodes; cells = s.cells; histories = s.histories; names = s.names; operator = s.operator; operated = s.operated }
+stands_acted k p xs s = record { named = s.named; nodes = s.nodes; cells = s.cells; histories = s.histories; names = s.names; operator = s.operator; operated = s.operated }
 
 -- where one actor is another
 again : (xs ys : List Actor) (c : ℕ) (x y : Actor) → ys ≡ set xs c x → set ys c y ≡ set xs c y
@@ -260,7 +261,7 @@ rest_after ls c k b p l none name h = (
   leads_one p (record p { turn = None }) (step_rests p c (resting b) h.turn (acting_there ls c (resting b) k p l h) (rests b None none)),
   record {
     stands = stands_actor k (record p { turn = None }) c b (new_actor (length k.nodes) []) p.actors name
-        (record { nodes = h.stands.nodes; cells = h.stands.cells; histories = h.stands.histories; names = h.stands.names; operator = h.stands.operator; operated = h.stands.operated });
+        (record { named = h.stands.named; nodes = h.stands.nodes; cells = h.stands.cells; histories = h.stands.histories; names = h.stands.names; operator = h.stands.operator; operated = h.stands.operated });
     lines_are = h.lines_are;
     turn = refl;
     actors = h.actors ∙ sym (map-set resting k.actors c b);

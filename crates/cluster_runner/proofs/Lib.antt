@@ -1,6 +1,8 @@
 mod Led
+mod Holds
 mod Wanting
 mod Makes
+mod ChoresMade
 mod Goes
 mod Sound
 mod Parts
@@ -13,6 +15,8 @@ mod Unique
 mod BrokenLaws
 mod WriterTurns
 mod EachResult
+mod Dues
+mod NamedResults
 pub mod KeptSteps
 pub mod KeptLists
 pub mod KeptActor
@@ -29,3 +33,4 @@ pub mod ResultLaws
 pub mod PlayLaws
 pub mod NodesLeft
 pub mod FaultlessLaws
+pub mod RawEnds

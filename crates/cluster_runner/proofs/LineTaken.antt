@@ -81,6 +81,7 @@ operates_leads k ls node ask low high p h =
       leads_one p q (step_operated p ls node k.operator ask v h.turn h.lines_are h.stands.operator (cell_there k p node h.stands)),
       record {
         stands = record {
+          named = s.named;
           nodes = s.nodes;
           cells = s.cells;
           histories = s.histories;

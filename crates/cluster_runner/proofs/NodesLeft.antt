@@ -1,5 +1,5 @@
 -- The nodes at the end of a play: each is as its history leaves it.
-use Rattle.std.proofs.Common.{◌≡◌, ℕ, suc, ◌+◌, ◌<◌, List, [], ◌∷◌, length, map, Some, refl, sym, ap, ◌∙◌, subst, arith, get_or}
+use Rattle.std.proofs.Common.{◌≡◌, ℕ, suc, ◌+◌, ◌<◌, List, [], ◌∷◌, length, map, Some, refl, sym, ap, ◌∙◌, subst, arith, get_or, false}
 use Rattle.node_world.specs.Cell.{Cell, fresh_cell, cell_after}
 use Rattle.node_world.specs.NodeCells.{CellView}
 use Rattle.node_world.specs.Moving.{Placed}
@@ -28,11 +28,11 @@ cell_states [] = refl
 cell_states (v ∷ vs) = ap (λ xs. Some v.cell.state ∷ xs) (cell_states vs)
 
 -- at each place of a play
-pub states_left : (nodes : ℕ) (lines : List Line) (rest : List ScriptLine) (k : Kept) → ArePlayable nodes 0 lines → IsUnderWay nodes lines rest k
+pub states_left : (nodes : ℕ) (lines : List Line) (rest : List ScriptLine) (k : Kept) → ArePlayable false nodes 0 lines → IsUnderWay nodes lines rest k
     → states_kept k ≡ states_behind (mesh_kept k).histories
 states_left nodes lines rest k can u =
     let p : Play = u.play in
-    let h : Holds nodes lines p = subst (Holds nodes lines) u.leads.reached (steps_hold u.leads.steps nodes lines (play_begins nodes lines) (begins_hold nodes lines can)) in
+    let h : Holds false nodes lines p = subst (Holds false nodes lines) u.leads.reached (steps_hold false u.leads.steps nodes lines (play_begins false nodes lines) (begins_hold false nodes lines tt can)) in
     let all : (i : ℕ) → i < length p.cells → cell_after fresh_cell (history_of (i + 1) p.trace) ≡ get_or p.cells i fresh_cell =
     λ i l. h.cells.state i (subst (λ m. i < m) h.cells.count l) in
     cell_states k.nodes ∙ ap (map (λ c. Some c.state)) (sym u.at_rest.stands.cells) ∙ sym (states_each p.cells 1 p.trace all)

@@ -9,7 +9,7 @@ use Rattle.node_world.specs.declared.record.Record.{Record}
 use Rattle.node_world.specs.Cell.{Cell, fresh_cell, cell_takes, IsLocalRun, cell_after}
 use Rattle.node_world.specs.Moving.{Placed}
 use Rattle.mesh.specs.Matches.{IsWithin}
-use Rattle.cluster_runner.specs.Lines.{Deed, Line, Declares, Acts, Operates, deeds_of, IsDeed, AreDeeds}
+use Rattle.cluster_runner.specs.Lines.{Deed, Line, Declares, Acts, Operates, deeds_of, IsDeed, AreDeeds, HasNodes}
 use Rattle.cluster_runner.specs.Actor.{Actor, fresh_actor, settled, handed, wants, goes_on, Fits, actor_after, IsLed}
 use Rattle.cluster_runner.specs.Plays.{history_of}
 use Rattle.mesh.proofs.Lists.{cond_true, cond_false, Alike, alike, append_none}
@@ -19,56 +19,56 @@ use Rattle.cluster_runner.proofs.Sound.{Sound, deeds_snoc, goes_past, goes_sound
 use Rattle.mesh.proofs.Tied.{history_at, history_off, local_snoc, cell_snoc}
 
 -- ## An actor
-pub record ActorOk (n : ℕ) (ds : List Deed) (a : Actor) : Type 0 where
-  pub led : IsLed (settled ds (fresh_actor n)) a.past
-  pub is : actor_after (settled ds (fresh_actor n)) a.past ≡ a
-  pub sound : Sound n a
-  pub deeds : AreDeeds ds
+pub record ActorOk (named : Bool) (n : ℕ) (ds : List Deed) (a : Actor) : Type 0 where
+  pub led : IsLed (settled ds (fresh_actor named n)) a.past
+  pub is : actor_after (settled ds (fresh_actor named n)) a.past ≡ a
+  pub sound : Sound named n a
+  pub deeds : AreDeeds named ds
 
-ok_more : (n : ℕ) (ds : List Deed) (a : Actor) (r : Record) → ActorOk n ds a → Fits (wants a) r → IsTold a r → IsWithin n r → ActorOk n ds (goes_on a r)
-ok_more n ds a r ok f t w = record {
-  led = subst (λ (l : List Record). IsLed (settled ds (fresh_actor n)) l) (sym (goes_past a r))
-      (led_snoc (settled ds (fresh_actor n)) a.past r ok.led (subst (λ (b : Actor). Fits (wants b) r) (sym ok.is) f));
-  is = ap (actor_after (settled ds (fresh_actor n))) (goes_past a r) ∙ (after_snoc (settled ds (fresh_actor n)) a.past r ∙ ap (λ (b : Actor). goes_on b r) ok.is);
-  sound = goes_sound n a r f t w ok.sound;
+ok_more : (named : Bool) (n : ℕ) (ds : List Deed) (a : Actor) (r : Record) → ActorOk named n ds a → Fits (wants a) r → IsTold a r → IsWithin n r → ActorOk named n ds (goes_on a r)
+ok_more named n ds a r ok f t w = record {
+  led = subst (λ (l : List Record). IsLed (settled ds (fresh_actor named n)) l) (sym (goes_past a r))
+      (led_snoc (settled ds (fresh_actor named n)) a.past r ok.led (subst (λ (b : Actor). Fits (wants b) r) (sym ok.is) f));
+  is = ap (actor_after (settled ds (fresh_actor named n))) (goes_past a r) ∙ (after_snoc (settled ds (fresh_actor named n)) a.past r ∙ ap (λ (b : Actor). goes_on b r) ok.is);
+  sound = goes_sound named n a r f t w ok.sound;
   deeds = ok.deeds;
 }
 
-ok_handed : (n : ℕ) (ds : List Deed) (a : Actor) (e : Deed) → IsDeed e → ActorOk n ds a → ActorOk n (ds ++ e ∷ []) (handed e a)
-ok_handed n ds a e d ok =
-    let same : settled (ds ++ e ∷ []) (fresh_actor n) ≡ handed e (settled ds (fresh_actor n)) = settled_more ds (fresh_actor n) e in
+ok_handed : (named : Bool) (n : ℕ) (ds : List Deed) (a : Actor) (e : Deed) → IsDeed named e → ActorOk named n ds a → ActorOk named n (ds ++ e ∷ []) (handed e a)
+ok_handed named n ds a e d ok =
+    let same : settled (ds ++ e ∷ []) (fresh_actor named n) ≡ handed e (settled ds (fresh_actor named n)) = settled_more ds (fresh_actor named n) e in
     record {
-      led = subst (λ (l : List Record). IsLed (settled (ds ++ e ∷ []) (fresh_actor n)) l) (sym (handed_past e a))
-          (subst (λ (b : Actor). IsLed b a.past) (sym same) (handed_led (settled ds (fresh_actor n)) a.past e ok.led));
-      is = ap (actor_after (settled (ds ++ e ∷ []) (fresh_actor n))) (handed_past e a)
-          ∙ (ap (λ (b : Actor). actor_after b a.past) same ∙ (handed_after (settled ds (fresh_actor n)) a.past e ok.led ∙ ap (handed e) ok.is));
-      sound = handed_sound n e a d ok.sound;
-      deeds = deeds_snoc ds e ok.deeds d;
+      led = subst (λ (l : List Record). IsLed (settled (ds ++ e ∷ []) (fresh_actor named n)) l) (sym (handed_past e a))
+          (subst (λ (b : Actor). IsLed b a.past) (sym same) (handed_led (settled ds (fresh_actor named n)) a.past e ok.led));
+      is = ap (actor_after (settled (ds ++ e ∷ []) (fresh_actor named n))) (handed_past e a)
+          ∙ (ap (λ (b : Actor). actor_after b a.past) same ∙ (handed_after (settled ds (fresh_actor named n)) a.past e ok.led ∙ ap (handed e) ok.is));
+      sound = handed_sound named n e a d ok.sound;
+      deeds = deeds_snoc named ds e ok.deeds d;
     }
 
-ok_fresh : (n : ℕ) → ActorOk n [] (fresh_actor n)
+ok_fresh : (named : Bool) (n : ℕ) → HasNodes named n → ActorOk named n [] (fresh_actor named n)
 unfolding IsLed actor_after settled fresh_actor AreDeeds
-ok_fresh n = record { led = tt; is = refl; sound = fresh_sound n; deeds = tt }
+ok_fresh named n some = record { led = tt; is = refl; sound = fresh_sound named n some; deeds = tt }
 
 -- ## All actors
-pub record Actors (n : ℕ) (taken : List Line) (as_ : List Actor) : Type 0 where
-  pub each : (c : ℕ) → c < length as_ → ActorOk n (deeds_of c taken) (get_or as_ c (fresh_actor n))
+pub record Actors (named : Bool) (n : ℕ) (taken : List Line) (as_ : List Actor) : Type 0 where
+  pub each : (c : ℕ) → c < length as_ → ActorOk named n (deeds_of c taken) (get_or as_ c (fresh_actor named n))
   pub none : (c : ℕ) → length as_ ≤ c → deeds_of c taken ≡ []
 
-pub actors_noted : (n : ℕ) (taken : List Line) (as_ : List Actor) (a : ℕ) (r : Record) → Actors n taken as_ → a < length as_
-    → Fits (wants (get_or as_ a (fresh_actor n))) r → IsTold (get_or as_ a (fresh_actor n)) r → IsWithin n r
-    → Actors n taken (set as_ a (goes_on (get_or as_ a (fresh_actor n)) r))
+pub actors_noted : (named : Bool) (n : ℕ) (taken : List Line) (as_ : List Actor) (a : ℕ) (r : Record) → Actors named n taken as_ → a < length as_
+    → Fits (wants (get_or as_ a (fresh_actor named n))) r → IsTold (get_or as_ a (fresh_actor named n)) r → IsWithin n r
+    → Actors named n taken (set as_ a (goes_on (get_or as_ a (fresh_actor named n)) r))
 unfolding Alike
-actors_noted n taken as_ a r h in_ f t w = record {
+actors_noted named n taken as_ a r h in_ f t w = record {
   each = λ c below. each c (subst (λ (x : ℕ). c < x) (length-set as_ a _) below) (alike c a);
   none = λ c above. h.none c (subst (λ (x : ℕ). x ≤ c) (length-set as_ a _) above);
 }
   where
-    each : (c : ℕ) → c < length as_ → Alike c a → ActorOk n (deeds_of c taken) (get_or (set as_ a (goes_on (get_or as_ a (fresh_actor n)) r)) c (fresh_actor n))
-    each c below (inl e) = subst (λ (x : ℕ). ActorOk n (deeds_of x taken) (get_or (set as_ a (goes_on (get_or as_ a (fresh_actor n)) r)) x (fresh_actor n))) (sym e.1)
-        (subst (λ (b : Actor). ActorOk n (deeds_of a taken) b) (sym (get_or-set_same as_ a (goes_on (get_or as_ a (fresh_actor n)) r) (fresh_actor n) in_))
-        (ok_more n (deeds_of a taken) (get_or as_ a (fresh_actor n)) r (h.each a in_) f t w))
-    each c below (inr e) = subst (λ (b : Actor). ActorOk n (deeds_of c taken) b) (sym (get_or-set_other as_ a c (goes_on (get_or as_ a (fresh_actor n)) r) (fresh_actor n) e.1)) (h.each c below)
+    each : (c : ℕ) → c < length as_ → Alike c a → ActorOk named n (deeds_of c taken) (get_or (set as_ a (goes_on (get_or as_ a (fresh_actor named n)) r)) c (fresh_actor named n))
+    each c below (inl e) = subst (λ (x : ℕ). ActorOk named n (deeds_of x taken) (get_or (set as_ a (goes_on (get_or as_ a (fresh_actor named n)) r)) x (fresh_actor named n))) (sym e.1)
+        (subst (λ (b : Actor). ActorOk named n (deeds_of a taken) b) (sym (get_or-set_same as_ a (goes_on (get_or as_ a (fresh_actor named n)) r) (fresh_actor named n) in_))
+        (ok_more named n (deeds_of a taken) (get_or as_ a (fresh_actor named n)) r (h.each a in_) f t w))
+    each c below (inr e) = subst (λ (b : Actor). ActorOk named n (deeds_of c taken) b) (sym (get_or-set_other as_ a c (goes_on (get_or as_ a (fresh_actor named n)) r) (fresh_actor named n) e.1)) (h.each c below)
 
 deeds_acted : (c a : ℕ) (d : Deed) (ls : List Line) → deeds_of c (ls ++ Acts a d ∷ []) ≡ cond (a == c) (deeds_of c ls ++ d ∷ []) (deeds_of c ls)
 unfolding deeds_of
@@ -104,43 +104,43 @@ deeds_operated : (c k : ℕ) (ask : NodeAsk) (ls : List Line) → deeds_of c (ls
 unfolding deeds_of
 deeds_operated c k ask ls = deeds_append c ls (Operates k ask ∷ []) ∙ append_none (deeds_of c ls)
 
-pub actors_handed : (n : ℕ) (taken : List Line) (as_ : List Actor) (a : ℕ) (d : Deed) → Actors n taken as_ → a < length as_ → IsDeed d
-    → Actors n (taken ++ Acts a d ∷ []) (set as_ a (handed d (get_or as_ a (fresh_actor n))))
+pub actors_handed : (named : Bool) (n : ℕ) (taken : List Line) (as_ : List Actor) (a : ℕ) (d : Deed) → Actors named n taken as_ → a < length as_ → IsDeed named d
+    → Actors named n (taken ++ Acts a d ∷ []) (set as_ a (handed d (get_or as_ a (fresh_actor named n))))
 unfolding Alike
-actors_handed n taken as_ a d h in_ is = record {
+actors_handed named n taken as_ a d h in_ is = record {
   each = λ c below. each c (subst (λ (x : ℕ). c < x) (length-set as_ a _) below) (alike a c);
   none = λ c above. none c (subst (λ (x : ℕ). x ≤ c) (length-set as_ a _) above) (alike a c);
 }
   where
-    each : (c : ℕ) → c < length as_ → Alike a c → ActorOk n (deeds_of c (taken ++ Acts a d ∷ [])) (get_or (set as_ a (handed d (get_or as_ a (fresh_actor n)))) c (fresh_actor n))
-    each c below (inl e) = subst (λ (x : ℕ). ActorOk n (deeds_of x (taken ++ Acts a d ∷ [])) (get_or (set as_ a (handed d (get_or as_ a (fresh_actor n)))) x (fresh_actor n))) e.1
-        (subst (λ (ds : List Deed). ActorOk n ds (get_or (set as_ a (handed d (get_or as_ a (fresh_actor n)))) a (fresh_actor n))) (sym (deeds_acted a a d taken ∙ cond_true (a == a) _ _ (subst (λ (x : ℕ). (a == x) ≡ true) (sym e.1) e.0)))
-        (subst (λ (b : Actor). ActorOk n (deeds_of a taken ++ d ∷ []) b) (sym (get_or-set_same as_ a (handed d (get_or as_ a (fresh_actor n))) (fresh_actor n) in_))
-        (ok_handed n (deeds_of a taken) (get_or as_ a (fresh_actor n)) d is (h.each a in_))))
-    each c below (inr e) = subst (λ (ds : List Deed). ActorOk n ds (get_or (set as_ a (handed d (get_or as_ a (fresh_actor n)))) c (fresh_actor n))) (sym (deeds_acted c a d taken ∙ cond_false (a == c) _ _ e.0))
-        (subst (λ (b : Actor). ActorOk n (deeds_of c taken) b) (sym (get_or-set_other as_ a c (handed d (get_or as_ a (fresh_actor n))) (fresh_actor n) (λ (x : c ≡ a). e.1 (sym x)))) (h.each c below))
+    each : (c : ℕ) → c < length as_ → Alike a c → ActorOk named n (deeds_of c (taken ++ Acts a d ∷ [])) (get_or (set as_ a (handed d (get_or as_ a (fresh_actor named n)))) c (fresh_actor named n))
+    each c below (inl e) = subst (λ (x : ℕ). ActorOk named n (deeds_of x (taken ++ Acts a d ∷ [])) (get_or (set as_ a (handed d (get_or as_ a (fresh_actor named n)))) x (fresh_actor named n))) e.1
+        (subst (λ (ds : List Deed). ActorOk named n ds (get_or (set as_ a (handed d (get_or as_ a (fresh_actor named n)))) a (fresh_actor named n))) (sym (deeds_acted a a d taken ∙ cond_true (a == a) _ _ (subst (λ (x : ℕ). (a == x) ≡ true) (sym e.1) e.0)))
+        (subst (λ (b : Actor). ActorOk named n (deeds_of a taken ++ d ∷ []) b) (sym (get_or-set_same as_ a (handed d (get_or as_ a (fresh_actor named n))) (fresh_actor named n) in_))
+        (ok_handed named n (deeds_of a taken) (get_or as_ a (fresh_actor named n)) d is (h.each a in_))))
+    each c below (inr e) = subst (λ (ds : List Deed). ActorOk named n ds (get_or (set as_ a (handed d (get_or as_ a (fresh_actor named n)))) c (fresh_actor named n))) (sym (deeds_acted c a d taken ∙ cond_false (a == c) _ _ e.0))
+        (subst (λ (b : Actor). ActorOk named n (deeds_of c taken) b) (sym (get_or-set_other as_ a c (handed d (get_or as_ a (fresh_actor named n))) (fresh_actor named n) (λ (x : c ≡ a). e.1 (sym x)))) (h.each c below))
 
     none : (c : ℕ) → length as_ ≤ c → Alike a c → deeds_of c (taken ++ Acts a d ∷ []) ≡ []
     none c above (inl e) = absurd (omega (arith, e.1, in_, above))
     none c above (inr e) = deeds_acted c a d taken ∙ (cond_false (a == c) _ _ e.0 ∙ h.none c above)
 
-pub actors_declared : (n : ℕ) (taken : List Line) (as_ : List Actor) (x : List ℕ) → Actors n taken as_ → Actors n (taken ++ Declares x ∷ []) (as_ ++ fresh_actor n ∷ [])
+pub actors_declared : (named : Bool) (n : ℕ) (taken : List Line) (as_ : List Actor) (x : List ℕ) → HasNodes named n → Actors named n taken as_ → Actors named n (taken ++ Declares x ∷ []) (as_ ++ fresh_actor named n ∷ [])
 unfolding Alike
-actors_declared n taken as_ x h = record {
-  each = λ c below. subst (λ (ds : List Deed). ActorOk n ds (get_or (as_ ++ fresh_actor n ∷ []) c (fresh_actor n))) (sym (deeds_declared c x taken)) (each c (alike c (length as_)) (omega (arith, length-append as_ (fresh_actor n ∷ []), below)));
-  none = λ c above. deeds_declared c x taken ∙ h.none c (omega (arith, length-append as_ (fresh_actor n ∷ []), above));
+actors_declared named n taken as_ x some h = record {
+  each = λ c below. subst (λ (ds : List Deed). ActorOk named n ds (get_or (as_ ++ fresh_actor named n ∷ []) c (fresh_actor named n))) (sym (deeds_declared c x taken)) (each c (alike c (length as_)) (omega (arith, length-append as_ (fresh_actor named n ∷ []), below)));
+  none = λ c above. deeds_declared c x taken ∙ h.none c (omega (arith, length-append as_ (fresh_actor named n ∷ []), above));
 }
   where
-    each : (c : ℕ) → Alike c (length as_) → c < length as_ + 1 → ActorOk n (deeds_of c taken) (get_or (as_ ++ fresh_actor n ∷ []) c (fresh_actor n))
-    each c (inl e) below = subst (λ (ds : List Deed). ActorOk n ds (get_or (as_ ++ fresh_actor n ∷ []) c (fresh_actor n))) (sym (h.none c (omega (arith, e.1))))
-        (subst (λ (b : Actor). ActorOk n [] b) (sym (ap (λ (k : ℕ). get_or (as_ ++ fresh_actor n ∷ []) k (fresh_actor n)) e.1 ∙ get_or-append_seam as_ (fresh_actor n) [] (fresh_actor n))) (ok_fresh n))
+    each : (c : ℕ) → Alike c (length as_) → c < length as_ + 1 → ActorOk named n (deeds_of c taken) (get_or (as_ ++ fresh_actor named n ∷ []) c (fresh_actor named n))
+    each c (inl e) below = subst (λ (ds : List Deed). ActorOk named n ds (get_or (as_ ++ fresh_actor named n ∷ []) c (fresh_actor named n))) (sym (h.none c (omega (arith, e.1))))
+        (subst (λ (b : Actor). ActorOk named n [] b) (sym (ap (λ (k : ℕ). get_or (as_ ++ fresh_actor named n ∷ []) k (fresh_actor named n)) e.1 ∙ get_or-append_seam as_ (fresh_actor named n) [] (fresh_actor named n))) (ok_fresh named n some))
     each c (inr e) below =
         let in_ : c < length as_ = grind (arith, e.1, below) in
-        subst (λ (b : Actor). ActorOk n (deeds_of c taken) b) (sym (get_or_append_left as_ (fresh_actor n ∷ []) (fresh_actor n) c in_)) (h.each c in_)
+        subst (λ (b : Actor). ActorOk named n (deeds_of c taken) b) (sym (get_or_append_left as_ (fresh_actor named n ∷ []) (fresh_actor named n) c in_)) (h.each c in_)
 
-pub actors_operated : (n : ℕ) (taken : List Line) (as_ : List Actor) (k : ℕ) (ask : NodeAsk) → Actors n taken as_ → Actors n (taken ++ Operates k ask ∷ []) as_
-actors_operated n taken as_ k ask h = record {
-  each = λ c below. subst (λ (ds : List Deed). ActorOk n ds (get_or as_ c (fresh_actor n))) (sym (deeds_operated c k ask taken)) (h.each c below);
+pub actors_operated : (named : Bool) (n : ℕ) (taken : List Line) (as_ : List Actor) (k : ℕ) (ask : NodeAsk) → Actors named n taken as_ → Actors named n (taken ++ Operates k ask ∷ []) as_
+actors_operated named n taken as_ k ask h = record {
+  each = λ c below. subst (λ (ds : List Deed). ActorOk named n ds (get_or as_ c (fresh_actor named n))) (sym (deeds_operated c k ask taken)) (h.each c below);
   none = λ c above. deeds_operated c k ask taken ∙ h.none c above;
 }
 

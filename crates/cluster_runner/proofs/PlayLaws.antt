@@ -1,5 +1,5 @@
 -- A script's lines are taken one after the other.
-use Rattle.std.proofs.Common.{◌≡◌, ℕ, zero, suc, ◌+◌, ◌<◌, ◌≤◌, List, [], ◌∷◌, length, map, refl, sym, ap, ◌∙◌, subst, None, arith, drop, get_or, replicate, inl, inr}
+use Rattle.std.proofs.Common.{◌≡◌, ℕ, zero, suc, ◌+◌, ◌<◌, ◌≤◌, List, [], ◌∷◌, length, map, refl, sym, ap, ◌∙◌, subst, None, arith, drop, get_or, replicate, inl, inr, false}
 use Rattle.std.proofs.lemmas.List.{length-append, get_or_append_left}
 use Rattle.std.proofs.Math.Seq.{get_or-append_seam}
 use Rattle.std.proofs.Math.Arith.{lt_of_le-ne}
@@ -12,7 +12,7 @@ use Rattle.script_text.specs.declared.script_line.ScriptLine.TheVariants as line
 use Rattle.node_world.specs.NodeCells.{new_cell}
 use Rattle.script_text.specs.Views.{ScriptView}
 use Rattle.cluster_runner.specs.Lines.{Line, Declares, Acts, Operates, line_of, lines_of, declared, ArePlayable, AreInRange, IsPlayable, NumbersFit}
-use Rattle.cluster_runner.specs.Plays.{Play, play_begins}
+use Rattle.cluster_runner.specs.Plays.{Play, play_begins, raw_end}
 use Rattle.cluster_runner.specs.Kept.{Kept, actor_of, new_actor, with_actor, new_kept, mesh_kept, ends_kept, IsAtRest, IsPlayed, Leads}
 use Rattle.cluster_runner.specs.Ready.{IsReady, IsIdle, TakesLine}
 use Rattle.cluster_runner.specs.Goal.{MayTake, actors_after, IsUnderWay}
@@ -57,7 +57,7 @@ takes_declared old new name idle e =
     })
 
 -- ## The lines
-pub line_may : (nodes actors : ℕ) (l : ScriptLine) (ls : List ScriptLine) → ArePlayable nodes actors (map line_of (l ∷ ls)) → AreInRange nodes (l ∷ ls) → MayTake nodes actors l
+pub line_may : (nodes actors : ℕ) (l : ScriptLine) (ls : List ScriptLine) → ArePlayable false nodes actors (map line_of (l ∷ ls)) → AreInRange nodes (l ∷ ls) → MayTake nodes actors l
 unfolding ArePlayable AreInRange
 line_may nodes actors (line.Declare name) ls h r = tt
 line_may nodes actors (line.Takeover actor) ls h r = h.0
@@ -72,7 +72,7 @@ line_may nodes actors (line.Kill node) ls h r = (h.0, h.1)
 line_may nodes actors (line.Restart node) ls h r = (h.0, h.1)
 line_may nodes actors (line.Arm node calls stop) ls h r = (h.0, h.1)
 
-lines_may : (nodes actors : ℕ) (l : ScriptLine) (ls : List ScriptLine) → ArePlayable nodes actors (map line_of (l ∷ ls)) → ArePlayable nodes (actors_after actors l) (map line_of ls)
+lines_may : (nodes actors : ℕ) (l : ScriptLine) (ls : List ScriptLine) → ArePlayable false nodes actors (map line_of (l ∷ ls)) → ArePlayable false nodes (actors_after actors l) (map line_of ls)
 unfolding ArePlayable
 lines_may nodes actors (line.Declare name) ls h = h
 lines_may nodes actors (line.Takeover actor) ls h = h.2
@@ -95,14 +95,14 @@ pub under_way_more : (nodes : ℕ) (lines : List Line) (l : ScriptLine) (ls : Li
     → TakesLine (line_of l) (actors_after (length old.actors) l) old new → IsUnderWay nodes lines ls new
 under_way_more nodes lines l ls old new u t =
     let step : (q : Play) × Leads u.play q × IsAtRest (map line_of ls) new q = t.leads (map line_of ls) u.play u.at_rest in
-    let P : ℕ → Type 0 = λ n. ArePlayable nodes n (map line_of ls) in
+    let P : ℕ → Type 0 = λ n. ArePlayable false nodes n (map line_of ls) in
     record {
       idle = t.idle;
       same_nodes = t.nodes ∙ u.same_nodes;
       in_range = rest_in_range nodes l ls u.in_range;
       playable = subst P (sym t.actors_are) (lines_may nodes (length old.actors) l ls u.playable);
       play = step.0;
-      leads = leads_on (play_begins nodes lines) u.play step.0 u.leads step.1;
+      leads = leads_on (play_begins false nodes lines) u.play step.0 u.leads step.1;
       at_rest = step.2;
     }
 
@@ -124,12 +124,12 @@ under_way_first s n operator ls k playable fits same are o e =
       same_nodes = replicated s.nodes new_cell;
       in_range = fits.lines;
       playable = playable.lines;
-      play = play_begins s.nodes (lines_of s);
-      leads = leads_same (play_begins s.nodes (lines_of s));
+      play = play_begins false s.nodes (lines_of s);
+      leads = leads_same (play_begins false s.nodes (lines_of s));
       at_rest = begins_at_rest s.nodes (lines_of s);
     }))
 
-pub under_way_last : (nodes : ℕ) (lines : List Line) (k : Kept) → IsUnderWay nodes lines [] k → IsPlayed nodes lines (mesh_kept k) (ends_kept k)
+pub under_way_last : (nodes : ℕ) (lines : List Line) (k : Kept) → IsUnderWay nodes lines [] k → IsPlayed false nodes lines (mesh_kept k) (map raw_end (ends_kept k))
 under_way_last nodes lines k u = is_played nodes lines k u.play u.leads u.at_rest
 
 pub drop_more : (ls : List ScriptLine) (i : ℕ) (d : ScriptLine) → i < length ls → drop i ls ≡ get_or ls i d ∷ drop (i + 1) ls
@@ -171,7 +171,7 @@ under_way_on nodes lines ls i d old new l u t =
 pub may_on : (nodes : ℕ) (lines : List Line) (ls : List ScriptLine) (i : ℕ) (d : ScriptLine) (k : Kept) → i < length ls → IsUnderWay nodes lines (drop i ls) k
     → MayTake (length k.nodes) (length k.actors) (get_or ls i d)
 may_on nodes lines ls i d k l u =
-    let P : List ScriptLine → Type 0 = λ xs. ArePlayable nodes (length k.actors) (map line_of xs) in
+    let P : List ScriptLine → Type 0 = λ xs. ArePlayable false nodes (length k.actors) (map line_of xs) in
     let R : List ScriptLine → Type 0 = λ xs. AreInRange nodes xs in
     let Q : ℕ → Type 0 = λ n. MayTake n (length k.actors) (get_or ls i d) in
     subst Q (sym u.same_nodes)
@@ -180,7 +180,7 @@ may_on nodes lines ls i d k l u =
 pub idle_on : (nodes : ℕ) (lines : List Line) (rest : List ScriptLine) (k : Kept) → IsUnderWay nodes lines rest k → IsIdle k
 idle_on nodes lines rest k u = u.idle
 
-pub under_way_end : (nodes : ℕ) (lines : List Line) (ls : List ScriptLine) (k : Kept) → IsUnderWay nodes lines (drop (length ls) ls) k → IsPlayed nodes lines (mesh_kept k) (ends_kept k)
+pub under_way_end : (nodes : ℕ) (lines : List Line) (ls : List ScriptLine) (k : Kept) → IsUnderWay nodes lines (drop (length ls) ls) k → IsPlayed false nodes lines (mesh_kept k) (map raw_end (ends_kept k))
 under_way_end nodes lines ls k u =
     let P : List ScriptLine → Type 0 = λ xs. IsUnderWay nodes lines xs k in
     under_way_last nodes lines k (subst P (none_left ls) u)

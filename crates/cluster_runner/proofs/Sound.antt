@@ -1,36 +1,39 @@
 -- What holds of an actor from its first deed on: its writer calls nodes that there are, its record speaks of these, and it goes by its marks.
 use Rattle.std.proofs.Common.{◌≡◌, ℕ, ◌-◌, ◌≤◌, List, [], ◌∷◌, ◌++◌, Bool, true, false, cond, refl, sym, ◌∙◌, subst, inl, inr}
-use Rattle.std.specs.Prelude.{Option, Some, None, slice_get, ◌==◌}
+use Rattle.std.specs.Prelude.{Option, Some, None, slice_get, ◌==◌, ◌||◌}
 use Rattle.journal_core.specs.declared.request.Request.{Request}
 use Rattle.writer_core.specs.declared.task.Task.{Task}
 use Rattle.writer_core.specs.declared.task.Begun.{Begun}
 use Rattle.writer_core.specs.declared.task.Begun.TheVariants as begun
 use Rattle.writer_core.specs.Views.{WriterView}
-use Rattle.writer_core.specs.Rounds.{Judged}
-use Rattle.writer_core.specs.Writer.{writer_begun, writer_heard}
+use Rattle.writer_core.specs.Writer.{next_call, writer_begun}
 use Rattle.node_world.specs.declared.record.Record.{Record}
 use Rattle.node_world.specs.declared.record.Record.TheVariants.{Call, Late, Operator, Outcome}
 use Rattle.mesh.specs.Marks.{calls_to, IsCopy}
 use Rattle.mesh.specs.Makers.{heard_of}
 use Rattle.mesh.specs.Matches.{IsWithin, AreWithin}
-use Rattle.cluster_runner.specs.Lines.{Deed, Does, DoDrop, DoMute, DoLate, IsDeed, AreDeeds}
-use Rattle.cluster_runner.specs.Actor.{Actor, WantsCall, WantsCopy, fresh_actor, wants, is_wanting, task_begun, copied, deed_taken, settled, handed, moved_on, resettled, goes_on, Fits}
-use Rattle.cluster_runner.proofs.Led.{turn_keeps, moved_keeps}
+use Rattle.name_node.specs.Holding.{Holding, Work, Free, Tails, Logs, Broken}
+use Rattle.cluster_runner.specs.Lines.{Deed, Does, DoDrop, DoMute, DoLate, Submits, Trims, DoTail, Saves, Reloads, IsDeed, AreDeeds, HasNodes}
+use Rattle.cluster_runner.specs.EditResults.{IsRaw, AreRaw}
+use Rattle.cluster_runner.specs.Actor.{Actor, WantsCall, WantsCopy, fresh_actor, call_wanted, work_read, read_first, wants, is_wanting, is_broken, task_begun, copied, held_deed, deed_taken, settled, handed, moved_on, resettled, goes_on, Fits}
+use Rattle.cluster_runner.proofs.Led.{framed_keeps, held_framed, moved_keeps}
+use Rattle.cluster_runner.proofs.Holds.{AsksNode, AsksIn, HoldsWell, Well, taken_well, moved_well, raw_taken, raw_moved, raw_writer}
 use Rattle.mesh.proofs.Lists.{alike, Alike}
-use Rattle.cluster_runner.proofs.Wanting.{Resting, calling, copying, resting}
+use Rattle.cluster_runner.proofs.Wanting.{Calling, Resting, calling, copying, resting, call_by, raw_call}
 use Rattle.node_world.proofs.WriterRange.{Sized, heard_sized, begun_sized, new_sized, call_within}
 use Rattle.cluster_runner.proofs.Goes.{GoesBy, fresh_goes, taken_goes, IsTold, moved_goes}
 
-pub deeds_snoc : (ds : List Deed) (d : Deed) → AreDeeds ds → IsDeed d → AreDeeds (ds ++ d ∷ [])
+pub deeds_snoc : (named : Bool) (ds : List Deed) (d : Deed) → AreDeeds named ds → IsDeed named d → AreDeeds named (ds ++ d ∷ [])
 unfolding AreDeeds
-deeds_snoc [] d h e = (e, tt)
-deeds_snoc (x ∷ ds) d h e = (h.0, deeds_snoc ds d h.1 e)
+deeds_snoc named [] d h e = (e, tt)
+deeds_snoc named (x ∷ ds) d h e = (h.0, deeds_snoc named ds d h.1 e)
 
-pub record Sound (n : ℕ) (a : Actor) : Type 0 where
+pub record Sound (named : Bool) (n : ℕ) (a : Actor) : Type 0 where
   pub sized : Sized n a.writer
   pub within : AreWithin n a.past
   pub goes : GoesBy a
-  pub deeds : AreDeeds a.todo
+  pub deeds : AreDeeds named a.todo
+  pub holds : HoldsWell named n a.holds
 
 pub within_snoc : (n : ℕ) (rs : List Record) (r : Record) → AreWithin n rs → IsWithin n r → AreWithin n (rs ++ r ∷ [])
 unfolding AreWithin
@@ -49,12 +52,23 @@ unfolding copied
 copied_keeps k n None a = (refl, refl)
 copied_keeps k n (Some q) a = (refl, refl)
 
+held_keeps : (d : Deed) (o : Option Holding) (a : Actor) → ((held_deed d o a).todo ≡ a.todo) × ((held_deed d o a).past ≡ a.past)
+held_keeps d o a =
+    let e : ((held_deed d o a).todo ≡ a.todo) × ((held_deed d o a).past ≡ a.past) × ((held_deed d o a).marks ≡ a.marks) × ((held_deed d o a).copies ≡ a.copies) =
+    framed_keeps (held_deed d o) (held_framed d o) a in
+    (e.0, e.1)
+
 pub taken_keeps : (d : Deed) (a : Actor) → ((deed_taken d a).todo ≡ a.todo) × ((deed_taken d a).past ≡ a.past)
 unfolding deed_taken
 taken_keeps (Does t) a = begun_keeps t (writer_begun a.writer t).writer a (writer_begun a.writer t).begun
 taken_keeps (DoDrop k n) a = (refl, refl)
 taken_keeps (DoMute k n) a = (refl, refl)
 taken_keeps (DoLate k n) a = copied_keeps k n _ a
+taken_keeps (Submits es) a = held_keeps (Submits es) a.holds a
+taken_keeps (Trims extra) a = held_keeps (Trims extra) a.holds a
+taken_keeps DoTail a = held_keeps DoTail a.holds a
+taken_keeps Saves a = held_keeps Saves a.holds a
+taken_keeps Reloads a = held_keeps Reloads a.holds a
 
 task_sized : (n : ℕ) (t : Task) (v : WriterView) (a : Actor) (b : Begun) → Sized n v → Sized n a.writer → Sized n (task_begun t v a b).writer
 unfolding task_begun
@@ -67,31 +81,61 @@ unfolding copied
 copied_sized n k i None a h = h
 copied_sized n k i (Some q) a h = h
 
-taken_sized : (n : ℕ) (d : Deed) (a : Actor) → Sized n a.writer → Sized n (deed_taken d a).writer
+raw_sized : (n : ℕ) (d : Deed) (a : Actor) → IsRaw d → Sized n a.writer → Sized n (deed_taken d a).writer
 unfolding deed_taken
-taken_sized n (Does t) a h = task_sized n t (writer_begun a.writer t).writer a (writer_begun a.writer t).begun (begun_sized n a.writer t h) h
-taken_sized n (DoDrop k i) a h = h
-taken_sized n (DoMute k i) a h = h
-taken_sized n (DoLate k i) a h = copied_sized n k i _ a h
+raw_sized n (Does t) a r h = task_sized n t (writer_begun a.writer t).writer a (writer_begun a.writer t).begun (begun_sized n a.writer t h) h
+raw_sized n (DoDrop k i) a r h = h
+raw_sized n (DoMute k i) a r h = h
+raw_sized n (DoLate k i) a r h = copied_sized n k i _ a h
+raw_sized n (Submits es) a r h = absurd r
+raw_sized n (Trims extra) a r h = absurd r
+raw_sized n DoTail a r h = absurd r
+raw_sized n Saves a r h = absurd r
+raw_sized n Reloads a r h = absurd r
 
-taken_sound : (n : ℕ) (d : Deed) (a : Actor) → IsDeed d → Resting a → Sound n a → Sound n (deed_taken d a)
-taken_sound n d a e r h = record {
-  sized = taken_sized n d a h.sized;
+pub deed_raw : (d : Deed) → IsDeed false d → IsRaw d
+deed_raw (Does t) e = tt
+deed_raw (DoDrop k i) e = tt
+deed_raw (DoMute k i) e = tt
+deed_raw (DoLate k i) e = tt
+deed_raw (Submits es) e = absurd e
+deed_raw (Trims extra) e = absurd e
+deed_raw DoTail e = absurd e
+deed_raw Saves e = absurd e
+deed_raw Reloads e = absurd e
+
+pub deeds_raw : (ds : List Deed) → AreDeeds false ds → AreRaw ds
+unfolding AreDeeds
+deeds_raw [] e = tt
+deeds_raw (d ∷ ds) e = (deed_raw d e.0, deeds_raw ds e.1)
+
+taken_held : (named : Bool) (n : ℕ) (d : Deed) (a : Actor) → IsDeed named d → Sized n a.writer → HoldsWell named n a.holds → Sized n (deed_taken d a).writer × HoldsWell named n (deed_taken d a).holds
+taken_held true n d a e s h = let w : Well n (deed_taken d a) = taken_well n d a h.0 (s, h.1) in (w.0, (h.0, w.1))
+taken_held false n d a e s h = (raw_sized n d a (deed_raw d e) s, raw_taken d a (deed_raw d e) ∙ h)
+
+taken_sound : (named : Bool) (n : ℕ) (d : Deed) (a : Actor) → IsDeed named d → Resting a → Sound named n a → Sound named n (deed_taken d a)
+taken_sound named n d a e r h = record {
+  sized = (taken_held named n d a e h.sized h.holds).0;
   within = subst (λ (l : List Record). AreWithin n l) (sym (taken_keeps d a).1) h.within;
-  goes = taken_goes d a e r.copies h.goes;
-  deeds = subst AreDeeds (sym (taken_keeps d a).0) h.deeds;
+  goes = taken_goes named d a e r.copies h.goes;
+  deeds = subst (AreDeeds named) (sym (taken_keeps d a).0) h.deeds;
+  holds = (taken_held named n d a e h.sized h.holds).1;
 }
 
-settled_by : (n : ℕ) (b : Bool) (d : Deed) (ds : List Deed) (a : Actor) → is_wanting (wants a) ≡ b → AreDeeds (d ∷ ds) → Sound n a
-    → (Sound n (deed_taken d a) → Sound n (settled ds (deed_taken d a))) → Sound n (cond b (record a { todo = d ∷ ds }) (settled ds (deed_taken d a)))
-unfolding GoesBy AreDeeds
-settled_by n true d ds a is e h go = record { sized = h.sized; within = h.within; goes = h.goes; deeds = e }
-settled_by n false d ds a is e h go = go (taken_sound n d a e.0 (resting a is) h)
+pub or_false : (b c : Bool) → (b || c) ≡ false → b ≡ false
+or_false true c e = absurd (cc e)
+or_false false c e = refl
 
-pub settled_sound : (n : ℕ) (ds : List Deed) (a : Actor) → AreDeeds ds → Sound n a → Sound n (settled ds a)
+settled_by : (named : Bool) (n : ℕ) (b : Bool) (d : Deed) (ds : List Deed) (a : Actor) → (is_wanting (wants a) || is_broken a) ≡ b → AreDeeds named (d ∷ ds) → Sound named n a
+    → (Sound named n (deed_taken d a) → Sound named n (settled ds (deed_taken d a))) → Sound named n (cond b (record a { todo = d ∷ ds }) (settled ds (deed_taken d a)))
+unfolding GoesBy AreDeeds
+settled_by named n true d ds a is e h go = record { sized = h.sized; within = h.within; goes = h.goes; deeds = e; holds = h.holds }
+settled_by named n false d ds a is e h go = go (taken_sound named n d a e.0 (resting a (or_false (is_wanting (wants a)) (is_broken a) is)) h)
+
+pub settled_sound : (named : Bool) (n : ℕ) (ds : List Deed) (a : Actor) → AreDeeds named ds → Sound named n a → Sound named n (settled ds a)
 unfolding settled AreDeeds GoesBy
-settled_sound n [] a e h = record { sized = h.sized; within = h.within; goes = h.goes; deeds = tt }
-settled_sound n (d ∷ ds) a e h = settled_by n (is_wanting (wants a)) d ds a refl e h (λ g. settled_sound n ds (deed_taken d a) e.1 g)
+settled_sound named n [] a e h = record { sized = h.sized; within = h.within; goes = h.goes; deeds = tt; holds = h.holds }
+settled_sound named n (d ∷ ds) a e h = settled_by named n (is_wanting (wants a) || is_broken a) d ds a refl e h (λ g. settled_sound named n ds (deed_taken d a) e.1 g)
 
 settled_past_by : (b : Bool) (d : Deed) (ds : List Deed) (a : Actor) → (settled ds (deed_taken d a)).past ≡ (deed_taken d a).past → (cond b (record a { todo = d ∷ ds }) (settled ds (deed_taken d a))).past ≡ a.past
 settled_past_by true d ds a h = refl
@@ -100,46 +144,55 @@ settled_past_by false d ds a h = h ∙ (taken_keeps d a).1
 pub settled_past : (ds : List Deed) (a : Actor) → (settled ds a).past ≡ a.past
 unfolding settled
 settled_past [] a = refl
-settled_past (d ∷ ds) a = settled_past_by (is_wanting (wants a)) d ds a (settled_past ds (deed_taken d a))
+settled_past (d ∷ ds) a = settled_past_by (is_wanting (wants a) || is_broken a) d ds a (settled_past ds (deed_taken d a))
 
 pub handed_past : (d : Deed) (a : Actor) → (handed d a).past ≡ a.past
 unfolding handed
 handed_past d a = settled_past (a.todo ++ d ∷ []) a
 
-pub handed_sound : (n : ℕ) (d : Deed) (a : Actor) → IsDeed d → Sound n a → Sound n (handed d a)
+pub handed_sound : (named : Bool) (n : ℕ) (d : Deed) (a : Actor) → IsDeed named d → Sound named n a → Sound named n (handed d a)
 unfolding handed
-handed_sound n d a e h = settled_sound n (a.todo ++ d ∷ []) a (deeds_snoc a.todo d h.deeds e) h
+handed_sound named n d a e h = settled_sound named n (a.todo ++ d ∷ []) a (deeds_snoc named a.todo d h.deeds e) h
 
-pub fresh_sound : (n : ℕ) → Sound n (fresh_actor n)
+fresh_holds : (named : Bool) (n : ℕ) → HasNodes named n → HoldsWell named n (fresh_actor named n).holds
+unfolding fresh_actor
+fresh_holds true n some = (some, tt)
+fresh_holds false n some = refl
+
+pub fresh_sound : (named : Bool) (n : ℕ) → HasNodes named n → Sound named n (fresh_actor named n)
 unfolding fresh_actor AreWithin AreDeeds GoesBy
-fresh_sound n = record { sized = new_sized n; within = tt; goes = fresh_goes; deeds = tt }
+fresh_sound named n some = record { sized = new_sized n; within = tt; goes = fresh_goes; deeds = tt; holds = fresh_holds named n some }
 
 -- ## A line of its record
-moved_sized : (n : ℕ) (r : Record) (a : Actor) → Sized n a.writer → Sized n (moved_on r a).writer
+raw_moved_sized : (n : ℕ) (r : Record) (a : Actor) → a.holds ≡ None → Sized n a.writer → Sized n (moved_on r a).writer
 unfolding moved_on
-moved_sized n (Call k q t) a h =
-    let j : Judged = writer_heard a.writer k (heard_of t) in
-    subst (λ (w : WriterView). Sized n w) (sym (turn_keeps j.turn a.doing (record a { writer = j.writer })).1) (heard_sized n a.writer k (heard_of t) h)
-moved_sized n (Late k q) a h = h
-moved_sized n (Operator k ask d) a h = h
-moved_sized n (Outcome x) a h = h
+raw_moved_sized n (Call k q t) a e h = subst (λ (w : WriterView). Sized n w) (sym (raw_writer k q t a e)) (heard_sized n a.writer k (heard_of t) h)
+raw_moved_sized n (Late k q) a e h = h
+raw_moved_sized n (Operator k ask d) a e h = h
+raw_moved_sized n (Outcome x) a e h = h
+
+moved_held : (named : Bool) (n : ℕ) (r : Record) (a : Actor) → Sized n a.writer → HoldsWell named n a.holds → Sized n (moved_on r a).writer × HoldsWell named n (moved_on r a).holds
+moved_held true n r a s h = let w : Well n (moved_on r a) = moved_well n r a h.0 (s, h.1) in (w.0, (h.0, w.1))
+moved_held false n r a s h = (raw_moved_sized n r a h s, raw_moved r a h)
 
 pub goes_past : (a : Actor) (r : Record) → (goes_on a r).past ≡ a.past ++ r ∷ []
 unfolding goes_on resettled
 goes_past a r = let b : Actor = record a { past = a.past ++ r ∷ [] } in settled_past (moved_on r b).todo (moved_on r b) ∙ (moved_keeps r b).1
 
-pub goes_sound : (n : ℕ) (a : Actor) (r : Record) → Fits (wants a) r → IsTold a r → IsWithin n r → Sound n a → Sound n (goes_on a r)
+pub goes_sound : (named : Bool) (n : ℕ) (a : Actor) (r : Record) → Fits (wants a) r → IsTold a r → IsWithin n r → Sound named n a → Sound named n (goes_on a r)
 unfolding goes_on resettled
-goes_sound n a r f t w h =
+goes_sound named n a r f t w h =
     let b : Actor = record a { past = a.past ++ r ∷ [] } in
     let keeps : ((moved_on r b).todo ≡ b.todo) × ((moved_on r b).past ≡ b.past) × ((moved_on r b).marks ≡ b.marks) = moved_keeps r b in
-    let todo : AreDeeds (moved_on r b).todo = subst AreDeeds (sym keeps.0) h.deeds in
-    settled_sound n (moved_on r b).todo (moved_on r b) todo
+    let todo : AreDeeds named (moved_on r b).todo = subst (AreDeeds named) (sym keeps.0) h.deeds in
+    let held : Sized n (moved_on r b).writer × HoldsWell named n (moved_on r b).holds = moved_held named n r b h.sized h.holds in
+    settled_sound named n (moved_on r b).todo (moved_on r b) todo
     (record {
-      sized = moved_sized n r b h.sized;
+      sized = held.0;
       within = subst (λ (l : List Record). AreWithin n l) (sym keeps.1) (within_snoc n a.past r h.within w);
       goes = moved_goes r a f t h.goes;
       deeds = todo;
+      holds = held.1;
     })
 
 -- ## What it wants is of a node that there is
@@ -155,11 +208,27 @@ made_within n k i q (Late j p ∷ rs) h e = made_within n k i q rs h.1 e
 made_within n k i q (Operator j ask d ∷ rs) h e = made_within n k i q rs h.1 e
 made_within n k i q (Outcome x ∷ rs) h e = made_within n k i q rs h.1 e
 
-pub wants_call_within : (n k : ℕ) (q : Request) (a : Actor) → Sound n a → wants a ≡ WantsCall k q → (1 ≤ k) × (k ≤ n)
-wants_call_within n k q a h e = call_within n a.writer k q h.sized (calling a k q e).call
+-- a read is of the node that the tail asks
+work_within : (n k : ℕ) (q : Request) (w : Work) (t : ℕ) (v : WriterView) → Sized n v → AsksNode n w → work_read w t (call_wanted (next_call v)) ≡ WantsCall k q → (1 ≤ k) × (k ≤ n)
+work_within n k q Free t v s g e = call_within n v k q s (call_by (next_call v) k q e)
+work_within n k q (Tails until node told) t v s g e = let same : node ≡ k = cc e in subst (λ (i : ℕ). (1 ≤ i) × (i ≤ n)) same g
+work_within n k q (Logs ahead dues) t v s g e = call_within n v k q s (call_by (next_call v) k q e)
+work_within n k q Broken t v s g e = call_within n v k q s (call_by (next_call v) k q e)
 
-pub wants_copy_within : (n k : ℕ) (q : Request) (a : Actor) → Sound n a → wants a ≡ WantsCopy k q → (1 ≤ k) × (k ≤ n)
+read_within : (n k : ℕ) (q : Request) (o : Option Holding) (v : WriterView) → Sized n v → AsksIn n o → read_first o (call_wanted (next_call v)) ≡ WantsCall k q → (1 ≤ k) × (k ≤ n)
+unfolding read_first
+read_within n k q None v s g e = call_within n v k q s (call_by (next_call v) k q e)
+read_within n k q (Some h) v s g e = work_within n k q h.work h.position v s g e
+
+wants_within : (named : Bool) (n k : ℕ) (q : Request) (a : Actor) → Sized n a.writer → HoldsWell named n a.holds → Calling k q a → (1 ≤ k) × (k ≤ n)
+wants_within true n k q a s h c = read_within n k q a.holds a.writer s h.1 c.want
+wants_within false n k q a s h c = call_within n a.writer k q s (raw_call a k q h c)
+
+pub wants_call_within : (named : Bool) (n k : ℕ) (q : Request) (a : Actor) → Sound named n a → wants a ≡ WantsCall k q → (1 ≤ k) × (k ≤ n)
+wants_call_within named n k q a h e = wants_within named n k q a h.sized h.holds (calling a k q e)
+
+pub wants_copy_within : (named : Bool) (n k : ℕ) (q : Request) (a : Actor) → Sound named n a → wants a ≡ WantsCopy k q → (1 ≤ k) × (k ≤ n)
 unfolding GoesBy
-wants_copy_within n k q a h e =
+wants_copy_within named n k q a h e =
     let c : IsCopy a.marks a.past k q = h.goes.copy k q (copying a k q e).copies in
     made_within n k (c.0 - 1) q a.past h.within c.2.1

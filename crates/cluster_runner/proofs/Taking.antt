@@ -1,5 +1,5 @@
 -- A script line keeps what a play keeps; and so does each step.
-use Rattle.std.proofs.Common.{◌≡◌, ℕ, zero, suc, ◌+◌, ◌-◌, ◌<◌, ◌≤◌, List, [], ◌∷◌, ◌++◌, Bool, false, refl, sym, ap, ◌∙◌, subst, arith, length, get_or, set, inl, inr, append_assoc}
+use Rattle.std.proofs.Common.{◌≡◌, ℕ, zero, suc, ◌+◌, ◌-◌, ◌<◌, ◌≤◌, List, [], ◌∷◌, ◌++◌, Bool, true, false, refl, sym, ap, ◌∙◌, subst, arith, length, get_or, set, inl, inr, append_assoc}
 use Rattle.std.specs.Prelude.{Option, Some, None, ◌≢◌}
 use Rattle.std.proofs.lemmas.List.{get_or-set_other, length-set, get_or_append_left, length-append, get_or-replicate, length-replicate}
 use Rattle.std.proofs.Math.Seq.{get_or-append_seam}
@@ -9,8 +9,8 @@ use Rattle.node_world.specs.declared.record.Record.TheVariants.{Call, Late, Oper
 use Rattle.node_world.specs.Cell.{fresh_cell, IsLocalRun, cell_after}
 use Rattle.mesh.specs.Makers.{IsOperation, IsOperators}
 use Rattle.mesh.specs.Matches.{reaches, IsSame, AreWithin}
-use Rattle.cluster_runner.specs.Lines.{Deed, Line, Declares, Acts, Operates, Operation, declared, names_in, operations_in, deeds_of, IsDeed, ArePlayable}
-use Rattle.cluster_runner.specs.Actor.{Actor, fresh_actor, handed, Rests, wants, says_first, copy_first, call_wanted}
+use Rattle.cluster_runner.specs.Lines.{Deed, Line, Declares, Acts, Operates, Operation, declared, names_in, operations_in, deeds_of, IsDeed, ArePlayable, HasNodes}
+use Rattle.cluster_runner.specs.Actor.{Actor, fresh_actor, handed, Rests, wants, says_first, copy_first, read_first, call_wanted}
 use Rattle.cluster_runner.specs.Plays.{Play, play_begins, actor_at, taken_at, node_asked, is_done, line_taken, next_line, turned, play_step, play_steps, history_of}
 use Rattle.cluster_runner.specs.Follows.{AreOperations}
 use Rattle.mesh.proofs.Lists.{Alike, alike, append_none, contains_none}
@@ -107,85 +107,92 @@ operated_same n taken rs l e h = record {
   within = h.within;
 }
 
-fresh_rests : (n : ℕ) → wants (fresh_actor n) ≡ Rests
-unfolding wants fresh_actor says_first copy_first call_wanted
-fresh_rests n = refl
+fresh_rests : (named : Bool) (n : ℕ) → wants (fresh_actor named n) ≡ Rests
+unfolding wants fresh_actor says_first copy_first read_first call_wanted
+fresh_rests true n = refl
+fresh_rests false n = refl
 
 more_lines : (lines taken : List Line) (l : Line) (ls rest : List Line) → lines ≡ taken ++ rest → rest ≡ l ∷ ls → lines ≡ (taken ++ l ∷ []) ++ ls
 more_lines lines taken l ls rest all is = all ∙ (ap (λ (z : List Line). taken ++ z) is ∙ sym (append_assoc taken (l ∷ []) ls))
 
 -- ## A declaration
-declares_holds : (n : ℕ) (lines : List Line) (p : Play) (x : List ℕ) (ls : List Line) → Holds n lines p → p.turn ≡ None → p.lines ≡ Declares x ∷ ls → Holds n lines (line_taken (Declares x) (record p { lines = ls }))
+declares_holds : (named : Bool) (n : ℕ) (lines : List Line) (p : Play) (x : List ℕ) (ls : List Line) → Holds named n lines p → p.turn ≡ None → p.lines ≡ Declares x ∷ ls → Holds named n lines (line_taken (Declares x) (record p { lines = ls }))
 unfolding line_taken ArePlayable Alike operations_in actor_at
-declares_holds n lines p x ls h e is =
-    let long : length (p.actors ++ fresh_actor p.nodes ∷ []) ≡ length p.actors + 1 = length-append p.actors (fresh_actor p.nodes ∷ []) in
+declares_holds named n lines p x ls h e is =
+    let long : length (p.actors ++ fresh_actor p.named p.nodes ∷ []) ≡ length p.actors + 1 = length-append p.actors (fresh_actor p.named p.nodes ∷ []) in
     let count : declared (h.taken ++ Declares x ∷ []) ≡ declared h.taken + 1 = declared_declares h.taken x in
     let whole : declared lines ≡ declared h.taken + suc (declared ls) = ap declared (h.all ∙ ap (λ (z : List Line). h.taken ++ z) is) ∙ declared_next h.taken x ls in
     record {
       taken = h.taken ++ Declares x ∷ [];
       all = more_lines lines h.taken (Declares x) ls p.lines h.all is;
+      named_is = h.named_is;
       nodes = h.nodes;
+      some = h.some;
       operator = h.operator;
-      actors = actors_declared p.nodes h.taken p.actors x h.actors;
+      actors = actors_declared p.named p.nodes h.taken p.actors x h.some h.actors;
       cells = h.cells;
-      links = links_declared p.nodes p.operator (fresh_actor p.nodes) p.actors p.operated p.trace (omega (arith, h.operator, h.counted, whole)) h.links;
+      links = links_declared p.nodes p.operator (fresh_actor p.named p.nodes) p.actors p.operated p.trace (omega (arith, h.operator, h.counted, whole)) h.links;
       counted = omega (arith, long, h.counted, count);
       names = ap (λ (z : List (List ℕ)). z ++ x ∷ []) h.names ∙ sym (names_declares h.taken x);
       operated = operated_same p.nodes h.taken p.operated (Declares x) refl h.operated;
-      playable = subst (λ (m : ℕ). ArePlayable p.nodes m ls) (sym long) (subst (λ (z : List Line). ArePlayable p.nodes (length p.actors) z) is h.playable);
+      playable = subst (λ (m : ℕ). ArePlayable p.named p.nodes m ls) (sym long) (subst (λ (z : List Line). ArePlayable p.named p.nodes (length p.actors) z) is h.playable);
       turn = λ b f. absurd (cc (e, f));
       rests = λ c below off. by c (omega (arith, long, below)) (alike c (length p.actors));
     }
   where
-    by : (c : ℕ) → c < length p.actors + 1 → Alike c (length p.actors) → wants (get_or (p.actors ++ fresh_actor p.nodes ∷ []) c (fresh_actor p.nodes)) ≡ Rests
-    by c below (inl f) = ap (λ (z : ℕ). wants (get_or (p.actors ++ fresh_actor p.nodes ∷ []) z (fresh_actor p.nodes))) f.1 ∙ (ap wants (get_or-append_seam p.actors (fresh_actor p.nodes) [] (fresh_actor p.nodes)) ∙ fresh_rests p.nodes)
+    by : (c : ℕ) → c < length p.actors + 1 → Alike c (length p.actors) → wants (get_or (p.actors ++ fresh_actor p.named p.nodes ∷ []) c (fresh_actor p.named p.nodes)) ≡ Rests
+    by c below (inl f) = ap (λ (z : ℕ). wants (get_or (p.actors ++ fresh_actor p.named p.nodes ∷ []) z (fresh_actor p.named p.nodes))) f.1 ∙ (ap wants (get_or-append_seam p.actors (fresh_actor p.named p.nodes) [] (fresh_actor p.named p.nodes)) ∙ fresh_rests p.named p.nodes)
     by c below (inr f) =
         let in_ : c < length p.actors = grind (arith, f.1, below) in
-        let rests : wants (get_or p.actors c (fresh_actor p.nodes)) ≡ Rests = h.rests c in_ (λ (g : p.turn ≡ Some c). cc (e, g)) in
-        ap wants (get_or_append_left p.actors (fresh_actor p.nodes ∷ []) (fresh_actor p.nodes) c in_) ∙ rests
+        let rests : wants (get_or p.actors c (fresh_actor p.named p.nodes)) ≡ Rests = h.rests c in_ (λ (g : p.turn ≡ Some c). cc (e, g)) in
+        ap wants (get_or_append_left p.actors (fresh_actor p.named p.nodes ∷ []) (fresh_actor p.named p.nodes) c in_) ∙ rests
 
 some_is : (a b : ℕ) → Some a ≡ Some b → a ≡ b
 some_is a b e = cc e
 
 -- ## An actor's line
-acts_holds : (n : ℕ) (lines : List Line) (p : Play) (a : ℕ) (d : Deed) (ls : List Line) → Holds n lines p → p.turn ≡ None → p.lines ≡ Acts a d ∷ ls → Holds n lines (line_taken (Acts a d) (record p { lines = ls }))
+acts_holds : (named : Bool) (n : ℕ) (lines : List Line) (p : Play) (a : ℕ) (d : Deed) (ls : List Line) → Holds named n lines p → p.turn ≡ None → p.lines ≡ Acts a d ∷ ls → Holds named n lines (line_taken (Acts a d) (record p { lines = ls }))
 unfolding line_taken ArePlayable actor_at operations_in
-acts_holds n lines p a d ls h e is =
-    let can : (a < length p.actors) × IsDeed d × ArePlayable p.nodes (length p.actors) ls = subst (λ (z : List Line). ArePlayable p.nodes (length p.actors) z) is h.playable in
-    let b : Actor = handed d (get_or p.actors a (fresh_actor p.nodes)) in
+acts_holds named n lines p a d ls h e is =
+    let can : (a < length p.actors) × IsDeed p.named d × ArePlayable p.named p.nodes (length p.actors) ls = subst (λ (z : List Line). ArePlayable p.named p.nodes (length p.actors) z) is h.playable in
+    let b : Actor = handed d (get_or p.actors a (fresh_actor p.named p.nodes)) in
     let long : length (set p.actors a b) ≡ length p.actors = length-set p.actors a b in
     record {
       taken = h.taken ++ Acts a d ∷ [];
       all = more_lines lines h.taken (Acts a d) ls p.lines h.all is;
+      named_is = h.named_is;
       nodes = h.nodes;
+      some = h.some;
       operator = h.operator;
-      actors = actors_handed p.nodes h.taken p.actors a d h.actors can.0 can.1;
+      actors = actors_handed p.named p.nodes h.taken p.actors a d h.actors can.0 can.1;
       cells = h.cells;
-      links = links_same p.nodes p.operator (fresh_actor p.nodes) p.actors p.operated p.trace a b h.links can.0 (handed_past d (get_or p.actors a (fresh_actor p.nodes)));
+      links = links_same p.nodes p.operator (fresh_actor p.named p.nodes) p.actors p.operated p.trace a b h.links can.0 (handed_past d (get_or p.actors a (fresh_actor p.named p.nodes)));
       counted = long ∙ (h.counted ∙ sym (declared_acts h.taken a d));
       names = h.names ∙ sym (names_acts h.taken a d);
       operated = operated_same p.nodes h.taken p.operated (Acts a d) refl h.operated;
-      playable = subst (λ (m : ℕ). ArePlayable p.nodes m ls) (sym long) can.2;
+      playable = subst (λ (m : ℕ). ArePlayable p.named p.nodes m ls) (sym long) can.2;
       turn = λ c f. subst (λ (z : ℕ). z < length (set p.actors a b)) (some_is a c f) (subst (λ (m : ℕ). a < m) (sym long) can.0);
       rests = λ c below off.
           let apart : c ≢ a = λ (y : c ≡ a). off (ap (λ (z : ℕ). Some z) (sym y)) in
-          ap wants (get_or-set_other p.actors a c b (fresh_actor p.nodes) apart) ∙ h.rests c (subst (λ (z : ℕ). c < z) long below) (λ (g : p.turn ≡ Some c). cc (e, g));
+          ap wants (get_or-set_other p.actors a c b (fresh_actor p.named p.nodes) apart) ∙ h.rests c (subst (λ (z : ℕ). c < z) long below) (λ (g : p.turn ≡ Some c). cc (e, g));
     }
 
 -- ## The operator's line
-operates_holds : (n : ℕ) (lines : List Line) (p : Play) (k : ℕ) (ask : NodeAsk) (ls : List Line) → Holds n lines p → p.turn ≡ None → p.lines ≡ Operates k ask ∷ ls → Holds n lines (line_taken (Operates k ask) (record p { lines = ls }))
+operates_holds : (named : Bool) (n : ℕ) (lines : List Line) (p : Play) (k : ℕ) (ask : NodeAsk) (ls : List Line) → Holds named n lines p → p.turn ≡ None → p.lines ≡ Operates k ask ∷ ls → Holds named n lines (line_taken (Operates k ask) (record p { lines = ls }))
 unfolding line_taken node_asked ArePlayable reaches IsSame actor_at
-operates_holds n lines p k ask ls h e is =
-    let can : (1 ≤ k) × (k ≤ p.nodes) × IsOperation ask × ArePlayable p.nodes (length p.actors) ls = subst (λ (z : List Line). ArePlayable p.nodes (length p.actors) z) is h.playable in
+operates_holds named n lines p k ask ls h e is =
+    let can : (1 ≤ k) × (k ≤ p.nodes) × IsOperation ask × ArePlayable p.named p.nodes (length p.actors) ls = subst (λ (z : List Line). ArePlayable p.named p.nodes (length p.actors) z) is h.playable in
     let d : Bool = is_done (taken_at k ask p).answer in
     record {
       taken = h.taken ++ Operates k ask ∷ [];
       all = more_lines lines h.taken (Operates k ask) ls p.lines h.all is;
+      named_is = h.named_is;
       nodes = h.nodes;
+      some = h.some;
       operator = h.operator;
-      actors = actors_operated p.nodes h.taken p.actors k ask h.actors;
+      actors = actors_operated p.named p.nodes h.taken p.actors k ask h.actors;
       cells = nodes_asked p.nodes p.cells p.trace (asked_as k p.operator false ask p) h.cells can.0 can.1 refl;
-      links = links_operated p.nodes p.operator (fresh_actor p.nodes) p.actors p.operated p.trace (Operator k ask d) (asked_as k p.operator false ask p) h.links refl (can.0, can.1)
+      links = links_operated p.nodes p.operator (fresh_actor p.named p.nodes) p.actors p.operated p.trace (Operator k ask d) (asked_as k p.operator false ask p) h.links refl (can.0, can.1)
           (record { reach = λ i. refl; same = (refl, operation_answer (get_or p.cells (k - 1) fresh_cell) ask can.2); muted = refl });
       counted = h.counted ∙ sym (declared_operates h.taken k ask);
       names = h.names ∙ sym (names_operates h.taken k ask);
@@ -196,45 +203,47 @@ operates_holds n lines p k ask ls h e is =
     }
 
 -- ## Any line, any step
-line_holds : (n : ℕ) (lines : List Line) (p : Play) (l : Line) (ls : List Line) → Holds n lines p → p.turn ≡ None → p.lines ≡ l ∷ ls → Holds n lines (line_taken l (record p { lines = ls }))
-line_holds n lines p (Declares x) ls h e is = declares_holds n lines p x ls h e is
-line_holds n lines p (Acts a d) ls h e is = acts_holds n lines p a d ls h e is
-line_holds n lines p (Operates k ask) ls h e is = operates_holds n lines p k ask ls h e is
+line_holds : (named : Bool) (n : ℕ) (lines : List Line) (p : Play) (l : Line) (ls : List Line) → Holds named n lines p → p.turn ≡ None → p.lines ≡ l ∷ ls → Holds named n lines (line_taken l (record p { lines = ls }))
+line_holds named n lines p (Declares x) ls h e is = declares_holds named n lines p x ls h e is
+line_holds named n lines p (Acts a d) ls h e is = acts_holds named n lines p a d ls h e is
+line_holds named n lines p (Operates k ask) ls h e is = operates_holds named n lines p k ask ls h e is
 
-next_holds : (n : ℕ) (lines : List Line) (p : Play) (ls : List Line) → Holds n lines p → p.turn ≡ None → p.lines ≡ ls → Holds n lines (next_line ls p)
+next_holds : (named : Bool) (n : ℕ) (lines : List Line) (p : Play) (ls : List Line) → Holds named n lines p → p.turn ≡ None → p.lines ≡ ls → Holds named n lines (next_line ls p)
 unfolding next_line
-next_holds n lines p [] h e is = h
-next_holds n lines p (l ∷ ls) h e is = line_holds n lines p l ls h e is
+next_holds named n lines p [] h e is = h
+next_holds named n lines p (l ∷ ls) h e is = line_holds named n lines p l ls h e is
 
-turned_holds : (n : ℕ) (lines : List Line) (p : Play) (o : Option ℕ) → Holds n lines p → p.turn ≡ o → Holds n lines (turned o p)
+turned_holds : (named : Bool) (n : ℕ) (lines : List Line) (p : Play) (o : Option ℕ) → Holds named n lines p → p.turn ≡ o → Holds named n lines (turned o p)
 unfolding turned
-turned_holds n lines p None h e = next_holds n lines p p.lines h e refl
-turned_holds n lines p (Some a) h e = wanted_holds n lines p a (wants (actor_at p a)) h e refl
+turned_holds named n lines p None h e = next_holds named n lines p p.lines h e refl
+turned_holds named n lines p (Some a) h e = wanted_holds named n lines p a (wants (actor_at p a)) h e refl
 
-step_holds : (n : ℕ) (lines : List Line) (p : Play) → Holds n lines p → Holds n lines (play_step p)
+step_holds : (named : Bool) (n : ℕ) (lines : List Line) (p : Play) → Holds named n lines p → Holds named n lines (play_step p)
 unfolding play_step
-step_holds n lines p h = turned_holds n lines p p.turn h refl
+step_holds named n lines p h = turned_holds named n lines p p.turn h refl
 
-pub steps_hold : (k n : ℕ) (lines : List Line) (p : Play) → Holds n lines p → Holds n lines (play_steps k p)
+pub steps_hold : (named : Bool) (k n : ℕ) (lines : List Line) (p : Play) → Holds named n lines p → Holds named n lines (play_steps k p)
 unfolding play_steps
-steps_hold zero n lines p h = h
-steps_hold (suc k) n lines p h = steps_hold k n lines (play_step p) (step_holds n lines p h)
+steps_hold named zero n lines p h = h
+steps_hold named (suc k) n lines p h = steps_hold named k n lines (play_step p) (step_holds named n lines p h)
 
 -- ## The beginning
-first_step : (n c : ℕ) → InStep c (get_or [] c (fresh_actor n)).past []
+first_step : (named : Bool) (n c : ℕ) → InStep c (get_or [] c (fresh_actor named n)).past []
 unfolding fresh_actor
-first_step n c = begins
+first_step named n c = begins
 
-pub begins_hold : (n : ℕ) (lines : List Line) → ArePlayable n 0 lines → Holds n lines (play_begins n lines)
+pub begins_hold : (named : Bool) (n : ℕ) (lines : List Line) → HasNodes named n → ArePlayable named n 0 lines → Holds named n lines (play_begins named n lines)
 unfolding play_begins history_of IsLocalRun cell_after names_in declared operations_in AreOperations IsOperators AreWithin deeds_of actor_at
-begins_hold n lines can = record {
+begins_hold named n lines some can = record {
   taken = [];
   all = refl;
+  named_is = refl;
   nodes = refl;
+  some = some;
   operator = refl;
   actors = record { each = λ c below. absurd (omega (arith, below)); none = λ c above. refl };
   cells = record { count = length-replicate n fresh_cell; local = λ i below. tt; state = λ i below. sym (get_or-replicate n i fresh_cell fresh_cell below) };
-  links = record { above = omega arith; actors = λ c off. first_step n c; operator = begins; lines = λ x i. absurd (contains_none x i) };
+  links = record { above = omega arith; actors = λ c off. first_step named n c; operator = begins; lines = λ x i. absurd (contains_none x i) };
   counted = refl;
   names = refl;
   operated = record { follows = tt; theirs = tt; within = tt };

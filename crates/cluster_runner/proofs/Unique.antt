@@ -1,5 +1,5 @@
 -- A script has one play, and lines and answers have one record.
-use Rattle.std.proofs.Common.{◌≡◌, ℕ, zero, suc, ◌+◌, ◌-◌, ◌≤◌, List, [], ◌∷◌, true, refl, sym, ap, ◌∙◌, subst, arith, ◌⊎◌, inl, inr}
+use Rattle.std.proofs.Common.{◌≡◌, ℕ, zero, suc, ◌+◌, ◌-◌, ◌≤◌, List, [], ◌∷◌, Bool, true, refl, sym, ap, ◌∙◌, subst, arith, ◌⊎◌, inl, inr}
 use Rattle.std.specs.Prelude.{Option, None}
 use Rattle.node_world.specs.declared.record.Record.{Record}
 use Rattle.node_world.specs.declared.record.Record.TheVariants.{Call, Late, Operator, Outcome}
@@ -31,22 +31,22 @@ more_steps (suc n) k p =
     let same : k + suc n ≡ suc (k + n) = omega arith in
     ap (λ (x : ℕ). play_steps x p) same ∙ more_steps n k (play_step p)
 
-unique_by : (n : ℕ) (lines : List Line) (p q : Play) (h : IsPlay n lines p) (g : IsPlay n lines q) → h.steps ≤ g.steps → p ≡ q
-unique_by n lines p q h g l =
+unique_by : (named : Bool) (n : ℕ) (lines : List Line) (p q : Play) (h : IsPlay named n lines p) (g : IsPlay named n lines q) → h.steps ≤ g.steps → p ≡ q
+unique_by named n lines p q h g l =
     let same : g.steps ≡ g.steps - h.steps + h.steps = omega (arith, l) in
-    let whole : play_steps g.steps (play_begins n lines) ≡ play_steps (g.steps - h.steps) p =
-    ap (λ (x : ℕ). play_steps x (play_begins n lines)) same ∙ (more_steps h.steps (g.steps - h.steps) (play_begins n lines) ∙ ap (play_steps (g.steps - h.steps)) h.reached) in
+    let whole : play_steps g.steps (play_begins named n lines) ≡ play_steps (g.steps - h.steps) p =
+    ap (λ (x : ℕ). play_steps x (play_begins named n lines)) same ∙ (more_steps h.steps (g.steps - h.steps) (play_begins named n lines) ∙ ap (play_steps (g.steps - h.steps)) h.reached) in
     sym (stays (g.steps - h.steps) p h.ended) ∙ (sym whole ∙ g.reached)
 
-pub one_play : (n : ℕ) (lines : List Line) (p q : Play) → IsPlay n lines p → IsPlay n lines q → p ≡ q
-one_play n lines p q h g = by (total h.steps g.steps)
+pub one_play : (named : Bool) (n : ℕ) (lines : List Line) (p q : Play) → IsPlay named n lines p → IsPlay named n lines q → p ≡ q
+one_play named n lines p q h g = by (total h.steps g.steps)
   where
     total : (a b : ℕ) → (a ≤ b) ⊎ (b ≤ a)
     total a b = grind arith
 
     by : (h.steps ≤ g.steps) ⊎ (g.steps ≤ h.steps) → p ≡ q
-    by (inl l) = unique_by n lines p q h g l
-    by (inr l) = sym (unique_by n lines q p g h l)
+    by (inl l) = unique_by named n lines p q h g l
+    by (inr l) = sym (unique_by named n lines q p g h l)
 
 -- ## What a want fixes of a line
 fixed : (w : Want) (r x : Record) → Fits w r → Fits w x → told_in (r ∷ []) ≡ told_in (x ∷ []) → r ≡ x

@@ -6,13 +6,18 @@ use Rattle.writer_core.specs.Writer.{next_call}
 use Rattle.node_world.specs.declared.node_ask.NodeAsk.{NodeAsk}
 use Rattle.node_world.specs.declared.record.Record.TheVariants.{Call, Late, Operator, Outcome}
 use Rattle.node_world.specs.declared.record.Told.{Told}
-use Rattle.cluster_runner.specs.Actor.{Actor, Want, WantsCall, WantsCopy, Says, Rests, wants, is_wanting, call_wanted, copy_first, says_first, Fits}
+use Rattle.name_node.specs.Holding.{Holding, Work, Free, Tails, Logs, Broken}
+use Rattle.cluster_runner.specs.Actor.{Actor, Want, WantsCall, WantsCopy, Says, Rests, wants, is_wanting, call_wanted, work_read, read_first, copy_first, says_first, Fits}
+
+-- what an actor wants that has nothing to say and no copy to send: a read of its tail, or its writer's call
+abbrev pub reads_or_calls : Actor → Want
+reads_or_calls a = read_first a.holds (call_wanted (next_call a.writer))
 
 -- an actor that wants a call, a copy, or nothing
 pub record Calling (k : ℕ) (q : Request) (a : Actor) : Type 0 where
   pub says : a.says ≡ []
   pub copies : a.copies ≡ None
-  pub call : next_call a.writer ≡ Some (k, q)
+  pub want : reads_or_calls a ≡ WantsCall k q
 
 pub record Copying (k : ℕ) (q : Request) (a : Actor) : Type 0 where
   pub says : a.says ≡ []
@@ -21,7 +26,7 @@ pub record Copying (k : ℕ) (q : Request) (a : Actor) : Type 0 where
 pub record Resting (a : Actor) : Type 0 where
   pub says : a.says ≡ []
   pub copies : a.copies ≡ None
-  pub call : next_call a.writer ≡ None
+  pub want : is_wanting (reads_or_calls a) ≡ false
 
 pub record Saying (t : List ℕ) (a : Actor) : Type 0 where
   pub rest : List (List ℕ)
@@ -41,7 +46,7 @@ same_sending k i q p e =
     let whole : pair k q ≡ pair i p = cc e in
     (ap (λ (c : ℕ × Request). c.0) whole, ap (λ (c : ℕ × Request). c.1) whole)
 
-call_by : (o : Option (ℕ × Request)) (k : ℕ) (q : Request) → call_wanted o ≡ WantsCall k q → o ≡ Some (k, q)
+pub call_by : (o : Option (ℕ × Request)) (k : ℕ) (q : Request) → call_wanted o ≡ WantsCall k q → o ≡ Some (k, q)
 unfolding call_wanted
 call_by None k q e = absurd (cc e)
 call_by (Some c) k q e = let first : c.0 ≡ k = cc e in let second : c.1 ≡ q = cc e in let whole : c ≡ (k, q) = pair_is c k q first second in ap (λ (x : ℕ × Request). Some x) whole
@@ -51,17 +56,45 @@ unfolding call_wanted
 no_copy_in None k q e = cc e
 no_copy_in (Some c) k q e = cc e
 
-rests_by : (o : Option (ℕ × Request)) → is_wanting (call_wanted o) ≡ false → o ≡ None
+pub rests_by : (o : Option (ℕ × Request)) → is_wanting (call_wanted o) ≡ false → o ≡ None
 unfolding call_wanted is_wanting
 rests_by None e = refl
 rests_by (Some c) e = absurd (cc e)
+
+-- a read is a call
+no_copy_read : (w : Work) (n : ℕ) (o : Option (ℕ × Request)) (k : ℕ) (q : Request) → work_read w n (call_wanted o) ≡ WantsCopy k q → ⊥
+no_copy_read Free n o k q e = no_copy_in o k q e
+no_copy_read (Tails until node told) n o k q e = cc e
+no_copy_read (Logs ahead dues) n o k q e = no_copy_in o k q e
+no_copy_read Broken n o k q e = no_copy_in o k q e
+
+no_copy_first : (h : Option Holding) (o : Option (ℕ × Request)) (k : ℕ) (q : Request) → read_first h (call_wanted o) ≡ WantsCopy k q → ⊥
+unfolding read_first
+no_copy_first None o k q e = no_copy_in o k q e
+no_copy_first (Some h) o k q e = no_copy_read h.work h.position o k q e
+
+no_text_in : (o : Option (ℕ × Request)) (t : List ℕ) → call_wanted o ≡ Says t → ⊥
+unfolding call_wanted
+no_text_in None t e = cc e
+no_text_in (Some c) t e = cc e
+
+no_text_read : (w : Work) (n : ℕ) (o : Option (ℕ × Request)) (t : List ℕ) → work_read w n (call_wanted o) ≡ Says t → ⊥
+no_text_read Free n o t e = no_text_in o t e
+no_text_read (Tails until node told) n o t e = cc e
+no_text_read (Logs ahead dues) n o t e = no_text_in o t e
+no_text_read Broken n o t e = no_text_in o t e
+
+no_text_first : (h : Option Holding) (o : Option (ℕ × Request)) (t : List ℕ) → read_first h (call_wanted o) ≡ Says t → ⊥
+unfolding read_first
+no_text_first None o t e = no_text_in o t e
+no_text_first (Some h) o t e = no_text_read h.work h.position o t e
 
 pub calling : (a : Actor) (k : ℕ) (q : Request) → wants a ≡ WantsCall k q → Calling k q a
 unfolding wants says_first copy_first
 calling a k q e = by a.says a.copies refl refl e
   where
-    by : (s : List (List ℕ)) (o : Option (ℕ × Request)) → a.says ≡ s → a.copies ≡ o → says_first s (copy_first o (call_wanted (next_call a.writer))) ≡ WantsCall k q → Calling k q a
-    by [] None f g h = record { says = f; copies = g; call = call_by (next_call a.writer) k q h }
+    by : (s : List (List ℕ)) (o : Option (ℕ × Request)) → a.says ≡ s → a.copies ≡ o → says_first s (copy_first o (reads_or_calls a)) ≡ WantsCall k q → Calling k q a
+    by [] None f g h = record { says = f; copies = g; want = h }
     by [] (Some c) f g h = absurd (cc h)
     by (t ∷ ts) o f g h = absurd (cc h)
 
@@ -69,8 +102,8 @@ pub copying : (a : Actor) (k : ℕ) (q : Request) → wants a ≡ WantsCopy k q 
 unfolding wants says_first copy_first
 copying a k q e = by a.says a.copies refl refl e
   where
-    by : (s : List (List ℕ)) (o : Option (ℕ × Request)) → a.says ≡ s → a.copies ≡ o → says_first s (copy_first o (call_wanted (next_call a.writer))) ≡ WantsCopy k q → Copying k q a
-    by [] None f g h = absurd (no_copy_in (next_call a.writer) k q h)
+    by : (s : List (List ℕ)) (o : Option (ℕ × Request)) → a.says ≡ s → a.copies ≡ o → says_first s (copy_first o (reads_or_calls a)) ≡ WantsCopy k q → Copying k q a
+    by [] None f g h = absurd (no_copy_first a.holds (next_call a.writer) k q h)
     by [] (Some c) f g h = let first : c.0 ≡ k = cc h in let second : c.1 ≡ q = cc h in let whole : c ≡ (k, q) = pair_is c k q first second in record { says = f; copies = g ∙ ap (λ (x : ℕ × Request). Some x) whole }
     by (t ∷ ts) o f g h = absurd (cc h)
 
@@ -78,20 +111,31 @@ pub resting : (a : Actor) → is_wanting (wants a) ≡ false → Resting a
 unfolding wants says_first copy_first is_wanting
 resting a e = by a.says a.copies refl refl e
   where
-    by : (s : List (List ℕ)) (o : Option (ℕ × Request)) → a.says ≡ s → a.copies ≡ o → is_wanting (says_first s (copy_first o (call_wanted (next_call a.writer)))) ≡ false → Resting a
-    by [] None f g h = record { says = f; copies = g; call = rests_by (next_call a.writer) h }
+    by : (s : List (List ℕ)) (o : Option (ℕ × Request)) → a.says ≡ s → a.copies ≡ o → is_wanting (says_first s (copy_first o (reads_or_calls a))) ≡ false → Resting a
+    by [] None f g h = record { says = f; copies = g; want = h }
     by [] (Some c) f g h = absurd (cc h)
     by (t ∷ ts) o f g h = absurd (cc h)
 
 pub saying : (a : Actor) (t : List ℕ) → wants a ≡ Says t → Saying t a
-unfolding wants says_first copy_first call_wanted
-saying a t e = by a.says a.copies (next_call a.writer) refl e
+unfolding wants says_first copy_first
+saying a t e = by a.says a.copies refl e
   where
-    by : (s : List (List ℕ)) (o c : Option (ℕ × Request)) → a.says ≡ s → says_first s (copy_first o (call_wanted c)) ≡ Says t → Saying t a
-    by [] None None f h = absurd (cc h)
-    by [] None (Some x) f h = absurd (cc h)
-    by [] (Some x) c f h = absurd (cc h)
-    by (x ∷ xs) o c f h = let same : x ≡ t = cc h in record { rest = xs; says = f ∙ ap (λ (z : List ℕ). z ∷ xs) same }
+    by : (s : List (List ℕ)) (o : Option (ℕ × Request)) → a.says ≡ s → says_first s (copy_first o (reads_or_calls a)) ≡ Says t → Saying t a
+    by [] None f h = absurd (no_text_first a.holds (next_call a.writer) t h)
+    by [] (Some x) f h = absurd (cc h)
+    by (x ∷ xs) o f h = let same : x ≡ t = cc h in record { rest = xs; says = f ∙ ap (λ (z : List ℕ). z ∷ xs) same }
+
+-- ## Without names
+raw_want : (a : Actor) → a.holds ≡ None → call_wanted (next_call a.writer) ≡ reads_or_calls a
+unfolding read_first
+raw_want a e = sym (ap (λ (o : Option Holding). read_first o (call_wanted (next_call a.writer))) e)
+
+-- the call is the writer's
+pub raw_call : (a : Actor) (k : ℕ) (q : Request) → a.holds ≡ None → Calling k q a → next_call a.writer ≡ Some (k, q)
+raw_call a k q e c = call_by (next_call a.writer) k q (raw_want a e ∙ c.want)
+
+pub raw_rest : (a : Actor) → a.holds ≡ None → Resting a → next_call a.writer ≡ None
+raw_rest a e r = rests_by (next_call a.writer) (ap is_wanting (raw_want a e) ∙ r.want)
 
 pub rests_is : (w : Want) → w ≡ Rests → is_wanting w ≡ false
 unfolding is_wanting

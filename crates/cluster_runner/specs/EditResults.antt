@@ -1,8 +1,10 @@
 -- How many results each line of a script has: a log line one for each edit.
-use Rattle.std.specs.Prelude.{◌≡◌, ℕ, ◌≤◌, List, [], ◌∷◌, ◌++◌, length}
+use Rattle.std.specs.Prelude.{◌≡◌, ℕ, ◌≤◌, false, List, [], ◌∷◌, ◌++◌, length}
 use Rattle.writer_core.specs.declared.task.Task.{Task}
 use Rattle.writer_core.specs.declared.task.Task.TheVariants as task
-use Rattle.cluster_runner.specs.Lines.{Deed, Does, DoDrop, DoMute, DoLate}
+use Rattle.node_world.specs.declared.record.Record.{Record}
+use Rattle.cluster_runner.specs.Lines.{Deed, Does, DoDrop, DoMute, DoLate, Submits, Trims, DoTail, Saves, Reloads}
+use Rattle.cluster_runner.specs.Actor.{Actor, is_broken, goes_on}
 
 abbrev pub results_due : Task → ℕ
 results_due (task.Log bodies) = length bodies
@@ -17,8 +19,30 @@ AreResultsOf (Does t) texts = length texts ≡ results_due t
 AreResultsOf (DoDrop node call) texts = texts ≡ []
 AreResultsOf (DoMute node call) texts = texts ≡ []
 AreResultsOf (DoLate node call) texts = length texts ≤ 1
+AreResultsOf (Submits edits) texts = length texts ≡ length edits
+AreResultsOf (Trims extra) texts = length texts ≡ 1
+AreResultsOf DoTail texts = length texts ≡ 1
+AreResultsOf Saves texts = length texts ≡ 1
+AreResultsOf Reloads texts = length texts ≡ 1
 
 -- the result lines, deed by deed, in order
 unfoldable pub AreResults : List Deed → List (List ℕ) → Type 0
 AreResults [] texts = texts ≡ []
 AreResults (d ∷ ds) texts = (first rest : List (List ℕ)) × (texts ≡ first ++ rest) × AreResultsOf d first × AreResults ds rest
+
+-- the deeds of a script without names
+abbrev pub IsRaw : Deed → Type 0
+IsRaw (Does t) = Unit {0}
+IsRaw (DoDrop node call) = Unit {0}
+IsRaw (DoMute node call) = Unit {0}
+IsRaw (DoLate node call) = Unit {0}
+IsRaw _ = ⊥
+
+abbrev pub AreRaw : List Deed → Type 0
+AreRaw [] = Unit {0}
+AreRaw (d ∷ ds) = IsRaw d × AreRaw ds
+
+-- an actor that meets no bad entry on its way
+unfoldable pub NeverBroken : Actor → List Record → Type 0
+NeverBroken a [] = is_broken a ≡ false
+NeverBroken a (r ∷ rs) = (is_broken a ≡ false) × NeverBroken (goes_on a r) rs

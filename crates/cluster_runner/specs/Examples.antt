@@ -22,7 +22,7 @@ use Rattle.cluster_runner.specs.Plays.{Play, play_begins, play_steps, history_of
 -- ## What a play gives
 -- more steps than any of these plays has
 unfoldable pub played : ℕ → List Line → Play
-played nodes lines = play_steps 150 (play_begins nodes lines)
+played nodes lines = play_steps 150 (play_begins false nodes lines)
 
 -- the result lines of an actor
 unfoldable pub results_at : Play → ℕ → List (List ℕ)

@@ -10,7 +10,7 @@ use Rattle.node_world.specs.declared.record.Record.TheVariants as line
 use Rattle.node_world.specs.declared.record.Told.TheVariants as told
 use Rattle.node_world.specs.Entries.{Entry, Answer, Heard}
 use Rattle.mesh.specs.declared.whole.Mesh.{Mesh}
-use Rattle.mesh.specs.declared.end.End.{End}
+use Rattle.ns_tree.specs.declared.end.End.{End}
 use Rattle.script_text.specs.Views.{ScriptView}
 use Rattle.script_text.specs.declared.script_line.ScriptLine.TheVariants as script
 use Rattle.cluster_runner.specs.Plays.{Play}
@@ -84,7 +84,7 @@ unfoldable pub first_mesh : Mesh
 first_mesh = record { nodes = 3; histories = first_history ∷ first_history ∷ first_history ∷ []; records = first_record ∷ [] ∷ []; plan = [] ∷ [] }
 
 unfoldable pub first_ends : List End
-first_ends = record { name = codes "a" } ∷ []
+first_ends = record { name = codes "a"; last = None } ∷ []
 
 -- its moving entries: what was asked of all nodes in a round, from the proposal on
 abbrev pub moved_by : ℕ → Exchange → Entry

@@ -1,24 +1,27 @@
 -- When a mesh follows a script.
-use Rattle.std.specs.Prelude.{◌≡◌, ℕ, ◌<◌, List, [], ◌∷◌, length, map}
+use Rattle.std.specs.Prelude.{◌≡◌, ℕ, ◌<◌, Bool, false, List, [], ◌∷◌, length, map, Some, slice_get}
 use Rattle.node_world.specs.declared.record.Record.{Record}
 use Rattle.node_world.specs.declared.record.Record.TheVariants.{Operator}
 use Rattle.node_world.specs.declared.mark.Mark.{Mark}
 use Rattle.mesh.specs.declared.whole.Mesh.{Mesh}
-use Rattle.mesh.specs.declared.end.End.{End}
+use Rattle.ns_tree.specs.declared.end.End.{End}
 use Rattle.mesh.specs.Agree.{operator_of, record_of, plan_of}
 use Rattle.script_text.specs.Views.{ScriptView}
 use Rattle.cluster_runner.specs.Lines.{Deed, Line, Operation, lines_of, declared, names_in, deeds_of, operations_in}
 use Rattle.cluster_runner.specs.Actor.{Actor, fresh_actor, settled, wants, Rests, IsLed, actor_after}
+use Rattle.cluster_runner.specs.Plays.{last_of}
 
 -- an actor of that many nodes with these deeds, before its first line, and after a record
-abbrev pub actor_with : ℕ → List Deed → Actor
-actor_with nodes deeds = settled deeds (fresh_actor nodes)
+abbrev pub actor_with : Bool → ℕ → List Deed → Actor
+actor_with named nodes deeds = settled deeds (fresh_actor named nodes)
 
--- The record is what such an actor does by the answers in it, to its end, and the plan has the marks that its deeds set.
-pub record Follows (nodes : ℕ) (deeds : List Deed) (rs : List Record) (plan : List Mark) : Type 0 where
-  pub led : IsLed (actor_with nodes deeds) rs
-  pub ended : wants (actor_after (actor_with nodes deeds) rs) ≡ Rests
-  pub marks : plan ≡ (actor_after (actor_with nodes deeds) rs).marks
+-- The record is what such an actor does by the answers in it, to its end, the plan has the marks that its deeds set, and the end is what it
+-- is left with.
+pub record Follows (named : Bool) (nodes : ℕ) (deeds : List Deed) (rs : List Record) (plan : List Mark) (e : End) : Type 0 where
+  pub led : IsLed (actor_with named nodes deeds) rs
+  pub ended : wants (actor_after (actor_with named nodes deeds) rs) ≡ Rests
+  pub marks : plan ≡ (actor_after (actor_with named nodes deeds) rs).marks
+  pub end : e.last ≡ last_of (actor_after (actor_with named nodes deeds) rs).holds
 
 -- the operator's lines, in order; whether each took place is the node's answer
 unfoldable pub AreOperations : List Operation → List Record → Type 0
@@ -26,13 +29,15 @@ AreOperations [] [] = Unit {0}
 AreOperations (o ∷ os) (Operator node ask done ∷ rs) = (node ≡ o.node) × (ask ≡ o.ask) × AreOperations os rs
 AreOperations _ _ = ⊥
 
-pub record FollowsLines (nodes : ℕ) (lines : List Line) (m : Mesh) (ends : List End) : Type 0 where
+pub record FollowsLines (named : Bool) (nodes : ℕ) (lines : List Line) (m : Mesh) (ends : List End) : Type 0 where
   pub nodes_are : m.nodes ≡ nodes
   pub actors_are : length m.plan ≡ declared lines
   pub names : map (λ e. e.name) ends ≡ names_in lines
-  pub actors : (c : ℕ) → c < operator_of m → Follows nodes (deeds_of c lines) (record_of m c) (plan_of m c)
+  pub actors :
+      (c : ℕ) (e : End) → c < operator_of m → slice_get ends c ≡ Some e
+      → Follows named nodes (deeds_of c lines) (record_of m c) (plan_of m c) e
   pub operator : AreOperations (operations_in lines) (record_of m (operator_of m))
 
 -- its nodes, its actors with their names, plan and records, and the operator's record are the script's
 abbrev pub FollowsScript : ScriptView → Mesh → List End → Type 0
-FollowsScript s m ends = FollowsLines s.nodes (lines_of s) m ends
+FollowsScript s m ends = FollowsLines false s.nodes (lines_of s) m ends

@@ -1,5 +1,5 @@
 -- A script's lines, taken one after the other.
-use Rattle.std.specs.Prelude.{◌≡◌, ◌≢◌, ℕ, ◌+◌, ◌<◌, ◌≤◌, List, [], length, map}
+use Rattle.std.specs.Prelude.{◌≡◌, ◌≢◌, ℕ, ◌+◌, ◌<◌, ◌≤◌, false, List, [], length, map}
 use Rattle.journal_core.specs.Limits.{max_number}
 use Rattle.script_text.specs.declared.script_line.ScriptLine.{ScriptLine}
 use Rattle.script_text.specs.declared.script_line.ScriptLine.TheVariants as line
@@ -31,8 +31,8 @@ actors_after actors _ = actors
 pub record IsUnderWay (nodes : ℕ) (lines : List Line) (rest : List ScriptLine) (k : Kept) : Type 0 where
   pub idle : IsIdle k
   pub same_nodes : length k.nodes ≡ nodes
-  pub playable : ArePlayable nodes (length k.actors) (map line_of rest)
+  pub playable : ArePlayable false nodes (length k.actors) (map line_of rest)
   pub in_range : AreInRange nodes rest
   pub play : Play
-  pub leads : Leads (play_begins nodes lines) play
+  pub leads : Leads (play_begins false nodes lines) play
   pub at_rest : IsAtRest (map line_of rest) k play

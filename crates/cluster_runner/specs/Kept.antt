@@ -1,5 +1,5 @@
 -- What the program keeps of a play, and the play that this is.
-use Rattle.std.specs.Prelude.{◌≡◌, ℕ, true, false, ◌+◌, ◌-◌, List, [], ◌∷◌, ◌++◌, length, map, Option, Some, None, slice_get, slice_index_or, slice_set, replicate}
+use Rattle.std.specs.Prelude.{◌≡◌, ℕ, Bool, false, ◌+◌, ◌-◌, List, [], ◌∷◌, ◌++◌, length, map, Option, Some, None, slice_get, slice_index_or, slice_set, replicate}
 use Rattle.journal_core.specs.declared.request.Request.{Request}
 use Rattle.writer_core.specs.declared.task.Task.{Task}
 use Rattle.writer_core.specs.declared.turn.Turn.{Turn}
@@ -20,13 +20,13 @@ use Rattle.node_world.specs.declared.history_line.HistoryLine.{HistoryLine}
 use Rattle.node_world.specs.Cell.{fresh_cell, cell_takes, cell_after}
 use Rattle.node_world.specs.NodeCells.{CellView, new_cell}
 use Rattle.cluster_runner.specs.Lines.{Line}
-use Rattle.cluster_runner.specs.Results.{results_of, late_none}
 use Rattle.cluster_runner.specs.Actor.{Actor}
 use Rattle.mesh.specs.declared.whole.Mesh.{Mesh}
-use Rattle.mesh.specs.declared.end.End.{End}
+use Rattle.mesh.specs.declared.end.End.{End as NamedEnd}
+use Rattle.ns_tree.specs.declared.end.End.{End}
 use Rattle.mesh.specs.Marks.{mark, calls_to, next_number}
 use Rattle.mesh.specs.Makers.{heard_of}
-use Rattle.cluster_runner.specs.Plays.{Play, play_steps, histories_from, IsPlay, mesh_of, ends_of, Delivery, Delivered, ReplyLost, NotDelivered, delivery, told_of, is_done}
+use Rattle.cluster_runner.specs.Plays.{Play, play_steps, histories_from, IsPlay, mesh_of, ends_of, Delivery, Delivered, ReplyLost, NotDelivered, told_of, is_done}
 
 -- an actor's name, its writer, its record so far, and its marks
 pub record KeptActor : Type 0 where
@@ -101,16 +101,17 @@ operates k node ask =
     }
 
 -- ## The play that this is
--- the actor, with the task under way and the results that are due
+-- the actor, with the task under way and the results that are due; it holds no namespace
 abbrev pub shown : Option Task → List (List ℕ) → KeptActor → Actor
 shown doing texts a =
-    record { todo = []; doing = doing; writer = a.writer; says = texts; copies = None; past = a.past; marks = a.marks }
+    record { todo = []; doing = doing; writer = a.writer; holds = None; says = texts; copies = None; past = a.past; marks = a.marks }
 
 abbrev pub resting : KeptActor → Actor
 resting a = shown None [] a
 
--- all but the actors
+-- all but the actors; it is a play without names
 pub record Stands (k : Kept) (p : Play) : Type 0 where
+  pub named : p.named ≡ false
   pub nodes : length k.nodes ≡ p.nodes
   pub cells : p.cells ≡ map (λ v. v.cell) k.nodes
   pub histories : histories_from 1 p.nodes p.trace ≡ map (λ v. v.history) k.nodes
@@ -157,7 +158,7 @@ mesh_kept k =
       plan = map (λ a. a.marks) k.actors;
     }
 
-abbrev pub ends_kept : Kept → List End
+abbrev pub ends_kept : Kept → List NamedEnd
 ends_kept k = map (λ a. record { name = a.name }) k.actors
 
 -- ## The nodes at the end
@@ -168,9 +169,9 @@ states_kept k = map (λ v. Some v.cell.state) k.nodes
 abbrev pub states_behind : List (List HistoryLine) → List (Option NodeState)
 states_behind histories = map (λ h. Some (cell_after fresh_cell h).state) histories
 
--- This is what some play of a script with these lines is known by at its end.
-pub record IsPlayed (nodes : ℕ) (lines : List Line) (m : Mesh) (ends : List End) : Type 0 where
+-- This is what some play of a script with these lines, with names or without, is known by at its end.
+pub record IsPlayed (named : Bool) (nodes : ℕ) (lines : List Line) (m : Mesh) (ends : List End) : Type 0 where
   pub play : Play
-  pub plays : IsPlay nodes lines play
+  pub plays : IsPlay named nodes lines play
   pub mesh : m ≡ mesh_of play
   pub ends_are : ends ≡ ends_of play

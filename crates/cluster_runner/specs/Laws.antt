@@ -1,31 +1,36 @@
 -- What holds of every play, of every actor that is led, and of their lists.
-use Rattle.std.specs.Prelude.{◌≡◌, ℕ, ◌+◌, ◌<◌, ◌≤◌, List, [], ◌∷◌, ◌++◌}
+use Rattle.std.specs.Prelude.{◌≡◌, ℕ, ◌+◌, ◌<◌, ◌≤◌, Bool, false, List, [], ◌∷◌, ◌++◌, map, true}
 use Rattle.node_world.specs.declared.record.Record.{Record}
 use Rattle.node_world.specs.Cell.{fresh_cell, IsLocalRun}
 use Rattle.node_world.specs.Moving.{moving_of}
 use Rattle.node_world.specs.Run.{IsRun}
-use Rattle.mesh.specs.Makers.{IsOfTasks}
+use Rattle.mesh.specs.Makers.{IsOfTasks, IsOfChores}
 use Rattle.mesh.specs.declared.whole.Mesh.{Mesh}
-use Rattle.mesh.specs.declared.end.End.{End}
+use Rattle.mesh.specs.declared.end.End.{End as NamedEnd}
+use Rattle.ns_tree.specs.declared.end.End.{End}
 use Rattle.mesh.specs.Agree.{Agrees}
-use Rattle.mesh.specs.Order.{epoch_order}
+use Rattle.mesh.specs.Order.{placed_at, entries_at, epoch_order}
 use Rattle.script_text.specs.Views.{ScriptView}
-use Rattle.cluster_runner.specs.Lines.{Deed, AreDeeds, Line, ArePlayable, IsPlayable}
+use Rattle.cluster_runner.specs.Lines.{Deed, AreDeeds, Line, ArePlayable, HasNodes, IsPlayable}
 use Rattle.cluster_runner.specs.Actor.{Actor, Rests, wants, settled, handed, actor_after, IsLed}
-use Rattle.cluster_runner.specs.Plays.{Play, IsPlay, Plays, play_steps, play_begins, history_of, mesh_of, ends_of}
+use Rattle.cluster_runner.specs.Plays.{Play, IsPlay, Plays, play_steps, play_begins, history_of, mesh_of, ends_of, raw_end}
 use Rattle.cluster_runner.specs.Safe.{IsSafeWithEnds}
 use Rattle.cluster_runner.specs.Follows.{actor_with, FollowsLines, FollowsScript}
 use Rattle.node_world.specs.declared.mark.Mark.{Mark}
 use Rattle.cluster_runner.specs.Follows.{Follows}
 use Rattle.cluster_runner.specs.Told.{told_in, results_in}
-use Rattle.cluster_runner.specs.EditResults.{AreResults}
+use Rattle.cluster_runner.specs.EditResults.{AreResults, AreRaw, NeverBroken}
 
 -- ## Plays. Of any lines at all, and of scripts
 abbrev pub LinesAgree : Type 0
-LinesAgree = (nodes : ℕ) → (lines : List Line) → (p : Play) → ArePlayable nodes 0 lines → IsPlay nodes lines p → Agrees (mesh_of p)
+LinesAgree =
+    (named : Bool) → (nodes : ℕ) → (lines : List Line) → (p : Play) → HasNodes named nodes → ArePlayable named nodes 0 lines → IsPlay named nodes lines p
+    → Agrees (mesh_of p)
 
 abbrev pub LinesFollow : Type 0
-LinesFollow = (nodes : ℕ) → (lines : List Line) → (p : Play) → ArePlayable nodes 0 lines → IsPlay nodes lines p → FollowsLines nodes lines (mesh_of p) (ends_of p)
+LinesFollow =
+    (named : Bool) → (nodes : ℕ) → (lines : List Line) → (p : Play) → HasNodes named nodes → ArePlayable named nodes 0 lines → IsPlay named nodes lines p
+    → FollowsLines named nodes lines (mesh_of p) (ends_of p)
 
 abbrev pub PlaysAgree : Type 0
 PlaysAgree = (s : ScriptView) → (p : Play) → IsPlayable s → Plays s p → Agrees (mesh_of p)
@@ -35,14 +40,22 @@ PlaysFollow = (s : ScriptView) → (p : Play) → IsPlayable s → Plays s p →
 
 -- the moving entries of a play, in script order, are a run of the journal world
 abbrev pub LinesAreRuns : Type 0
-LinesAreRuns = (nodes : ℕ) → (lines : List Line) → (p : Play) → ArePlayable nodes 0 lines → IsPlay nodes lines p → IsRun nodes (moving_of p.trace)
+LinesAreRuns =
+    (named : Bool) → (nodes : ℕ) → (lines : List Line) → (p : Play) → HasNodes named nodes → ArePlayable named nodes 0 lines → IsPlay named nodes lines p
+    → IsRun nodes (moving_of p.trace)
+
+-- and at each node they are the node's, in its order
+abbrev pub LinesKeepNodes : Type 0
+LinesKeepNodes =
+    (named : Bool) → (nodes : ℕ) → (lines : List Line) → (p : Play) → HasNodes named nodes → ArePlayable named nodes 0 lines → IsPlay named nodes lines p
+    → (i : ℕ) → i < nodes → entries_at (i + 1) (moving_of p.trace) ≡ moving_of (placed_at (mesh_of p) i)
 
 abbrev pub PlaysAreRuns : Type 0
 PlaysAreRuns = (s : ScriptView) → (p : Play) → IsPlayable s → Plays s p → IsRun s.nodes (moving_of p.trace)
 
--- of every mesh that agrees, whoever made it
+-- of every mesh that agrees, whoever made it, with ends without names
 abbrev pub MeshesAreSafe : Type 0
-MeshesAreSafe = (m : Mesh) → (ends : List End) → Agrees m → IsSafeWithEnds m.nodes (epoch_order m) ends
+MeshesAreSafe = (m : Mesh) → (ends : List NamedEnd) → Agrees m → IsSafeWithEnds m.nodes (epoch_order m) (map raw_end ends)
 
 abbrev pub OnePlay : Type 0
 OnePlay = (s : ScriptView) → (p q : Play) → Plays s p → Plays s q → p ≡ q
@@ -50,8 +63,8 @@ OnePlay = (s : ScriptView) → (p q : Play) → Plays s p → Plays s q → p �
 -- also of a play that has not ended
 abbrev pub LocalRuns : Type 0
 LocalRuns =
-    (nodes : ℕ) → (lines : List Line) → (steps i : ℕ) → ArePlayable nodes 0 lines → i < nodes
-    → IsLocalRun fresh_cell (history_of (i + 1) (play_steps steps (play_begins nodes lines)).trace)
+    (named : Bool) → (nodes : ℕ) → (lines : List Line) → (steps i : ℕ) → HasNodes named nodes → ArePlayable named nodes 0 lines → i < nodes
+    → IsLocalRun fresh_cell (history_of (i + 1) (play_steps steps (play_begins named nodes lines)).trace)
 
 -- ## Actors. Lines that are handed over together, or one after the other
 abbrev pub LinesOneByOne : Type 0
@@ -63,9 +76,14 @@ LineLater =
     (a : Actor) → (rs : List Record) → (d : Deed) → IsLed a rs
     → IsLed (handed d a) rs × (actor_after (handed d a) rs ≡ handed d (actor_after a rs))
 
--- an actor's calls are those of its tasks
+-- an actor's calls are those of its tasks and its tails
 abbrev pub LedIsMade : Type 0
-LedIsMade = (nodes : ℕ) → (ds : List Deed) → (rs : List Record) → AreDeeds ds → IsLed (actor_with nodes ds) rs → IsOfTasks nodes rs
+LedIsMade =
+    (named : Bool) → (nodes : ℕ) → (ds : List Deed) → (rs : List Record) → AreDeeds named ds → IsLed (actor_with named nodes ds) rs → IsOfChores nodes rs
+
+-- and without names of its tasks alone
+abbrev pub LedIsOfTasks : Type 0
+LedIsOfTasks = (nodes : ℕ) → (ds : List Deed) → (rs : List Record) → AreDeeds false ds → IsLed (actor_with false nodes ds) rs → IsOfTasks nodes rs
 
 -- what its calls were told fixes an actor's whole record
 abbrev pub OneRecord : Type 0
@@ -76,4 +94,11 @@ OneRecord =
 -- an actor that follows its lines says each line's results in order: one for each edit of a log line
 abbrev pub EachResult : Type 0
 EachResult =
-    (nodes : ℕ) → (ds : List Deed) → (rs : List Record) → (plan : List Mark) → 1 ≤ nodes → Follows nodes ds rs plan → AreResults ds (results_in rs)
+    (nodes : ℕ) → (ds : List Deed) → (rs : List Record) → (plan : List Mark) → (e : End) → 1 ≤ nodes → AreRaw ds → Follows false nodes ds rs plan e
+    → AreResults ds (results_in rs)
+
+-- and with names, unless it meets a bad entry: one for each edit that is submitted
+abbrev pub EachNamedResult : Type 0
+EachNamedResult =
+    (nodes : ℕ) → (ds : List Deed) → (rs : List Record) → (plan : List Mark) → (e : End) → 1 ≤ nodes → AreDeeds true ds → Follows true nodes ds rs plan e
+    → NeverBroken (actor_with true nodes ds) rs → AreResults ds (results_in rs)

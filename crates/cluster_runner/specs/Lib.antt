@@ -8,6 +8,7 @@ pub mod Told
 pub mod EditResults
 pub mod Laws
 pub mod Examples
+pub mod NamesExamples
 pub mod FirstRun
 pub mod Broken
 pub mod Orders

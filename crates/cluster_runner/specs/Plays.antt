@@ -10,9 +10,12 @@ use Rattle.node_world.specs.declared.record.Told.TheVariants as told
 use Rattle.node_world.specs.Cell.{Cell, fresh_cell, Taken, cell_takes}
 use Rattle.node_world.specs.Moving.{Placed}
 use Rattle.mesh.specs.declared.whole.Mesh.{Mesh}
-use Rattle.mesh.specs.declared.end.End.{End}
+use Rattle.mesh.specs.declared.end.End.{End as NamedEnd}
 use Rattle.mesh.specs.Marks.{next_number}
 unfoldable pub use Rattle.mesh.specs.Traces.{history_of}
+use Rattle.ns_tree.specs.declared.end.End.{End}
+use Rattle.ns_tree.specs.declared.end.LastSpace.{LastSpace}
+use Rattle.name_node.specs.Holding.{Holding}
 use Rattle.script_text.specs.Views.{ScriptView}
 pub use Rattle.caller_seats.specs.declared.delivery.Delivery.{Delivery}
 pub use Rattle.caller_seats.specs.declared.delivery.Delivery.TheVariants.{Delivered, ReplyLost, NotDelivered}
@@ -21,6 +24,8 @@ use Rattle.cluster_runner.specs.Lines.{Line, Declares, Acts, Operates, lines_of,
 use Rattle.cluster_runner.specs.Actor.{Actor, fresh_actor, handed, Want, WantsCall, WantsCopy, Says, Rests, wants, goes_on}
 
 pub record Play : Type 0 where
+  -- with names or without
+  pub named : Bool
   pub nodes : ℕ
   -- the operator's number, behind those of all actors
   pub operator : ℕ
@@ -34,12 +39,12 @@ pub record Play : Type 0 where
   pub trace : List Placed
   pub operated : List Record
 
-unfoldable pub play_begins : ℕ → List Line → Play
-play_begins nodes lines =
-    record { nodes = nodes; operator = declared lines; lines = lines; turn = None; names = []; cells = replicate nodes fresh_cell; actors = []; trace = []; operated = [] }
+unfoldable pub play_begins : Bool → ℕ → List Line → Play
+play_begins named nodes lines =
+    record { named = named; nodes = nodes; operator = declared lines; lines = lines; turn = None; names = []; cells = replicate nodes fresh_cell; actors = []; trace = []; operated = [] }
 
 unfoldable pub actor_at : Play → ℕ → Actor
-actor_at p c = slice_index_or p.actors c (fresh_actor p.nodes)
+actor_at p c = slice_index_or p.actors c (fresh_actor p.named p.nodes)
 
 -- ## What a node is asked
 abbrev pub taken_at : ℕ → NodeAsk → Play → Taken
@@ -73,7 +78,7 @@ wanted (WantsCall node r) c p = call_made (delivery (actor_at p c).marks node (n
 wanted (WantsCopy node r) c p = copy_made c node r p
 
 unfoldable pub line_taken : Line → Play → Play
-line_taken (Declares name) p = record p { names = p.names ++ name ∷ []; actors = p.actors ++ fresh_actor p.nodes ∷ [] }
+line_taken (Declares name) p = record p { names = p.names ++ name ∷ []; actors = p.actors ++ fresh_actor p.named p.nodes ∷ [] }
 line_taken (Acts c d) p = record p { turn = Some c; actors = slice_set p.actors c (handed d (actor_at p c)) }
 line_taken (Operates node ask) p =
     record (node_asked node p.operator false ask p) { operated = p.operated ++ Operator node ask (is_done (taken_at node ask p).answer) ∷ [] }
@@ -101,13 +106,13 @@ no_lines (l ∷ ls) = false
 unfoldable pub has_ended : Play → Bool
 has_ended p = no_lines p.lines && is_none p.turn
 
-pub record IsPlay (nodes : ℕ) (lines : List Line) (p : Play) : Type 0 where
+pub record IsPlay (named : Bool) (nodes : ℕ) (lines : List Line) (p : Play) : Type 0 where
   pub steps : ℕ
-  pub reached : play_steps steps (play_begins nodes lines) ≡ p
+  pub reached : play_steps steps (play_begins named nodes lines) ≡ p
   pub ended : has_ended p ≡ true
 
 abbrev pub Plays : ScriptView → Play → Type 0
-Plays s p = IsPlay s.nodes (lines_of s) p
+Plays s p = IsPlay false s.nodes (lines_of s) p
 
 -- ## Its mesh and its ends
 -- of so many nodes, from this one on
@@ -124,5 +129,22 @@ mesh_of p =
       plan = map (λ a. a.marks) p.actors;
     }
 
+-- what is left of an actor with names: its position and rows
+abbrev pub last_of : Option Holding → Option LastSpace
+last_of None = None
+last_of (Some h) = Some (record { position = h.position; rows = h.space.pairs })
+
+unfoldable pub ends_from : List (List ℕ) → List Actor → List End
+ends_from [] rest = []
+ends_from (name ∷ names) [] = []
+ends_from (name ∷ names) (a ∷ rest) = record { name = name; last = last_of a.holds } ∷ ends_from names rest
+
 unfoldable pub ends_of : Play → List End
-ends_of p = map (λ name. record { name = name }) p.names
+ends_of p = ends_from p.names p.actors
+
+-- ## Ends without names: the program keeps their names alone
+abbrev pub raw_end : NamedEnd → End
+raw_end e = record { name = e.name; last = None }
+
+abbrev pub named_end : End → NamedEnd
+named_end e = record { name = e.name }

@@ -1,5 +1,5 @@
 -- The result lines of a script line.
-use Rattle.std.specs.Prelude.{ℕ, ◌+◌, List, [], ◌∷◌, ◌++◌, map, codes, decimal}
+use Rattle.std.specs.Prelude.{ℕ, ◌+◌, List, [], ◌∷◌, ◌++◌, map, codes, decimal, true, false}
 use Rattle.request_text.specs.Texts.{refusal_cause_text}
 use Rattle.writer_core.specs.declared.task.Task.{Task}
 use Rattle.writer_core.specs.declared.task.Task.TheVariants as task
@@ -9,6 +9,9 @@ use Rattle.writer_core.specs.declared.turn.Turn.{Turn}
 use Rattle.writer_core.specs.declared.turn.Turn.TheVariants as turn
 use Rattle.writer_core.specs.declared.turn.Outcome.{Outcome}
 use Rattle.writer_core.specs.declared.turn.Outcome.TheVariants as outcome
+use Rattle.ns_replay.specs.declared.refusal.AdmitRefusal.{AdmitRefusal}
+use Rattle.ns_replay.specs.declared.refusal.AdmitRefusal.TheVariants as refusal
+use Rattle.name_node.specs.Submissions.{Due, Pends, Refused, Repeats, TooLong}
 
 -- a word with a number behind a space
 abbrev pub word : List ℕ → ℕ → List ℕ
@@ -49,18 +52,24 @@ unfoldable pub acked : ℕ → Task → List (List ℕ)
 acked first (task.Log bodies) = acked_from first bodies
 acked first _ = []
 
+abbrev pub took : ℕ → ℕ → List ℕ
+took epoch first = word (word (codes "takeover") epoch) first
+
 -- ## The results of a task that ended
 unfoldable pub done_results : Task → Outcome → List (List ℕ)
-done_results t (outcome.Takeover epoch first) = word (word (codes "takeover") epoch) first ∷ []
+done_results t (outcome.Takeover epoch first) = took epoch first ∷ []
 done_results t (outcome.Log first last) = acked first t
 done_results t (outcome.Roll start) = word (codes "roll") start ∷ []
 done_results t (outcome.Close last) = word (codes "close") last ∷ []
 done_results t outcome.Purge = codes "purge ok" ∷ []
 
+abbrev pub aborted_results : Task → List Cause → List (List ℕ)
+aborted_results t causes = for_each t (name_of t ++ codes "aborted" ++ cause_words causes)
+
 unfoldable pub results_of : Task → Turn → List Cause → List (List ℕ)
 results_of t turn.Going causes = []
 results_of t (turn.Done o) causes = done_results t o
-results_of t turn.Aborted causes = for_each t (name_of t ++ codes "aborted" ++ cause_words causes)
+results_of t turn.Aborted causes = aborted_results t causes
 results_of t (turn.EpochLimit told) causes = word (codes "takeover limit") told ∷ []
 
 -- ## The results of a task that did not begin
@@ -73,3 +82,38 @@ too_long_results t number = for_each t (word (codes "toolong") number)
 -- the result of a late copy of no call
 unfoldable pub late_none : List ℕ
 late_none = codes "late none"
+
+-- ## Edits that are submitted
+unfoldable pub refusal_text : AdmitRefusal → List ℕ
+refusal_text refusal.NoParent = codes "refused 1 NoParent"
+refusal_text refusal.Exists = codes "refused 2 Exists"
+refusal_text refusal.Missing = codes "refused 3 Missing"
+refusal_text refusal.NotDirectory = codes "refused 4 NotDirectory"
+refusal_text refusal.NotFile = codes "refused 5 NotFile"
+refusal_text refusal.NotEmpty = codes "refused 6 NotEmpty"
+refusal_text refusal.UnderConstruction = codes "refused 7 UnderConstruction"
+refusal_text refusal.Root = codes "refused 8 Root"
+refusal_text refusal.IntoItself = codes "refused 9 IntoItself"
+refusal_text refusal.BadName = codes "refused 10 BadName"
+refusal_text refusal.BadNumber = codes "refused 11 BadNumber"
+refusal_text (refusal.RepeatedCall txid) = word (codes "repeated") txid
+
+-- the edits that were to be logged have the txids from this one on
+unfoldable pub dues_logged : ℕ → List Due → List (List ℕ)
+dues_logged txid [] = []
+dues_logged txid (Pends ∷ ds) = word (codes "acked") txid ∷ dues_logged (txid + 1) ds
+dues_logged txid (Refused r ∷ ds) = refusal_text r ∷ dues_logged txid ds
+dues_logged txid (Repeats t pends ∷ ds) = word (codes "repeated") t ∷ dues_logged txid ds
+dues_logged txid (TooLong number ∷ ds) = word (codes "toolong") number ∷ dues_logged txid ds
+
+-- what repeats a call that was to be logged shares its lot
+unfoldable pub dues_aborted : List ℕ → List Due → List (List ℕ)
+dues_aborted text [] = []
+dues_aborted text (Pends ∷ ds) = text ∷ dues_aborted text ds
+dues_aborted text (Refused r ∷ ds) = refusal_text r ∷ dues_aborted text ds
+dues_aborted text (Repeats t true ∷ ds) = text ∷ dues_aborted text ds
+dues_aborted text (Repeats t false ∷ ds) = word (codes "repeated") t ∷ dues_aborted text ds
+dues_aborted text (TooLong number ∷ ds) = word (codes "toolong") number ∷ dues_aborted text ds
+
+unfoldable pub abort_text : List Cause → List ℕ
+abort_text causes = codes "aborted" ++ cause_words causes

@@ -1,28 +1,21 @@
--- Safety of a run and of what the actors end with.
-use Rattle.std.specs.Prelude.{◌≡◌, ℕ, List, length, reverse, Option, Some, None, Contains}
+-- Safety of a run and of what the actors end with: each namespace is a replay of the line's first entries.
+use Rattle.std.specs.Prelude.{◌≡◌, ℕ, ◌+◌, List, [], ◌∷◌, length, reverse, Some, slice_get}
+use Rattle.ns_tree.specs.declared.end.End.{End}
+use Rattle.ns_tree.specs.declared.end.LastSpace.{LastSpace}
+use Rattle.ns_replay.specs.Replay.{IsReplay}
 use Rattle.node_world.specs.Entries.{Entry}
-use Rattle.node_world.specs.Safe.{HasBody, IsOnLine, IsSafe}
-use Rattle.mesh.specs.declared.end.End.{End}
+use Rattle.node_world.specs.Safe.{IsOnLine, IsSafe}
 
--- What an actor with a namespace ends with: the txid that it reached, and its rows.
-pub record Replayed : Type 0 where
-  pub position : ℕ
-  pub rows : List (List ℕ)
-
--- what an end has of it: no actor has a namespace yet
-abbrev pub last_of : End → Option Replayed
-last_of e = None
-
--- These rows are the replay of this log. Replay is defined with the namespace. There is none yet, so no rows are a replay, and an actor
--- that ends with rows isn't safe.
-pub data IsReplay (log : List (List ℕ)) (rows : List (List ℕ)) : Type 0 where
+-- bodies that stand behind so many others
+abbrev pub AllOn : (ℕ → List ℕ → Type 0) → ℕ → List (List ℕ) → Type 0
+AllOn L t [] = Unit {0}
+AllOn L t (body ∷ bodies) = L (t + 1) body × AllOn L (t + 1) bodies
 
 -- each end's rows are the replay of the line up to its position
 abbrev pub EndsReplay : ℕ → List Entry → List End → Type 0
 EndsReplay n past ends =
-    (e : End) (r : Replayed) → Contains ends e → last_of e ≡ Some r
-    → (log : List (List ℕ)) × (length log ≡ r.position)
-    × ((txid : ℕ) (body : List ℕ) → HasBody 1 log txid body → IsOnLine n past txid body) × IsReplay log r.rows
+    (c : ℕ) (e : End) (last : LastSpace) → slice_get ends c ≡ Some e → e.last ≡ Some last
+    → (log : List (List ℕ)) × AllOn (IsOnLine n past) 0 log × (length log ≡ last.position) × IsReplay log last.rows
 
 -- over entries oldest first, and what the actors end with
 pub record IsSafeWithEnds (n : ℕ) (entries : List Entry) (ends : List End) : Type 0 where

@@ -1,5 +1,5 @@
 // What holds of every play.
-ghost use Rattle.cluster_runner.specs.Laws.{LinesAgree, LinesFollow, PlaysAgree, PlaysFollow, LinesAreRuns, PlaysAreRuns, MeshesAreSafe, OnePlay, LocalRuns, LinesOneByOne, LineLater, LedIsMade, OneRecord, EachResult};
+ghost use Rattle.cluster_runner.specs.Laws.{LinesAgree, LinesFollow, PlaysAgree, PlaysFollow, LinesAreRuns, LinesKeepNodes, PlaysAreRuns, MeshesAreSafe, OnePlay, LocalRuns, LinesOneByOne, LineLater, LedIsMade, LedIsOfTasks, OneRecord, EachResult, EachNamedResult};
 ghost use Rattle.cluster_runner.specs.Faultless.{MeshesShowNoFault};
 
 /// The lists of all nodes and of all callers of a play agree.
@@ -14,14 +14,14 @@ pub fn a_play_follows()
     ensures script { PlaysFollow }
 {}
 
-/// The moving entries of a play, in script order, are a run of the journal world.
+/// The moving entries of a play, in script order, are a run of the journal world, with each node's in its order.
 pub fn a_play_is_a_run()
     ensures lines { LinesAreRuns }
+    ensures nodes { LinesKeepNodes }
     ensures script { PlaysAreRuns }
 {}
 
-/// The moving entries of every mesh that agrees, in the order of the epochs, are safe, with whatever ends: no actor has a
-/// namespace yet.
+/// The moving entries of every mesh that agrees, in the order of the epochs, are safe, with whatever ends without names.
 pub fn a_mesh_that_agrees_is_safe()
     ensures { MeshesAreSafe }
 {}
@@ -47,9 +47,10 @@ pub fn lines_one_by_one()
     ensures later { LineLater }
 {}
 
-/// An actor's calls are those of its tasks, by the answers that it heard.
+/// An actor's calls are those of its tasks and its tails, by the answers that it heard; without names those of its tasks.
 pub fn an_actor_does_its_tasks()
-    ensures { LedIsMade }
+    ensures chores { LedIsMade }
+    ensures tasks { LedIsOfTasks }
 {}
 
 /// What an actor's calls were told fixes its whole record.
@@ -57,7 +58,9 @@ pub fn answers_fix_the_record()
     ensures { OneRecord }
 {}
 
-/// Each edit of a log line has exactly one result line, and so has each takeover, roll, close and purge.
+/// Each edit of a log line has exactly one result line, and so has each takeover, roll, close and purge. With names, of an actor
+/// that meets no bad entry, each edit that is submitted has one, and so has each takeover, roll, close, trim, tail, save and reload.
 pub fn each_edit_has_one_result()
-    ensures { EachResult }
+    ensures raw { EachResult }
+    ensures named { EachNamedResult }
 {}

@@ -1,9 +1,10 @@
 // Scripts are played.
-ghost use Rattle.std.specs.Prelude.{◌≡◌, ◌≤◌, ◌<◌, ◌^◌, ◌∷◌, [], IfOk, OnOk, Some, length, map, drop, replicate};
+ghost use Rattle.std.specs.Prelude.{◌≡◌, ◌≤◌, ◌<◌, ◌^◌, ◌∷◌, [], IfOk, OnOk, Some, false, length, map, drop, replicate};
 ghost use Rattle.std.specs.List.{All};
 ghost use Rattle.journal_core.specs.Step.{fresh_state};
 ghost use Rattle.script_text.specs.declared.script_line.ScriptLine.{ScriptLine};
 ghost use Rattle.cluster_runner.specs.Lines.{line_of, lines_of, declared, IsPlayable, NumbersFit};
+ghost use Rattle.cluster_runner.specs.Plays.{raw_end};
 ghost use Rattle.cluster_runner.specs.Kept.{IsPlayed, mesh_kept, ends_kept, states_kept, states_behind};
 ghost use Rattle.cluster_runner.specs.Ready.{IsIdle, TakesLine};
 ghost use Rattle.cluster_runner.specs.Goal.{MayTake, actors_after, IsUnderWay};
@@ -102,7 +103,7 @@ pub fn play_on<N: CutNode + Drop>(
     requires count { length nodes.items ≡ script.now.nodes }
     requires fresh { All (λ n. N.state n ≡ Some fresh_state) nodes.items }
     requires steady { All (λ n. N.steady n) nodes.items }
-    ensures played { IfOk result (λ played. IsPlayed script.now.nodes (lines_of script.now) played.mesh played.ends) }
+    ensures played { IfOk result (λ played. IsPlayed false script.now.nodes (lines_of script.now) played.mesh (map raw_end played.ends)) }
     ensures states { IfOk result (λ played. map (λ n. N.state n) played.nodes.items ≡ states_behind played.mesh.histories) }
     ensures steady { IfOk result (λ played. All (λ n. N.steady n) played.nodes.items) }
 {
@@ -131,7 +132,7 @@ fn plain_nodes(alloc: Global, count: usize) -> Result<Vec<PlainNode>, OutOfMemor
 pub fn play(alloc: Global, script: &Script) -> Result<Played<PlainNode>, OutOfMemory>
     requires playable { IsPlayable script.now }
     requires numbers { NumbersFit script.now }
-    ensures { IfOk result (λ played. IsPlayed script.now.nodes (lines_of script.now) played.mesh played.ends) }
+    ensures { IfOk result (λ played. IsPlayed false script.now.nodes (lines_of script.now) played.mesh (map raw_end played.ends)) }
 {
     let nodes = plain_nodes(alloc, script.nodes())?;
     play_on(alloc, nodes, script)

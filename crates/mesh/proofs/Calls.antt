@@ -15,7 +15,7 @@ use Rattle.writer_core.specs.Answers.{is_ok, is_waiting}
 use Rattle.writer_core.specs.Rounds.{request_in, to_all}
 use Rattle.writer_core.specs.Writer.{next_call, call_in, node_in}
 
-abbrev pair : ℕ → Request → ℕ × Request
+abbrev pub pair : ℕ → Request → ℕ × Request
 pair k q = (k, q)
 
 pub record CallAt (w : WriterView) (k : ℕ) (q : Request) : Type 0 where

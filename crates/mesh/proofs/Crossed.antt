@@ -19,7 +19,7 @@ use Rattle.node_world.specs.Cell.{cell_takes, fresh_cell, IsLocalRun}
 use Rattle.node_world.specs.Moving.{Placed, epoch_of, moves, move_of, entry_of, moving_of}
 use Rattle.node_world.proofs.Slots.{true≢false}
 use Rattle.mesh.specs.Marks.{IsAsMarked, IsMarked, AreCopied}
-use Rattle.mesh.specs.Makers.{maker_of, maker_hears, HaveBodies, IsMade, IsOfTasks, IsOperators}
+use Rattle.mesh.specs.Makers.{Writes, maker_of, maker_hears, HaveBodies, IsMade, IsOfChores, IsOperators}
 use Rattle.mesh.specs.Matches.{reaches, reached, lines_of, IsSame, AreSame, AreWithin, CallersWithin}
 use Rattle.mesh.specs.Agree.{Agrees, operator_of, history_at, record_of, plan_of}
 use Rattle.mesh.specs.Owners.{wins, owns}
@@ -42,10 +42,10 @@ local_of zero l = (refl, (refl, (refl, (refl, tt))))
 local_of (suc zero) l = (refl, (refl, (refl, (refl, tt))))
 local_of (suc (suc i)) l = absurd (omega (arith, l))
 
-made_of : (c : ℕ) → c < 2 → IsOfTasks 2 (record_of crossed c)
+made_of : (c : ℕ) → c < 2 → IsOfChores 2 (record_of crossed c)
 unfolding crossed HaveBodies IsMade find_segment newest limit_of best_from greatest_promise greatest_newest judged fetched log_limit writer_begun writer_heard maker_of maker_hears
-made_of zero l = (task.Takeover ∷ [], (tt, tt), (refl, (refl, (refl, (refl, tt)))))
-made_of (suc zero) l = (task.Takeover ∷ [], (tt, tt), (refl, (refl, (refl, (refl, tt)))))
+made_of zero l = (Writes task.Takeover ∷ [], (tt, tt), (refl, (refl, (refl, (refl, tt)))))
+made_of (suc zero) l = (Writes task.Takeover ∷ [], (tt, tt), (refl, (refl, (refl, (refl, tt)))))
 made_of (suc (suc c)) l = absurd (omega (arith, l))
 
 same_of : (i c : ℕ) → i < 2 → c ≤ 2 → AreSame (reached (i + 1) (record_of crossed c)) (lines_of c (history_at crossed i))
@@ -60,7 +60,7 @@ same_of (suc (suc i)) c l m = absurd (omega (arith, l))
 same_of zero (suc (suc (suc c))) l m = absurd (omega (arith, m))
 same_of (suc zero) (suc (suc (suc c))) l m = absurd (omega (arith, m))
 
-unmarked : (node number : ℕ) (x : Reply) → IsAsMarked [] node number (told.Reply x)
+pub unmarked : (node number : ℕ) (x : Reply) → IsAsMarked [] node number (told.Reply x)
 unmarked node number x = ((λ e. absurd (cc e), λ e. absurd (contains_none _ e)), (λ off. (λ e. absurd (cc e), λ e. absurd (contains_none _ e))))
 
 marked_of : (c : ℕ) → c < 2 → IsMarked (plan_of crossed c) [] (record_of crossed c)

@@ -2,12 +2,13 @@
 use Rattle.std.proofs.Common.{◌≡◌, ◌≢◌, ℕ, zero, suc, ◌+◌, ◌-◌, ◌<◌, ◌≤◌, inl, inr, List, [], ◌∷◌, ◌++◌, Bool, true, false, not, cond, filter, length, refl, sym, ap, ◌∙◌, subst, arith, append_assoc, Option, Some, None, is_some}
 use Rattle.std.specs.Prelude.{slice_get, ◌&&◌}
 use Rattle.journal_core.specs.declared.request.Request.{Request}
+use Rattle.journal_core.specs.declared.request.Request.TheVariants as request
 use Rattle.journal_core.specs.declared.reply.Reply.{Reply}
 use Rattle.journal_core.specs.declared.reply.Reply.TheVariants as reply
 use Rattle.journal_core.specs.declared.heard.Heard.TheVariants as heard
 use Rattle.writer_core.specs.declared.task.Task.{Task}
 use Rattle.writer_core.specs.Views.{WriterView}
-use Rattle.writer_core.specs.Writer.{new_writer, writer_begun, next_call, writer_heard}
+use Rattle.writer_core.specs.Writer.{new_writer, HasBody, writer_begun, next_call, writer_heard}
 use Rattle.writer_core.proofs.Plain.{plain_heard}
 use Rattle.node_world.specs.declared.node_ask.NodeAsk.{NodeAsk}
 use Rattle.node_world.specs.declared.node_ask.NodeAsk.TheVariants.{Act}
@@ -30,7 +31,7 @@ use Rattle.node_world.proofs.Tracked.{free}
 use Rattle.node_world.proofs.CallLeft.{entry, HasEpoch}
 use Rattle.mesh.specs.declared.whole.Mesh.{Mesh}
 use Rattle.mesh.specs.Marks.{calls_to, IsMarked}
-use Rattle.mesh.specs.Makers.{Maker, heard_of, maker_of, maker_hears, HaveBodies, IsMade}
+use Rattle.mesh.specs.Makers.{Maker, heard_of, maker_of, asks, maker_hears, IsMade}
 use Rattle.mesh.specs.Matches.{reaches, reached, lines_of, StandsFor, IsSame, AreSame, AreWithin}
 use Rattle.mesh.specs.Agree.{Agrees, operator_of, history_at, record_of, plan_of}
 use Rattle.mesh.specs.Order.{was_muted}
@@ -41,7 +42,8 @@ use Rattle.node_world.proofs.Fair.{IsTold}
 use Rattle.node_world.proofs.CallLeft.{CallLeft, nothing, unheard, answered, enters_answer, enters_muted, enters_late, enters_stop}
 use Rattle.mesh.proofs.Signs.{Sign, entries, sign_onto, entry_by, line_for, noted_at, diary, all_signs}
 use Rattle.node_world.proofs.WorldEntries.{CopyLeft, no_entry, an_entry}
-use Rattle.mesh.proofs.FairActs.{Standing, call_stands, task_stands, other_stands, copy_stands}
+use Rattle.mesh.proofs.FairActs.{Standing, call_stands, read_stands, task_stands, other_stands, copy_stands}
+use Rattle.mesh.proofs.Chores.{Stands, maker_stands, hears_stands}
 
 -- ## A line that did more than fall is of a request with an epoch
 pub record HasRequest (h : HistoryLine) : Type 0 where
@@ -231,50 +233,60 @@ module _ (m : Mesh) (c : ℕ) (a : Agrees m) (mine : c < operator_of m) where
       (copy_left n c p k q ss w.line.answer (stops_under m k w.line true q a low high w.in_history w.same))
 
   -- ## Along the record
-  cond_stands : (b : Bool) (x y : Maker) (before : List Record) (past : List Entry) → HaveBodies x.tasks × Standing n c before past x.writer → HaveBodies y.tasks × Standing n c before past y.writer
-      → HaveBodies (cond b x y).tasks × Standing n c before past (cond b x y).writer
-  cond_stands true x y before past h g = h
-  cond_stands false x y before past h g = g
+  abbrev StandsAt : List Record × List Entry → WriterView → Type 0
+  StandsAt x w = Standing n c x.0 x.1 w
 
-  maker_stands : (ts : List Task) (w : WriterView) (before : List Record) (past : List Entry) → HaveBodies ts → Standing n c before past w → HaveBodies (maker_of ts w).tasks × Standing n c before past (maker_of ts w).writer
-  unfolding maker_of HaveBodies
-  maker_stands [] w before past b h = (tt, h)
-  maker_stands (t ∷ ts) w before past b h =
-      cond_stands (is_some (next_call w)) (record { tasks = t ∷ ts; writer = w }) (maker_of ts (writer_begun w t).writer) before past (b, h)
-      (maker_stands ts (writer_begun w t).writer before past b.1 (task_stands n c before past w t b.0 h))
+  task_begins : (x : List Record × List Entry) (w : WriterView) (t : Task) → HasBody t → StandsAt x w → StandsAt x (writer_begun w t).writer
+  task_begins x w t b h = task_stands n c x.0 x.1 w t b h
+
+  abbrev MakerStands : List Record → List Entry → Maker → Type 0
+  MakerStands before past mk = Stands StandsAt task_begins (before, past) mk
+
+  no_epoch : (q : Request) (from : ℕ) → q ≡ request.Read from → HasEpoch q → ⊥
+  unfolding epoch_of
+  no_epoch q from is some = let none : HasEpoch (request.Read from) = subst HasEpoch is some in cc none
+
+  -- a call that was the writer's, or a read
+  maker_hears_stands : (mk : Maker) (before : List Record) (past next : List Entry) (k : ℕ) (q : Request) (t : Told) → asks mk.reading mk.writer ≡ Some (k, q) → CallLeft n past c k q (heard_of t) next
+      → MakerStands before past mk → MakerStands (before ++ Call k q t ∷ []) next (maker_hears mk k t)
+  maker_hears_stands mk before past next k q t e left h =
+      hears_stands StandsAt task_begins (before ++ Call k q t ∷ [], next) mk k q t h.bodies h.rests e
+      (λ called. call_stands n c before past next mk.writer k q t called left h.writer)
+      (λ from is none. read_stands n c before past next mk.writer k q t (heard_of t) (no_epoch q from is) left h.writer)
 
   abbrev Ends : List Entry → Type 0
   Ends past = (b : Tale) × IsTold n b past
 
   record_told : (rs : List Record) (mk : Maker) (p : ℕ) (before : List Record) (plan : List Mark) (ss : List Sign) → before ++ rs ≡ record_of m c → AreWithin n rs → IsMade mk rs → IsMarked plan before rs
-      → HaveBodies mk.tasks → Standing n c before (entries ss) mk.writer → Ends (entries (diary m c p before rs ss))
-  unfolding diary AreWithin IsMade IsMarked maker_hears reaches
-  record_told [] mk p before plan ss whole w d i b h = (h.tale, h.told)
-  record_told (Call k q told.Dropped ∷ rs) mk p before plan ss whole w d i b h =
-      let g = maker_stands mk.tasks (writer_heard mk.writer k (heard_of told.Dropped)).writer (before ++ Call k q told.Dropped ∷ []) (entries ss) b
-      (call_stands n c before (entries ss) (entries ss) mk.writer k q told.Dropped d.0 (nothing refl (λ some. refl)) h) in
-      record_told rs (maker_of mk.tasks (writer_heard mk.writer k (heard_of told.Dropped)).writer) (p + 1) (before ++ Call k q told.Dropped ∷ []) plan ss (append_assoc before (Call k q told.Dropped ∷ []) rs ∙ whole) w.1 d.1 i.1 g.0 g.1
-  record_told (Call k q (told.Reply x) ∷ rs) mk p before plan ss whole w d i b h =
+      → MakerStands before (entries ss) mk → Ends (entries (diary m c p before rs ss))
+  unfolding diary AreWithin IsMade IsMarked reaches
+  record_told [] mk p before plan ss whole w d i h = (h.writer.tale, h.writer.told)
+  record_told (Call k q told.Dropped ∷ rs) mk p before plan ss whole w d i h =
+      record_told rs (maker_hears mk k told.Dropped) (p + 1) (before ++ Call k q told.Dropped ∷ []) plan ss (append_assoc before (Call k q told.Dropped ∷ []) rs ∙ whole) w.1 d.1 i.1
+      (maker_hears_stands mk before (entries ss) (entries ss) k q told.Dropped d.0 (nothing refl (λ some. refl)) h)
+  record_told (Call k q (told.Reply x) ∷ rs) mk p before plan ss whole w d i h =
       let t : Told = told.Reply x in
-      let g = maker_stands mk.tasks (writer_heard mk.writer k (heard_of t)).writer (before ++ Call k q t ∷ []) (entries (noted_at m c p before k (Call k q t) ss)) b
-      (call_stands n c before (entries ss) (entries (noted_at m c p before k (Call k q t) ss)) mk.writer k q t d.0 (call_noted p before rs k q t ss whole w.0.0 w.0.1 (λ e. cc e) (same_test k k refl)) h) in
-      record_told rs (maker_of mk.tasks (writer_heard mk.writer k (heard_of t)).writer) (p + 1) (before ++ Call k q t ∷ []) plan (noted_at m c p before k (Call k q t) ss) (append_assoc before (Call k q t ∷ []) rs ∙ whole) w.1 d.1 i.1 g.0 g.1
-  record_told (Call k q told.Muted ∷ rs) mk p before plan ss whole w d i b h =
+      record_told rs (maker_hears mk k t) (p + 1) (before ++ Call k q t ∷ []) plan (noted_at m c p before k (Call k q t) ss) (append_assoc before (Call k q t ∷ []) rs ∙ whole) w.1 d.1 i.1
+      (maker_hears_stands mk before (entries ss) (entries (noted_at m c p before k (Call k q t) ss)) k q t d.0 (call_noted p before rs k q t ss whole w.0.0 w.0.1 (λ e. cc e) (same_test k k refl)) h)
+  record_told (Call k q told.Muted ∷ rs) mk p before plan ss whole w d i h =
       let t : Told = told.Muted in
-      let g = maker_stands mk.tasks (writer_heard mk.writer k (heard_of t)).writer (before ++ Call k q t ∷ []) (entries (noted_at m c p before k (Call k q t) ss)) b
-      (call_stands n c before (entries ss) (entries (noted_at m c p before k (Call k q t) ss)) mk.writer k q t d.0 (call_noted p before rs k q t ss whole w.0.0 w.0.1 (λ e. cc e) (same_test k k refl)) h) in
-      record_told rs (maker_of mk.tasks (writer_heard mk.writer k (heard_of t)).writer) (p + 1) (before ++ Call k q t ∷ []) plan (noted_at m c p before k (Call k q t) ss) (append_assoc before (Call k q t ∷ []) rs ∙ whole) w.1 d.1 i.1 g.0 g.1
-  record_told (Call k q told.Silent ∷ rs) mk p before plan ss whole w d i b h =
+      record_told rs (maker_hears mk k t) (p + 1) (before ++ Call k q t ∷ []) plan (noted_at m c p before k (Call k q t) ss) (append_assoc before (Call k q t ∷ []) rs ∙ whole) w.1 d.1 i.1
+      (maker_hears_stands mk before (entries ss) (entries (noted_at m c p before k (Call k q t) ss)) k q t d.0 (call_noted p before rs k q t ss whole w.0.0 w.0.1 (λ e. cc e) (same_test k k refl)) h)
+  record_told (Call k q told.Silent ∷ rs) mk p before plan ss whole w d i h =
       let t : Told = told.Silent in
-      let g = maker_stands mk.tasks (writer_heard mk.writer k (heard_of t)).writer (before ++ Call k q t ∷ []) (entries (noted_at m c p before k (Call k q t) ss)) b
-      (call_stands n c before (entries ss) (entries (noted_at m c p before k (Call k q t) ss)) mk.writer k q t d.0 (call_noted p before rs k q t ss whole w.0.0 w.0.1 (λ e. cc e) (same_test k k refl)) h) in
-      record_told rs (maker_of mk.tasks (writer_heard mk.writer k (heard_of t)).writer) (p + 1) (before ++ Call k q t ∷ []) plan (noted_at m c p before k (Call k q t) ss) (append_assoc before (Call k q t ∷ []) rs ∙ whole) w.1 d.1 i.1 g.0 g.1
-  record_told (Late k q ∷ rs) mk p before plan ss whole w d i b h =
-      record_told rs mk (p + 1) (before ++ Late k q ∷ []) plan (noted_at m c p before k (Late k q) ss) (append_assoc before (Late k q ∷ []) rs ∙ whole) w.1 d i.1 b
-      (copy_stands n c before (entries ss) (entries (noted_at m c p before k (Late k q) ss)) mk.writer k (i.0.0 - 1) q i.0.2.1 (copy_noted p before rs k q ss whole w.0.0 w.0.1) h)
-  record_told (Operator k ask done ∷ rs) mk p before plan ss whole w d i b h = absurd d
-  record_told (Outcome x ∷ rs) mk p before plan ss whole w d i b h =
-      record_told rs mk (p + 1) (before ++ Outcome x ∷ []) plan ss (append_assoc before (Outcome x ∷ []) rs ∙ whole) w.1 d i b (other_stands n c before (entries ss) mk.writer (Outcome x) (λ node. unfold calls_to in refl) h)
+      record_told rs (maker_hears mk k t) (p + 1) (before ++ Call k q t ∷ []) plan (noted_at m c p before k (Call k q t) ss) (append_assoc before (Call k q t ∷ []) rs ∙ whole) w.1 d.1 i.1
+      (maker_hears_stands mk before (entries ss) (entries (noted_at m c p before k (Call k q t) ss)) k q t d.0 (call_noted p before rs k q t ss whole w.0.0 w.0.1 (λ e. cc e) (same_test k k refl)) h)
+  record_told (Late k q ∷ rs) mk p before plan ss whole w d i h =
+      record_told rs mk (p + 1) (before ++ Late k q ∷ []) plan (noted_at m c p before k (Late k q) ss) (append_assoc before (Late k q ∷ []) rs ∙ whole) w.1 d i.1
+      (record {
+        bodies = h.bodies;
+        writer = copy_stands n c before (entries ss) (entries (noted_at m c p before k (Late k q) ss)) mk.writer k (i.0.0 - 1) q i.0.2.1 (copy_noted p before rs k q ss whole w.0.0 w.0.1) h.writer;
+        rests = h.rests;
+      })
+  record_told (Operator k ask done ∷ rs) mk p before plan ss whole w d i h = absurd d
+  record_told (Outcome x ∷ rs) mk p before plan ss whole w d i h =
+      record_told rs mk (p + 1) (before ++ Outcome x ∷ []) plan ss (append_assoc before (Outcome x ∷ []) rs ∙ whole) w.1 d i
+      (record { bodies = h.bodies; writer = other_stands n c before (entries ss) mk.writer (Outcome x) (λ node. unfold calls_to in refl) h.writer; rests = h.rests })
 
 -- ## All actors
 no_place : (old : List Entry) (e : Entry) → Earlier (e ∷ old) [] → ⊥
@@ -296,5 +308,5 @@ all_told m a (suc c) l =
     let h : (b : Tale) × IsTold m.nodes b (entries (all_signs m c)) = all_told m a c (omega (arith, l)) in
     let d = a.made c mine in
     let s : Standing m.nodes c [] (entries (all_signs m c)) (new_writer m.nodes) = record { tale = h.0; told = h.1; status = free refl; sized = new_sized m.nodes; own = λ node i r e some. absurd (unfold calls_to in cc e) } in
-    let g = maker_stands m c a mine d.0 (new_writer m.nodes) [] (entries (all_signs m c)) d.1 s in
-    record_told m c a mine (record_of m c) (maker_of d.0 (new_writer m.nodes)) 1 [] (plan_of m c) (all_signs m c) refl (a.lists.within c (omega (arith, mine))) d.2 (a.lists.marked c mine) g.0 g.1
+    record_told m c a mine (record_of m c) (maker_of d.0 (new_writer m.nodes)) 1 [] (plan_of m c) (all_signs m c) refl (a.lists.within c (omega (arith, mine))) d.2 (a.lists.marked c mine)
+    (maker_stands (StandsAt m c a mine) (task_begins m c a mine) d.0 ([], entries (all_signs m c)) (new_writer m.nodes) d.1 s)

@@ -2,6 +2,7 @@
 use Rattle.std.proofs.Common.{◌≡◌, ℕ, zero, suc, ◌==◌, ◌⊎◌, inl, inr, List, [], ◌∷◌, ◌++◌, Bool, true, false, cond, refl, sym, ap, ◌∙◌, subst, Some}
 use Rattle.std.specs.Prelude.{slice_get}
 use Rattle.journal_core.specs.declared.request.Request.{Request}
+use Rattle.journal_core.specs.declared.heard.Heard.{Heard}
 use Rattle.writer_core.specs.declared.task.Task.{Task}
 use Rattle.writer_core.specs.Views.{WriterView}
 use Rattle.writer_core.specs.Writer.{next_call, writer_heard, HasBody}
@@ -13,7 +14,7 @@ use Rattle.node_world.specs.Entries.{Entry}
 use Rattle.node_world.proofs.Tales.{Tale}
 use Rattle.node_world.proofs.TaleSteps.{Continues, made_later}
 use Rattle.node_world.proofs.WorldEntries.{CopyLeft}
-use Rattle.node_world.proofs.WorldActs.{IsMadeBy, call_own, heard_status, Stays, copy_stays}
+use Rattle.node_world.proofs.WorldActs.{IsMadeBy, call_own, heard_status, Stays, copy_stays, read_stays}
 use Rattle.node_world.proofs.WriterRange.{Sized, heard_sized, begun_sized}
 use Rattle.node_world.proofs.Tracked.{Status}
 use Rattle.node_world.proofs.CallLeft.{HasEpoch, CallLeft}
@@ -105,6 +106,14 @@ call_stands n c before past next v k q t e left h =
     let own : Own n h.tale past c (before ++ Call k q t ∷ []) = own_call n h.tale past c k q t before h.own (call_own n h.tale past c v k q call h.status) in
     let g : Gives n c h.tale past next (λ b. Status n b next c (writer_heard v k (heard_of t)).writer) = heard_status n h.tale past next c v k q (heard_of t) call h.told left h.status in
     record { tale = g.0; told = g.1; status = g.3; sized = heard_sized n v k (heard_of t) h.sized; own = own_later n c h.tale g.0 past next (before ++ Call k q t ∷ []) g.2 own }
+
+-- ## A call whose request has no epoch
+pub read_stands : (n c : ℕ) (before : List Record) (past next : List Entry) (v : WriterView) (k : ℕ) (q : Request) (t : Told) (d : Heard) → (HasEpoch q → ⊥) → CallLeft n past c k q d next
+    → Standing n c before past v → Standing n c (before ++ Call k q t ∷ []) next v
+read_stands n c before past next v k q t d off left h =
+    let g : Stays n c h.tale past next = read_stays n h.tale past next c k q d off h.told left in
+    let own : Own n h.tale past c (before ++ Call k q t ∷ []) = own_call n h.tale past c k q t before h.own (λ some. absurd (off some)) in
+    record { tale = g.0; told = g.1; status = g.3 c v h.status; sized = h.sized; own = own_later n c h.tale g.0 past next (before ++ Call k q t ∷ []) g.2 own }
 
 -- ## A task
 pub task_stands : (n c : ℕ) (before : List Record) (past : List Entry) (v : WriterView) (t : Task) → HasBody t → Standing n c before past v → Standing n c before past (its_begin t v)

@@ -12,7 +12,7 @@ use Rattle.node_world.specs.declared.mark.Mark.{Mark}
 use Rattle.node_world.specs.Moving.{epoch_of, is_proposal}
 use Rattle.mesh.specs.declared.whole.Mesh.{Mesh}
 use Rattle.mesh.specs.Marks.{calls_to, IsMarked}
-use Rattle.mesh.specs.Makers.{Maker, maker_hears, IsMade, IsOfTasks, IsOperation, IsOperators}
+use Rattle.mesh.specs.Makers.{Maker, maker_hears, IsMade, IsOfChores, IsOperation, IsOperators}
 use Rattle.mesh.specs.Matches.{reaches, reached, lines_of, IsSame, AreSame, CallersWithin}
 use Rattle.mesh.specs.Agree.{Agrees, operator_of, history_at, record_of, plan_of}
 use Rattle.mesh.specs.Owners.{wins, owns}
@@ -142,7 +142,7 @@ within_in n (y ∷ hs) h w (inl e) = subst (λ (z : HistoryLine). z.caller ≤ n
 within_in n (y ∷ hs) h w (inr x) = within_in n hs h w.1 x
 
 -- the line's request was sent by its caller
-line_sent : (rs : List Record) (plan : List Mark) (n : ℕ) (r : Record) (h : HistoryLine) (late : Bool) (q : Request) → IsOfTasks n rs → IsMarked plan [] rs → In r rs → IsSame r h → h.ask ≡ Act late q → Sends q rs
+line_sent : (rs : List Record) (plan : List Mark) (n : ℕ) (r : Record) (h : HistoryLine) (late : Bool) (q : Request) → IsOfChores n rs → IsMarked plan [] rs → In r rs → IsSame r h → h.ask ≡ Act late q → Sends q rs
 unfolding IsSame
 line_sent rs plan n (Call k p t) h late q d m x s e =
     let same : p ≡ q = cc (s.0, e) in subst (λ (z : Request). Sends z rs) same (call_sends k p t rs x)
@@ -166,5 +166,5 @@ heads_own m a i before after h late q e in_ is ask of p =
     by r s there (inl x) l = absurd (operator_acts (record_of m h.caller) r h late q (subst (λ (c : ℕ). IsOperators (record_of m c)) (sym x.1) a.lists.operated) there s ask)
     by r s there (inr x) l =
         let below : h.caller < operator_of m = grind (arith, x.1, l) in
-        sender_owns m.nodes (record_of m h.caller) e q (a.made h.caller below)
+        sender_owns m.nodes (record_of m h.caller) e q (omega (arith, in_)) (a.made h.caller below)
         (line_sent (record_of m h.caller) (plan_of m h.caller) m.nodes r h late q (a.made h.caller below) (a.lists.marked h.caller below) there s ask) of p

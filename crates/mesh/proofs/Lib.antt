@@ -1,6 +1,7 @@
 pub mod Lists
 pub mod WriterNext
 pub mod Calls
+pub mod Chores
 pub mod Senders
 pub mod Shared
 pub mod Winners
@@ -25,3 +26,4 @@ pub mod InStep
 pub mod Traced
 pub mod EmptyLogs
 pub mod Crossed
+pub mod Tailed

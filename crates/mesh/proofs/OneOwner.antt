@@ -20,7 +20,7 @@ use Rattle.node_world.proofs.Raised.{Raised, CellRaised, cell_raised}
 use Rattle.node_world.proofs.CellLaws.{promise}
 use Rattle.mesh.specs.declared.whole.Mesh.{Mesh}
 use Rattle.mesh.specs.Makers.{IsOperators}
-use Rattle.mesh.specs.Matches.{reaches, reached, lines_of, IsSame, AreSame}
+use Rattle.mesh.specs.Matches.{reaches, reached, lines_of, IsSame, AreSame, AreWithin}
 use Rattle.mesh.specs.Agree.{Agrees, operator_of, history_at, record_of}
 use Rattle.mesh.specs.Owners.{promised_to, wins, owns, HasOwners}
 use Rattle.mesh.proofs.Lists.{Alike, alike, same_test}
@@ -200,13 +200,23 @@ actor_only m a c e o = by (cases c (operator_of m))
         let none : record_of m c ≡ [] = past_end m.records c (omega (arith, l, a.records)) in
         absurd (operator_owns m.nodes e [] no_operators (subst (λ (z : List Record). wins m.nodes e 0 z ≡ true) none o))
 
+-- so there is a node
+some_node : (n e : ℕ) (rs : List Record) → AreWithin n rs → wins n e 0 rs ≡ true → 0 < n
+unfolding AreWithin wins
+some_node n e [] w o = absurd (omega (arith, ltb-true n (2 * 0) o))
+some_node n e (Call k q t ∷ rs) w o = omega (arith, w.0.0, w.0.1)
+some_node n e (Late k q ∷ rs) w o = some_node n e rs w.1 o
+some_node n e (Operator k q d ∷ rs) w o = some_node n e rs w.1 o
+some_node n e (Outcome x ∷ rs) w o = some_node n e rs w.1 o
+
 one_owner : (m : Mesh) → Agrees m → (c d e : ℕ) → owns m c e ≡ true → owns m d e ≡ true → c ≡ d
 unfolding owns
 one_owner m a c d e o p =
     let lc : c < operator_of m = actor_only m a c e (unfold owns in o) in
     let ld : d < operator_of m = actor_only m a d e (unfold owns in p) in
-    let hc : HasMajority m.nodes e (record_of m c) = owner_heard m.nodes e (record_of m c) (a.made c lc) o in
-    let hd : HasMajority m.nodes e (record_of m d) = owner_heard m.nodes e (record_of m d) (a.made d ld) p in
+    let some : 0 < m.nodes = some_node m.nodes e (record_of m c) (a.lists.within c (omega (arith, lc))) o in
+    let hc : HasMajority m.nodes e (record_of m c) = owner_heard m.nodes e (record_of m c) some (a.made c lc) o in
+    let hd : HasMajority m.nodes e (record_of m d) = owner_heard m.nodes e (record_of m d) some (a.made d ld) p in
     let k : (k : ℕ) × In k hc.nodes × In k hd.nodes = shared m.nodes hc.nodes hd.nodes hc.below hd.below hc.more hd.more in
     let range : (1 ≤ k.0) × (k.0 < m.nodes + 1) = below_range (m.nodes + 1) k.0 hc.nodes hc.below k.1 in
     let same : k.0 ≡ k.0 - 1 + 1 = omega (arith, range.0) in

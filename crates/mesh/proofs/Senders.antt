@@ -1,6 +1,6 @@
 -- Who sends a request with a head has had its proposals of that epoch promised by more than half of the nodes.
 use Rattle.std.proofs.Common.{◌≡◌, ℕ, ◌+◌, ◌-◌, ◌*◌, ◌<◌, List, [], ◌∷◌, ◌++◌, Bool, true, false, cond, refl, sym, ap, ◌∙◌, subst, arith, length, length-set, append_assoc, ◌⊎◌, inl, inr}
-use Rattle.std.specs.Prelude.{Option, Some, None, is_some, ◌==◌, ◌||◌, nat_lt, count_by}
+use Rattle.std.specs.Prelude.{Option, Some, None, ◌==◌, ◌||◌, nat_lt, count_by}
 use Rattle.std.proofs.lemmas.Bool.{lt-ltb}
 use Rattle.std.proofs.lemmas.Bool.Decides.{nat_tests}
 use Rattle.journal_core.specs.declared.request.Request.{Request}
@@ -17,17 +17,20 @@ use Rattle.writer_core.specs.declared.task.Task.TheVariants as task
 use Rattle.writer_core.specs.Views.{WriterView}
 use Rattle.writer_core.specs.Answers.{is_ok, has_majority}
 use Rattle.writer_core.specs.Rounds.{request_in}
-use Rattle.writer_core.specs.Writer.{new_writer, Began, writer_begun, log_begins, log_limit, is_writing, if_writing, next_call, node_in, writer_heard, with_answer}
+use Rattle.writer_core.specs.Writer.{new_writer, Began, HasBody, writer_begun, log_begins, log_limit, is_writing, is_under_way, if_writing, next_call, node_in, writer_heard, with_answer}
+use Rattle.writer_core.specs.Left.{IsLive}
+use Rattle.writer_core.proofs.LiveLaws.{heard_live, begun_live, new_live}
 use Rattle.node_world.specs.declared.record.Record.{Record}
 use Rattle.node_world.specs.declared.record.Record.TheVariants.{Call, Late, Operator, Outcome}
 use Rattle.node_world.specs.declared.record.Told.{Told as TellsOf}
 use Rattle.node_world.specs.Moving.{epoch_of, is_proposal}
-use Rattle.mesh.specs.Makers.{heard_of, Maker, maker_of, maker_hears, IsMade, IsOfTasks}
+use Rattle.mesh.specs.Makers.{heard_of, Maker, maker_of, maker_hears, IsMade, IsOfChores}
 use Rattle.mesh.specs.Owners.{proposes, promised_to, wins}
 use Rattle.mesh.proofs.Lists.{same_test}
 use Rattle.node_world.proofs.WriterRange.{Sized, heard_sized, begun_sized, new_sized}
 use Rattle.mesh.proofs.WriterNext.{IsLater, IsLaterRound, IsDone, Next, Stays, Proposes, Stops, Goes, next_of}
 use Rattle.mesh.proofs.Calls.{CallAt, call_at, Waiter, waiter, none_count, count_set}
+use Rattle.mesh.proofs.Chores.{Asked, Writing, Reads, asked_of, at_rest, Stands, maker_stands, hears_stands}
 
 -- some call of the record asks this
 unfoldable pub Sends : Request → List Record → Type 0
@@ -116,8 +119,9 @@ module _ (n : ℕ) where
   abbrev promises : List Slot → ℕ
   promises slots = count_by (is_ok round.Propose) slots
 
-  record Owns (w : WriterView) (xs : List Record) : Type 0 where
+  record Owns (xs : List Record) (w : WriterView) : Type 0 where
     sized : Sized n w
+    live : IsLive w
     owns : OwnsIn w.phase w.epoch (promises w.slots) xs
 
   later_in : (p : Phase) (e c : ℕ) (xs : List Record) → IsLater p → Owned e xs → OwnsIn p e c xs
@@ -201,11 +205,12 @@ module _ (n : ℕ) where
           counted w.epoch (promises (with_answer w k (heard_of t)).slots) (xs ++ Call k q t ∷ []) (more_than_half w k (heard_of t) s x.1)
           (stays round.Propose w xs k q t at (same_round w at.round r at.phase p ∙ x.0) (subst (λ (z : Round). OwnsIn (phase.InRound z) w.epoch (promises w.slots) xs) x.0 here))
 
-  heard_owns : (w : WriterView) (xs : List Record) (k : ℕ) (q : Request) (t : TellsOf) → next_call w ≡ Some (k, q) → Owns w xs → Owns (writer_heard w k (heard_of t)).writer (xs ++ Call k q t ∷ [])
+  heard_owns : (w : WriterView) (xs : List Record) (k : ℕ) (q : Request) (t : TellsOf) → next_call w ≡ Some (k, q) → Owns xs w → Owns (xs ++ Call k q t ∷ []) (writer_heard w k (heard_of t)).writer
   heard_owns w xs k q t e h =
       let at : CallAt w k q = call_at w k q e in
       record {
         sized = heard_sized n w k (heard_of t) h.sized;
+        live = heard_live w k (heard_of t) h.live;
         owns = next_owns w xs k q t (writer_heard w k (heard_of t)).writer at h.sized h.owns (next_of w at.round k (heard_of t) at.phase);
       }
 
@@ -234,16 +239,8 @@ module _ (n : ℕ) where
   begun_owns task.Close w xs h = if_owns (is_writing w.phase) _ w xs h (λ is. writing_owned w.phase w.epoch (promises w.slots) xs is h)
   begun_owns (task.Purge min) w xs h = if_owns (is_writing w.phase) _ w xs h (λ is. writing_owned w.phase w.epoch (promises w.slots) xs is h)
 
-  cond_owns : (b : Bool) (x y : Maker) (xs : List Record) → Owns x.writer xs → Owns y.writer xs → Owns (cond b x y).writer xs
-  cond_owns true x y xs h g = h
-  cond_owns false x y xs h g = g
-
-  maker_owns : (ts : List Task) (w : WriterView) (xs : List Record) → Owns w xs → Owns (maker_of ts w).writer xs
-  unfolding maker_of
-  maker_owns [] w xs h = h
-  maker_owns (t ∷ ts) w xs h =
-      cond_owns (is_some (next_call w)) (record { tasks = t ∷ ts; writer = w }) (maker_of ts (writer_begun w t).writer) xs h
-      (maker_owns ts (writer_begun w t).writer xs (record { sized = begun_sized n w t h.sized; owns = begun_owns t w xs h.owns }))
+  task_owns : (xs : List Record) (w : WriterView) (t : Task) → HasBody t → Owns xs w → Owns xs (writer_begun w t).writer
+  task_owns xs w t b h = record { sized = begun_sized n w t h.sized; live = begun_live w t h.live; owns = begun_owns t w xs h.owns }
 
   -- ## A call with a head
   asked_owned : (r : Round) (w : WriterView) (xs : List Record) (e : ℕ) → OwnsIn (phase.InRound r) w.epoch (promises w.slots) xs → epoch_of (request_in w r) ≡ Some e → is_proposal (request_in w r) ≡ false → Owned e xs
@@ -259,7 +256,7 @@ module _ (n : ℕ) where
   asked_owned (round.Write bodies) w xs e h i p = let same : w.epoch ≡ e = cc i in subst (λ (z : ℕ). Owned z xs) same h
   asked_owned (round.Purge min) w xs e h i p = let same : w.epoch ≡ e = cc i in subst (λ (z : ℕ). Owned z xs) same h
 
-  call_owned : (w : WriterView) (xs : List Record) (k : ℕ) (q : Request) (e : ℕ) → Owns w xs → next_call w ≡ Some (k, q) → epoch_of q ≡ Some e → is_proposal q ≡ false → Owned e xs
+  call_owned : (w : WriterView) (xs : List Record) (k : ℕ) (q : Request) (e : ℕ) → Owns xs w → next_call w ≡ Some (k, q) → epoch_of q ≡ Some e → is_proposal q ≡ false → Owned e xs
   call_owned w xs k q e h c i p =
       let at : CallAt w k q = call_at w k q c in
       asked_owned at.round w xs e (subst (λ (x : Phase). OwnsIn x w.epoch (promises w.slots) xs) at.phase h.owns) (subst (λ (z : Request). epoch_of z ≡ Some e) at.asks i) (subst (λ (z : Request). is_proposal z ≡ false) at.asks p)
@@ -279,20 +276,51 @@ module _ (n : ℕ) where
   skip_in phase.Idle e c xs r skip h = tt
   skip_in phase.Stopped e c xs r skip h = tt
 
-  made_owns : (m : Maker) (xs rs : List Record) (e : ℕ) (q : Request) → Owns m.writer xs → IsMade m rs → Sends q rs → epoch_of q ≡ Some e → is_proposal q ≡ false → wins n e 0 (xs ++ rs) ≡ true
-  unfolding IsMade Sends maker_hears wins Owned
+  skips : (xs : List Record) (r : Record) (w : WriterView) → ((e c : ℕ) (ys : List Record) → wins n e c (r ∷ ys) ≡ wins n e c ys) → Owns xs w → Owns (xs ++ r ∷ []) w
+  skips xs r w skip h = record { sized = h.sized; live = h.live; owns = skip_in w.phase w.epoch (promises w.slots) xs r skip h.owns }
+
+  -- ## A read, which has no head, comes between tasks
+  rest_in : (p : Phase) (e c : ℕ) (xs : List Record) (r : Record) → is_under_way p ≡ false → OwnsIn p e c xs → OwnsIn p e c (xs ++ r ∷ [])
+  rest_in (phase.InRound x) e c xs r is h = absurd (cc is)
+  rest_in phase.Writing e c xs r is h = owned_more e xs r h
+  rest_in phase.Idle e c xs r is h = tt
+  rest_in phase.Stopped e c xs r is h = tt
+
+  rests_owns : (xs : List Record) (r : Record) (w : WriterView) → next_call w ≡ None → Owns xs w → Owns (xs ++ r ∷ []) w
+  rests_owns xs r w none h =
+      record { sized = h.sized; live = h.live; owns = rest_in w.phase w.epoch (promises w.slots) xs r (at_rest w h.live none) h.owns }
+
+  read_headless : (q : Request) (from e : ℕ) → q ≡ request.Read from → epoch_of q ≡ Some e → ⊥
+  unfolding epoch_of
+  read_headless q from e is of = let none : epoch_of (request.Read from) ≡ Some e = subst (λ (z : Request). epoch_of z ≡ Some e) is of in cc none
+
+  -- ## Along a record
+  abbrev Standing : List Record → Maker → Type 0
+  Standing xs m = Stands Owns task_owns xs m
+
+  asked_owns : (m : Maker) (xs : List Record) (k : ℕ) (q : Request) (e : ℕ) → Standing xs m → Asked m k q → epoch_of q ≡ Some e → is_proposal q ≡ false → Owned e xs
+  asked_owns m xs k q e h (Writing c) i p = call_owned m.writer xs k q e h.writer c i p
+  asked_owns m xs k q e h (Reads from is none) i p = absurd (read_headless q from e is i)
+
+  made_owns : (m : Maker) (xs rs : List Record) (e : ℕ) (q : Request) → Standing xs m → IsMade m rs → Sends q rs → epoch_of q ≡ Some e → is_proposal q ≡ false → wins n e 0 (xs ++ rs) ≡ true
+  unfolding IsMade Sends wins Owned
   made_owns m xs [] e q h d s i p = absurd s
   made_owns m xs (Call k x t ∷ rs) e q h d (inl same) i p =
-      call_owned m.writer xs k x e h d.0 (subst (λ (z : Request). epoch_of z ≡ Some e) (sym same) i) (subst (λ (z : Request). is_proposal z ≡ false) (sym same) p) (Call k x t ∷ rs)
+      asked_owns m xs k x e h (asked_of m k x d.0 h.rests) (subst (λ (z : Request). epoch_of z ≡ Some e) (sym same) i) (subst (λ (z : Request). is_proposal z ≡ false) (sym same) p) (Call k x t ∷ rs)
   made_owns m xs (Call k x t ∷ rs) e q h d (inr s) i p =
       subst (λ (l : List Record). wins n e 0 l ≡ true) (append_assoc xs (Call k x t ∷ []) rs)
-      (made_owns (maker_of m.tasks (writer_heard m.writer k (heard_of t)).writer) (xs ++ Call k x t ∷ []) rs e q
-      (maker_owns m.tasks (writer_heard m.writer k (heard_of t)).writer (xs ++ Call k x t ∷ []) (heard_owns m.writer xs k x t d.0 h)) d.1 s i p)
-  made_owns m xs (Late k x ∷ rs) e q h d s i p = subst (λ (l : List Record). wins n e 0 l ≡ true) (append_assoc xs (Late k x ∷ []) rs)
-      (made_owns m (xs ++ Late k x ∷ []) rs e q (record { sized = h.sized; owns = skip_in m.writer.phase m.writer.epoch (promises m.writer.slots) xs (Late k x) (λ a b c. refl) h.owns }) d s i p)
+      (made_owns (maker_hears m k t) (xs ++ Call k x t ∷ []) rs e q
+      (hears_stands Owns task_owns (xs ++ Call k x t ∷ []) m k x t h.bodies h.rests d.0 (λ c. heard_owns m.writer xs k x t c h.writer) (λ from is none. rests_owns xs (Call k x t) m.writer none h.writer))
+      d.1 s i p)
+  made_owns m xs (Late k x ∷ rs) e q h d s i p =
+      subst (λ (l : List Record). wins n e 0 l ≡ true) (append_assoc xs (Late k x ∷ []) rs)
+      (made_owns m (xs ++ Late k x ∷ []) rs e q (record { bodies = h.bodies; writer = skips xs (Late k x) m.writer (λ a b c. refl) h.writer; rests = h.rests }) d s i p)
   made_owns m xs (Operator k x y ∷ rs) e q h d s i p = absurd d
-  made_owns m xs (Outcome x ∷ rs) e q h d s i p = subst (λ (l : List Record). wins n e 0 l ≡ true) (append_assoc xs (Outcome x ∷ []) rs)
-      (made_owns m (xs ++ Outcome x ∷ []) rs e q (record { sized = h.sized; owns = skip_in m.writer.phase m.writer.epoch (promises m.writer.slots) xs (Outcome x) (λ a b c. refl) h.owns }) d s i p)
+  made_owns m xs (Outcome x ∷ rs) e q h d s i p =
+      subst (λ (l : List Record). wins n e 0 l ≡ true) (append_assoc xs (Outcome x ∷ []) rs)
+      (made_owns m (xs ++ Outcome x ∷ []) rs e q (record { bodies = h.bodies; writer = skips xs (Outcome x) m.writer (λ a b c. refl) h.writer; rests = h.rests }) d s i p)
 
-  pub sender_owns : (rs : List Record) (e : ℕ) (q : Request) → IsOfTasks n rs → Sends q rs → epoch_of q ≡ Some e → is_proposal q ≡ false → wins n e 0 rs ≡ true
-  sender_owns rs e q d s i p = made_owns (maker_of d.0 (new_writer n)) [] rs e q (maker_owns d.0 (new_writer n) [] (record { sized = new_sized n; owns = tt })) d.2 s i p
+  pub sender_owns : (rs : List Record) (e : ℕ) (q : Request) → 0 < n → IsOfChores n rs → Sends q rs → epoch_of q ≡ Some e → is_proposal q ≡ false → wins n e 0 rs ≡ true
+  sender_owns rs e q some d s i p =
+      let h : Owns [] (new_writer n) = record { sized = new_sized n; live = new_live n some; owns = tt } in
+      made_owns (maker_of d.0 (new_writer n)) [] rs e q (maker_stands Owns task_owns d.0 [] (new_writer n) d.1 h) d.2 s i p

@@ -323,3 +323,8 @@ module _ (m : Mesh) (t : List Placed) (a : Agrees m) (tr : IsTrace m t) where
 pub trace_runs : (m : Mesh) (t : List Placed) → Agrees m → IsTrace m t → IsRun m.nodes (moving_of t)
 unfolding moving_of
 trace_runs m t a tr = subst (IsRun m.nodes) (entries_are m [] t) (arranged_runs m (signs_on m [] t) a (arranged m t a tr))
+
+-- at each node these are the node's moving entries, in its order
+pub trace_at_nodes : (m : Mesh) (t : List Placed) → Agrees m → IsTrace m t → (i : ℕ) → i < m.nodes → entries_at (i + 1) (moving_of t) ≡ moving_of (placed_at m i)
+unfolding moving_of
+trace_at_nodes m t a tr i in_ = sym (ap (entries_at (i + 1)) (entries_are m [] t)) ∙ nodes_are m t a tr i in_

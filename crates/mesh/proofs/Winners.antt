@@ -1,6 +1,6 @@
 -- Who owns an epoch was promised it by more than half of the nodes, all of them different.
 use Rattle.std.proofs.Common.{◌≡◌, ℕ, ◌+◌, ◌-◌, ◌*◌, ◌<◌, ◌≤◌, List, [], ◌∷◌, ◌++◌, Bool, true, false, cond, refl, sym, ap, ◌∙◌, subst, arith, length, get_or, set, length-set, get_or-set_other, get_or-set_same, append_assoc, ◌⊎◌, inl, inr}
-use Rattle.std.specs.Prelude.{Option, Some, None, is_some, ◌||◌, nat_lt}
+use Rattle.std.specs.Prelude.{Option, Some, None, ◌||◌, nat_lt}
 use Rattle.std.proofs.lemmas.Bool.{ltb-true, cases_Bool}
 use Rattle.journal_core.specs.declared.request.Request.{Request}
 use Rattle.journal_core.specs.declared.request.Request.TheVariants as request
@@ -16,16 +16,19 @@ use Rattle.writer_core.specs.declared.task.Task.TheVariants as task
 use Rattle.writer_core.specs.Views.{WriterView}
 use Rattle.writer_core.specs.Answers.{is_waiting}
 use Rattle.writer_core.specs.Rounds.{request_in}
-use Rattle.writer_core.specs.Writer.{new_writer, Began, writer_begun, log_begins, log_limit, is_writing, if_writing, next_call, node_in, writer_heard, with_answer}
+use Rattle.writer_core.specs.Writer.{new_writer, Began, HasBody, writer_begun, log_begins, log_limit, is_writing, is_under_way, if_writing, next_call, node_in, writer_heard, with_answer}
+use Rattle.writer_core.specs.Left.{IsLive}
+use Rattle.writer_core.proofs.LiveLaws.{heard_live, begun_live, new_live}
 use Rattle.node_world.specs.declared.record.Record.{Record}
 use Rattle.node_world.specs.declared.record.Record.TheVariants.{Call, Late, Operator, Outcome}
 use Rattle.node_world.specs.declared.record.Told.{Told as TellsOf}
-use Rattle.mesh.specs.Makers.{heard_of, Maker, maker_of, maker_hears, IsMade, IsOfTasks}
+use Rattle.mesh.specs.Makers.{heard_of, Maker, maker_of, asks, maker_hears, IsMade, IsOfChores}
 use Rattle.mesh.specs.Owners.{proposes, promised_to, wins}
 use Rattle.mesh.proofs.Lists.{Alike, alike}
 use Rattle.node_world.proofs.WriterRange.{Sized, heard_sized, begun_sized, new_sized}
 use Rattle.mesh.proofs.WriterNext.{IsLater, Next, Stays, Proposes, Stops, Goes, next_of}
 use Rattle.mesh.proofs.Calls.{CallAt, call_at, Waiter, waiter}
+use Rattle.mesh.proofs.Chores.{Asked, Writing, Reads, asked_of, at_rest, Stands, maker_stands, hears_stands}
 use Rattle.mesh.proofs.Shared.{In, Below, below_more}
 
 -- a promise of e was heard from the node k
@@ -110,8 +113,9 @@ module _ (n e : ℕ) where
   TurnIn (phase.InRound round.Propose) epoch slots ks = (lo : ℕ) × (1 ≤ lo) × WaitsFrom lo slots × (epoch ≡ e → Below lo ks)
   TurnIn _ epoch slots ks = Unit {0}
 
-  record Runs (w : WriterView) (ks : List ℕ) : Type 0 where
+  record Runs (ks : List ℕ) (w : WriterView) : Type 0 where
     sized : Sized n w
+    live : IsLive w
     turn : TurnIn w.phase w.epoch w.slots ks
 
   later_turn : (p : Phase) (epoch : ℕ) (slots : List Slot) (ks : List ℕ) → IsLater p → TurnIn p epoch slots ks
@@ -162,15 +166,16 @@ module _ (n e : ℕ) where
   next_turn w k x h ls v at b z (Stops _ is) = subst (λ (y : Phase). TurnIn y v.epoch v.slots ls) (sym is) tt
   next_turn w k x h ls v at b z (Goes _ r p d epoch l) = later_turn v.phase v.epoch v.slots ls l
 
-  hears_runs : (w : WriterView) (ks ls : List ℕ) (k : ℕ) (x : Request) (t : TellsOf) (at : CallAt w k x) → Runs w ks → (at.round ≡ round.Propose → w.epoch ≡ e → Below (k + 1) ls) → (at.round ≡ round.State → ls ≡ [])
-      → Runs (writer_heard w k (heard_of t)).writer ls
+  hears_runs : (w : WriterView) (ks ls : List ℕ) (k : ℕ) (x : Request) (t : TellsOf) (at : CallAt w k x) → Runs ks w → (at.round ≡ round.Propose → w.epoch ≡ e → Below (k + 1) ls) → (at.round ≡ round.State → ls ≡ [])
+      → Runs ls (writer_heard w k (heard_of t)).writer
   hears_runs w ks ls k x t at h b z = record {
     sized = heard_sized n w k (heard_of t) h.sized;
+    live = heard_live w k (heard_of t) h.live;
     turn = next_turn w k x (heard_of t) ls (writer_heard w k (heard_of t)).writer at b z (next_of w at.round k (heard_of t) at.phase);
   }
 
   -- what a turn says of the node that is asked
-  counted_below : (w : WriterView) (ks : List ℕ) (k : ℕ) (x : Request) (at : CallAt w k x) → Runs w ks → at.round ≡ round.Propose → w.epoch ≡ e → (1 ≤ k) × (k ≤ n) × Below k ks
+  counted_below : (w : WriterView) (ks : List ℕ) (k : ℕ) (x : Request) (at : CallAt w k x) → Runs ks w → at.round ≡ round.Propose → w.epoch ≡ e → (1 ≤ k) × (k ≤ n) × Below k ks
   unfolding WaitsFrom
   counted_below w ks k x at h p f =
       let t : TurnIn (phase.InRound round.Propose) w.epoch w.slots ks = subst (λ (y : Phase). TurnIn y w.epoch w.slots ks) (at.phase ∙ ap phase.InRound p) h.turn in
@@ -196,16 +201,21 @@ module _ (n e : ℕ) where
   begun_turn task.Close w ks h = if_turn (is_writing w.phase) _ w ks h tt
   begun_turn (task.Purge min) w ks h = if_turn (is_writing w.phase) _ w ks h tt
 
-  cond_runs : (b : Bool) (x y : Maker) (ks : List ℕ) → Runs x.writer ks → Runs y.writer ks → Runs (cond b x y).writer ks
-  cond_runs true x y ks h g = h
-  cond_runs false x y ks h g = g
+  task_runs : (ks : List ℕ) (w : WriterView) (t : Task) → HasBody t → Runs ks w → Runs ks (writer_begun w t).writer
+  task_runs ks w t b h = record { sized = begun_sized n w t h.sized; live = begun_live w t h.live; turn = begun_turn t w ks h.turn }
 
-  maker_runs : (ts : List Task) (w : WriterView) (ks : List ℕ) → Runs w ks → Runs (maker_of ts w).writer ks
-  unfolding maker_of
-  maker_runs [] w ks h = h
-  maker_runs (t ∷ ts) w ks h =
-      cond_runs (is_some (next_call w)) (record { tasks = t ∷ ts; writer = w }) (maker_of ts (writer_begun w t).writer) ks h
-      (maker_runs ts (writer_begun w t).writer ks (record { sized = begun_sized n w t h.sized; turn = begun_turn t w ks h.turn }))
+  abbrev Standing : List ℕ → Maker → Type 0
+  Standing ks m = Stands Runs task_runs ks m
+
+  -- ## A read comes between tasks
+  rest_turn : (p : Phase) (epoch : ℕ) (slots : List Slot) (ks : List ℕ) → is_under_way p ≡ false → TurnIn p epoch slots ks
+  rest_turn (phase.InRound r) epoch slots ks is = absurd (cc is)
+  rest_turn phase.Writing epoch slots ks is = tt
+  rest_turn phase.Idle epoch slots ks is = tt
+  rest_turn phase.Stopped epoch slots ks is = tt
+
+  rests_runs : (ks ls : List ℕ) (w : WriterView) → next_call w ≡ None → Runs ks w → Runs ls w
+  rests_runs ks ls w none h = record { sized = h.sized; live = h.live; turn = rest_turn w.phase w.epoch w.slots ls (at_rest w h.live none) }
 
   -- ## A proposal of e is asked in the round of proposals, under e
   proposal_is : (x : Request) → proposes e x ≡ true → x ≡ request.NewEpoch e
@@ -239,27 +249,50 @@ module _ (n e : ℕ) where
   proposing (round.Purge min) w h = absurd (cc h)
 
   -- ## Along a record
-  made_majority : (m : Maker) (xs rs : List Record) (ks : List ℕ) → Runs m.writer ks → Below (n + 1) ks → AllHeard e ks xs → IsMade m rs → wins n e (length ks) rs ≡ true → HasMajority n e (xs ++ rs)
-  unfolding IsMade maker_hears wins
+  none_some : {B : Type 0} (o : Option B) (c : B) → o ≡ None → o ≡ Some c → ⊥
+  none_some o c e f = let both : None ≡ Some c = sym e ∙ f in cc both
+
+  -- the call was the writer's; so many were counted behind it
+  wrote : (m : Maker) (ks ls : List ℕ) (k : ℕ) (x : Request) (t : TellsOf) → Standing ks m → asks m.reading m.writer ≡ Some (k, x) → next_call m.writer ≡ Some (k, x)
+      → Runs ls (writer_heard m.writer k (heard_of t)).writer → Standing ls (maker_hears m k t)
+  wrote m ks ls k x t h e c r = hears_stands Runs task_runs ls m k x t h.bodies h.rests e (λ f. r) (λ from is none. absurd (none_some (next_call m.writer) (k, x) none c))
+
+  -- it was a read
+  has_read : (m : Maker) (ks ls : List ℕ) (k : ℕ) (x : Request) (t : TellsOf) → Standing ks m → asks m.reading m.writer ≡ Some (k, x) → next_call m.writer ≡ None → Standing ls (maker_hears m k t)
+  has_read m ks ls k x t h e none = hears_stands Runs task_runs ls m k x t h.bodies h.rests e (λ f. absurd (none_some (next_call m.writer) (k, x) none f)) (λ from is none. rests_runs ks ls m.writer none h.writer)
+
+  made_majority : (m : Maker) (xs rs : List Record) (ks : List ℕ) → Standing ks m → Below (n + 1) ks → AllHeard e ks xs → IsMade m rs → wins n e (length ks) rs ≡ true → HasMajority n e (xs ++ rs)
+  unfolding IsMade wins
   made_majority m xs [] ks h b a d o = record { nodes = ks; below = b; more = ltb-true n (2 * length ks) o; heard = all_left e ks xs [] a }
   made_majority m xs (Late k x ∷ rs) ks h b a d o = subst (HasMajority n e) (append_assoc xs (Late k x ∷ []) rs) (made_majority m (xs ++ Late k x ∷ []) rs ks h b (all_left e ks xs (Late k x ∷ []) a) d o)
   made_majority m xs (Operator k x y ∷ rs) ks h b a d o = absurd d
   made_majority m xs (Outcome x ∷ rs) ks h b a d o = subst (HasMajority n e) (append_assoc xs (Outcome x ∷ []) rs) (made_majority m (xs ++ Outcome x ∷ []) rs ks h b (all_left e ks xs (Outcome x ∷ []) a) d o)
   made_majority m xs (Call k x t ∷ rs) ks h b a d o =
       subst (HasMajority n e) (append_assoc xs (Call k x t ∷ []) rs)
-      (by (proposes e x) refl o (call_at m.writer k x d.0)
-      (λ ls r l v w. made_majority (maker_of m.tasks (writer_heard m.writer k (heard_of t)).writer) (xs ++ Call k x t ∷ []) rs ls (maker_runs m.tasks (writer_heard m.writer k (heard_of t)).writer ls r) l v d.1 w))
+      (split (asked_of m k x d.0 h.rests) (λ ls r l v w. made_majority (maker_hears m k t) (xs ++ Call k x t ∷ []) rs ls r l v d.1 w))
     where
-      more : nat_lt n (2 * length ks) ≡ true → HasMajority n e ((xs ++ Call k x t ∷ []) ++ rs)
+      Goal : Type 0
+      Goal = HasMajority n e ((xs ++ Call k x t ∷ []) ++ rs)
+
+      GoesOn : Type 0
+      GoesOn = (ls : List ℕ) → Standing ls (maker_hears m k t) → Below (n + 1) ls → AllHeard e ls (xs ++ Call k x t ∷ []) → wins n e (length ls) rs ≡ true → Goal
+
+      more : nat_lt n (2 * length ks) ≡ true → Goal
       more l = record { nodes = ks; below = b; more = ltb-true n (2 * length ks) l; heard = all_left e ks (xs ++ Call k x t ∷ []) rs (all_left e ks xs (Call k x t ∷ []) a) }
 
-      by : (p : Bool) → proposes e x ≡ p → cond p (wins n e (cond (promised_to t) (length ks + 1) (length ks)) rs) (nat_lt n (2 * length ks) || wins n e 0 rs) ≡ true → CallAt m.writer k x
-          → ((ls : List ℕ) → Runs (writer_heard m.writer k (heard_of t)).writer ls → Below (n + 1) ls → AllHeard e ls (xs ++ Call k x t ∷ []) → wins n e (length ls) rs ≡ true → HasMajority n e ((xs ++ Call k x t ∷ []) ++ rs))
-          → HasMajority n e ((xs ++ Call k x t ∷ []) ++ rs)
-      by true pe w at go = turn (proposing at.round m.writer (sym at.asks ∙ proposal_is x pe))
+      -- the count begins anew
+      anew : Standing [] (maker_hears m k t) → (nat_lt n (2 * length ks) || wins n e 0 rs) ≡ true → GoesOn → Goal
+      anew s w go = either (cases_Bool (nat_lt n (2 * length ks)))
         where
-          turn : (at.round ≡ round.Propose) × (m.writer.epoch ≡ e) → HasMajority n e ((xs ++ Call k x t ∷ []) ++ rs)
-          turn p = counted (promised_to t) refl w (counted_below m.writer ks k x at h p.0 p.1)
+          either : (nat_lt n (2 * length ks) ≡ true) ⊎ (nat_lt n (2 * length ks) ≡ false) → Goal
+          either (inl l) = more l
+          either (inr l) = let y : wins n e 0 rs ≡ true = rw l at w in go [] s (unfold Below in tt) (unfold AllHeard in tt) y
+
+      by : (p : Bool) → proposes e x ≡ p → cond p (wins n e (cond (promised_to t) (length ks + 1) (length ks)) rs) (nat_lt n (2 * length ks) || wins n e 0 rs) ≡ true → next_call m.writer ≡ Some (k, x) → CallAt m.writer k x → GoesOn → Goal
+      by true pe w c at go = turn (proposing at.round m.writer (sym at.asks ∙ proposal_is x pe))
+        where
+          turn : (at.round ≡ round.Propose) × (m.writer.epoch ≡ e) → Goal
+          turn p = counted (promised_to t) refl w (counted_below m.writer ks k x at h.writer p.0 p.1)
             where
               no_state : at.round ≡ round.State → ⊥
               no_state z = apart (sym p.0 ∙ z)
@@ -267,23 +300,26 @@ module _ (n e : ℕ) where
                   apart : round.Propose ≡ round.State → ⊥
                   apart y = cc y
 
-              counted : (v : Bool) → promised_to t ≡ v → wins n e (cond v (length ks + 1) (length ks)) rs ≡ true → (1 ≤ k) × (k ≤ n) × Below k ks → HasMajority n e ((xs ++ Call k x t ∷ []) ++ rs)
-              counted true ve y c =
+              counted : (v : Bool) → promised_to t ≡ v → wins n e (cond v (length ks + 1) (length ks)) rs ≡ true → (1 ≤ k) × (k ≤ n) × Below k ks → Goal
+              counted true ve y c2 =
                   let next : length (k ∷ ks) ≡ length ks + 1 = omega arith in
-                  let here : Below (k + 1) (k ∷ ks) = unfold Below in (c.0, omega arith, c.2) in
-                  go (k ∷ ks) (hears_runs m.writer ks (k ∷ ks) k x t at h (λ i j. here) (λ z. absurd (no_state z))) (below_more (k + 1) (n + 1) (k ∷ ks) (omega (arith, c.1)) here)
+                  let here : Below (k + 1) (k ∷ ks) = unfold Below in (c2.0, omega arith, c2.2) in
+                  go (k ∷ ks) (wrote m ks (k ∷ ks) k x t h d.0 c (hears_runs m.writer ks (k ∷ ks) k x t at h.writer (λ i j. here) (λ z. absurd (no_state z)))) (below_more (k + 1) (n + 1) (k ∷ ks) (omega (arith, c2.1)) here)
                   (unfold AllHeard in (subst (λ (z : Request). HeardOk k e (xs ++ Call k z t ∷ [])) (sym (proposal_is x pe)) (heard_last k e t xs ve), all_left e ks xs (Call k x t ∷ []) a))
                   (subst (λ (z : ℕ). wins n e z rs ≡ true) (sym next) y)
-              counted false ve y c =
-                  go ks (hears_runs m.writer ks ks k x t at h (λ i j. below_more k (k + 1) ks (omega arith) c.2) (λ z. absurd (no_state z))) b (all_left e ks xs (Call k x t ∷ []) a) y
-      by false pe w at go = either (cases_Bool (nat_lt n (2 * length ks)))
-        where
-          either : (nat_lt n (2 * length ks) ≡ true) ⊎ (nat_lt n (2 * length ks) ≡ false) → HasMajority n e ((xs ++ Call k x t ∷ []) ++ rs)
-          either (inl l) = more l
-          either (inr l) =
-              let y : wins n e 0 rs ≡ true = rw l at w in
-              go [] (hears_runs m.writer ks [] k x t at h (λ i j. unfold Below in tt) (λ z. refl)) (unfold Below in tt) (unfold AllHeard in tt) y
+              counted false ve y c2 =
+                  go ks (wrote m ks ks k x t h d.0 c (hears_runs m.writer ks ks k x t at h.writer (λ i j. below_more k (k + 1) ks (omega arith) c2.2) (λ z. absurd (no_state z)))) b (all_left e ks xs (Call k x t ∷ []) a) y
+      by false pe w c at go = anew (wrote m ks [] k x t h d.0 c (hears_runs m.writer ks [] k x t at h.writer (λ i j. unfold Below in tt) (λ z. refl))) w go
 
-  pub owner_heard : (rs : List Record) → IsOfTasks n rs → wins n e 0 rs ≡ true → HasMajority n e rs
+      split : Asked m k x → GoesOn → Goal
+      split (Writing c) go = by (proposes e x) refl o c (call_at m.writer k x c) go
+      split (Reads from is none) go =
+          let no : proposes e x ≡ false = ap (proposes e) is in
+          let w : (nat_lt n (2 * length ks) || wins n e 0 rs) ≡ true = rw no at o in
+          anew (has_read m ks [] k x t h d.0 none) w go
+
+  pub owner_heard : (rs : List Record) → 0 < n → IsOfChores n rs → wins n e 0 rs ≡ true → HasMajority n e rs
   unfolding Below AllHeard
-  owner_heard rs d o = made_majority (maker_of d.0 (new_writer n)) [] rs [] (maker_runs d.0 (new_writer n) [] (record { sized = new_sized n; turn = tt })) tt tt d.2 o
+  owner_heard rs some d o =
+      let h : Runs [] (new_writer n) = record { sized = new_sized n; live = new_live n some; turn = tt } in
+      made_majority (maker_of d.0 (new_writer n)) [] rs [] (maker_stands Runs task_runs d.0 [] (new_writer n) d.1 h) tt tt d.2 o

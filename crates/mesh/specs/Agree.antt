@@ -6,7 +6,7 @@ use Rattle.node_world.specs.declared.mark.Mark.{Mark}
 use Rattle.node_world.specs.Cell.{fresh_cell, IsLocalRun}
 use Rattle.mesh.specs.declared.whole.Mesh.{Mesh}
 use Rattle.mesh.specs.Marks.{IsMarked, AreCopied}
-use Rattle.mesh.specs.Makers.{IsOfTasks, IsOperators}
+use Rattle.mesh.specs.Makers.{IsOfChores, IsOperators}
 use Rattle.mesh.specs.Matches.{reached, lines_of, AreSame, AreWithin, CallersWithin}
 
 -- Actors are the callers from 0 on, in order of declaration; the operator comes after the last.
@@ -40,8 +40,8 @@ pub record ListsAgree (m : Mesh) : Type 0 where
 
 pub record Agrees (m : Mesh) : Type 0 where
   pub lists : ListsAgree m
-  -- each actor's calls are those of some tasks, by the answers that it lists
-  pub made : (c : ℕ) → c < operator_of m → IsOfTasks m.nodes (record_of m c)
+  -- each actor's calls are those of some tasks and tails, by the answers that it lists
+  pub made : (c : ℕ) → c < operator_of m → IsOfChores m.nodes (record_of m c)
   -- there is a history for each node and a record for each actor and the operator
   pub histories : length m.histories ≡ m.nodes
   pub records : length m.records ≡ operator_of m + 1

@@ -1,7 +1,8 @@
--- Two worked meshes: takeovers that crossed, and a log without a body.
+-- Worked meshes: takeovers that crossed, a log without a body, and a caller that tails.
 use Rattle.std.specs.Prelude.{ℕ, false, List, [], ◌∷◌, None}
 use Rattle.journal_core.specs.Views.{HeadView, BatchView}
 use Rattle.journal_core.specs.declared.request.Request.{Request}
+use Rattle.journal_core.specs.declared.refusal.Refusal.TheVariants as refusal
 use Rattle.journal_core.specs.declared.request.Request.TheVariants as request
 use Rattle.journal_core.specs.declared.reply.Reply.{Reply}
 use Rattle.journal_core.specs.declared.reply.Reply.TheVariants as reply
@@ -78,3 +79,31 @@ unfoldable pub empty_order : List Entry
 empty_order =
     answered 1 0 (request.NewEpoch 1) promised ∷ answered 1 0 (request.Start (first_head 1 0) 1) reply.Ok
     ∷ answered 1 0 (request.Journal (first_head 2 0) 1 (batch_at 1 start_record)) reply.Ok ∷ answered 1 0 (request.Journal (first_head 3 1) 1 (batch_at 2 [])) reply.Ok ∷ []
+
+-- ## A takeover and a log at one node, which another caller tails
+-- It reads the record that begins the segment, which the log told its node is committed, and then that the edit is not.
+abbrev pub logged : List (List ℕ)
+logged = (42 ∷ []) ∷ []
+
+unfoldable pub tailed : Mesh
+tailed =
+    record {
+      nodes = 1;
+      histories =
+          (listed 0 request.State (reply.State 0) ∷ listed 0 (request.NewEpoch 1) promised ∷ listed 0 (request.Start (first_head 1 0) 1) reply.Ok
+          ∷ listed 0 (request.Journal (first_head 2 0) 1 (batch_at 1 start_record)) reply.Ok ∷ listed 0 (request.Journal (first_head 3 1) 1 (batch_at 2 logged)) reply.Ok
+          ∷ listed 1 (request.Read 1) (reply.Edits (batch_at 1 start_record)) ∷ listed 1 (request.Read 2) (reply.Refused (refusal.NotHere 1)) ∷ [])
+          ∷ [];
+      records =
+          (called 1 request.State (reply.State 0) ∷ called 1 (request.NewEpoch 1) promised ∷ called 1 (request.Start (first_head 1 0) 1) reply.Ok
+          ∷ called 1 (request.Journal (first_head 2 0) 1 (batch_at 1 start_record)) reply.Ok ∷ called 1 (request.Journal (first_head 3 1) 1 (batch_at 2 logged)) reply.Ok ∷ [])
+          ∷ (called 1 (request.Read 1) (reply.Edits (batch_at 1 start_record)) ∷ called 1 (request.Read 2) (reply.Refused (refusal.NotHere 1)) ∷ [])
+          ∷ [] ∷ [];
+      plan = [] ∷ [] ∷ [];
+    }
+
+-- reads aren't in its epoch order
+unfoldable pub tailed_order : List Entry
+tailed_order =
+    answered 1 0 (request.NewEpoch 1) promised ∷ answered 1 0 (request.Start (first_head 1 0) 1) reply.Ok
+    ∷ answered 1 0 (request.Journal (first_head 2 0) 1 (batch_at 1 start_record)) reply.Ok ∷ answered 1 0 (request.Journal (first_head 3 1) 1 (batch_at 2 logged)) reply.Ok ∷ []

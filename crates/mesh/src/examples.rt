@@ -5,7 +5,7 @@ ghost use Rattle.node_world.specs.Run.{IsRun};
 ghost use Rattle.mesh.specs.Agree.{Agrees};
 ghost use Rattle.mesh.specs.Order.{epoch_order};
 ghost use Rattle.mesh.specs.Traces.{IsTrace};
-ghost use Rattle.mesh.specs.Examples.{crossed, crossed_order, empty_log, empty_order};
+ghost use Rattle.mesh.specs.Examples.{crossed, crossed_order, empty_log, empty_order, tailed, tailed_order};
 
 /// Two takeovers that crossed at two nodes: all lists agree, no one order of all lines fits them, and there is an epoch order.
 pub fn shows_crossed_takeovers()
@@ -19,4 +19,10 @@ pub fn refuses_log_without_body()
     ensures order { epoch_order empty_log ≡ empty_order }
     ensures run { IsRun 1 empty_order → ⊥ }
     ensures agrees { Agrees empty_log → ⊥ }
+{}
+
+/// A caller that tails another one's log: all lists agree, and its reads aren't in the epoch order.
+pub fn shows_tailing_caller()
+    ensures agrees { Agrees tailed }
+    ensures epochs { epoch_order tailed ≡ tailed_order }
 {}

@@ -1,11 +1,11 @@
 -- What the report of a script's bytes is.
-use Rattle.std.specs.Prelude.{ℕ, ◌≡◌, ◌<◌, ◌≤◌, List, length}
+use Rattle.std.specs.Prelude.{ℕ, ◌≡◌, ◌<◌, ◌≤◌, List, length, map}
 use Rattle.node_world.specs.Run.{IsRun}
 use Rattle.mesh.specs.Agree.{Agrees}
 use Rattle.mesh.specs.Order.{epoch_order}
 use Rattle.script_text.specs.Views.{ScriptView}
 use Rattle.script_text.specs.Grammar.{IsScriptText}
-use Rattle.cluster_runner.specs.Plays.{Play, Plays, mesh_of, ends_of}
+use Rattle.cluster_runner.specs.Plays.{Play, Plays, mesh_of, ends_of, named_end}
 use Rattle.cluster_runner.specs.Follows.{FollowsScript}
 use Rattle.cluster_runner.specs.Faultless.{ShowsNoFault}
 use Rattle.cluster_runner.specs.Safe.{IsSafeWithEnds}
@@ -22,7 +22,7 @@ pub record IsReport (bytes text : List ℕ) : Type 0 where
   pub reads : IsScriptText bytes script
   pub play : Play
   pub plays : Plays script play
-  pub printed : text ≡ text_of (mesh_of play) (ends_of play)
+  pub printed : text ≡ text_of (mesh_of play) (map named_end (ends_of play))
   pub agrees : Agrees (mesh_of play)
   pub follows : FollowsScript script (mesh_of play) (ends_of play)
   pub run : IsRun script.nodes (epoch_order (mesh_of play))

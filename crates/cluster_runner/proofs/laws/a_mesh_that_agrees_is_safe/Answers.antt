@@ -1,6 +1,8 @@
+use Rattle.std.proofs.Common.{sym, ◌∙◌}
 use Rattle.node_world.proofs.Slots.{none≢some}
 use Rattle.mesh.proofs.OrderRuns.{order_safe}
+use Rattle.cluster_runner.proofs.RawEnds.{raw_last}
 use Rattle.cluster_runner.proofs.laws.a_mesh_that_agrees_is_safe.Goals as goal
 
 pub returns : goal.returns
-returns c = λ m ends a. record { run = order_safe m a; ends_replay = λ e r is has. none≢some r has }
+returns c = λ m ends a. record { run = order_safe m a; ends_replay = λ i e last at has. none≢some last (sym (raw_last ends i e at) ∙ has) }

@@ -2,4 +2,4 @@ use Rattle.cluster_runner.proofs.Final.{local_runs}
 use Rattle.cluster_runner.proofs.laws.histories_are_local_runs.Goals as goal
 
 pub returns : goal.returns
-returns c = λ n lines steps i can below. local_runs n lines steps i can below
+returns c = λ b n lines steps i some can below. local_runs b n lines steps i some can below

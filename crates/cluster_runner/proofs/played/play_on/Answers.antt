@@ -1,7 +1,8 @@
-use Rattle.std.proofs.Common.{◌≡◌, ◌∙◌, ap, sym, subst, arith, length, drop, map, List, ℕ}
+use Rattle.std.proofs.Common.{false, ◌≡◌, ◌∙◌, ap, sym, subst, arith, length, drop, map, List, ℕ}
 use Rattle.mesh.specs.declared.whole.Mesh.{Mesh}
 use Rattle.mesh.specs.declared.end.End.{End}
 use Rattle.script_text.specs.declared.script_line.ScriptLine.{ScriptLine}
+use Rattle.cluster_runner.specs.Plays.{raw_end}
 use Rattle.cluster_runner.specs.Lines.{line_of, lines_of, declared}
 use Rattle.cluster_runner.specs.Goal.{MayTake, IsUnderWay}
 use Rattle.cluster_runner.specs.Kept.{IsPlayed, mesh_kept, states_behind}
@@ -18,8 +19,8 @@ pub returns-clause-played : goal.returns-clause-played
 returns-clause-played g c =
     let e : c.loop-line.line-index ≡ length c.lines-line-items.result.now = omega (arith, c.loop-line-test.false, c.loop-line.auto.line-index-end) in
     let P : ℕ → Type 0 = λ i. IsUnderWay c.args.script.now.nodes (lines_of c.args.script.now) (drop i c.lines-line-items.result.now) c.loop-line.cluster in
-    let Q : Mesh → Type 0 = λ m. IsPlayed c.args.script.now.nodes (lines_of c.args.script.now) m c.in_ok-played.played.ends in
-    let R : List End → Type 0 = λ ends. IsPlayed c.args.script.now.nodes (lines_of c.args.script.now) (mesh_kept c.loop-line.cluster) ends in
+    let Q : Mesh → Type 0 = λ m. IsPlayed false c.args.script.now.nodes (lines_of c.args.script.now) m (map raw_end c.in_ok-played.played.ends) in
+    let R : List End → Type 0 = λ ends. IsPlayed false c.args.script.now.nodes (lines_of c.args.script.now) (mesh_kept c.loop-line.cluster) (map raw_end ends) in
     subst Q (sym c.in_ok-played.ensures.mesh)
     (subst R (sym c.in_ok-played.ensures.ends)
     (under_way_end c.args.script.now.nodes (lines_of c.args.script.now) c.lines-line-items.result.now c.loop-line.cluster (subst P e c.loop-line.invariant)))

@@ -1,0 +1,4 @@
+pub mod Submissions
+pub mod Holding
+pub mod Tails
+pub mod Examples
