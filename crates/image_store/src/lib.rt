@@ -21,11 +21,14 @@ mod stored;
 mod storing;
 pub mod worked;
 
+pub use file_bytes::read_bytes;
+pub use image_names::ImageNames;
 pub use keeping::{min_to_keep, newest};
 pub use kept_answer::MinToKeep;
 pub use loaded::Loaded;
 pub use loaded_bytes::LoadedBytes;
 pub use loading::{load, load_bytes};
+pub use naming::txid_of;
 pub use newest_answer::Newest;
 pub use retaining::retain;
 pub use saving::{save, save_bytes};

@@ -1,0 +1,45 @@
+//! What the bytes of a segment's file turn out to be.
+ghost use Rattle.std.specs.Prelude.{◌≡◌, IfOk};
+ghost use Rattle.batch_frame.specs.Segments.{HasHeader};
+ghost use Rattle.fsck_tool.specs.Segments.{IsReadAs};
+
+use batch_frame::{HEADER_LENGTH, Header, Scan, read_header, scan_window};
+use qj_num::OutOfMemory;
+use std::alloc::Global;
+
+/// What the bytes of a segment's file turn out to be.
+#[derive(Clone, Copy, Debug, PartialEq, Eq)]
+pub enum SegmentBytes {
+    /// They have no header, at 0, or the frame whose gate is at this place is bad.
+    Bad { place: u64 },
+    /// They are a segment from this txid on, and the next one would begin at that one.
+    Whole { start: u64, next: u64 },
+}
+
+// What stands behind the header that bytes have.
+fn frames_behind(alloc: Global, bytes: &[u8], header: Header) -> Result<SegmentBytes, OutOfMemory>
+    requires { HasHeader bytes.now header.start header.epoch }
+    ensures { IfOk result (IsReadAs bytes.now) }
+{
+    let (_, frames) = bytes.split_at(HEADER_LENGTH);
+    let mut scan = Scan::new(alloc);
+    match scan_window(alloc, &mut scan, frames, header.start, 0, 0)? {
+        None => Ok(SegmentBytes::Whole {
+            start: header.start,
+            next: header.start + scan.count,
+        }),
+        Some(_) => Ok(SegmentBytes::Bad {
+            place: HEADER_LENGTH as u64 + scan.whole_length as u64,
+        }),
+    }
+}
+
+/// What the bytes of a segment's file turn out to be. Every frame is checked, and no body is copied.
+pub fn read_segment_bytes(alloc: Global, bytes: &[u8]) -> Result<SegmentBytes, OutOfMemory>
+    ensures { IfOk result (IsReadAs bytes.now) }
+{
+    match read_header(bytes) {
+        Some(header) => frames_behind(alloc, bytes, header),
+        None => Ok(SegmentBytes::Bad { place: 0 }),
+    }
+}

@@ -1,0 +1,38 @@
+//! A folder is checked.
+ghost use Rattle.std.specs.Prelude.{◌≡◌, ◌↔◌, Some};
+ghost use Rattle.qj_disk.specs.Calls.{HasCause, Rests};
+ghost use Rattle.fsck_tool.specs.Reports.{IsReport, IsCheckup, IsWritten, disk_answer};
+
+use crate::checking::report_of;
+use crate::checkup::Checkup;
+use qj_disk::{Disk, DiskFail};
+use qj_outside::{Sink, write_all};
+use std::alloc::Global;
+
+// Writes a report of so many findings.
+fn write_report<K: Sink>(sink: &mut K, text: &[u8], findings: u64) -> Checkup
+    ensures { IsWritten text.now findings result (K.taken sink.old) (K.taken sink.new) (K.faults sink.old) (K.faults sink.new) }
+{
+    match write_all(sink, text) {
+        Ok(()) => Checkup::Found { findings },
+        Err(_) => Checkup::WriteFault,
+    }
+}
+
+/// Checks each file of the disk, in byte order of the names, and writes a line for it: `ok` and its name, or `bad`, its
+/// name, the number of the first rule that it breaks, and two numbers; and behind them how many findings there are. All
+/// is computed before any of it is written. Nothing changes on the disk. `DiskFault` comes only where the disk's count
+/// of faults rose, and `WriteFault` only where the sink's did; then a prefix of the text was taken. A file that is too
+/// long for the memory is answered as want of it.
+pub fn fsck<D: Disk, K: Sink>(alloc: Global, disk: &mut D, sink: &mut K) -> Checkup
+    ensures tells { D.tells disk.old ↔ D.tells disk.new }
+    ensures checkup { IsCheckup (D.tells disk.old) (D.view disk.old).seen result (K.taken sink.old) (K.taken sink.new) (K.faults sink.old) (K.faults sink.new) }
+    ensures disk { D.tells disk.old → Rests (D.view disk.old) (D.view disk.new) }
+    ensures cause { HasCause (D.faults disk.old) (D.faults disk.new) (D.steady disk.old) (D.steady disk.new) (disk_answer result) }
+{
+    match report_of(alloc, disk) {
+        Ok((text, findings)) => write_report(sink, &text, findings),
+        Err(DiskFail::Failed) => Checkup::DiskFault,
+        Err(DiskFail::OutOfMemory) => Checkup::OutOfMemory,
+    }
+}
