@@ -32,7 +32,8 @@ fn told_by(decoded: Decoded) -> Told {
     }
 }
 
-fn edit_of_text(alloc: Global, script: &[u8]) -> Option<Edit> {
+/// The edit that a text of a script says.
+pub fn edit_of_text(alloc: Global, script: &[u8]) -> Option<Edit> {
     match read_text(alloc, script) {
         ReadText::Edit(edit) => Some(edit),
         ReadText::BadText | ReadText::OutOfMemory => None,

@@ -4,6 +4,8 @@
 #[cfg(test)]
 mod edits;
 #[cfg(test)]
+mod entries;
+#[cfg(test)]
 mod first_script;
 #[cfg(test)]
 mod frames;

@@ -4,14 +4,14 @@ use oev_tool::{ByteCause, Listing, list, stats};
 use std::process::Abort;
 use std::test::Fail;
 
-// A segment of one edit, which begins it.
-const FILE: [u8; 45] = [
+/// A segment of one edit, which begins it.
+pub const FILE: [u8; 45] = [
     0x51, 0x4a, 0x53, 0x47, 0, 0, 0, 1, 0, 0, 0, 0, 0, 0, 0, 1, 0, 0, 0, 0, 0, 0, 0, 1, 0xa5, 0, 0,
     0, 0x0f, 0, 0, 0, 0, 0, 0, 0, 1, 0, 0, 0, 1, 0, 1, 0x18, 0,
 ];
 
-// The text is this one.
-fn tells(rt: &impl Abort, listing: Listing, expected: &[u8]) {
+/// The text is this one.
+pub fn tells(rt: &impl Abort, listing: Listing, expected: &[u8]) {
     match listing {
         Listing::Text(text) => assert_eq!(rt; text.as_slice(), expected),
         Listing::BadBytes { .. } => assert!(rt; false, "the bytes are a segment's"),
@@ -19,8 +19,8 @@ fn tells(rt: &impl Abort, listing: Listing, expected: &[u8]) {
     }
 }
 
-// The first damage is this one.
-fn is_damaged(rt: &impl Abort, listing: Listing, at: u64, of: ByteCause) {
+/// The first damage is this one.
+pub fn is_damaged(rt: &impl Abort, listing: Listing, at: u64, of: ByteCause) {
     match listing {
         Listing::Text(_) => assert!(rt; false, "the bytes are damaged"),
         Listing::BadBytes { place, cause } => {
@@ -79,8 +79,8 @@ fn a_closed_gate(rt: HostRuntime) {
     tells(&rt, stats(rt.alloc(), &file), b"total 0\n");
 }
 
-// A frame of one entry of at most a hundred bytes.
-fn put_frame(file: &mut Vec<u8>, txid: u8, body: &[u8]) -> Result<(), Fail> {
+/// A frame of one entry of at most a hundred bytes.
+pub fn put_frame(file: &mut Vec<u8>, txid: u8, body: &[u8]) -> Result<(), Fail> {
     let len = body.len().min(100) as u8;
     file.extend_from_slice(&[0xa5, 0, 0, 0, 14 + len])?;
     file.extend_from_slice(&[0, 0, 0, 0, 0, 0, 0, txid, 0, 0, 0, 1, 0, len])?;

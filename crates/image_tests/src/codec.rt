@@ -18,10 +18,10 @@ pub const EMPTY: [u8; 72] = [
 ];
 
 /// Where the fields of that image begin.
-const FIELDS: [usize; 13] = [0, 4, 8, 16, 20, 23, 24, 32, 34, 40, 52, 60, 68];
+pub const FIELDS: [usize; 13] = [0, 4, 8, 16, 20, 23, 24, 32, 34, 40, 52, 60, 68];
 
 /// One byte of the empty image, what it is changed to, and the fault that is told with its place.
-const EMPTY_CHANGES: [(usize, u8, usize, ImageCause); 22] = [
+pub const EMPTY_CHANGES: [(usize, u8, usize, ImageCause); 22] = [
     (0, 0, 0, ImageCause::Magic),
     (3, 0, 0, ImageCause::Magic),
     (7, 0, 4, ImageCause::Layout),
@@ -47,7 +47,7 @@ const EMPTY_CHANGES: [(usize, u8, usize, ImageCause); 22] = [
 ];
 
 /// The image at txid 9 of the root, `/u` and the file `/u/f` of two blocks, with two calls, of the edits 3 and 7.
-const KNOWN: [u8; 233] = [
+pub const KNOWN: [u8; 233] = [
     81, 74, 73, 77, 0, 0, 0, 2, 0, 0, 0, 0, 0, 0, 0, 9, 0, 0, 0, 3, 0, 1, 47, 0, 0, 0, 0, 0, 0, 0,
     0, 0, 1, 237, 0, 4, 104, 100, 102, 115, 0, 10, 115, 117, 112, 101, 114, 103, 114, 111, 117,
     112, 0, 0, 0, 0, 0, 0, 0, 0, 0, 0, 0, 0, 0, 0, 0, 0, 0, 2, 47, 117, 0, 0, 0, 0, 0, 0, 0, 0, 10,
@@ -60,7 +60,7 @@ const KNOWN: [u8; 233] = [
 ];
 
 /// The same of that image: `/u` begins at 68, `/u/f` at 109, the calls at 173, the second of them at 205.
-const KNOWN_CHANGES: [(usize, u8, usize, ImageCause); 17] = [
+pub const KNOWN_CHANGES: [(usize, u8, usize, ImageCause); 17] = [
     (71, 0x2f, 68, ImageCause::Field),
     (112, 0x61, 109, ImageCause::Order),
     (112, 0x76, 109, ImageCause::NoParent),
@@ -115,8 +115,8 @@ fn has_changed_fault(
     has_fault(alloc, changed.as_slice(), place, cause)
 }
 
-// The last of the numbers that isn't above a limit.
-fn last_up_to(numbers: &[usize], limit: usize) -> usize {
+/// The last of the numbers that isn't above a limit.
+pub fn last_up_to(numbers: &[usize], limit: usize) -> usize {
     let mut last = 0;
     for number in numbers {
         if *number <= limit {
@@ -224,8 +224,13 @@ fn is_dir_at(space: &Namespace, path: &[u8]) -> bool
     }
 }
 
-// Puts an inode at a path, where it may stand there.
-fn put(alloc: Global, space: &mut Namespace, path: &[u8], inode: Inode) -> Result<(), OutOfMemory>
+/// Puts an inode at a path, where it may stand there.
+pub fn put(
+    alloc: Global,
+    space: &mut Namespace,
+    path: &[u8],
+    inode: Inode,
+) -> Result<(), OutOfMemory>
     requires { IsInode inode }
     ensures { OnOk result (space.new.calls ≡ space.old.calls) }
 {

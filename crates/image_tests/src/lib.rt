@@ -1,8 +1,10 @@
-//! Tests of images: their bytes, what is wrong with other bytes, and the files that they are kept in.
+//! Tests of images: their bytes, what is wrong with other bytes, their listings, and the files that they are kept in.
 #![tactic(auto)]
 
 #[cfg(test)]
 mod codec;
+#[cfg(test)]
+mod listings;
 #[cfg(test)]
 mod loads;
 #[cfg(test)]

@@ -64,6 +64,7 @@ pub tells : (start : ℕ) (edits : List EditView) (old r new : Reader) (entry : 
 tells start edits old r new entry (Ok (Some told)) w eb ea next s is =
     let p = passes start edits r new entry told.1 w next s.bytes s.end s.txid is.1 in
     record {
+      sound = p.sound;
       txid_is = is.0 ∙ p.txid_is;
       small = omega (arith, is.0, p.small);
       at = p.at;
@@ -97,6 +98,7 @@ tells_there start edits old r new entry result b e next s is = tells start edits
 as_before : (start : ℕ) (edits : List EditView) (old mid new : Reader) (result : Result (Option (ℕ × EditView)) Fault) → mid.bytes ≡ old.bytes → mid.ahead.txid ≡ old.ahead.txid
     → IsNextEdit start edits mid result new → IsNextEdit start edits old result new
 as_before start edits old mid new (Ok (Some told)) eb ea p = record {
+  sound = p.sound;
   txid_is = p.txid_is;
   small = p.small;
   at = p.at;

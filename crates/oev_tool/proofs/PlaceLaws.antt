@@ -132,6 +132,7 @@ passes start edits old new entry edit w next eb ee et is =
     let lim : start + length w.before + length w.frame.bodies ≤ 4611686018427387905 = next_within (start + length w.before) w.frame w.good in
     let lp : length (edits ++ edit ∷ []) ≡ length edits + 1 = omega (arith, length-append edits (edit ∷ [])) in
     record {
+      sound = is.edit;
       txid_is = next.txid ∙ w.ahead_is;
       small = omega (arith, next.txid, w.ahead_is, le, lr, lf, lim);
       at = within (record {

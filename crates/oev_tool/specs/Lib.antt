@@ -1,5 +1,7 @@
 pub mod Lines
 pub mod Counts
+pub mod Entries
+pub mod Examples
 pub mod Segment
 pub mod Damage
 pub mod Listed

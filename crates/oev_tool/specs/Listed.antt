@@ -7,8 +7,8 @@ use Rattle.oev_tool.specs.declared.listing.Listing.TheVariants.{Text, BadBytes, 
 use Rattle.oev_tool.specs.Segment.{IsSegment}
 use Rattle.oev_tool.specs.Damage.{IsDamaged}
 
--- the text is what is told of the edits of the file
-pub record IsTold (tell : ℕ → List EditView → List ℕ) (bytes text : List ℕ) : Type 0 where
+-- the text, or what a text is made of, is what is told of the edits of the file
+pub record IsTold {X : Type 0} (tell : ℕ → List EditView → List X) (bytes : List ℕ) (text : List X) : Type 0 where
   pub start : ℕ
   pub edits : List EditView
   pub segment : IsSegment bytes start edits

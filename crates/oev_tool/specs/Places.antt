@@ -4,7 +4,7 @@ use Rattle.std.specs.declared.alloc.Global.{Global}
 use Rattle.std.specs.List.{flat_map}
 use Rattle.journal_core.specs.Views.{BatchView}
 use Rattle.edit_ops.specs.Records.{EditView}
-use Rattle.edit_ops.specs.Grammar.{IsRecord}
+use Rattle.edit_ops.specs.Grammar.{IsEdit, IsRecord}
 use Rattle.batch_frame.specs.declared.entry.Entry.{Entry}
 use Rattle.batch_frame.specs.Entries.{EntriesView}
 use Rattle.batch_frame.specs.Frames.{frame_bytes, entry_bytes, broken_rule}
@@ -86,6 +86,7 @@ IsTelling entry (Err Memory) = Unit {0}
 
 -- the reader passed an edit
 pub record Passes (start : ℕ) (edits : List EditView) (old new : Reader) (txid : ℕ) (edit : EditView) : Type 0 where
+  pub sound : IsEdit edit
   pub txid_is : txid ≡ start + length edits
   pub small : txid ≤ 2 ^ 62
   pub at : IsAt start (edits ++ edit ∷ []) new

@@ -3,20 +3,19 @@ use Rattle.std.specs.Prelude.{◌≡◌, ℕ, ◌+◌, ◌^◌, ◌≤◌, List,
 use Rattle.edit_ops.specs.Records.{EditView}
 use Rattle.oev_tool.specs.declared.fault.Fault.{Fault}
 use Rattle.oev_tool.specs.declared.fault.Fault.TheVariants.{Memory, Damage}
-use Rattle.oev_tool.specs.Lines.{lines}
 use Rattle.oev_tool.specs.Counts.{AreCounts}
 use Rattle.oev_tool.specs.Segment.{IsSegment}
 use Rattle.oev_tool.specs.Damage.{IsDamaged}
 use Rattle.oev_tool.specs.Listed.{IsTold}
 use Rattle.oev_tool.specs.Places.{Reader, IsAt}
 
--- the text is the lines of the edits behind which a reader of these bytes stands
-pub record IsListedSoFar (bytes : List ℕ) (r : Reader) (text : List ℕ) : Type 0 where
+-- the text, or what a text is made of, is what is told of the edits behind which a reader of these bytes stands
+pub record IsListedSoFar {X : Type 0} (tell : ℕ → List EditView → List X) (bytes : List ℕ) (r : Reader) (text : List X) : Type 0 where
   pub start : ℕ
   pub edits : List EditView
   pub at : IsAt start edits r
   pub same : r.bytes ≡ bytes
-  pub told : text ≡ lines start edits
+  pub told : text ≡ tell start edits
 
 -- so many are these edits, of each kind and in all
 pub record IsCountedSoFar (bytes : List ℕ) (r : Reader) (counts : List ℕ) (total : ℕ) : Type 0 where
@@ -40,22 +39,22 @@ pub record GoesOn (old new : Reader) : Type 0 where
   pub small : old.ahead.txid ≤ 2 ^ 62
   pub behind : new.ahead.txid ≡ old.ahead.txid + 1
 
--- the text has one line more
-pub record IsLineMore (bytes : List ℕ) (old new : Reader) (text : List ℕ) : Type 0 where
+-- one edit more is told
+pub record IsLineMore {X : Type 0} (tell : ℕ → List EditView → List X) (bytes : List ℕ) (old new : Reader) (text : List X) : Type 0 where
   pub on : GoesOn old new
-  pub so_far : IsListedSoFar bytes new text
+  pub so_far : IsListedSoFar tell bytes new text
 
 -- one edit more is counted
 pub record IsOneMore (bytes : List ℕ) (old new : Reader) (counts : List ℕ) (total : ℕ) : Type 0 where
   pub on : GoesOn old new
   pub so_far : IsCountedSoFar bytes new counts total
 
--- a step of a listing: the line of the next edit, or all was told, or the file's damage
-abbrev pub ListsNext : List ℕ → Reader → List ℕ → Result Bool Fault → Reader → Type 0
-ListsNext bytes old text (Ok true) new = IsLineMore bytes old new text
-ListsNext bytes old text (Ok false) new = IsTold lines bytes text
-ListsNext bytes old text (Err (Damage place cause)) new = IsDamaged bytes place cause
-ListsNext bytes old text (Err Memory) new = Unit {0}
+-- a step of a listing: what is told of the next edit, or all was told, or the file's damage
+abbrev pub ListsNext : {X : Type 0} → (ℕ → List EditView → List X) → List ℕ → Reader → List X → Result Bool Fault → Reader → Type 0
+ListsNext tell bytes old text (Ok true) new = IsLineMore tell bytes old new text
+ListsNext tell bytes old text (Ok false) new = IsTold tell bytes text
+ListsNext tell bytes old text (Err (Damage place cause)) new = IsDamaged bytes place cause
+ListsNext tell bytes old text (Err Memory) new = Unit {0}
 
 -- a step of a count: the next edit is counted, or all were, or the file's damage
 abbrev pub CountsNext : List ℕ → Reader → List ℕ → ℕ → Result Bool Fault → Reader → Type 0

@@ -1,8 +1,9 @@
 //! The listings of a segment's file.
-ghost use Rattle.std.specs.Prelude.{ℕ, List};
+ghost use Rattle.std.specs.Prelude.{◌≡◌, ℕ, List, OnOk};
 ghost use Rattle.edit_ops.specs.Records.{EditView};
 ghost use Rattle.oev_tool.specs.declared.listing.ByteCause.{ByteCause};
 ghost use Rattle.oev_tool.specs.Lines.{lines};
+ghost use Rattle.oev_tool.specs.Entries.{entry_tokens, entry_lines};
 ghost use Rattle.oev_tool.specs.Counts.{statistics};
 ghost use Rattle.oev_tool.specs.Segment.{IsSegment};
 ghost use Rattle.oev_tool.specs.Damage.{IsDamaged};
@@ -12,14 +13,17 @@ ghost use Rattle.oev_tool.specs.Steps.{IsListedSoFar, ListsNext, IsCountedSoFar,
 
 use crate::counts::{count_owned, put_statistics};
 use crate::edits::Edits;
+use crate::entries::put_owned_entry;
 use crate::fault::Fault;
 use crate::lines::put_owned_line;
 use crate::listing::Listing;
+use json::Writer;
+use json_text::{array_text, begun_array};
 use std::alloc::Global;
 
 // Appends the line of the next edit; whether there was one.
 fn put_next(alloc: Global, edits: &mut Edits<'_>, out: &mut Vec<u8>) -> Result<bool, Fault>
-    ensures { (bytes : List ℕ) → IsListedSoFar bytes edits.old out.old.items → ListsNext bytes edits.old out.new.items result edits.new }
+    ensures { (bytes : List ℕ) → IsListedSoFar lines bytes edits.old out.old.items → ListsNext lines bytes edits.old out.new.items result edits.new }
 {
     match edits.next(alloc)? {
         Some((txid, edit)) => {
@@ -38,6 +42,32 @@ fn lines_of(alloc: Global, mut edits: Edits<'_>) -> Result<Vec<u8>, Fault>
     let mut out = Vec::new(alloc);
     while put_next(alloc, &mut edits, &mut out)? {}
     Ok(out)
+}
+
+// Adds the next edit to an array of JSON; whether there was one.
+fn put_next_entry(alloc: Global, edits: &mut Edits<'_>, writer: &mut Writer) -> Result<bool, Fault>
+    requires { IsListedSoFar entry_tokens edits.old.bytes edits.old writer.old.tokens }
+    ensures lists { (bytes : List ℕ) → IsListedSoFar entry_tokens bytes edits.old writer.old.tokens → ListsNext entry_tokens bytes edits.old writer.new.tokens result edits.new }
+    ensures before { OnOk result (writer.new.before ≡ writer.old.before) }
+{
+    match edits.next(alloc)? {
+        Some((txid, edit)) => {
+            put_owned_entry(alloc, writer, txid, edit)?;
+            Ok(true)
+        }
+        None => Ok(false),
+    }
+}
+
+// An array of JSON with the edits that are to come.
+fn entries_of(alloc: Global, mut edits: Edits<'_>) -> Result<Vec<u8>, Fault>
+    requires { IsFresh edits.bytes edits }
+    ensures { IsRead entry_lines edits.entry.bytes result }
+{
+    let mut writer = begun_array(alloc)?;
+    while put_next_entry(alloc, &mut edits, &mut writer)? {}
+    let text = array_text(writer)?;
+    Ok(text)
 }
 
 // Counts the next edit, by its kind and in all; whether there was one.
@@ -93,6 +123,16 @@ fn statistics_in(alloc: Global, bytes: &[u8]) -> Result<Vec<u8>, Fault>
     }
 }
 
+// An array of JSON with the edits of the file.
+fn entries_in(alloc: Global, bytes: &[u8]) -> Result<Vec<u8>, Fault>
+    ensures { IsRead entry_lines bytes.now result }
+{
+    match Edits::of(bytes) {
+        Some(edits) => entries_of(alloc, edits),
+        None => Err(Fault::no_header()),
+    }
+}
+
 // The answer for a text, or for why there is none.
 fn listing_of(read: Result<Vec<u8>, Fault>) -> Listing
     ensures { (tell : ℕ → List EditView → List ℕ) (bytes : List ℕ) → IsRead tell bytes read → IsListed tell bytes result }
@@ -132,4 +172,19 @@ pub fn stats(alloc: Global, bytes: &[u8]) -> Listing
     ensures damage { (place : ℕ) (cause : ByteCause) → IsDamaged bytes.now place cause → GivesDamage place cause result }
 {
     listing_of(statistics_in(alloc, bytes))
+}
+
+/// The edits of a segment's file as one array of JSON on a line, an object each. Its keys stand in the order of their
+/// bytes: `op`, which is `OP_` and the kind's name, `txid`, the fields of that kind, and `callid` and `clientid` where a
+/// client's call asked for the edit. Numbers are decimal, a permission too; a client is 32 lower-case hexadecimal
+/// digits. A file that is damaged is told as its first damage alone.
+pub fn json(alloc: Global, bytes: &[u8]) -> Listing
+    // The answer is right.
+    ensures right { IsListed entry_lines bytes.now result }
+    // A segment's file is told by its text.
+    ensures text { (start : ℕ) (edits : List EditView) → IsSegment bytes.now start edits → GivesText (entry_lines start edits) result }
+    // A damaged file is told by its first damage.
+    ensures damage { (place : ℕ) (cause : ByteCause) → IsDamaged bytes.now place cause → GivesDamage place cause result }
+{
+    listing_of(entries_in(alloc, bytes))
 }

@@ -1,0 +1,4 @@
+pub mod Permissions
+pub mod Columns
+pub mod Texts
+pub mod Examples

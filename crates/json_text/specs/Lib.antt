@@ -1,0 +1,3 @@
+pub mod Values
+pub mod Shown
+pub mod Written

@@ -1,0 +1,4 @@
+pub mod NoDigest
+pub mod Counting
+pub mod Fitting
+pub mod OneAnswer

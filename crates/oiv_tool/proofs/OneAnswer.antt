@@ -1,0 +1,40 @@
+-- The right answer, by what the bytes are read as.
+use Rattle.std.proofs.Common.{◌≡◌, ◌≢◌, ℕ, List, Result, Ok, Err, refl, sym, ap, ◌∙◌, subst}
+use Rattle.ns_tree.specs.declared.inode.Row.{Row}
+use Rattle.ns_tree.specs.Space.{Space}
+use Rattle.image_codec.specs.declared.image_cause.ImageCause.{ImageCause}
+use Rattle.image_codec.specs.declared.answer.ReadImage.{ReadImage}
+use Rattle.image_codec.specs.declared.answer.ReadImage.TheVariants.{Image, BadImage}
+use Rattle.image_codec.specs.Reading.{reading_of}
+use Rattle.oiv_tool.specs.declared.listing.Listing.{Listing}
+use Rattle.oiv_tool.specs.declared.listing.Listing.TheVariants.{Text, BadBytes, OutOfMemory}
+use Rattle.oiv_tool.specs.Listed.{IsAnswer, IsListed, GivesText, GivesFault}
+
+text_given : (tell : List Row → List ℕ) (space : Space) (txid : ℕ) (given : Listing) → IsAnswer tell (Image space txid) given → GivesText (tell space.pairs) given
+text_given tell space txid (Text text) h = h
+text_given tell space txid (BadBytes place cause) h = h
+text_given tell space txid OutOfMemory h = h
+
+fault_given : (tell : List Row → List ℕ) (place : ℕ) (cause : ImageCause) (given : Listing) → IsAnswer tell (BadImage place cause) given → GivesFault place cause given
+fault_given tell place cause (Text text) h = h
+fault_given tell place cause (BadBytes at of) h = h
+fault_given tell place cause OutOfMemory h = h
+
+pub gives_text : (tell : List Row → List ℕ) (bytes : List ℕ) (given : Listing) → IsListed tell bytes given → (space : Space) (txid : ℕ) → reading_of bytes ≡ Image space txid
+    → GivesText (tell space.pairs) given
+gives_text tell bytes given h space txid e = text_given tell space txid given (subst (λ (r : ReadImage). IsAnswer tell r given) e h)
+
+pub gives_fault : (tell : List Row → List ℕ) (bytes : List ℕ) (given : Listing) → IsListed tell bytes given → (place : ℕ) (cause : ImageCause) → reading_of bytes ≡ BadImage place cause
+    → GivesFault place cause given
+gives_fault tell bytes given h place cause e = fault_given tell place cause given (subst (λ (r : ReadImage). IsAnswer tell r given) e h)
+
+-- the answer is right for what the bytes are read as
+pub listed : (tell : List Row → List ℕ) (bytes : List ℕ) (read : ReadImage) (given : Listing) → read ≡ reading_of bytes → IsAnswer tell read given → IsListed tell bytes given
+listed tell bytes read given e h = subst (λ (r : ReadImage). IsAnswer tell r given) e h
+
+out_of_memory : (tell : List Row → List ℕ) (read : ReadImage) → IsAnswer tell read OutOfMemory
+out_of_memory tell (Image space txid) = tt
+out_of_memory tell (BadImage place cause) = tt
+
+pub no_memory : (tell : List Row → List ℕ) (bytes : List ℕ) → IsListed tell bytes OutOfMemory
+no_memory tell bytes = out_of_memory tell (reading_of bytes)

@@ -1,0 +1,5 @@
+pub mod Delimited
+pub mod Sizes
+pub mod Entries
+pub mod Listed
+pub mod Examples

@@ -1,0 +1,14 @@
+//! Listings of the inodes in the bytes of an image.
+#![tactic(auto)]
+
+mod causes;
+mod entries;
+mod lines;
+mod listing;
+mod tally;
+mod tools;
+mod worked;
+
+pub use listing::{ByteCause, Listing};
+pub use tools::{delimited, json, sizes};
+pub use worked::{known_images_have_listings, known_rows_have_listings, sizes_have_classes};

@@ -1,0 +1,164 @@
+//! How many files there are of each size.
+ghost use Rattle.std.specs.Prelude.{◌≡◌, ◌++◌, ◌∷◌, [], ◌+◌, ◌<◌, ◌≤◌, ◌==◌, ℕ, List, length, map, get_or, IfOk, OnOk};
+ghost use Rattle.std.specs.List.{flat_map};
+ghost use Rattle.ns_tree.specs.declared.inode.Row.{Row};
+ghost use Rattle.ns_tree.specs.Space.{IsInode, AreLengths};
+ghost use Rattle.oiv_tool.specs.Sizes.{class_of, one_if, line, lines_of, sizes, AreSizes, CountsDirectory, CountsFile, HasRoom};
+
+use inode_text::{put_wide, size_of};
+use ns_tree::{Inode, Namespace, Row};
+use qj_num::OutOfMemory;
+use std::alloc::Global;
+
+/// How many files there are in each class of sizes, and what there is in all.
+#[derive(Debug, Drop)]
+pub(crate) struct Tally {
+    pub classes: [u64; 6],
+    pub files: u64,
+    pub directories: u64,
+    pub blocks: u64,
+    /// Fewer than 2^32 files have at most 65,535 blocks of at most 2^40 bytes each, so 88 bits suffice.
+    pub bytes: u128,
+}
+
+// The first class whose limit the size doesn't exceed.
+fn class_of(size: u128) -> usize
+    ensures class { result ≡ class_of size }
+    ensures small { result < 6 }
+{
+    if size == 0 {
+        0
+    } else if size <= 1024 {
+        1
+    } else if size <= 1_048_576 {
+        2
+    } else if size <= 1_073_741_824 {
+        3
+    } else if size <= 1_099_511_627_776 {
+        4
+    } else {
+        5
+    }
+}
+
+// Counts a size in its class.
+#[tactic(auto, using(crate::proofs::Counting::bumped))]
+fn count_class(classes: &mut [u64; 6], size: u128)
+    requires { (class : ℕ) → class < 6 → get_or classes.old class 0 < 4294967296 }
+    ensures { (class : ℕ) → class < 6 → get_or classes.new class 0 ≡ get_or classes.old class 0 + one_if (class_of size == class) }
+{
+    classes[class_of(size)] += 1;
+}
+
+impl Tally {
+    // Nothing is counted yet.
+    fn new() -> Tally
+        ensures { AreSizes result [] }
+    {
+        Tally {
+            classes: [0; 6],
+            files: 0,
+            directories: 0,
+            blocks: 0,
+            bytes: 0,
+        }
+    }
+
+    fn count_directory(&mut self)
+        requires { HasRoom self.old }
+        ensures { CountsDirectory self.old self.new }
+    {
+        self.directories += 1;
+    }
+
+    #[tactic(auto, using(crate::proofs::Counting::size_small))]
+    fn count_file(&mut self, lengths: &[u64])
+        requires room { HasRoom self.old }
+        requires lengths { AreLengths lengths.now }
+        requires few { length lengths.now ≤ 65535 }
+        ensures { CountsFile lengths.now self.old self.new }
+    {
+        let size = size_of(lengths);
+        count_class(&mut self.classes, size);
+        self.files += 1;
+        self.blocks += lengths.len() as u64;
+        self.bytes += size;
+    }
+
+    // Counts a row.
+    #[tactic(auto, using(crate::proofs::Counting::good_lengths))]
+    fn count(&mut self, row: &Row)
+        requires room { HasRoom self.old }
+        requires inode { IsInode row.now.inode }
+        ensures { (rows : List Row) → AreSizes self.old rows → AreSizes self.new (rows ++ row.now ∷ []) }
+    {
+        match &row.inode {
+            Inode::Dir { .. } => self.count_directory(),
+            Inode::File { lengths, .. } => self.count_file(lengths.as_slice()),
+        }
+    }
+}
+
+// Counts all rows.
+fn counted(namespace: &Namespace) -> Tally
+    ensures { AreSizes result namespace.now.pairs }
+{
+    namespace.show_invariant();
+    let mut tally = Tally::new();
+    for i in 0..namespace.row_count() {
+        tally.count(namespace.row(i));
+    }
+    tally
+}
+
+// Appends a word and a number as a line.
+fn put_line(out: &mut Vec<u8>, word: &str, number: u128) -> Result<(), OutOfMemory>
+    ensures { OnOk result (out.new.items ≡ out.old.items ++ line (word.now, number)) }
+{
+    out.extend_from_slice(word.as_bytes())?;
+    out.push(b' ')?;
+    put_wide(out, number)?;
+    out.push(b'\n')?;
+    Ok(())
+}
+
+// Appends words and numbers, a line each.
+fn put_lines(out: &mut Vec<u8>, lines: &[(&str, u128)]) -> Result<(), OutOfMemory>
+    ensures { OnOk result (out.new.items ≡ out.old.items ++ flat_map line (map (λ l. (l.0.now, l.1)) lines.now)) }
+{
+    for line in lines {
+        put_line(out, line.0, line.1)?;
+    }
+    Ok(())
+}
+
+// Appends what was counted.
+fn put_tally(out: &mut Vec<u8>, tally: &Tally) -> Result<(), OutOfMemory>
+    ensures { OnOk result (out.new.items ≡ out.old.items ++ flat_map line (lines_of tally.now)) }
+{
+    put_lines(
+        out,
+        &[
+            ("0", u128::from(tally.classes[0])),
+            ("1024", u128::from(tally.classes[1])),
+            ("1048576", u128::from(tally.classes[2])),
+            ("1073741824", u128::from(tally.classes[3])),
+            ("1099511627776", u128::from(tally.classes[4])),
+            ("more", u128::from(tally.classes[5])),
+            ("files", u128::from(tally.files)),
+            ("directories", u128::from(tally.directories)),
+            ("blocks", u128::from(tally.blocks)),
+            ("bytes", tally.bytes),
+        ],
+    )
+}
+
+/// How many files there are of each size, and what there is in all.
+pub(crate) fn sizes_text(alloc: Global, namespace: &Namespace) -> Result<Vec<u8>, OutOfMemory>
+    ensures { IfOk result (λ text. text.items ≡ sizes namespace.now.pairs) }
+{
+    let tally = counted(namespace);
+    let mut out = Vec::new(alloc);
+    put_tally(&mut out, &tally)?;
+    Ok(out)
+}
