@@ -1,17 +1,16 @@
 -- What is told of images and of the files of their digests.
-use Rattle.std.proofs.Common.{◌≡◌, ◌≢◌, ℕ, ◌≤◌, ◌^◌, List, [], ◌∷◌, refl, sym, ap, subst, ◌∙◌, inl, inr, ⊎_elim, take}
+use Rattle.std.proofs.Common.{◌≡◌, ℕ, ◌≤◌, ◌^◌, List, [], ◌∷◌, refl, sym, ap, subst, ◌∙◌, inl, inr, take}
 use Rattle.std.specs.Prelude.{Option, Some, None, IsSome}
 use Rattle.std.proofs.lemmas.Option.{same_Some}
 use Rattle.md5.specs.Md5.{md5}
 use Rattle.qj_disk.specs.Files.{Files}
 use Rattle.image_codec.specs.declared.image_cause.ImageCause.{ImageCause}
-use Rattle.image_codec.specs.declared.answer.ReadImage.{ReadImage}
 use Rattle.image_codec.specs.declared.answer.ReadImage.TheVariants as read
 use Rattle.image_codec.specs.Reading.{reading_of}
 use Rattle.image_store.specs.Names.{Itself, Digest, name_of}
 use Rattle.image_store.specs.Images.{Image, image_of, image_in}
 use Rattle.image_store.specs.Digests.{IsStored}
-use Rattle.image_store.specs.Loads.{HasBytes, IsAnswerOf, IsAnswer}
+use Rattle.image_store.specs.Loads.{IsAnswerOf, IsAnswer}
 use Rattle.image_store.specs.declared.loaded.Loaded.{Loaded}
 use Rattle.image_store.specs.declared.loaded.Loaded.TheVariants as loaded
 use Rattle.image_store.proofs.DigestLaws.{digits_of, one_digest}

@@ -3,7 +3,7 @@ use Rattle.std.proofs.Common.{◌≡◌, ◌↔◌, ℕ, zero, suc, ◌+◌, ◌
 use Rattle.std.specs.Prelude.{Option, Some, None, IsSome, map, slice_index_or, Result, codes, decimal}
 use Rattle.std.proofs.lemmas.List.{append-nil, map-append, length-map, take_more}
 use Rattle.qj_disk.specs.Files.{Files}
-use Rattle.qj_disk.specs.View.{View, IsSound, Elapses}
+use Rattle.qj_disk.specs.View.{View, IsSound}
 use Rattle.qj_disk.specs.Calls.{Keeps, Rests, Lists, HasCause}
 use Rattle.qj_disk.specs.declared.disk.DiskFail.{DiskFail}
 use Rattle.fsck_tool.specs.declared.finding.Finding.{Finding}
@@ -11,7 +11,7 @@ use Rattle.fsck_tool.specs.declared.file_role.FileRole.{FileRole}
 use Rattle.fsck_tool.specs.declared.report.SoFar.{SoFar}
 use Rattle.fsck_tool.specs.Roles.{HasRole, end_after}
 use Rattle.fsck_tool.specs.Rules.{IsVerdict}
-use Rattle.fsck_tool.specs.Reports.{Verdict, line_of, lines_of, one_if, count_of, text_of, AreVerdicts, AreFindings, IsReport}
+use Rattle.fsck_tool.specs.Reports.{Verdict, line_of, lines_of, one_if, count_of, AreVerdicts, IsReport}
 use Rattle.fsck_tool.specs.Steps.{AddsVerdict, IsSoFar}
 
 -- ## One file more

@@ -7,9 +7,7 @@ use Rattle.node_files.specs.Durable.{number_name}
 use Rattle.node_files.specs.declared.node_number.NodeNumber.{NodeNumber}
 use Rattle.node_files.specs.declared.node_number.NodeNumber.TheVariants.{Promised, Writer, Committed}
 use Rattle.segment_file.specs.Names.{Kind, InProgress, Final, Record, UnderWay, Fresh, name_of}
-use Rattle.segment_file.specs.Kinds.{IsNamed, IsTold, kind_told}
-use Rattle.segment_file.specs.declared.file_kind.FileKind.{FileKind}
-use Rattle.segment_file.specs.declared.file_kind.FileKind.TheVariants as told
+use Rattle.segment_file.specs.Kinds.{IsNamed, IsTold}
 use Rattle.image_store.specs.Names as image
 use Rattle.fsck_tool.specs.declared.finding.Finding.{Finding}
 use Rattle.fsck_tool.specs.declared.rule.Rule.TheVariants as rule

@@ -1,6 +1,6 @@
 -- A folder has one report.
-use Rattle.std.proofs.Common.{◌≡◌, ◌≢◌, ◌⊎◌, ℕ, zero, suc, ◌+◌, ◌<◌, ◌≤◌, List, [], ◌∷◌, ◌++◌, length, refl, sym, ap, subst, ◌∙◌, inl, inr, ⊎_elim, arith}
-use Rattle.std.specs.Prelude.{Option, Some, None, map, Contains, slice_index_or, codes, decimal}
+use Rattle.std.proofs.Common.{◌≡◌, ◌⊎◌, ℕ, zero, suc, ◌<◌, List, [], ◌∷◌, refl, sym, ap, subst, ◌∙◌, inl, inr, ⊎_elim, arith}
+use Rattle.std.specs.Prelude.{Option, Some, map, Contains}
 use Rattle.std.specs.Cmp.Lexicographic.{slice_cmp}
 use Rattle.std.specs.Ordering.{nat_cmp}
 use Rattle.std.specs.declared.cmp.Ordering.TheVariants.{Less, Equal}
@@ -11,11 +11,9 @@ use Rattle.std.proofs.lemmas.Map.Keys.{sorted_head, sorted_tail}
 use Rattle.md5.specs.Md5.{md5}
 use Rattle.qj_disk.specs.Files.{Files, bytes_of}
 use Rattle.qj_disk.specs.Calls.{Lists}
-use Rattle.small_files.specs.Records.{IsNumber}
 use Rattle.node_files.specs.Durable.{number_name}
-use Rattle.node_files.specs.declared.node_number.NodeNumber.TheVariants.{Promised, Writer, Committed}
+use Rattle.node_files.specs.declared.node_number.NodeNumber.TheVariants.{Promised, Writer}
 use Rattle.batch_frame.proofs.SegmentLaws.{one_segment_fault}
-use Rattle.image_codec.specs.declared.image_cause.ImageCause.{ImageCause}
 use Rattle.image_codec.specs.declared.answer.ReadImage.TheVariants as read
 use Rattle.image_codec.specs.Reading.{reading_of}
 use Rattle.image_store.specs.Images.{Image, image_in}
@@ -28,7 +26,7 @@ use Rattle.fsck_tool.specs.declared.file_role.FileRole.TheVariants as role
 use Rattle.fsck_tool.specs.Segments.{IsBadSegment, no_header, bad_frame}
 use Rattle.fsck_tool.specs.Roles.{HasRole, end_after}
 use Rattle.fsck_tool.specs.Rules.{AreZero, StartDiffers, LastDiffers, DigestDiffers, IsBadImage, no_digest, bad_bytes, front_number, Breaks, IsFirstBroken, IsVerdict, in_order}
-use Rattle.fsck_tool.specs.Reports.{Verdict, line_of, lines_of, count_of, text_of, AreVerdicts, AreFindings, IsReport, FoldersHaveOneReport}
+use Rattle.fsck_tool.specs.Reports.{Verdict, count_of, text_of, AreVerdicts, FoldersHaveOneReport}
 use Rattle.fsck_tool.proofs.SegmentLaws.{one_content}
 use Rattle.fsck_tool.proofs.NumberLaws.{one_number}
 use Rattle.fsck_tool.proofs.ImageLaws.{one_stored, the_image}

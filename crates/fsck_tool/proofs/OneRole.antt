@@ -1,20 +1,19 @@
 -- A name has one role.
-use Rattle.std.proofs.Common.{◌≡◌, ◌≢◌, ◌⊎◌, ℕ, ◌+◌, ◌/◌, ◌%◌, ◌≤◌, ◌^◌, List, [], ◌∷◌, ◌++◌, length, refl, sym, ap, subst, ◌∙◌, inl, inr, append_assoc, arith, get_or, length-append}
+use Rattle.std.proofs.Common.{◌≡◌, ◌⊎◌, ℕ, ◌+◌, ◌/◌, ◌%◌, ◌≤◌, ◌^◌, List, [], ◌∷◌, ◌++◌, length, refl, sym, ap, subst, ◌∙◌, inl, inr, append_assoc, arith}
 use Rattle.std.specs.Prelude.{codes}
 use Rattle.std.proofs.lemmas.List.{append-nil}
 use Rattle.qj_num.specs.Padded.{padded}
-use Rattle.qj_num.proofs.PaddedLaws.{length-padded}
 use Rattle.node_files.specs.Durable.{number_name}
 use Rattle.node_files.specs.declared.node_number.NodeNumber.{NodeNumber}
 use Rattle.node_files.specs.declared.node_number.NodeNumber.TheVariants.{Promised, Writer, Committed}
-use Rattle.segment_file.specs.Names.{Kind, InProgress, Final, Record, UnderWay, Fresh, FreshRecord, name_of, rest_of, front_of, front_text}
+use Rattle.segment_file.specs.Names.{Kind, InProgress, Final, Record, UnderWay, Fresh, FreshRecord, name_of}
 use Rattle.segment_file.specs.Kinds.{IsNamed, IsTold}
 use Rattle.segment_file.proofs.NamesLemmas.{same_start, same_kind}
 use Rattle.image_store.specs.Names as image
 use Rattle.image_store.proofs.NameLaws.{parts_apart, same_txid}
 use Rattle.fsck_tool.specs.declared.file_role.FileRole.{FileRole}
 use Rattle.fsck_tool.specs.declared.file_role.FileRole.TheVariants as role
-use Rattle.fsck_tool.specs.Roles.{IsPassing, temporary, fresh, under_way, checkpoint, IsImageName, IsKnownAs, HasRole}
+use Rattle.fsck_tool.specs.Roles.{temporary, fresh, under_way, checkpoint, IsImageName, IsKnownAs, HasRole}
 
 -- ## How names end
 abbrev last_byte : List ℕ → ℕ

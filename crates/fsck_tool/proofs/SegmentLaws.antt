@@ -1,6 +1,6 @@
 -- What the bytes of a segment's file tell, and what is told of the file.
-use Rattle.std.proofs.Common.{◌≡◌, ◌≢◌, ℕ, ◌+◌, ◌-◌, ◌<◌, ◌≤◌, List, [], ◌∷◌, length, drop, take, refl, sym, ap, subst, ◌∙◌, inl, inr, arith, true, false, Bool, not}
-use Rattle.std.specs.Prelude.{Option, Some, None, ◌==◌, nat_le, if◌then◌else◌}
+use Rattle.std.proofs.Common.{◌≡◌, ℕ, ◌+◌, ◌-◌, ◌<◌, ◌≤◌, List, [], ◌∷◌, length, drop, refl, ap, subst, ◌∙◌, inl, inr, arith, true, false, Bool, not}
+use Rattle.std.specs.Prelude.{Some, None, ◌==◌, nat_le, if◌then◌else◌}
 use Rattle.std.proofs.lemmas.Bool.{leb-true, leb-false}
 use Rattle.std.proofs.lemmas.Bool.Decides.{Decides-eqb}
 use Rattle.qj_disk.specs.Files.{Files, bytes_of}
@@ -11,15 +11,13 @@ use Rattle.batch_frame.specs.Faults.{HaveBadFrame}
 use Rattle.batch_frame.specs.Answers.{IsScan}
 use Rattle.batch_frame.specs.Segments.{HasHeader}
 use Rattle.batch_frame.proofs.SegmentLaws.{one_segment, no_segment}
-use Rattle.fsck_tool.specs.declared.rule.Rule.{Rule}
 use Rattle.fsck_tool.specs.declared.rule.Rule.TheVariants as rule
-use Rattle.fsck_tool.specs.declared.finding.Finding.{Finding}
 use Rattle.fsck_tool.specs.declared.file_role.FileRole.TheVariants as role
 use Rattle.fsck_tool.specs.declared.segment_bytes.SegmentBytes.{SegmentBytes}
 use Rattle.fsck_tool.specs.declared.segment_bytes.SegmentBytes.TheVariants.{Bad, Whole}
 use Rattle.fsck_tool.specs.Segments.{TellsSegment, IsBadSegment, no_header, bad_frame, IsReadAs}
-use Rattle.fsck_tool.specs.Rules.{Breaks, IsFirstBroken, IsVerdict, StartDiffers, LastDiffers}
-use Rattle.fsck_tool.specs.Steps.{judged_progress, judged_whole, judged_final}
+use Rattle.fsck_tool.specs.Rules.{Breaks, IsFirstBroken, IsVerdict, LastDiffers}
+use Rattle.fsck_tool.specs.Steps.{judged_progress, judged_final}
 
 -- ## Bytes
 module _ (bytes : List ℕ) (start epoch : ℕ) (header : HasHeader bytes start epoch) (frames : List ℕ) (behind : frames ≡ drop 24 bytes) where

@@ -1,17 +1,14 @@
 -- The folder of a known session.
-use Rattle.std.proofs.Common.{◌≡◌, ℕ, ◌≤◌, ◌^◌, List, [], ◌∷◌, refl, lit≤, arith}
-use Rattle.std.specs.Prelude.{Option, Some, None, codes}
+use Rattle.std.proofs.Common.{[], ◌∷◌, refl, lit≤, arith}
+use Rattle.std.specs.Prelude.{Some}
 use Rattle.qj_num.specs.Padded.{padded}
 use Rattle.small_files.specs.Records.{IsNumber}
 use Rattle.journal_core.specs.Views.{BatchView}
 use Rattle.batch_frame.specs.Frames.{frame_bytes, broken_rule}
-use Rattle.node_files.specs.Durable.{number_name}
-use Rattle.node_files.specs.declared.node_number.NodeNumber.TheVariants.{Promised, Writer, Committed}
 use Rattle.segment_file.specs.Names.{name_of, Final}
 use Rattle.segment_file.specs.Kinds.{IsNamed}
-use Rattle.qj_disk.specs.Files.{bytes_of}
 use Rattle.fsck_tool.specs.Segments.{TellsSegment}
-use Rattle.fsck_tool.specs.Examples.{two, segment_file, folder, clean_name, other_name}
+use Rattle.fsck_tool.specs.Examples.{two, segment_file, clean_name, other_name}
 
 edit : BatchView
 edit = record { first = 2; bodies = (24 ∷ []) ∷ [] }

@@ -1,5 +1,5 @@
 -- What the bytes of a segment's file tell by themselves.
-use Rattle.std.specs.Prelude.{◌≡◌, ◌⊎◌, ℕ, ◌+◌, List, length}
+use Rattle.std.specs.Prelude.{◌≡◌, ℕ, ◌+◌, List, length}
 use Rattle.batch_frame.specs.declared.frame_cause.FrameCause.{FrameCause}
 use Rattle.batch_frame.specs.Segments.{HasHeader, IsSegmentFile, HasBadSegmentFrame}
 use Rattle.fsck_tool.specs.declared.segment_bytes.SegmentBytes.{SegmentBytes}

@@ -1,5 +1,5 @@
 -- What the steps of a check make of what was found so far.
-use Rattle.std.specs.Prelude.{◌≡◌, ◌≢◌, ◌⊎◌, ℕ, ◌+◌, ◌-◌, ◌≤◌, ◌^◌, ◌==◌, not, nat_lt, nat_le, if◌then◌else◌, List, [], ◌++◌, map, length, take, Option, Some, None, Result, Ok, Err, Bool, true, false, codes}
+use Rattle.std.specs.Prelude.{◌≡◌, ◌≢◌, ◌⊎◌, ℕ, ◌+◌, ◌-◌, ◌≤◌, ◌^◌, ◌==◌, not, nat_lt, nat_le, if◌then◌else◌, List, [], ◌++◌, map, Option, Some, None, Result, Ok, Err, Bool, true, false, codes}
 use Rattle.qj_num.specs.Padded.{padded}
 use Rattle.qj_disk.specs.Files.{Files}
 use Rattle.qj_disk.specs.declared.disk.DiskFail.{DiskFail}

@@ -1,5 +1,5 @@
 //! The files of a folder are checked, name by name.
-ghost use Rattle.std.specs.Prelude.{◌≡◌, ◌↔◌, ◌<◌, ◌+◌, ◌-◌, ◌^◌, IfOk, OnOk, IsSome, map, string_bytes};
+ghost use Rattle.std.specs.Prelude.{◌≡◌, ◌↔◌, ◌<◌, ◌+◌, ◌-◌, ◌^◌, Some, IfOk, OnOk, IsErrOf, IsSome, map, string_bytes};
 ghost use Rattle.qj_disk.specs.Calls.{HasCause, Rests, Lists};
 ghost use Rattle.fsck_tool.specs.Roles.{HasRole};
 ghost use Rattle.fsck_tool.specs.Rules.{IsVerdict};
@@ -99,6 +99,7 @@ fn check_names<D: Disk>(alloc: Global, disk: &mut D, names: &[String]) -> Result
 pub fn report_of<D: Disk>(alloc: Global, disk: &mut D) -> Result<(Vec<u8>, u64), DiskFail>
     ensures tells { D.tells disk.old ↔ D.tells disk.new }
     ensures report { IfOk result (λ r. IsReport (D.tells disk.old) (D.view disk.old).seen r.0.items r.1) }
+    ensures stopped { D.left disk.old ≡ Some 0 → IsErrOf result DiskFail.Failed }
     ensures disk { D.tells disk.old → Rests (D.view disk.old) (D.view disk.new) }
     ensures cause { HasCause (D.faults disk.old) (D.faults disk.new) (D.steady disk.old) (D.steady disk.new) result }
 {

@@ -27,6 +27,7 @@ fn write_report<K: Sink>(sink: &mut K, text: &[u8], findings: u64) -> Checkup
 pub fn fsck<D: Disk, K: Sink>(alloc: Global, disk: &mut D, sink: &mut K) -> Checkup
     ensures tells { D.tells disk.old ↔ D.tells disk.new }
     ensures checkup { IsCheckup (D.tells disk.old) (D.view disk.old).seen result (K.taken sink.old) (K.taken sink.new) (K.faults sink.old) (K.faults sink.new) }
+    ensures stopped { D.left disk.old ≡ Some 0 → result ≡ Checkup.DiskFault }
     ensures disk { D.tells disk.old → Rests (D.view disk.old) (D.view disk.new) }
     ensures cause { HasCause (D.faults disk.old) (D.faults disk.new) (D.steady disk.old) (D.steady disk.new) (disk_answer result) }
 {

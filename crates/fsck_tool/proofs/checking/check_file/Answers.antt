@@ -1,6 +1,5 @@
 use Rattle.std.proofs.Common.{sym, subst, List, ℕ}
 use Rattle.std.specs.Prelude.{IsSome, Option}
-use Rattle.qj_disk.specs.Files.{Files}
 use Rattle.segment_file.specs.Names.{name_of, Record}
 use Rattle.fsck_tool.specs.declared.finding.Finding.{Finding}
 use Rattle.fsck_tool.specs.declared.file_role.FileRole.{FileRole}

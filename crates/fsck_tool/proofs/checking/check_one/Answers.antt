@@ -1,6 +1,6 @@
-use Rattle.std.proofs.Common.{sym, ap, subst, ◌∙◌, List, ℕ, ◌+◌, ◌++◌}
+use Rattle.std.proofs.Common.{ap, subst, ◌∙◌, List, ℕ, ◌+◌, ◌++◌}
 use Rattle.fsck_tool.specs.Roles.{HasRole}
-use Rattle.fsck_tool.specs.Reports.{line_of, one_if}
+use Rattle.fsck_tool.specs.Reports.{line_of}
 use Rattle.fsck_tool.proofs.checking.check_one.Goals as goal
 
 pub returns-clause-adds : goal.returns-clause-adds

@@ -1,4 +1,4 @@
-use Rattle.std.proofs.Common.{List, ℕ, sym, subst}
+use Rattle.std.proofs.Common.{sym, subst}
 use Rattle.std.specs.Prelude.{Option}
 use Rattle.fsck_tool.specs.declared.finding.Finding.{Finding}
 use Rattle.fsck_tool.specs.declared.file_role.FileRole.TheVariants as role

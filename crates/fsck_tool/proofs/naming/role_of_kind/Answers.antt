@@ -1,4 +1,4 @@
-use Rattle.std.proofs.Common.{ℕ, List, subst, ap}
+use Rattle.std.proofs.Common.{subst, ap}
 use Rattle.segment_file.specs.Names.{Kind}
 use Rattle.segment_file.specs.Kinds.{IsNamed, kind_told}
 use Rattle.fsck_tool.specs.Roles.{fresh, under_way}

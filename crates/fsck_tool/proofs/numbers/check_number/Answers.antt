@@ -1,4 +1,4 @@
-use Rattle.std.proofs.Common.{sym, subst, ℕ, List}
+use Rattle.std.proofs.Common.{subst, ℕ, List}
 use Rattle.std.specs.Prelude.{IfOk}
 use Rattle.qj_disk.specs.Files.{Files}
 use Rattle.fsck_tool.specs.declared.file_role.FileRole.TheVariants as role

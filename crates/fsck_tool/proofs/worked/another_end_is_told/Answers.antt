@@ -1,4 +1,4 @@
-use Rattle.std.proofs.Common.{refl, ap, arith, List, ℕ, ◌++◌, ◌∷◌, []}
+use Rattle.std.proofs.Common.{refl, arith, List, ℕ, ◌++◌, ◌∷◌, []}
 use Rattle.std.specs.Prelude.{codes}
 use Rattle.std.proofs.lemmas.Fmt.{decimal_digit}
 use Rattle.node_files.specs.declared.node_number.NodeNumber.TheVariants.{Promised, Writer, Committed}
