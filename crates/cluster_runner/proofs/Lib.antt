@@ -34,3 +34,4 @@ pub mod PlayLaws
 pub mod NodesLeft
 pub mod FaultlessLaws
 pub mod RawEnds
+pub mod NeverBroken
