@@ -1,13 +1,13 @@
-mod Led
+pub mod Led
 mod Wanting
-mod Makes
+pub mod Makes
 mod Goes
-mod Sound
-mod Parts
+pub mod Sound
+pub mod Parts
 mod Links
 mod Answers
 mod Playing
-mod Taking
+pub mod Taking
 mod Final
 mod Unique
 mod BrokenLaws

@@ -21,4 +21,5 @@ pub use laws::{
     a_play_is_a_run, an_actor_does_its_tasks, answers_fix_the_record, each_edit_has_one_result,
     histories_are_local_runs, lines_one_by_one, one_script_has_one_play,
 };
-pub use played::{Played, play, play_on};
+pub use deeds::take_deed;
+pub use played::{Played, actors_in, plain_nodes, play, play_on};
