@@ -1,15 +1,15 @@
-mod Led
+pub mod Led
 mod Holds
 mod Wanting
-mod Makes
+pub mod Makes
 mod ChoresMade
 mod Goes
-mod Sound
-mod Parts
+pub mod Sound
+pub mod Parts
 mod Links
 mod Answers
 mod Playing
-mod Taking
+pub mod Taking
 mod Final
 mod Unique
 mod BrokenLaws

@@ -85,7 +85,7 @@ deeds_acted c a d (Acts b e ∷ ls) = by (b == c) (a == c) (deeds_acted c a d ls
     by false false h = h
 
 -- a line that is no deed
-deeds_append : (c : ℕ) (ls ms : List Line) → deeds_of c (ls ++ ms) ≡ deeds_of c ls ++ deeds_of c ms
+pub deeds_append : (c : ℕ) (ls ms : List Line) → deeds_of c (ls ++ ms) ≡ deeds_of c ls ++ deeds_of c ms
 unfolding deeds_of
 deeds_append c [] ms = refl
 deeds_append c (Declares x ∷ ls) ms = deeds_append c ls ms

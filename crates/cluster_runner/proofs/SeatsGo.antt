@@ -107,7 +107,7 @@ idle_there cells players o os k c p log e seated is l own idle =
       rests = ap (λ (x : KeptActor). next_call x.writer) (sym a) ∙ still.resting c m;
     })
 
-led_past : (x : Actor) (rs : List Record) → (actor_after x rs).past ≡ x.past ++ rs
+pub led_past : (x : Actor) (rs : List Record) → (actor_after x rs).past ≡ x.past ++ rs
 unfolding actor_after
 led_past x [] = sym (append-nil x.past)
 led_past x (r ∷ rs) = led_past (goes_on x r) rs ∙ ap (λ l. l ++ rs) (goes_past x r) ∙ append_assoc x.past (r ∷ []) rs

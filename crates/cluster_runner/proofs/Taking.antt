@@ -29,14 +29,14 @@ declared_append (Declares x ∷ ls) ms = omega (arith, declared_append ls ms)
 declared_append (Acts a d ∷ ls) ms = declared_append ls ms
 declared_append (Operates k ask ∷ ls) ms = declared_append ls ms
 
-names_append : (ls ms : List Line) → names_in (ls ++ ms) ≡ names_in ls ++ names_in ms
+pub names_append : (ls ms : List Line) → names_in (ls ++ ms) ≡ names_in ls ++ names_in ms
 unfolding names_in
 names_append [] ms = refl
 names_append (Declares x ∷ ls) ms = ap (λ (l : List (List ℕ)). x ∷ l) (names_append ls ms)
 names_append (Acts a d ∷ ls) ms = names_append ls ms
 names_append (Operates k ask ∷ ls) ms = names_append ls ms
 
-operations_append : (ls ms : List Line) → operations_in (ls ++ ms) ≡ operations_in ls ++ operations_in ms
+pub operations_append : (ls ms : List Line) → operations_in (ls ++ ms) ≡ operations_in ls ++ operations_in ms
 unfolding operations_in
 operations_append [] ms = refl
 operations_append (Declares x ∷ ls) ms = operations_append ls ms
@@ -74,7 +74,7 @@ names_operates : (ls : List Line) (k : ℕ) (ask : NodeAsk) → names_in (ls ++ 
 unfolding names_in
 names_operates ls k ask = names_append ls (Operates k ask ∷ []) ∙ append_none (names_in ls)
 
-operations_snoc : (os : List Operation) (rs : List Record) (k : ℕ) (ask : NodeAsk) (d : Bool) → AreOperations os rs → AreOperations (os ++ record { node = k; ask = ask } ∷ []) (rs ++ Operator k ask d ∷ [])
+pub operations_snoc : (os : List Operation) (rs : List Record) (k : ℕ) (ask : NodeAsk) (d : Bool) → AreOperations os rs → AreOperations (os ++ record { node = k; ask = ask } ∷ []) (rs ++ Operator k ask d ∷ [])
 unfolding AreOperations
 operations_snoc [] [] k ask d h = (refl, refl, tt)
 operations_snoc [] (r ∷ rs) k ask d h = absurd h
@@ -84,7 +84,7 @@ operations_snoc (o ∷ os) (Call i q t ∷ rs) k ask d h = absurd h
 operations_snoc (o ∷ os) (Late i q ∷ rs) k ask d h = absurd h
 operations_snoc (o ∷ os) (Outcome x ∷ rs) k ask d h = absurd h
 
-operators_snoc : (rs : List Record) (k : ℕ) (ask : NodeAsk) (d : Bool) → IsOperators rs → IsOperation ask → IsOperators (rs ++ Operator k ask d ∷ [])
+pub operators_snoc : (rs : List Record) (k : ℕ) (ask : NodeAsk) (d : Bool) → IsOperators rs → IsOperation ask → IsOperators (rs ++ Operator k ask d ∷ [])
 unfolding IsOperators
 operators_snoc [] k ask d h is = (is, tt)
 operators_snoc (Operator i a e ∷ rs) k ask d h is = (h.0, operators_snoc rs k ask d h.1 is)

@@ -2,7 +2,6 @@
 ghost use Rattle.std.specs.List.{All};
 ghost use Rattle.std.specs.Prelude.{◌≡◌, ◌≤◌, ◌<◌, OnOk, IfOk, Some, length, ℕ, map, replicate};
 ghost use Rattle.journal_core.specs.Step.{fresh_state};
-ghost use Rattle.caller_seats.specs.Deliveries.{is_done};
 ghost use Rattle.node_world.specs.NodeCells.{new_cell};
 ghost use Rattle.cluster_runner.specs.Deeds.{MayCome};
 ghost use Rattle.cluster_runner.specs.Kept.{new_kept, with_actor, operates, mesh_kept, ends_kept, states_kept};
@@ -13,10 +12,10 @@ use crate::deeds::take_deed;
 use crate::play_seats::PlaySeats;
 use crate::played::Played;
 use crate::player::Player;
-use caller_seats::CallerLog;
+use caller_seats::{CallerLog, is_done};
 use journal_core::{Bytes, CutNode, OutOfMemory};
 use mesh::{End, EndList, HistoryTable, Mesh, RecordTable};
-use node_world::{NodeAnswer, NodeAsk, NodeCell, Plan, Record, RecordList, cells_of};
+use node_world::{NodeAsk, NodeCell, Plan, Record, RecordList, cells_of};
 use script_text::ScriptLine;
 use std::alloc::{AllocError, Global};
 use std::marker::Model;
@@ -42,20 +41,6 @@ impl<N: CutNode + Drop> Model for Cluster<N> {
     ghost view = { λ c. kept c.cells.items c.players.items c.operator c.operated };
 
     ghost invariant = { λ c. AreSeated (length c.cells.items) c.players.items };
-}
-
-/// The kill, the restart or the arming took place.
-#[tactic(auto, unfolding(caller_seats::specs::Deliveries::is_done))]
-fn is_done(answer: &NodeAnswer) -> bool
-    ensures { result ≡ is_done answer.now }
-{
-    match answer {
-        NodeAnswer::Done => true,
-        NodeAnswer::Replied(_) => false,
-        NodeAnswer::Stopped { keep: _ } => false,
-        NodeAnswer::Idle => false,
-        NodeAnswer::NotOpened(_) => false,
-    }
 }
 
 /// What is left of the nodes: as they stand, and their histories.

@@ -157,7 +157,7 @@ fn take_late<S: Seats>(
 }
 
 /// The deed of a line, if it is an actor's: its calls, and its results.
-pub(crate) fn take_deed<S: Seats>(
+pub fn take_deed<S: Seats>(
     alloc: Global,
     writer: &mut Writer,
     seats: &mut S,

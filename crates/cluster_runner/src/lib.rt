@@ -26,4 +26,5 @@ pub use named_examples::{
     shows_late_takeover, shows_refused_edits, shows_repeated_calls, shows_standby,
     shows_standby_without_image, shows_survived_batch, shows_trimmed_log,
 };
-pub use played::{Played, play, play_on};
+pub use played::{Played, actors_in, plain_nodes, play, play_on};
+pub use deeds::take_deed;

@@ -1,13 +1,11 @@
 // The seats of one caller in a play.
 ghost use Rattle.std.specs.Prelude.{◌≡◌, true, OnOk, IfOk};
 ghost use Rattle.node_world.specs.declared.node_ask.NodeAsk.TheVariants.{Act};
-ghost use Rattle.mesh.specs.Makers.{heard_of};
-ghost use Rattle.caller_seats.specs.Deliveries.{told_of};
 ghost use Rattle.cluster_runner.specs.Kept.{listed, reached_by, told_by};
 
-use caller_seats::{CallerLog, Delivery, Seats};
+use caller_seats::{CallerLog, Delivery, Seats, heard_of, told_of};
 use journal_core::{Bytes, CutNode, Heard, OutOfMemory, SharedRequest};
-use node_world::{NodeAnswer, NodeAsk, NodeCell, Told};
+use node_world::{NodeAsk, NodeCell, Told};
 use std::alloc::Global;
 use std::marker::Model;
 
@@ -28,30 +26,6 @@ impl<N: CutNode + Drop> Model for PlaySeats<N> {
     ghost view = { λ s. record { caller = s.caller; cells = s.cells.items; log = s.log } };
 
     ghost invariant = { λ s. s.log.nodes ≡ length s.cells.items };
-}
-
-/// What is told of a call that a node answered so.
-#[tactic(auto, unfolding(caller_seats::specs::Deliveries::told_of))]
-fn told_of(answer: NodeAnswer) -> Told
-    ensures { result ≡ told_of Delivery.Delivered answer }
-{
-    match answer {
-        NodeAnswer::Replied(reply) => Told::Reply(reply),
-        NodeAnswer::Stopped { keep: _ } => Told::Silent,
-        NodeAnswer::Done => Told::Silent,
-        NodeAnswer::Idle => Told::Silent,
-        NodeAnswer::NotOpened(_) => Told::Silent,
-    }
-}
-
-/// What a caller hears of what it was told.
-fn heard_of(alloc: Global, told: &Told) -> Result<Heard, OutOfMemory>
-    ensures { IfOk result (λ heard. heard ≡ heard_of told.now) }
-{
-    Ok(match told {
-        Told::Reply(reply) => Heard::Answer(reply.share(alloc)?),
-        Told::Dropped | Told::Muted | Told::Silent => Heard::Silent,
-    })
 }
 
 /// The call reaches the node, where it is delivered; what its caller is told.

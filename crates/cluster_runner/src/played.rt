@@ -79,7 +79,7 @@ fn declarations(line: &ScriptLine) -> u32
 }
 
 /// How many actors the lines declare.
-fn actors_in(lines: &[ScriptLine]) -> u32
+pub fn actors_in(lines: &[ScriptLine]) -> u32
     requires { declared (map line_of lines.now) < 2 ^ 32 }
     ensures { result ≡ declared (map line_of lines.now) }
 {
@@ -118,7 +118,7 @@ pub fn play_on<N: CutNode + Drop>(
 
 /// That many fresh nodes in memory.
 #[tactic(auto, using(crate::proofs::ClusterLaws::replicated_more))]
-fn plain_nodes(alloc: Global, count: usize) -> Result<Vec<PlainNode>, OutOfMemory>
+pub fn plain_nodes(alloc: Global, count: usize) -> Result<Vec<PlainNode>, OutOfMemory>
     ensures { IfOk result (λ nodes. nodes.items ≡ replicate count fresh_state) }
 {
     let mut nodes = Vec::with_capacity(alloc, count)?;

@@ -1,0 +1,4 @@
+pub mod NodeLaws
+pub mod SeatLaws
+pub mod GateLaws
+pub mod CloseLaws

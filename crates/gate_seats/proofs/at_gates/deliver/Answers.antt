@@ -1,0 +1,9 @@
+use Rattle.std.proofs.Common.{sym, subst}
+use Rattle.gate_seats.specs.Seated.{IsTold}
+use Rattle.gate_seats.proofs.SeatLaws.{told_heard}
+use Rattle.gate_seats.proofs.at_gates.deliver.Goals as goal
+
+pub returns-in_ok-answer-in-Delivered-clause-told : goal.returns-in_ok-answer-in-Delivered-clause-told
+returns-in_ok-answer-in-Delivered-clause-told g c =
+    subst (λ d. IsTold d c.told_of.result) (sym c.in-Delivered.is)
+    (told_heard c.in_ok-answer-in-Delivered.answer c.told_of.result c.told_of.ensures)

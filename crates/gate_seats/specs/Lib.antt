@@ -1,0 +1,4 @@
+pub mod Entries
+pub mod Seated
+pub mod LaterLaws
+pub mod Gates

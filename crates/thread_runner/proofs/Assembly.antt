@@ -1,0 +1,149 @@
+-- What the threads and the gates leave is a mesh that agrees and follows.
+use Rattle.std.proofs.Common.{◌≡◌, ℕ, ◌+◌, ◌<◌, ◌≤◌, ◌==◌, List, [], sym, refl, ap, ◌∙◌, subst, arith, length, get_or, ◌⊎◌, inl, inr}
+use Rattle.std.proofs.lemmas.List.{length-map}
+use Rattle.std.proofs.Math.ListN.{get_or-map}
+use Rattle.std.proofs.lemmas.Bool.Decides.{eqb_tells}
+use Rattle.std.proofs.Math.Arith.{lt_of_le-ne}
+use Rattle.node_world.specs.declared.record.Record.{Record}
+use Rattle.node_world.specs.declared.mark.Mark.{Mark}
+use Rattle.node_world.specs.declared.history_line.HistoryLine.{HistoryLine}
+use Rattle.mesh.specs.declared.whole.Mesh.{Mesh}
+use Rattle.mesh.specs.declared.end.End.{End}
+use Rattle.mesh.specs.Agree.{ListsAgree, record_of, plan_of, history_at}
+use Rattle.mesh.specs.Makers.{IsOfTasks, IsOperators}
+use Rattle.mesh.specs.Matches.{reached, lines_of, AreSame, AreWithin, CallersWithin}
+use Rattle.mesh.proofs.Lists.{same_test, other_test}
+use Rattle.atomic_table.specs.Seated.{TableId}
+use Rattle.caller_seats.specs.Logs.{LogView}
+use Rattle.gate_seats.specs.Seated.{Seat}
+use Rattle.gate_seats.specs.Gates.{row_at, IsLeft}
+use Rattle.gate_seats.proofs.GateLaws.{get_any, element}
+use Rattle.cluster_runner.specs.Lines.{Line, ArePlayable, declared, deeds_of, operations_in}
+use Rattle.cluster_runner.specs.Follows.{Follows, AreOperations}
+use Rattle.cluster_runner.proofs.Makes.{lines_made}
+use Rattle.thread_runner.specs.Threads.{DoesLines, HasOperated}
+use Rattle.thread_runner.specs.Gathered.{CallerLeaves, AreGathered, IsRunOf}
+use Rattle.thread_runner.proofs.LineLaws.{are_deeds}
+
+le_cases : (c d : ℕ) → c ≤ d → (c < d) ⊎ (c ≡ d)
+le_cases c d l = elim (eqb_tells c d) [ inl e ↦ inr e.1 | inr e ↦ inl (lt_of_le-ne l e.1) ]
+
+last_or_actor : (c d : ℕ) → c ≤ d → (P : ℕ → Type 0) → ((k : ℕ) → k < d → P k) → P d → P c
+last_or_actor c d l P actors last = by (le_cases c d l)
+  where
+    by : (c < d) ⊎ (c ≡ d) → P c
+    by (inl h) = actors c h
+    by (inr e) = subst P (sym e) last
+
+-- ## One caller
+module _ (n operator c : ℕ) (lines : List Line) (tables : List TableId) (seats : List Seat) (rs : List Record) (plan : List Mark) (h : CallerLeaves n operator c lines tables seats rs plan) where
+  abbrev log : LogView
+  log = h.does.0
+
+  past : log.past ≡ rs
+  past = h.does.3
+
+  marks : log.marks ≡ plan
+  marks = h.does.4
+
+  pub seats_long : length seats ≡ n
+  seats_long = h.does.5.count ∙ h.does.2
+
+  does : DoesLines (c == operator) n c lines log
+  does = h.does.6
+
+  -- each of its seats has seen of it what its record says of that node
+  pub own_same : (i : ℕ) (d : Seat) → i < n → AreSame (reached (i + 1) rs) (get_or seats i d).own
+  own_same i d l =
+      let e = seats_long in
+      subst (λ r. AreSame (reached (i + 1) r) (get_or seats i d).own) past (h.does.5.same h.does.1 i d (omega (arith, l, e)))
+
+  pub its_follows : c < operator → Follows n (deeds_of c lines) rs plan
+  its_follows l =
+      let f : Follows n (deeds_of c lines) log.past log.marks = subst (λ b. DoesLines b n c lines log) (other_test c operator (λ e. omega (arith, l, e))) does in
+      subst (λ r. Follows n (deeds_of c lines) r plan) past (subst (λ m. Follows n (deeds_of c lines) log.past m) marks f)
+
+  pub its_operations : c ≡ operator → HasOperated lines rs
+  its_operations e = subst (HasOperated lines) past (subst (λ b. DoesLines b n c lines log) (same_test c operator e) does)
+
+-- ## One node
+row_seat : (columns : List (List Seat)) (i c : ℕ) (d : Seat) → c < length columns → get_or (row_at i d columns) c d ≡ get_or (get_or columns c []) i d
+row_seat columns i c d l =
+    get_any (row_at i d columns) c d (get_or [] i d) (let n = length-map columns (λ (s : List Seat). get_or s i d) in omega (arith, l, n)) ∙ get_or-map (λ (s : List Seat). get_or s i d) columns c []
+
+node_same : (columns : List (List Seat)) (i c : ℕ) (d : Seat) (rs : List Record) (hs : List HistoryLine) → c < length columns → IsLeft (row_at i d columns) hs
+    → AreSame (reached (i + 1) rs) (get_or (get_or columns c []) i d).own → AreSame (reached (i + 1) rs) (lines_of c hs)
+node_same columns i c d rs hs l left same =
+    let n = length-map columns (λ (s : List Seat). get_or s i d) in
+    subst (λ z. AreSame (reached (i + 1) rs) z) (ap (λ (x : Seat). x.own) (sym (row_seat columns i c d l)) ∙ left.same c d (omega (arith, l, n))) same
+
+-- ## All
+module _ (nodes : ℕ) (lines : List Line) (m : Mesh) (ends : List End) (playable : ArePlayable nodes 0 lines) (g : AreGathered nodes lines m ends) where
+  abbrev actors : ℕ
+  actors = declared lines
+
+  actor : (c : ℕ) → c < actors → Follows nodes (deeds_of c lines) (record_of m c) (plan_of m c)
+  actor c l = its_follows nodes actors c lines g.tables (get_or g.columns c []) (record_of m c) (plan_of m c) (g.actors c l) l
+
+  operator : HasOperated lines (record_of m actors)
+  operator = its_operations nodes actors actors lines g.tables (get_or g.columns actors []) (record_of m actors) g.last g.operator refl
+
+  within : (c : ℕ) → c ≤ actors → AreWithin nodes (record_of m c)
+  within c l = last_or_actor c actors l (λ k. AreWithin nodes (record_of m k)) (λ k h. (g.actors k h).within) g.operator.within
+
+  -- some seat at the gate of the node
+  seat_at : (i : ℕ) → i < nodes → Seat
+  seat_at i l =
+      let n : length (get_or g.columns actors []) ≡ nodes = seats_long nodes actors actors lines g.tables (get_or g.columns actors []) (record_of m actors) g.last g.operator in
+      (element (get_or g.columns actors []) i (omega (arith, l, n))).0
+
+  same_at : (d : Seat) (i c : ℕ) → i < nodes → c ≤ actors → AreSame (reached (i + 1) (record_of m c)) (lines_of c (history_at m i))
+  same_at d i c l h =
+      let n = g.callers in
+      node_same g.columns i c d (record_of m c) (history_at m i) (omega (arith, h, n)) (g.at_nodes i d l)
+      (last_or_actor c actors h (λ k. AreSame (reached (i + 1) (record_of m k)) (get_or (get_or g.columns k []) i d).own)
+      (λ k b. own_same nodes actors k lines g.tables (get_or g.columns k []) (record_of m k) (plan_of m k) (g.actors k b) i d l)
+      (own_same nodes actors actors lines g.tables (get_or g.columns actors []) (record_of m actors) g.last g.operator i d l))
+
+  callers_at : (i : ℕ) → i < nodes → CallersWithin actors (history_at m i)
+  callers_at i l =
+      let d : Seat = seat_at i l in
+      let n = length-map g.columns (λ (s : List Seat). get_or s i d) in
+      (g.at_nodes i d l).callers actors (n ∙ g.callers)
+
+  lists : ListsAgree m
+  lists =
+      let n : m.nodes ≡ nodes = g.nodes_are in
+      let p : length m.plan ≡ actors = g.plan in
+      record {
+        local = λ i l. let b : i < nodes = omega (arith, l, n) in (g.at_nodes i (seat_at i b) b).local;
+        operated = subst (λ k. IsOperators (record_of m k)) (sym p) operator.operates;
+        same = λ i c l h. let b : i < nodes = omega (arith, l, n) in same_at (seat_at i b) i c b (omega (arith, h, p));
+        marked = λ c l. (g.actors c (omega (arith, l, p))).marked;
+        copied = λ c l. (g.actors c (omega (arith, l, p))).copied;
+        callers = λ i l. subst (λ k. CallersWithin k (history_at m i)) (sym p) (callers_at i (omega (arith, l, n)));
+        within = λ c l. subst (λ k. AreWithin k (record_of m c)) (sym n) (within c (omega (arith, l, p)));
+      }
+
+  made : (c : ℕ) → c < actors → IsOfTasks nodes (record_of m c)
+  made c l = lines_made nodes (deeds_of c lines) (record_of m c) (are_deeds nodes 0 c lines playable) (actor c l).led
+
+  pub assembled : IsRunOf nodes lines m ends
+  assembled =
+      let n : m.nodes ≡ nodes = g.nodes_are in
+      let p : length m.plan ≡ actors = g.plan in
+      record {
+        agrees = record {
+          lists = lists;
+          made = λ c l. subst (λ k. IsOfTasks k (record_of m c)) (sym n) (made c (omega (arith, l, p)));
+          histories = g.histories ∙ sym n;
+          records = g.records ∙ ap (λ k. k + 1) (sym p);
+        };
+        follows = record {
+          nodes_are = n;
+          actors_are = p;
+          names = g.names;
+          actors = λ c l. actor c (omega (arith, l, p));
+          operator = subst (λ k. AreOperations (operations_in lines) (record_of m k)) (sym p) operator.operations;
+        };
+      }

@@ -1,0 +1,5 @@
+use Rattle.thread_runner.proofs.Assembly.{assembled}
+use Rattle.thread_runner.proofs.run.gathered_lists_agree.Goals as goal
+
+pub returns : goal.returns
+returns c = λ nodes lines m ends playable g. assembled nodes lines m ends playable g

@@ -1,0 +1,43 @@
+-- What a caller's thread does with the lines of a script, whatever it hears.
+use Rattle.std.specs.Prelude.{◌≡◌, ℕ, ◌==◌, Bool, true, false, List, [], ◌∷◌, ◌++◌, Option, Some, None}
+use Rattle.node_world.specs.declared.record.Record.{Record}
+use Rattle.node_world.specs.declared.record.Record.TheVariants.{Operator}
+use Rattle.mesh.specs.Makers.{IsOperation, IsOperators}
+use Rattle.caller_seats.specs.Logs.{LogView}
+use Rattle.cluster_runner.specs.Lines.{Deed, Line, Declares, Acts, Operates, deeds_of, operations_in}
+use Rattle.cluster_runner.specs.Follows.{actor_with, Follows, AreOperations}
+use Rattle.cluster_runner.specs.Kept.{KeptActor, resting}
+use Rattle.cluster_runner.specs.Deeds.{LedTo, IsIdleActor, TakesIf}
+
+-- ## An actor
+-- the line is this actor's
+abbrev pub is_by : ℕ → Option (ℕ × Deed) → Bool
+is_by c None = false
+is_by c (Some d) = d.0 == c
+
+-- the deed was taken, if it is this actor's
+abbrev pub TakesOwn : Bool → ℕ → Option (ℕ × Deed) → KeptActor → KeptActor → Type 0
+TakesOwn true nodes d old new = TakesIf nodes d old new
+TakesOwn false nodes d old new = new ≡ old
+
+-- these deeds were taken, from the beginning on
+pub record HasDone (nodes : ℕ) (deeds : List Deed) (k : KeptActor) : Type 0 where
+  pub idle : IsIdleActor nodes k
+  pub leads : LedTo (actor_with nodes deeds) (resting k)
+
+-- ## The operator
+-- what it lists of a line
+abbrev pub OperatesOn : Line → List Record → List Record → Type 0
+OperatesOn (Declares name) old new = new ≡ old
+OperatesOn (Acts actor deed) old new = new ≡ old
+OperatesOn (Operates node ask) old new = IsOperation ask × ((done : Bool) × (new ≡ old ++ Operator node ask done ∷ []))
+
+-- these lines' operations were done, from the beginning on
+pub record HasOperated (lines : List Line) (past : List Record) : Type 0 where
+  pub operations : AreOperations (operations_in lines) past
+  pub operates : IsOperators past
+
+-- ## A caller: the operator, or an actor
+abbrev pub DoesLines : Bool → ℕ → ℕ → List Line → LogView → Type 0
+DoesLines true nodes caller lines log = HasOperated lines log.past
+DoesLines false nodes caller lines log = Follows nodes (deeds_of caller lines) log.past log.marks

@@ -1,0 +1,75 @@
+// One caller's thread: the lines of the operator, or of an actor, at the caller's seats.
+ghost use Rattle.std.specs.List.{All};
+ghost use Rattle.std.specs.Prelude.{◌≡◌, ◌≤◌, ◌==◌, map, length, true, OnOk, IfOk};
+ghost use Rattle.caller_seats.specs.Logs.{new_log};
+ghost use Rattle.gate_seats.specs.Seated.{seat_of, AreSeated, AreLater};
+ghost use Rattle.cluster_runner.specs.Lines.{line_of};
+ghost use Rattle.cluster_runner.specs.Deeds.{MayCome};
+ghost use Rattle.thread_runner.specs.Threads.{DoesLines};
+ghost use Rattle.thread_runner.specs.Gathered.{CallerLeaves};
+
+use crate::actor_lines::act_alone;
+use crate::operator_lines::operate_alone;
+use gate_seats::{GateSeats, NodeGate, Pass};
+use journal_core::OutOfMemory;
+use node_gate::{Gate, GateSeat};
+use node_world::{ActorPlan, RecordList};
+use script_text::ScriptLine;
+use std::alloc::{AllocError, Global};
+use std::sync::Wait;
+
+/// What a thread leaves: its seats, its record and its marks.
+pub(crate) type Left<C> = (Vec<GateSeat<C>>, RecordList, ActorPlan);
+
+/// Whether the caller is the operator.
+fn is_operator(caller: u32, operator: u32) -> bool
+    ensures { result ≡ (caller == operator) }
+{
+    caller == operator
+}
+
+/// The lines of one caller: the operator's, or an actor's.
+fn do_lines<R: Wait, C: NodeGate, G: Pass>(
+    alloc: Global,
+    lines: &[ScriptLine],
+    operator: u32,
+    caller: u32,
+    seats: &mut GateSeats<'_, R, C, G>,
+) -> Result<(), OutOfMemory>
+    requires some { 1 ≤ seats.old.log.nodes }
+    requires log { seats.old.log ≡ new_log seats.old.log.nodes true }
+    requires may { All (MayCome seats.old.log.nodes) lines.now }
+    ensures does { OnOk result (DoesLines (caller == operator) seats.old.log.nodes caller (map line_of lines.now) seats.new.log) }
+    ensures later { OnOk result (AreLater seats.old seats.new) }
+{
+    if is_operator(caller, operator) {
+        operate_alone(lines, seats)
+    } else {
+        act_alone(alloc, lines, caller, seats)
+    }
+}
+
+/// The lines of one caller at these seats, which are its own and before their first call. `OutOfMemory` where memory was lacking, here
+/// or at a node.
+pub(crate) fn take_lines<R: Wait, C: NodeGate, G: Pass>(
+    rt: &R,
+    alloc: Global,
+    lines: &[ScriptLine],
+    gates: &[Gate<C>],
+    pass: &G,
+    operator: u32,
+    caller: u32,
+    seats: Vec<GateSeat<C>>,
+) -> Result<Left<C>, OutOfMemory>
+    requires some { 1 ≤ length seats.items }
+    requires seated { AreSeated caller (map (λ g. g.table.shared.table_id) gates.now) (new_log (length seats.items) true) (map (λ t. seat_of t.seat.table_id t.caller t.seat.me.0.seen) seats.items) }
+    requires may { All (MayCome (length seats.items)) lines.now }
+    ensures { IfOk result (λ left. CallerLeaves (length seats.items) operator caller (map line_of lines.now) (map (λ g. g.table.shared.table_id) gates.now) (map (λ t. seat_of t.seat.table_id t.caller t.seat.me.0.seen) left.0.items) left.1 left.2) }
+{
+    let mut seats = GateSeats::new(alloc, rt, gates, seats, caller, pass)?;
+    do_lines(alloc, lines, operator, caller, &mut seats)?;
+    if !seats.is_whole() {
+        return Err(AllocError);
+    }
+    Ok(seats.into_parts())
+}

@@ -1,0 +1,93 @@
+// Every kind of line, one actor alone, and random scripts.
+use crate::running::{play_text, report, run_text};
+use gate_seats::FreePass;
+use rand_core::utils::NextWord;
+use rand_pcg::Pcg32;
+use std::alloc::{AllocError, Global};
+use std::test::Fail;
+
+const ALL_LINES: &[u8] =
+    b"raw 3\nwriter a\nwriter b\ndrop a 2 3\ntakeover a\nlog a 0a\nlate a 1 9\nmute b 1 1\ntakeover b\nlog b 0b 0c\nlate b 3 1\nkill 2\nrestart 2\nstop 3 2 1\ncut 1 4 2 a5\nroll b\npurge b 2\nclose b\n";
+
+const ONE_ACTOR: &[u8] =
+    b"raw 3\nwriter a\ndrop a 2 3\nmute a 3 4\ntakeover a\nlog a 0a\nlate a 1 2\nlate a 1 99\nlog a 0b 0c\nroll a\nlog a 0d\nclose a\npurge a 2\n";
+
+#[test]
+fn every_kind_of_line_runs(rt: HostRuntime) -> Result<(), Fail> {
+    let ran = run_text(&rt, rt.alloc(), ALL_LINES, &FreePass)?;
+    let mesh = &ran.played.mesh;
+    assert!(rt; mesh.histories.as_slice().len() == 3);
+    assert!(rt; mesh.records.as_slice().len() == 3);
+    assert!(rt; mesh.records.as_slice()[2].as_slice().len() == 4);
+    assert!(rt; ran.played.ends.as_slice().len() == 2);
+    assert!(rt; ran.played.nodes.len() == 3);
+    Ok(())
+}
+
+#[test]
+fn one_actor_alone_prints_what_a_play_prints(rt: HostRuntime) -> Result<(), Fail> {
+    let ran = run_text(&rt, rt.alloc(), ONE_ACTOR, &FreePass)?;
+    let played = play_text(rt.alloc(), ONE_ACTOR)?;
+    assert!(rt; report(rt.alloc(), &ran.played)? == report(rt.alloc(), &played)?);
+    Ok(())
+}
+
+// A number below `bound`, which isn't 0.
+fn below(words: &mut Pcg32, bound: u32) -> u32 {
+    match words.next_word().checked_rem(bound) {
+        Some(rest) => rest,
+        None => 0,
+    }
+}
+
+// A line of one of three actors, or the operator's, in a script of three nodes.
+fn push_line(text: &mut Vec<u8>, words: &mut Pcg32) -> Result<(), AllocError> {
+    let actor: &[u8] = match below(words, 3) {
+        0 => b" a",
+        1 => b" b",
+        _ => b" c",
+    };
+    let (word, rest): (&[u8], &[u8]) = match below(words, 12) {
+        0 | 1 => (b"takeover", b"\n"),
+        2 => (b"roll", b"\n"),
+        3 => (b"close", b"\n"),
+        4 => (b"drop", b" 2 1\n"),
+        5 => (b"mute", b" 3 2\n"),
+        6 => (b"late", b" 1 3\n"),
+        7 => (b"purge", b" 2\n"),
+        _ => (b"log", b" 0a 0b\n"),
+    };
+    text.extend_from_slice(word)?;
+    text.extend_from_slice(actor)?;
+    text.extend_from_slice(rest)?;
+    if below(words, 6) == 0 {
+        text.extend_from_slice(b"kill 3\nstop 2 3 1\nrestart 3\n")?;
+    }
+    Ok(())
+}
+
+// A script of three actors, with as many lines of theirs.
+fn random_script(alloc: Global, seed: u64, lines: u64) -> Result<Vec<u8>, AllocError> {
+    let mut words = Pcg32::new(seed, 1);
+    let mut text = Vec::new(alloc);
+    text.extend_from_slice(b"raw 3\nwriter a\nwriter b\nwriter c\n")?;
+    for _ in 0..lines {
+        push_line(&mut text, &mut words)?;
+    }
+    Ok(text)
+}
+
+#[test]
+fn ten_random_scripts_run(rt: HostRuntime) -> Result<(), Fail> {
+    for seed in 0..10u64 {
+        let text = random_script(rt.alloc(), seed, 60)?;
+        let ran = run_text(&rt, rt.alloc(), &text, &FreePass)?;
+        let mut lines = 0;
+        for history in ran.played.mesh.histories.as_slice() {
+            lines += history.as_slice().len() as u64;
+        }
+        assert!(rt; ran.events.len() as u64 <= lines);
+        assert!(rt; ran.played.mesh.records.as_slice().len() == 4);
+    }
+    Ok(())
+}

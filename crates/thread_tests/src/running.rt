@@ -1,0 +1,74 @@
+// Scripts run by threads, over plain nodes.
+ghost use Rattle.script_text.specs.Grammar.{IsScript};
+
+use cluster_runner::{Played, plain_nodes, play};
+use gate_seats::Pass;
+use journal_core::PlainNode;
+use mesh_judge::ordered;
+use node_world::Event;
+use qj_cli::scripts_are_playable;
+use report_text::{Report, report_of};
+use script_text::{ReadScript, Script, read_script};
+use std::alloc::Global;
+use std::sync::Wait;
+use std::test::Fail;
+use std::thread::Threads;
+use thread_runner::run_on;
+
+/// What a run leaves, and the epoch order of its mesh.
+#[derive(Drop)]
+pub(crate) struct Ran {
+    pub(crate) played: Played<PlainNode>,
+    pub(crate) events: Vec<Event>,
+}
+
+fn run_script<R: Threads + Wait + Sync, G: Pass + Sync>(
+    rt: &R,
+    alloc: Global,
+    script: &Script,
+    pass: &G,
+) -> Result<Ran, Fail>
+    requires { IsScript script.now }
+{
+    scripts_are_playable();
+    let nodes = plain_nodes(alloc, script.nodes())?;
+    let played = run_on(rt, alloc, nodes, script, pass)?;
+    let events = ordered(alloc, &played.mesh)?;
+    Ok(Ran { played, events })
+}
+
+/// A run of the script with this text.
+pub(crate) fn run_text<R: Threads + Wait + Sync, G: Pass + Sync>(
+    rt: &R,
+    alloc: Global,
+    text: &[u8],
+    pass: &G,
+) -> Result<Ran, Fail> {
+    let ReadScript::Script(script) = read_script(alloc, text) else {
+        return Err("it is no script".into());
+    };
+    run_script(rt, alloc, &script, pass)
+}
+
+fn play_script(alloc: Global, script: &Script) -> Result<Played<PlainNode>, Fail>
+    requires { IsScript script.now }
+{
+    scripts_are_playable();
+    Ok(play(alloc, script)?)
+}
+
+/// A play of the script with this text.
+pub(crate) fn play_text(alloc: Global, text: &[u8]) -> Result<Played<PlainNode>, Fail> {
+    let ReadScript::Script(script) = read_script(alloc, text) else {
+        return Err("it is no script".into());
+    };
+    play_script(alloc, &script)
+}
+
+/// The report of what is left.
+pub(crate) fn report(alloc: Global, played: &Played<PlainNode>) -> Result<Vec<u8>, Fail> {
+    match report_of(alloc, &played.mesh, &played.ends)? {
+        Report::Text(text) => Ok(text),
+        Report::TooLong => Err("it is too long".into()),
+    }
+}
