@@ -2,7 +2,7 @@ pub mod Led
 mod Holds
 mod Wanting
 pub mod Makes
-mod ChoresMade
+pub mod ChoresMade
 mod Goes
 pub mod Sound
 pub mod Parts

@@ -11,6 +11,7 @@ mod played;
 mod player;
 mod results;
 
+pub use deeds::take_deed;
 pub use examples::{
     refuses_broken_meshes, shows_competing_takeovers, shows_cut_in_accept, shows_dropped_call,
     shows_epoch_order, shows_fenced_writer, shows_first_order, shows_first_run, shows_killed_nodes,
@@ -27,4 +28,3 @@ pub use named_examples::{
     shows_standby_without_image, shows_survived_batch, shows_trimmed_log,
 };
 pub use played::{Played, actors_in, plain_nodes, play, play_on};
-pub use deeds::take_deed;

@@ -10,6 +10,7 @@ use Rattle.node_world.proofs.WriterRange.{new_sized}
 use Rattle.caller_seats.specs.Logs.{LogView, new_log}
 use Rattle.cluster_runner.specs.Lines.{Deed, Line, Declares, Acts, Operates, deeds_of, line_of}
 use Rattle.cluster_runner.specs.Actor.{Actor, wants, settled, handed, fresh_actor}
+use Rattle.cluster_runner.specs.Plays.{last_of}
 use Rattle.cluster_runner.specs.Follows.{actor_with, Follows}
 use Rattle.cluster_runner.specs.Kept.{KeptActor, resting}
 use Rattle.cluster_runner.specs.Deeds.{kept_of, deed_of, LedTo, TakesDeed}
@@ -19,13 +20,13 @@ use Rattle.cluster_runner.proofs.Parts.{deeds_append}
 use Rattle.cluster_runner.proofs.SeatsGo.{led_past}
 use Rattle.cluster_runner.proofs.Sound.{settled_past}
 use Rattle.cluster_runner.proofs.Stretches.{led_same, led_on}
-use Rattle.thread_runner.specs.Threads.{is_by, TakesOwn, HasDone}
+use Rattle.thread_runner.specs.Threads.{is_by, TakesOwn, HasDone, FollowsRaw}
 
 -- ## Deed after deed
 new_rests : (n : ℕ) → next_call (new_writer n) ≡ None
 new_rests n = refl
 
-fresh_past : (n : ℕ) → (fresh_actor n).past ≡ []
+fresh_past : (n : ℕ) → (fresh_actor false n).past ≡ []
 unfolding fresh_actor
 fresh_past n = refl
 
@@ -36,22 +37,23 @@ nothing_done n k some e =
 
 done_more : (n : ℕ) (ds : List Deed) (d : Deed) (k new : KeptActor) → HasDone n ds k → TakesDeed n d k new → HasDone n (ds ++ d ∷ []) new
 done_more n ds d k new h t =
-    let a : Actor = actor_with n ds in
+    let a : Actor = actor_with false n ds in
     let handed_on : LedTo (handed d a) (handed d (resting k)) =
     record { lines = h.leads.lines; led = handed_led a h.leads.lines d h.leads.led; after = handed_after a h.leads.lines d h.leads.led ∙ ap (handed d) h.leads.after } in
     record {
       idle = t.idle;
-      leads = subst (λ x. LedTo x (resting new)) (sym (settled_more ds (fresh_actor n) d)) (led_on _ (handed d (resting k)) _ handed_on t.leads);
+      leads = subst (λ x. LedTo x (resting new)) (sym (settled_more ds (fresh_actor false n) d)) (led_on _ (handed d (resting k)) _ handed_on t.leads);
     }
 
-pub done_follows : (n : ℕ) (ds : List Deed) (w : WriterView) (l : LogView) → HasDone n ds (kept_of w l) → Follows n ds l.past l.marks
-done_follows n ds w l h =
-    let start : (actor_with n ds).past ≡ [] = settled_past ds (fresh_actor n) ∙ fresh_past n in
-    let all : h.leads.lines ≡ l.past = sym (ap (λ p. p ++ h.leads.lines) start) ∙ sym (led_past (actor_with n ds) h.leads.lines) ∙ ap (λ (a : Actor). a.past) h.leads.after in
-    subst (λ rs. Follows n ds rs l.marks) all (record {
+pub done_follows : (n : ℕ) (ds : List Deed) (w : WriterView) (l : LogView) → HasDone n ds (kept_of w l) → FollowsRaw n ds l.past l.marks
+done_follows n ds w l h e none =
+    let start : (actor_with false n ds).past ≡ [] = settled_past ds (fresh_actor false n) ∙ fresh_past n in
+    let all : h.leads.lines ≡ l.past = sym (ap (λ p. p ++ h.leads.lines) start) ∙ sym (led_past (actor_with false n ds) h.leads.lines) ∙ ap (λ (a : Actor). a.past) h.leads.after in
+    subst (λ rs. Follows false n ds rs l.marks e) all (record {
       led = h.leads.led;
       ended = ap wants h.leads.after ∙ rests (kept_of w l) None h.idle.rests;
       marks = sym (ap (λ (a : Actor). a.marks) h.leads.after);
+      end = none ∙ sym (ap (λ (a : Actor). last_of a.holds) h.leads.after);
     })
 
 -- ## Line after line

@@ -1,5 +1,5 @@
 -- What the threads and the gates leave is a mesh that agrees and follows.
-use Rattle.std.proofs.Common.{◌≡◌, ℕ, ◌+◌, ◌<◌, ◌≤◌, ◌==◌, List, [], sym, refl, ap, ◌∙◌, subst, arith, length, get_or, ◌⊎◌, inl, inr}
+use Rattle.std.proofs.Common.{◌≡◌, ℕ, ◌+◌, ◌<◌, ◌≤◌, ◌==◌, List, [], ◌∷◌, map, None, sym, refl, ap, ◌∙◌, subst, arith, length, get_or, ◌⊎◌, inl, inr}
 use Rattle.std.proofs.lemmas.List.{length-map}
 use Rattle.std.proofs.Math.ListN.{get_or-map}
 use Rattle.std.proofs.lemmas.Bool.Decides.{eqb_tells}
@@ -8,9 +8,10 @@ use Rattle.node_world.specs.declared.record.Record.{Record}
 use Rattle.node_world.specs.declared.mark.Mark.{Mark}
 use Rattle.node_world.specs.declared.history_line.HistoryLine.{HistoryLine}
 use Rattle.mesh.specs.declared.whole.Mesh.{Mesh}
-use Rattle.mesh.specs.declared.end.End.{End}
+use Rattle.mesh.specs.declared.end.End.{End as NamedEnd}
+use Rattle.ns_tree.specs.declared.end.End.{End}
 use Rattle.mesh.specs.Agree.{ListsAgree, record_of, plan_of, history_at}
-use Rattle.mesh.specs.Makers.{IsOfTasks, IsOperators}
+use Rattle.mesh.specs.Makers.{IsOfChores, IsOperators}
 use Rattle.mesh.specs.Matches.{reached, lines_of, AreSame, AreWithin, CallersWithin}
 use Rattle.mesh.proofs.Lists.{same_test, other_test}
 use Rattle.atomic_table.specs.Seated.{TableId}
@@ -19,9 +20,11 @@ use Rattle.gate_seats.specs.Seated.{Seat}
 use Rattle.gate_seats.specs.Gates.{row_at, IsLeft}
 use Rattle.gate_seats.proofs.GateLaws.{get_any, element}
 use Rattle.cluster_runner.specs.Lines.{Line, ArePlayable, declared, deeds_of, operations_in}
+use Rattle.cluster_runner.specs.Plays.{raw_end}
 use Rattle.cluster_runner.specs.Follows.{Follows, AreOperations}
-use Rattle.cluster_runner.proofs.Makes.{lines_made}
-use Rattle.thread_runner.specs.Threads.{DoesLines, HasOperated}
+use Rattle.cluster_runner.proofs.ChoresMade.{chores_made}
+use Rattle.cluster_runner.proofs.RawEnds.{raw_last}
+use Rattle.thread_runner.specs.Threads.{DoesLines, HasOperated, FollowsRaw}
 use Rattle.thread_runner.specs.Gathered.{CallerLeaves, AreGathered, IsRunOf}
 use Rattle.thread_runner.proofs.LineLaws.{are_deeds}
 
@@ -58,10 +61,10 @@ module _ (n operator c : ℕ) (lines : List Line) (tables : List TableId) (seats
       let e = seats_long in
       subst (λ r. AreSame (reached (i + 1) r) (get_or seats i d).own) past (h.does.5.same h.does.1 i d (omega (arith, l, e)))
 
-  pub its_follows : c < operator → Follows n (deeds_of c lines) rs plan
+  pub its_follows : c < operator → FollowsRaw n (deeds_of c lines) rs plan
   its_follows l =
-      let f : Follows n (deeds_of c lines) log.past log.marks = subst (λ b. DoesLines b n c lines log) (other_test c operator (λ e. omega (arith, l, e))) does in
-      subst (λ r. Follows n (deeds_of c lines) r plan) past (subst (λ m. Follows n (deeds_of c lines) log.past m) marks f)
+      let f : FollowsRaw n (deeds_of c lines) log.past log.marks = subst (λ b. DoesLines b n c lines log) (other_test c operator (λ e. omega (arith, l, e))) does in
+      subst (λ r. FollowsRaw n (deeds_of c lines) r plan) past (subst (λ m. FollowsRaw n (deeds_of c lines) log.past m) marks f)
 
   pub its_operations : c ≡ operator → HasOperated lines rs
   its_operations e = subst (HasOperated lines) past (subst (λ b. DoesLines b n c lines log) (same_test c operator e) does)
@@ -77,12 +80,17 @@ node_same columns i c d rs hs l left same =
     let n = length-map columns (λ (s : List Seat). get_or s i d) in
     subst (λ z. AreSame (reached (i + 1) rs) z) (ap (λ (x : Seat). x.own) (sym (row_seat columns i c d l)) ∙ left.same c d (omega (arith, l, n))) same
 
+-- an end without a namespace keeps its name
+names_raw : (ends : List NamedEnd) → map (λ (e : End). e.name) (map raw_end ends) ≡ map (λ (e : NamedEnd). e.name) ends
+names_raw [] = refl
+names_raw (x ∷ xs) = ap (λ ys. x.name ∷ ys) (names_raw xs)
+
 -- ## All
-module _ (nodes : ℕ) (lines : List Line) (m : Mesh) (ends : List End) (playable : ArePlayable nodes 0 lines) (g : AreGathered nodes lines m ends) where
+module _ (nodes : ℕ) (lines : List Line) (m : Mesh) (ends : List NamedEnd) (playable : ArePlayable false nodes 0 lines) (g : AreGathered nodes lines m ends) where
   abbrev actors : ℕ
   actors = declared lines
 
-  actor : (c : ℕ) → c < actors → Follows nodes (deeds_of c lines) (record_of m c) (plan_of m c)
+  actor : (c : ℕ) → c < actors → FollowsRaw nodes (deeds_of c lines) (record_of m c) (plan_of m c)
   actor c l = its_follows nodes actors c lines g.tables (get_or g.columns c []) (record_of m c) (plan_of m c) (g.actors c l) l
 
   operator : HasOperated lines (record_of m actors)
@@ -125,8 +133,8 @@ module _ (nodes : ℕ) (lines : List Line) (m : Mesh) (ends : List End) (playabl
         within = λ c l. subst (λ k. AreWithin k (record_of m c)) (sym n) (within c (omega (arith, l, p)));
       }
 
-  made : (c : ℕ) → c < actors → IsOfTasks nodes (record_of m c)
-  made c l = lines_made nodes (deeds_of c lines) (record_of m c) (are_deeds nodes 0 c lines playable) (actor c l).led
+  made : (c : ℕ) → c < actors → IsOfChores nodes (record_of m c)
+  made c l = chores_made false nodes (deeds_of c lines) (record_of m c) (are_deeds nodes 0 c lines playable) (actor c l (record { name = []; last = None }) refl).led
 
   pub assembled : IsRunOf nodes lines m ends
   assembled =
@@ -135,15 +143,15 @@ module _ (nodes : ℕ) (lines : List Line) (m : Mesh) (ends : List End) (playabl
       record {
         agrees = record {
           lists = lists;
-          made = λ c l. subst (λ k. IsOfTasks k (record_of m c)) (sym n) (made c (omega (arith, l, p)));
+          made = λ c l. subst (λ k. IsOfChores k (record_of m c)) (sym n) (made c (omega (arith, l, p)));
           histories = g.histories ∙ sym n;
           records = g.records ∙ ap (λ k. k + 1) (sym p);
         };
         follows = record {
           nodes_are = n;
           actors_are = p;
-          names = g.names;
-          actors = λ c l. actor c (omega (arith, l, p));
+          names = names_raw ends ∙ g.names;
+          actors = λ c e l at. actor c (omega (arith, l, p)) e (raw_last ends c e at);
           operator = subst (λ k. AreOperations (operations_in lines) (record_of m k)) (sym p) operator.operations;
         };
       }

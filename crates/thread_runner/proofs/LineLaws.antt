@@ -13,7 +13,7 @@ one_line : (n : ℕ) (x : ScriptLine) (ls : List ScriptLine) → MayCome n x →
 one_line n x ls h t zero d l = h
 one_line n x ls h t (suc k) d l = t k d (omega (arith, l))
 
-pub may_come : (n actors : ℕ) (items : List ScriptLine) → ArePlayable n actors (map line_of items) → AreInRange n items → All (MayCome n) items
+pub may_come : (n actors : ℕ) (items : List ScriptLine) → ArePlayable false n actors (map line_of items) → AreInRange n items → All (MayCome n) items
 unfolding ArePlayable AreInRange
 may_come n actors [] p r = no_lines n
 may_come n actors (line.Declare name ∷ ls) p r = one_line n _ ls tt (may_come n (actors + 1) ls p r.1)
@@ -30,12 +30,12 @@ may_come n actors (line.Restart node ∷ ls) p r = one_line n _ ls (p.0, p.1) (m
 may_come n actors (line.Arm node calls stop ∷ ls) p r = one_line n _ ls (p.0, p.1) (may_come n actors ls p.3 r.1)
 
 -- ## An actor's deeds can be done
-own_deeds : (b : Bool) (d : Deed) (ds : List Deed) → IsDeed d → AreDeeds ds → AreDeeds (cond b (d ∷ ds) ds)
+own_deeds : (b : Bool) (d : Deed) (ds : List Deed) → IsDeed false d → AreDeeds false ds → AreDeeds false (cond b (d ∷ ds) ds)
 unfolding AreDeeds
 own_deeds true d ds h g = (h, g)
 own_deeds false d ds h g = g
 
-pub are_deeds : (n actors c : ℕ) (ls : List Line) → ArePlayable n actors ls → AreDeeds (deeds_of c ls)
+pub are_deeds : (n actors c : ℕ) (ls : List Line) → ArePlayable false n actors ls → AreDeeds false (deeds_of c ls)
 unfolding ArePlayable AreDeeds deeds_of
 are_deeds n actors c [] p = tt
 are_deeds n actors c (Declares name ∷ ls) p = are_deeds n (actors + 1) c ls p

@@ -5,7 +5,7 @@ use Rattle.atomic_table.specs.Seated.{TableId}
 use Rattle.node_world.specs.declared.record.Record.{Record}
 use Rattle.node_world.specs.declared.mark.Mark.{Mark}
 use Rattle.mesh.specs.declared.whole.Mesh.{Mesh}
-use Rattle.mesh.specs.declared.end.End.{End}
+use Rattle.mesh.specs.declared.end.End.{End as NamedEnd}
 use Rattle.mesh.specs.Agree.{history_at, record_of, plan_of, Agrees}
 use Rattle.mesh.specs.Marks.{IsMarked, AreCopied}
 use Rattle.mesh.specs.Matches.{AreWithin}
@@ -15,6 +15,7 @@ use Rattle.gate_seats.specs.Seated.{Seat, AreSeated}
 use Rattle.gate_seats.specs.Gates.{row_at, IsLeft}
 use Rattle.cluster_runner.specs.Deeds.{MayCome}
 use Rattle.cluster_runner.specs.Lines.{Line, ArePlayable, declared, names_in}
+use Rattle.cluster_runner.specs.Plays.{raw_end}
 use Rattle.cluster_runner.specs.Follows.{FollowsLines}
 use Rattle.thread_runner.specs.Threads.{DoesLines}
 
@@ -41,7 +42,7 @@ numbered_from n [] = []
 numbered_from n (x ∷ xs) = (n, x) ∷ numbered_from (suc n) xs
 
 -- what each caller's thread leaves, the operator's last, and what each node's gate leaves
-pub record AreGathered (nodes : ℕ) (lines : List Line) (m : Mesh) (ends : List End) : Type 0 where
+pub record AreGathered (nodes : ℕ) (lines : List Line) (m : Mesh) (ends : List NamedEnd) : Type 0 where
   pub nodes_are : m.nodes ≡ nodes
   pub histories : length m.histories ≡ nodes
   pub records : length m.records ≡ declared lines + 1
@@ -58,9 +59,9 @@ pub record AreGathered (nodes : ℕ) (lines : List Line) (m : Mesh) (ends : List
   pub at_nodes : (i : ℕ) (d : Seat) → i < nodes → IsLeft (row_at i d columns) (history_at m i)
 
 -- whatever the schedule was
-pub record IsRunOf (nodes : ℕ) (lines : List Line) (m : Mesh) (ends : List End) : Type 0 where
+pub record IsRunOf (nodes : ℕ) (lines : List Line) (m : Mesh) (ends : List NamedEnd) : Type 0 where
   pub agrees : Agrees m
-  pub follows : FollowsLines nodes lines m ends
+  pub follows : FollowsLines false nodes lines m (map raw_end ends)
 
 abbrev pub Assembled : Type 0
-Assembled = (nodes : ℕ) → (lines : List Line) → (m : Mesh) → (ends : List End) → ArePlayable nodes 0 lines → AreGathered nodes lines m ends → IsRunOf nodes lines m ends
+Assembled = (nodes : ℕ) → (lines : List Line) → (m : Mesh) → (ends : List NamedEnd) → ArePlayable false nodes 0 lines → AreGathered nodes lines m ends → IsRunOf nodes lines m ends

@@ -2,6 +2,8 @@
 use Rattle.std.specs.Prelude.{◌≡◌, ℕ, ◌==◌, Bool, true, false, List, [], ◌∷◌, ◌++◌, Option, Some, None}
 use Rattle.node_world.specs.declared.record.Record.{Record}
 use Rattle.node_world.specs.declared.record.Record.TheVariants.{Operator}
+use Rattle.node_world.specs.declared.mark.Mark.{Mark}
+use Rattle.ns_tree.specs.declared.end.End.{End}
 use Rattle.mesh.specs.Makers.{IsOperation, IsOperators}
 use Rattle.caller_seats.specs.Logs.{LogView}
 use Rattle.cluster_runner.specs.Lines.{Deed, Line, Declares, Acts, Operates, deeds_of, operations_in}
@@ -23,7 +25,7 @@ TakesOwn false nodes d old new = new ≡ old
 -- these deeds were taken, from the beginning on
 pub record HasDone (nodes : ℕ) (deeds : List Deed) (k : KeptActor) : Type 0 where
   pub idle : IsIdleActor nodes k
-  pub leads : LedTo (actor_with nodes deeds) (resting k)
+  pub leads : LedTo (actor_with false nodes deeds) (resting k)
 
 -- ## The operator
 -- what it lists of a line
@@ -38,6 +40,10 @@ pub record HasOperated (lines : List Line) (past : List Record) : Type 0 where
   pub operates : IsOperators past
 
 -- ## A caller: the operator, or an actor
+-- an actor without a namespace does its deeds; its end has nothing but its name
+abbrev pub FollowsRaw : ℕ → List Deed → List Record → List Mark → Type 0
+FollowsRaw nodes deeds rs plan = (e : End) → e.last ≡ None → Follows false nodes deeds rs plan e
+
 abbrev pub DoesLines : Bool → ℕ → ℕ → List Line → LogView → Type 0
 DoesLines true nodes caller lines log = HasOperated lines log.past
-DoesLines false nodes caller lines log = Follows nodes (deeds_of caller lines) log.past log.marks
+DoesLines false nodes caller lines log = FollowsRaw nodes (deeds_of caller lines) log.past log.marks

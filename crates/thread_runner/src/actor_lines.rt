@@ -4,7 +4,7 @@ ghost use Rattle.std.specs.Prelude.{◌≡◌, ◌≤◌, map, true, OnOk};
 ghost use Rattle.writer_core.specs.Writer.{new_writer};
 ghost use Rattle.caller_seats.specs.Logs.{new_log};
 ghost use Rattle.cluster_runner.specs.Lines.{deeds_of, line_of};
-ghost use Rattle.cluster_runner.specs.Follows.{Follows};
+ghost use Rattle.thread_runner.specs.Threads.{FollowsRaw};
 ghost use Rattle.cluster_runner.specs.Deeds.{kept_of, deed_of, IsIdleActor, MayCome};
 ghost use Rattle.thread_runner.specs.Threads.{is_by, TakesOwn, HasDone};
 
@@ -86,7 +86,7 @@ pub fn act_alone<S: Seats>(
     requires some { 1 ≤ (S.log seats.old).nodes }
     requires log { S.log seats.old ≡ new_log (S.log seats.old).nodes true }
     requires may { All (MayCome (S.log seats.old).nodes) lines.now }
-    ensures follows { OnOk result (Follows (S.log seats.old).nodes (deeds_of actor (map line_of lines.now)) (S.log seats.new).past (S.log seats.new).marks) }
+    ensures follows { OnOk result (FollowsRaw (S.log seats.old).nodes (deeds_of actor (map line_of lines.now)) (S.log seats.new).past (S.log seats.new).marks) }
     ensures later { OnOk result (S.later seats.old seats.new) }
 {
     let mut writer = Writer::new(alloc, seats.nodes())?;

@@ -25,7 +25,7 @@ take_all-requires-clause-jobs g c κs within =
     let tables = length-map c.in_ok-gates.gates.items (λ x. x.table.shared.table_id) ∙ c.in_ok-gates.ensures.count ∙ c.requires.count in
     let nodes = c.args.script.now.nodes in
     let lines = c.lines-lines.result.now in
-    let may = may_come nodes 0 lines (subst (λ l. ArePlayable nodes 0 (map line_of l)) (sym c.lines-lines.ensures) c.requires.playable.lines) (subst (λ l. AreInRange nodes l) (sym c.lines-lines.ensures) c.requires.numbers.lines) in
+    let may = may_come nodes 0 lines (subst (λ l. ArePlayable false nodes 0 (map line_of l)) (sym c.lines-lines.ensures) c.requires.playable.lines) (subst (λ l. AreInRange nodes l) (sym c.lines-lines.ensures) c.requires.numbers.lines) in
     λ i d l. subst (λ gs. MayAct lines (map (λ x. x.table.shared.table_id) gs) (get_or c.in_ok-jobs.jobs.items i d).0 (map (λ t. seat_of t.seat.table_id t.caller t.seat.me.0.seen) (get_or c.in_ok-jobs.jobs.items i d).1.items)) (sym c.deref.ensures.value) (may_act (λ v. map (λ t. seat_of t.seat.table_id t.caller t.seat.me.0.seen) v.items) lines c.in_ok-gates.columns.items c.in_ok-callers.callers nodes (map (λ x. x.table.shared.table_id) c.in_ok-gates.gates.items) c.in_ok-jobs.jobs.items c.in_ok-gates.ensures.columns n c.in_ok-jobs.ensures tables c.requires.playable.nodes may i d l)
 
 pub close_gates-requires-clause-made : goal.close_gates-requires-clause-made
