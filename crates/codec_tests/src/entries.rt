@@ -25,20 +25,20 @@ const CHANGES: [(usize, u8, u64, ByteCause); 6] = [
 ];
 
 /// An edit of each kind that a script has, the last of them a client's, at the txids from 2 on.
-const EDITS: [&[u8]; 13] = [
-    b"add /f 3 10 11 1048576 644 u g",
-    b"mv /a /b 5",
-    b"delete /f 6",
-    b"mkdir /u 7 1777 u g",
-    b"setrep /f 2",
-    b"chmod /f 600",
-    b"setowner /f - g",
-    b"close /f 8 9 1048576 24",
-    b"times /f 10 11",
-    b"quota /u 5 0",
-    b"rename /a /b 12 yes",
-    b"concat /f 13 /g /h",
-    b"call 000000000000000000000000000000aa 7 delete /f 14",
+const EDITS: [&str; 13] = [
+    "add /f 3 10 11 1048576 644 u g",
+    "mv /a /b 5",
+    "delete /f 6",
+    "mkdir /u 7 1777 u g",
+    "setrep /f 2",
+    "chmod /f 600",
+    "setowner /f - g",
+    "close /f 8 9 1048576 24",
+    "times /f 10 11",
+    "quota /u 5 0",
+    "rename /a /b 12 yes",
+    "concat /f 13 /g /h",
+    "call 000000000000000000000000000000aa 7 delete /f 14",
 ];
 
 /// Those edits between the marks of their segment.
@@ -78,7 +78,7 @@ fn each_kind_as_json(rt: HostRuntime) -> Result<(), Fail> {
     let mut file = Vec::from_slice(rt.alloc(), &FILE[..44])?;
     let mut txid: u8 = 2;
     for text in &EDITS {
-        let edit = edit_of_text(rt.alloc(), text);
+        let edit = edit_of_text(rt.alloc(), text.as_bytes());
         assert!(rt; edit.is_some());
         if let Some(edit) = edit {
             put_frame(&mut file, txid, encode(rt.alloc(), &edit)?.as_slice())?;
