@@ -8,7 +8,8 @@ use std::test::Fail;
 
 // The image of the empty namespace at txid 0 in layout 2. The first 68 bytes with 1 as the eighth are that of layout 1.
 const EMPTY: [u8; 72] =
-    *b"QJIM\0\0\0\x02\0\0\0\0\0\0\0\0\0\0\0\x01\0\x01/\0\0\0\0\0\0\0\0\0\x01\xed\0\x04hdfs\0\x0asupergroup\0\0\0\0\0\0\0\0\0\0\0\0\0\0\0\0\0\0\0\0";
+    *b"QJIM\0\0\0\x02\0\0\0\0\0\0\0\0\0\0\0\x01\0\x01/\0\0\0\0\0\0\0\0\0\x01\xed\
+    \0\x04hdfs\0\x0asupergroup\0\0\0\0\0\0\0\0\0\0\0\0\0\0\0\0\0\0\0\0";
 
 // An image of these bytes, saved with its digest, has this line.
 fn expect_image(
@@ -61,7 +62,10 @@ const FOLDERS: [Case; 4] = [
             ("fsimage_0000000000000000004", b""),
             ("fsimage_0000000000000000004.md5", ONE_TEXT),
         ],
-        want: "bad fsimage_0000000000000000004 6 0 15284527576400310788\nok fsimage_0000000000000000004.md5\nfindings 1\n",
+        want: "\
+            bad fsimage_0000000000000000004 6 0 15284527576400310788\n\
+            ok fsimage_0000000000000000004.md5\n\
+            findings 1\n",
         findings: 1,
     },
     Case {

@@ -13,7 +13,15 @@ const PASSING: [Case; 1] = [Case {
         ("last-promised-epoch.tmp", b""),
         ("paxos/0000000000000000002.tmp", b""),
     ],
-    want: "ok a.tmp\nok edits_inprogress_0000000000000000002.epoch=7\nok edits_inprogress_0000000000000000002.new\nok fsimage.ckpt_0000000000000000009\nok fsimage_0000000000000000009.md5.tmp\nok last-promised-epoch.tmp\nok paxos/0000000000000000002.tmp\nfindings 0\n",
+    want: "\
+        ok a.tmp\n\
+        ok edits_inprogress_0000000000000000002.epoch=7\n\
+        ok edits_inprogress_0000000000000000002.new\n\
+        ok fsimage.ckpt_0000000000000000009\n\
+        ok fsimage_0000000000000000009.md5.tmp\n\
+        ok last-promised-epoch.tmp\n\
+        ok paxos/0000000000000000002.tmp\n\
+        findings 0\n",
     findings: 0,
 }];
 
@@ -27,7 +35,13 @@ const UNKNOWN: [Case; 2] = [
             ("edits_inprogress_0000000000000000002.epoch=07", b""),
             ("edits_inprogress_2", b""),
         ],
-        want: "bad committed-txid2 1 0 0\nbad edits_0000000000000000003-0000000000000000002 1 0 0\nbad edits_inprogress_0000000000000000000 1 0 0\nbad edits_inprogress_0000000000000000002.epoch=07 1 0 0\nbad edits_inprogress_2 1 0 0\nfindings 5\n",
+        want: "\
+            bad committed-txid2 1 0 0\n\
+            bad edits_0000000000000000003-0000000000000000002 1 0 0\n\
+            bad edits_inprogress_0000000000000000000 1 0 0\n\
+            bad edits_inprogress_0000000000000000002.epoch=07 1 0 0\n\
+            bad edits_inprogress_2 1 0 0\n\
+            findings 5\n",
         findings: 5,
     },
     Case {
@@ -40,7 +54,15 @@ const UNKNOWN: [Case; 2] = [
             ("paxos/1", b""),
             ("tmp", b""),
         ],
-        want: "bad VERSION 1 0 0\nbad fsimage.ckpt_4611686018427387905 1 0 0\nbad fsimage.ckpt_9 1 0 0\nbad fsimage_4611686018427387905 1 0 0\nbad fsimage_9.md5 1 0 0\nbad paxos/1 1 0 0\nbad tmp 1 0 0\nfindings 7\n",
+        want: "\
+            bad VERSION 1 0 0\n\
+            bad fsimage.ckpt_4611686018427387905 1 0 0\n\
+            bad fsimage.ckpt_9 1 0 0\n\
+            bad fsimage_4611686018427387905 1 0 0\n\
+            bad fsimage_9.md5 1 0 0\n\
+            bad paxos/1 1 0 0\n\
+            bad tmp 1 0 0\n\
+            findings 7\n",
         findings: 7,
     },
 ];

@@ -2,7 +2,7 @@
 use crate::folders::{Case, SEGMENT, TWO, expect_all};
 use std::test::Fail;
 
-// The four files of a known session, and the same with the segment under the name of another end, of another start, of both, and cut.
+// The four files of a known session; the segment under the name of another end, of another start, of both, and in progress.
 const SESSIONS: [Case; 6] = [
     Case {
         files: &[
@@ -11,7 +11,12 @@ const SESSIONS: [Case; 6] = [
             ("committed-txid", TWO),
             ("edits_0000000000000000002-0000000000000000002", SEGMENT),
         ],
-        want: "ok committed-txid\nok edits_0000000000000000002-0000000000000000002\nok last-promised-epoch\nok last-writer-epoch\nfindings 0\n",
+        want: "\
+            ok committed-txid\n\
+            ok edits_0000000000000000002-0000000000000000002\n\
+            ok last-promised-epoch\n\
+            ok last-writer-epoch\n\
+            findings 0\n",
         findings: 0,
     },
     Case {
@@ -21,7 +26,12 @@ const SESSIONS: [Case; 6] = [
             ("committed-txid", TWO),
             ("edits_0000000000000000002-0000000000000000003", SEGMENT),
         ],
-        want: "ok committed-txid\nbad edits_0000000000000000002-0000000000000000003 3 3 2\nok last-promised-epoch\nok last-writer-epoch\nfindings 1\n",
+        want: "\
+            ok committed-txid\n\
+            bad edits_0000000000000000002-0000000000000000003 3 3 2\n\
+            ok last-promised-epoch\n\
+            ok last-writer-epoch\n\
+            findings 1\n",
         findings: 1,
     },
     Case {
@@ -61,7 +71,10 @@ const BYTES: [Case; 4] = [
                 b"QJSG\0\0\0\x02\0\0\0\0\0\0\0\x02\0\0\0\0\0\0\0\x02",
             ),
         ],
-        want: "bad edits_0000000000000000001-0000000000000000001 2 0 0\nbad edits_inprogress_0000000000000000002 2 0 0\nfindings 2\n",
+        want: "\
+            bad edits_0000000000000000001-0000000000000000001 2 0 0\n\
+            bad edits_inprogress_0000000000000000002 2 0 0\n\
+            findings 2\n",
         findings: 2,
     },
     Case {
@@ -102,7 +115,10 @@ const BEHIND: [Case; 3] = [
             ("edits_0000000000000000001-0000000000000000002", b""),
             ("edits_0000000000000000002-0000000000000000002", SEGMENT),
         ],
-        want: "bad edits_0000000000000000001-0000000000000000002 2 0 0\nbad edits_0000000000000000002-0000000000000000002 4 2 2\nfindings 2\n",
+        want: "\
+            bad edits_0000000000000000001-0000000000000000002 2 0 0\n\
+            bad edits_0000000000000000002-0000000000000000002 4 2 2\n\
+            findings 2\n",
         findings: 2,
     },
     Case {
@@ -110,7 +126,10 @@ const BEHIND: [Case; 3] = [
             ("edits_0000000000000000002-0000000000000000002", SEGMENT),
             ("edits_0000000000000000002-0000000000000000003", SEGMENT),
         ],
-        want: "ok edits_0000000000000000002-0000000000000000002\nbad edits_0000000000000000002-0000000000000000003 3 3 2\nfindings 1\n",
+        want: "\
+            ok edits_0000000000000000002-0000000000000000002\n\
+            bad edits_0000000000000000002-0000000000000000003 3 3 2\n\
+            findings 1\n",
         findings: 1,
     },
     Case {
@@ -118,7 +137,10 @@ const BEHIND: [Case; 3] = [
             ("edits_0000000000000000001-0000000000000000001", b""),
             ("edits_0000000000000000002-0000000000000000002", SEGMENT),
         ],
-        want: "bad edits_0000000000000000001-0000000000000000001 2 0 0\nok edits_0000000000000000002-0000000000000000002\nfindings 1\n",
+        want: "\
+            bad edits_0000000000000000001-0000000000000000001 2 0 0\n\
+            ok edits_0000000000000000002-0000000000000000002\n\
+            findings 1\n",
         findings: 1,
     },
 ];
@@ -128,7 +150,7 @@ fn final_segments_stand_apart(rt: HostRuntime) -> Result<(), Fail> {
     expect_all(&rt, rt.alloc(), &BEHIND)
 }
 
-// Number files and records: out of their grammars; a writer above the promise, or above none; and with a promise out of its grammar.
+// Number files and records out of their grammars; a writer above the promise, and above none.
 const NUMBERS: [Case; 5] = [
     Case {
         files: &[

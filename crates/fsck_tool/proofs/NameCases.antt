@@ -13,7 +13,8 @@ use Rattle.fsck_tool.specs.declared.finding.Finding.{Finding}
 use Rattle.fsck_tool.specs.declared.rule.Rule.TheVariants as rule
 use Rattle.fsck_tool.specs.declared.file_role.FileRole.{FileRole}
 use Rattle.fsck_tool.specs.declared.file_role.FileRole.TheVariants as role
-use Rattle.fsck_tool.specs.Roles.{IsPassing, temporary, fresh, under_way, checkpoint, IsImageName, IsKnownAs, HasRole}
+use Rattle.image_store.specs.Lists.{IsNamed as IsImageName}
+use Rattle.fsck_tool.specs.Roles.{IsPassing, temporary, fresh, under_way, checkpoint, IsKnownAs, HasRole}
 use Rattle.fsck_tool.specs.Rules.{IsVerdict}
 use Rattle.fsck_tool.specs.Steps.{IsOfImage, IsLeft}
 

@@ -13,7 +13,8 @@ use Rattle.image_store.specs.Names as image
 use Rattle.image_store.proofs.NameLaws.{parts_apart, same_txid}
 use Rattle.fsck_tool.specs.declared.file_role.FileRole.{FileRole}
 use Rattle.fsck_tool.specs.declared.file_role.FileRole.TheVariants as role
-use Rattle.fsck_tool.specs.Roles.{temporary, fresh, under_way, checkpoint, IsImageName, IsKnownAs, HasRole}
+use Rattle.image_store.specs.Lists.{IsNamed as IsImageName}
+use Rattle.fsck_tool.specs.Roles.{temporary, fresh, under_way, checkpoint, IsKnownAs, HasRole}
 
 -- ## How names end
 abbrev last_byte : List ℕ → ℕ

@@ -4,6 +4,7 @@ use Rattle.qj_num.specs.Padded.{padded}
 use Rattle.node_files.specs.Durable.{number_name}
 use Rattle.segment_file.specs.Names.{InProgress, Final, Record, UnderWay, Fresh}
 use Rattle.segment_file.specs.Kinds.{IsNamed}
+use Rattle.image_store.specs.Lists.{IsNamed as IsImageName}
 use Rattle.fsck_tool.specs.declared.file_role.FileRole.{FileRole}
 use Rattle.fsck_tool.specs.declared.file_role.FileRole.TheVariants as role
 
@@ -13,11 +14,6 @@ pub data IsPassing (name : List ℕ) : Type 0 where
   fresh : (start : ℕ) → IsNamed name start Fresh → IsPassing name
   under_way : (start epoch : ℕ) → IsNamed name start (UnderWay epoch) → IsPassing name
   checkpoint : (txid : ℕ) → txid ≤ 2 ^ 62 → name ≡ codes "fsimage.ckpt_" ++ padded 19 txid → IsPassing name
-
--- the name is that of an image of this txid, with this rest behind
-pub record IsImageName (name rest : List ℕ) (txid : ℕ) : Type 0 where
-  pub small : txid ≤ 2 ^ 62
-  pub spelled : name ≡ codes "fsimage_" ++ (padded 19 txid ++ rest)
 
 -- the name is one of those that a node or a store of images writes
 abbrev pub IsKnownAs : List ℕ → FileRole → Type 0

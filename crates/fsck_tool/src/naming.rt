@@ -5,7 +5,8 @@ ghost use Rattle.node_files.specs.Durable.{number_name};
 ghost use Rattle.node_files.specs.declared.node_number.NodeNumber.{NodeNumber};
 ghost use Rattle.segment_file.specs.Kinds.{IsNamed, IsTold, kind_told};
 ghost use Rattle.segment_file.specs.Names.{Kind};
-ghost use Rattle.fsck_tool.specs.Roles.{IsImageName, HasRole, IsKnownAs};
+ghost use Rattle.image_store.specs.Lists.{IsNamed as IsImageName};
+ghost use Rattle.fsck_tool.specs.Roles.{HasRole, IsKnownAs};
 ghost use Rattle.fsck_tool.specs.Steps.{IsOfImage, IsLeft};
 
 use crate::file_role::FileRole;
