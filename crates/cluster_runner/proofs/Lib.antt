@@ -35,3 +35,4 @@ pub mod NodesLeft
 pub mod FaultlessLaws
 pub mod RawEnds
 pub mod NeverBroken
+pub mod ScriptLaws

@@ -21,3 +21,4 @@ pub mod SeatLaws
 pub mod Ready
 pub mod Goal
 pub mod Faultless
+pub mod Scripts

@@ -1,6 +1,14 @@
 // What holds of every play.
 ghost use Rattle.cluster_runner.specs.Laws.{LinesAgree, LinesFollow, PlaysAgree, PlaysFollow, LinesAreRuns, LinesKeepNodes, PlaysAreRuns, MeshesAreSafe, OnePlay, LocalRuns, LinesOneByOne, LineLater, LedIsMade, LedIsOfTasks, OneRecord, EachResult, EachNamedResult};
 ghost use Rattle.cluster_runner.specs.Faultless.{MeshesShowNoFault};
+ghost use Rattle.cluster_runner.specs.Scripts.{ScriptsArePlayable, ScriptNumbersFit};
+
+/// A script of the grammar can be played: it has a node, its lines speak of declared writers and of its nodes, and the program can hold
+/// its numbers.
+pub fn scripts_are_playable()
+    ensures lines { ScriptsArePlayable }
+    ensures numbers { ScriptNumbersFit }
+{}
 
 /// The lists of all nodes and of all callers of a play agree.
 pub fn a_play_agrees()
