@@ -1,0 +1,10 @@
+pub mod Deciding
+pub mod LineLaws
+pub mod MatchLaws
+pub mod MarkLaws
+pub mod Chores
+pub mod Leading
+pub mod LeadingCode
+pub mod Alike
+pub mod Following
+pub mod PartLaws

@@ -1,0 +1,4 @@
+pub mod Matching
+pub mod Parts
+pub mod Marking
+pub mod Leading

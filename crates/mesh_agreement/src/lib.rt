@@ -1,0 +1,12 @@
+//! The test whether a mesh agrees: whether the lists of all nodes and of all callers are of one play.
+#![tactic(auto)]
+
+mod agreement;
+mod equality;
+mod lines;
+mod local;
+mod making;
+mod marking;
+mod matching;
+
+pub use agreement::agrees;
