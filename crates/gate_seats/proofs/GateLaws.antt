@@ -1,6 +1,6 @@
 -- Rows dealt to columns; seats before the first call; a gate that is closed.
-use Rattle.std.proofs.Common.{◌≡◌, ℕ, zero, suc, ◌+◌, ◌<◌, ◌≤◌, List, [], ◌∷◌, ◌++◌, length, map, refl, sym, ap, ◌∙◌, subst, set, get_or, arith, replicate}
-use Rattle.std.proofs.Common.{◌⊎◌, inl, inr, Bool, true, false, cond, filter, ◌==◌, take, drop, append-nil, append_assoc}
+use Rattle.std.proofs.Common.{◌≡◌, ℕ, zero, suc, ◌+◌, ◌<◌, ◌≤◌, List, [], ◌∷◌, ◌++◌, length, map, refl, sym, ap, ◌∙◌, set, get_or, arith, replicate}
+use Rattle.std.proofs.Common.{◌⊎◌, inl, inr, Bool, true, false, cond, filter, ◌==◌, append-nil, append_assoc}
 use Rattle.std.proofs.lemmas.List.{length-map, length-replicate, map-set, map-append}
 use mathlib.Core.Option.{some}
 use lib.ListN.{get_elem?}
@@ -13,8 +13,7 @@ use Rattle.gate_seats.specs.Entries.{Entry, entries_of, own_lines, line_of as li
 use Rattle.gate_seats.proofs.SeatLaws.{not_acted}
 use Rattle.gate_seats.specs.Seated.{Seat, seat_of}
 use Rattle.std.proofs.Math.ListN.{get_or-map}
-use Rattle.node_world.specs.Cell.{fresh_cell, IsLocalRun}
-use Rattle.gate_seats.specs.Gates.{zip_snoc, dealt, fresh_seat, fresh_row, fresh_columns, row_at, AreOf, IsLeft}
+use Rattle.gate_seats.specs.Gates.{zip_snoc, dealt, fresh_seat, fresh_row, fresh_columns, row_at, AreOf}
 
 pub zip_none : {A : Type 0} (cs : List (List A)) → zip_snoc cs [] ≡ cs
 zip_none [] = refl

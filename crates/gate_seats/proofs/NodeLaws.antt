@@ -1,5 +1,5 @@
 -- A node behind a gate: its history is one node's, and its answers are such as nodes give.
-use Rattle.std.proofs.Common.{◌≡◌, ℕ, List, [], ◌∷◌, ◌++◌, Bool, true, false, cond, refl, sym, ap, ◌∙◌, subst}
+use Rattle.std.proofs.Common.{◌≡◌, ℕ, [], Bool, true, false, cond, refl, sym, ap, ◌∙◌, subst}
 use Rattle.std.specs.Prelude.{Option, Some, None, ◌-◌, nat_lt}
 use Rattle.journal_core.specs.declared.request.Request.{Request}
 use Rattle.node_world.specs.declared.node_ask.NodeAsk.{NodeAsk}

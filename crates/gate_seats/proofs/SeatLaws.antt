@@ -24,7 +24,6 @@ use Rattle.mesh.specs.Matches.{reaches, reached, lines_of, IsSame, AreSame, Stan
 use Rattle.mesh.proofs.Lists.{cond_true, same_test, other_test}
 use Rattle.mesh.proofs.Tied.{reached_at, reached_off, same_snoc}
 use Rattle.gate_seats.specs.Entries.{Entry, line_of, own_lines, IsReplyOrStop, IsDoneOrIdle, FitsAsk}
-use Rattle.caller_seats.specs.declared.delivery.Delivery.{Delivery}
 use Rattle.caller_seats.specs.declared.delivery.Delivery.TheVariants.{Delivered, ReplyLost, NotDelivered}
 use Rattle.caller_seats.specs.Deliveries.{told_of, is_done}
 use Rattle.caller_seats.specs.Logs.{LogView, with_line}

@@ -1,4 +1,4 @@
-use Rattle.std.proofs.Common.{◌≡◌, sym, ap, ◌∙◌}
+use Rattle.std.proofs.Common.{sym, ap, ◌∙◌}
 use Rattle.node_gate.specs.Board.{places_of}
 use Rattle.gate_seats.specs.Entries.{own_lines}
 use Rattle.gate_seats.proofs.SeatLaws.{if_ok, on_err, acted, not_acted}

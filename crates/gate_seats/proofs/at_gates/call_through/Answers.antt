@@ -1,9 +1,8 @@
-use Rattle.std.proofs.Common.{◌≡◌, sym, ap, subst, ◌∙◌}
+use Rattle.std.proofs.Common.{sym, ap, subst, ◌∙◌}
 use Rattle.node_world.specs.declared.record.Record.TheVariants.{Call}
 use Rattle.mesh.specs.Marks.{next_number, IsAsMarked}
 use Rattle.caller_seats.specs.Deliveries.{told_of}
 use Rattle.gate_seats.specs.Entries.{own_lines}
-use Rattle.gate_seats.specs.Seated.{Tied}
 use Rattle.caller_seats.proofs.MarkLaws.{delivery_marked}
 use Rattle.gate_seats.proofs.SeatLaws.{goes_with, call_apart}
 use Rattle.gate_seats.proofs.at_gates.call_through.Goals as goal

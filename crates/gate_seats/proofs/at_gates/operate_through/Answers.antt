@@ -1,4 +1,4 @@
-use Rattle.std.proofs.Common.{◌≡◌, sym, ap, subst, ◌∙◌}
+use Rattle.std.proofs.Common.{sym, subst}
 use Rattle.node_world.specs.declared.record.Record.TheVariants.{Operator}
 use Rattle.gate_seats.specs.Entries.{own_lines}
 use Rattle.gate_seats.specs.Seated.{Tied}

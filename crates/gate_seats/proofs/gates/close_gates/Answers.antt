@@ -1,11 +1,11 @@
-use Rattle.std.proofs.Common.{◌≡◌, ◌<◌, ◌+◌, ◌++◌, ◌∷◌, [], ◌∙◌, sym, ap, subst, arith, rules, length, length-append, map, replicate, drop, Some, get_or}
+use Rattle.std.proofs.Common.{◌≡◌, ◌<◌, ◌+◌, ◌∷◌, [], ◌∙◌, sym, ap, subst, arith, length, length-append, map, Some, get_or}
 use Rattle.std.specs.List.{All}
 use Rattle.std.proofs.lemmas.List.{length-map}
 use Rattle.std.proofs.lemmas.List.Elements.{All-push}
 use Rattle.node_world.specs.Cell.{fresh_cell, cell_after}
-use Rattle.gate_seats.specs.Seated.{Seat, seat_of}
+use Rattle.gate_seats.specs.Seated.{seat_of}
 use Rattle.node_gate.specs.Board.{AllAt}
-use Rattle.gate_seats.specs.Gates.{dealt, IsLeft}
+use Rattle.gate_seats.specs.Gates.{IsLeft}
 use Rattle.gate_seats.proofs.CloseLaws.{first_left, rest_left, some_left, same_long, both_fit, many_is, at_map, dealt_for, alike_more, column_long, rows_long, row_long, row_own, left_more, left_all}
 use Rattle.gate_seats.proofs.gates.close_gates.Goals as goal
 
