@@ -8,12 +8,12 @@ pub returns-then-not-same_answer : goal.returns-then-not-same_answer
 returns-then-not-same_answer c =
     no (IsLocalRun fresh_cell c.args.lines.now)
     (local_fails c.loop-line.cell.cell c.take.new.self.cell c.loop-line.line-index c.args.lines.now c.line-item.result c.in_ok-answer.answer c.loop-line-test.true c.line-item.is
-    (ap (cell_takes c.loop-line.cell.cell) (sym c.in_ok-share.ensures) ∙ c.in_ok-answer.ensures.taken) (fails (c.in_ok-answer.answer ≡ c.line-item.result.answer) c.same_answer.result c.if-not-same_answer.true c.same_answer.ensures) c.loop-line.invariant)
+    (ap (cell_takes c.loop-line.cell.cell) (sym c.in_ok-share.ensures) ∙ c.in_ok-answer.ensures.ok.taken) (fails (c.in_ok-answer.answer ≡ c.line-item.result.answer) c.same_answer.result c.if-not-same_answer.true c.same_answer.ensures) c.loop-line.invariant)
 
 pub loop-line-preserved : goal.loop-line-preserved
 loop-line-preserved c =
     local_more c.loop-line.cell.cell c.take.new.self.cell c.loop-line.line-index c.args.lines.now c.line-item.result c.in_ok-answer.answer c.loop-line-test.true c.line-item.is
-    (ap (cell_takes c.loop-line.cell.cell) (sym c.in_ok-share.ensures) ∙ c.in_ok-answer.ensures.taken) (holds (c.in_ok-answer.answer ≡ c.line-item.result.answer) c.same_answer.result c.if-not-same_answer.false c.same_answer.ensures) c.loop-line.invariant
+    (ap (cell_takes c.loop-line.cell.cell) (sym c.in_ok-share.ensures) ∙ c.in_ok-answer.ensures.ok.taken) (holds (c.in_ok-answer.answer ≡ c.line-item.result.answer) c.same_answer.result c.if-not-same_answer.false c.same_answer.ensures) c.loop-line.invariant
 
 pub returns : goal.returns
 returns c = yes (IsLocalRun fresh_cell c.args.lines.now) (local_ends c.loop-line.cell.cell c.loop-line.line-index c.args.lines.now c.loop-line-test.false c.loop-line.invariant)
