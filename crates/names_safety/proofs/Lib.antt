@@ -1,0 +1,16 @@
+pub mod ReadLaws
+pub mod WriterPlaces
+pub mod Held
+pub mod Stages
+pub mod Deeds
+pub mod Keeps
+pub mod Oks
+pub mod SaidOks
+pub mod Walks
+pub mod Replays
+pub mod Askers
+pub mod LineLaws
+pub mod Unbroken
+pub mod Safeties
+pub mod NamedPlays
+pub mod Worked
