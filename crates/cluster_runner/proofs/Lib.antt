@@ -10,10 +10,10 @@ mod Links
 mod Answers
 mod Playing
 pub mod Taking
-mod Final
+pub mod Final
 mod Unique
 mod BrokenLaws
-mod WriterTurns
+pub mod WriterTurns
 mod EachResult
 mod Dues
 mod NamedResults
