@@ -205,9 +205,9 @@ impl QuorumWriter {
         }
     }
 
-    /// Gives up what the writer does.
+    /// Gives up what the writer does; only a takeover may begin then. Takes no memory.
     #[tactic(auto, using(crate::proofs::Comes::stopped_ready))]
-    fn stop(&mut self)
+    pub fn stop(&mut self)
         ensures { self.new ≡ writer_stopped self.old }
     {
         self.writer.stop();

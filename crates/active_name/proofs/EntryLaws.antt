@@ -1,0 +1,88 @@
+-- A takeover: the rounds, and then the tail.
+use Rattle.std.proofs.Common.{◌≡◌, ◌⊎◌, inl, inr, ⊎_elim, ℕ, ◌+◌, ◌-◌, ◌<◌, ◌≤◌, nat_lt, List, [], Bool, true, false, if◌then◌else◌, Option, Some, None, refl, sym, ap, ◌∙◌, subst, arith}
+use Rattle.std.proofs.lemmas.Bool.Decides.{nat_tests}
+use Rattle.journal_core.specs.Limits.{max_number}
+use Rattle.journal_core.specs.declared.peer_call.PeerCall.{PeerCall}
+use Rattle.ns_tree.specs.Space.{empty_space}
+use Rattle.ns_replay.specs.Replay.{Image}
+use Rattle.writer_core.specs.declared.phase.Phase.{Phase}
+use Rattle.writer_core.specs.declared.phase.Phase.TheVariants as phase
+use Rattle.writer_core.specs.declared.task.Task.TheVariants as task
+use Rattle.writer_core.specs.declared.turn.Outcome.TheVariants as outcome
+use Rattle.writer_core.specs.Views.{WriterView}
+use Rattle.writer_core.specs.Writer.{is_writing, writer_begun, writer_stopped}
+use Rattle.quorum_writer.specs.declared.taken.Taken.TheVariants as round
+use Rattle.quorum_writer.specs.Answers.{came_of_taken}
+use Rattle.quorum_writer.specs.Tasks.{Comes}
+use Rattle.name_node.specs.Holding.{Holding, emptied}
+use Rattle.name_node.specs.Tails.{TailStep, pass_begun}
+use Rattle.standby_tailer.specs.declared.tailed.Tailed.{Tailed}
+use Rattle.standby_tailer.specs.declared.tailed.Tailed.TheVariants as tailed
+use Rattle.standby_tailer.specs.Standbys.{StandbyView, empty_standby, held}
+use Rattle.standby_tailer.specs.Tailing.{IsTailed}
+use Rattle.active_name.specs.declared.taking.TakenOver.{TakenOver}
+use Rattle.active_name.specs.declared.taking.TakenOver.TheVariants as taken
+use Rattle.active_name.specs.Entering.{enters, entry_begun, Enters, Fails, LacksSpace, IsTakenOver, IsEntered, StandsEntered, IsTailedIn, is_active}
+use Rattle.active_name.proofs.WriterEnds.{outcome_of}
+
+-- ## It begins
+pub enters_empty : (last : ℕ) (images : List Image) (old new : StandbyView) → last < old.position → new ≡ empty_standby → held images new ≡ enters last (held images old)
+enters_empty last images old new below e =
+    let b : nat_lt last old.position ≡ true = grind (arith, nat_tests) in
+    ap (held images) e ∙ sym (ap (λ (x : Bool). if x then emptied (held images old) else held images old) b)
+
+pub enters_same : (last : ℕ) (images : List Image) (old : StandbyView) → old.position ≤ last → held images old ≡ enters last (held images old)
+enters_same last images old le =
+    let b : nat_lt last old.position ≡ false = grind (arith, nat_tests) in
+    sym (ap (λ (x : Bool). if x then emptied (held images old) else held images old) b)
+
+-- ## The tail
+pub tail_entered : (nodes first last : ℕ) (images : List Image) (from mid to : StandbyView) (before after : List PeerCall) (t : Tailed) → last ≡ first - 1 → held images mid ≡ enters last (held images from)
+    → IsTailed nodes (pass_begun (Some last) (held images mid)) images before after to t → IsTailed nodes (entry_begun first (held images from)) images before after to t
+tail_entered nodes first last images from mid to before after t e h is =
+    subst (λ (k : ℕ). IsTailed nodes (pass_begun (Some k) (enters k (held images from))) images before after to t) e
+    (subst (λ (x : Holding). IsTailed nodes (pass_begun (Some last) x) images before after to t) h is)
+
+-- ## Both
+-- the writer's rounds were done, and the standby's tail was this
+module _ (nodes epoch first : ℕ) (old w new : WriterView) (from to : StandbyView) (before mid after : List PeerCall) (took : Comes task.Takeover old before w mid (came_of_taken (round.Taken epoch first))) where
+  entered_writer : is_writing w.phase ≡ true
+  entered_writer = ap is_writing took.phase
+
+  pub taken_over : (t : TakenOver) → new ≡ (if is_active t then w else writer_stopped w) → ((images : List Image) → IsTailedIn nodes epoch first images from mid after to t)
+      → (images : List Image) → IsTakenOver nodes images old from before after new to t
+  taken_over (taken.Active e f) n h images =
+      let x = h images in
+      let mine : Enters nodes epoch first images old from before after w to (tailed.Reached (first - 1)) = record { mid = mid; took = took; tail = x.0 } in
+      subst (λ (v : WriterView). Enters nodes e f images old from before after v to (tailed.Reached (f - 1))) (sym n)
+      (subst (λ (k : ℕ). Enters nodes e k images old from before after w to (tailed.Reached (k - 1))) (sym x.2)
+      (subst (λ (k : ℕ). Enters nodes k first images old from before after w to (tailed.Reached (first - 1))) (sym x.1) mine))
+  taken_over (taken.Behind txid causes) n h images = record { epoch = epoch; first = first; writer = w; enters = record { mid = mid; took = took; tail = h images }; stopped = n }
+  taken_over (taken.Purged least) n h images = record { epoch = epoch; first = first; writer = w; enters = record { mid = mid; took = took; tail = h images }; stopped = n }
+  taken_over (taken.BadEntry txid) n h images = record { epoch = epoch; first = first; writer = w; enters = record { mid = mid; took = took; tail = h images }; stopped = n }
+  taken_over taken.OutOfMemory n h images = by (h images)
+    where
+      by : IsTailed nodes (entry_begun first (held images from)) images mid after to tailed.OutOfMemory ⊎ ((after ≡ mid) × (to ≡ from)) → IsTakenOver nodes images old from before after new to taken.OutOfMemory
+      by (inl t) = inr (inl (record { epoch = epoch; first = first; writer = w; enters = record { mid = mid; took = took; tail = t }; stopped = n }))
+      by (inr s) = inr (inr (record {
+        epoch = epoch;
+        first = first;
+        writer = w;
+        took = subst (λ (l : List PeerCall). Comes task.Takeover old before w l (came_of_taken (round.Taken epoch first))) (sym s.0) took;
+        same = s.1;
+        stopped = n;
+      }))
+  taken_over (taken.Aborted causes) n h images = absurd (h images)
+  taken_over (taken.EpochLimit told) n h images = absurd (h images)
+
+  pub stands_entered : (t : TakenOver) → new ≡ (if is_active t then w else writer_stopped w) → IsTailedIn nodes epoch first [] from mid after to t → StandsEntered t new to
+  stands_entered (taken.Active e f) n h =
+      let o = outcome_of (writer_begun old task.Takeover).writer w before mid (outcome.Takeover epoch first) took.calls in
+      subst (λ (v : WriterView). IsEntered f v to) (sym n)
+      (subst (λ (k : ℕ). IsEntered k w to) (sym h.2) (record { writing = entered_writer; next = o.0; within = o.1; position = h.3 ∙ refl }))
+  stands_entered (taken.Behind txid causes) n h = tt
+  stands_entered (taken.Purged least) n h = tt
+  stands_entered (taken.BadEntry txid) n h = tt
+  stands_entered taken.OutOfMemory n h = tt
+  stands_entered (taken.Aborted causes) n h = tt
+  stands_entered (taken.EpochLimit told) n h = tt

@@ -1,0 +1,4 @@
+pub mod WriterEnds
+pub mod ActiveLaws
+pub mod EntryLaws
+pub mod RoundLaws

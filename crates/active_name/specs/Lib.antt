@@ -1,0 +1,4 @@
+pub mod Actives
+pub mod Entering
+pub mod Acting
+pub mod EntryAnswers

@@ -1,0 +1,96 @@
+// An active name node.
+ghost use Rattle.std.specs.Prelude.{◌≡◌, ◌≤◌, ◌+◌, ◌-◌, [], true, IfOk};
+ghost use Rattle.journal_core.specs.Limits.{max_number};
+ghost use Rattle.writer_core.specs.Writer.{is_writing};
+ghost use Rattle.active_name.specs.Actives.{is_open};
+ghost use Rattle.active_name.specs.Acting.{left_by};
+ghost use Rattle.active_name.specs.Entering.{IsEntered};
+
+use journal_core::{BodyList, OutOfMemory};
+use ns_tree::Namespace;
+use quorum_writer::QuorumWriter;
+use standby_tailer::Standby;
+use std::alloc::Global;
+use std::marker::Model;
+
+/// A name node that holds an open segment: its writer, the txid that was acknowledged last, and its
+/// namespace with the pending edits, which is what edits are admitted against. Contracts see these.
+#[derive(Drop)]
+pub struct Active {
+    pub(crate) writer: QuorumWriter,
+    pub(crate) position: u64,
+    pub(crate) ahead: Namespace,
+    pub(crate) pending: BodyList,
+    /// A segment is open.
+    pub(crate) open: bool,
+    /// No round was aborted, and none lacked memory.
+    pub(crate) whole: bool,
+}
+
+impl Model for Active {
+    ghost use Rattle.std.specs.Prelude.{◌≡◌};
+    ghost use Rattle.active_name.specs.Actives.{ActiveView, IsActive, is_open};
+
+    ghost Value = { ActiveView };
+
+    ghost view = { λ a. record { writer = a.writer; position = a.position; ahead = a.ahead; bodies = a.pending; whole = a.whole } };
+
+    ghost invariant = { λ a. IsActive (record { writer = a.writer; position = a.position; ahead = a.ahead; bodies = a.pending; whole = a.whole })
+        × (is_open (record { writer = a.writer; position = a.position; ahead = a.ahead; bodies = a.pending; whole = a.whole }) ≡ a.open) };
+}
+
+impl Active {
+    /// A name node that has taken over: its writer holds an open segment with this start, and its standby
+    /// stands right before it. Takes no memory.
+    #[tactic(auto, using(crate::proofs::ActiveLaws::entered_calls))]
+    pub fn of(alloc: Global, writer: QuorumWriter, standby: Standby, first: u64) -> Active
+        requires { IsEntered first writer standby }
+        ensures { result ≡ record { writer = writer; position = first; ahead = standby.space; bodies = []; whole = true } }
+    {
+        let (ahead, _) = standby.into_parts();
+        Active {
+            writer,
+            position: first,
+            ahead,
+            pending: BodyList::new(alloc),
+            open: true,
+            whole: true,
+        }
+    }
+
+    /// The txid of the last record that was acknowledged.
+    pub fn position(&self) -> u64
+        ensures { result ≡ self.now.position }
+    {
+        self.position
+    }
+
+    /// The standby that it leaves, and its writer: at the last acknowledged position where nothing was
+    /// aborted and no edit is pending, and else empty at position 0. No call is made.
+    pub fn part(self, alloc: Global) -> Result<(Standby, QuorumWriter), OutOfMemory>
+        ensures { IfOk result (λ both. (both.0 ≡ left_by self) × (both.1 ≡ self.writer)) }
+    {
+        let Active {
+            writer,
+            position,
+            ahead,
+            pending,
+            open: _,
+            whole,
+        } = self;
+        if whole && pending.is_empty() {
+            return Ok((Standby::of(ahead, position), writer));
+        }
+        let standby = Standby::new(alloc)?;
+        Ok((standby, writer))
+    }
+
+    /// Gives up without a call: the standby at the last acknowledged position where nothing was aborted and
+    /// no edit is pending, and else an empty one at position 0. `OutOfMemory` hands nothing back.
+    pub fn quit(self, alloc: Global) -> Result<Standby, OutOfMemory>
+        ensures { IfOk result (λ standby. standby ≡ left_by self) }
+    {
+        let (standby, _) = self.part(alloc)?;
+        Ok(standby)
+    }
+}

@@ -1,0 +1,20 @@
+use Rattle.std.proofs.Common.{◌≡◌, ℕ, Bool, true, false, sym, ap, ◌∙◌}
+use Rattle.ns_replay.specs.Replay.{Image}
+use Rattle.name_node.specs.Holding.{Work, working}
+use Rattle.name_node.specs.Tails.{is_until}
+use Rattle.standby_tailer.specs.Standbys.{held}
+use Rattle.standby_tailer.proofs.PassLaws.{pass_ends, pass_goes}
+use Rattle.standby_tailer.proofs.standby.Standby.begin_pass.Goals as goal
+
+pub returns-then-is_end-clause-step : goal.returns-then-is_end-clause-step
+returns-then-is_end-clause-step c =
+    let here : c.self.inside.position ≡ c.args.self.now.position = ap (λ s. s.position) c.self.view_is in
+    λ images work. (
+      pass_ends c.args.until (working work (held images c.args.self.now)) (ap (is_until c.args.until) (sym here) ∙ (sym c.is_end.ensures ∙ c.if-is_end.true)),
+      here,
+    )
+
+pub returns-clause-step : goal.returns-clause-step
+returns-clause-step c =
+    let here : c.self.inside.position ≡ c.args.self.now.position = ap (λ s. s.position) c.self.view_is in
+    λ images work. pass_goes c.args.until (working work (held images c.args.self.now)) (ap (is_until c.args.until) (sym here) ∙ (sym c.is_end.ensures ∙ c.if-is_end.false))

@@ -1,0 +1,4 @@
+pub mod Standbys
+pub mod Reads
+pub mod Tailing
+pub mod Disks

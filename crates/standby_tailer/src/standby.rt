@@ -1,0 +1,81 @@
+// A standby.
+ghost use Rattle.std.specs.Prelude.{◌≡◌, ◌≤◌, IfOk};
+ghost use Rattle.journal_core.specs.Limits.{max_number};
+ghost use Rattle.ns_tree.specs.Space.{AreRising};
+ghost use Rattle.standby_tailer.specs.Standbys.{StandbyView, empty_standby};
+
+use ns_tree::Namespace;
+use qj_num::OutOfMemory;
+use std::alloc::Global;
+use std::marker::Model;
+
+/// A namespace with the position up to which the log was replayed into it. Contracts see both.
+#[derive(Drop)]
+pub struct Standby {
+    pub(crate) namespace: Namespace,
+    pub(crate) position: u64,
+}
+
+impl Model for Standby {
+    ghost use Rattle.standby_tailer.specs.Standbys.{StandbyView, IsStandby};
+
+    ghost Value = { StandbyView };
+
+    ghost view = { λ s. record { space = s.namespace; position = s.position } };
+
+    ghost invariant = { λ s. IsStandby (record { space = s.namespace; position = s.position }) };
+}
+
+impl Standby {
+    /// An empty namespace at position 0.
+    pub fn new(alloc: Global) -> Result<Standby, OutOfMemory>
+        ensures { IfOk result (λ standby. standby ≡ empty_standby) }
+    {
+        let namespace = Namespace::new(alloc)?;
+        Ok(Standby {
+            namespace,
+            position: 0,
+        })
+    }
+
+    /// A standby of a namespace that was replayed up to a position of at most 2^62, above which is no call
+    /// that it remembers. Takes no memory.
+    pub fn of(namespace: Namespace, position: u64) -> Standby
+        requires position { position ≤ max_number }
+        requires calls { AreRising 0 position namespace.calls }
+        ensures { result ≡ record { space = namespace; position = position } }
+    {
+        Standby {
+            namespace,
+            position,
+        }
+    }
+
+    /// The txid of the last edit that was applied, or 0.
+    pub fn position(&self) -> u64
+        ensures position { result ≡ self.now.position }
+        ensures within { result ≤ max_number }
+    {
+        self.position
+    }
+
+    /// The namespace at the position.
+    pub fn namespace(&self) -> &Namespace
+        ensures { result.now ≡ self.now.space }
+    {
+        &self.namespace
+    }
+
+    /// The namespace and the position; takes no memory.
+    pub fn into_parts(self) -> (Namespace, u64)
+        ensures parts { (result.0 ≡ self.space) × (result.1 ≡ self.position) }
+        ensures within { result.1 ≤ max_number }
+        ensures calls { AreRising 0 result.1 result.0.calls }
+    {
+        let Standby {
+            namespace,
+            position,
+        } = self;
+        (namespace, position)
+    }
+}
