@@ -26,9 +26,17 @@ fn a_standby_is_opened_as_it_was_saved(rt: HostRuntime) -> Result<(), Fail> {
         assert_eq!(rt; tail_on(alloc, &mut standby, &mut peers), at);
         assert!(rt; matches!(standby.checkpoint(alloc, &mut disk), Put::Done));
     }
-    assert_eq!(rt; min_to_keep(alloc, &mut disk, 0), MinToKeep::Min { txid: 3 });
+    assert_eq!(rt;
+        min_to_keep(alloc, &mut disk, 0),
+        MinToKeep::Min { txid: 3 }
+    );
     let mut again = Standby::new(alloc)?;
-    assert!(rt; matches!(again.open(alloc, &mut disk), OpenedImage::Loaded { txid: 3 }));
+    assert!(rt;
+        matches!(
+            again.open(alloc, &mut disk),
+            OpenedImage::Loaded { txid: 3 }
+        )
+    );
     assert!(rt; again.namespace().lookup(b"/b").is_some());
     assert!(rt; again.namespace().lookup(b"/c").is_none());
     assert!(rt; matches!(active.roll(alloc, &mut peers), Rolled::Rolled { start: 6 }));

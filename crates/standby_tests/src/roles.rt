@@ -23,7 +23,12 @@ fn a_standby_follows_one_batch_behind(rt: HostRuntime) -> Result<(), Fail> {
     }
     let mut standby = Standby::new(alloc)?;
     assert_eq!(rt; tail_on(alloc, &mut standby, &mut peers), 3);
-    let logged = log_one(alloc, &mut active, &mut peers, "close /u/x/f 40 40 1000 2000")?;
+    let logged = log_one(
+        alloc,
+        &mut active,
+        &mut peers,
+        "close /u/x/f 40 40 1000 2000",
+    )?;
     assert_eq!(rt; logged, (Submitted::Taken, 5));
     assert_eq!(rt; tail_on(alloc, &mut standby, &mut peers), 4);
     assert!(rt; matches!(active.roll(alloc, &mut peers), Rolled::Rolled { start: 7 }));
@@ -38,14 +43,29 @@ fn edits_are_admitted_after_the_pending_ones(rt: HostRuntime) -> Result<(), Fail
     let mut active = enter_new(alloc, &mut peers)?;
     for (text, submitted) in [
         ("mkdir /a 1 755 u g", Submitted::Taken),
-        ("mkdir /a 2 755 u g", Submitted::Refused(AdmitRefusal::Exists)),
-        ("mkdir /b/c 3 755 u g", Submitted::Refused(AdmitRefusal::NoParent)),
+        (
+            "mkdir /a 2 755 u g",
+            Submitted::Refused(AdmitRefusal::Exists),
+        ),
+        (
+            "mkdir /b/c 3 755 u g",
+            Submitted::Refused(AdmitRefusal::NoParent),
+        ),
         (CALL, Submitted::Taken),
         (CALL, Submitted::Repeated { txid: 3 }),
     ] {
-        assert_eq!(rt; active.submit(alloc, edit_of(alloc, text)?), submitted, "{text}");
+        assert_eq!(rt;
+            active.submit(alloc, edit_of(alloc, text)?),
+            submitted,
+            "{text}"
+        );
     }
-    assert!(rt; matches!(active.sync(alloc, &mut peers), Synced::Acked { first: 2, last: 3 }));
+    assert!(rt;
+        matches!(
+            active.sync(alloc, &mut peers),
+            Synced::Acked { first: 2, last: 3 }
+        )
+    );
     assert!(rt; matches!(active.sync(alloc, &mut peers), Synced::Nothing));
     let (standby, closed) = active.leave(alloc, &mut peers)?;
     assert!(rt; matches!(closed, Closed::Closed { last: 4 }));
@@ -64,10 +84,16 @@ fn a_fenced_name_node_ends(rt: HostRuntime) -> Result<(), Fail> {
     assert_eq!(rt; second.position(), 3);
     let logged = log_one(alloc, &mut second, &mut peers, CALL)?;
     assert_eq!(rt; logged, (Submitted::Repeated { txid: 2 }, 3));
-    assert_eq!(rt; first.submit(alloc, edit_of(alloc, "delete /u 5")?), Submitted::Taken);
+    assert_eq!(rt;
+        first.submit(alloc, edit_of(alloc, "delete /u 5")?),
+        Submitted::Taken
+    );
     assert!(rt; matches!(first.sync(alloc, &mut peers), Synced::Aborted { .. }));
     assert!(rt; matches!(first.sync(alloc, &mut peers), Synced::Ended));
-    assert_eq!(rt; first.submit(alloc, edit_of(alloc, "delete /u 5")?), Submitted::Ended);
+    assert_eq!(rt;
+        first.submit(alloc, edit_of(alloc, "delete /u 5")?),
+        Submitted::Ended
+    );
     assert_eq!(rt; first.quit(alloc)?.position(), 0);
     assert_eq!(rt; second.quit(alloc)?.position(), 3);
     Ok(())
@@ -82,12 +108,32 @@ fn a_tail_has_its_ends(rt: HostRuntime) -> Result<(), Fail> {
     assert_eq!(rt; logged, (Submitted::Taken, 2));
     assert!(rt; matches!(active.roll(alloc, &mut peers), Rolled::Rolled { start: 4 }));
     let mut standby = Standby::new(alloc)?;
-    assert!(rt; matches!(standby.tail(alloc, &mut peers, Some(0)), Tailed::Reached { txid: 0 }));
-    assert!(rt; matches!(standby.tail(alloc, &mut peers, Some(2)), Tailed::Reached { txid: 2 }));
-    assert!(rt; matches!(standby.tail(alloc, &mut peers, Some(9)), Tailed::Behind { txid: 3, .. }));
+    assert!(rt;
+        matches!(
+            standby.tail(alloc, &mut peers, Some(0)),
+            Tailed::Reached { txid: 0 }
+        )
+    );
+    assert!(rt;
+        matches!(
+            standby.tail(alloc, &mut peers, Some(2)),
+            Tailed::Reached { txid: 2 }
+        )
+    );
+    assert!(rt;
+        matches!(
+            standby.tail(alloc, &mut peers, Some(9)),
+            Tailed::Behind { txid: 3, .. }
+        )
+    );
     let _done = active.purge(alloc, &mut peers, 4);
     let mut late = Standby::new(alloc)?;
-    assert!(rt; matches!(late.tail(alloc, &mut peers, None), Tailed::Purged { first: 4 }));
+    assert!(rt;
+        matches!(
+            late.tail(alloc, &mut peers, None),
+            Tailed::Purged { first: 4 }
+        )
+    );
     let entered = Active::enter(late, alloc, &mut peers);
     assert!(rt; matches!(entered, Entered::Purged { first: 4, .. }));
     Ok(())
