@@ -1,4 +1,4 @@
-use Rattle.std.proofs.Common.{◌≡◌, ◌∙◌, sym, ap, subst, arith, length, map, get_or}
+use Rattle.std.proofs.Common.{◌≡◌, ◌∙◌, false, sym, ap, subst, arith, length, map, get_or}
 use Rattle.std.proofs.lemmas.List.{length-map}
 use Rattle.node_gate.specs.Board.{AllAt}
 use Rattle.mesh.specs.declared.whole.Mesh.{Mesh}
