@@ -69,7 +69,7 @@ left_starts files rows s starts left = starts_by s.segments left.sound.rising (�
 one_number : (files : Files) (s t : NodeState) → StandsAs files s → StandsAs files t → (n : NodeNumber) → number_of n s ≡ number_of n t
 one_number files s t a b n = sym (number_decoded (files (number_name n)) (number_of n s) (a.numbers n)) ∙ number_decoded (files (number_name n)) (number_of n t) (b.numbers n)
 
-one_segments : (files : Files) (gs hs : List Segment) → StandsFor files gs → StandsFor files hs → AreSound gs → AreSound hs → AreStarts gs → AreStarts hs → gs ≡ hs
+pub one_segments : (files : Files) (gs hs : List Segment) → StandsFor files gs → StandsFor files hs → AreSound gs → AreSound hs → AreStarts gs → AreStarts hs → gs ≡ hs
 one_segments files gs hs a b sound_a sound_b starts_a starts_b = one_list gs hs sound_a.rising sound_b.rising starts_a starts_b (λ start one fits. found_once files gs hs a b start one fits)
 
 pub same_state : (files : Files) (rows : List SegmentRow) (s t : NodeState) → AreRowStarts rows → IsLeft files rows s → StandsAs files t → AreSound t.segments → AreStarts t.segments → restarted t ≡ restarted s
@@ -78,7 +78,7 @@ same_state files rows s t starts left stands sound starts_t =
     let segments = one_segments files t.segments s.segments stands.segments left.stands.segments sound left.sound starts_t (left_starts files rows s starts left) in
     λ i. record { promised = numbers Promised i; writer = numbers Writer i; committed = numbers Committed i; known = numbers Committed i; segments = segments i; opened = None; serial = 0; up = true }
 
-not_unfilled : (front rest : List Segment) (g : Segment) → AreFilled (front ++ g ∷ rest) → g.accepted ≡ true → has_edit g ≡ false → ⊥
+pub not_unfilled : (front rest : List Segment) (g : Segment) → AreFilled (front ++ g ∷ rest) → g.accepted ≡ true → has_edit g ≡ false → ⊥
 not_unfilled [] rest g filled accepted empty = differs (has_edit g) empty (filled.0 accepted)
   where
     differs : (b : Bool) → b ≡ false → b ≡ true → ⊥

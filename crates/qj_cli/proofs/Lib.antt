@@ -1,10 +1,13 @@
 pub mod ScriptLaws
 pub mod ReportLaws
-pub mod EndLaws
 pub mod WordLaws
+pub mod ToldLaws
+pub mod PlayLaws
 pub mod ListLaws
 pub mod OneListing
 pub mod ServingLaws
 pub mod NodeLaws
 pub mod EndedLaws
 pub mod CrashLaws
+pub mod RequestLaws
+pub mod CompleteLaws

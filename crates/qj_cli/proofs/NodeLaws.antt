@@ -1,5 +1,5 @@
 -- A session at a node that was opened: its state, and what it leaves in the files.
-use Rattle.std.proofs.Common.{◌≡◌, ℕ, List, [], ◌∷◌, Bool, true, false, Option, Some, None, refl, sym, ap, subst, ◌∙◌, inl, inr, ◌↔◌, cond, is_some}
+use Rattle.std.proofs.Common.{◌≡◌, ℕ, List, [], ◌∷◌, Bool, true, false, Option, Some, None, refl, sym, ap, subst, ◌∙◌, ◌↔◌, cond, is_some}
 use Rattle.std.specs.Prelude.{◌≢◌, T}
 use Rattle.qj_disk.specs.Files.{Files}
 use Rattle.qj_disk.specs.View.{View, IsSound, LeavesOnly, AllLeave}
@@ -15,9 +15,10 @@ use Rattle.node_session.specs.Session.{AreAnswered, EndsBy, IsSession, IsSession
 use Rattle.node_session.specs.declared.served.Served.{Served}
 use Rattle.node_session.specs.declared.served.Served.TheVariants as served
 use Rattle.qj_cli.specs.declared.status.Status.{Status}
-use Rattle.qj_cli.specs.Serving.{IsNodeSessionOf, Serves, opened}
+use Rattle.qj_cli.specs.Uses.{SourceUse, SinkUse, DiskUse}
+use Rattle.qj_cli.specs.Serving.{IsNodeSessionOf, ServesNode}
 use Rattle.qj_cli.specs.Crashes.{OutlastsCrashes, WasAsked}
-use Rattle.qj_cli.specs.NodeEnds.{IsBadLine, IsToldAs, IsKept, ServesFrom}
+use Rattle.qj_cli.specs.NodeEnds.{IsKept, ServesFrom}
 use Rattle.qj_cli.proofs.CrashLaws.{step_up, outlasts}
 
 -- ## A session leaves a node up or down, as it was
@@ -44,45 +45,6 @@ session_up : (lines : List (List ℕ)) (next : Option (List ℕ)) (o : Served) (
     → o ≢ served.DiskFault → o ≢ served.OutOfMemory → t.up ≡ s.up
 session_up lines next o told left s t before now is d m =
     ends_up o told lines is.rest left is.state t is.part d m is.ends ∙ answered_up s is.state lines is.text is.answered
-
--- ## A bad line whose telling wants memory
-untold_line : (lines : List (List ℕ)) (next : Option (List ℕ)) (number rule : ℕ) (told : List ℕ) (left : Option (List ℕ)) (s t : NodeState) (before now : Option (List ℕ))
-    → IsSession lines next (served.BadLine number rule) told left s t before now → IsSession lines next served.OutOfMemory told left s t before now
-untold_line lines next number rule told left s t before now is = record {
-  whole = is.whole;
-  rest = is.rest;
-  text = is.text;
-  state = is.state;
-  answered = is.answered;
-  part = is.part;
-  written = is.written;
-  ends = (is.ends.0, inl is.ends.3);
-  asked_next = is.asked_next;
-}
-
-untold_line_of : (lines : List (List ℕ)) (next : Option (List ℕ)) (number rule : ℕ) (told left : Option (List ℕ)) (s t : Option NodeState) (before now : Option (List ℕ))
-    → IsSessionOf lines next (served.BadLine number rule) told left s t before now → IsSessionOf lines next served.OutOfMemory told left s t before now
-untold_line_of lines next number rule None left s t before now is = tt
-untold_line_of lines next number rule (Some told) left None t before now is = tt
-untold_line_of lines next number rule (Some told) left (Some s) None before now is = absurd is
-untold_line_of lines next number rule (Some told) left (Some s) (Some t) before now is = untold_line lines next number rule told left s t before now is
-
-bad_line_as : (lines : List (List ℕ)) (next : Option (List ℕ)) (ended : Served) (told left : Option (List ℕ)) (s t : Option NodeState) (before now : Option (List ℕ)) → IsBadLine ended
-    → IsSessionOf lines next ended told left s t before now → IsSessionOf lines next served.OutOfMemory told left s t before now
-bad_line_as lines next (served.BadLine number rule) told left s t before now bad is = untold_line_of lines next number rule told left s t before now is
-bad_line_as lines next served.Done told left s t before now bad is = absurd bad
-bad_line_as lines next served.LongLine told left s t before now bad is = absurd bad
-bad_line_as lines next served.LongInput told left s t before now bad is = absurd bad
-bad_line_as lines next served.ReadFault told left s t before now bad is = absurd bad
-bad_line_as lines next served.WriteFault told left s t before now bad is = absurd bad
-bad_line_as lines next served.DiskFault told left s t before now bad is = absurd bad
-bad_line_as lines next served.OutOfMemory told left s t before now bad is = absurd bad
-
-pub session_as : (lines : List (List ℕ)) (next : Option (List ℕ)) (ended outcome : Served) (told left : Option (List ℕ)) (s t : Option NodeState) (before now : Option (List ℕ)) → IsToldAs ended outcome
-    → IsSessionOf lines next ended told left s t before now → IsSessionOf lines next outcome told left s t before now
-session_as lines next ended outcome told left s t before now (inl e) is = subst (λ (o : Served). IsSessionOf lines next o told left s t before now) (sym e) is
-session_as lines next ended outcome told left s t before now (inr lost) is =
-    subst (λ (o : Served). IsSessionOf lines next o told left s t before now) (sym lost.0) (bad_line_as lines next ended told left s t before now lost.1 is)
 
 -- ## What is left in the files
 some_is : (s t : NodeState) → Some s ≡ Some t → s ≡ t
@@ -127,11 +89,11 @@ opened_told files true v m rows t now is = ap (λ (s : NodeState). Some s) (open
 opened_told files false v m rows t now is = absurd t
 
 -- the session from the state that the files stood for
-module _ {D : Type 0} (view : D → View) (disk_before disk_now : D) (o : Served) (before now : Option (List ℕ)) (lines : List (List ℕ)) (next : Option (List ℕ)) where
-  held : (v : View) (m : NodeState) (rows : List SegmentRow) (is : IsOpenedNode (view disk_before).seen v m rows) (told left : Option (List ℕ)) (new : Option NodeState)
-      → OutlastsCrashes view disk_before disk_now (restarted is.state) lines next
-      → IsSessionOf lines next o told left (Some (restarted is.state)) new before now → ((t : NodeState) → new ≡ Some t → IsKept (view disk_now) t)
-      → (t : NodeState) × IsKept (view disk_now) t → IsNodeSessionOf view o disk_before disk_now told left before now
+module _ {D : Type 0} (disk : DiskUse D) (o : Served) (before now : Option (List ℕ)) (lines : List (List ℕ)) (next : Option (List ℕ)) where
+  held : (v : View) (m : NodeState) (rows : List SegmentRow) (is : IsOpenedNode (disk.view disk.before).seen v m rows) (told left : Option (List ℕ)) (new : Option NodeState)
+      → OutlastsCrashes disk.view disk.before disk.now (restarted is.state) lines next
+      → IsSessionOf lines next o told left (Some (restarted is.state)) new before now → ((t : NodeState) → new ≡ Some t → IsKept (disk.view disk.now) t)
+      → (t : NodeState) × IsKept (disk.view disk.now) t → IsNodeSessionOf disk o told left before now
   held v m rows is None left new crashes session kept stands = record {
     state = is.state;
     stood = is.stood;
@@ -156,26 +118,25 @@ module _ {D : Type 0} (view : D → View) (disk_before disk_now : D) (o : Served
     crashes = crashes;
   }
 
-pub serves_opened : {D : Type 0} (tells : D → Type 0) (view : D → View) (b : Bool) (disk_before disk_now : D) (n : NodeParts D) (told left : Option (List ℕ)) (reads reads_now : ℕ)
-    (s : Status) (before now : Option (List ℕ)) (writes writes_now : ℕ) (tells_now : Type 0)
-    → (tells disk_before → T b) → (tells disk_before → tells n.disk) → (tells disk_before → IsSound (view n.disk)) → (tells disk_before → tells_now)
-    → (tells disk_before → IsOpenedNode (view disk_before).seen (view n.disk) n.memory n.rows)
-    → (tells disk_before → LeavesOnly (view disk_before) (view n.disk) (StandsAsBefore (view disk_before)))
-    → ServesFrom (WasAsked tells view n disk_now) (told_state b (view n.disk).seen n.memory n.rows) tells_now (view disk_now) told left reads reads_now s before now writes writes_now
-    → Serves view (tells disk_before) disk_before disk_now told left reads reads_now s before now writes writes_now
-serves_opened tells view b disk_before disk_now n told left reads reads_now s before now writes writes_now tells_now so on sound still opens opening f = opened (record {
+pub serves_opened : {D : Type 0} (disk : DiskUse D) (b : Bool) (n : NodeParts D) (source : SourceUse) (sink : SinkUse) (s : Status) (tells_now : Type 0)
+    → (disk.tells disk.before → T b) → (disk.tells disk.before → disk.tells n.disk) → (disk.tells disk.before → IsSound (disk.view n.disk)) → (disk.tells disk.before → tells_now)
+    → (disk.tells disk.before → IsOpenedNode (disk.view disk.before).seen (disk.view n.disk) n.memory n.rows)
+    → (disk.tells disk.before → LeavesOnly (disk.view disk.before) (disk.view n.disk) (StandsAsBefore (disk.view disk.before)))
+    → ServesFrom (WasAsked disk.tells disk.view n disk.now) (told_state b (disk.view n.disk).seen n.memory n.rows) tells_now (disk.view disk.now) source sink s
+    → ServesNode source sink disk s
+serves_opened disk b n source sink s tells_now so on sound still opens opening f = record {
   outcome = f.outcome;
   status_is = f.status_is;
   replied = f.replied;
   session = λ t.
-      held view disk_before disk_now f.outcome before f.replied f.lines f.next (view n.disk) n.memory n.rows (opens t) told left f.new
-      (outlasts tells view disk_before disk_now n f.lines f.next (on t) (sound t) (opens t) (opening t) f.trail)
-      (subst (λ (x : Option NodeState). IsSessionOf f.lines f.next f.outcome told left x f.new before f.replied)
-      (opened_told (view disk_before).seen b (view n.disk) n.memory n.rows (so t) (sound t).seen_now (opens t)) f.session) f.kept
+      held disk f.outcome sink.before f.replied f.lines f.next (disk.view n.disk) n.memory n.rows (opens t) source.told source.left f.new
+      (outlasts disk.tells disk.view disk.before disk.now n f.lines f.next (on t) (sound t) (opens t) (opening t) f.trail)
+      (subst (λ (x : Option NodeState). IsSessionOf f.lines f.next f.outcome source.told source.left x f.new sink.before f.replied)
+      (opened_told (disk.view disk.before).seen b (disk.view n.disk) n.memory n.rows (so t) (sound t).seen_now (opens t)) f.session) f.kept
       (f.stands (still t));
   line = f.line;
   read_fault = f.read_fault;
   no_read_fault = f.no_read_fault;
   write_fault = f.write_fault;
   no_write_fault = f.no_write_fault;
-})
+}

@@ -1,108 +1,117 @@
 -- How the serving of a node ends, case by case.
-use Rattle.std.proofs.Common.{◌≡◌, ℕ, List, [], Option, Some, None, refl, sym, ap, subst, ◌∙◌, inl, inr, ◌⊎◌}
-use Rattle.std.specs.Prelude.{◌≢◌, codes}
-use Rattle.std.proofs.Common.{append-nil}
+use Rattle.std.proofs.Common.{◌≡◌, Bool, true, false, List, [], Option, Some, None, refl, sym, ap, subst, ◌∙◌, inl, inr, ◌⊎◌, append-nil}
+use Rattle.std.specs.Prelude.{ℕ, ◌≢◌}
 use Rattle.std.specs.Io.KnownBytes.{Appends}
-use Rattle.qj_outside.specs.Whole.{TakesFront}
 use Rattle.journal_node.specs.declared.open_fail.OpenFail.{OpenFail}
 use Rattle.journal_node.specs.declared.open_fail.OpenFail.TheVariants as fail
-use Rattle.journal_node.specs.Opening.{IsRefusedOpening}
-use Rattle.qj_disk.specs.Files.{Files}
+use Rattle.journal_node.specs.Opening.{IsRefusedOpening, IsCauseOf, is_fault}
 use Rattle.node_session.specs.declared.served.Served.{Served}
-use Rattle.node_session.specs.declared.served.Served.TheVariants as served
 use Rattle.qj_cli.specs.declared.status.Status.{Status}
 use Rattle.qj_cli.specs.declared.status.Status.TheVariants as status
-use Rattle.qj_cli.specs.Due.{error_line, failed, CameOf}
-use Rattle.qj_cli.specs.Serving.{status_of, end_line, bad_file_line, WritesLine, IsUnopened}
-use Rattle.qj_cli.specs.NodeEnds.{IsToldAs, TellsEnd, TellsBadFile, TellsUnopened}
-
--- ## A line is written
--- a status that stays where its line's writing fails
-pub wrote_line : (s r : Status) (line : List ℕ) (before now : Option (List ℕ)) (v w : ℕ) → failed s ≡ s → TakesFront before now line → CameOf s r line before now v w
-    → (r ≡ s) × WritesLine line before now v w
-wrote_line s r line before now v w stays front (inl came) = (came.0, record { front = front; unless_failed = λ n. came.2 })
-wrote_line s r line before now v w stays front (inr came) = (came.0 ∙ stays, record { front = front; unless_failed = λ n. absurd (n came.1) })
+use Rattle.qj_cli.specs.declared.fault.Fault.{Fault}
+use Rattle.qj_cli.specs.declared.fault.Fault.TheVariants as fault
+use Rattle.qj_cli.specs.Uses.{SinkUse, DiskUse}
+use Rattle.qj_cli.specs.Faults.{status_of, line_of}
+use Rattle.qj_cli.specs.Told.{WritesLine, IsBadFile, IsToldAs, TellsFault}
+use Rattle.qj_cli.specs.Serving.{status_at, line_at, is_disk_fault, IsUnopened}
+use Rattle.qj_cli.specs.NodeEnds.{TellsEnd, fault_in}
 
 appends_none : (bytes : Option (List ℕ)) → Appends bytes bytes []
 appends_none None = tt
 appends_none (Some xs) = sym (append-nil xs)
 
 -- ## The end of a session
-pub end_told : (ended outcome : Served) (r : Status) (before now : Option (List ℕ)) (v w : ℕ) → IsToldAs ended outcome → failed (status_of outcome) ≡ status_of outcome
-    → status_of outcome ≢ status.Ok → status_of outcome ≢ status.WriteFault
-    → TakesFront before now (end_line outcome) → CameOf (status_of outcome) r (end_line outcome) before now v w → TellsEnd ended r before now v w
-end_told ended outcome r before now v w way stays not_ok not_write front came =
-    let wrote = wrote_line (status_of outcome) r (end_line outcome) before now v w stays front came in
-    record {
-      outcome = outcome;
-      told_as = way;
-      status_is = wrote.0;
-      line = wrote.1;
-      no_line = λ is. absurd (none wrote.0 is);
-    }
-  where
-    none : r ≡ status_of outcome → (r ≡ status.Ok) ⊎ (r ≡ status.WriteFault) → ⊥
-    none e (inl is) = not_ok (sym e ∙ is)
-    none e (inr is) = not_write (sym e ∙ is)
-
--- without a line
-end_untold : (ended : Served) (before : Option (List ℕ)) (v : ℕ) → end_line ended ≡ [] → TellsEnd ended (status_of ended) before before v v
+-- nothing is written of it
+end_untold : (ended : Served) (before : Option (List ℕ)) (v : ℕ) → line_at ended ≡ []
+    → TellsEnd ended (status_at ended) (record { before = before; now = before; faults_before = v; faults_now = v })
 end_untold ended before v none = record {
-  outcome = ended;
-  told_as = inl refl;
   status_is = refl;
   line = record { front = (0, appends_none before); unless_failed = λ n. subst (λ (x : List ℕ). Appends before before x) (sym none) (appends_none before) };
   no_line = λ is. refl;
 }
 
--- the same of an end that is known to be so
-pub told : (ended outcome : Served) (r : Status) (before now : Option (List ℕ)) (v w : ℕ) → ended ≡ outcome → failed (status_of outcome) ≡ status_of outcome
-    → status_of outcome ≢ status.Ok → status_of outcome ≢ status.WriteFault
-    → TakesFront before now (end_line outcome) → CameOf (status_of outcome) r (end_line outcome) before now v w → TellsEnd ended r before now v w
-told ended outcome r before now v w is stays not_ok not_write front came = end_told ended outcome r before now v w (inl (sym is)) stays not_ok not_write front came
+-- a fault that isn't a bad file is told as it is
+told_same : (of told : Fault) → IsToldAs of told → (IsBadFile of → ⊥) → told ≡ of
+told_same of by (inl e) n = e
+told_same of by (inr e) n = absurd (n e.1)
 
-pub untold : (ended outcome : Served) (before : Option (List ℕ)) (v : ℕ) → ended ≡ outcome → end_line outcome ≡ [] → TellsEnd ended (status_of outcome) before before v v
-untold ended outcome before v is none = subst (λ (o : Served). TellsEnd o (status_of outcome) before before v v) (sym is) (end_untold outcome before v none)
-
--- want of memory for the line of a bad line
-pub end_lost : (number rule : ℕ) (s : Status) (before now : Option (List ℕ)) (v w : ℕ) → TellsEnd served.OutOfMemory s before now v w → TellsEnd (served.BadLine number rule) s before now v w
-end_lost number rule s before now v w told = record {
-  outcome = told.outcome;
-  told_as = inr (memory told.told_as, tt);
-  status_is = told.status_is;
-  line = told.line;
-  no_line = told.no_line;
-}
+end_told : (ended : Served) (of : Fault) (s : Status) (sink : SinkUse) → status_at ended ≡ status_of of → line_at ended ≡ line_of of → (IsBadFile of → ⊥)
+    → status_of of ≢ status.Ok → status_of of ≢ status.WriteFault → TellsFault of s sink → TellsEnd ended s sink
+end_told ended of s sink e l n not_ok not_write tells =
+    let told : tells.told ≡ of = told_same of tells.told tells.told_as n in
+    let is : s ≡ status_of of = tells.status_is ∙ ap status_of told in
+    record {
+      status_is = is ∙ sym e;
+      line = subst (λ (x : List ℕ). WritesLine x sink) (ap line_of told ∙ sym l) tells.line;
+      no_line = λ o. absurd (none is o);
+    }
   where
-    memory : IsToldAs served.OutOfMemory told.outcome → told.outcome ≡ served.OutOfMemory
-    memory (inl is) = is
-    memory (inr is) = is.0
+    none : s ≡ status_of of → (s ≡ status.Ok) ⊎ (s ≡ status.WriteFault) → ⊥
+    none is (inl o) = not_ok (sym is ∙ o)
+    none is (inr o) = not_write (sym is ∙ o)
+
+-- the same of an end that is known to be so
+pub told : (ended outcome : Served) (of : Fault) (s : Status) (sink : SinkUse) → ended ≡ outcome → status_at outcome ≡ status_of of → line_at outcome ≡ line_of of → (IsBadFile of → ⊥)
+    → status_of of ≢ status.Ok → status_of of ≢ status.WriteFault → TellsFault of s sink → TellsEnd ended s sink
+told ended outcome of s sink is e l n not_ok not_write tells = subst (λ (o : Served). TellsEnd o s sink) (sym is) (end_told outcome of s sink e l n not_ok not_write tells)
+
+pub untold : (ended outcome : Served) (before : Option (List ℕ)) (v : ℕ) → ended ≡ outcome → line_at outcome ≡ []
+    → TellsEnd ended (status_at outcome) (record { before = before; now = before; faults_before = v; faults_now = v })
+untold ended outcome before v is none =
+    subst (λ (o : Served). TellsEnd o (status_at outcome) (record { before = before; now = before; faults_before = v; faults_now = v })) (sym is) (end_untold outcome before v none)
 
 -- ## A node that wasn't opened
-pub end_refused : (name : List ℕ) (r : Status) (before now : Option (List ℕ)) (v w : ℕ)
-    → TakesFront before now (bad_file_line name) → CameOf status.BadBytes r (bad_file_line name) before now v w → TellsBadFile name r before now v w
-end_refused name r before now v w front came = inl (wrote_line status.BadBytes r (bad_file_line name) before now v w refl front came)
+module _ {D : Type 0} (sink : SinkUse) (disk : DiskUse D) (s : Status) where
+  unopened_as : (told : Fault) → s ≡ status_of told → IsUnopened sink disk (status_of told) → IsUnopened sink disk s
+  unopened_as told e is = subst (λ (x : Status). IsUnopened sink disk x) (sym e) is
 
-pub memory_told : (s : Status) (before now : Option (List ℕ)) (v w : ℕ) → TellsEnd served.OutOfMemory s before now v w → (s ≡ status.OutOfMemory) × WritesLine (error_line (codes "OutOfMemory")) before now v w
-memory_told s before now v w told =
-    let is : told.outcome ≡ served.OutOfMemory = memory told.told_as in
-    (told.status_is ∙ ap status_of is, subst (λ (o : Served). WritesLine (end_line o) before now v w) is told.line)
-  where
-    memory : IsToldAs served.OutOfMemory told.outcome → told.outcome ≡ served.OutOfMemory
-    memory (inl is) = is
-    memory (inr is) = is.0
+  bad_unopened : (last : D) (name : List ℕ) (told : Fault) → (disk.tells disk.before → IsRefusedOpening (disk.view disk.before).seen (disk.view disk.now).seen (fail.BadFile last name))
+      → IsToldAs (fault.BadFile name) told → s ≡ status_of told → WritesLine (line_of told) sink → IsUnopened sink disk s
+  bad_unopened last name by bad (inl e) is line =
+      unopened_as (fault.BadFile name) (is ∙ ap status_of e) (name, bad, subst (λ (f : Fault). WritesLine (line_of f) sink) e line)
+  bad_unopened last name by bad (inr e) is line = unopened_as fault.OutOfMemory (is ∙ ap status_of e.0) (subst (λ (f : Fault). WritesLine (line_of f) sink) e.0 line)
 
-pub end_refused_lost : (name : List ℕ) (s : Status) (before now : Option (List ℕ)) (v w : ℕ) → TellsEnd served.OutOfMemory s before now v w → TellsBadFile name s before now v w
-end_refused_lost name s before now v w told = inr (memory_told s before now v w told)
+  pub unopened_is : (of : OpenFail D) → (disk.tells disk.before → IsRefusedOpening (disk.view disk.before).seen (disk.view disk.now).seen of) → TellsFault (fault_in of) s sink
+      → IsUnopened sink disk s
+  unopened_is (fail.DiskFault last) bad tells =
+      let told : tells.told ≡ fault.DiskFault = told_same fault.DiskFault tells.told tells.told_as (λ b. b) in
+      unopened_as fault.DiskFault (tells.status_is ∙ ap status_of told) (subst (λ (f : Fault). WritesLine (line_of f) sink) told tells.line)
+  unopened_is (fail.BadFile last name) bad tells = bad_unopened last name tells.told bad tells.told_as tells.status_is tells.line
+  unopened_is (fail.OutOfMemory last) bad tells =
+      let told : tells.told ≡ fault.OutOfMemory = told_same fault.OutOfMemory tells.told tells.told_as (λ b. b) in
+      unopened_as fault.OutOfMemory (tells.status_is ∙ ap status_of told) (subst (λ (f : Fault). WritesLine (line_of f) sink) told tells.line)
 
-bad_unopened : {D : Type 0} (tells : Type 0) (files new : Files) (s : Status) (before now : Option (List ℕ)) (v w : ℕ) (disk : D) (name : List ℕ)
-    → (tells → IsRefusedOpening files new (fail.BadFile disk name)) → TellsBadFile name s before now v w → IsUnopened tells files new s (λ line. WritesLine line before now v w)
-bad_unopened tells files new s before now v w disk name bad (inl told) =
-    subst (λ (x : Status). IsUnopened tells files new x (λ line. WritesLine line before now v w)) (sym told.0) (name, bad, told.1)
-bad_unopened tells files new s before now v w disk name bad (inr told) = subst (λ (x : Status). IsUnopened tells files new x (λ line. WritesLine line before now v w)) (sym told.0) told.1
+  -- a disk fault is told where one came
+  told_fault : (of told : Fault) → IsToldAs of told → status_of told ≡ status.DiskFault → status_of of ≡ status.DiskFault
+  told_fault of by (inl e) is = sym (ap status_of e) ∙ is
+  told_fault of by (inr e) is = absurd (let m : status.OutOfMemory ≡ status.DiskFault = sym (ap status_of e.0) ∙ is in cc m)
 
-pub unopened_is : {D : Type 0} (tells : Type 0) (files new : Files) (s : Status) (before now : Option (List ℕ)) (v w : ℕ) (e : OpenFail D)
-    → (tells → IsRefusedOpening files new e) → TellsUnopened e s before now v w → IsUnopened tells files new s (λ line. WritesLine line before now v w)
-unopened_is tells files new s before now v w (fail.DiskFault disk) bad told = subst (λ (x : Status). IsUnopened tells files new x (λ line. WritesLine line before now v w)) (sym told.0) told.1
-unopened_is tells files new s before now v w (fail.BadFile disk name) bad told = bad_unopened tells files new s before now v w disk name bad told
-unopened_is tells files new s before now v w (fail.OutOfMemory disk) bad told = subst (λ (x : Status). IsUnopened tells files new x (λ line. WritesLine line before now v w)) (sym told.0) told.1
+  was_fault : (t : Status) → is_disk_fault t ≡ true → t ≡ status.DiskFault
+  was_fault status.Ok e = absurd (cc e)
+  was_fault status.Usage e = absurd (cc e)
+  was_fault status.BadScript e = absurd (cc e)
+  was_fault status.BadBytes e = absurd (cc e)
+  was_fault status.Limit e = absurd (cc e)
+  was_fault status.ReadFault e = absurd (cc e)
+  was_fault status.WriteFault e = absurd (cc e)
+  was_fault status.DiskFault e = refl
+  was_fault status.OutOfMemory e = absurd (cc e)
+
+  opening_fault : (of : OpenFail D) → status_of (fault_in of) ≡ status.DiskFault → is_fault of ≡ true
+  opening_fault (fail.DiskFault last) e = refl
+  opening_fault (fail.BadFile last name) e = absurd (cc e)
+  opening_fault (fail.OutOfMemory last) e = absurd (cc e)
+
+  one_of : (a : Bool) → (a ≡ true → ⊥) → a ≡ false
+  one_of true n = absurd (n refl)
+  one_of false n = refl
+
+  pub opening_cause : (of : OpenFail D) (f g : ℕ) (was is : Type 0) → TellsFault (fault_in of) s sink → IsCauseOf f g was is (is_fault of) → IsCauseOf f g was is (is_disk_fault s)
+  opening_cause of f g was is tells cause =
+      let back : is_disk_fault s ≡ true → is_fault of ≡ true = λ e.
+      opening_fault of (told_fault (fault_in of) tells.told tells.told_as (sym tells.status_is ∙ was_fault s e)) in
+      record {
+        later = cause.later;
+        rose = λ e. cause.rose (back e);
+        steady = λ w. let still = cause.steady w in (still.0, one_of (is_disk_fault s) (λ e. let no = still.1 in let yes = back e in cc (no, yes)));
+      }

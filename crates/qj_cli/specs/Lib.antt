@@ -1,10 +1,16 @@
+pub mod Commands
 pub mod Usage
 pub mod Words
+pub mod Uses
+pub mod Faults
+pub mod Told
 pub mod Report
-pub mod Due
+pub mod Plays
 pub mod Listing
 pub mod Found
 pub mod Crashes
 pub mod Serving
 pub mod NodeEnds
 pub mod Scripts
+pub mod Does
+pub mod Complete

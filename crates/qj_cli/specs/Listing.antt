@@ -1,13 +1,10 @@
 -- How a listing of a segment's file ends, and what it writes.
-use Rattle.std.specs.Prelude.{ℕ, ◌≡◌, ◌≢◌, ◌⊎◌, ◌+◌, ◌<◌, List, ◌∷◌, ◌++◌, Option, Some, None, Result, Ok, Err, codes, decimal, length}
-use Rattle.std.specs.Io.KnownBytes.{Appends}
+use Rattle.std.specs.Prelude.{ℕ, ◌≡◌, ◌+◌, ◌<◌, ◌≤◌, List, Option, Some, None, Result, Ok, Err, length}
 use Rattle.qj_outside.specs.Faults.{Rose}
-use Rattle.qj_outside.specs.Whole.{TakesFront}
+use Rattle.qj_disk.specs.Calls.{HasCause, Rests}
 use Rattle.qj_disk.specs.declared.disk.DiskFail.{DiskFail}
 use Rattle.qj_disk.specs.declared.disk.DiskFail.TheVariants as fail
 use Rattle.edit_ops.specs.Records.{EditView}
-use Rattle.oev_tool.specs.declared.listing.ByteCause.{ByteCause}
-use Rattle.oev_tool.specs.declared.listing.ByteCause.TheVariants as cause
 use Rattle.oev_tool.specs.Lines.{lines}
 use Rattle.oev_tool.specs.Counts.{statistics}
 use Rattle.oev_tool.specs.Segment.{IsSegment}
@@ -15,81 +12,84 @@ use Rattle.oev_tool.specs.Damage.{IsDamaged}
 use Rattle.oev_tool.specs.Listed.{IsTold}
 use Rattle.qj_cli.specs.declared.status.Status.{Status}
 use Rattle.qj_cli.specs.declared.status.Status.TheVariants as status
+use Rattle.qj_cli.specs.declared.fault.Fault.{Fault}
+use Rattle.qj_cli.specs.declared.fault.Fault.TheVariants as fault
 use Rattle.qj_cli.specs.declared.tool.Tool.{Tool}
 use Rattle.qj_cli.specs.declared.tool.Tool.TheVariants as tool
-use Rattle.qj_cli.specs.Due.{error_line}
+use Rattle.qj_cli.specs.Uses.{SinkUse, DiskUse}
+use Rattle.qj_cli.specs.Told.{Told}
 
--- ## The status that is due
+-- ## What is due of a file
 abbrev pub longest_file : ℕ
 longest_file = 134217728
 
--- of a file's bytes, or of an absent file
-abbrev pub IsTooLong : Option (List ℕ) → Type 0
-IsTooLong None = ⊥
-IsTooLong (Some bytes) = longest_file < length bytes
-
-abbrev pub IsSegmentFile : Option (List ℕ) → Type 0
-IsSegmentFile None = ⊥
-IsSegmentFile (Some bytes) = (start : ℕ) × (edits : List EditView) × IsSegment bytes start edits
-
--- The status that is due of a file, while the disk doesn't fail and memory lasts. No two of the three hold of one file, so each
--- status comes exactly where what stands before it holds.
-pub data IsFileDue (file : Option (List ℕ)) (s : Status) : Type 0 where
-  too_long : IsTooLong file → s ≡ status.Limit → IsFileDue file s
-  no_segment : (IsTooLong file → ⊥) → (IsSegmentFile file → ⊥) → s ≡ status.BadBytes → IsFileDue file s
-  segment : (IsTooLong file → ⊥) → IsSegmentFile file → s ≡ status.Ok → IsFileDue file s
-
--- ## The text that is due
 -- what a tool tells of a segment's edits from a txid on
 abbrev pub told_by : Tool → ℕ → List EditView → List ℕ
 told_by tool.List = lines
 told_by tool.Stats = λ start. statistics
 
-abbrev pub cause_word : ByteCause → List ℕ
-cause_word cause.Header = codes "Header"
-cause_word cause.Short = codes "Short"
-cause_word cause.Length = codes "Length"
-cause_word cause.Count = codes "Count"
-cause_word cause.Body = codes "Body"
-cause_word cause.Order = codes "Order"
-cause_word cause.Opcode = codes "Opcode"
-cause_word cause.Trailing = codes "Trailing"
-cause_word cause.Field = codes "Field"
+-- the bytes are a segment's file
+abbrev pub IsSegmentFile : List ℕ → Type 0
+IsSegmentFile bytes = (start : ℕ) × (edits : List EditView) × IsSegment bytes start edits
 
-abbrev pub bad_bytes_line : ℕ → List ℕ → List ℕ
-bad_bytes_line place word = error_line (codes "BadBytes " ++ decimal place ++ 32 ∷ word)
+-- a file of more bytes than are listed
+abbrev pub IsTooLong : Option (List ℕ) → Type 0
+IsTooLong None = ⊥
+IsTooLong (Some bytes) = longest_file < length bytes
 
--- what the tool tells of all edits of the file
+-- the text is what the tool tells of all edits of the file, which is a segment's
 abbrev pub IsListing : Tool → Option (List ℕ) → List ℕ → Type 0
 IsListing of None text = ⊥
-IsListing of (Some bytes) text = IsTold (told_by of) bytes text
+IsListing of (Some bytes) text = (length bytes ≤ longest_file) × IsTold (told_by of) bytes text
 
--- that there is no such file, or its first damage
-abbrev pub TellsDamage : Option (List ℕ) → List ℕ → Type 0
-TellsDamage None text = text ≡ bad_bytes_line 0 (codes "NoFile")
-TellsDamage (Some bytes) text = (place : ℕ) × (of : ByteCause) × IsDamaged bytes place of × (text ≡ bad_bytes_line place (cause_word of))
+-- there is no such file; or it is no segment's, and this is its first damage
+abbrev pub IsFileFault : Option (List ℕ) → Fault → Type 0
+IsFileFault file fault.NoFile = file ≡ None
+IsFileFault None (fault.BadBytes place cause) = ⊥
+IsFileFault (Some bytes) (fault.BadBytes place cause) = (length bytes ≤ longest_file) × (IsSegmentFile bytes → ⊥) × IsDamaged bytes place cause
+IsFileFault file _ = ⊥
 
--- what a status says of a file
-abbrev pub Tells : Tool → Option (List ℕ) → Status → List ℕ → Type 0
-Tells of file status.Ok text = IsListing of file text
-Tells of file status.WriteFault text = IsListing of file text
-Tells of file status.BadBytes text = TellsDamage file text
-Tells of file status.Limit text = text ≡ error_line (codes "Limit 134217728")
-Tells of file status.DiskFault text = text ≡ error_line (codes "DiskFault")
-Tells of file status.OutOfMemory text = text ≡ error_line (codes "OutOfMemory")
-Tells of file _ text = ⊥
-
--- a file has one text for each status
+-- a file has one listing, and one fault
 abbrev pub FilesHaveOneListing : Type 0
-FilesHaveOneListing = (of : Tool) (file : Option (List ℕ)) (s : Status) (a b : List ℕ) → Tells of file s a → Tells of file s b → a ≡ b
+FilesHaveOneListing = (of : Tool) (file : Option (List ℕ)) (a b : List ℕ) → IsListing of file a → IsListing of file b → a ≡ b
 
--- of the file that was read: the one that the disk told, where it tells its bytes
-abbrev pub IsToldText : Tool → Type 0 → Option (List ℕ) → Status → List ℕ → Type 0
-IsToldText of tells told s text = (file : Option (List ℕ)) × (tells → file ≡ told) × Tells of file s text
+abbrev pub FilesHaveOneFault : Type 0
+FilesHaveOneFault = (file : Option (List ℕ)) (a b : Fault) → IsFileFault file a → IsFileFault file b → a ≡ b
 
--- what comes of a file that was read
-abbrev pub IsFileOutcome : Tool → Option (List ℕ) → Status → List ℕ → Type 0
-IsFileOutcome of file s text = IsFileDue file s × Tells of file s text
+-- and not both
+abbrev pub ListedFilesHaveNoFault : Type 0
+ListedFilesHaveNoFault = (of : Tool) (file : Option (List ℕ)) (text : List ℕ) (fault : Fault) → IsListing of file text → IsFileFault file fault → ⊥
+
+-- ## What is due of a disk
+-- the file that the disk had under the name
+abbrev pub file_under : {D : Type 0} → DiskUse D → List ℕ → Option (List ℕ)
+file_under disk name = (disk.view disk.before).seen name
+
+-- where it is known how many calls the disk has left, it has one
+abbrev pub HasCalls : {D : Type 0} → DiskUse D → Type 0
+HasCalls disk = disk.left disk.before ≡ Some 0 → ⊥
+
+-- this holds of the file that was read: the one under the name, where the disk tells its bytes
+pub record OfFile {D : Type 0} (disk : DiskUse D) (name : List ℕ) (P : Option (List ℕ) → Type 0) : Type 0 where
+  pub file : Option (List ℕ)
+  pub same : disk.tells disk.before → file ≡ file_under disk name
+  pub calls : HasCalls disk
+  pub so : P file
+
+-- with status Ok the listing of the file
+abbrev pub GivesListing : {D : Type 0} → Tool → List ℕ → DiskUse D → Status → List ℕ → Type 0
+GivesListing of name disk good text = (good ≡ status.Ok) × OfFile disk name (λ file. IsListing of file text)
+
+-- Each fault comes only where this holds. No two of them hold of one file, but for a disk that failed and want of memory, so each comes
+-- exactly there. A disk fault comes where the disk has no call left, and not where it is known to have two.
+abbrev pub IsListFault : {D : Type 0} → List ℕ → DiskUse D → Fault → Type 0
+IsListFault name disk fault.NoFile = OfFile disk name (λ file. IsFileFault file fault.NoFile)
+IsListFault name disk (fault.BadBytes place cause) = OfFile disk name (λ file. IsFileFault file (fault.BadBytes place cause))
+IsListFault name disk (fault.Limit number) = (number ≡ longest_file) × HasCalls disk × (disk.tells disk.before → IsTooLong (file_under disk name))
+IsListFault name disk fault.DiskFault =
+    Rose (disk.faults disk.before) (disk.faults disk.now) × ((k : ℕ) → disk.left disk.before ≡ Some (2 + k) → ⊥)
+IsListFault name disk fault.OutOfMemory = Unit {0}
+IsListFault name disk _ = ⊥
 
 -- ## What was done
 -- a status as the answer of a disk
@@ -98,32 +98,12 @@ disk_answer status.DiskFault = Err fail.Failed
 disk_answer status.OutOfMemory = Err fail.OutOfMemory
 disk_answer _ = Ok tt
 
--- How reading and listing ended, before anything is written. The disk tells its bytes or not, has so many calls left where that is
--- set, and has this file under the name.
-pub record Listed (of : Tool) (tells : Type 0) (left : Option ℕ) (told : Option (List ℕ)) (s : Status) (text : List ℕ) : Type 0 where
-  pub due : tells → s ≢ status.DiskFault → s ≢ status.OutOfMemory → IsFileDue told s
-  pub text_is : IsToldText of tells told s text
-  pub stopped : left ≡ Some 0 → (s ≡ status.DiskFault) ⊎ (s ≡ status.OutOfMemory)
-  pub lasting : (k : ℕ) → left ≡ Some (2 + k) → s ≢ status.DiskFault
-  pub unwritten : s ≢ status.WriteFault
+-- the disk was read and not changed, and a disk fault comes only of one that failed
+pub record IsOnlyRead {D : Type 0} (disk : DiskUse D) (s : Status) : Type 0 where
+  pub rests : disk.tells disk.before → Rests (disk.view disk.before) (disk.view disk.now)
+  pub cause : HasCause (disk.faults disk.before) (disk.faults disk.now) (disk.steady disk.before) (disk.steady disk.now) (disk_answer s)
 
--- What was written: a prefix of the text that is due, and the whole of it with status Ok, or where no write failed.
-pub record WritesListing (of : Tool) (tells : Type 0) (told : Option (List ℕ)) (s : Status) (before now : Option (List ℕ)) (faults_before faults_now : ℕ) : Type 0 where
-  pub text : List ℕ
-  pub due : IsToldText of tells told s text
-  pub front : TakesFront before now text
-  pub whole : s ≡ status.Ok → Appends before now text
-  pub unless_failed : (Rose faults_before faults_now → ⊥) → Appends before now text
-
--- How the listing ended, and what it wrote.
-pub record Lists (of : Tool) (tells : Type 0) (left : Option ℕ) (told : Option (List ℕ)) (s : Status) (before now : Option (List ℕ)) (writes_before writes_now : ℕ) : Type 0 where
-  -- the status is the one that is due, unless the disk or a write failed or memory ran out
-  pub due : tells → s ≢ status.DiskFault → s ≢ status.WriteFault → s ≢ status.OutOfMemory → IsFileDue told s
-  -- a write fault comes only where Ok was due, and only of a write that failed
-  pub late : tells → s ≡ status.WriteFault → IsFileDue told status.Ok
-  pub write_fault : s ≡ status.WriteFault → Rose writes_before writes_now
-  pub no_write_fault : s ≡ status.Ok → writes_now ≡ writes_before
-  -- where it is known how many calls the disk has left, a disk fault comes where there is none, and not where there are two
-  pub stopped : left ≡ Some 0 → (s ≡ status.DiskFault) ⊎ (s ≡ status.OutOfMemory)
-  pub lasting : (k : ℕ) → left ≡ Some (2 + k) → s ≢ status.DiskFault
-  pub written : WritesListing of tells told s before now writes_before writes_now
+-- How a listing ended.
+pub record Lists {D : Type 0} (of : Tool) (name : List ℕ) (disk : DiskUse D) (sink : SinkUse) (s : Status) : Type 0 where
+  pub told : Told (GivesListing of name disk) (IsListFault name disk) s sink
+  pub disk_is : IsOnlyRead disk s

@@ -1,10 +1,7 @@
--- Which words are a command, and where others stop being one.
-use Rattle.std.specs.Prelude.{ℕ, ◌≡◌, ◌⊎◌, ◌+◌, ◌<◌, ◌≤◌, List, [], ◌∷◌, ◌++◌, MatchOption, codes, length, take}
-use Rattle.qj_cli.specs.declared.tool.Tool.{Tool}
-use Rattle.qj_cli.specs.Usage.{oev_words, node_words, usage_of}
-
-abbrev pub IsCommand : List (List ℕ) → Type 0
-IsCommand words = (words ≡ codes "play" ∷ []) ⊎ ((words ≡ node_words) ⊎ ((of : Tool) × (name : List ℕ) × (words ≡ oev_words of name)))
+-- Where words stop being a command.
+use Rattle.std.specs.Prelude.{ℕ, ◌+◌, ◌<◌, ◌≤◌, List, ◌++◌, MatchOption, length, take}
+use Rattle.qj_cli.specs.Commands.{IsCommand}
+use Rattle.qj_cli.specs.Usage.{usage_of}
 
 -- a command begins with these words
 abbrev pub BeginCommand : List (List ℕ) → Type 0

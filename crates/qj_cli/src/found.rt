@@ -8,7 +8,7 @@ use qj_disk::{Disk, DiskFail};
 use std::alloc::Global;
 
 /// The most bytes of a file that is listed.
-const LONGEST_FILE: u64 = 134_217_728;
+pub const LONGEST_FILE: u64 = 134_217_728;
 
 /// What was found under a name.
 #[derive(Drop)]

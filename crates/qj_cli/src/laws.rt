@@ -2,7 +2,7 @@
 ghost use Rattle.qj_cli.specs.Scripts.{ScriptsArePlayable, ScriptNumbersFit};
 ghost use Rattle.qj_cli.specs.Report.{ScriptsHaveOneReport, ReportsShowNoFault};
 ghost use Rattle.qj_cli.specs.Words.{UsageIsOfFirstWrongWord};
-ghost use Rattle.qj_cli.specs.Listing.{FilesHaveOneListing};
+ghost use Rattle.qj_cli.specs.Listing.{FilesHaveOneListing, FilesHaveOneFault, ListedFilesHaveNoFault};
 
 use cluster_runner::{a_mesh_that_agrees_shows_no_fault, one_script_has_one_play};
 use script_text::text_is_of_one_script;
@@ -34,7 +34,9 @@ pub fn usage_is_of_first_wrong_word()
     ensures { UsageIsOfFirstWrongWord }
 {}
 
-/// What is written of a file is one text for each status.
+/// A file has one listing by a tool, or else one fault.
 pub fn files_have_one_listing()
-    ensures { FilesHaveOneListing }
+    ensures listing { FilesHaveOneListing }
+    ensures fault { FilesHaveOneFault }
+    ensures one { ListedFilesHaveNoFault }
 {}

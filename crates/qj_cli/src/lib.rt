@@ -2,20 +2,19 @@
 //! replies or a fault line go out.
 #![tactic(auto)]
 
-mod asked;
+mod command;
 mod crash_examples;
-mod ending;
 mod exit;
+mod fault;
 mod found;
 mod laws;
 mod listing;
-mod outcome;
+mod playing;
 mod served_node;
 mod serving;
 mod status;
 mod tool;
 mod top;
-mod usage;
 mod writing;
 
 pub use crash_examples::{crashes_in_two_lines, next_lines_are_behind};

@@ -1,53 +1,22 @@
 // What is due of a listing, before any of it is written.
-ghost use Rattle.std.specs.Prelude.{◌≡◌, ◌↔◌, ◌≤◌, ℕ, List, Some, IfOk, length};
+ghost use Rattle.std.specs.Prelude.{◌≡◌, ◌↔◌, ◌≤◌, ℕ, List, Some, IfOk, IfErr, length};
 ghost use Rattle.edit_ops.specs.Records.{EditView};
 ghost use Rattle.oev_tool.specs.Segment.{IsSegment};
 ghost use Rattle.oev_tool.specs.Listed.{IsListed, GivesText};
 ghost use Rattle.qj_disk.specs.Calls.{HasCause, Rests};
-ghost use Rattle.qj_cli.specs.Listing.{longest_file, told_by, cause_word, bad_bytes_line, IsFileOutcome, Listed};
-ghost use Rattle.qj_cli.specs.Found.{IsShort, IsOutcomeOf, answer_of};
+ghost use Rattle.qj_cli.specs.Uses.{written_to, done_to};
+ghost use Rattle.qj_cli.specs.Listing.{longest_file, told_by, IsListing, GivesListing, IsListFault, Lists};
+ghost use Rattle.qj_cli.specs.Found.{IsShort, IsBytesFault, GivesFound, IsFoundFault, answer_of};
 
-use crate::found::{Found, find};
-use crate::outcome::{Outcome, fault_line};
+use crate::fault::Fault;
+use crate::found::{Found, LONGEST_FILE, find};
 use crate::status::Status;
 use crate::tool::Tool;
-use journal_core::OutOfMemory;
-use oev_tool::{ByteCause, Listing, list, stats};
+use crate::writing::write_due;
+use oev_tool::{Listing, list, stats};
 use qj_disk::{Disk, DiskFail};
-use qj_num::put_decimal;
-use std::alloc::{AllocError, Global};
-
-/// The word for what is wrong with bytes.
-fn word_of(cause: ByteCause) -> &'static str
-    ensures { result.now ≡ cause_word cause }
-{
-    match cause {
-        ByteCause::Header => "Header",
-        ByteCause::Short => "Short",
-        ByteCause::Length => "Length",
-        ByteCause::Count => "Count",
-        ByteCause::Body => "Body",
-        ByteCause::Order => "Order",
-        ByteCause::Opcode => "Opcode",
-        ByteCause::Trailing => "Trailing",
-        ByteCause::Field => "Field",
-    }
-}
-
-/// That the bytes are bad at a place.
-fn bad_bytes(alloc: Global, place: u64, word: &str) -> Result<Outcome, OutOfMemory>
-    ensures { IfOk result (λ e. (e.status ≡ Status.BadBytes) × (e.text.items ≡ bad_bytes_line place word.now)) }
-{
-    let mut text = b"error BadBytes ".to_vec(alloc)?;
-    put_decimal(&mut text, place)?;
-    text.push(b' ')?;
-    text.extend_from_slice(word.as_bytes())?;
-    text.push(b'\n')?;
-    Ok(Outcome {
-        status: Status::BadBytes,
-        text,
-    })
-}
+use qj_outside::Sink;
+use std::alloc::Global;
 
 /// What a tool tells of a file's bytes.
 fn told(alloc: Global, tool: Tool, bytes: &[u8]) -> Listing
@@ -61,47 +30,62 @@ fn told(alloc: Global, tool: Tool, bytes: &[u8]) -> Listing
 }
 
 /// What is due of a file's bytes.
-fn ending_of_bytes(alloc: Global, tool: Tool, bytes: &[u8]) -> Result<Outcome, OutOfMemory>
+fn due_of_bytes(alloc: Global, tool: Tool, bytes: &[u8]) -> Result<Vec<u8>, Fault>
     requires { length bytes.now ≤ longest_file }
-    ensures { IfOk result (λ e. IsFileOutcome tool (Some bytes.now) e.status e.text.items) }
+    ensures text { IfOk result (λ text. IsListing tool (Some bytes.now) text.items) }
+    ensures fault { IfErr result (IsBytesFault bytes.now) }
 {
     match told(alloc, tool, bytes) {
-        Listing::Text(text) => Ok(Outcome {
-            status: Status::Ok,
-            text,
-        }),
-        Listing::BadBytes { place, cause } => bad_bytes(alloc, place, word_of(cause)),
-        Listing::OutOfMemory => Err(AllocError),
+        Listing::Text(text) => Ok(text),
+        Listing::BadBytes { place, cause } => Err(Fault::BadBytes { place, cause }),
+        Listing::OutOfMemory => Err(Fault::OutOfMemory),
     }
 }
 
 /// What is due of what was found under the name.
-fn ending_of_found(alloc: Global, tool: Tool, found: &Found) -> Result<Outcome, OutOfMemory>
+fn due_of_found(alloc: Global, tool: Tool, found: &Found) -> Result<Vec<u8>, Fault>
     requires { IsShort found.now }
-    ensures { IfOk result (λ e. IsOutcomeOf tool found.now e.status e.text.items) }
+    ensures text { IfOk result (λ text. GivesFound tool found.now text.items) }
+    ensures fault { IfErr result (IsFoundFault found.now) }
 {
     match found {
-        Found::Absent => bad_bytes(alloc, 0, "NoFile"),
-        Found::TooLong => fault_line(alloc, Status::Limit, b"error Limit 134217728\n"),
-        Found::Bytes(bytes) => ending_of_bytes(alloc, tool, bytes),
+        Found::Absent => Err(Fault::NoFile),
+        Found::TooLong => Err(Fault::Limit(LONGEST_FILE)),
+        Found::Bytes(bytes) => due_of_bytes(alloc, tool, bytes),
     }
 }
 
 /// Reads the file that has this name and tells what is due of it.
-pub fn listing_ending<D: Disk>(
+fn due_of_name<D: Disk>(
     alloc: Global,
     tool: Tool,
     name: &str,
     disk: &mut D,
-) -> Result<Outcome, OutOfMemory>
-    ensures listed { IfOk result (λ e. Listed tool (D.tells disk.old) (D.left disk.old) ((D.view disk.old).seen name.now) e.status e.text.items) }
+) -> Result<Vec<u8>, Fault>
+    ensures text { IfOk result (λ text. GivesListing tool name.now (done_to D.tells D.view D.faults D.steady D.left disk.old disk.new) Status.Ok text.items) }
+    ensures fault { IfErr result (IsListFault name.now (done_to D.tells D.view D.faults D.steady D.left disk.old disk.new)) }
     ensures tells { D.tells disk.old ↔ D.tells disk.new }
-    ensures disk { D.tells disk.old → Rests (D.view disk.old) (D.view disk.new) }
+    ensures rests { D.tells disk.old → Rests (D.view disk.old) (D.view disk.new) }
     ensures cause { HasCause (D.faults disk.old) (D.faults disk.new) (D.steady disk.old) (D.steady disk.new) (answer_of result) }
 {
     match find(alloc, disk, name) {
-        Ok(found) => ending_of_found(alloc, tool, &found),
-        Err(DiskFail::Failed) => fault_line(alloc, Status::DiskFault, b"error DiskFault\n"),
-        Err(DiskFail::OutOfMemory) => Err(AllocError),
+        Ok(found) => due_of_found(alloc, tool, &found),
+        Err(DiskFail::Failed) => Err(Fault::DiskFault),
+        Err(DiskFail::OutOfMemory) => Err(Fault::OutOfMemory),
     }
+}
+
+/// Lists the file that has this name, and writes what is due.
+pub fn list_file<K: Sink, D: Disk>(
+    alloc: Global,
+    tool: Tool,
+    name: &str,
+    sink: &mut K,
+    disk: &mut D,
+) -> Status
+    ensures lists { Lists tool name.now (done_to D.tells D.view D.faults D.steady D.left disk.old disk.new) (written_to K.taken K.faults sink.old sink.new) result }
+    ensures tells { D.tells disk.old ↔ D.tells disk.new }
+{
+    let due = due_of_name(alloc, tool, name, disk);
+    write_due(alloc, sink, &due)
 }

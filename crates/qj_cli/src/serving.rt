@@ -1,64 +1,40 @@
 // A node is served: it is opened on the disk, and request lines are answered at it.
-ghost use Rattle.std.specs.Prelude.{◌≡◌, ◌↔◌, IfOk};
+ghost use Rattle.std.specs.Prelude.{◌≡◌, ◌↔◌};
 ghost use Rattle.journal_node.specs.Node.{told_state};
 ghost use Rattle.journal_node.specs.Opening.{IsCauseOf, disk_in};
 ghost use Rattle.qj_cli.specs.Crashes.{WasAsked};
-ghost use Rattle.qj_cli.specs.Serving.{bad_file_line, is_disk_fault, Serves};
-ghost use Rattle.qj_cli.specs.NodeEnds.{TellsEnd, ServesFrom, TellsBadFile, TellsUnopened};
+ghost use Rattle.qj_cli.specs.Uses.{read_from, written_to, done_to};
+ghost use Rattle.qj_cli.specs.Told.{TellsFault};
+ghost use Rattle.qj_cli.specs.Serving.{is_disk_fault, IsServedOrNot};
+ghost use Rattle.qj_cli.specs.NodeEnds.{TellsEnd, ServesFrom, fault_in};
 
-use crate::ending::script_line;
 use crate::exit::Exit;
+use crate::fault::Fault;
 use crate::served_node::ServedNode;
 use crate::status::Status;
-use crate::writing::write_ending;
-use journal_core::OutOfMemory;
+use crate::writing::write_fault;
 use journal_node::{JournalNode, OpenFail};
 use node_session::{Served, serve};
 use qj_disk::Disk;
-use qj_num::Name;
 use qj_outside::{Sink, Source};
 use std::alloc::Global;
 
-/// That the file of this name isn't in its format.
-fn file_line(alloc: Global, name: &Name) -> Result<Vec<u8>, OutOfMemory>
-    ensures { IfOk result (λ text. text.items ≡ bad_file_line name.now) }
-{
-    let mut text = b"error BadBytes 0 BadFile ".to_vec(alloc)?;
-    text.extend_from_slice(name.as_slice())?;
-    text.push(b'\n')?;
-    Ok(text)
-}
-
-/// Tells that there was no memory.
-fn end_without_memory<K: Sink>(sink: &mut K) -> Status
-    ensures { TellsEnd Served.OutOfMemory result (K.taken sink.old) (K.taken sink.new) (K.faults sink.old) (K.faults sink.new) }
-{
-    write_ending(sink, Status::OutOfMemory, b"error OutOfMemory\n")
-}
-
-/// Tells that a line isn't a request, and the first rule that it breaks.
-fn end_at_bad_line<K: Sink>(alloc: Global, line: u64, rule: u32, sink: &mut K) -> Status
-    ensures { TellsEnd (Served.BadLine line rule) result (K.taken sink.old) (K.taken sink.new) (K.faults sink.old) (K.faults sink.new) }
-{
-    match script_line(alloc, line, rule as u64) {
-        Ok(text) => write_ending(sink, Status::BadScript, &text),
-        Err(_) => end_without_memory(sink),
-    }
-}
-
 /// Tells how a session ended. Where each line was answered, and where the sink failed, nothing is written.
 fn end_session<K: Sink>(alloc: Global, served: Served, sink: &mut K) -> Status
-    ensures { TellsEnd served result (K.taken sink.old) (K.taken sink.new) (K.faults sink.old) (K.faults sink.new) }
+    ensures { TellsEnd served result (written_to K.taken K.faults sink.old sink.new) }
 {
     match served {
         Served::Done => Status::Ok,
-        Served::BadLine { line, rule } => end_at_bad_line(alloc, line, rule, sink),
-        Served::LongLine => write_ending(sink, Status::Limit, b"error Limit 1048576\n"),
-        Served::LongInput => write_ending(sink, Status::Limit, b"error Limit 1073741824\n"),
-        Served::ReadFault => write_ending(sink, Status::ReadFault, b"error ReadFault\n"),
+        Served::BadLine { line, rule } => {
+            let rule = rule as u64;
+            write_fault(alloc, sink, &Fault::BadScript { line, rule })
+        }
+        Served::LongLine => write_fault(alloc, sink, &Fault::Limit(1_048_576)),
+        Served::LongInput => write_fault(alloc, sink, &Fault::Limit(1_073_741_824)),
+        Served::ReadFault => write_fault(alloc, sink, &Fault::ReadFault),
         Served::WriteFault => Status::WriteFault,
-        Served::DiskFault => write_ending(sink, Status::DiskFault, b"error DiskFault\n"),
-        Served::OutOfMemory => end_without_memory(sink),
+        Served::DiskFault => write_fault(alloc, sink, &Fault::DiskFault),
+        Served::OutOfMemory => write_fault(alloc, sink, &Fault::OutOfMemory),
     }
 }
 
@@ -70,8 +46,7 @@ fn serve_opened<S: Source, K: Sink, D: Disk>(
     sink: &mut K,
 ) -> Exit<D>
     ensures session { ServesFrom (WasAsked D.tells D.view node result.disk) (told_state (D.is_told node.disk) (D.view node.disk).seen node.memory node.rows) (D.tells result.disk) (D.view result.disk)
-        (S.left source.old) (S.left source.new) (S.faults source.old) (S.faults source.new)
-        result.status (K.taken sink.old) (K.taken sink.new) (K.faults sink.old) (K.faults sink.new) }
+        (read_from S.left S.faults source.old source.new) (written_to K.taken K.faults sink.old sink.new) result.status }
     ensures tells { D.tells node.disk ↔ D.tells result.disk }
     ensures cause { IsCauseOf (D.faults node.disk) (D.faults result.disk) (D.steady node.disk) (D.steady result.disk) (is_disk_fault result.status) }
 {
@@ -84,32 +59,22 @@ fn serve_opened<S: Source, K: Sink, D: Disk>(
     }
 }
 
-/// Tells that the file of this name isn't in its format.
-fn refuse_file<K: Sink>(alloc: Global, name: &Name, sink: &mut K) -> Status
-    ensures { TellsBadFile name.now result (K.taken sink.old) (K.taken sink.new) (K.faults sink.old) (K.faults sink.new) }
-{
-    match file_line(alloc, name) {
-        Ok(text) => write_ending(sink, Status::BadBytes, &text),
-        Err(_) => end_without_memory(sink),
-    }
-}
-
 /// Tells why the node wasn't opened.
 fn end_unopened<K: Sink, D: Disk>(alloc: Global, fail: OpenFail<D>, sink: &mut K) -> Exit<D>
-    ensures told { TellsUnopened fail result.status (K.taken sink.old) (K.taken sink.new) (K.faults sink.old) (K.faults sink.new) }
+    ensures told { TellsFault (fault_in fail) result.status (written_to K.taken K.faults sink.old sink.new) }
     ensures disk { result.disk ≡ disk_in fail }
 {
     match fail {
         OpenFail::DiskFault { disk } => Exit {
-            status: write_ending(sink, Status::DiskFault, b"error DiskFault\n"),
+            status: write_fault(alloc, sink, &Fault::DiskFault),
             disk,
         },
         OpenFail::BadFile { disk, name } => Exit {
-            status: refuse_file(alloc, &name, sink),
+            status: write_fault(alloc, sink, &Fault::BadFile(name)),
             disk,
         },
         OpenFail::OutOfMemory { disk } => Exit {
-            status: end_without_memory(sink),
+            status: write_fault(alloc, sink, &Fault::OutOfMemory),
             disk,
         },
     }
@@ -123,10 +88,10 @@ pub fn serve_node<S: Source, K: Sink, D: Disk>(
     sink: &mut K,
     disk: D,
 ) -> Exit<D>
-    ensures served { Serves D.view (D.tells disk) disk result.disk (S.left source.old) (S.left source.new) (S.faults source.old) (S.faults source.new)
-        result.status (K.taken sink.old) (K.taken sink.new) (K.faults sink.old) (K.faults sink.new) }
-    ensures tells { D.tells disk ↔ D.tells result.disk }
+    ensures served { IsServedOrNot (read_from S.left S.faults source.old source.new) (written_to K.taken K.faults sink.old sink.new)
+        (done_to D.tells D.view D.faults D.steady D.left disk result.disk) result.status }
     ensures cause { IsCauseOf (D.faults disk) (D.faults result.disk) (D.steady disk) (D.steady result.disk) (is_disk_fault result.status) }
+    ensures tells { D.tells disk ↔ D.tells result.disk }
 {
     match JournalNode::open(alloc, disk) {
         Ok(node) => serve_opened(alloc, node, source, sink),

@@ -1,7 +1,7 @@
 // The listings of a segment's file.
-ghost use Rattle.std.specs.Prelude.{◌≡◌, MatchOption};
-ghost use Rattle.qj_cli.specs.declared.tool.Tool.{Tool};
-ghost use Rattle.qj_cli.specs.Usage.{word_of};
+ghost use Rattle.std.specs.Prelude.{◌≡◌, false, MatchOption};
+ghost use Rattle.qj_cli.specs.Commands.{word_of};
+ghost use Rattle.qj_cli.specs.Usage.{is_oev};
 
 /// What is told of a segment's file.
 #[derive(Clone, Copy, Debug, PartialEq, Eq)]
@@ -12,9 +12,9 @@ pub enum Tool {
     Stats,
 }
 
-/// The tool that has this word.
+/// The tool that has this word behind `oev`.
 pub fn tool_of(word: &str) -> Option<Tool>
-    ensures { MatchOption result ((of : Tool) → word.now ≡ word_of of → ⊥) (λ of. word.now ≡ word_of of) }
+    ensures { MatchOption result (is_oev word.now ≡ false) (λ of. word.now ≡ word_of of) }
 {
     if word == "list" {
         Some(Tool::List)

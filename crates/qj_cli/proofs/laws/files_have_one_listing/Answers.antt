@@ -1,5 +1,5 @@
-use Rattle.qj_cli.proofs.OneListing.{one_listing_of_file}
+use Rattle.qj_cli.proofs.OneListing.{one_listing_of_file, one_fault_of_file, not_both}
 use Rattle.qj_cli.proofs.laws.files_have_one_listing.Goals as goal
 
 pub returns : goal.returns
-returns c = one_listing_of_file
+returns c = record { listing = one_listing_of_file; fault = one_fault_of_file; one = not_both }

@@ -9,18 +9,21 @@ returns-in-Done g c = untold c.args.served served.Done _ _ c.in-Done.is refl
 pub returns-in-WriteFault : goal.returns-in-WriteFault
 returns-in-WriteFault g c = untold c.args.served served.WriteFault _ _ c.in-WriteFault.is refl
 
+pub returns-in-BadLine : goal.returns-in-BadLine
+returns-in-BadLine g c =
+    told c.args.served (served.BadLine c.in-BadLine.line c.in-BadLine.rule) _ _ _ c.in-BadLine.is refl refl (λ b. b) (λ e. cc e) (λ e. cc e) c.write_fault.ensures
+
 pub returns-in-LongLine : goal.returns-in-LongLine
-returns-in-LongLine g c =
-    told c.args.served served.LongLine _ _ _ _ _ c.in-LongLine.is refl (λ e. cc e) (λ e. cc e) c.write_ending.ensures.front c.write_ending.ensures.came
+returns-in-LongLine g c = told c.args.served served.LongLine _ _ _ c.in-LongLine.is refl refl (λ b. b) (λ e. cc e) (λ e. cc e) c.write_fault-in-LongLine.ensures
 
 pub returns-in-LongInput : goal.returns-in-LongInput
-returns-in-LongInput g c =
-    told c.args.served served.LongInput _ _ _ _ _ c.in-LongInput.is refl (λ e. cc e) (λ e. cc e) c.write_ending-in-LongInput.ensures.front c.write_ending-in-LongInput.ensures.came
+returns-in-LongInput g c = told c.args.served served.LongInput _ _ _ c.in-LongInput.is refl refl (λ b. b) (λ e. cc e) (λ e. cc e) c.write_fault-in-LongInput.ensures
 
 pub returns-in-ReadFault : goal.returns-in-ReadFault
-returns-in-ReadFault g c =
-    told c.args.served served.ReadFault _ _ _ _ _ c.in-ReadFault.is refl (λ e. cc e) (λ e. cc e) c.write_ending-in-ReadFault.ensures.front c.write_ending-in-ReadFault.ensures.came
+returns-in-ReadFault g c = told c.args.served served.ReadFault _ _ _ c.in-ReadFault.is refl refl (λ b. b) (λ e. cc e) (λ e. cc e) c.write_fault-in-ReadFault.ensures
 
 pub returns-in-DiskFault : goal.returns-in-DiskFault
-returns-in-DiskFault g c =
-    told c.args.served served.DiskFault _ _ _ _ _ c.in-DiskFault.is refl (λ e. cc e) (λ e. cc e) c.write_ending-in-DiskFault.ensures.front c.write_ending-in-DiskFault.ensures.came
+returns-in-DiskFault g c = told c.args.served served.DiskFault _ _ _ c.in-DiskFault.is refl refl (λ b. b) (λ e. cc e) (λ e. cc e) c.write_fault-in-DiskFault.ensures
+
+pub returns-in-OutOfMemory : goal.returns-in-OutOfMemory
+returns-in-OutOfMemory g c = told c.args.served served.OutOfMemory _ _ _ c.in-OutOfMemory.is refl refl (λ b. b) (λ e. cc e) (λ e. cc e) c.write_fault-in-OutOfMemory.ensures

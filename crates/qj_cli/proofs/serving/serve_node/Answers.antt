@@ -1,29 +1,45 @@
 use Rattle.std.proofs.Common.{sym, subst, refl}
 use Rattle.journal_node.specs.Opening.{disk_in}
-use Rattle.qj_cli.specs.Serving.{Serves, unopened}
-use Rattle.qj_cli.proofs.ServingLaws.{unopened_is}
+use Rattle.qj_cli.specs.Uses.{read_from, written_to, done_to}
+use Rattle.qj_cli.specs.Serving.{IsServedOrNot, opened, unopened}
+use Rattle.qj_cli.specs.Serving.{is_disk_fault}
+use Rattle.journal_node.specs.Opening.{IsCauseOf}
+use Rattle.qj_cli.proofs.ServingLaws.{unopened_is, opening_cause}
 use Rattle.qj_cli.proofs.NodeLaws.{serves_opened}
 use Rattle.qj_cli.proofs.serving.serve_node.Goals as goal
 
 pub returns-in-Ok-clause-served : goal.returns-in-Ok-clause-served
 returns-in-Ok-clause-served g c =
     let disk = c.in-Ok.node.disk in
-    serves_opened g.D.Disk.tells g.D.Disk.view (g.D.Disk.is_told disk) c.args.disk c.serve_opened.result.disk c.in-Ok.node
-    (g.S.Source.left c.args.source.now) (g.S.Source.left c.serve_opened.new.source)
-    (g.S.Source.faults c.args.source.now) (g.S.Source.faults c.serve_opened.new.source) c.serve_opened.result.status
-    (g.K.Sink.taken c.args.sink.now) (g.K.Sink.taken c.serve_opened.new.sink) (g.K.Sink.faults c.args.sink.now) (g.K.Sink.faults c.serve_opened.new.sink)
-    (g.D.Disk.tells c.serve_opened.result.disk)
+    opened (serves_opened (done_to g.D.Disk.tells g.D.Disk.view g.D.Disk.faults g.D.Disk.steady g.D.Disk.left c.args.disk c.serve_opened.result.disk) (g.D.Disk.is_told disk) c.in-Ok.node
+    (read_from g.S.Source.left g.S.Source.faults c.args.source.now c.serve_opened.new.source) (written_to g.K.Sink.taken g.K.Sink.faults c.args.sink.now c.serve_opened.new.sink)
+    c.serve_opened.result.status (g.D.Disk.tells c.serve_opened.result.disk)
     (λ t. (g.met.D.Disk.told_so disk).0 (c.in-Ok.ensures.tells_ok.0 t)) c.in-Ok.ensures.tells_ok.0 (λ t. g.met.D.Disk.sound disk (c.in-Ok.ensures.tells_ok.0 t))
-    (λ t. c.serve_opened.ensures.tells.0 (c.in-Ok.ensures.tells_ok.0 t)) c.in-Ok.ensures.opened c.in-Ok.ensures.moments_ok c.serve_opened.ensures.session
+    (λ t. c.serve_opened.ensures.tells.0 (c.in-Ok.ensures.tells_ok.0 t)) c.in-Ok.ensures.opened c.in-Ok.ensures.moments_ok c.serve_opened.ensures.session)
 
 pub returns-in-Err-clause-served : goal.returns-in-Err-clause-served
 returns-in-Err-clause-served g c =
+    let last = disk_in c.in-Err.fail in
+    let source = read_from g.S.Source.left g.S.Source.faults c.args.source.now c.args.source.now in
+    let sink = written_to g.K.Sink.taken g.K.Sink.faults c.args.sink.now c.end_unopened.new.sink in
+    let disk = done_to g.D.Disk.tells g.D.Disk.view g.D.Disk.faults g.D.Disk.steady g.D.Disk.left c.args.disk last in
     subst
-    (λ d. Serves g.D.Disk.view (g.D.Disk.tells c.args.disk) c.args.disk d (g.S.Source.left c.args.source.now) (g.S.Source.left c.args.source.now)
-    (g.S.Source.faults c.args.source.now) (g.S.Source.faults c.args.source.now) c.end_unopened.result.status
-    (g.K.Sink.taken c.args.sink.now) (g.K.Sink.taken c.end_unopened.new.sink) (g.K.Sink.faults c.args.sink.now) (g.K.Sink.faults c.end_unopened.new.sink))
+    (λ d. IsServedOrNot source sink (done_to g.D.Disk.tells g.D.Disk.view g.D.Disk.faults g.D.Disk.steady g.D.Disk.left c.args.disk d) c.end_unopened.result.status)
     (sym c.end_unopened.ensures.disk)
-    (unopened (record { unread = refl; no_read_fault = refl; kept = c.in-Err.ensures.kept; moments = c.in-Err.ensures.moments_err })
-    (unopened_is (g.D.Disk.tells c.args.disk) (g.D.Disk.view c.args.disk).seen (g.D.Disk.view (disk_in c.in-Err.fail)).seen c.end_unopened.result.status
-    (g.K.Sink.taken c.args.sink.now) (g.K.Sink.taken c.end_unopened.new.sink) (g.K.Sink.faults c.args.sink.now) (g.K.Sink.faults c.end_unopened.new.sink)
-    c.in-Err.fail c.in-Err.ensures.bad c.end_unopened.ensures.told))
+    (unopened (record {
+      unread = refl;
+      no_read_fault = refl;
+      kept = c.in-Err.ensures.kept;
+      moments = c.in-Err.ensures.moments_err;
+      why = unopened_is sink disk c.end_unopened.result.status c.in-Err.fail c.in-Err.ensures.bad c.end_unopened.ensures.told;
+    }))
+
+pub returns-in-Err-clause-cause : goal.returns-in-Err-clause-cause
+returns-in-Err-clause-cause g c =
+    let last = disk_in c.in-Err.fail in
+    let sink = written_to g.K.Sink.taken g.K.Sink.faults c.args.sink.now c.end_unopened.new.sink in
+    let disk = done_to g.D.Disk.tells g.D.Disk.view g.D.Disk.faults g.D.Disk.steady g.D.Disk.left c.args.disk last in
+    subst
+    (λ d. IsCauseOf (g.D.Disk.faults c.args.disk) (g.D.Disk.faults d) (g.D.Disk.steady c.args.disk) (g.D.Disk.steady d) (is_disk_fault c.end_unopened.result.status))
+    (sym c.end_unopened.ensures.disk)
+    (opening_cause sink disk c.end_unopened.result.status c.in-Err.fail _ _ _ _ c.end_unopened.ensures.told c.in-Err.ensures.cause_err)

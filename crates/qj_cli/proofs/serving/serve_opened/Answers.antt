@@ -1,6 +1,7 @@
 use Rattle.std.proofs.Common.{refl, sym, subst, ◌↔◌}
 use Rattle.journal_node.specs.FileState.{state_of}
 use Rattle.journal_node.specs.Node.{told_state}
+use Rattle.qj_cli.specs.Uses.{read_from, written_to}
 use Rattle.qj_cli.specs.Crashes.{WasAsked}
 use Rattle.qj_cli.specs.NodeEnds.{IsKept, ServesFrom}
 use Rattle.qj_cli.proofs.NodeLaws.{kept_state, kept_told, tells_on}
@@ -15,16 +16,14 @@ returns-clause-session g c =
     let m = c.serve-served.new.node.memory in
     let rows = c.serve-served.new.node.rows in
     let old = told_state (g.D.Disk.is_told c.args.node.disk) (g.D.Disk.view c.args.node.disk).seen c.args.node.memory c.args.node.rows in
+    let source = read_from g.S.Source.left g.S.Source.faults c.args.source.now c.serve-served.new.source in
+    let sink = written_to g.K.Sink.taken g.K.Sink.faults c.args.sink.now c.end_session-status.new.sink in
     let kept : g.D.Disk.tells disk → IsKept v (state_of v.seen m rows) = λ t. kept_state v m rows (c.into_disk.ensures.stands t) (c.into_disk.ensures.lasting t) in
     subst
-    (λ d. ServesFrom (WasAsked g.D.Disk.tells g.D.Disk.view c.args.node d) old (g.D.Disk.tells d) (g.D.Disk.view d) (g.S.Source.left c.args.source.now) (g.S.Source.left c.serve-served.new.source)
-    (g.S.Source.faults c.args.source.now) (g.S.Source.faults c.serve-served.new.source) c.end_session-status.result
-    (g.K.Sink.taken c.args.sink.now) (g.K.Sink.taken c.end_session-status.new.sink) (g.K.Sink.faults c.args.sink.now) (g.K.Sink.faults c.end_session-status.new.sink))
+    (λ d. ServesFrom (WasAsked g.D.Disk.tells g.D.Disk.view c.args.node d) old (g.D.Disk.tells d) (g.D.Disk.view d) source sink c.end_session-status.result)
     (sym c.into_disk.ensures.disk)
-    (session_told c.serve-served.result c.end_session-status.result (g.K.Sink.taken c.serve-served.new.sink) (g.K.Sink.taken c.end_session-status.new.sink)
-    (g.K.Sink.faults c.serve-served.new.sink) (g.K.Sink.faults c.end_session-status.new.sink) c.end_session-status.ensures
-    asked.0 asked.1 (WasAsked g.D.Disk.tells g.D.Disk.view c.args.node disk) (g.S.Source.left c.args.source.now) (g.S.Source.left c.serve-served.new.source) old (told_state (g.D.Disk.is_told disk) v.seen m rows)
-    (g.S.Source.faults c.args.source.now) (g.S.Source.faults c.serve-served.new.source) (g.K.Sink.taken c.args.sink.now) (g.K.Sink.faults c.args.sink.now)
+    (session_told c.serve-served.result c.end_session-status.result (g.K.Sink.taken c.serve-served.new.sink) (g.K.Sink.faults c.serve-served.new.sink) sink c.end_session-status.ensures
+    asked.0 asked.1 (WasAsked g.D.Disk.tells g.D.Disk.view c.args.node disk) source old (told_state (g.D.Disk.is_told disk) v.seen m rows)
     (g.D.Disk.tells disk) v
     (record { last = c.serve-served.new.node; trail = asked.2; disk = refl }) asked.3 c.serve-served.ensures.read_fault c.serve-served.ensures.no_read_fault c.serve-served.ensures.write_fault c.serve-served.ensures.no_write_fault
     (kept_told (g.D.Disk.is_told disk) v m rows (λ t. kept ((g.met.D.Disk.told_so disk).1 t)))

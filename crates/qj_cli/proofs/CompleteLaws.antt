@@ -1,0 +1,194 @@
+-- Where the input is right and nothing fails a command is done, or memory ran out.
+use Rattle.std.proofs.Common.{◌≡◌, ℕ, ◌<◌, ◌≤◌, List, Option, Some, None, refl, sym, ap, subst, ◌∙◌, arith, inl, inr, ◌⊎◌, length}
+use Rattle.qj_outside.specs.Faults.{Rose}
+use Rattle.journal_core.specs.declared.segment.Segment.{Segment}
+use Rattle.journal_node.specs.Opening.{IsRefusedFile}
+use Rattle.journal_node.proofs.Reopens.{one_segments, not_unfilled}
+use Rattle.node_files.specs.Durable.{StandsAs, AreFilled}
+use Rattle.node_session.specs.declared.served.Served.{Served}
+use Rattle.node_session.specs.declared.served.Served.TheVariants as served
+use Rattle.qj_disk.specs.Files.{Files}
+use Rattle.script_text.specs.Rules.{fault_of}
+use Rattle.script_text.specs.Laws.{ScriptBreaksNoRule}
+use Rattle.qj_cli.specs.declared.status.Status.{Status}
+use Rattle.qj_cli.specs.declared.status.Status.TheVariants as status
+use Rattle.qj_cli.specs.declared.fault.Fault.{Fault}
+use Rattle.qj_cli.specs.declared.fault.Fault.TheVariants as fault
+use Rattle.qj_cli.specs.declared.command.Command.{Command}
+use Rattle.qj_cli.specs.declared.tool.Tool.{Tool}
+use Rattle.qj_cli.specs.Uses.{SourceUse, SinkUse, DiskUse}
+use Rattle.qj_cli.specs.Faults.{status_of}
+use Rattle.qj_cli.specs.Told.{IsToldAs, TellsFault, TellsText, Told, wrote_text, told_fault}
+use Rattle.qj_cli.specs.Commands.{Asked, asked_in, play, node, list, words_of}
+use Rattle.qj_cli.specs.Plays.{longest_script, AreTold, IsReadWhole, IsTooLong, IsPlayFault, Plays}
+use Rattle.qj_cli.specs.Report.{HasLongReport}
+use Rattle.qj_cli.specs.Listing.{longest_file, IsTooLong as IsTooLongFile, file_under, IsFileFault, OfFile, GivesListing, IsListFault}
+use Rattle.qj_cli.specs.Serving.{status_at, is_disk_fault, IsNodeSessionOf, IsNodeSession, ServesNode, IsUnopened, IsServedOrNot, opened, unopened, Serves}
+use Rattle.qj_cli.specs.Does.{Does, Refuses}
+use Rattle.qj_cli.specs.Complete.{HasScript, HasRequests, HasNode, HasSegment, NothingFails, IsComplete}
+use Rattle.qj_cli.proofs.WordLaws.{one_command}
+use Rattle.qj_cli.proofs.RequestLaws.{no_bad_next, no_long_next}
+
+-- it is done, or memory ran out
+abbrev Done : Status → Type 0
+Done s = (s ≡ status.Ok) ⊎ (s ≡ status.OutOfMemory)
+
+-- ## What was told
+-- memory that ran out is told as that
+memory_told : (told : Fault) (s : Status) → IsToldAs fault.OutOfMemory told → s ≡ status_of told → Done s
+memory_told told s (inl e) is = inr (is ∙ ap status_of e)
+memory_told told s (inr e) is = inr (is ∙ ap status_of e.0)
+
+text_done : (good s : Status) (bytes : List ℕ) (sink : SinkUse) → good ≡ status.Ok → (Rose sink.faults_before sink.faults_now → ⊥) → TellsText good bytes s sink → Done s
+text_done good s bytes sink e writes (inl w) = inl (w.0 ∙ e)
+text_done good s bytes sink e writes (inr w) = absurd (writes w.1)
+
+-- ## A play
+some_told : (told : Option (List ℕ)) (bytes read : List ℕ) → told ≡ Some bytes → AreTold told read → read ≡ bytes
+some_told None bytes read e is = absurd (cc e)
+some_told (Some x) bytes read e is = is ∙ cc e
+
+module _ (source : SourceUse) (right : HasScript source) (reads : Rose source.faults_before source.faults_now → ⊥) (no_rule : ScriptBreaksNoRule) where
+  same_bytes : (read : List ℕ) → AreTold source.told read → read ≡ right.bytes
+  same_bytes read is = some_told source.told right.bytes read right.told is
+
+  unbroken : (read : List ℕ) → IsReadWhole source read → fault_of read ≡ None
+  unbroken read whole = ap fault_of (same_bytes read whole.told) ∙ no_rule right.bytes right.script right.reads
+
+  not_long : IsTooLong source → ⊥
+  not_long long =
+      let same : length long.bytes ≡ length right.bytes = ap length (same_bytes long.bytes long.told) in
+      let more : longest_script < length long.bytes = long.long in
+      let short : length right.bytes ≤ longest_script = right.short in
+      omega (arith, same, more, short)
+
+  not_reported : (read : List ℕ) → IsReadWhole source read → HasLongReport read → ⊥
+  not_reported read whole long =
+      let same : HasLongReport right.bytes = subst HasLongReport (same_bytes read whole.told) long in
+      let within = right.within same.text same.report in
+      let longer = same.longer in
+      omega (arith, within, longer)
+
+  limit_none : (number : ℕ) → IsPlayFault source (fault.Limit number) → ⊥
+  limit_none number (inl is) = not_long is.1
+  limit_none number (inr is) = not_reported is.0 is.1 is.2.2
+
+  play_fault : (of : Fault) (s : Status) (sink : SinkUse) → IsPlayFault source of → TellsFault of s sink → Done s
+  play_fault (fault.Usage place) s sink is tells = absurd is
+  play_fault (fault.BadScript line rule) s sink is tells = let none : fault_of is.0 ≡ None = unbroken is.0 is.1 in let some = is.2 in absurd (cc (none, some))
+  play_fault fault.NoFile s sink is tells = absurd is
+  play_fault (fault.BadBytes place cause) s sink is tells = absurd is
+  play_fault (fault.BadFile name) s sink is tells = absurd is
+  play_fault (fault.Limit number) s sink is tells = absurd (limit_none number is)
+  play_fault fault.ReadFault s sink is tells = absurd (reads is)
+  play_fault fault.DiskFault s sink is tells = absurd is
+  play_fault fault.OutOfMemory s sink is tells = memory_told tells.told s tells.told_as tells.status_is
+
+  play_done : (sink : SinkUse) (s : Status) → (Rose sink.faults_before sink.faults_now → ⊥) → Plays source sink s → Done s
+  play_done sink s writes (wrote_text good bytes gives tells) = text_done good s bytes sink gives.good_is writes tells
+  play_done sink s writes (told_fault of is tells) = play_fault of s sink is tells
+
+-- ## A listing
+module _ {D : Type 0} (of : Tool) (name : List ℕ) (disk : DiskUse D) (right : HasSegment disk name) (calls : Rose (disk.faults disk.before) (disk.faults disk.now) → ⊥) where
+  there : (P : Option (List ℕ) → Type 0) → OfFile disk name P → P (Some right.bytes)
+  there P is = subst P (is.same right.tells ∙ right.there) is.so
+
+  some_file : Some right.bytes ≡ None → ⊥
+  some_file e = cc e
+
+  file_long : (file : Option (List ℕ)) → file ≡ Some right.bytes → IsTooLongFile file → ⊥
+  file_long None e is = is
+  file_long (Some bytes) e is =
+      let same : length bytes ≡ length right.bytes = ap length (let p : bytes ≡ right.bytes = cc e in p) in
+      let short : length right.bytes ≤ longest_file = right.short in
+      omega (arith, same, is, short)
+
+  list_fault : (why : Fault) (s : Status) (sink : SinkUse) → IsListFault name disk why → TellsFault why s sink → Done s
+  list_fault (fault.Usage place) s sink is tells = absurd is
+  list_fault (fault.BadScript line rule) s sink is tells = absurd is
+  list_fault fault.NoFile s sink is tells = absurd (some_file (there (λ file. IsFileFault file fault.NoFile) is))
+  list_fault (fault.BadBytes place cause) s sink is tells = absurd ((there (λ file. IsFileFault file (fault.BadBytes place cause)) is).1 right.is)
+  list_fault (fault.BadFile file) s sink is tells = absurd is
+  list_fault (fault.Limit number) s sink is tells = absurd (file_long (file_under disk name) right.there (is.2 right.tells))
+  list_fault fault.ReadFault s sink is tells = absurd is
+  list_fault fault.DiskFault s sink is tells = absurd (calls is.0)
+  list_fault fault.OutOfMemory s sink is tells = memory_told tells.told s tells.told_as tells.status_is
+
+  listed : (sink : SinkUse) (s : Status) → (Rose sink.faults_before sink.faults_now → ⊥) → Told (GivesListing of name disk) (IsListFault name disk) s sink → Done s
+  listed sink s writes (wrote_text good bytes gives tells) = text_done good s bytes sink gives.0 writes tells
+  listed sink s writes (told_fault why is tells) = list_fault why s sink is tells
+
+-- ## A node
+module _ {D : Type 0} (source : SourceUse) (sink : SinkUse) (disk : DiskUse D) (s : Status) (right : HasRequests source) (held : HasNode disk) (nothing : NothingFails source sink disk) where
+  no_disk_fault : Serves source sink disk s → s ≡ status.DiskFault → ⊥
+  no_disk_fault is e = nothing.calls (is.cause.rose (ap is_disk_fault e))
+
+  not_refused : (files now : Files) (name : List ℕ) → files ≡ (disk.view disk.before).seen → IsRefusedFile files now name → ⊥
+  not_refused files now name e (inl none) = none.0 held.state (subst (λ (f : Files). StandsAs f held.state) (sym e) held.stood)
+  not_refused files now name e (inr bad) =
+      let stood : StandsAs files held.state = subst (λ (f : Files). StandsAs f held.state) (sym e) held.stood in
+      let same : bad.segments ≡ held.state.segments = one_segments files bad.segments held.state.segments bad.stands stood.segments bad.sound held.sound bad.starts held.starts in
+      not_unfilled bad.front bad.rest bad.segment (subst (λ (gs : List Segment). AreFilled gs) (sym same ∙ bad.split) held.filled) bad.accepted bad.empty
+
+  -- why no node was opened
+  unopened_done : (t : Status) → (t ≡ status.DiskFault → ⊥) → IsUnopened sink disk t → Done t
+  unopened_done status.Ok none why = absurd why
+  unopened_done status.Usage none why = absurd why
+  unopened_done status.BadScript none why = absurd why
+  unopened_done status.BadBytes none why = absurd (not_refused (disk.view disk.before).seen (disk.view disk.now).seen why.0 refl (why.1 held.tells))
+  unopened_done status.Limit none why = absurd why
+  unopened_done status.ReadFault none why = absurd why
+  unopened_done status.WriteFault none why = absurd why
+  unopened_done status.DiskFault none why = absurd (none refl)
+  unopened_done status.OutOfMemory none why = inr refl
+
+  -- how a session ended
+  session_of : (told : Option (List ℕ)) (o : Served) (left before now : Option (List ℕ)) → told ≡ Some right.bytes → IsNodeSessionOf disk o told left before now → IsNodeSession disk o right.bytes left before now
+  session_of None o left before now e is = absurd (cc e)
+  session_of (Some bytes) o left before now e is = subst (λ (x : List ℕ). IsNodeSession disk o x left before now) (let p : bytes ≡ right.bytes = cc e in p) is
+
+  session_done : (o : Served) (left before now : Option (List ℕ)) → s ≡ status_at o → (s ≡ status.DiskFault → ⊥) → (s ≡ status.ReadFault → ⊥) → (s ≡ status.WriteFault → ⊥)
+      → IsNodeSession disk o right.bytes left before now → Done s
+  session_done served.Done left before now is d r w session = inl is
+  session_done (served.BadLine number rule) left before now is d r w session =
+      let by = session.session in
+      absurd (no_bad_next right.bytes right.lines session.lines by.rest right.all right.each right.requests by.whole by.ends.0.0 _ rule by.ends.2)
+  session_done served.LongLine left before now is d r w session =
+      let by = session.session in
+      absurd (no_long_next right.bytes right.lines session.lines by.rest right.all right.each right.requests by.whole by.ends.0.0 by.ends.2)
+  session_done served.LongInput left before now is d r w session =
+      let more = session.session.ends.1 in
+      let within = right.all.1 in
+      absurd (omega (arith, more, within))
+  session_done served.ReadFault left before now is d r w session = absurd (r is)
+  session_done served.WriteFault left before now is d r w session = absurd (w is)
+  session_done served.DiskFault left before now is d r w session = absurd (d is)
+  session_done served.OutOfMemory left before now is d r w session = inr is
+
+  opened_done : (s ≡ status.DiskFault → ⊥) → ServesNode source sink disk s → Done s
+  opened_done none o =
+      session_done o.outcome source.left sink.before o.replied o.status_is none (λ e. nothing.reads (o.read_fault e)) (λ e. nothing.writes (o.write_fault e))
+      (session_of source.told o.outcome source.left sink.before o.replied right.told (o.session held.tells))
+
+  served_done : (s ≡ status.DiskFault → ⊥) → IsServedOrNot source sink disk s → Done s
+  served_done none (opened o) = opened_done none o
+  served_done none (unopened o) = unopened_done s none o.why
+
+-- ## Each command
+pub completes : {D : Type 0} (asked : Asked) (source : SourceUse) (sink : SinkUse) (disk : DiskUse D) (s : Status) → ScriptBreaksNoRule → Does asked source sink disk s → IsComplete asked source sink disk s
+completes play source sink disk s no_rule does = λ right nothing. play_done source right nothing.reads no_rule sink s nothing.writes does.0
+completes node source sink disk s no_rule does =
+    λ right nothing. served_done source sink disk s right.0 right.1 nothing (no_disk_fault source sink disk s right.0 right.1 nothing does) does.served
+completes (list of name) source sink disk s no_rule does = λ right nothing. listed of name disk right nothing.calls sink s nothing.writes does.told
+
+-- the words are this command's
+pub does_for : {D : Type 0} (did asked : Asked) (source : SourceUse) (sink : SinkUse) (disk : DiskUse D) (s : Status) → words_of did ≡ words_of asked → Does did source sink disk s → Does asked source sink disk s
+does_for did asked source sink disk s e does = subst (λ (a : Asked). Does a source sink disk s) (one_command did asked e) does
+
+-- the place is this one
+pub refused : {D : Type 0} (at place : ℕ) (sink : SinkUse) (disk : DiskUse D) (s : Status) → Some at ≡ Some place → Refuses at sink disk s → Refuses place sink disk s
+refused at place sink disk s e is = subst (λ (n : ℕ). Refuses n sink disk s) (let same : at ≡ place = cc e in same) is
+
+-- the command is this one
+pub does_as : {D : Type 0} (is by : Command) (source : SourceUse) (sink : SinkUse) (disk : DiskUse D) (s : Status) → is ≡ by → Does (asked_in by) source sink disk s → Does (asked_in is) source sink disk s
+does_as is by source sink disk s e does = subst (λ (c : Command). Does (asked_in c) source sink disk s) (sym e) does

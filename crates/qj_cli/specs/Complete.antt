@@ -1,0 +1,79 @@
+-- A command is done where its input is right and nothing fails.
+use Rattle.std.specs.Prelude.{ℕ, ◌≡◌, ◌⊎◌, ◌≤◌, List, [], ◌∷◌, Some, length}
+use Rattle.qj_outside.specs.Faults.{Rose}
+use Rattle.journal_core.specs.declared.node_state.NodeState.{NodeState}
+use Rattle.journal_core.specs.declared.request.Request.{Request}
+use Rattle.journal_core.specs.Segments.{AreSound}
+use Rattle.request_text.specs.Reading.{reading_of}
+use Rattle.request_text.specs.declared.request_line.ReadRequest.TheVariants.{Read}
+use Rattle.segment_file.specs.Opened.{AreStarts}
+use Rattle.node_files.specs.Durable.{StandsAs, AreFilled}
+use Rattle.node_session.specs.Lines.{AreLines}
+use Rattle.node_session.specs.Session.{AreAll}
+use Rattle.script_text.specs.Views.{ScriptView}
+use Rattle.script_text.specs.Grammar.{IsScriptText}
+use Rattle.report_text.specs.Limit.{longest_report}
+use Rattle.qj_cli.specs.declared.status.Status.{Status}
+use Rattle.qj_cli.specs.declared.status.Status.TheVariants as status
+use Rattle.qj_cli.specs.Uses.{SourceUse, SinkUse, DiskUse, AReadFailed, AWriteFailed}
+use Rattle.qj_cli.specs.Commands.{Asked, play, node, list}
+use Rattle.qj_cli.specs.Report.{IsReport}
+use Rattle.qj_cli.specs.Plays.{longest_script}
+use Rattle.qj_cli.specs.Listing.{longest_file, IsSegmentFile, file_under}
+
+-- ## Input in its grammar and within the limits
+-- the source's bytes are a script's, and its report isn't longer than a report may be
+pub record HasScript (source : SourceUse) : Type 0 where
+  pub bytes : List ℕ
+  pub told : source.told ≡ Some bytes
+  pub short : length bytes ≤ longest_script
+  pub script : ScriptView
+  pub reads : IsScriptText bytes script
+  pub within : (text : List ℕ) → IsReport bytes text → length text ≤ longest_report
+
+abbrev pub AreRequests : List (List ℕ) → Type 0
+AreRequests [] = Unit {0}
+AreRequests (line ∷ lines) = ((request : Request) × (reading_of line ≡ Read request)) × AreRequests lines
+
+-- the source's bytes are request lines, of which the last may lack its end
+pub record HasRequests (source : SourceUse) : Type 0 where
+  pub bytes : List ℕ
+  pub told : source.told ≡ Some bytes
+  pub lines : List (List ℕ)
+  pub all : AreAll bytes lines
+  pub each : AreLines lines
+  pub requests : AreRequests lines
+
+-- the disk's files stand for a state that a node may have
+pub record HasNode {D : Type 0} (disk : DiskUse D) : Type 0 where
+  pub tells : disk.tells disk.before
+  pub state : NodeState
+  pub stood : StandsAs (disk.view disk.before).seen state
+  pub sound : AreSound state.segments
+  pub starts : AreStarts state.segments
+  pub filled : AreFilled state.segments
+
+-- the disk has a segment's file under the name
+pub record HasSegment {D : Type 0} (disk : DiskUse D) (name : List ℕ) : Type 0 where
+  pub tells : disk.tells disk.before
+  pub bytes : List ℕ
+  pub there : file_under disk name ≡ Some bytes
+  pub short : length bytes ≤ longest_file
+  pub is : IsSegmentFile bytes
+
+-- what a command wants of its input
+abbrev pub IsRight : {D : Type 0} → Asked → SourceUse → DiskUse D → Type 0
+IsRight play source disk = HasScript source
+IsRight node source disk = HasRequests source × HasNode disk
+IsRight (list of name) source disk = HasSegment disk name
+
+-- ## The clause
+-- no count of faults rose
+pub record NothingFails {D : Type 0} (source : SourceUse) (sink : SinkUse) (disk : DiskUse D) : Type 0 where
+  pub reads : AReadFailed source → ⊥
+  pub writes : AWriteFailed sink → ⊥
+  pub calls : Rose (disk.faults disk.before) (disk.faults disk.now) → ⊥
+
+-- where the input is right and nothing fails the command is done, or memory ran out
+abbrev pub IsComplete : {D : Type 0} → Asked → SourceUse → SinkUse → DiskUse D → Status → Type 0
+IsComplete asked source sink disk s = IsRight asked source disk → NothingFails source sink disk → (s ≡ status.Ok) ⊎ (s ≡ status.OutOfMemory)
