@@ -1,9 +1,8 @@
 // The files that are left on a node's disk.
 ghost use Rattle.script_text.specs.Grammar.{IsScript};
 
-use cluster_runner::play_on;
+use cluster_runner::{play_on, scripts_are_playable};
 use disk_nodes::fresh_nodes;
-use qj_cli::scripts_are_playable;
 use qj_disk::{Disk, MemDisk};
 use script_text::{ReadScript, Script, read_script};
 use std::alloc::Global;

@@ -1,4 +1,3 @@
-pub mod ScriptLaws
 pub mod ReportLaws
 pub mod WordLaws
 pub mod ToldLaws

@@ -11,6 +11,5 @@ pub mod Found
 pub mod Crashes
 pub mod Serving
 pub mod NodeEnds
-pub mod Scripts
 pub mod Does
 pub mod Complete

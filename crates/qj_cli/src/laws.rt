@@ -1,18 +1,10 @@
 // What holds of every script, of all words and of every file.
-ghost use Rattle.qj_cli.specs.Scripts.{ScriptsArePlayable, ScriptNumbersFit};
 ghost use Rattle.qj_cli.specs.Report.{ScriptsHaveOneReport, ReportsShowNoFault};
 ghost use Rattle.qj_cli.specs.Words.{UsageIsOfFirstWrongWord};
 ghost use Rattle.qj_cli.specs.Listing.{FilesHaveOneListing, FilesHaveOneFault, ListedFilesHaveNoFault};
 
 use cluster_runner::{a_mesh_that_agrees_shows_no_fault, one_script_has_one_play};
 use script_text::text_is_of_one_script;
-
-/// A script of the grammar can be played: it has a node, its lines speak of declared writers and of its nodes, and the program can hold
-/// its numbers.
-pub fn scripts_are_playable()
-    ensures lines { ScriptsArePlayable }
-    ensures numbers { ScriptNumbersFit }
-{}
 
 /// A script has one report, so it is too long or it isn't.
 pub fn scripts_have_one_report()

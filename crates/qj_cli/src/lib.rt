@@ -20,7 +20,7 @@ mod writing;
 pub use crash_examples::{crashes_in_two_lines, next_lines_are_behind};
 pub use exit::Exit;
 pub use laws::{
-    files_have_one_listing, reports_show_no_fault, scripts_are_playable, scripts_have_one_report,
+    files_have_one_listing, reports_show_no_fault, scripts_have_one_report,
     usage_is_of_first_wrong_word,
 };
 pub use status::Status;

@@ -7,10 +7,11 @@ ghost use Rattle.qj_cli.specs.Uses.{read_from, written_to};
 ghost use Rattle.qj_cli.specs.Plays.{IsDueReport, IsScriptFault, GivesReport, IsPlayFault, Plays};
 
 use crate::fault::Fault;
-use crate::laws::scripts_are_playable;
 use crate::status::Status;
 use crate::writing::write_due;
-use cluster_runner::{a_mesh_that_agrees_is_safe, a_play_agrees, a_play_follows, play_on};
+use cluster_runner::{
+    a_mesh_that_agrees_is_safe, a_play_agrees, a_play_follows, play_on, scripts_are_playable,
+};
 use disk_nodes::fresh_nodes;
 use journal_core::OutOfMemory;
 use mesh::epoch_order_is_a_run;

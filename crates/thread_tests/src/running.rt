@@ -1,12 +1,11 @@
 // Scripts run by threads, over plain nodes.
 ghost use Rattle.script_text.specs.Grammar.{IsScript};
 
-use cluster_runner::{Played, plain_nodes, play};
+use cluster_runner::{Played, plain_nodes, play, scripts_are_playable};
 use gate_seats::Pass;
 use journal_core::PlainNode;
 use mesh_judge::ordered;
 use node_world::Event;
-use qj_cli::scripts_are_playable;
 use report_text::{Report, report_of};
 use script_text::{ReadScript, Script, read_script};
 use std::alloc::Global;

@@ -1,5 +1,0 @@
-use Rattle.qj_cli.proofs.ScriptLaws.{playable, numbers_fit}
-use Rattle.qj_cli.proofs.laws.scripts_are_playable.Goals as goal
-
-pub returns : goal.returns
-returns c = record { lines = playable; numbers = numbers_fit }
