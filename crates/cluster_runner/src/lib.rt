@@ -10,6 +10,7 @@ mod played;
 mod player;
 mod results;
 
+pub use deeds::take_deed;
 pub use examples::{
     refuses_broken_meshes, shows_competing_takeovers, shows_cut_in_accept, shows_dropped_call,
     shows_epoch_order, shows_fenced_writer, shows_first_order, shows_first_run, shows_killed_nodes,
@@ -21,5 +22,4 @@ pub use laws::{
     a_play_is_a_run, an_actor_does_its_tasks, answers_fix_the_record, each_edit_has_one_result,
     histories_are_local_runs, lines_one_by_one, one_script_has_one_play,
 };
-pub use deeds::take_deed;
 pub use played::{Played, actors_in, plain_nodes, play, play_on};
