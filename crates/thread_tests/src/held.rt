@@ -1,6 +1,7 @@
 // Two actors that are at their calls at one time.
 use crate::running::run_text;
 use gate_seats::Pass;
+use mesh::Mesh;
 use std::sync::Wait;
 use std::sync::atomic::{AtomicU64, Ordering};
 use std::test::Fail;
@@ -54,6 +55,13 @@ impl Pass for Holds {
     }
 }
 
+// Whose call node 1 lists first.
+fn first_caller(mesh: &Mesh) -> Option<u32> {
+    let history = mesh.histories.as_slice().first()?;
+    let line = history.as_slice().first()?;
+    Some(line.caller)
+}
+
 #[test]
 fn held_calls_overlap(rt: HostRuntime) -> Result<(), Fail> {
     let text = b"raw 3\nwriter a\nwriter b\ntakeover a\ntakeover b\n";
@@ -65,6 +73,6 @@ fn held_calls_overlap(rt: HostRuntime) -> Result<(), Fail> {
     assert!(rt; holds.b_at_three.load(Ordering::SeqCst) == 1);
     assert!(rt; ran.played.mesh.records.as_slice().len() == 3);
     // b asks node 1 for its state before a does
-    assert!(rt; ran.played.mesh.histories.as_slice()[0].as_slice()[0].caller == 1);
+    assert!(rt; first_caller(&ran.played.mesh) == Some(1));
     Ok(())
 }

@@ -82,9 +82,9 @@ fn ten_random_scripts_run(rt: HostRuntime) -> Result<(), Fail> {
     for seed in 0..10u64 {
         let text = random_script(rt.alloc(), seed, 60)?;
         let ran = run_text(&rt, rt.alloc(), &text, &FreePass)?;
-        let mut lines = 0;
+        let mut lines = 0u64;
         for history in ran.played.mesh.histories.as_slice() {
-            lines += history.as_slice().len() as u64;
+            lines = lines.saturating_add(history.as_slice().len() as u64);
         }
         assert!(rt; ran.events.len() as u64 <= lines);
         assert!(rt; ran.played.mesh.records.as_slice().len() == 4);
