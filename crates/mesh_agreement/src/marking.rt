@@ -153,9 +153,31 @@ fn is_copy(
     false
 }
 
-/// The line goes by the plan, where these are the calls before it.
+/// The same, where the mark at this place, if any, is looked at first.
+fn is_copy_near(
+    plan: &[Mark],
+    near: Option<usize>,
+    lines: &[Record],
+    table: &CallTable,
+    node: usize,
+    request: &Request,
+) -> bool
+    ensures { (before : List Record) → ((number : ℕ) → asked_by lines.now (slice_get table.now.places.items number) ≡ slice_get (calls_to node before) number) → Decides result (IsCopy plan.now before node request.now) }
+{
+    if let Some(place) = near {
+        if let Some(mark) = plan.get(place) {
+            if is_copy_by(*mark, lines, &table.places, node, request) {
+                return true;
+            }
+        }
+    }
+    is_copy(plan, lines, table, node, request)
+}
+
+/// The line goes by the plan, where these are the calls before it; a late copy's mark is looked for at this place first.
 fn is_line_marked(
     plan: &[Mark],
+    near: Option<usize>,
     dropped: &[Numbers],
     muted: &[Numbers],
     calls: &[CallTable],
@@ -175,7 +197,7 @@ fn is_line_marked(
             as_marked(told, is_dropped, is_muted)
         }
         Record::Late { node, request } => {
-            is_copy(plan, lines, &calls[*node - 1], *node, request.get())
+            is_copy_near(plan, near, lines, &calls[*node - 1], *node, request.get())
         }
         Record::Operator { .. } | Record::Outcome { .. } => true,
     }
@@ -222,8 +244,28 @@ fn has_copy(lines: &[Record], node: usize, request: &Request) -> bool
     false
 }
 
+/// The same, where the line at this place, if any, is looked at first.
+fn has_copy_near(lines: &[Record], near: Option<usize>, node: usize, request: &Request) -> bool
+    ensures { Decides result (Contains lines.now (Late node request.now)) }
+{
+    if let Some(place) = near {
+        if let Some(line) = lines.get(place) {
+            if is_late(line, node, request) {
+                return true;
+            }
+        }
+    }
+    has_copy(lines, node, request)
+}
+
 /// The call with this number, from 1, to a node whose calls are at these places has its copy, if there is such a call.
-fn is_call_copied(lines: &[Record], places: &[usize], node: usize, number: u64) -> bool
+fn is_call_copied(
+    lines: &[Record],
+    near: Option<usize>,
+    places: &[usize],
+    node: usize,
+    number: u64,
+) -> bool
     requires { 1 ≤ number }
     ensures { Decides result ((r : Request) → asked_by lines.now (slice_get places.now (number - 1)) ≡ Some r → Contains lines.now (Late node r)) }
 {
@@ -231,13 +273,13 @@ fn is_call_copied(lines: &[Record], places: &[usize], node: usize, number: u64) 
         return true;
     };
     match lines.get(*place) {
-        Some(Record::Call { request, .. }) => has_copy(lines, node, request.get()),
+        Some(Record::Call { request, .. }) => has_copy_near(lines, near, node, request.get()),
         _ => true,
     }
 }
 
-/// A late mark that came to its call has its copy.
-fn is_copied(lines: &[Record], calls: &[CallTable], mark: Mark) -> bool
+/// A late mark that came to its call has its copy, which is looked for at this place first.
+fn is_copied(lines: &[Record], near: Option<usize>, calls: &[CallTable], mark: Mark) -> bool
     requires within { AreWithin (length calls.now) lines.now }
     requires calls { KnowsCalls (length calls.now) lines.now lines.now calls.now }
     ensures { Decides result (IsCopied lines.now mark) }
@@ -254,37 +296,83 @@ fn is_copied(lines: &[Record], calls: &[CallTable], mark: Mark) -> bool
     if mark.number < 1 {
         return true;
     }
-    is_call_copied(lines, &calls[mark.node - 1].places, mark.node, mark.number)
+    let places = &calls[mark.node - 1].places;
+    is_call_copied(lines, near, places, mark.node, mark.number)
 }
 
 /// That of the mark at this place of a plan.
-fn is_copied_at(lines: &[Record], calls: &[CallTable], plan: &[Mark], index: usize) -> bool
+fn is_copied_at(
+    lines: &[Record],
+    near: Option<usize>,
+    calls: &[CallTable],
+    plan: &[Mark],
+    index: usize,
+) -> bool
     requires within { AreWithin (length calls.now) lines.now }
     requires calls { KnowsCalls (length calls.now) lines.now lines.now calls.now }
     requires mark { index < length plan.now }
     ensures { (d : Mark) → Decides result (IsCopied lines.now (slice_index_or plan.now index d)) }
 {
     match plan.get(index) {
-        Some(mark) => is_copied(lines, calls, *mark),
+        Some(mark) => is_copied(lines, near, calls, *mark),
         None => true,
     }
 }
 
-/// Each late mark that came to its call has its copy.
-fn are_copied(plan: &[Mark], lines: &[Record], calls: &[CallTable]) -> bool
+/// The mark at this place of a plan is a late one.
+fn is_late_at(plan: &[Mark], index: usize) -> bool {
+    match plan.get(index) {
+        Some(mark) => mark.kind == MarkKind::Late,
+        None => false,
+    }
+}
+
+/// The places in a plan of its late marks.
+fn late_marks(alloc: Global, plan: &[Mark]) -> Result<Vec<usize>, OutOfMemory> {
+    let mut places = Vec::new(alloc);
+    for (place, mark) in plan.iter().enumerate() {
+        if mark.kind == MarkKind::Late {
+            places.push(place)?;
+        }
+    }
+    Ok(places)
+}
+
+/// The places in a record of its late copies.
+fn late_lines(alloc: Global, lines: &[Record]) -> Result<Vec<usize>, OutOfMemory> {
+    let mut places = Vec::new(alloc);
+    for (place, line) in lines.iter().enumerate() {
+        if matches!(line, Record::Late { .. }) {
+            places.push(place)?;
+        }
+    }
+    Ok(places)
+}
+
+/// Each late mark that came to its call has its copy; the copies are at these places of the record, and are looked for there in
+/// the order of their marks first.
+fn are_copied(plan: &[Mark], lines: &[Record], copies: &[usize], calls: &[CallTable]) -> bool
     requires within { AreWithin (length calls.now) lines.now }
     requires calls { KnowsCalls (length calls.now) lines.now lines.now calls.now }
     ensures { Decides result (AreCopied plan.now lines.now) }
 {
+    let mut count = 0;
     for index in 0..plan.len() {
-        if !is_copied_at(lines, calls, plan, index) {
+        if !is_copied_at(lines, copies.get(count).copied(), calls, plan, index) {
             return false;
+        }
+        if count < copies.len() && is_late_at(plan, index) {
+            count += 1;
         }
     }
     true
 }
 
 /// The calls of a record are dropped, muted and copied as the plan of its actor marks them.
+///
+/// The copies of a record and the late marks of its plan are taken for pairs in their order, as a play and threads make them: then
+/// the cost is near n log n for n lines and marks. Where they stand in different orders, each copy that isn't at its mark's place
+/// costs a scan of the plan, and its mark one of the record.
 pub(crate) fn goes_by_plan(
     alloc: Global,
     nodes: usize,
@@ -296,12 +384,19 @@ pub(crate) fn goes_by_plan(
 {
     let dropped = numbers_marked(alloc, nodes, plan, MarkKind::Dropped)?;
     let muted = numbers_marked(alloc, nodes, plan, MarkKind::Muted)?;
+    let marks = late_marks(alloc, plan)?;
+    let copies = late_lines(alloc, lines)?;
     let mut calls = no_calls(alloc, nodes)?;
+    let mut count = 0;
     for (place, line) in lines.iter().enumerate() {
-        if !is_line_marked(plan, &dropped, &muted, &calls, lines, line) {
+        let near = marks.get(count).copied();
+        if !is_line_marked(plan, near, &dropped, &muted, &calls, lines, line) {
             return Ok(false);
         }
         push_line(&mut calls, place, line)?;
+        if count < marks.len() && matches!(line, Record::Late { .. }) {
+            count += 1;
+        }
     }
-    Ok(are_copied(plan, lines, &calls))
+    Ok(are_copied(plan, lines, &copies, &calls))
 }

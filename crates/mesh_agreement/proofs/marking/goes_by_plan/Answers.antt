@@ -14,15 +14,15 @@ loop-place-init c = (marked_begin c.args.plan.now c.args.lines.now, c.in_ok-call
 
 pub is_line_marked-requires-clause-within : goal.is_line_marked-requires-clause-within
 is_line_marked-requires-clause-within c =
-    let n : length c.deref-in-loop-place-2.result.now ≡ c.args.nodes = ap length c.deref-in-loop-place-2.ensures.value ∙ c.loop-place.invariant.1.count in
+    let n : length c.deref-in-loop-place-3.result.now ≡ c.args.nodes = ap length c.deref-in-loop-place-3.ensures.value ∙ c.loop-place.invariant.1.count in
     subst (λ k. IsWithin k c.index-lines-place.result) (sym n) (line_within c.args.nodes c.loop-place.place c.args.lines.now c.index-lines-place.result c.requires c.loop-place-test.true c.index-lines-place.is)
 
 pub returns-then-not-is_line_marked : goal.returns-then-not-is_line_marked
 returns-then-not-is_line_marked c =
-    let e : c.deref-in-loop-place-2.result.now ≡ c.loop-place.calls.items = c.deref-in-loop-place-2.ensures.value in
-    let n : length c.deref-in-loop-place-2.result.now ≡ c.args.nodes = ap length e ∙ c.loop-place.invariant.1.count in
-    let known : KnowsCalls (length c.deref-in-loop-place-2.result.now) c.args.lines.now (take c.loop-place.place c.args.lines.now) c.deref-in-loop-place-2.result.now =
-    subst (λ k. KnowsCalls k c.args.lines.now (take c.loop-place.place c.args.lines.now) c.deref-in-loop-place-2.result.now) (sym n)
+    let e : c.deref-in-loop-place-3.result.now ≡ c.loop-place.calls.items = c.deref-in-loop-place-3.ensures.value in
+    let n : length c.deref-in-loop-place-3.result.now ≡ c.args.nodes = ap length e ∙ c.loop-place.invariant.1.count in
+    let known : KnowsCalls (length c.deref-in-loop-place-3.result.now) c.args.lines.now (take c.loop-place.place c.args.lines.now) c.deref-in-loop-place-3.result.now =
+    subst (λ k. KnowsCalls k c.args.lines.now (take c.loop-place.place c.args.lines.now) c.deref-in-loop-place-3.result.now) (sym n)
     (subst (λ t. KnowsCalls c.args.nodes c.args.lines.now (take c.loop-place.place c.args.lines.now) t) (sym e) c.loop-place.invariant.1) in
     let marked = c.is_line_marked.ensures (take c.loop-place.place c.args.lines.now) known in
     no (IsMarked c.args.plan.now [] c.args.lines.now × AreCopied c.args.plan.now c.args.lines.now)
@@ -37,10 +37,10 @@ push_line-requires c =
 
 pub loop-place-preserved : goal.loop-place-preserved
 loop-place-preserved c =
-    let e : c.deref-in-loop-place-2.result.now ≡ c.loop-place.calls.items = c.deref-in-loop-place-2.ensures.value in
-    let n : length c.deref-in-loop-place-2.result.now ≡ c.args.nodes = ap length e ∙ c.loop-place.invariant.1.count in
-    let known : KnowsCalls (length c.deref-in-loop-place-2.result.now) c.args.lines.now (take c.loop-place.place c.args.lines.now) c.deref-in-loop-place-2.result.now =
-    subst (λ k. KnowsCalls k c.args.lines.now (take c.loop-place.place c.args.lines.now) c.deref-in-loop-place-2.result.now) (sym n)
+    let e : c.deref-in-loop-place-3.result.now ≡ c.loop-place.calls.items = c.deref-in-loop-place-3.ensures.value in
+    let n : length c.deref-in-loop-place-3.result.now ≡ c.args.nodes = ap length e ∙ c.loop-place.invariant.1.count in
+    let known : KnowsCalls (length c.deref-in-loop-place-3.result.now) c.args.lines.now (take c.loop-place.place c.args.lines.now) c.deref-in-loop-place-3.result.now =
+    subst (λ k. KnowsCalls k c.args.lines.now (take c.loop-place.place c.args.lines.now) c.deref-in-loop-place-3.result.now) (sym n)
     (subst (λ t. KnowsCalls c.args.nodes c.args.lines.now (take c.loop-place.place c.args.lines.now) t) (sym e) c.loop-place.invariant.1) in
     let marked = c.is_line_marked.ensures (take c.loop-place.place c.args.lines.now) known in
     let f : c.deref_mut.result.now ≡ c.loop-place.calls.items = c.deref_mut.ensures.value in

@@ -21,6 +21,6 @@ returns-in-Call c before known =
 pub returns-in-Late : goal.returns-in-Late
 returns-in-Late c before known =
     let low = subst (IsWithin (length c.args.calls.now)) c.in-Late.is c.requires.within in
-    let copy = c.is_copy.ensures before (calls_known (length c.args.calls.now) c.in-Late.node c.args.lines.now before c.args.calls.now c.index-calls-node-in-Late.result low c.index-calls-node-in-Late.is known) in
-    subst (λ line. Decides c.is_copy.result (LineIsMarked c.args.plan.now before line)) (sym c.in-Late.is)
-    (subst (λ q. Decides c.is_copy.result (IsCopy c.args.plan.now before c.in-Late.node q)) c.get.ensures copy)
+    let copy = c.is_copy_near.ensures before (calls_known (length c.args.calls.now) c.in-Late.node c.args.lines.now before c.args.calls.now c.index-calls-node-in-Late.result low c.index-calls-node-in-Late.is known) in
+    subst (λ line. Decides c.is_copy_near.result (LineIsMarked c.args.plan.now before line)) (sym c.in-Late.is)
+    (subst (λ q. Decides c.is_copy_near.result (IsCopy c.args.plan.now before c.in-Late.node q)) c.get.ensures copy)
