@@ -65,11 +65,19 @@ const ENTRIES: (Status, &[u8]) = (
 #[test]
 fn a_known_file_is_listed(rt: HostRuntime) -> Result<(), Fail> {
     let mut disk = one_edit(rt.alloc())?;
-    lists(&rt, rt.alloc(), &mut disk, ["oev", "list", "edits"], &[], LISTED)?;
-    lists(&rt, rt.alloc(), &mut disk, ["oev", "stats", "edits"], &[], COUNTED)?;
-    lists(&rt, rt.alloc(), &mut disk, ["oev", "json", "edits"], &[], ENTRIES)?;
+    for (tool, ending) in [("list", LISTED), ("stats", COUNTED), ("json", ENTRIES)] {
+        lists(
+            &rt,
+            rt.alloc(),
+            &mut disk,
+            ["oev", tool, "edits"],
+            &[],
+            ending,
+        )?;
+    }
     let mut untold = UntoldDisk::new(disk);
-    lists(&rt, rt.alloc(), &mut untold, ["oev", "list", "edits"], &[], LISTED)
+    let words = ["oev", "list", "edits"];
+    lists(&rt, rt.alloc(), &mut untold, words, &[], LISTED)
 }
 
 #[test]
@@ -77,7 +85,14 @@ fn absent_files_are_told(rt: HostRuntime) -> Result<(), Fail> {
     let mut disk = one_edit(rt.alloc())?;
     for name in ["", "edit", "edits/", "paxos"] {
         let absent = (Status::BadBytes, b"error BadBytes 0 NoFile\n".as_slice());
-        lists(&rt, rt.alloc(), &mut disk, ["oev", "list", name], &[], absent)?;
+        lists(
+            &rt,
+            rt.alloc(),
+            &mut disk,
+            ["oev", "list", name],
+            &[],
+            absent,
+        )?;
     }
     Ok(())
 }
@@ -116,7 +131,14 @@ fn failing_disks_are_told(rt: HostRuntime) -> Result<(), Fail> {
     let fault = (Status::DiskFault, b"error DiskFault\n".as_slice());
     for (call, ending) in [(0, fault), (1, fault), (2, LISTED)] {
         disk.fail_at([call].to_vec(rt.alloc())?);
-        lists(&rt, rt.alloc(), &mut disk, ["oev", "list", "edits"], &[], ending)?;
+        lists(
+            &rt,
+            rt.alloc(),
+            &mut disk,
+            ["oev", "list", "edits"],
+            &[],
+            ending,
+        )?;
     }
     Ok(())
 }
@@ -126,11 +148,25 @@ fn failing_writes_of_listings_are_told(rt: HostRuntime) -> Result<(), Fail> {
     let mut disk = one_edit(rt.alloc())?;
     for (name, status) in [("edits", Status::WriteFault), ("absent", Status::BadBytes)] {
         let unwritten = (status, b"".as_slice());
-        lists(&rt, rt.alloc(), &mut disk, ["oev", "list", name], &[0], unwritten)?;
+        lists(
+            &rt,
+            rt.alloc(),
+            &mut disk,
+            ["oev", "list", name],
+            &[0],
+            unwritten,
+        )?;
     }
     disk.fail_at([0].to_vec(rt.alloc())?);
     let fault = (Status::DiskFault, b"".as_slice());
-    lists(&rt, rt.alloc(), &mut disk, ["oev", "list", "edits"], &[0], fault)
+    lists(
+        &rt,
+        rt.alloc(),
+        &mut disk,
+        ["oev", "list", "edits"],
+        &[0],
+        fault,
+    )
 }
 
 #[test]
@@ -146,10 +182,26 @@ fn images_are_listed(rt: HostRuntime) -> Result<(), Fail> {
             Status::Ok,
             b"Path\tReplication\tModificationTime\tAccessTime\tPreferredBlockSize\tBlocksCount\tFileSize\tNSQUOTA\tDSQUOTA\tPermission\tUserName\tGroupName\n/\t0\t0\t0\t0\t0\t0\t-1\t-1\tdrwxr-xr-x\thdfs\tsupergroup\n",
         ),
-        (["oiv", "delimited", "longer"], Status::BadBytes, b"error BadBytes 68 Trailing\n"),
-        (["oiv", "sizes", "longer"], Status::BadBytes, b"error BadBytes 68 Trailing\n"),
-        (["oiv", "json", "absent"], Status::BadBytes, b"error BadBytes 0 NoFile\n"),
-        (["oev", "json", "image"], Status::BadBytes, b"error BadBytes 0 Header\n"),
+        (
+            ["oiv", "delimited", "longer"],
+            Status::BadBytes,
+            b"error BadBytes 68 Trailing\n",
+        ),
+        (
+            ["oiv", "sizes", "longer"],
+            Status::BadBytes,
+            b"error BadBytes 68 Trailing\n",
+        ),
+        (
+            ["oiv", "json", "absent"],
+            Status::BadBytes,
+            b"error BadBytes 0 NoFile\n",
+        ),
+        (
+            ["oev", "json", "image"],
+            Status::BadBytes,
+            b"error BadBytes 0 Header\n",
+        ),
     ];
     for (words, status, text) in cases {
         lists(&rt, rt.alloc(), &mut disk, words, &[], (status, text))?;

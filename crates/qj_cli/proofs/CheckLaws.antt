@@ -29,29 +29,29 @@ module _ {D : Type 0} (disk : DiskUse D) (sink : SinkUse) (rests : disk.tells di
   }
 
   pub found_checks : (findings : ℕ) → HasCalls disk → (is : (text : List ℕ) × IsReport (disk.tells disk.before) (disk.view disk.before).seen text findings × Appends sink.before sink.now text × NoWriteFailed sink)
-      → HasCause (disk.faults disk.before) (disk.faults disk.now) (disk.steady disk.before) (disk.steady disk.now) (Ok tt) → Checks disk sink (status_with findings)
+      → HasCause (disk.faults disk.before) (disk.faults disk.now) (disk.steady disk.before) (disk.steady disk.now) (disk_answer status.Ok) → Checks disk sink (status_with findings)
   found_checks findings calls is cause = record {
     told = wrote_text (status_with findings) is.0 (record { findings = findings; good_is = refl; report = is.1; calls = calls }) (inl (refl, is.3, is.2));
-    disk_is = only_read (Ok tt) (status_with findings) (λ e. absurd (no_fault_with (findings == 0) e)) cause;
+    disk_is = only_read (disk_answer status.Ok) (status_with findings) (λ e. absurd (no_fault_with (findings == 0) e)) cause;
   }
 
   pub cut_checks : HasCalls disk → (is : (text : List ℕ) × (findings : ℕ) × IsReport (disk.tells disk.before) (disk.view disk.before).seen text findings × TakesFront sink.before sink.now text × AWriteFailed sink)
-      → HasCause (disk.faults disk.before) (disk.faults disk.now) (disk.steady disk.before) (disk.steady disk.now) (Ok tt) → Checks disk sink status.WriteFault
+      → HasCause (disk.faults disk.before) (disk.faults disk.now) (disk.steady disk.before) (disk.steady disk.now) (disk_answer status.Ok) → Checks disk sink status.WriteFault
   cut_checks calls is cause = record {
     told = wrote_text (status_with is.1) is.0 (record { findings = is.1; good_is = refl; report = is.2; calls = calls }) (inr (refl, is.4, is.3));
-    disk_is = only_read (Ok tt) status.WriteFault (λ e. absurd (cc e)) cause;
+    disk_is = only_read (disk_answer status.Ok) status.WriteFault (λ e. absurd (cc e)) cause;
   }
 
-  pub failed_checks : (s : Status) → TellsFault fault.DiskFault s sink → HasCause (disk.faults disk.before) (disk.faults disk.now) (disk.steady disk.before) (disk.steady disk.now) (Err {T = Unit {0}} fail.Failed)
+  pub failed_checks : (s : Status) → TellsFault fault.DiskFault s sink → HasCause (disk.faults disk.before) (disk.faults disk.now) (disk.steady disk.before) (disk.steady disk.now) (disk_answer status.DiskFault)
       → Checks disk sink s
   failed_checks s tells cause = record {
     told = told_fault fault.DiskFault (cause.failed refl) tells;
-    disk_is = only_read (Err {T = Unit {0}} fail.Failed) s (λ e. refl) cause;
+    disk_is = only_read (disk_answer status.DiskFault) s (λ e. refl) cause;
   }
 
-  pub lost_checks : (s : Status) → TellsFault fault.OutOfMemory s sink → HasCause (disk.faults disk.before) (disk.faults disk.now) (disk.steady disk.before) (disk.steady disk.now) (Err {T = Unit {0}} fail.OutOfMemory)
+  pub lost_checks : (s : Status) → TellsFault fault.OutOfMemory s sink → HasCause (disk.faults disk.before) (disk.faults disk.now) (disk.steady disk.before) (disk.steady disk.now) (disk_answer status.OutOfMemory)
       → Checks disk sink s
   lost_checks s tells cause = record {
     told = told_fault fault.OutOfMemory tt tells;
-    disk_is = only_read (Err {T = Unit {0}} fail.OutOfMemory) s (λ e. absurd (let is : disk_answer status.OutOfMemory ≡ Err fail.Failed = sym (ap disk_answer (told_status fault.OutOfMemory s sink (λ b. b) tells)) ∙ e in cc is)) cause;
+    disk_is = only_read (disk_answer status.OutOfMemory) s (λ e. absurd (let is : disk_answer status.OutOfMemory ≡ Err fail.Failed = sym (ap disk_answer (told_status fault.OutOfMemory s sink (λ b. b) tells)) ∙ e in cc is)) cause;
   }

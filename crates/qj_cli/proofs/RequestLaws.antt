@@ -53,7 +53,7 @@ behind [] lines rest are each requests e = record { lines = lines; each = each; 
 behind (a ∷ done) [] rest are each requests e = absurd (no_text a (lines_text done ++ rest) (sym (append_assoc (a ++ 10 ∷ []) (lines_text done) rest) ∙ e))
 behind (a ∷ done) (b ∷ lines) rest are each requests e =
     let same = first_line a b (lines_text done ++ rest) (lines_text lines) are.0 each.0
-      (sym (joined a (lines_text done ++ rest)) ∙ sym (append_assoc (a ++ 10 ∷ []) (lines_text done) rest) ∙ e ∙ joined b (lines_text lines)) in
+    (sym (joined a (lines_text done ++ rest)) ∙ sym (append_assoc (a ++ 10 ∷ []) (lines_text done) rest) ∙ e ∙ joined b (lines_text lines)) in
     behind done lines rest are.2 each.2 requests.1 same.1
 
 -- ## The next line

@@ -111,7 +111,7 @@ module _ {D : Type 0} (sink : SinkUse) (disk : DiskUse D) (s : Status) where
   pub opening_cause : (of : OpenFail D) (f g : ℕ) (was is : Type 0) → TellsFault (fault_in of) s sink → IsCauseOf f g was is (is_fault of) → IsCauseOf f g was is (is_disk_fault s)
   opening_cause of f g was is tells cause =
       let back : is_disk_fault s ≡ true → is_fault of ≡ true = λ e.
-        opening_fault of (told_fault (fault_in of) tells.told tells.told_as (sym tells.status_is ∙ was_fault s e)) in
+      opening_fault of (told_fault (fault_in of) tells.told tells.told_as (sym tells.status_is ∙ was_fault s e)) in
       record {
         later = cause.later;
         rose = λ e. cause.rose (back e);

@@ -95,7 +95,12 @@ fn due_of_found(alloc: Global, tool: Tool, found: &Found) -> Result<Vec<u8>, Fau
 }
 
 /// Reads the file that has this name and tells what is due of it.
-fn due_of_name<D: Disk>(alloc: Global, tool: Tool, name: &str, disk: &mut D) -> Result<Vec<u8>, Fault>
+fn due_of_name<D: Disk>(
+    alloc: Global,
+    tool: Tool,
+    name: &str,
+    disk: &mut D,
+) -> Result<Vec<u8>, Fault>
     ensures text { IfOk result (λ text. GivesListing tool name.now (done_to D.tells D.view D.faults D.steady D.left disk.old disk.new) Status.Ok text.items) }
     ensures fault { IfErr result (IsListFault tool name.now (done_to D.tells D.view D.faults D.steady D.left disk.old disk.new)) }
     ensures tells { D.tells disk.old ↔ D.tells disk.new }

@@ -1,4 +1,3 @@
-
 use Rattle.qj_cli.proofs.ToldLaws.{told_of, cause_told}
 use Rattle.qj_cli.proofs.listing.list_file.Goals as goal
 
