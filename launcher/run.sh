@@ -52,7 +52,9 @@ name_from_root() {
 # Runs the sources without a proof on descriptor 3. Fails where that gave no answer of the program's own.
 try_sources() {
   say "a quick run of the sources, not of the proved program (./qjm --build proves and builds that, once)"
-  [ $# -ne 3 ] || [ "$1" != oev ] || set -- "$1" "$2" "$(name_from_root "$3")"
+  case $#$1 in
+    3oev | 3oiv) set -- "$1" "$2" "$(name_from_root "$3")" ;;
+  esac
   (cd "$top/crates/qjm" && exec rt try -- "$@") <&3 >"$room/output" 2>"$room/notes"
   status=$?
   grep -q "^run=ended status=$status " "$room/notes"
@@ -116,5 +118,18 @@ serve_node() {
   open_input node
   run_program node
   [ "$status" -eq 0 ] || explain node
+  exit "$status"
+}
+
+# Checks the current folder, of the proved program alone: a quick run sees no folder but its own.
+check_folder() {
+  if ! is_proved; then
+    say "a folder is checked by the proved program alone, and that isn't built yet"
+    build || exit
+  fi
+  make_room
+  open_input fsck
+  run_program fsck
+  [ "$status" -eq 0 ] || explain fsck
   exit "$status"
 }

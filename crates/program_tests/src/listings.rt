@@ -25,16 +25,22 @@ fn one_edit(alloc: Global) -> Result<MemDisk, Fail> {
     Ok(disk)
 }
 
-/// `oev` with these words ends so, where these writes fail.
+/// The image of an empty namespace at txid 0.
+const IMAGE: [u8; 68] = [
+    0x51, 0x4a, 0x49, 0x4d, 0, 0, 0, 1, 0, 0, 0, 0, 0, 0, 0, 0, 0, 0, 0, 1, 0, 1, 0x2f, 0, 0, 0, 0,
+    0, 0, 0, 0, 0, 0x01, 0xed, 0, 4, 0x68, 0x64, 0x66, 0x73, 0, 0x0a, 0x73, 0x75, 0x70, 0x65, 0x72,
+    0x67, 0x72, 0x6f, 0x75, 0x70, 0, 0, 0, 0, 0, 0, 0, 0, 0, 0, 0, 0, 0, 0, 0, 0,
+];
+
+/// The tool of this program with these words ends so, where these writes fail.
 fn lists<D: Disk>(
     rt: &impl Abort,
     alloc: Global,
     disk: &mut D,
-    words: [&str; 2],
+    words: [&str; 3],
     lost_writes: &[u64],
     ending: (Status, &[u8]),
 ) -> Result<(), Fail> {
-    let [tool, name] = words;
     let (status, text) = ending;
     let case = Case {
         input: b"raw 3\n",
@@ -43,7 +49,7 @@ fn lists<D: Disk>(
         status,
         text,
     };
-    ends_so(rt, alloc, disk, &["oev", tool, name], &case)
+    ends_so(rt, alloc, disk, &words, &case)
 }
 
 /// How a listing of that file ends.
@@ -51,13 +57,27 @@ const LISTED: (Status, &[u8]) = (Status::Ok, b"1 START_LOG_SEGMENT\n");
 
 const COUNTED: (Status, &[u8]) = (Status::Ok, b"OP_START_LOG_SEGMENT 24 1\ntotal 1\n");
 
+const ENTRIES: (Status, &[u8]) = (
+    Status::Ok,
+    b"[{\"op\":\"OP_START_LOG_SEGMENT\",\"txid\":1}]\n",
+);
+
 #[test]
 fn a_known_file_is_listed(rt: HostRuntime) -> Result<(), Fail> {
     let mut disk = one_edit(rt.alloc())?;
-    lists(&rt, rt.alloc(), &mut disk, ["list", "edits"], &[], LISTED)?;
-    lists(&rt, rt.alloc(), &mut disk, ["stats", "edits"], &[], COUNTED)?;
+    for (tool, ending) in [("list", LISTED), ("stats", COUNTED), ("json", ENTRIES)] {
+        lists(
+            &rt,
+            rt.alloc(),
+            &mut disk,
+            ["oev", tool, "edits"],
+            &[],
+            ending,
+        )?;
+    }
     let mut untold = UntoldDisk::new(disk);
-    lists(&rt, rt.alloc(), &mut untold, ["list", "edits"], &[], LISTED)
+    let words = ["oev", "list", "edits"];
+    lists(&rt, rt.alloc(), &mut untold, words, &[], LISTED)
 }
 
 #[test]
@@ -65,7 +85,14 @@ fn absent_files_are_told(rt: HostRuntime) -> Result<(), Fail> {
     let mut disk = one_edit(rt.alloc())?;
     for name in ["", "edit", "edits/", "paxos"] {
         let absent = (Status::BadBytes, b"error BadBytes 0 NoFile\n".as_slice());
-        lists(&rt, rt.alloc(), &mut disk, ["list", name], &[], absent)?;
+        lists(
+            &rt,
+            rt.alloc(),
+            &mut disk,
+            ["oev", "list", name],
+            &[],
+            absent,
+        )?;
     }
     Ok(())
 }
@@ -90,9 +117,9 @@ fn damaged_files_are_told(rt: HostRuntime) -> Result<(), Fail> {
         ("code", b"error BadBytes 43 Opcode\n"),
     ];
     for (name, line) in cases {
-        for tool in ["list", "stats"] {
+        for tool in ["list", "stats", "json"] {
             let told = (Status::BadBytes, line);
-            lists(&rt, rt.alloc(), &mut disk, [tool, name], &[], told)?;
+            lists(&rt, rt.alloc(), &mut disk, ["oev", tool, name], &[], told)?;
         }
     }
     Ok(())
@@ -104,7 +131,14 @@ fn failing_disks_are_told(rt: HostRuntime) -> Result<(), Fail> {
     let fault = (Status::DiskFault, b"error DiskFault\n".as_slice());
     for (call, ending) in [(0, fault), (1, fault), (2, LISTED)] {
         disk.fail_at([call].to_vec(rt.alloc())?);
-        lists(&rt, rt.alloc(), &mut disk, ["list", "edits"], &[], ending)?;
+        lists(
+            &rt,
+            rt.alloc(),
+            &mut disk,
+            ["oev", "list", "edits"],
+            &[],
+            ending,
+        )?;
     }
     Ok(())
 }
@@ -114,9 +148,63 @@ fn failing_writes_of_listings_are_told(rt: HostRuntime) -> Result<(), Fail> {
     let mut disk = one_edit(rt.alloc())?;
     for (name, status) in [("edits", Status::WriteFault), ("absent", Status::BadBytes)] {
         let unwritten = (status, b"".as_slice());
-        lists(&rt, rt.alloc(), &mut disk, ["list", name], &[0], unwritten)?;
+        lists(
+            &rt,
+            rt.alloc(),
+            &mut disk,
+            ["oev", "list", name],
+            &[0],
+            unwritten,
+        )?;
     }
     disk.fail_at([0].to_vec(rt.alloc())?);
     let fault = (Status::DiskFault, b"".as_slice());
-    lists(&rt, rt.alloc(), &mut disk, ["list", "edits"], &[0], fault)
+    lists(
+        &rt,
+        rt.alloc(),
+        &mut disk,
+        ["oev", "list", "edits"],
+        &[0],
+        fault,
+    )
+}
+
+#[test]
+fn images_are_listed(rt: HostRuntime) -> Result<(), Fail> {
+    let mut disk = MemDisk::new(rt.alloc());
+    let mut longer = IMAGE.to_vec(rt.alloc())?;
+    longer.push(0)?;
+    put(&mut disk, "image", &IMAGE)?;
+    put(&mut disk, "longer", &longer)?;
+    let cases: [([&str; 3], Status, &[u8]); 5] = [
+        (
+            ["oiv", "delimited", "image"],
+            Status::Ok,
+            b"Path\tReplication\tModificationTime\tAccessTime\tPreferredBlockSize\tBlocksCount\tFileSize\tNSQUOTA\tDSQUOTA\tPermission\tUserName\tGroupName\n/\t0\t0\t0\t0\t0\t0\t-1\t-1\tdrwxr-xr-x\thdfs\tsupergroup\n",
+        ),
+        (
+            ["oiv", "delimited", "longer"],
+            Status::BadBytes,
+            b"error BadBytes 68 Trailing\n",
+        ),
+        (
+            ["oiv", "sizes", "longer"],
+            Status::BadBytes,
+            b"error BadBytes 68 Trailing\n",
+        ),
+        (
+            ["oiv", "json", "absent"],
+            Status::BadBytes,
+            b"error BadBytes 0 NoFile\n",
+        ),
+        (
+            ["oev", "json", "image"],
+            Status::BadBytes,
+            b"error BadBytes 0 Header\n",
+        ),
+    ];
+    for (words, status, text) in cases {
+        lists(&rt, rt.alloc(), &mut disk, words, &[], (status, text))?;
+    }
+    Ok(())
 }

@@ -132,6 +132,50 @@ fn the_known_session_is_served(rt: HostRuntime) -> Result<(), Fail> {
     Ok(())
 }
 
+/// A check of the disk's files ends so.
+fn checks<D: Disk>(
+    rt: &impl Abort,
+    alloc: Global,
+    disk: &mut D,
+    lost_writes: &[u64],
+    status: Status,
+    text: &[u8],
+) -> Result<(), Fail> {
+    let case = Case {
+        input: b"state\n",
+        lost_reads: &[0],
+        lost_writes,
+        status,
+        text,
+    };
+    ends_so(rt, alloc, disk, &["fsck"], &case)
+}
+
+#[test]
+fn a_folder_is_checked(rt: HostRuntime) -> Result<(), Fail> {
+    let mut disk = MemDisk::new(rt.alloc());
+    checks(&rt, rt.alloc(), &mut disk, &[], Status::Ok, b"findings 0\n")?;
+    serves_known(&rt, rt.alloc(), &mut disk)?;
+    let fine =
+        b"ok committed-txid\nok edits_0000000000000000002-0000000000000000002\nok last-promised-epoch\nok last-writer-epoch\nfindings 0\n";
+    checks(&rt, rt.alloc(), &mut disk, &[], Status::Ok, fine)?;
+    checks(&rt, rt.alloc(), &mut disk, &[0], Status::WriteFault, b"")?;
+    let renamed = "edits_0000000000000000002-0000000000000000003";
+    disk.rename("edits_0000000000000000002-0000000000000000002", renamed)?;
+    let found =
+        b"ok committed-txid\nbad edits_0000000000000000002-0000000000000000003 3 3 2\nok last-promised-epoch\nok last-writer-epoch\nfindings 1\n";
+    checks(&rt, rt.alloc(), &mut disk, &[], Status::Unsound, found)?;
+    disk.fail_at([0].to_vec(rt.alloc())?);
+    checks(
+        &rt,
+        rt.alloc(),
+        &mut disk,
+        &[],
+        Status::DiskFault,
+        b"error DiskFault\n",
+    )
+}
+
 #[test]
 fn a_node_is_served_again(rt: HostRuntime) -> Result<(), Fail> {
     let mut disk = MemDisk::new(rt.alloc());

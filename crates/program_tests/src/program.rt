@@ -131,7 +131,7 @@ fn scripts_without_a_writer_are_played(rt: HostRuntime) -> Result<(), Fail> {
 
 #[test]
 fn bad_words_are_told(rt: HostRuntime) -> Result<(), Fail> {
-    let cases: [(&[&str], &[u8]); 11] = [
+    let cases: [(&[&str], &[u8]); 18] = [
         (&[], b"error Usage 0\n"),
         (&["view"], b"error Usage 0\n"),
         (&["play", "twice"], b"error Usage 1\n"),
@@ -143,6 +143,13 @@ fn bad_words_are_told(rt: HostRuntime) -> Result<(), Fail> {
         (&["oev", "list"], b"error Usage 2\n"),
         (&["oev", "list", "a", "b"], b"error Usage 3\n"),
         (&["oev", "stats", "", "b", "c"], b"error Usage 3\n"),
+        (&["oev", "sizes", "a"], b"error Usage 1\n"),
+        (&["oev", "json"], b"error Usage 2\n"),
+        (&["oiv"], b"error Usage 1\n"),
+        (&["oiv", "list", "a"], b"error Usage 1\n"),
+        (&["oiv", "delimited"], b"error Usage 2\n"),
+        (&["oiv", "json", "a", "b"], b"error Usage 3\n"),
+        (&["fsck", "a"], b"error Usage 1\n"),
     ];
     for (words, text) in cases {
         let case = Case {

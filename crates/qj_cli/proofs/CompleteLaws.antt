@@ -1,10 +1,14 @@
 -- Where the input is right and nothing fails a command is done, or memory ran out.
-use Rattle.std.proofs.Common.{◌≡◌, ℕ, ◌<◌, ◌≤◌, List, Option, Some, None, refl, sym, ap, subst, ◌∙◌, arith, inl, inr, ◌⊎◌, length}
+use Rattle.std.proofs.Common.{◌≡◌, ℕ, ◌<◌, ◌≤◌, List, Option, Some, None, Bool, true, false, ◌==◌, refl, sym, ap, subst, ◌∙◌, arith, inl, inr, ◌⊎◌, length}
+use Rattle.std.specs.Prelude.{if◌then◌else◌}
 use Rattle.qj_outside.specs.Faults.{Rose}
 use Rattle.journal_core.specs.declared.segment.Segment.{Segment}
+use Rattle.journal_core.specs.declared.node_state.NodeState.{NodeState}
 use Rattle.journal_node.specs.Opening.{IsRefusedFile}
 use Rattle.journal_node.proofs.Reopens.{one_segments, not_unfilled}
 use Rattle.node_files.specs.Durable.{StandsAs, AreFilled}
+use Rattle.node_files.specs.Opening.{IsUnfilled}
+use Rattle.node_session.specs.Session.{EndsBy}
 use Rattle.node_session.specs.declared.served.Served.{Served}
 use Rattle.node_session.specs.declared.served.Served.TheVariants as served
 use Rattle.qj_disk.specs.Files.{Files}
@@ -19,13 +23,15 @@ use Rattle.qj_cli.specs.declared.tool.Tool.{Tool}
 use Rattle.qj_cli.specs.Uses.{SourceUse, SinkUse, DiskUse}
 use Rattle.qj_cli.specs.Faults.{status_of}
 use Rattle.qj_cli.specs.Told.{IsToldAs, TellsFault, TellsText, Told, wrote_text, told_fault}
-use Rattle.qj_cli.specs.Commands.{Asked, asked_in, play, node, list, words_of}
-use Rattle.qj_cli.specs.Plays.{longest_script, AreTold, IsReadWhole, IsTooLong, IsPlayFault, Plays}
+use Rattle.qj_cli.specs.Commands.{Asked, asked_in, play, node, fsck, list, words_of}
+use Rattle.qj_cli.specs.Plays.{longest_script, AreTold, IsReadWhole, IsTooLong, GivesReport, IsPlayFault, Plays}
 use Rattle.qj_cli.specs.Report.{HasLongReport}
-use Rattle.qj_cli.specs.Listing.{longest_file, IsTooLong as IsTooLongFile, file_under, IsFileFault, OfFile, GivesListing, IsListFault}
-use Rattle.qj_cli.specs.Serving.{status_at, is_disk_fault, IsNodeSessionOf, IsNodeSession, ServesNode, IsUnopened, IsServedOrNot, opened, unopened, Serves}
+use Rattle.qj_cli.specs.Listing.{longest_file, IsTooLong as IsTooLongFile, IsInGrammar, IsBytesFault, file_under, IsFileFault, OfFile, GivesListing, IsListFault, Lists}
+use Rattle.qj_cli.specs.Serving.{status_at, is_disk_fault, IsNodeSessionOf, IsNodeSession, ServesNode, IsUnopened, OpensNone, IsServedOrNot, opened, unopened, Serves}
+use Rattle.qj_cli.specs.Checks.{status_with, GivesFindings, IsCheckFault}
 use Rattle.qj_cli.specs.Does.{Does, Refuses}
-use Rattle.qj_cli.specs.Complete.{HasScript, HasRequests, HasNode, HasSegment, NothingFails, IsComplete}
+use Rattle.qj_cli.specs.Complete.{HasScript, HasRequests, HasNode, HasFile, NothingFails, IsComplete}
+use Rattle.qj_cli.proofs.OneListing.{in_grammar}
 use Rattle.qj_cli.proofs.WordLaws.{one_command}
 use Rattle.qj_cli.proofs.RequestLaws.{no_bad_next, no_long_next}
 
@@ -78,6 +84,7 @@ module _ (source : SourceUse) (right : HasScript source) (reads : Rose source.fa
   play_fault (fault.BadScript line rule) s sink is tells = let none : fault_of is.0 ≡ None = unbroken is.0 is.1 in let some = is.2 in absurd (cc (none, some))
   play_fault fault.NoFile s sink is tells = absurd is
   play_fault (fault.BadBytes place cause) s sink is tells = absurd is
+  play_fault (fault.BadImage place cause) s sink is tells = absurd is
   play_fault (fault.BadFile name) s sink is tells = absurd is
   play_fault (fault.Limit number) s sink is tells = absurd (limit_none number is)
   play_fault fault.ReadFault s sink is tells = absurd (reads is)
@@ -89,7 +96,7 @@ module _ (source : SourceUse) (right : HasScript source) (reads : Rose source.fa
   play_done sink s writes (told_fault of is tells) = play_fault of s sink is tells
 
 -- ## A listing
-module _ {D : Type 0} (of : Tool) (name : List ℕ) (disk : DiskUse D) (right : HasSegment disk name) (calls : Rose (disk.faults disk.before) (disk.faults disk.now) → ⊥) where
+module _ {D : Type 0} (of : Tool) (name : List ℕ) (disk : DiskUse D) (right : HasFile of disk name) (calls : Rose (disk.faults disk.before) (disk.faults disk.now) → ⊥) where
   there : (P : Option (List ℕ) → Type 0) → OfFile disk name P → P (Some right.bytes)
   there P is = subst P (is.same right.tells ∙ right.there) is.so
 
@@ -103,20 +110,56 @@ module _ {D : Type 0} (of : Tool) (name : List ℕ) (disk : DiskUse D) (right : 
       let short : length right.bytes ≤ longest_file = right.short in
       omega (arith, same, is, short)
 
-  list_fault : (why : Fault) (s : Status) (sink : SinkUse) → IsListFault name disk why → TellsFault why s sink → Done s
+  list_fault : (why : Fault) (s : Status) (sink : SinkUse) → IsListFault of name disk why → TellsFault why s sink → Done s
   list_fault (fault.Usage place) s sink is tells = absurd is
   list_fault (fault.BadScript line rule) s sink is tells = absurd is
-  list_fault fault.NoFile s sink is tells = absurd (some_file (there (λ file. IsFileFault file fault.NoFile) is))
-  list_fault (fault.BadBytes place cause) s sink is tells = absurd ((there (λ file. IsFileFault file (fault.BadBytes place cause)) is).1 right.is)
+  list_fault fault.NoFile s sink is tells = absurd (some_file (there (λ file. IsFileFault of file fault.NoFile) is))
+  list_fault (fault.BadBytes place cause) s sink is tells = absurd (in_grammar of right.bytes (fault.BadBytes place cause) right.is (there (λ file. IsFileFault of file (fault.BadBytes place cause)) is).1)
+  list_fault (fault.BadImage place cause) s sink is tells = absurd (in_grammar of right.bytes (fault.BadImage place cause) right.is (there (λ file. IsFileFault of file (fault.BadImage place cause)) is).1)
   list_fault (fault.BadFile file) s sink is tells = absurd is
   list_fault (fault.Limit number) s sink is tells = absurd (file_long (file_under disk name) right.there (is.2 right.tells))
   list_fault fault.ReadFault s sink is tells = absurd is
   list_fault fault.DiskFault s sink is tells = absurd (calls is.0)
   list_fault fault.OutOfMemory s sink is tells = memory_told tells.told s tells.told_as tells.status_is
 
-  listed : (sink : SinkUse) (s : Status) → (Rose sink.faults_before sink.faults_now → ⊥) → Told (GivesListing of name disk) (IsListFault name disk) s sink → Done s
+  listed : (sink : SinkUse) (s : Status) → (Rose sink.faults_before sink.faults_now → ⊥) → Told (GivesListing of name disk) (IsListFault of name disk) s sink → Done s
   listed sink s writes (wrote_text good bytes gives tells) = text_done good s bytes sink gives.0 writes tells
   listed sink s writes (told_fault why is tells) = list_fault why s sink is tells
+
+-- ## A check of the files
+-- it is done, with findings or none, or memory ran out
+abbrev Checked : Status → Type 0
+Checked s = ((s ≡ status.Ok) ⊎ (s ≡ status.Unsound)) ⊎ (s ≡ status.OutOfMemory)
+
+with_findings : (b : Bool) → ((if b then status.Ok else status.Unsound) ≡ status.Ok) ⊎ ((if b then status.Ok else status.Unsound) ≡ status.Unsound)
+with_findings true = inl refl
+with_findings false = inr refl
+
+good_checked : (s good : Status) → s ≡ good → (good ≡ status.Ok) ⊎ (good ≡ status.Unsound) → Checked s
+good_checked s good e (inl is) = inl (inl (e ∙ is))
+good_checked s good e (inr is) = inl (inr (e ∙ is))
+
+memory_checked : (s : Status) → Done s → Checked s
+memory_checked s (inl e) = inl (inl e)
+memory_checked s (inr e) = inr e
+
+module _ {D : Type 0} (disk : DiskUse D) (calls : Rose (disk.faults disk.before) (disk.faults disk.now) → ⊥) where
+  check_fault : (why : Fault) (s : Status) (sink : SinkUse) → IsCheckFault disk why → TellsFault why s sink → Checked s
+  check_fault (fault.Usage place) s sink is tells = absurd is
+  check_fault (fault.BadScript line rule) s sink is tells = absurd is
+  check_fault fault.NoFile s sink is tells = absurd is
+  check_fault (fault.BadBytes place cause) s sink is tells = absurd is
+  check_fault (fault.BadImage place cause) s sink is tells = absurd is
+  check_fault (fault.BadFile file) s sink is tells = absurd is
+  check_fault (fault.Limit number) s sink is tells = absurd is
+  check_fault fault.ReadFault s sink is tells = absurd is
+  check_fault fault.DiskFault s sink is tells = absurd (calls is)
+  check_fault fault.OutOfMemory s sink is tells = memory_checked s (memory_told tells.told s tells.told_as tells.status_is)
+
+  checked : (sink : SinkUse) (s : Status) → (Rose sink.faults_before sink.faults_now → ⊥) → Told (GivesFindings disk) (IsCheckFault disk) s sink → Checked s
+  checked sink s writes (wrote_text good bytes gives (inl w)) = good_checked s (status_with gives.findings) (w.0 ∙ gives.good_is) (with_findings (gives.findings == 0))
+  checked sink s writes (wrote_text good bytes gives (inr w)) = absurd (writes w.1)
+  checked sink s writes (told_fault why is tells) = check_fault why s sink is tells
 
 -- ## A node
 module _ {D : Type 0} (source : SourceUse) (sink : SinkUse) (disk : DiskUse D) (s : Status) (right : HasRequests source) (held : HasNode disk) (nothing : NothingFails source sink disk) where
@@ -137,6 +180,7 @@ module _ {D : Type 0} (source : SourceUse) (sink : SinkUse) (disk : DiskUse D) (
   unopened_done status.BadScript none why = absurd why
   unopened_done status.BadBytes none why = absurd (not_refused (disk.view disk.before).seen (disk.view disk.now).seen why.0 refl (why.1 held.tells))
   unopened_done status.Limit none why = absurd why
+  unopened_done status.Unsound none why = absurd why
   unopened_done status.ReadFault none why = absurd why
   unopened_done status.WriteFault none why = absurd why
   unopened_done status.DiskFault none why = absurd (none refl)
@@ -179,6 +223,7 @@ pub completes : {D : Type 0} (asked : Asked) (source : SourceUse) (sink : SinkUs
 completes play source sink disk s no_rule does = λ right nothing. play_done source right nothing.reads no_rule sink s nothing.writes does.0
 completes node source sink disk s no_rule does =
     λ right nothing. served_done source sink disk s right.0 right.1 nothing (no_disk_fault source sink disk s right.0 right.1 nothing does) does.served
+completes fsck source sink disk s no_rule does = λ right nothing. checked disk nothing.calls sink s nothing.writes does.told
 completes (list of name) source sink disk s no_rule does = λ right nothing. listed of name disk right nothing.calls sink s nothing.writes does.told
 
 -- the words are this command's

@@ -4,6 +4,7 @@ pub mod ToldLaws
 pub mod PlayLaws
 pub mod ListLaws
 pub mod OneListing
+pub mod CheckLaws
 pub mod ServingLaws
 pub mod NodeLaws
 pub mod EndedLaws

@@ -1,8 +1,17 @@
 -- What is due of a listing.
-use Rattle.std.proofs.Common.{◌≡◌, ℕ, ◌+◌, List, Option, Some, None, Result, Ok, Err, refl, sym, ap, ◌∙◌, suc, subst, arith}
+use Rattle.std.proofs.Common.{◌≡◌, ℕ, ◌+◌, ◌≤◌, List, Option, Some, None, Result, Ok, Err, length, refl, sym, ap, ◌∙◌, suc, subst, arith}
 use Rattle.std.specs.Prelude.{IfOk, IfErr, IsErrAnd, IsErrOf}
 use Rattle.qj_disk.specs.declared.disk.DiskFail.{DiskFail}
 use Rattle.qj_disk.specs.declared.disk.DiskFail.TheVariants as fail
+use Rattle.ns_tree.specs.declared.inode.Row.{Row}
+use Rattle.image_codec.specs.Reading.{reading_of}
+use Rattle.image_codec.specs.declared.image_cause.ImageCause.{ImageCause as Cause}
+use Rattle.image_codec.specs.declared.answer.ReadImage.{ReadImage}
+use Rattle.image_codec.specs.declared.answer.ReadImage.TheVariants as readings
+use Rattle.oiv_tool.specs.declared.listing.ByteCause.{ByteCause as ImageCause}
+use Rattle.oiv_tool.specs.declared.listing.Listing.{Listing}
+use Rattle.oiv_tool.specs.declared.listing.Listing.TheVariants.{Text, BadBytes, OutOfMemory}
+use Rattle.oiv_tool.specs.Listed.{cause_of, IsAnswer}
 use Rattle.qj_cli.specs.declared.status.Status.TheVariants as status
 use Rattle.qj_cli.specs.declared.fault.Fault.{Fault}
 use Rattle.qj_cli.specs.declared.fault.Fault.TheVariants as fault
@@ -10,44 +19,64 @@ use Rattle.qj_cli.specs.declared.tool.Tool.{Tool}
 use Rattle.qj_cli.specs.declared.found.Found.{Found}
 use Rattle.qj_cli.specs.declared.found.Found.TheVariants.{Absent, TooLong, Bytes}
 use Rattle.qj_cli.specs.Uses.{DiskUse}
-use Rattle.qj_cli.specs.Listing.{file_under, HasCalls, GivesListing, IsListFault}
-use Rattle.qj_cli.specs.Found.{IsFound, GivesFound, IsBytesFault, IsFoundFault}
+use Rattle.qj_cli.specs.Listing.{IsImageTold, file_under, HasCalls, OfFile, GivesListing, IsListFault}
+use Rattle.qj_cli.specs.Found.{IsFound, IsReadFault, GivesFound, IsFoundFault}
 
 -- ## What was found
-module _ {D : Type 0} (name : List ℕ) (disk : DiskUse D) (calls : HasCalls disk) where
-  found_text : (of : Tool) (found : Found) (text : List ℕ) → (disk.tells disk.before → IsFound (file_under disk name) found) → GivesFound of found text → GivesListing of name disk status.Ok text
-  found_text of Absent text is gives = absurd gives
-  found_text of TooLong text is gives = absurd gives
-  found_text of (Bytes bytes) text is gives = (refl, record { file = Some bytes.items; same = λ t. sym (is t); calls = calls; so = gives })
+-- an image's fault, by what the bytes are read as
+pub image_fault : (tell : List Row → List ℕ) (bytes : List ℕ) (place : ℕ) (cause : ImageCause) (r : ReadImage) → reading_of bytes ≡ r → IsAnswer tell r (BadBytes place cause)
+    → (why : Cause) × (reading_of bytes ≡ readings.BadImage place why) × (cause_of why ≡ Some cause)
+image_fault tell bytes place cause (readings.Image space txid) e is = absurd is
+image_fault tell bytes place cause (readings.BadImage at why) e is = (why, e ∙ ap (λ (n : ℕ). readings.BadImage n why) (sym is.0), is.1)
 
-  bytes_fault : (bytes : List ℕ) (of : Fault) → (disk.tells disk.before → file_under disk name ≡ Some bytes) → IsBytesFault bytes of → IsListFault name disk of
-  bytes_fault bytes (fault.Usage place) is why = absurd why
-  bytes_fault bytes (fault.BadScript line rule) is why = absurd why
-  bytes_fault bytes fault.NoFile is why = absurd why
-  bytes_fault bytes (fault.BadBytes place cause) is why = record { file = Some bytes; same = λ t. sym (is t); calls = calls; so = why }
-  bytes_fault bytes (fault.BadFile name) is why = absurd why
-  bytes_fault bytes (fault.Limit number) is why = absurd why
-  bytes_fault bytes fault.ReadFault is why = absurd why
-  bytes_fault bytes fault.DiskFault is why = absurd why
-  bytes_fault bytes fault.OutOfMemory is why = tt
+-- of a text, where there is one
+abbrev pub WhenText : Listing → (List ℕ → Type 0) → Type 0
+WhenText (Text text) P = P text.items
+WhenText (BadBytes place cause) P = Unit {0}
+WhenText OutOfMemory P = Unit {0}
 
-  absent : (disk.tells disk.before → file_under disk name ≡ None) → IsListFault name disk fault.NoFile
+-- and its text
+pub image_text : (tell : List Row → List ℕ) (bytes : List ℕ) (listing : Listing) (r : ReadImage) → reading_of bytes ≡ r → IsAnswer tell r listing → WhenText listing (IsImageTold tell bytes)
+image_text tell bytes (Text text) (readings.Image space txid) e is = record { space = space; txid = txid; read = e; spelled = is }
+image_text tell bytes (Text text) (readings.BadImage at why) e is = absurd is
+image_text tell bytes (BadBytes place cause) r e is = tt
+image_text tell bytes OutOfMemory r e is = tt
+
+module _ {D : Type 0} (name : List ℕ) (disk : DiskUse D) (calls : HasCalls disk) (of : Tool) where
+  found_text : (found : Found) (text : List ℕ) → (disk.tells disk.before → IsFound (file_under disk name) found) → GivesFound of found text → GivesListing of name disk status.Ok text
+  found_text Absent text is gives = absurd gives
+  found_text TooLong text is gives = absurd gives
+  found_text (Bytes bytes) text is gives = (refl, record { file = Some bytes.items; same = λ t. sym (is t); calls = calls; so = gives })
+
+  bytes_fault : (bytes : List ℕ) (why : Fault) → (disk.tells disk.before → file_under disk name ≡ Some bytes) → IsReadFault of bytes why → IsListFault of name disk why
+  bytes_fault bytes (fault.Usage place) is so = absurd so
+  bytes_fault bytes (fault.BadScript line rule) is so = absurd so
+  bytes_fault bytes fault.NoFile is so = absurd so
+  bytes_fault bytes (fault.BadBytes place cause) is so = record { file = Some bytes; same = λ t. sym (is t); calls = calls; so = so }
+  bytes_fault bytes (fault.BadImage place cause) is so = record { file = Some bytes; same = λ t. sym (is t); calls = calls; so = so }
+  bytes_fault bytes (fault.BadFile file) is so = absurd so
+  bytes_fault bytes (fault.Limit number) is so = absurd so
+  bytes_fault bytes fault.ReadFault is so = absurd so
+  bytes_fault bytes fault.DiskFault is so = absurd so
+  bytes_fault bytes fault.OutOfMemory is so = tt
+
+  absent : (disk.tells disk.before → file_under disk name ≡ None) → IsListFault of name disk fault.NoFile
   absent is = record { file = None; same = λ t. sym (is t); calls = calls; so = refl }
 
-  found_fault : (found : Found) (of : Fault) → (disk.tells disk.before → IsFound (file_under disk name) found) → IsFoundFault found of → IsListFault name disk of
-  found_fault Absent of is why = subst (λ (f : Fault). IsListFault name disk f) (sym why) (absent is)
-  found_fault TooLong of is why = subst (λ (f : Fault). IsListFault name disk f) (sym why) (refl, calls, is)
-  found_fault (Bytes bytes) of is why = bytes_fault bytes.items of is why
+  found_fault : (found : Found) (why : Fault) → (disk.tells disk.before → IsFound (file_under disk name) found) → IsFoundFault of found why → IsListFault of name disk why
+  found_fault Absent why is so = subst (λ (f : Fault). IsListFault of name disk f) (sym so) (absent is)
+  found_fault TooLong why is so = subst (λ (f : Fault). IsListFault of name disk f) (sym so) (refl, calls, is)
+  found_fault (Bytes bytes) why is so = bytes_fault bytes.items why is so
 
-  pub found_ok : {T : Type 0} (items : T → List ℕ) (of : Tool) (found : Found) (due : Result T Fault) → (disk.tells disk.before → IsFound (file_under disk name) found)
+  pub found_ok : {T : Type 0} (items : T → List ℕ) (found : Found) (due : Result T Fault) → (disk.tells disk.before → IsFound (file_under disk name) found)
       → IfOk due (λ t. GivesFound of found (items t)) → IfOk due (λ t. GivesListing of name disk status.Ok (items t))
-  found_ok items of found (Ok t) is gives = found_text of found (items t) is gives
-  found_ok items of found (Err e) is gives = tt
+  found_ok items found (Ok t) is gives = found_text found (items t) is gives
+  found_ok items found (Err e) is gives = tt
 
-  pub found_err : {T : Type 0} (found : Found) (due : Result T Fault) → (disk.tells disk.before → IsFound (file_under disk name) found) → IfErr due (IsFoundFault found)
-      → IfErr due (IsListFault name disk)
-  found_err found (Ok t) is why = tt
-  found_err found (Err e) is why = found_fault found e is why
+  pub found_err : {T : Type 0} (found : Found) (due : Result T Fault) → (disk.tells disk.before → IsFound (file_under disk name) found) → IfErr due (IsFoundFault of found)
+      → IfErr due (IsListFault of name disk)
+  found_err found (Ok t) is so = tt
+  found_err found (Err e) is so = found_fault found e is so
 
 pub found_no_fault : {T : Type 0} (found : T) → Ok found ≡ Err fail.Failed → ⊥
 found_no_fault found e = absurd (cc e)

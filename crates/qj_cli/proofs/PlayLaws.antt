@@ -6,7 +6,7 @@ use Rattle.qj_cli.specs.declared.status.Status.TheVariants as status
 use Rattle.qj_cli.specs.declared.fault.Fault.{Fault}
 use Rattle.qj_cli.specs.declared.fault.Fault.TheVariants as fault
 use Rattle.qj_cli.specs.Uses.{SourceUse, NoReadFailed}
-use Rattle.qj_cli.specs.Plays.{longest_script, AreTold, IsReadOut, IsReadWhole, IsDueReport, IsScriptFault, GivesReport, IsPlayFault}
+use Rattle.qj_cli.specs.Plays.{longest_script, AreTold, IsReadOut, IsReadWhole, IsTooLong, IsDueReport, IsScriptFault, GivesReport, IsPlayFault}
 
 are_told : (told left : Option (List ℕ)) (bytes : List ℕ) → GivesAll told left bytes → AreTold told bytes
 are_told None left bytes all = tt
@@ -33,6 +33,7 @@ fault_of_bytes source bytes (fault.Usage place) read is = absurd is
 fault_of_bytes source bytes (fault.BadScript line rule) read is = (bytes, read, is)
 fault_of_bytes source bytes fault.NoFile read is = absurd is
 fault_of_bytes source bytes (fault.BadBytes place cause) read is = absurd is
+fault_of_bytes source bytes (fault.BadImage place cause) read is = absurd is
 fault_of_bytes source bytes (fault.BadFile name) read is = absurd is
 fault_of_bytes source bytes (fault.Limit number) read is = inr (bytes, read, is)
 fault_of_bytes source bytes fault.ReadFault read is = absurd is

@@ -6,6 +6,7 @@ use Rattle.journal_node.specs.declared.open_fail.OpenFail.{OpenFail}
 use Rattle.journal_node.specs.declared.open_fail.OpenFail.TheVariants as fail
 use Rattle.journal_node.specs.Opening.{IsRefusedOpening, IsCauseOf, is_fault}
 use Rattle.node_session.specs.declared.served.Served.{Served}
+use Rattle.node_session.specs.declared.served.Served.TheVariants as served
 use Rattle.qj_cli.specs.declared.status.Status.{Status}
 use Rattle.qj_cli.specs.declared.status.Status.TheVariants as status
 use Rattle.qj_cli.specs.declared.fault.Fault.{Fault}
@@ -92,6 +93,7 @@ module _ {D : Type 0} (sink : SinkUse) (disk : DiskUse D) (s : Status) where
   was_fault status.BadScript e = absurd (cc e)
   was_fault status.BadBytes e = absurd (cc e)
   was_fault status.Limit e = absurd (cc e)
+  was_fault status.Unsound e = absurd (cc e)
   was_fault status.ReadFault e = absurd (cc e)
   was_fault status.WriteFault e = absurd (cc e)
   was_fault status.DiskFault e = refl

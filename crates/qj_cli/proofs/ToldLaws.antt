@@ -1,10 +1,11 @@
 -- What was written of what is due.
-use Rattle.std.proofs.Common.{◌≡◌, List, Result, Ok, Err, refl, sym, ap, subst, ◌∙◌, inl, inr}
-use Rattle.std.specs.Prelude.{ℕ, IfOk, IfErr, OnOk}
+use Rattle.std.proofs.Common.{◌≡◌, List, Option, Result, Ok, Err, refl, sym, ap, subst, ◌∙◌, inl, inr, ◌⊎◌}
+use Rattle.std.specs.Prelude.{ℕ, IfOk, IfErr, OnOk, IsErrOf}
 use Rattle.std.specs.Io.KnownBytes.{Appends}
 use Rattle.qj_outside.specs.Faults.{CountsFaults}
 use Rattle.qj_outside.specs.Whole.{TakesFront}
 use Rattle.qj_disk.specs.Calls.{HasCause}
+use Rattle.qj_disk.specs.declared.disk.DiskFail.{DiskFail}
 use Rattle.qj_disk.specs.declared.disk.DiskFail.TheVariants as fail
 use Rattle.qj_cli.specs.declared.status.Status.{Status}
 use Rattle.qj_cli.specs.declared.status.Status.TheVariants as status
@@ -35,6 +36,7 @@ bad_file_is (fault.Usage place) is = absurd is
 bad_file_is (fault.BadScript line rule) is = absurd is
 bad_file_is fault.NoFile is = absurd is
 bad_file_is (fault.BadBytes place cause) is = absurd is
+bad_file_is (fault.BadImage place cause) is = absurd is
 bad_file_is (fault.BadFile name) is = (name, refl)
 bad_file_is (fault.Limit number) is = absurd is
 bad_file_is fault.ReadFault is = absurd is
@@ -54,6 +56,7 @@ fault_back (fault.Usage place) e = absurd (cc e)
 fault_back (fault.BadScript line rule) e = absurd (cc e)
 fault_back fault.NoFile e = absurd (cc e)
 fault_back (fault.BadBytes place cause) e = absurd (cc e)
+fault_back (fault.BadImage place cause) e = absurd (cc e)
 fault_back (fault.BadFile name) e = absurd (cc e)
 fault_back (fault.Limit number) e = absurd (cc e)
 fault_back fault.ReadFault e = absurd (cc e)
@@ -75,12 +78,30 @@ answered_back {T} items (Err of) s sink wrote tells e =
     let told : tells.told ≡ fault.DiskFault = fault_back tells.told (sym (ap disk_answer tells.status_is) ∙ e) in
     ap (λ (f : Fault). answer_of {T = T} (Err f)) (told_back of tells.told tells.told_as told)
 
-pub cause_told : {T : Type 0} (items : T → List ℕ) (due : Result T Fault) (s : Status) (sink : SinkUse) (f g : ℕ) (was is : Type 0)
-    → IfOk due (λ t. TellsText status.Ok (items t) s sink) → IfErr due (λ e. TellsFault e s sink) → HasCause f g was is (answer_of due) → HasCause f g was is (disk_answer s)
-cause_told items due s sink f g was is wrote tells h = record {
+pub cause_from : {T U : Type 0} (r : Result T DiskFail) (q : Result U DiskFail) (f g : ℕ) (was is : Type 0) → (IsErrOf q fail.Failed → IsErrOf r fail.Failed) → HasCause f g was is r → HasCause f g was is q
+cause_from r q f g was is back h = record {
   later = h.later;
-  failed = λ e. h.failed (answered_back items due s sink wrote tells e);
+  failed = λ e. h.failed (back e);
   steady = h.steady;
-  no_fault = λ w e. h.no_fault w (answered_back items due s sink wrote tells e);
+  no_fault = λ w e. h.no_fault w (back e);
   same = h.same;
 }
+
+pub cause_told : {T : Type 0} (items : T → List ℕ) (due : Result T Fault) (s : Status) (sink : SinkUse) (f g : ℕ) (was is : Type 0)
+    → IfOk due (λ t. TellsText status.Ok (items t) s sink) → IfErr due (λ e. TellsFault e s sink) → HasCause f g was is (answer_of due) → HasCause f g was is (disk_answer s)
+cause_told items due s sink f g was is wrote tells h = cause_from (answer_of due) (disk_answer s) f g was is (answered_back items due s sink wrote tells) h
+
+-- the sink before a fault was told is the one before
+pub tells_from : (of : Fault) (s : Status) (sink : SinkUse) (mid : Option (List ℕ)) (u : ℕ) → mid ≡ sink.before → u ≡ sink.faults_before
+    → TellsFault of s (record { before = mid; now = sink.now; faults_before = u; faults_now = sink.faults_now }) → TellsFault of s sink
+tells_from of s sink mid u e f tells =
+    subst (λ (k : ℕ). TellsFault of s (record { before = sink.before; now = sink.now; faults_before = k; faults_now = sink.faults_now })) f
+    (subst (λ (m : Option (List ℕ)). TellsFault of s (record { before = m; now = sink.now; faults_before = u; faults_now = sink.faults_now })) e tells)
+
+-- the status of a fault that isn't a bad file
+pub told_status : (of : Fault) (s : Status) (sink : SinkUse) → (IsBadFile of → ⊥) → TellsFault of s sink → s ≡ status_of of
+told_status of s sink n tells = tells.status_is ∙ ap status_of (by tells.told_as)
+  where
+    by : IsToldAs of tells.told → tells.told ≡ of
+    by (inl e) = e
+    by (inr e) = absurd (n e.1)

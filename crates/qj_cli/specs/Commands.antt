@@ -1,35 +1,52 @@
 -- The commands, and the words that ask for them.
 use Rattle.std.specs.Prelude.{ℕ, ◌≡◌, List, [], ◌∷◌, codes}
+use Rattle.qj_cli.specs.declared.tool.SegmentTool.{SegmentTool}
+use Rattle.qj_cli.specs.declared.tool.SegmentTool.TheVariants as segment
+use Rattle.qj_cli.specs.declared.tool.ImageTool.{ImageTool}
+use Rattle.qj_cli.specs.declared.tool.ImageTool.TheVariants as image
 use Rattle.qj_cli.specs.declared.tool.Tool.{Tool}
 use Rattle.qj_cli.specs.declared.tool.Tool.TheVariants as tool
 use Rattle.qj_cli.specs.declared.command.Command.{Command}
 use Rattle.qj_cli.specs.declared.command.Command.TheVariants as command
 
--- What can be asked for: a script is played, a node is served, or the file of this name is listed by this tool.
+-- What can be asked for: a script is played, a node is served, the disk's files are checked, or the file of this name is listed by this tool.
 pub data Asked : Type 0 where
   play : Asked
   node : Asked
+  fsck : Asked
   list : Tool → List ℕ → Asked
 
 -- the same as the program has it
 abbrev pub asked_in : Command → Asked
 asked_in command.Play = play
 asked_in command.Node = node
+asked_in command.Fsck = fsck
 asked_in (command.Listing of name) = list of name.now
 
 -- ## The words of a tool
 abbrev pub program_of : Tool → List ℕ
-program_of tool.List = codes "oev"
-program_of tool.Stats = codes "oev"
+program_of (tool.Oev of) = codes "oev"
+program_of (tool.Oiv of) = codes "oiv"
+
+abbrev pub segment_word : SegmentTool → List ℕ
+segment_word segment.List = codes "list"
+segment_word segment.Stats = codes "stats"
+segment_word segment.Json = codes "json"
+
+abbrev pub image_word : ImageTool → List ℕ
+image_word image.Delimited = codes "delimited"
+image_word image.Sizes = codes "sizes"
+image_word image.Json = codes "json"
 
 abbrev pub word_of : Tool → List ℕ
-word_of tool.List = codes "list"
-word_of tool.Stats = codes "stats"
+word_of (tool.Oev of) = segment_word of
+word_of (tool.Oiv of) = image_word of
 
 -- ## The words of a command
 abbrev pub words_of : Asked → List (List ℕ)
 words_of play = codes "play" ∷ []
 words_of node = codes "node" ∷ []
+words_of fsck = codes "fsck" ∷ []
 words_of (list of name) = program_of of ∷ word_of of ∷ name ∷ []
 
 abbrev pub IsCommand : List (List ℕ) → Type 0

@@ -13,13 +13,14 @@ use Rattle.node_session.specs.Session.{AreAll}
 use Rattle.script_text.specs.Views.{ScriptView}
 use Rattle.script_text.specs.Grammar.{IsScriptText}
 use Rattle.report_text.specs.Limit.{longest_report}
+use Rattle.qj_cli.specs.declared.tool.Tool.{Tool}
 use Rattle.qj_cli.specs.declared.status.Status.{Status}
 use Rattle.qj_cli.specs.declared.status.Status.TheVariants as status
 use Rattle.qj_cli.specs.Uses.{SourceUse, SinkUse, DiskUse, AReadFailed, AWriteFailed}
-use Rattle.qj_cli.specs.Commands.{Asked, play, node, list}
+use Rattle.qj_cli.specs.Commands.{Asked, play, node, fsck, list}
 use Rattle.qj_cli.specs.Report.{IsReport}
 use Rattle.qj_cli.specs.Plays.{longest_script}
-use Rattle.qj_cli.specs.Listing.{longest_file, IsSegmentFile, file_under}
+use Rattle.qj_cli.specs.Listing.{longest_file, IsInGrammar, file_under}
 
 -- ## Input in its grammar and within the limits
 -- the source's bytes are a script's, and its report isn't longer than a report may be
@@ -53,19 +54,20 @@ pub record HasNode {D : Type 0} (disk : DiskUse D) : Type 0 where
   pub starts : AreStarts state.segments
   pub filled : AreFilled state.segments
 
--- the disk has a segment's file under the name
-pub record HasSegment {D : Type 0} (disk : DiskUse D) (name : List ℕ) : Type 0 where
+-- the disk has such a file as the tool wants under the name
+pub record HasFile {D : Type 0} (of : Tool) (disk : DiskUse D) (name : List ℕ) : Type 0 where
   pub tells : disk.tells disk.before
   pub bytes : List ℕ
   pub there : file_under disk name ≡ Some bytes
   pub short : length bytes ≤ longest_file
-  pub is : IsSegmentFile bytes
+  pub is : IsInGrammar of bytes
 
 -- what a command wants of its input
 abbrev pub IsRight : {D : Type 0} → Asked → SourceUse → DiskUse D → Type 0
 IsRight play source disk = HasScript source
 IsRight node source disk = HasRequests source × HasNode disk
-IsRight (list of name) source disk = HasSegment disk name
+IsRight fsck source disk = Unit {0}
+IsRight (list of name) source disk = HasFile of disk name
 
 -- ## The clause
 -- no count of faults rose
@@ -74,6 +76,13 @@ pub record NothingFails {D : Type 0} (source : SourceUse) (sink : SinkUse) (disk
   pub writes : AWriteFailed sink → ⊥
   pub calls : Rose (disk.faults disk.before) (disk.faults disk.now) → ⊥
 
+-- a command that was done has status Ok, or Unsound where it told a finding
+abbrev pub IsDone : Asked → Status → Type 0
+IsDone play s = s ≡ status.Ok
+IsDone node s = s ≡ status.Ok
+IsDone fsck s = (s ≡ status.Ok) ⊎ (s ≡ status.Unsound)
+IsDone (list of name) s = s ≡ status.Ok
+
 -- where the input is right and nothing fails the command is done, or memory ran out
 abbrev pub IsComplete : {D : Type 0} → Asked → SourceUse → SinkUse → DiskUse D → Status → Type 0
-IsComplete asked source sink disk s = IsRight asked source disk → NothingFails source sink disk → (s ≡ status.Ok) ⊎ (s ≡ status.OutOfMemory)
+IsComplete asked source sink disk s = IsRight asked source disk → NothingFails source sink disk → IsDone asked s ⊎ (s ≡ status.OutOfMemory)

@@ -2,6 +2,8 @@
 use Rattle.std.specs.Prelude.{ℕ, List, [], ◌∷◌, ◌++◌, codes, decimal}
 use Rattle.oev_tool.specs.declared.listing.ByteCause.{ByteCause}
 use Rattle.oev_tool.specs.declared.listing.ByteCause.TheVariants as cause
+use Rattle.oiv_tool.specs.declared.listing.ByteCause.{ByteCause as ImageCause}
+use Rattle.oiv_tool.specs.declared.listing.ByteCause.TheVariants as image
 use Rattle.qj_cli.specs.declared.status.Status.{Status}
 use Rattle.qj_cli.specs.declared.status.Status.TheVariants as status
 use Rattle.qj_cli.specs.declared.fault.Fault.{Fault}
@@ -12,6 +14,7 @@ status_of (fault.Usage place) = status.Usage
 status_of (fault.BadScript line rule) = status.BadScript
 status_of fault.NoFile = status.BadBytes
 status_of (fault.BadBytes place cause) = status.BadBytes
+status_of (fault.BadImage place cause) = status.BadBytes
 status_of (fault.BadFile name) = status.BadBytes
 status_of (fault.Limit number) = status.Limit
 status_of fault.ReadFault = status.ReadFault
@@ -30,6 +33,16 @@ cause_word cause.Opcode = codes "Opcode"
 cause_word cause.Trailing = codes "Trailing"
 cause_word cause.Field = codes "Field"
 
+-- what is wrong with the bytes of an image
+abbrev pub image_cause_word : ImageCause → List ℕ
+image_cause_word image.Short = codes "Short"
+image_cause_word image.Magic = codes "Magic"
+image_cause_word image.Layout = codes "Layout"
+image_cause_word image.Field = codes "Field"
+image_cause_word image.Order = codes "Order"
+image_cause_word image.NoParent = codes "NoParent"
+image_cause_word image.Trailing = codes "Trailing"
+
 abbrev pub error_line : List ℕ → List ℕ
 error_line what = codes "error " ++ what ++ 10 ∷ []
 
@@ -38,6 +51,7 @@ line_of (fault.Usage place) = error_line (codes "Usage " ++ decimal place)
 line_of (fault.BadScript line rule) = error_line (codes "BadScript " ++ decimal line ++ 32 ∷ decimal rule)
 line_of fault.NoFile = error_line (codes "BadBytes 0 NoFile")
 line_of (fault.BadBytes place cause) = error_line (codes "BadBytes " ++ decimal place ++ 32 ∷ cause_word cause)
+line_of (fault.BadImage place cause) = error_line (codes "BadBytes " ++ decimal place ++ 32 ∷ image_cause_word cause)
 line_of (fault.BadFile name) = error_line (codes "BadBytes 0 BadFile " ++ name)
 line_of (fault.Limit number) = error_line (codes "Limit " ++ decimal number)
 line_of fault.ReadFault = error_line (codes "ReadFault")

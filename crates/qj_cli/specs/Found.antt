@@ -22,20 +22,22 @@ IsShort TooLong = Unit {0}
 IsShort (Bytes bytes) = length bytes.items ≤ longest_file
 
 -- ## What is due of it
-abbrev pub IsBytesFault : List ℕ → Fault → Type 0
-IsBytesFault bytes (fault.BadBytes place cause) = IsFileFault (Some bytes) (fault.BadBytes place cause)
-IsBytesFault bytes fault.OutOfMemory = Unit {0}
-IsBytesFault bytes _ = ⊥
+-- bytes that aren't too many have a damage, or memory ran out
+abbrev pub IsReadFault : Tool → List ℕ → Fault → Type 0
+IsReadFault of bytes (fault.BadBytes place cause) = IsFileFault of (Some bytes) (fault.BadBytes place cause)
+IsReadFault of bytes (fault.BadImage place cause) = IsFileFault of (Some bytes) (fault.BadImage place cause)
+IsReadFault of bytes fault.OutOfMemory = Unit {0}
+IsReadFault of bytes _ = ⊥
 
 abbrev pub GivesFound : Tool → Found → List ℕ → Type 0
 GivesFound of Absent text = ⊥
 GivesFound of TooLong text = ⊥
 GivesFound of (Bytes bytes) text = IsListing of (Some bytes.items) text
 
-abbrev pub IsFoundFault : Found → Fault → Type 0
-IsFoundFault Absent of = of ≡ fault.NoFile
-IsFoundFault TooLong of = of ≡ fault.Limit longest_file
-IsFoundFault (Bytes bytes) of = IsBytesFault bytes.items of
+abbrev pub IsFoundFault : Tool → Found → Fault → Type 0
+IsFoundFault of Absent why = why ≡ fault.NoFile
+IsFoundFault of TooLong why = why ≡ fault.Limit longest_file
+IsFoundFault of (Bytes bytes) why = IsReadFault of bytes.items why
 
 -- the answer of the disk behind it
 abbrev pub answer_of : {T : Type 0} → Result T Fault → Result (Unit {0}) DiskFail

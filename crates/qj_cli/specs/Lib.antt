@@ -8,6 +8,7 @@ pub mod Report
 pub mod Plays
 pub mod Listing
 pub mod Found
+pub mod Checks
 pub mod Crashes
 pub mod Serving
 pub mod NodeEnds

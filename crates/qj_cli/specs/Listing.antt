@@ -1,5 +1,5 @@
--- How a listing of a segment's file ends, and what it writes.
-use Rattle.std.specs.Prelude.{ℕ, ◌≡◌, ◌+◌, ◌<◌, ◌≤◌, List, Option, Some, None, Result, Ok, Err, length}
+-- How a listing of a file ends, and what it writes.
+use Rattle.std.specs.Prelude.{ℕ, ◌≡◌, ◌⊎◌, ◌+◌, ◌<◌, ◌≤◌, List, Option, Some, None, Result, Ok, Err, length}
 use Rattle.qj_outside.specs.Faults.{Rose}
 use Rattle.qj_disk.specs.Calls.{HasCause, Rests}
 use Rattle.qj_disk.specs.declared.disk.DiskFail.{DiskFail}
@@ -7,6 +7,7 @@ use Rattle.qj_disk.specs.declared.disk.DiskFail.TheVariants as fail
 use Rattle.edit_ops.specs.Records.{EditView}
 use Rattle.oev_tool.specs.Lines.{lines}
 use Rattle.oev_tool.specs.Counts.{statistics}
+use Rattle.oev_tool.specs.Entries.{entry_lines}
 use Rattle.oev_tool.specs.Segment.{IsSegment}
 use Rattle.oev_tool.specs.Damage.{IsDamaged}
 use Rattle.oev_tool.specs.Listed.{IsTold}
@@ -14,6 +15,19 @@ use Rattle.qj_cli.specs.declared.status.Status.{Status}
 use Rattle.qj_cli.specs.declared.status.Status.TheVariants as status
 use Rattle.qj_cli.specs.declared.fault.Fault.{Fault}
 use Rattle.qj_cli.specs.declared.fault.Fault.TheVariants as fault
+use Rattle.ns_tree.specs.declared.inode.Row.{Row}
+use Rattle.ns_tree.specs.Space.{Space}
+use Rattle.image_codec.specs.Reading.{reading_of}
+use Rattle.image_codec.specs.declared.image_cause.ImageCause.{ImageCause}
+use Rattle.image_codec.specs.declared.answer.ReadImage.TheVariants.{Image, BadImage}
+use Rattle.oiv_tool.specs.Listed.{cause_of}
+use Rattle.oiv_tool.specs.Delimited.{delimited}
+use Rattle.oiv_tool.specs.Sizes.{sizes}
+use Rattle.oiv_tool.specs.Entries.{rows_json}
+use Rattle.qj_cli.specs.declared.tool.SegmentTool.{SegmentTool}
+use Rattle.qj_cli.specs.declared.tool.SegmentTool.TheVariants as segment
+use Rattle.qj_cli.specs.declared.tool.ImageTool.{ImageTool}
+use Rattle.qj_cli.specs.declared.tool.ImageTool.TheVariants as image
 use Rattle.qj_cli.specs.declared.tool.Tool.{Tool}
 use Rattle.qj_cli.specs.declared.tool.Tool.TheVariants as tool
 use Rattle.qj_cli.specs.Uses.{SinkUse, DiskUse}
@@ -23,42 +37,73 @@ use Rattle.qj_cli.specs.Told.{Told}
 abbrev pub longest_file : ℕ
 longest_file = 134217728
 
--- what a tool tells of a segment's edits from a txid on
-abbrev pub told_by : Tool → ℕ → List EditView → List ℕ
-told_by tool.List = lines
-told_by tool.Stats = λ start. statistics
+-- what is told of a segment's edits from a txid on
+abbrev pub told_by : SegmentTool → ℕ → List EditView → List ℕ
+told_by segment.List = lines
+told_by segment.Stats = λ start. statistics
+told_by segment.Json = entry_lines
 
--- the bytes are a segment's file
-abbrev pub IsSegmentFile : List ℕ → Type 0
-IsSegmentFile bytes = (start : ℕ) × (edits : List EditView) × IsSegment bytes start edits
+-- what is told of an image's rows
+abbrev pub rows_told_by : ImageTool → List Row → List ℕ
+rows_told_by image.Delimited = delimited
+rows_told_by image.Sizes = sizes
+rows_told_by image.Json = rows_json
+
+-- the bytes are an image, and the text is what is told of its rows
+pub record IsImageTold (tell : List Row → List ℕ) (bytes text : List ℕ) : Type 0 where
+  pub space : Space
+  pub txid : ℕ
+  pub read : reading_of bytes ≡ Image space txid
+  pub spelled : text ≡ tell space.pairs
+
+-- the text is what the tool tells of all of these bytes
+abbrev pub IsToldBy : Tool → List ℕ → List ℕ → Type 0
+IsToldBy (tool.Oev of) bytes text = IsTold (told_by of) bytes text
+IsToldBy (tool.Oiv of) bytes text = IsImageTold (rows_told_by of) bytes text
+
+-- the bytes are a segment's file, or an image, as the tool wants them
+abbrev pub IsInGrammar : Tool → List ℕ → Type 0
+IsInGrammar (tool.Oev of) bytes = (start : ℕ) × (edits : List EditView) × IsSegment bytes start edits
+IsInGrammar (tool.Oiv of) bytes = (space : Space) × (txid : ℕ) × (reading_of bytes ≡ Image space txid)
+
+-- the bytes aren't, and this is their first damage
+abbrev pub IsBytesFault : Tool → List ℕ → Fault → Type 0
+IsBytesFault (tool.Oev of) bytes (fault.BadBytes place cause) = (IsInGrammar (tool.Oev of) bytes → ⊥) × IsDamaged bytes place cause
+IsBytesFault (tool.Oiv of) bytes (fault.BadImage place cause) = (why : ImageCause) × (reading_of bytes ≡ BadImage place why) × (cause_of why ≡ Some cause)
+IsBytesFault of bytes _ = ⊥
 
 -- a file of more bytes than are listed
 abbrev pub IsTooLong : Option (List ℕ) → Type 0
 IsTooLong None = ⊥
 IsTooLong (Some bytes) = longest_file < length bytes
 
--- the text is what the tool tells of all edits of the file, which is a segment's
+-- the text is what the tool tells of the whole file
 abbrev pub IsListing : Tool → Option (List ℕ) → List ℕ → Type 0
 IsListing of None text = ⊥
-IsListing of (Some bytes) text = (length bytes ≤ longest_file) × IsTold (told_by of) bytes text
+IsListing of (Some bytes) text = (length bytes ≤ longest_file) × IsToldBy of bytes text
 
--- there is no such file; or it is no segment's, and this is its first damage
-abbrev pub IsFileFault : Option (List ℕ) → Fault → Type 0
-IsFileFault file fault.NoFile = file ≡ None
-IsFileFault None (fault.BadBytes place cause) = ⊥
-IsFileFault (Some bytes) (fault.BadBytes place cause) = (length bytes ≤ longest_file) × (IsSegmentFile bytes → ⊥) × IsDamaged bytes place cause
-IsFileFault file _ = ⊥
+-- the bytes of the file have this damage
+abbrev pub HasDamage : Tool → Option (List ℕ) → Fault → Type 0
+HasDamage of None why = ⊥
+HasDamage of (Some bytes) why = (length bytes ≤ longest_file) × IsBytesFault of bytes why
 
--- a file has one listing, and one fault
+-- there is no such file; or its bytes aren't what the tool wants, and this is their first damage
+abbrev pub IsFileFault : Tool → Option (List ℕ) → Fault → Type 0
+IsFileFault of file fault.NoFile = file ≡ None
+IsFileFault of file (fault.BadBytes place cause) = HasDamage of file (fault.BadBytes place cause)
+IsFileFault of file (fault.BadImage place cause) = HasDamage of file (fault.BadImage place cause)
+IsFileFault of file _ = ⊥
+
+-- a file has one listing by a tool, and one fault
 abbrev pub FilesHaveOneListing : Type 0
 FilesHaveOneListing = (of : Tool) (file : Option (List ℕ)) (a b : List ℕ) → IsListing of file a → IsListing of file b → a ≡ b
 
 abbrev pub FilesHaveOneFault : Type 0
-FilesHaveOneFault = (file : Option (List ℕ)) (a b : Fault) → IsFileFault file a → IsFileFault file b → a ≡ b
+FilesHaveOneFault = (of : Tool) (file : Option (List ℕ)) (a b : Fault) → IsFileFault of file a → IsFileFault of file b → a ≡ b
 
 -- and not both
 abbrev pub ListedFilesHaveNoFault : Type 0
-ListedFilesHaveNoFault = (of : Tool) (file : Option (List ℕ)) (text : List ℕ) (fault : Fault) → IsListing of file text → IsFileFault file fault → ⊥
+ListedFilesHaveNoFault = (of : Tool) (file : Option (List ℕ)) (text : List ℕ) (why : Fault) → IsListing of file text → IsFileFault of file why → ⊥
 
 -- ## What is due of a disk
 -- the file that the disk had under the name
@@ -82,14 +127,15 @@ GivesListing of name disk good text = (good ≡ status.Ok) × OfFile disk name (
 
 -- Each fault comes only where this holds. No two of them hold of one file, but for a disk that failed and want of memory, so each comes
 -- exactly there. A disk fault comes where the disk has no call left, and not where it is known to have two.
-abbrev pub IsListFault : {D : Type 0} → List ℕ → DiskUse D → Fault → Type 0
-IsListFault name disk fault.NoFile = OfFile disk name (λ file. IsFileFault file fault.NoFile)
-IsListFault name disk (fault.BadBytes place cause) = OfFile disk name (λ file. IsFileFault file (fault.BadBytes place cause))
-IsListFault name disk (fault.Limit number) = (number ≡ longest_file) × HasCalls disk × (disk.tells disk.before → IsTooLong (file_under disk name))
-IsListFault name disk fault.DiskFault =
+abbrev pub IsListFault : {D : Type 0} → Tool → List ℕ → DiskUse D → Fault → Type 0
+IsListFault of name disk fault.NoFile = OfFile disk name (λ file. IsFileFault of file fault.NoFile)
+IsListFault of name disk (fault.BadBytes place cause) = OfFile disk name (λ file. IsFileFault of file (fault.BadBytes place cause))
+IsListFault of name disk (fault.BadImage place cause) = OfFile disk name (λ file. IsFileFault of file (fault.BadImage place cause))
+IsListFault of name disk (fault.Limit number) = (number ≡ longest_file) × HasCalls disk × (disk.tells disk.before → IsTooLong (file_under disk name))
+IsListFault of name disk fault.DiskFault =
     Rose (disk.faults disk.before) (disk.faults disk.now) × ((k : ℕ) → disk.left disk.before ≡ Some (2 + k) → ⊥)
-IsListFault name disk fault.OutOfMemory = Unit {0}
-IsListFault name disk _ = ⊥
+IsListFault of name disk fault.OutOfMemory = Unit {0}
+IsListFault of name disk _ = ⊥
 
 -- ## What was done
 -- a status as the answer of a disk
@@ -105,5 +151,5 @@ pub record IsOnlyRead {D : Type 0} (disk : DiskUse D) (s : Status) : Type 0 wher
 
 -- How a listing ended.
 pub record Lists {D : Type 0} (of : Tool) (name : List ℕ) (disk : DiskUse D) (sink : SinkUse) (s : Status) : Type 0 where
-  pub told : Told (GivesListing of name disk) (IsListFault name disk) s sink
+  pub told : Told (GivesListing of name disk) (IsListFault of name disk) s sink
   pub disk_is : IsOnlyRead disk s

@@ -9,11 +9,15 @@ bytes_of words = map string_bytes words
 
 -- a command of one word
 abbrev pub is_alone : List ℕ → Bool
-is_alone word = bytes_eq word (codes "play") || bytes_eq word (codes "node")
+is_alone word = bytes_eq word (codes "play") || (bytes_eq word (codes "node") || bytes_eq word (codes "fsck"))
 
 -- the word of a listing of a segment's file
 abbrev pub is_oev : List ℕ → Bool
-is_oev word = bytes_eq word (codes "list") || bytes_eq word (codes "stats")
+is_oev word = bytes_eq word (codes "list") || (bytes_eq word (codes "stats") || bytes_eq word (codes "json"))
+
+-- the word of a listing of an image
+abbrev pub is_oiv : List ℕ → Bool
+is_oiv word = bytes_eq word (codes "delimited") || (bytes_eq word (codes "sizes") || bytes_eq word (codes "json"))
 
 -- a command of one word takes no others
 abbrev pub behind_one : List (List ℕ) → Option ℕ
@@ -26,12 +30,15 @@ behind_tool [] = Some 2
 behind_tool (name ∷ []) = None
 behind_tool (name ∷ word ∷ words) = Some 3
 
--- behind `oev` stands a tool
-unfoldable pub behind_oev : List (List ℕ) → Option ℕ
-behind_oev [] = Some 1
-behind_oev (word ∷ words) = if is_oev word then behind_tool words else Some 1
+-- behind `oev` and `oiv` stands a tool of theirs
+unfoldable pub behind_program : (List ℕ → Bool) → List (List ℕ) → Option ℕ
+behind_program is_tool [] = Some 1
+behind_program is_tool (word ∷ words) = if is_tool word then behind_tool words else Some 1
 
 -- the place, from 0, of the first word that is missing or wrong
 unfoldable pub usage_of : List (List ℕ) → Option ℕ
 usage_of [] = Some 0
-usage_of (word ∷ words) = if is_alone word then behind_one words else (if bytes_eq word (codes "oev") then behind_oev words else Some 0)
+usage_of (word ∷ words) =
+    if is_alone word then behind_one words
+    else (if bytes_eq word (codes "oev") then behind_program is_oev words
+    else (if bytes_eq word (codes "oiv") then behind_program is_oiv words else Some 0))

@@ -1,9 +1,9 @@
 // The commands, read from the words.
 ghost use Rattle.std.specs.Prelude.{◌≡◌, [], ◌∷◌, false, Some, codes, MatchOption, MatchResult};
 ghost use Rattle.qj_cli.specs.Commands.{asked_in, words_of};
-ghost use Rattle.qj_cli.specs.Usage.{bytes_of, is_alone, behind_one, behind_tool, behind_oev, usage_of};
+ghost use Rattle.qj_cli.specs.Usage.{bytes_of, is_alone, is_oev, is_oiv, behind_one, behind_tool, behind_program, usage_of};
 
-use crate::tool::{Tool, tool_of};
+use crate::tool::{Tool, image_tool_of, segment_tool_of};
 
 /// What the program is asked to do.
 #[derive(Clone, Copy)]
@@ -12,6 +12,8 @@ pub enum Command<'a> {
     Play,
     /// To serve a node, whose files are on the disk.
     Node,
+    /// To check the disk's files.
+    Fsck,
     /// To list a file of the disk.
     Listing { tool: Tool, name: &'a str },
 }
@@ -24,6 +26,8 @@ fn command_of<'a>(word: &str) -> Option<Command<'a>>
         Some(Command::Play)
     } else if word == "node" {
         Some(Command::Node)
+    } else if word == "fsck" {
+        Some(Command::Fsck)
     } else {
         None
     }
@@ -50,19 +54,42 @@ fn one_name(words: &[String]) -> Result<&str, u64>
     }
 }
 
-/// The listing that the words behind `oev` ask for; or the place of the first wrong word.
-#[tactic(auto, unfolding(crate::specs::Usage::behind_oev))]
-fn read_listing(words: &[String]) -> Result<Command<'_>, u64>
-    ensures { MatchResult result (λ c. codes "oev" ∷ bytes_of words.now ≡ words_of (asked_in c)) (λ place. behind_oev (bytes_of words.now) ≡ Some place) }
+/// The listing of a segment's file that the words behind `oev` ask for; or the place of the first wrong word.
+#[tactic(auto, unfolding(crate::specs::Usage::behind_program))]
+fn read_oev(words: &[String]) -> Result<Command<'_>, u64>
+    ensures { MatchResult result (λ c. codes "oev" ∷ bytes_of words.now ≡ words_of (asked_in c)) (λ place. behind_program is_oev (bytes_of words.now) ≡ Some place) }
 {
     let Some((word, names)) = words.split_first() else {
         return Err(1);
     };
-    let Some(tool) = tool_of(word.as_str()) else {
+    let Some(of) = segment_tool_of(word.as_str()) else {
         return Err(1);
     };
     match one_name(names) {
-        Ok(name) => Ok(Command::Listing { tool, name }),
+        Ok(name) => Ok(Command::Listing {
+            tool: Tool::Oev(of),
+            name,
+        }),
+        Err(place) => Err(place),
+    }
+}
+
+/// The listing of an image that the words behind `oiv` ask for; or the place of the first wrong word.
+#[tactic(auto, unfolding(crate::specs::Usage::behind_program))]
+fn read_oiv(words: &[String]) -> Result<Command<'_>, u64>
+    ensures { MatchResult result (λ c. codes "oiv" ∷ bytes_of words.now ≡ words_of (asked_in c)) (λ place. behind_program is_oiv (bytes_of words.now) ≡ Some place) }
+{
+    let Some((word, names)) = words.split_first() else {
+        return Err(1);
+    };
+    let Some(of) = image_tool_of(word.as_str()) else {
+        return Err(1);
+    };
+    match one_name(names) {
+        Ok(name) => Ok(Command::Listing {
+            tool: Tool::Oiv(of),
+            name,
+        }),
         Err(place) => Err(place),
     }
 }
@@ -76,7 +103,10 @@ pub fn read_command(words: &[String]) -> Result<Command<'_>, u64>
         return Err(0);
     };
     if first.as_str() == "oev" {
-        return read_listing(others);
+        return read_oev(others);
+    }
+    if first.as_str() == "oiv" {
+        return read_oiv(others);
     }
     let Some(command) = command_of(first.as_str()) else {
         return Err(0);

@@ -1,12 +1,13 @@
 // Why the program ends without what it was asked for, and how it tells that.
 ghost use Rattle.std.specs.Prelude.{◌≡◌, ◌≤◌, ◌+◌, ◌∷◌, ◌++◌, [], IfOk, codes, decimal, length};
-ghost use Rattle.qj_cli.specs.Faults.{status_of, cause_word, error_line, line_of};
+ghost use Rattle.qj_cli.specs.Faults.{status_of, cause_word, image_cause_word, error_line, line_of};
 ghost use Rattle.qj_cli.specs.Told.{IsBadFile};
 
 use crate::status::Status;
 use arrayvec::ArrayVec;
 use journal_core::OutOfMemory;
 use oev_tool::ByteCause;
+use oiv_tool::ByteCause as ImageCause;
 use qj_num::Name;
 use std::alloc::{AllocError, Global};
 
@@ -19,8 +20,10 @@ pub enum Fault {
     BadScript { line: u64, rule: u64 },
     /// No file has the name.
     NoFile,
-    /// The file has this damage at this byte.
+    /// The segment's file has this damage at this byte.
     BadBytes { place: u64, cause: ByteCause },
+    /// The image has this fault at this byte.
+    BadImage { place: u64, cause: ImageCause },
     /// This file of a node isn't in its format.
     BadFile(Name),
     /// Something passed this number.
@@ -53,7 +56,8 @@ pub fn status_for(fault: &Fault) -> Status
     match fault {
         Fault::Usage(_) => Status::Usage,
         Fault::BadScript { .. } => Status::BadScript,
-        Fault::NoFile | Fault::BadBytes { .. } | Fault::BadFile(_) => Status::BadBytes,
+        Fault::NoFile => Status::BadBytes,
+        Fault::BadBytes { .. } | Fault::BadImage { .. } | Fault::BadFile(_) => Status::BadBytes,
         Fault::Limit(_) => Status::Limit,
         Fault::ReadFault => Status::ReadFault,
         Fault::DiskFault => Status::DiskFault,
@@ -76,6 +80,22 @@ fn word_for(cause: ByteCause) -> &'static str
         ByteCause::Opcode => "Opcode",
         ByteCause::Trailing => "Trailing",
         ByteCause::Field => "Field",
+    }
+}
+
+/// The word for what is wrong with the bytes of an image.
+fn image_word_for(cause: ImageCause) -> &'static str
+    ensures word { result.now ≡ image_cause_word cause }
+    ensures short { length result.now ≤ 8 }
+{
+    match cause {
+        ImageCause::Short => "Short",
+        ImageCause::Magic => "Magic",
+        ImageCause::Layout => "Layout",
+        ImageCause::Field => "Field",
+        ImageCause::Order => "Order",
+        ImageCause::NoParent => "NoParent",
+        ImageCause::Trailing => "Trailing",
     }
 }
 
@@ -123,14 +143,15 @@ fn script_line(number: u64, rule: u64) -> Line
 }
 
 /// That bytes are bad at a place.
-fn bytes_line(place: u64, cause: ByteCause) -> Line
-    ensures { result.items ≡ error_line (codes "BadBytes " ++ decimal place ++ 32 ∷ cause_word cause) }
+fn bytes_line(place: u64, word: &str) -> Line
+    requires { length word.now ≤ 8 }
+    ensures { result.items ≡ error_line (codes "BadBytes " ++ decimal place ++ 32 ∷ word.now) }
 {
     let mut line = Line::new();
     put(&mut line, b"error BadBytes ");
     put_number(&mut line, place);
     put(&mut line, b" ");
-    put(&mut line, word_for(cause).as_bytes());
+    put(&mut line, word.as_bytes());
     put(&mut line, b"\n");
     line
 }
@@ -153,7 +174,8 @@ pub fn line_for(fault: &Fault) -> Line
         Fault::Usage(place) => number_line("error Usage ", *place),
         Fault::BadScript { line, rule } => script_line(*line, *rule),
         Fault::NoFile => plain_line("error BadBytes 0 NoFile\n"),
-        Fault::BadBytes { place, cause } => bytes_line(*place, *cause),
+        Fault::BadBytes { place, cause } => bytes_line(*place, word_for(*cause)),
+        Fault::BadImage { place, cause } => bytes_line(*place, image_word_for(*cause)),
         Fault::BadFile(_) => Line::new(),
         Fault::Limit(number) => number_line("error Limit ", *number),
         Fault::ReadFault => plain_line("error ReadFault\n"),

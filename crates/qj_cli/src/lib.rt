@@ -2,6 +2,7 @@
 //! replies or a fault line go out.
 #![tactic(auto)]
 
+mod checking;
 mod command;
 mod crash_examples;
 mod exit;

@@ -3,29 +3,69 @@ ghost use Rattle.std.specs.Prelude.{◌≡◌, ◌↔◌, ◌≤◌, ℕ, List, 
 ghost use Rattle.edit_ops.specs.Records.{EditView};
 ghost use Rattle.oev_tool.specs.Segment.{IsSegment};
 ghost use Rattle.oev_tool.specs.Listed.{IsListed, GivesText};
+ghost use Rattle.oiv_tool.specs.Listed.{IsListed as IsImageListed};
 ghost use Rattle.qj_disk.specs.Calls.{HasCause, Rests};
 ghost use Rattle.qj_cli.specs.Uses.{written_to, done_to};
-ghost use Rattle.qj_cli.specs.Listing.{longest_file, told_by, IsListing, GivesListing, IsListFault, Lists};
-ghost use Rattle.qj_cli.specs.Found.{IsShort, IsBytesFault, GivesFound, IsFoundFault, answer_of};
+ghost use Rattle.qj_cli.specs.Listing.{longest_file, told_by, rows_told_by, IsListing, GivesListing, IsListFault, Lists};
+ghost use Rattle.qj_cli.specs.Found.{IsShort, IsReadFault, GivesFound, IsFoundFault, answer_of};
 
 use crate::fault::Fault;
 use crate::found::{Found, LONGEST_FILE, find};
 use crate::status::Status;
-use crate::tool::Tool;
+use crate::tool::{ImageTool, SegmentTool, Tool};
 use crate::writing::write_due;
-use oev_tool::{Listing, list, stats};
+use oev_tool::{Listing as SegmentListing, json as segment_json, list, stats};
+use oiv_tool::{Listing as ImageListing, delimited, json as image_json, sizes};
 use qj_disk::{Disk, DiskFail};
 use qj_outside::Sink;
 use std::alloc::Global;
 
-/// What a tool tells of a file's bytes.
-fn told(alloc: Global, tool: Tool, bytes: &[u8]) -> Listing
-    ensures right { IsListed (told_by tool) bytes.now result }
-    ensures text { (start : ℕ) (edits : List EditView) → IsSegment bytes.now start edits → GivesText (told_by tool start edits) result }
+/// What is told of the bytes of a segment's file.
+fn segment_told(alloc: Global, of: SegmentTool, bytes: &[u8]) -> SegmentListing
+    ensures right { IsListed (told_by of) bytes.now result }
+    ensures text { (start : ℕ) (edits : List EditView) → IsSegment bytes.now start edits → GivesText (told_by of start edits) result }
 {
-    match tool {
-        Tool::List => list(alloc, bytes),
-        Tool::Stats => stats(alloc, bytes),
+    match of {
+        SegmentTool::List => list(alloc, bytes),
+        SegmentTool::Stats => stats(alloc, bytes),
+        SegmentTool::Json => segment_json(alloc, bytes),
+    }
+}
+
+/// What is told of the bytes of an image.
+fn image_told(alloc: Global, of: ImageTool, bytes: &[u8]) -> ImageListing
+    ensures { IsImageListed (rows_told_by of) bytes.now result }
+{
+    match of {
+        ImageTool::Delimited => delimited(alloc, bytes),
+        ImageTool::Sizes => sizes(alloc, bytes),
+        ImageTool::Json => image_json(alloc, bytes),
+    }
+}
+
+/// What is due of the bytes of a segment's file.
+fn due_of_segment(alloc: Global, of: SegmentTool, bytes: &[u8]) -> Result<Vec<u8>, Fault>
+    requires { length bytes.now ≤ longest_file }
+    ensures text { IfOk result (λ text. IsListing (Tool.Oev of) (Some bytes.now) text.items) }
+    ensures fault { IfErr result (IsReadFault (Tool.Oev of) bytes.now) }
+{
+    match segment_told(alloc, of, bytes) {
+        SegmentListing::Text(text) => Ok(text),
+        SegmentListing::BadBytes { place, cause } => Err(Fault::BadBytes { place, cause }),
+        SegmentListing::OutOfMemory => Err(Fault::OutOfMemory),
+    }
+}
+
+/// What is due of the bytes of an image.
+fn due_of_image(alloc: Global, of: ImageTool, bytes: &[u8]) -> Result<Vec<u8>, Fault>
+    requires { length bytes.now ≤ longest_file }
+    ensures text { IfOk result (λ text. IsListing (Tool.Oiv of) (Some bytes.now) text.items) }
+    ensures fault { IfErr result (IsReadFault (Tool.Oiv of) bytes.now) }
+{
+    match image_told(alloc, of, bytes) {
+        ImageListing::Text(text) => Ok(text),
+        ImageListing::BadBytes { place, cause } => Err(Fault::BadImage { place, cause }),
+        ImageListing::OutOfMemory => Err(Fault::OutOfMemory),
     }
 }
 
@@ -33,12 +73,11 @@ fn told(alloc: Global, tool: Tool, bytes: &[u8]) -> Listing
 fn due_of_bytes(alloc: Global, tool: Tool, bytes: &[u8]) -> Result<Vec<u8>, Fault>
     requires { length bytes.now ≤ longest_file }
     ensures text { IfOk result (λ text. IsListing tool (Some bytes.now) text.items) }
-    ensures fault { IfErr result (IsBytesFault bytes.now) }
+    ensures fault { IfErr result (IsReadFault tool bytes.now) }
 {
-    match told(alloc, tool, bytes) {
-        Listing::Text(text) => Ok(text),
-        Listing::BadBytes { place, cause } => Err(Fault::BadBytes { place, cause }),
-        Listing::OutOfMemory => Err(Fault::OutOfMemory),
+    match tool {
+        Tool::Oev(of) => due_of_segment(alloc, of, bytes),
+        Tool::Oiv(of) => due_of_image(alloc, of, bytes),
     }
 }
 
@@ -46,7 +85,7 @@ fn due_of_bytes(alloc: Global, tool: Tool, bytes: &[u8]) -> Result<Vec<u8>, Faul
 fn due_of_found(alloc: Global, tool: Tool, found: &Found) -> Result<Vec<u8>, Fault>
     requires { IsShort found.now }
     ensures text { IfOk result (λ text. GivesFound tool found.now text.items) }
-    ensures fault { IfErr result (IsFoundFault found.now) }
+    ensures fault { IfErr result (IsFoundFault tool found.now) }
 {
     match found {
         Found::Absent => Err(Fault::NoFile),
@@ -63,7 +102,7 @@ fn due_of_name<D: Disk>(
     disk: &mut D,
 ) -> Result<Vec<u8>, Fault>
     ensures text { IfOk result (λ text. GivesListing tool name.now (done_to D.tells D.view D.faults D.steady D.left disk.old disk.new) Status.Ok text.items) }
-    ensures fault { IfErr result (IsListFault name.now (done_to D.tells D.view D.faults D.steady D.left disk.old disk.new)) }
+    ensures fault { IfErr result (IsListFault tool name.now (done_to D.tells D.view D.faults D.steady D.left disk.old disk.new)) }
     ensures tells { D.tells disk.old ↔ D.tells disk.new }
     ensures rests { D.tells disk.old → Rests (D.view disk.old) (D.view disk.new) }
     ensures cause { HasCause (D.faults disk.old) (D.faults disk.new) (D.steady disk.old) (D.steady disk.new) (answer_of result) }

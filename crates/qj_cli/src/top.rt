@@ -6,6 +6,7 @@ ghost use Rattle.qj_cli.specs.Uses.{read_from, written_to, done_to};
 ghost use Rattle.qj_cli.specs.Does.{Does, Refuses, ReadsNone};
 ghost use Rattle.qj_cli.specs.Complete.{IsComplete};
 
+use crate::checking::check_files;
 use crate::command::{Command, read_command};
 use crate::exit::Exit;
 use crate::fault::Fault;
@@ -36,6 +37,11 @@ fn do_command<S: Source, K: Sink, D: Disk>(
             disk,
         },
         Command::Node => serve_node(alloc, source, sink, disk),
+        Command::Fsck => {
+            let mut disk = disk;
+            let status = check_files(alloc, sink, &mut disk);
+            Exit { status, disk }
+        }
         Command::Listing { tool, name } => {
             let mut disk = disk;
             let status = list_file(alloc, tool, name, sink, &mut disk);
@@ -48,14 +54,19 @@ fn do_command<S: Source, K: Sink, D: Disk>(
 ///
 /// - `play` plays the script that the source gives, over nodes on disks in memory, and writes the report to the sink. The disk
 ///   isn't called.
-/// - `oev list NAME` and `oev stats NAME` read the disk's file of that name, and write a line for each of its edits, or
-///   how many there are of each kind. The source isn't read, and the disk isn't changed.
+/// - `oev list NAME`, `oev stats NAME` and `oev json NAME` read the disk's file of that name, a segment's, and write a line for
+///   each of its edits, how many there are of each kind, or all as an array of JSON. The source isn't read, and the disk isn't
+///   changed.
+/// - `oiv delimited NAME`, `oiv sizes NAME` and `oiv json NAME` do the same for an image: a line of columns for each inode, how
+///   many files there are of each size, or all inodes as an array of JSON.
+/// - `fsck` checks each file of the disk, and writes a line for each, and how many findings there are. The source isn't read, and
+///   the disk isn't changed. `Unsound`: there is a finding.
 /// - `node` opens a JournalNode on the disk, which keeps its state in the disk's files, and answers each request line of the
 ///   source with its reply line. Each reply is written, and the sink flushed, before the source is read again. A crash at any
 ///   moment of the call leaves files that stand for the state after some of the lines, stopped inside the next one, and no
 ///   fewer than were answered by then.
 ///
-/// A report and a listing are computed before any of it is written. `Usage`: other words, with the place, from 0, of the first
+/// A report, a listing and findings are computed before any of it is written. `Usage`: other words, with the place, from 0, of the first
 /// word that is missing or wrong; neither the source nor the disk is called then. `Limit`: the source has more than
 /// 1,048,576 bytes, the report would have more than 268,435,456, or the file has more than 134,217,728; of a node a line with
 /// more than 1,048,576, or a source with more than 1,073,741,824. `BadScript`: the first line, from 1, that breaks a rule, and

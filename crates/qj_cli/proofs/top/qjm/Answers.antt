@@ -2,7 +2,7 @@ use Rattle.std.proofs.Common.{refl, sym, subst, ◌∙◌}
 use Rattle.script_text.proofs.ScriptLaws.{breaks_no_rule}
 use Rattle.qj_cli.specs.Commands.{asked_in}
 use Rattle.qj_cli.specs.Usage.{bytes_of}
-use Rattle.qj_cli.specs.Uses.{read_from, written_to, done_to}
+use Rattle.qj_cli.specs.Uses.{SourceUse, SinkUse, DiskUse, read_from, written_to, done_to}
 use Rattle.qj_cli.specs.Does.{ReadsNone}
 use Rattle.qj_cli.proofs.WordLaws.{one_command, right_words}
 use Rattle.qj_cli.proofs.CompleteLaws.{completes, does_for, refused}

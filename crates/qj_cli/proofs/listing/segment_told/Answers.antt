@@ -1,7 +1,7 @@
 use Rattle.std.proofs.Common.{subst, sym}
 use Rattle.oev_tool.specs.Listed.{GivesText}
 use Rattle.qj_cli.specs.Listing.{told_by}
-use Rattle.qj_cli.proofs.listing.told.Goals as goal
+use Rattle.qj_cli.proofs.listing.segment_told.Goals as goal
 
 pub returns-in-List-clause-text : goal.returns-in-List-clause-text
 returns-in-List-clause-text c =
@@ -10,3 +10,7 @@ returns-in-List-clause-text c =
 pub returns-in-Stats-clause-text : goal.returns-in-Stats-clause-text
 returns-in-Stats-clause-text c =
     λ start edits s. subst (λ t. GivesText (told_by t start edits) c.stats.result) (sym c.in-Stats.is) (c.stats.ensures.text start edits s)
+
+pub returns-in-Json-clause-text : goal.returns-in-Json-clause-text
+returns-in-Json-clause-text c =
+    λ start edits s. subst (λ t. GivesText (told_by t start edits) c.json.result) (sym c.in-Json.is) (c.json.ensures.text start edits s)
