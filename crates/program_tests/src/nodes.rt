@@ -160,10 +160,9 @@ fn a_folder_is_checked(rt: HostRuntime) -> Result<(), Fail> {
         b"ok committed-txid\nok edits_0000000000000000002-0000000000000000002\nok last-promised-epoch\nok last-writer-epoch\nfindings 0\n";
     checks(&rt, rt.alloc(), &mut disk, &[], Status::Ok, fine)?;
     checks(&rt, rt.alloc(), &mut disk, &[0], Status::WriteFault, b"")?;
-    let renamed = "edits_0000000000000000002-0000000000000000003";
-    disk.rename("edits_0000000000000000002-0000000000000000002", renamed)?;
+    disk.write_at("foreign", 0, b"x")?;
     let found =
-        b"ok committed-txid\nbad edits_0000000000000000002-0000000000000000003 3 3 2\nok last-promised-epoch\nok last-writer-epoch\nfindings 1\n";
+        b"ok committed-txid\nok edits_0000000000000000002-0000000000000000002\nbad foreign 1 0 0\nok last-promised-epoch\nok last-writer-epoch\nfindings 1\n";
     checks(&rt, rt.alloc(), &mut disk, &[], Status::Unsound, found)?;
     disk.fail_at([0].to_vec(rt.alloc())?);
     checks(
