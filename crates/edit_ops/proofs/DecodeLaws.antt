@@ -1,6 +1,5 @@
 -- Each body has one right answer, and no record begins another.
-use Rattle.std.proofs.Common.{◌≡◌, ◌≢◌, ◌⊎◌, ℕ, zero, suc, ◌+◌, ◌-◌, ◌<◌, ◌≤◌, List, [], ◌∷◌, ◌++◌, length, length-append, Bool, true, false, Option, Some, None, Result, Ok, Err, refl, sym, ap, subst, ◌∙◌, arith, inl, inr}
-use Rattle.std.specs.Prelude.{is_some}
+use Rattle.std.proofs.Common.{◌≡◌, ◌≢◌, ◌⊎◌, ℕ, suc, ◌+◌, ◌-◌, ◌<◌, ◌≤◌, List, [], ◌∷◌, ◌++◌, length, length-append, Bool, true, Result, Ok, Err, refl, sym, ap, subst, ◌∙◌, arith, inl, inr}
 use Rattle.std.specs.List.{flat_map, AllByRecursion}
 use Rattle.std.proofs.lemmas.List.{append-nil, nil_from_length}
 use Rattle.edit_ops.specs.declared.fault.Fault.{Fault}
@@ -13,7 +12,7 @@ use Rattle.edit_ops.specs.declared.decoded.Decoded.TheVariants.{Edit, UnknownOpc
 use Rattle.edit_ops.specs.Fields.{Kind, Field, client, call_number, IsGood, field_bytes}
 use Rattle.edit_ops.specs.Records.{EditView, kind_of, layout, full_layout, opcode, called, edit_fields, record_of}
 use Rattle.edit_ops.specs.Grammar.{MayCall, IsEdit, IsRecord}
-use Rattle.edit_ops.specs.Decoding.{least, broken_rule, Matches, Begins, EndsInside, BreaksRule, HasUnknownOpcode, HasTrailing, IsDecoded}
+use Rattle.edit_ops.specs.Decoding.{least, Matches, Begins, EndsInside, BreaksRule, HasTrailing, IsDecoded}
 use Rattle.edit_ops.specs.Reading.{◌>>=◌, Fails, field_at, fields_at, op_at}
 use Rattle.edit_ops.proofs.ReadItems.{with_front}
 use Rattle.edit_ops.proofs.ReadFields.{broken_field, short_field}

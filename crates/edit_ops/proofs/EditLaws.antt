@@ -1,9 +1,7 @@
 -- The fields of an edit match the layout of its kind, and tell the edit.
-use Rattle.std.proofs.Common.{◌≡◌, ℕ, zero, suc, ◌+◌, ◌-◌, ◌<◌, List, [], ◌∷◌, ◌++◌, length, map, get_or, drop, Bool, true, false, Option, Some, None, refl, sym, ap, subst, ◌∙◌, arith}
+use Rattle.std.proofs.Common.{◌≡◌, ℕ, ◌<◌, List, [], ◌∷◌, ◌++◌, length, map, get_or, drop, Bool, true, false, Option, Some, None, refl, sym, ap, subst, ◌∙◌, arith}
 use Rattle.std.specs.Prelude.{replicate, is_some, ◌==◌, if◌then◌else◌}
 use Rattle.std.specs.List.{AllByRecursion}
-use Rattle.std.proofs.lemmas.List.{append-nil}
-use Rattle.std.proofs.lemmas.Bool.{cases_lt}
 use Rattle.edit_ops.specs.declared.kind.OpKind.{OpKind}
 use Rattle.edit_ops.specs.declared.kind.OpKind.TheVariants as kinds
 use Rattle.edit_ops.specs.declared.op.Op.{Op}
@@ -12,7 +10,7 @@ use Rattle.edit_ops.specs.declared.edit.Call.{Call}
 use Rattle.edit_ops.specs.Kinds.{code}
 use Rattle.edit_ops.specs.Fields.{Kind, Field, path, text, number, Text_, Small_, Number_, Flag_, Client_, Call_, kind_of_field, IsGood, follow}
 use Rattle.edit_ops.specs.Records.{EditView, kind_of, fields_of, layout, full_layout, call_fields, opcode, called, edit_fields}
-use Rattle.edit_ops.specs.Grammar.{MayCall, IsEdit}
+use Rattle.edit_ops.specs.Grammar.{IsEdit}
 use Rattle.edit_ops.specs.Decoding.{Matches}
 
 -- ---- fields match their layout

@@ -2,13 +2,13 @@
 use Rattle.std.proofs.Common.{◌≡◌, ℕ, zero, suc, ◌+◌, ◌-◌, ◌^◌, ◌<◌, ◌≤◌, Bool, true, false, cond, ltb, eqb, List, [], ◌∷◌, ◌++◌, length, get_or, take, drop, Option, Some, None, Result, Ok, Err, refl, sym, ap, subst, ◌∙◌, append_assoc, arith, inl, inr, ◌⊎◌}
 use Rattle.std.specs.List.{list_all, AllByRecursion}
 use Rattle.std.specs.Char.{is_ascii_graphic}
-use Rattle.std.specs.Int.{Width, w16, w32, w64, byte_len, from_be_bytes, to_be_bytes}
+use Rattle.std.specs.Int.{Width, w16, w32, w64, from_be_bytes, to_be_bytes}
 use Rattle.std.proofs.lemmas.Bool.{cases_lt, ltb-false, ltb-true, lt-ltb, le-ltb}
 use Rattle.std.proofs.lemmas.List.{take_at, drop_at, take-append-drop, drop-drop, length-append, length-take, length-drop, get_or-drop, get_or-take, get_or_past}
 use Rattle.std.proofs.lemmas.Nat.{be_bytes_2, be_bytes_4, be_bytes_8, from_be_bytes-to_be_bytes_2, from_be_bytes-to_be_bytes_4, from_be_bytes-to_be_bytes_8}
 use Rattle.edit_ops.specs.declared.fault.Fault.{Fault}
 use Rattle.edit_ops.specs.declared.fault.Fault.TheVariants.{Short, Bad}
-use Rattle.edit_ops.specs.Fields.{Kind, Field, Text, path, owner, new_owner, Small, text, small, number, flag, client, call_number, Text_, Small_, Number_, Flag_, Client_, Call_, kind_of_field, limit, IsGood, field_bytes}
+use Rattle.edit_ops.specs.Fields.{Kind, Field, Text, path, owner, new_owner, text, small, number, flag, client, call_number, Text_, Small_, Number_, Flag_, Client_, Call_, kind_of_field, limit, IsGood, field_bytes}
 use Rattle.edit_ops.specs.Decoding.{told_length, least, broken_rule}
 use Rattle.edit_ops.specs.Reading.{field_at, judged, value_at}
 use Rattle.edit_ops.proofs.ReadFields.{whole_field, least_text, good_text}

@@ -1,5 +1,5 @@
 -- Good fields, one by one.
-use Rattle.std.proofs.Common.{◌≡◌, ℕ, zero, suc, ◌<◌, List, [], ◌∷◌, length, get_or, map, arith}
+use Rattle.std.proofs.Common.{ℕ, zero, suc, ◌<◌, List, [], ◌∷◌, length, get_or, map, arith}
 use Rattle.std.specs.List.{AllByRecursion}
 use Rattle.edit_ops.specs.Fields.{Field, IsGood}
 

@@ -10,3 +10,5 @@ pub mod SayItems
 pub mod SayWords
 pub mod SayLaws
 pub mod SayEdits
+pub mod TestLaws
+pub mod TextWords

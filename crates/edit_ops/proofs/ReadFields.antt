@@ -1,15 +1,13 @@
 -- What the readers of fields find.
-use Rattle.std.proofs.Common.{◌≡◌, ℕ, ◌+◌, ◌-◌, ◌<◌, ◌≤◌, Bool, true, false, cond, ltb, List, length, take, drop, Option, Some, None, Ok, Err, refl, sym, ap, ◌∙◌, arith}
+use Rattle.std.proofs.Common.{◌≡◌, ℕ, ◌+◌, ◌-◌, ◌<◌, ◌≤◌, Bool, true, false, cond, ltb, List, length, take, drop, Some, None, Ok, Err, refl, sym, ap, ◌∙◌, arith}
 use Rattle.std.specs.List.{list_all}
 use Rattle.std.specs.Char.{is_ascii_graphic}
-use Rattle.std.specs.Int.{w16, from_be_bytes}
 use Rattle.std.proofs.lemmas.Bool.{le-ltb, lt-ltb}
 use Rattle.std.proofs.lemmas.List.{drop-drop}
-use Rattle.edit_ops.specs.declared.fault.Fault.{Fault}
 use Rattle.edit_ops.specs.declared.fault.Fault.TheVariants.{Short, Bad}
 use Rattle.edit_ops.specs.Fields.{Kind, Text, Text_, text, limit}
 use Rattle.edit_ops.specs.Decoding.{told_length, least, broken_rule}
-use Rattle.edit_ops.specs.Reading.{field_at, judged, value_at}
+use Rattle.edit_ops.specs.Reading.{field_at, value_at}
 
 pub number_found : (b : Bool) (v n : ℕ) → Some n ≡ cond b (Some v) None → (b ≡ true) × (n ≡ v)
 number_found true v n e = (refl, cc)

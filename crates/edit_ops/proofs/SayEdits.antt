@@ -1,6 +1,6 @@
 -- Whole texts: each has one edit or none.
-use Rattle.std.proofs.Common.{◌≡◌, ◌≢◌, ◌⊎◌, ℕ, zero, suc, ◌+◌, ◌<◌, Bool, true, false, cond, eqb, drop, List, [], ◌∷◌, ◌++◌, length, map, Option, Some, None, Result, Ok, Err, refl, sym, ap, subst, ◌∙◌, append_assoc, arith, inl, inr}
-use Rattle.std.specs.Prelude.{codes, is_some, not, ◌==◌}
+use Rattle.std.proofs.Common.{◌≡◌, ◌≢◌, ◌⊎◌, ℕ, suc, ◌+◌, ◌<◌, Bool, true, false, cond, eqb, drop, List, [], ◌∷◌, ◌++◌, length, Option, Some, None, Err, refl, sym, ap, subst, ◌∙◌, append_assoc, arith, inl, inr}
+use Rattle.std.specs.Prelude.{codes, not, ◌==◌}
 use Rattle.std.specs.List.{flat_map, AllByRecursion, position_or_len}
 use Rattle.std.proofs.lemmas.Bool.{eqb-true}
 use Rattle.std.proofs.lemmas.List.{append-nil, nil_from_length, append_cancel_left, take-append-drop}
@@ -13,15 +13,14 @@ use Rattle.edit_ops.specs.declared.fault.TextError.{TextError}
 use Rattle.edit_ops.specs.declared.fault.TextError.TheVariants as errors
 use Rattle.edit_ops.specs.Kinds.{is_mark}
 use Rattle.edit_ops.specs.Words.{verb}
-use Rattle.edit_ops.specs.Fields.{Kind, Field, client, call_number, Client_, Call_, IsGood}
-use Rattle.edit_ops.specs.Records.{EditView, kind_of, fields_of, layout, call_fields, edit_fields, called}
-use Rattle.edit_ops.specs.Grammar.{MayCall, IsEdit}
-use Rattle.edit_ops.specs.Texts.{spaced, CanSay, text_of, IsText}
+use Rattle.edit_ops.specs.Fields.{Field, client, call_number, IsGood}
+use Rattle.edit_ops.specs.Records.{EditView, kind_of, fields_of, layout, call_fields}
+use Rattle.edit_ops.specs.Texts.{spaced, IsText}
 use Rattle.edit_ops.specs.ReadTexts.{IsLine, IsReadLine, IsReadEdit, IsReadText}
 use Rattle.edit_ops.specs.Saying.{◌>>=◌, Misses, Boundary, split_word, fields_said, op_said}
-use Rattle.edit_ops.proofs.EditLaws.{same_op, same_edit}
+use Rattle.edit_ops.proofs.EditLaws.{same_op}
 use Rattle.edit_ops.proofs.SayWords.{NoSpace, split_again}
-use Rattle.edit_ops.proofs.SayLaws.{prefixed, runs, Taken, fields_taken, op_says, op_bound, same_verb, verb_plain, no_call_verb, some_read, some_is}
+use Rattle.edit_ops.proofs.SayLaws.{runs, fields_taken, op_says, op_bound, same_verb, verb_plain, no_call_verb, some_is}
 
 abbrev Read : Type 0
 Read = Option (List Field × List ℕ)
@@ -40,7 +39,7 @@ line_word words op line = ap (λ (p : List ℕ × List ℕ). p.0) (line_split wo
 pub line_rest : (words : List ℕ) (op : Op) → IsLine words op → (split_word words).1 ≡ flat (fields_of op)
 line_rest words op line = ap (λ (p : List ℕ × List ℕ). p.1) (line_split words op line)
 
-line_says : (words : List ℕ) (op : Op) → IsLine words op → fields_said (layout (kind_of op)) (flat (fields_of op)) ≡ Some (fields_of op, [])
+pub line_says : (words : List ℕ) (op : Op) → IsLine words op → fields_said (layout (kind_of op)) (flat (fields_of op)) ≡ Some (fields_of op, [])
 line_says words op line = op_says op line.good line.said line.no_mark
 
 -- what was read as an edit of a kind
@@ -113,17 +112,17 @@ one_line words a b p q =
 -- ---- calls
 
 -- a text that a call stands before: the words behind `call`
-record IsCalled (text : List ℕ) (call : Call) (op : Op) : Type 0 where
-  line : List ℕ
-  parts : text ≡ codes "call" ++ (flat (call_fields (Some call)) ++ 32 ∷ line)
-  is_line : IsLine line op
-  good : AllByRecursion IsGood (call_fields (Some call))
+pub record IsCalled (text : List ℕ) (call : Call) (op : Op) : Type 0 where
+  pub line : List ℕ
+  pub parts : text ≡ codes "call" ++ (flat (call_fields (Some call)) ++ 32 ∷ line)
+  pub is_line : IsLine line op
+  pub good : AllByRecursion IsGood (call_fields (Some call))
 
 split_good : (xs ys : List Field) → AllByRecursion IsGood (xs ++ ys) → AllByRecursion IsGood xs × AllByRecursion IsGood ys
 split_good [] ys good = (tt, good)
 split_good (x ∷ xs) ys good = let r = split_good xs ys good.1 in ((good.0, r.0), r.1)
 
-called_text : (text : List ℕ) (call : Call) (op : Op) → IsText text (record { op = op; call = Some call }) → IsCalled text call op
+pub called_text : (text : List ℕ) (call : Call) (op : Op) → IsText text (record { op = op; call = Some call }) → IsCalled text call op
 called_text text call op is =
     let good = split_good (call_fields (Some call)) (fields_of op) is.edit.fields in
     let line : List ℕ = verb (kind_of op) ++ flat (fields_of op) in
@@ -134,20 +133,20 @@ called_text text call op is =
       good = good.0;
     }
 
-plain_text : (text : List ℕ) (op : Op) → IsText text (record { op = op; call = None }) → IsLine text op
+pub plain_text : (text : List ℕ) (op : Op) → IsText text (record { op = op; call = None }) → IsLine text op
 plain_text text op is = record { good = is.edit.fields; said = is.said; no_mark = is.no_mark; spelled = is.spelled }
 
-call_plain : NoSpace (codes "call")
+pub call_plain : NoSpace (codes "call")
 call_plain = (refl, (refl, (refl, (refl, tt))))
 
 -- what begins with the word `call` is no line
 not_line : (words : List ℕ) (op : Op) → Boundary words → IsLine (codes "call" ++ words) op → ⊥
 not_line words op bound line = no_call_verb (kind_of op) (sym (line_word (codes "call" ++ words) op line) ∙ ap (λ (p : List ℕ × List ℕ). p.0) (split_again (codes "call") words call_plain bound))
 
-call_bound : (call : Call) (line : List ℕ) → Boundary (flat (call_fields (Some call)) ++ 32 ∷ line)
+pub call_bound : (call : Call) (line : List ℕ) → Boundary (flat (call_fields (Some call)) ++ 32 ∷ line)
 call_bound call line = refl
 
-call_says : (call : Call) (line : List ℕ) → AllByRecursion IsGood (call_fields (Some call)) → fields_said (client ∷ call_number ∷ []) (flat (call_fields (Some call)) ++ 32 ∷ line) ≡ Some (call_fields (Some call), 32 ∷ line)
+pub call_says : (call : Call) (line : List ℕ) → AllByRecursion IsGood (call_fields (Some call)) → fields_said (client ∷ call_number ∷ []) (flat (call_fields (Some call)) ++ 32 ∷ line) ≡ Some (call_fields (Some call), 32 ∷ line)
 call_says call line good = runs (call_fields (Some call)) [] (32 ∷ line) ((tt, (tt, tt)), good, (tt, (tt, tt))) refl
 
 same_call : (a b : Call) → call_fields (Some a) ≡ call_fields (Some b) → a ≡ b

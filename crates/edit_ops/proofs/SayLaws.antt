@@ -1,9 +1,9 @@
 -- Texts: what is read of the words is what they say, and what is said is read.
-use Rattle.std.proofs.Common.{◌≡◌, ◌≢◌, ◌⊎◌, ℕ, zero, suc, ◌+◌, ◌<◌, ◌≤◌, Bool, true, false, List, [], ◌∷◌, ◌++◌, length, length-append, map, Option, Some, None, refl, sym, ap, subst, ◌∙◌, append_assoc, arith, inl, inr}
+use Rattle.std.proofs.Common.{◌≡◌, ◌≢◌, ℕ, zero, suc, ◌≤◌, false, List, [], ◌∷◌, ◌++◌, length, map, Option, Some, None, refl, sym, ap, subst, ◌∙◌, append_assoc, arith}
 use Rattle.std.specs.Prelude.{codes, if◌then◌else◌}
 use Rattle.std.specs.Str.{bytes_eq}
 use Rattle.std.specs.List.{flat_map, AllByRecursion}
-use Rattle.std.proofs.lemmas.List.{append-nil, nil_from_length, length-map}
+use Rattle.std.proofs.lemmas.List.{append-nil, length-map}
 use Rattle.edit_ops.specs.declared.kind.OpKind.{OpKind}
 use Rattle.edit_ops.specs.declared.kind.OpKind.TheVariants as kinds
 use Rattle.edit_ops.specs.declared.op.Op.{Op}
@@ -11,7 +11,7 @@ use Rattle.edit_ops.specs.declared.op.Op.TheVariants.{Add, RenameOld, Delete, Mk
 use Rattle.edit_ops.specs.Kinds.{is_mark}
 use Rattle.edit_ops.specs.Words.{verb}
 use Rattle.edit_ops.specs.Records.{kind_of, fields_of, layout}
-use Rattle.edit_ops.specs.Fields.{Kind, Field, Text, path, owner, new_owner, Small, replication, permission, numbers, paths, text, small, number, flag, client, call_number, Text_, Small_, Number_, Flag_, Client_, Call_, kind_of_field, IsGood}
+use Rattle.edit_ops.specs.Fields.{Kind, Field, path, replication, permission, numbers, paths, text, small, number, flag, client, call_number, Text_, Small_, Number_, Flag_, Client_, Call_, kind_of_field, IsGood}
 use Rattle.edit_ops.specs.Texts.{spaced, CanSay}
 use Rattle.edit_ops.specs.Saying.{◌>>=◌, Boundary, field_said, items_said, listed_said, group_said, fields_said}
 use Rattle.edit_ops.proofs.SayWords.{NoSpace, HasWord, word_in, spaced_is, Says, field_said_takes, field_said_again}

@@ -1,19 +1,18 @@
 -- Words: where they end, and which fields they say.
-use Rattle.std.proofs.Common.{◌≡◌, ◌≢◌, ℕ, zero, suc, ◌+◌, ◌-◌, ◌*◌, ◌/◌, ◌%◌, ◌^◌, ◌<◌, ◌≤◌, Bool, true, false, cond, ltb, leb, eqb, List, [], ◌∷◌, ◌++◌, length, length-append, map, take, drop, Option, Some, None, refl, sym, ap, subst, ◌∙◌, append_assoc, arith, ◌⊎◌, inl, inr}
-use Rattle.std.specs.Prelude.{◌&&◌, ◌||◌, ◌==◌, not, codes}
+use Rattle.std.proofs.Common.{◌≡◌, ◌≢◌, ℕ, zero, suc, ◌+◌, ◌-◌, ◌*◌, ◌/◌, ◌%◌, ◌^◌, ◌<◌, ◌≤◌, Bool, true, false, cond, ltb, leb, eqb, List, [], ◌∷◌, ◌++◌, length, take, drop, Option, Some, None, refl, sym, ap, subst, ◌∙◌, arith}
+use Rattle.std.specs.Prelude.{◌&&◌, ◌==◌, codes}
 use Rattle.std.specs.List.{list_all, AllByRecursion, position_or_len, flat_map}
 use Rattle.std.specs.Char.{is_ascii_graphic, digit_value}
 use Rattle.std.specs.Str.{bytes_eq}
 use Rattle.std.specs.Str.Parse.{AllDigits}
 use Rattle.std.specs.Fmt.{digits, digit_glyph}
-use Rattle.std.specs.Int.{is_in_range}
-use Rattle.std.proofs.lemmas.Bool.{eq-eqb, ne_eqb, eqb-true, lt-ltb, ltb-true, le-leb, leb-true}
+use Rattle.std.proofs.lemmas.Bool.{eq-eqb, eqb-true, lt-ltb, ltb-true, le-leb, leb-true}
 use Rattle.std.proofs.lemmas.Bool.Decides.{nat_tests}
 use Rattle.std.proofs.lemmas.List.{take-append-drop, take_at, drop_at}
 use Rattle.std.proofs.lemmas.Fmt.{digits_is_IsNumeral}
 use Rattle.std.proofs.Math.Nat.{pow-le-pow_left}
 use Rattle.qj_num.specs.Numbers.{IsNumber}
-use Rattle.edit_ops.specs.Fields.{Kind, Field, Text, path, owner, new_owner, Small, replication, permission, numbers, paths, text, small, number, flag, client, call_number, Text_, Small_, Number_, Flag_, Client_, Call_, kind_of_field, limit, IsGood}
+use Rattle.edit_ops.specs.Fields.{Kind, Field, Text, path, owner, new_owner, replication, permission, numbers, paths, text, small, number, flag, client, call_number, Text_, Small_, Number_, Flag_, Client_, Call_, kind_of_field, limit, IsGood}
 use Rattle.edit_ops.specs.Texts.{text_word, hex_byte, spaced, CanSay}
 use Rattle.edit_ops.specs.Saying.{◌>>=◌, Boundary, split_word, word_at, number_said, at_most, text_said, is_hex, hex_value, unhex, client_said, said, field_said}
 use Rattle.edit_ops.proofs.SayNumbers.{bytes_same, same_bytes, number_is_said, said_is_number, within, said_at_most}

@@ -1,10 +1,9 @@
 -- Fields one after the other: what is read matches, what matches is read.
-use Rattle.std.proofs.Common.{◌≡◌, ℕ, zero, suc, ◌+◌, ◌<◌, ◌≤◌, List, [], ◌∷◌, ◌++◌, length, length-append, Result, Ok, Err, refl, sym, ap, subst, ◌∙◌, append_assoc, arith}
+use Rattle.std.proofs.Common.{◌≡◌, ℕ, zero, suc, ◌<◌, List, [], ◌∷◌, ◌++◌, length, length-append, Result, Ok, Err, refl, sym, ap, subst, ◌∙◌, append_assoc, arith}
 use Rattle.std.specs.Prelude.{replicate}
 use Rattle.std.specs.List.{flat_map, AllByRecursion}
-use Rattle.std.proofs.lemmas.List.{append-nil}
 use Rattle.edit_ops.specs.declared.fault.Fault.{Fault}
-use Rattle.edit_ops.specs.Fields.{Kind, Field, Text, Small, path, numbers, paths, replication, permission, text, small, number, flag, client, call_number, Text_, Small_, Number_, Flag_, Client_, Call_, kind_of_field, IsGood, field_bytes, follow}
+use Rattle.edit_ops.specs.Fields.{Kind, Field, path, numbers, paths, replication, permission, text, small, number, flag, client, call_number, Text_, Small_, Number_, Flag_, Client_, Call_, kind_of_field, IsGood, field_bytes, follow}
 use Rattle.edit_ops.specs.Decoding.{Matches}
 use Rattle.edit_ops.specs.Reading.{◌>>=◌, value_at, field_at, items_at, group_at, fields_at}
 use Rattle.edit_ops.proofs.ReadItems.{with_front}

@@ -10,3 +10,4 @@ pub mod Decoding
 pub mod Reading
 pub mod Saying
 pub mod ReadTexts
+pub mod SaidTexts

@@ -1,5 +1,4 @@
 -- A field as the code lends it.
-use Rattle.std.specs.Prelude.{ℕ, List, length, map}
 use Rattle.edit_ops.specs.declared.field.Field.{Field as Lent}
 use Rattle.edit_ops.specs.declared.field.Field.TheVariants as lent
 use Rattle.edit_ops.specs.Fields.{Field, path, owner, new_owner, replication, permission, numbers, paths, Text_, Small_, Number_, Flag_, Client_, Call_}

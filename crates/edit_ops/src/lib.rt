@@ -4,6 +4,7 @@
 mod decoded;
 mod decoding;
 mod edit;
+mod edit_list;
 mod fault;
 mod field;
 mod kind;
@@ -20,8 +21,9 @@ mod writing;
 pub use decoded::Decoded;
 pub use decoding::decode;
 pub use edit::{Call, Edit};
+pub use edit_list::EditList;
 pub use kind::OpKind;
-pub use laws::{no_record_begins_another, texts_tell_edits};
+pub use laws::{no_record_begins_another, texts_are_tested, texts_are_words, texts_tell_edits};
 pub use lists::{NameList, NumberList};
 pub use op::Op;
 pub use reading_text::read_text;

@@ -1,7 +1,7 @@
 use Rattle.std.proofs.Common.{◌++◌, Some, refl, true, ap, ◌∙◌, arith}
 use Rattle.std.proofs.lemmas.Result.{err_from_is_err_and}
 use Rattle.edit_ops.specs.Kinds.{is_mark}
-use Rattle.edit_ops.specs.Records.{kind_of, fields_of, call_fields, layout, full_layout}
+use Rattle.edit_ops.specs.Records.{kind_of, fields_of, call_fields, full_layout}
 use Rattle.edit_ops.proofs.DecodeLaws.{op_read, op_fails, fields_all_good, both_read, second_fails}
 use Rattle.edit_ops.proofs.decoding.called_edit_of.Goals as goal
 

@@ -1,6 +1,5 @@
-use Rattle.std.proofs.Common.{◌≡◌, ◌≤◌, ◌<◌, ℕ, List, [], ◌∷◌, length, Bool, true, false, eqb, Err, subst, sym, ap, ◌∙◌, arith}
+use Rattle.std.proofs.Common.{◌≡◌, ◌<◌, ℕ, List, [], ◌∷◌, length, false, eqb, subst, sym, ap, ◌∙◌, arith}
 use Rattle.std.proofs.lemmas.Bool.{eqb-true}
-use Rattle.edit_ops.specs.declared.fault.Fault.TheVariants.{Short, Bad}
 use Rattle.edit_ops.specs.declared.fault.ReadError.{ReadError}
 use Rattle.edit_ops.specs.declared.fault.ReadError.TheVariants as errors
 use Rattle.edit_ops.specs.Records.{edit_fields, full_layout}

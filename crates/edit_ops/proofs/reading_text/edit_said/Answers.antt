@@ -1,5 +1,4 @@
-use Rattle.std.proofs.Common.{◌≡◌, ℕ, List, ◌++◌, sym, ap, subst, ◌∙◌}
-use Rattle.std.specs.Prelude.{codes}
+use Rattle.std.proofs.Common.{ℕ, List, ◌++◌, sym, ap, subst, ◌∙◌}
 use Rattle.edit_ops.specs.Saying.{Boundary}
 use Rattle.edit_ops.proofs.SayNumbers.{same_bytes}
 use Rattle.edit_ops.proofs.SayEdits.{split_whole, split_bound}
