@@ -1,11 +1,13 @@
 -- A record that goes by a plan, line by line; and marks as tests.
-use Rattle.std.proofs.Common.{◌≡◌, ◌≢◌, ℕ, zero, suc, ◌+◌, ◌-◌, ◌<◌, ◌≤◌, ◌==◌, List, [], ◌∷◌, ◌++◌, Bool, true, false, cond, not, Contains, length, refl, sym, ap, ◌∙◌, subst, arith, get_or, set, take, drop, Some, inl, inr, ◌⊎◌, Decides, length-append, append-nil}
-use Rattle.std.specs.Prelude.{slice_get, ◌&&◌, ◌||◌}
+use Rattle.std.proofs.Common.{◌≡◌, ◌≢◌, ℕ, suc, ◌+◌, ◌-◌, ◌<◌, ◌≤◌, ◌==◌, List, [], ◌∷◌, ◌++◌, Bool, true, false, cond, not, Contains, length, refl, sym, ap, ◌∙◌, subst, arith, get_or, set, take, drop, Some, inl, inr, ◌⊎◌, Decides, length-append, append-nil, replicate, take-append-drop}
+use Rattle.std.specs.Prelude.{slice_get, unwrap_or, ◌&&◌, ◌||◌}
 use Rattle.std.specs.BTreeSet.{contains}
 use Rattle.std.specs.Ordering.{nat_cmp}
 use Rattle.std.proofs.lemmas.Bool.{true≢false, and_parts, and_from, or_cases, eqb-true, eq-eqb}
-use Rattle.std.proofs.lemmas.List.{take_more, take_all, drop_all, get_or-set_same, get_or-set_other, length-set}
+use Rattle.std.proofs.lemmas.List.{take_more, take_all, drop_all, get_or-set_same, get_or-set_other, length-set, get_or-replicate, length-replicate, get_or_default}
+use Rattle.std.proofs.lemmas.List.Elements.{Contains-push, Contains-push_cases, Contains-append_left}
 use Rattle.std.proofs.lemmas.List.Folds.{list_any-append}
+use Rattle.std.proofs.lemmas.Option.{slice_get_within}
 use Rattle.journal_core.specs.declared.request.Request.{Request}
 use Rattle.node_world.specs.declared.node_ask.NodeAsk.{NodeAsk}
 use Rattle.node_world.specs.declared.record.Record.{Record}
@@ -15,13 +17,18 @@ use Rattle.node_world.specs.declared.record.Told.TheVariants as told
 use Rattle.node_world.specs.declared.mark.Mark.{Mark}
 use Rattle.node_world.specs.declared.mark.MarkKind.{MarkKind}
 use Rattle.node_world.specs.declared.mark.MarkKind.TheVariants as kind
-use Rattle.mesh.specs.Marks.{mark, calls_to, next_number, Asked, IsAsMarked, IsCopy, IsMarked, AreCopied}
-use Rattle.mesh.specs.Matches.{AreWithin}
+use Rattle.node_world.proofs.Values.{get_append, get_append_left}
+use Rattle.node_world.proofs.Oks.{get_append_right}
+use Rattle.mesh.specs.Marks.{mark, calls_to, next_number, IsAsMarked, IsCopy, IsMarked, AreCopied}
 use Rattle.mesh.proofs.Lists.{Alike, alike, contains_cases, contains_head, contains_tail, contains_none}
 use Rattle.mesh_agreement.specs.declared.marking.Numbers.{Numbers}
+use Rattle.mesh_agreement.specs.declared.marking.MarkTable.{MarkTable}
 use Rattle.mesh_agreement.specs.declared.marking.CallTable.{CallTable}
-use Rattle.mesh_agreement.specs.Marking.{same_kind, is_marked, as_marked, asked_by, KnowsMarks, KnowsCalls, IsCopyBy, LineIsMarked, IsCopied}
-use Rattle.mesh_agreement.proofs.Deciding.{ByLine, front}
+use Rattle.mesh_agreement.specs.declared.request_set.RequestSet.{RequestSet}
+use Rattle.mesh_agreement.specs.Keys.{is_ask, has}
+use Rattle.mesh_agreement.specs.Marking.{same_kind, is_marked, as_marked, KnowsMarks, KnowsPlan, KnowsCalls, HasCopies, LineIsMarked, LineIsCopied}
+use Rattle.mesh_agreement.proofs.Deciding.{front}
+use Rattle.mesh_agreement.proofs.KeyLaws.{ask_decided}
 
 -- ## The test of a mark
 kind_is : (a b : MarkKind) → same_kind a b ≡ true → a ≡ b
@@ -55,9 +62,9 @@ or_left : (b c : Bool) → b ≡ true → (b || c) ≡ true
 or_left true c e = refl
 or_left false c e = absurd (true≢false (sym e))
 
-has : (k n : ℕ) (kd : MarkKind) (ms : List Mark) → is_marked ms k n kd ≡ true → Contains ms (mark k n kd)
-has k n kd [] e = absurd (true≢false (sym e))
-has k n kd (m ∷ ms) e = by (or_cases (test m k n kd) (is_marked ms k n kd) e) (has k n kd ms)
+has_mark : (k n : ℕ) (kd : MarkKind) (ms : List Mark) → is_marked ms k n kd ≡ true → Contains ms (mark k n kd)
+has_mark k n kd [] e = absurd (true≢false (sym e))
+has_mark k n kd (m ∷ ms) e = by (or_cases (test m k n kd) (is_marked ms k n kd) e) (has_mark k n kd ms)
   where
     by : (test m k n kd ≡ true) ⊎ (is_marked ms k n kd ≡ true) → (is_marked ms k n kd ≡ true → Contains ms (mark k n kd)) → Contains (m ∷ ms) (mark k n kd)
     by (inl f) later = contains_head m ms (mark k n kd) (test_is m k n kd f)
@@ -79,7 +86,7 @@ unmarked : (ms : List Mark) (k n : ℕ) (kd : MarkKind) → (Contains ms (mark k
 unmarked ms k n kd off = by (is_marked ms k n kd) refl
   where
     by : (b : Bool) → is_marked ms k n kd ≡ b → not (is_marked ms k n kd) ≡ true
-    by true e = absurd (off (has k n kd ms e))
+    by true e = absurd (off (has_mark k n kd ms e))
     by false e = ap not e
 
 -- a call of which something or nothing was heard
@@ -95,11 +102,11 @@ heard_marked plan k n t d m = (
 )
 
 pub told_marked : (plan : List Mark) (k n : ℕ) (t : Told) → Decides (as_marked t (is_marked plan k n kind.Dropped) (is_marked plan k n kind.Muted)) (IsAsMarked plan k n t)
-told_marked plan k n told.Dropped = (λ e. ((λ f. has k n kind.Dropped plan e, λ h. refl), λ off. absurd (off refl)), λ h. had k n kind.Dropped plan (h.0.0 refl))
+told_marked plan k n told.Dropped = (λ e. ((λ f. has_mark k n kind.Dropped plan e, λ h. refl), λ off. absurd (off refl)), λ h. had k n kind.Dropped plan (h.0.0 refl))
 told_marked plan k n told.Muted = (
   λ e. let p = and_parts (not (is_marked plan k n kind.Dropped)) (is_marked plan k n kind.Muted) e in (
     (λ (f : told.Muted ≡ told.Dropped). absurd (cc f), λ h. absurd (not_marked plan k n kind.Dropped p.0 h)),
-    λ off. (λ f. has k n kind.Muted plan p.1, λ h. refl),
+    λ off. (λ f. has_mark k n kind.Muted plan p.1, λ h. refl),
   ),
   λ h. and_from (not (is_marked plan k n kind.Dropped)) (is_marked plan k n kind.Muted)
       (unmarked plan k n kind.Dropped (λ g. let f : told.Muted ≡ told.Dropped = h.0.1 g in cc f))
@@ -184,21 +191,31 @@ marks_add nodes i plan m kd lists old new l is of there grown h = record {
 pub no_marks : (nodes : ℕ) (kd : MarkKind) (lists : List Numbers) → length lists ≡ nodes → ((i q : ℕ) (d : Numbers) → i < nodes → contains nat_cmp (get_or lists i d).set q ≡ false) → KnowsMarks nodes [] kd lists
 no_marks nodes kd lists l e = record { count = l; each = λ i q d low. e i q d low }
 
--- ## One more call
-calls_snoc : (k : ℕ) (xs : List Record) (r : Record) → calls_to k (xs ++ r ∷ []) ≡ calls_to k xs ++ calls_to k (r ∷ [])
+-- ## Calls so far
+calls_append : (k : ℕ) (xs ys : List Record) → calls_to k (xs ++ ys) ≡ calls_to k xs ++ calls_to k ys
 unfolding calls_to
-calls_snoc k [] r = refl
-calls_snoc k (Call i q t ∷ xs) r = by (i == k) (calls_snoc k xs r)
+calls_append k [] ys = refl
+calls_append k (Call i q t ∷ xs) ys = by (i == k) (calls_append k xs ys)
   where
-    by : (b : Bool) → calls_to k (xs ++ r ∷ []) ≡ calls_to k xs ++ calls_to k (r ∷ []) → cond b (q ∷ calls_to k (xs ++ r ∷ [])) (calls_to k (xs ++ r ∷ [])) ≡ cond b (q ∷ calls_to k xs) (calls_to k xs) ++ calls_to k (r ∷ [])
+    by : (b : Bool) → calls_to k (xs ++ ys) ≡ calls_to k xs ++ calls_to k ys → cond b (q ∷ calls_to k (xs ++ ys)) (calls_to k (xs ++ ys)) ≡ cond b (q ∷ calls_to k xs) (calls_to k xs) ++ calls_to k ys
     by true h = ap (λ (l : List Request). q ∷ l) h
     by false h = h
-calls_snoc k (Late i q ∷ xs) r = calls_snoc k xs r
-calls_snoc k (Operator i a d ∷ xs) r = calls_snoc k xs r
-calls_snoc k (Outcome x ∷ xs) r = calls_snoc k xs r
+calls_append k (Late i q ∷ xs) ys = calls_append k xs ys
+calls_append k (Operator i a d ∷ xs) ys = calls_append k xs ys
+calls_append k (Outcome x ∷ xs) ys = calls_append k xs ys
 
-no_call : (k : ℕ) (xs : List Record) (r : Record) → calls_to k (r ∷ []) ≡ [] → calls_to k (xs ++ r ∷ []) ≡ calls_to k xs
-no_call k xs r e = calls_snoc k xs r ∙ ap (λ l. calls_to k xs ++ l) e ∙ append-nil (calls_to k xs)
+-- no more than there are lines
+calls_fit : (k : ℕ) (xs : List Record) → length (calls_to k xs) ≤ length xs
+unfolding calls_to
+calls_fit k [] = omega arith
+calls_fit k (Call i q t ∷ xs) = by (i == k) (calls_fit k xs)
+  where
+    by : (b : Bool) → length (calls_to k xs) ≤ length xs → length (cond b (q ∷ calls_to k xs) (calls_to k xs)) ≤ suc (length xs)
+    by true h = omega (arith, h)
+    by false h = omega (arith, h)
+calls_fit k (Late i q ∷ xs) = let h = calls_fit k xs in omega (arith, h)
+calls_fit k (Operator i a d ∷ xs) = let h = calls_fit k xs in omega (arith, h)
+calls_fit k (Outcome x ∷ xs) = let h = calls_fit k xs in omega (arith, h)
 
 own_call : (k node : ℕ) (q : Request) (t : Told) → node ≡ k → calls_to k (Call node q t ∷ []) ≡ q ∷ []
 unfolding calls_to
@@ -208,165 +225,201 @@ other_call : (k node : ℕ) (q : Request) (t : Told) → (node == k) ≡ false �
 unfolding calls_to
 other_call k node q t e = ap (λ b. cond b (q ∷ []) []) e
 
-pub calls_stay : (nodes : ℕ) (rs before : List Record) (r : Record) (lists : List CallTable) → ((k : ℕ) → calls_to k (r ∷ []) ≡ []) → KnowsCalls nodes rs before lists → KnowsCalls nodes rs (before ++ r ∷ []) lists
-calls_stay nodes rs before r lists none h = record {
-  count = h.count;
-  each = λ i n d low. h.each i n d low ∙ ap (λ l. slice_get l n) (sym (no_call (i + 1) before r (none (i + 1))));
-  long = λ i d low. h.long i d low ∙ ap length (sym (no_call (i + 1) before r (none (i + 1))));
-}
+-- the number of the next call, behind a call to this node, and behind a line that is none
+number_more : (k node : ℕ) (before : List Record) (q : Request) (t : Told) → node ≡ k → next_number k (before ++ Call node q t ∷ []) ≡ next_number k before + 1
+number_more k node before q t e =
+    ap (λ l. length l + 1) (calls_append k before (Call node q t ∷ []) ∙ ap (λ l. calls_to k before ++ l) (own_call k node q t e)) ∙ ap (λ n. n + 1) (length-append (calls_to k before) (q ∷ []))
 
--- the item behind a list, and those in it
-got : {A : Type 0} (xs : List A) (x : A) (n : ℕ) → ((n < length xs) × (slice_get (xs ++ x ∷ []) n ≡ slice_get xs n)) ⊎ ((length xs ≤ n) × (slice_get (xs ++ x ∷ []) n ≡ slice_get (x ∷ []) (n - length xs)))
-got [] x n = inr (omega arith, ap (slice_get (x ∷ [])) (let e : n ≡ n - 0 = omega arith in e))
-got (y ∷ xs) x zero = inl (omega arith, refl)
-got {A} (y ∷ xs) x (suc n) = by (got xs x n)
+number_stays : (k : ℕ) (before : List Record) (r : Record) → calls_to k (r ∷ []) ≡ [] → next_number k (before ++ r ∷ []) ≡ next_number k before
+number_stays k before r e = ap (λ l. length l + 1) (calls_append k before (r ∷ []) ∙ ap (λ l. calls_to k before ++ l) e ∙ append-nil (calls_to k before))
+
+pub number_fits : (nodes i most : ℕ) (plan : List Mark) (before : List Record) (calls : CallTable) → i < length calls.next.items → length before + 2 ≤ most → KnowsCalls nodes plan before calls → get_or calls.next.items i 0 + 1 ≤ most
+number_fits nodes i most plan before calls low fits known =
+    let low2 : i < nodes = omega (arith, low, known.count) in
+    let is = known.next i low2 in let fit = calls_fit (i + 1) before in omega (arith, is, fit, fits)
+
+-- ## Late copies that may come
+-- what was asked may be copied for ever
+pub copy_kept : (plan : List Mark) (before more : List Record) (k : ℕ) (q : Request) → IsCopy plan before k q → IsCopy plan (before ++ more) k q
+copy_kept plan before more k q (number, h, (some, asked)) =
+    (number, h, (some, ap (λ l. slice_get l (number - 1)) (calls_append k before more) ∙ get_append_left (calls_to k before) (calls_to k more) (number - 1) q asked))
+
+copy_last : (plan : List Mark) (before : List Record) (k : ℕ) (q : Request) (t : Told) → Contains plan (mark k (next_number k before) kind.Late) → IsCopy plan (before ++ Call k q t ∷ []) k q
+copy_last plan before k q t h =
+    let at : next_number k before - 1 ≡ length (calls_to k before) + 0 = omega arith in (
+      next_number k before,
+      h,
+      (
+        omega arith,
+        ap (λ l. slice_get l (next_number k before - 1)) (calls_append k before (Call k q t ∷ []) ∙ ap (λ l. calls_to k before ++ l) (own_call k k q t refl))
+            ∙ ap (slice_get (calls_to k before ++ q ∷ [])) at ∙ get_append_right (calls_to k before) (q ∷ []) 0 q refl,
+      ),
+    )
+
+-- a copy that may come is of an earlier call, or of this line's
+abbrev IsOfLine : List Mark → List Record → Record → ℕ → Request → Type 0
+IsOfLine plan before r k q = Contains plan (mark k (next_number k before) kind.Late) × (slice_get (calls_to k (r ∷ [])) 0 ≡ Some q)
+
+copy_from : (plan : List Mark) (before : List Record) (r : Record) (k : ℕ) (q : Request) → IsCopy plan (before ++ r ∷ []) k q → IsCopy plan before k q ⊎ IsOfLine plan before r k q
+copy_from plan before r k q (number, h, (some, asked)) =
+    by (get_append (calls_to k before) (calls_to k (r ∷ [])) (number - 1) q (ap (λ l. slice_get l (number - 1)) (sym (calls_append k before (r ∷ []))) ∙ asked))
   where
-    by : ((n < length xs) × (slice_get (xs ++ x ∷ []) n ≡ slice_get xs n)) ⊎ ((length xs ≤ n) × (slice_get (xs ++ x ∷ []) n ≡ slice_get (x ∷ []) (n - length xs)))
-        → ((suc n < suc (length xs)) × (slice_get (xs ++ x ∷ []) n ≡ slice_get xs n)) ⊎ ((suc (length xs) ≤ suc n) × (slice_get (xs ++ x ∷ []) n ≡ slice_get (x ∷ []) (suc n - suc (length xs))))
-    by (inl h) = inl (omega (arith, h.0), h.1)
-    by (inr h) = inr (omega (arith, h.0), h.1 ∙ ap (slice_get (x ∷ [])) (let e : n - length xs ≡ suc n - suc (length xs) = omega arith in e))
+    by : (slice_get (calls_to k before) (number - 1) ≡ Some q) ⊎ ((j : ℕ) × (number - 1 ≡ length (calls_to k before) + j) × (slice_get (calls_to k (r ∷ [])) j ≡ Some q)) → IsCopy plan before k q ⊎ IsOfLine plan before r k q
+    by (inl g) = inl (number, h, (some, g))
+    by (inr (j, at, g)) =
+        let few = calls_fit k (r ∷ []) in let within = slice_get_within (calls_to k (r ∷ [])) j q g in
+        let first : j ≡ 0 = omega (arith, few, within) in
+        let n : number ≡ next_number k before = omega (arith, at, first, some) in
+        inr (subst (λ x. Contains plan (mark k x kind.Late)) n h, subst (λ x. slice_get (calls_to k (r ∷ [])) x ≡ Some q) first g)
 
-asked_last : (rs : List Record) (place : ℕ) (q : Request) (n : ℕ) → asked_by rs (Some place) ≡ Some q → asked_by rs (slice_get (place ∷ []) n) ≡ slice_get (q ∷ []) n
-asked_last rs place q zero e = e
-asked_last rs place q (suc n) e = refl
-
--- the places of one node's calls, with one more
-asked_more : (rs : List Record) (places : List ℕ) (calls : List Request) (place : ℕ) (q : Request) (n : ℕ) → length places ≡ length calls → asked_by rs (Some place) ≡ Some q
-    → ((m : ℕ) → asked_by rs (slice_get places m) ≡ slice_get calls m) → asked_by rs (slice_get (places ++ place ∷ []) n) ≡ slice_get (calls ++ q ∷ []) n
-asked_more rs places calls place q n l e h = by (got places place n) (got calls q n)
-  where
-    by : ((n < length places) × (slice_get (places ++ place ∷ []) n ≡ slice_get places n)) ⊎ ((length places ≤ n) × (slice_get (places ++ place ∷ []) n ≡ slice_get (place ∷ []) (n - length places)))
-        → ((n < length calls) × (slice_get (calls ++ q ∷ []) n ≡ slice_get calls n)) ⊎ ((length calls ≤ n) × (slice_get (calls ++ q ∷ []) n ≡ slice_get (q ∷ []) (n - length calls)))
-        → asked_by rs (slice_get (places ++ place ∷ []) n) ≡ slice_get (calls ++ q ∷ []) n
-    by (inl a) (inl b) = ap (asked_by rs) a.1 ∙ h n ∙ sym b.1
-    by (inl a) (inr b) = absurd (omega (arith, a.0, b.0, l))
-    by (inr a) (inl b) = absurd (omega (arith, a.0, b.0, l))
-    by (inr a) (inr b) = ap (asked_by rs) a.1 ∙ asked_last rs place q (n - length places) e ∙ ap (λ m. slice_get (q ∷ []) (n - m)) l ∙ sym b.1
-
-pub calls_add : (nodes place node : ℕ) (rs before : List Record) (q : Request) (t : Told) (lists : List CallTable) (old new : CallTable) → (1 ≤ node) × (node ≤ nodes) → asked_by rs (Some place) ≡ Some q
-    → ((d : CallTable) → old ≡ get_or lists (node - 1) d) → new.places.items ≡ old.places.items ++ place ∷ []
-    → KnowsCalls nodes rs before lists → KnowsCalls nodes rs (before ++ Call node q t ∷ []) (set lists (node - 1) new)
+called : (n : ℕ) (p : Request) (t : Told) (k : ℕ) (q : Request) → slice_get (calls_to k (Call n p t ∷ [])) 0 ≡ Some q → (n ≡ k) × (p ≡ q)
 unfolding Alike
-calls_add nodes place node rs before q t lists old new low asked there grown h = record {
-  count = length-set lists (node - 1) new ∙ h.count;
-  each = λ i n d less. each i n d less (alike node (i + 1));
-  long = λ i d less. long i d less (alike node (i + 1));
-}
+called n p t k q e = by (alike n k)
   where
-    inside : node - 1 < length lists
-    inside = omega (arith, low.0, low.1, h.count)
+    by : Alike n k → (n ≡ k) × (p ≡ q)
+    by (inl on) = (on.1, ap (λ o. unwrap_or o p) (ap (λ l. slice_get l 0) (sym (own_call k n p t on.1)) ∙ e))
+    by (inr off) = absurd (let none : slice_get [] 0 ≡ Some q = ap (λ l. slice_get l 0) (sym (other_call k n p t off.0)) ∙ e in cc none)
 
-    here : (i : ℕ) (d : CallTable) → node ≡ i + 1 → get_or (set lists (node - 1) new) i d ≡ new
-    here i d e = let at : node - 1 ≡ i = omega (arith, e) in subst (λ x. get_or (set lists (node - 1) new) x d ≡ new) at (get_or-set_same lists (node - 1) new d inside)
+nothing_called : (k : ℕ) (r : Record) (q : Request) → calls_to k (r ∷ []) ≡ [] → slice_get (calls_to k (r ∷ [])) 0 ≡ Some q → ⊥
+nothing_called k r q off e = let none : slice_get [] 0 ≡ Some q = ap (λ l. slice_get l 0) (sym off) ∙ e in cc none
 
-    was : (i : ℕ) (d : CallTable) → node ≡ i + 1 → old ≡ get_or lists i d
-    was i d e = let at : node - 1 ≡ i = omega (arith, e) in there d ∙ ap (λ x. get_or lists x d) at
-
-    apart : (i : ℕ) (d : CallTable) → node ≢ i + 1 → get_or (set lists (node - 1) new) i d ≡ get_or lists i d
-    apart i d off = get_or-set_other lists (node - 1) i new d (λ g. off (omega (arith, g, low.0)))
-
-    more : (i : ℕ) → node ≡ i + 1 → calls_to (i + 1) (before ++ Call node q t ∷ []) ≡ calls_to (i + 1) before ++ q ∷ []
-    more i e = calls_snoc (i + 1) before (Call node q t) ∙ ap (λ l. calls_to (i + 1) before ++ l) (own_call (i + 1) node q t e)
-
-    each : (i n : ℕ) (d : CallTable) → i < nodes → Alike node (i + 1) → asked_by rs (slice_get (get_or (set lists (node - 1) new) i d).places.items n) ≡ slice_get (calls_to (i + 1) (before ++ Call node q t ∷ [])) n
-    each i n d less (inl e) =
-        ap (λ (x : CallTable). asked_by rs (slice_get x.places.items n)) (here i d e.1) ∙ ap (λ l. asked_by rs (slice_get l n)) grown
-        ∙ asked_more rs old.places.items (calls_to (i + 1) before) place q n (ap (λ (x : CallTable). length x.places.items) (was i d e.1) ∙ h.long i d less) asked
-        (λ m. ap (λ (x : CallTable). asked_by rs (slice_get x.places.items m)) (was i d e.1) ∙ h.each i m d less)
-        ∙ ap (λ l. slice_get l n) (sym (more i e.1))
-    each i n d less (inr e) =
-        ap (λ (x : CallTable). asked_by rs (slice_get x.places.items n)) (apart i d e.1) ∙ h.each i n d less
-        ∙ ap (λ l. slice_get l n) (sym (no_call (i + 1) before (Call node q t) (other_call (i + 1) node q t e.0)))
-
-    long : (i : ℕ) (d : CallTable) → i < nodes → Alike node (i + 1) → length (get_or (set lists (node - 1) new) i d).places.items ≡ length (calls_to (i + 1) (before ++ Call node q t ∷ []))
-    long i d less (inl e) =
-        let a = length-append old.places.items (place ∷ []) in let b = length-append (calls_to (i + 1) before) (q ∷ []) in
-        let c : length old.places.items ≡ length (calls_to (i + 1) before) = ap (λ (x : CallTable). length x.places.items) (was i d e.1) ∙ h.long i d less in
-        ap (λ (x : CallTable). length x.places.items) (here i d e.1) ∙ ap length grown ∙ (a ∙ ap (λ n. n + 1) c ∙ sym b) ∙ ap length (sym (more i e.1))
-    long i d less (inr e) =
-        ap (λ (x : CallTable). length x.places.items) (apart i d e.1) ∙ h.long i d less ∙ ap length (sym (no_call (i + 1) before (Call node q t) (other_call (i + 1) node q t e.0)))
-
-pub no_calls_yet : (nodes : ℕ) (rs : List Record) (lists : List CallTable) → length lists ≡ nodes → ((i : ℕ) (d : CallTable) → i < nodes → (get_or lists i d).places.items ≡ []) → KnowsCalls nodes rs [] lists
-unfolding calls_to
-no_calls_yet nodes rs lists l e = record {
-  count = l;
-  each = λ i n d low. ap (λ x. asked_by rs (slice_get x n)) (e i d low) ∙ none n;
-  long = λ i d low. ap length (e i d low);
-}
-  where
-    none : (n : ℕ) → asked_by rs (slice_get [] n) ≡ slice_get [] n
-    none zero = refl
-    none (suc n) = refl
-
--- ## One line by the lists of its node
+-- ## A node's marks
 at_node : (nodes node : ℕ) → (1 ≤ node) × (node ≤ nodes) → (node - 1 < nodes) × (node - 1 + 1 ≡ node)
 at_node nodes node (low, high) = (omega (arith, low, high), omega (arith, low))
 
-marked_at : (nodes node number n : ℕ) (plan : List Mark) (kd : MarkKind) (lists : List Numbers) (x : Numbers) → (1 ≤ node) × (node ≤ nodes) → KnowsMarks nodes plan kd lists → x ≡ get_or lists (node - 1) x → number ≡ n
+pub marked_at : (nodes node number n : ℕ) (plan : List Mark) (kd : MarkKind) (lists : List Numbers) (x : Numbers) → (1 ≤ node) × (node ≤ nodes) → KnowsMarks nodes plan kd lists → x ≡ get_or lists (node - 1) x → number ≡ n
     → contains nat_cmp x.set number ≡ is_marked plan node n kd
 marked_at nodes node number n plan kd lists x low known is e =
     let a = at_node nodes node low in
     ap (λ (y : Numbers). contains nat_cmp y.set number) is ∙ known.each (node - 1) number x a.0 ∙ ap (λ k. is_marked plan k number kd) a.1 ∙ ap (λ m. is_marked plan node m kd) e
 
-pub call_marked : (nodes node number : ℕ) (plan : List Mark) (rs before : List Record) (calls : List CallTable) (dropped muted : List Numbers) (r : Request) (t : Told) (table : CallTable) (drops mutes : Numbers) (b : Bool)
-    → (1 ≤ node) × (node ≤ nodes) → KnowsMarks nodes plan kind.Dropped dropped → KnowsMarks nodes plan kind.Muted muted
-    → table ≡ get_or calls (node - 1) table → drops ≡ get_or dropped (node - 1) drops → mutes ≡ get_or muted (node - 1) mutes
-    → number ≡ length table.places.items + 1 → b ≡ as_marked t (contains nat_cmp drops.set number) (contains nat_cmp mutes.set number)
-    → KnowsCalls nodes rs before calls → Decides b (LineIsMarked plan before (Call node r t))
-call_marked nodes node number plan rs before calls dropped muted r t table drops mutes b low knows_dropped knows_muted is is_drops is_mutes num e known =
-    let a = at_node nodes node low in
-    let size : length table.places.items ≡ length (calls_to node before) =
-    ap (λ (x : CallTable). length x.places.items) is ∙ known.long (node - 1) table a.0 ∙ ap (λ k. length (calls_to k before)) a.1 in
-    let n : number ≡ next_number node before = num ∙ ap (λ m. m + 1) size in
-    let d = marked_at nodes node number (next_number node before) plan kind.Dropped dropped drops low knows_dropped is_drops n in
-    let m = marked_at nodes node number (next_number node before) plan kind.Muted muted mutes low knows_muted is_mutes n in
+-- ## One more line
+-- behind a call, whose request is kept where it is marked as late
+late_more : (plan : List Mark) (before : List Record) (n : ℕ) (p : Request) (t : Told) (k : ℕ) (q : Request) (b x y : Bool) → b ≡ is_marked plan n (next_number n before) kind.Late → y ≡ ((b && is_ask k q n p) || x)
+    → Decides x (IsCopy plan before k q) → Decides y (IsCopy plan (before ++ Call n p t ∷ []) k q)
+late_more plan before n p t k q b x y marked is d = (λ e. forth (or_cases (b && is_ask k q n p) x (sym is ∙ e)), λ h. is ∙ back (copy_from plan before (Call n p t) k q h))
+  where
+    forth : ((b && is_ask k q n p) ≡ true) ⊎ (x ≡ true) → IsCopy plan (before ++ Call n p t ∷ []) k q
+    forth (inl f) =
+        let parts = and_parts b (is_ask k q n p) f in let same = (ask_decided k n q p).0 parts.1 in
+        subst (λ i. IsCopy plan (before ++ Call n p t ∷ []) i q) (sym same.0)
+        (subst (IsCopy plan (before ++ Call n p t ∷ []) n) (sym same.1) (copy_last plan before n p t (has_mark n (next_number n before) kind.Late plan (sym marked ∙ parts.0))))
+    forth (inr f) = copy_kept plan before (Call n p t ∷ []) k q (d.0 f)
+
+    back : IsCopy plan before k q ⊎ IsOfLine plan before (Call n p t) k q → ((b && is_ask k q n p) || x) ≡ true
+    back (inl g) = or_right (b && is_ask k q n p) x (d.1 g)
+    back (inr g) =
+        let own = called n p t k q g.1 in
+        or_left (b && is_ask k q n p) x (and_from b (is_ask k q n p) (marked ∙ had n (next_number n before) kind.Late plan (subst (λ i. Contains plan (mark i (next_number i before) kind.Late)) (sym own.0) g.0)) ((ask_decided k n q p).1 (sym own.0, sym own.1)))
+
+late_stays : (plan : List Mark) (before : List Record) (r : Record) (k : ℕ) (q : Request) (x : Bool) → calls_to k (r ∷ []) ≡ [] → Decides x (IsCopy plan before k q) → Decides x (IsCopy plan (before ++ r ∷ []) k q)
+late_stays plan before r k q x none d = (λ e. copy_kept plan before (r ∷ []) k q (d.0 e), λ h. back (copy_from plan before r k q h))
+  where
+    back : IsCopy plan before k q ⊎ IsOfLine plan before r k q → x ≡ true
+    back (inl g) = d.1 g
+    back (inr g) = absurd (nothing_called k r q none g.1)
+
+-- the number of the call that comes next to a node
+pub number_is : (nodes node number : ℕ) (plan : List Mark) (before : List Record) (calls : CallTable) → (1 ≤ node) × (node ≤ nodes) → number ≡ get_or calls.next.items (node - 1) number → KnowsCalls nodes plan before calls → number ≡ next_number node before
+number_is nodes node number plan before calls low is known =
+    let a = at_node nodes node low in let inside : node - 1 < length calls.next.items = omega (arith, low.0, low.1, known.count) in
+    is ∙ get_or_default calls.next.items (node - 1) number 0 inside ∙ known.next (node - 1) a.0 ∙ ap (λ k. next_number k before) a.1
+
+pub calls_add : (nodes node number : ℕ) (plan : List Mark) (before : List Record) (p : Request) (t : Told) (old new : CallTable) (marks : MarkTable) (numbers : Numbers) → (1 ≤ node) × (node ≤ nodes)
+    → number ≡ get_or old.next.items (node - 1) number → numbers ≡ get_or marks.late.items (node - 1) numbers → new.next.items ≡ set old.next.items (node - 1) (number + 1)
+    → ((k : ℕ) (r : Request) → has new.late k r ≡ ((contains nat_cmp numbers.set number && is_ask k r node p) || has old.late k r))
+    → KnowsPlan nodes plan marks → KnowsCalls nodes plan before old → KnowsCalls nodes plan (before ++ Call node p t ∷ []) new
+unfolding Alike
+calls_add nodes node number plan before p t old new marks numbers low is is_numbers grown more marked known = record {
+  count = ap length grown ∙ length-set old.next.items (node - 1) (number + 1) ∙ known.count;
+  next = λ i less. next i less (alike node (i + 1));
+  late = λ k q.
+      late_more plan before node p t k q (contains nat_cmp numbers.set number) (has old.late k q) (has new.late k q)
+      (marked_at nodes node number (next_number node before) plan kind.Late marks.late.items numbers low marked.late is_numbers (number_is nodes node number plan before old low is known)) (more k q) (known.late k q);
+}
+  where
+    inside : node - 1 < length old.next.items
+    inside = omega (arith, low.0, low.1, known.count)
+
+    next : (i : ℕ) → i < nodes → Alike node (i + 1) → get_or new.next.items i 0 ≡ next_number (i + 1) (before ++ Call node p t ∷ [])
+    next i less (inl e) =
+        let at : node - 1 ≡ i = omega (arith, e.1) in
+        ap (λ l. get_or l i 0) grown ∙ subst (λ x. get_or (set old.next.items (node - 1) (number + 1)) x 0 ≡ number + 1) at (get_or-set_same old.next.items (node - 1) (number + 1) 0 inside)
+        ∙ ap (λ n. n + 1) (number_is nodes node number plan before old low is known ∙ ap (λ k. next_number k before) e.1) ∙ sym (number_more (i + 1) node before p t e.1)
+    next i less (inr e) =
+        ap (λ l. get_or l i 0) grown ∙ get_or-set_other old.next.items (node - 1) i (number + 1) 0 (λ g. e.1 (omega (arith, g, low.0))) ∙ known.next i less
+        ∙ sym (number_stays (i + 1) before (Call node p t) (other_call (i + 1) node p t e.0))
+
+calls_stay : (nodes : ℕ) (plan : List Mark) (before : List Record) (r : Record) (calls : CallTable) → ((k : ℕ) → calls_to k (r ∷ []) ≡ []) → KnowsCalls nodes plan before calls → KnowsCalls nodes plan (before ++ r ∷ []) calls
+calls_stay nodes plan before r calls none h = record {
+  count = h.count;
+  next = λ i less. h.next i less ∙ sym (number_stays (i + 1) before r (none (i + 1)));
+  late = λ k q. late_stays plan before r k q (has calls.late k q) (none k) (h.late k q);
+}
+
+-- lines that are no calls
+pub copy_stays : (nodes : ℕ) (plan : List Mark) (before : List Record) (node : ℕ) (r : Request) (calls : CallTable) → KnowsCalls nodes plan before calls → KnowsCalls nodes plan (before ++ Late node r ∷ []) calls
+unfolding calls_to
+copy_stays nodes plan before node r calls h = calls_stay nodes plan before (Late node r) calls (λ k. refl) h
+
+pub operator_stays : (nodes : ℕ) (plan : List Mark) (before : List Record) (node : ℕ) (ask : NodeAsk) (done : Bool) (calls : CallTable) → KnowsCalls nodes plan before calls → KnowsCalls nodes plan (before ++ Operator node ask done ∷ []) calls
+unfolding calls_to
+operator_stays nodes plan before node ask done calls h = calls_stay nodes plan before (Operator node ask done) calls (λ k. refl) h
+
+pub outcome_stays : (nodes : ℕ) (plan : List Mark) (before : List Record) (text : List ℕ) (calls : CallTable) → KnowsCalls nodes plan before calls → KnowsCalls nodes plan (before ++ Outcome text ∷ []) calls
+unfolding calls_to
+outcome_stays nodes plan before text calls h = calls_stay nodes plan before (Outcome text) calls (λ k. refl) h
+
+pub no_calls_yet : (nodes : ℕ) (plan : List Mark) (calls : CallTable) → calls.next.items ≡ replicate nodes 1 → ((k : ℕ) (r : Request) → has calls.late k r ≡ false) → KnowsCalls nodes plan [] calls
+unfolding calls_to
+no_calls_yet nodes plan calls first none = record {
+  count = ap length first ∙ length-replicate nodes 1;
+  next = λ i less. ap (λ l. get_or l i 0) first ∙ get_or-replicate nodes i 1 0 less;
+  late = λ k q. (λ e. absurd (true≢false (sym e ∙ none k q)), λ h. absurd (let e : slice_get [] (h.0 - 1) ≡ Some q = h.2.1 in cc e));
+}
+
+-- ## One line by the lists of its node
+pub call_marked : (nodes node number : ℕ) (plan : List Mark) (before : List Record) (calls : CallTable) (marks : MarkTable) (r : Request) (t : Told) (drops mutes : Numbers) (b : Bool)
+    → (1 ≤ node) × (node ≤ nodes) → drops ≡ get_or marks.dropped.items (node - 1) drops → mutes ≡ get_or marks.muted.items (node - 1) mutes → number ≡ get_or calls.next.items (node - 1) number
+    → b ≡ as_marked t (contains nat_cmp drops.set number) (contains nat_cmp mutes.set number) → KnowsPlan nodes plan marks → KnowsCalls nodes plan before calls → Decides b (LineIsMarked plan before (Call node r t))
+call_marked nodes node number plan before calls marks r t drops mutes b low is_drops is_mutes num e marked known =
+    let n = number_is nodes node number plan before calls low num known in
+    let d = marked_at nodes node number (next_number node before) plan kind.Dropped marks.dropped.items drops low marked.dropped is_drops n in
+    let m = marked_at nodes node number (next_number node before) plan kind.Muted marks.muted.items mutes low marked.muted is_mutes n in
     subst (λ x. Decides x (IsAsMarked plan node (next_number node before) t))
     (sym (e ∙ ap (λ x. as_marked t x (contains nat_cmp mutes.set number)) d ∙ ap (λ x. as_marked t (is_marked plan node (next_number node before) kind.Dropped) x) m))
     (told_marked plan node (next_number node before) t)
 
-pub calls_known : (nodes node : ℕ) (rs before : List Record) (calls : List CallTable) (table : CallTable) → (1 ≤ node) × (node ≤ nodes) → table ≡ get_or calls (node - 1) table → KnowsCalls nodes rs before calls
-    → (n : ℕ) → asked_by rs (slice_get table.places.items n) ≡ slice_get (calls_to node before) n
-calls_known nodes node rs before calls table low is known n =
-    let a = at_node nodes node low in
-    ap (λ (x : CallTable). asked_by rs (slice_get x.places.items n)) is ∙ known.each (node - 1) n table a.0 ∙ ap (λ k. slice_get (calls_to k before) n) a.1
+-- a call that is marked as late needs its copy
+pub marked_copied : (nodes node number : ℕ) (plan : List Mark) (before lines : List Record) (calls : CallTable) (marks : MarkTable) (r : Request) (t : Told) (lates : Numbers) (b : Bool) → (1 ≤ node) × (node ≤ nodes)
+    → lates ≡ get_or marks.late.items (node - 1) lates → number ≡ get_or calls.next.items (node - 1) number → contains nat_cmp lates.set number ≡ true → KnowsPlan nodes plan marks → KnowsCalls nodes plan before calls
+    → Decides b (Contains lines (Late node r)) → Decides b (LineIsCopied plan before lines (Call node r t))
+marked_copied nodes node number plan before lines calls marks r t lates b low is num on marked known d =
+    let n = number_is nodes node number plan before calls low num known in
+    let m = marked_at nodes node number (next_number node before) plan kind.Late marks.late.items lates low marked.late is n in
+    (λ e h. d.0 e, λ h. d.1 (h (has_mark node (next_number node before) kind.Late plan (sym m ∙ on))))
 
--- lines that are no calls
-pub late_stays : (nodes : ℕ) (rs before : List Record) (node : ℕ) (r : Request) (lists : List CallTable) → KnowsCalls nodes rs before lists → KnowsCalls nodes rs (before ++ Late node r ∷ []) lists
-unfolding calls_to
-late_stays nodes rs before node r lists h = calls_stay nodes rs before (Late node r) lists (λ k. refl) h
+-- ## The copies of a record
+abbrev late_node : Record → ℕ
+late_node (Late k q) = k
+late_node _ = 0
 
-pub operator_stays : (nodes : ℕ) (rs before : List Record) (node : ℕ) (ask : NodeAsk) (done : Bool) (lists : List CallTable) → KnowsCalls nodes rs before lists → KnowsCalls nodes rs (before ++ Operator node ask done ∷ []) lists
-unfolding calls_to
-operator_stays nodes rs before node ask done lists h = calls_stay nodes rs before (Operator node ask done) lists (λ k. refl) h
+abbrev late_request : Request → Record → Request
+late_request d (Late k q) = q
+late_request d _ = d
 
-pub outcome_stays : (nodes : ℕ) (rs before : List Record) (text : List ℕ) (lists : List CallTable) → KnowsCalls nodes rs before lists → KnowsCalls nodes rs (before ++ Outcome text ∷ []) lists
-unfolding calls_to
-outcome_stays nodes rs before text lists h = calls_stay nodes rs before (Outcome text) lists (λ k. refl) h
+pub copies_add : (lines : List Record) (node : ℕ) (r : Request) (old new : RequestSet) → ((k : ℕ) (q : Request) → has new k q ≡ (is_ask k q node r || has old k q)) → HasCopies lines old → HasCopies (lines ++ Late node r ∷ []) new
+copies_add lines node r old new more h k q = (λ e. forth (or_cases (is_ask k q node r) (has old k q) (sym (more k q) ∙ e)), λ g. more k q ∙ back (Contains-push_cases lines (Late node r) (Late k q) g))
+  where
+    forth : (is_ask k q node r ≡ true) ⊎ (has old k q ≡ true) → Contains (lines ++ Late node r ∷ []) (Late k q)
+    forth (inl f) =
+        let same = (ask_decided k node q r).0 f in
+        subst (λ x. Contains (lines ++ Late node r ∷ []) x) (sym (ap (λ i. Late i q) same.0 ∙ ap (Late node) same.1)) (Contains-push lines (Late node r))
+    forth (inr f) = Contains-append_left lines (Late node r ∷ []) (Late k q) ((h k q).0 f)
 
--- a list that was written back
-pub written_back : (new old : List CallTable) (n : ℕ) → length new ≡ length old → n ≡ length old → take n (new ++ drop (length new) old) ≡ new
-written_back new old n same size =
-    let past : length old ≤ length new = omega (arith, same) in
-    let most : length new ≤ n = omega (arith, same, size) in
-    ap (λ x. take n (new ++ x)) (drop_all (length new) old past) ∙ ap (take n) (append-nil new) ∙ take_all n new most
-
--- ## Copies
--- some mark of a plan, mark by mark
-pub copy_none : (before : List Record) (k : ℕ) (q : Request) → IsCopy [] before k q → ⊥
-copy_none before k q (number, h, asked) = contains_none (mark k number kind.Late) h
-
-pub copy_here : (plan : List Mark) (m : Mark) (rs before : List Record) (places : List ℕ) (k : ℕ) (q : Request) → ((n : ℕ) → asked_by rs (slice_get places n) ≡ slice_get (calls_to k before) n)
-    → Contains plan m → IsCopyBy rs places k q m → IsCopy plan before k q
-copy_here plan m rs before places k q known h by = (
-  m.number,
-  subst (λ x. Contains plan x) (ap (λ x. mark x m.number m.kind) by.same ∙ ap (λ x. mark k m.number x) by.late) h,
-  (by.some, sym (known (m.number - 1)) ∙ by.asked),
-)
-
--- a copy is by some mark, at its place in the plan
-pub copy_at : (plan : List Mark) (rs before : List Record) (places : List ℕ) (k : ℕ) (q : Request) → ((n : ℕ) → asked_by rs (slice_get places n) ≡ slice_get (calls_to k before) n)
-    → ((m : Mark) → Contains plan m → IsCopyBy rs places k q m → ⊥) → IsCopy plan before k q → ⊥
-copy_at plan rs before places k q known off (number, h, asked) = off (mark k number kind.Late) h (record { late = refl; same = refl; some = asked.0; asked = known (number - 1) ∙ asked.1 })
+    back : Contains lines (Late k q) ⊎ (Late node r ≡ Late k q) → (is_ask k q node r || has old k q) ≡ true
+    back (inl g) = or_right (is_ask k q node r) (has old k q) ((h k q).1 g)
+    back (inr e) = or_left (is_ask k q node r) (has old k q) ((ask_decided k node q r).1 (sym (ap late_node e), sym (ap (late_request r) e)))
 
 -- ## Line by line
 -- the lines up to this place go by the plan, just where all do
@@ -410,51 +463,51 @@ pub marked_ends : (plan : List Mark) (i : ℕ) (rs : List Record) → length rs 
 unfolding Marked IsMarked
 marked_ends plan i rs l f = f.0 (subst (IsMarked plan (take i rs)) (sym (drop_all i rs l)) tt)
 
--- both parts, the first of which holds
-pub both_decided : (A B : Type 0) (b : Bool) → A → Decides b B → Decides b (A × B)
-both_decided A B b a d = (λ e. (a, d.0 e), λ h. d.1 h.1)
+-- ## Each late mark has its copy
+-- the record has the copies of those of these calls that are marked as late
+abbrev pub Copied : List Mark → List Record → List Record → Type 0
+Copied plan before rs = (k : ℕ) (q : Request) → IsCopy plan before k q → Contains rs (Late k q)
 
--- ## Late marks, one by one
-pub copied_by_mark : (rs : List Record) → ByLine (λ plan. AreCopied plan rs) (IsCopied rs)
-copied_by_mark rs = record { none = λ k n q h a. absurd (contains_none (mark k n kind.Late) h); first = first; rest = λ m ms h k n q c a. h k n q (contains_tail m ms (mark k n kind.Late) c) a; more = more }
+pub copied_begin : (plan : List Mark) (rs : List Record) → Copied plan [] rs
+unfolding calls_to
+copied_begin plan rs k q (number, h, (some, asked)) = absurd (let e : slice_get [] (number - 1) ≡ Some q = asked in cc e)
+
+others_copied : (plan : List Mark) (before rs : List Record) (r : Record) → ((k : ℕ) → calls_to k (r ∷ []) ≡ []) → Copied plan before rs → Copied plan (before ++ r ∷ []) rs
+others_copied plan before rs r none h k q c = by (copy_from plan before r k q c)
   where
-    first : (m : Mark) (ms : List Mark) → AreCopied (m ∷ ms) rs → IsCopied rs m
-    first m ms h late q a = h m.node m.number q (contains_head m ms (mark m.node m.number kind.Late) (ap (λ x. mark m.node m.number x) late)) a
+    by : IsCopy plan before k q ⊎ IsOfLine plan before r k q → Contains rs (Late k q)
+    by (inl g) = h k q g
+    by (inr g) = absurd (nothing_called k r q (none k) g.1)
 
-    more : (m : Mark) (ms : List Mark) → IsCopied rs m → AreCopied ms rs → AreCopied (m ∷ ms) rs
-    more m ms one h k n q c a = by (contains_cases m ms (mark k n kind.Late) c)
-      where
-        by : (m ≡ mark k n kind.Late) ⊎ Contains ms (mark k n kind.Late) → Contains rs (Late k q)
-        by (inl e) =
-            let node = ap (λ (x : Mark). x.node) e in let number = ap (λ (x : Mark). x.number) e in
-            subst (λ x. Contains rs (Late x q)) node (one (ap (λ (x : Mark). x.kind) e) q (subst (λ x. Asked x m.number q rs) (sym node) (subst (λ x. Asked k x q rs) (sym number) a)))
-        by (inr g) = h k n q g a
-
--- no call is to a node that isn't there
-pub none_asked : (nodes k : ℕ) (rs : List Record) → AreWithin nodes rs → ((1 ≤ k) × (k ≤ nodes) → ⊥) → calls_to k rs ≡ []
-unfolding calls_to AreWithin
-none_asked nodes k [] w off = refl
-none_asked nodes k (Call i q t ∷ rs) w off = by (i == k) refl (none_asked nodes k rs w.1 off)
+call_copied : (plan : List Mark) (before rs : List Record) (n : ℕ) (p : Request) (t : Told) → LineIsCopied plan before rs (Call n p t) → Copied plan before rs → Copied plan (before ++ Call n p t ∷ []) rs
+call_copied plan before rs n p t one h k q c = by (copy_from plan before (Call n p t) k q c)
   where
-    by : (b : Bool) → (i == k) ≡ b → calls_to k rs ≡ [] → cond b (q ∷ calls_to k rs) (calls_to k rs) ≡ []
-    by true e later = absurd (off (subst (λ x. (1 ≤ x) × (x ≤ nodes)) (eqb-true i k e) w.0))
-    by false e later = later
-none_asked nodes k (Late i q ∷ rs) w off = none_asked nodes k rs w.1 off
-none_asked nodes k (Operator i a d ∷ rs) w off = none_asked nodes k rs w.1 off
-none_asked nodes k (Outcome x ∷ rs) w off = none_asked nodes k rs w.1 off
+    by : IsCopy plan before k q ⊎ IsOfLine plan before (Call n p t) k q → Contains rs (Late k q)
+    by (inl g) = h k q g
+    by (inr g) =
+        let own = called n p t k q g.1 in
+        subst (λ x. Contains rs x) (ap (λ i. Late i p) own.0 ∙ ap (Late k) own.1) (one (subst (λ i. Contains plan (mark i (next_number i before) kind.Late)) (sym own.0) g.0))
 
--- so no such mark came to a call
-nowhere : (nodes : ℕ) (rs : List Record) (m : Mark) → AreWithin nodes rs → ((1 ≤ m.node) × (m.node ≤ nodes) → ⊥) → IsCopied rs m
-nowhere nodes rs m w off late r (some, asked) = absurd (none (subst (λ l. slice_get l (m.number - 1) ≡ Some r) (none_asked nodes m.node rs w off) asked))
-  where
-    none : slice_get [] (m.number - 1) ≡ Some r → ⊥
-    none e = cc e
+copied_line : (plan : List Mark) (before rs : List Record) (r : Record) → LineIsCopied plan before rs r → Copied plan before rs → Copied plan (before ++ r ∷ []) rs
+unfolding calls_to
+copied_line plan before rs (Call n p t) one h = call_copied plan before rs n p t one h
+copied_line plan before rs (Late n p) one h = others_copied plan before rs (Late n p) (λ k. refl) h
+copied_line plan before rs (Operator n a d) one h = others_copied plan before rs (Operator n a d) (λ k. refl) h
+copied_line plan before rs (Outcome x) one h = others_copied plan before rs (Outcome x) (λ k. refl) h
 
-pub copied_below : (nodes : ℕ) (rs : List Record) (m : Mark) → AreWithin nodes rs → m.node < 1 → IsCopied rs m
-copied_below nodes rs m w l = nowhere nodes rs m w (λ h. let low = h.0 in omega (arith, l, low))
+pub copied_more : (plan : List Mark) (i : ℕ) (rs : List Record) (r : Record) → i < length rs → r ≡ get_or rs i r → LineIsCopied plan (take i rs) rs r → Copied plan (take i rs) rs → Copied plan (take (i + 1) rs) rs
+copied_more plan i rs r l is one h = subst (λ x. Copied plan x rs) (sym (one_line i rs r l is)) (copied_line plan (take i rs) rs r one h)
 
-pub copied_above : (nodes : ℕ) (rs : List Record) (m : Mark) → AreWithin nodes rs → nodes < m.node → IsCopied rs m
-copied_above nodes rs m w l = nowhere nodes rs m w (λ h. let high = h.1 in omega (arith, l, high))
+needs_copy : (plan : List Mark) (before rest rs : List Record) (r : Record) → (before ++ r ∷ []) ++ rest ≡ rs → AreCopied plan rs → LineIsCopied plan before rs r
+needs_copy plan before rest rs (Call n p t) split all = λ h.
+    let c = subst (λ x. IsCopy plan x n p) split (copy_kept plan (before ++ Call n p t ∷ []) rest n p (copy_last plan before n p t h)) in all n c.0 p c.1 c.2
+needs_copy plan before rest rs (Late n p) split all = tt
+needs_copy plan before rest rs (Operator n a d) split all = tt
+needs_copy plan before rest rs (Outcome x) split all = tt
 
-pub copied_unnumbered : (rs : List Record) (m : Mark) → m.number < 1 → IsCopied rs m
-copied_unnumbered rs m l late r (some, asked) = absurd (omega (arith, l, some))
+pub copied_fails : (plan : List Mark) (i : ℕ) (rs : List Record) (r : Record) → i < length rs → r ≡ get_or rs i r → (LineIsCopied plan (take i rs) rs r → ⊥) → AreCopied plan rs → ⊥
+copied_fails plan i rs r l is off all =
+    off (needs_copy plan (take i rs) (drop (i + 1) rs) rs r (ap (λ x. x ++ drop (i + 1) rs) (sym (one_line i rs r l is)) ∙ take-append-drop (i + 1) rs) all)
+
+pub copied_ends : (plan : List Mark) (i : ℕ) (rs : List Record) → length rs ≤ i → Copied plan (take i rs) rs → AreCopied plan rs
+copied_ends plan i rs l h k number q c a = subst (λ x. Copied plan x rs) (take_all i rs l) h k q (number, c, a)

@@ -1,3 +1,4 @@
+pub mod Keys
 pub mod Matching
 pub mod Parts
 pub mod Marking

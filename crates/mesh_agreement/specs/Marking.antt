@@ -1,5 +1,5 @@
--- Marks as tests, what is known of an actor's marks and of its calls, and what each line of a record and each mark has to keep.
-use Rattle.std.specs.Prelude.{◌≡◌, ℕ, ◌+◌, ◌-◌, ◌<◌, ◌≤◌, ◌==◌, ◌&&◌, Bool, true, false, not, List, Contains, length, slice_get, slice_index_or, Option, Some, None}
+-- Marks as tests, what is known of an actor's marks and of its calls, and what each line of a record has to keep.
+use Rattle.std.specs.Prelude.{◌≡◌, ℕ, ◌+◌, ◌<◌, ◌==◌, ◌&&◌, Bool, true, false, not, List, Contains, Decides, length, slice_index, slice_index_or}
 use Rattle.std.specs.List.{list_any}
 use Rattle.std.specs.BTreeSet.{contains}
 use Rattle.std.specs.Ordering.{nat_cmp}
@@ -11,9 +11,12 @@ use Rattle.node_world.specs.declared.record.Told.TheVariants as told
 use Rattle.node_world.specs.declared.mark.Mark.{Mark}
 use Rattle.node_world.specs.declared.mark.MarkKind.{MarkKind}
 use Rattle.node_world.specs.declared.mark.MarkKind.TheVariants as kind
-use Rattle.mesh.specs.Marks.{calls_to, next_number, Asked, IsAsMarked, IsCopy}
+use Rattle.mesh.specs.Marks.{mark, next_number, IsAsMarked, IsCopy}
 use Rattle.mesh_agreement.specs.declared.marking.Numbers.{Numbers}
+use Rattle.mesh_agreement.specs.declared.marking.MarkTable.{MarkTable}
 use Rattle.mesh_agreement.specs.declared.marking.CallTable.{CallTable}
+use Rattle.mesh_agreement.specs.declared.request_set.RequestSet.{RequestSet}
+use Rattle.mesh_agreement.specs.Keys.{has}
 
 abbrev pub same_kind : MarkKind → MarkKind → Bool
 same_kind kind.Dropped kind.Dropped = true
@@ -35,31 +38,27 @@ pub record KnowsMarks (nodes : ℕ) (plan : List Mark) (kind : MarkKind) (lists 
   pub count : length lists ≡ nodes
   pub each : (i number : ℕ) (d : Numbers) → i < nodes → contains nat_cmp (slice_index_or lists i d).set number ≡ is_marked plan (i + 1) number kind
 
--- what a line asked, if it is a call
-abbrev pub asked_in : Option Record → Option Request
-asked_in (Some (Call k r t)) = Some r
-asked_in _ = None
+-- there are lists for that many nodes
+pub record HasNodes (nodes : ℕ) (marks : MarkTable) : Type 0 where
+  pub dropped : length marks.dropped.items ≡ nodes
+  pub muted : length marks.muted.items ≡ nodes
+  pub late : length marks.late.items ≡ nodes
 
-abbrev pub asked_at : List Record → ℕ → Option Request
-asked_at rs place = asked_in (slice_get rs place)
+-- that of each kind
+pub record KnowsPlan (nodes : ℕ) (plan : List Mark) (marks : MarkTable) : Type 0 where
+  pub dropped : KnowsMarks nodes plan kind.Dropped marks.dropped.items
+  pub muted : KnowsMarks nodes plan kind.Muted marks.muted.items
+  pub late : KnowsMarks nodes plan kind.Late marks.late.items
 
--- of the call with this number to a node, by the places of its calls
-abbrev pub asked_by : List Record → Option ℕ → Option Request
-asked_by rs None = None
-asked_by rs (Some place) = asked_at rs place
+-- node by node, the number of the call that comes behind these lines; and the requests of those calls among them that are marked as late
+pub record KnowsCalls (nodes : ℕ) (plan : List Mark) (before : List Record) (calls : CallTable) : Type 0 where
+  pub count : length calls.next.items ≡ nodes
+  pub next : (i : ℕ) → i < nodes → slice_index calls.next.items i ≡ next_number (i + 1) before
+  pub late : (node : ℕ) (r : Request) → Decides (has calls.late node r) (IsCopy plan before node r)
 
--- node by node, the calls so far are those of these lines
-pub record KnowsCalls (nodes : ℕ) (rs before : List Record) (lists : List CallTable) : Type 0 where
-  pub count : length lists ≡ nodes
-  pub each : (i number : ℕ) (d : CallTable) → i < nodes → asked_by rs (slice_get (slice_index_or lists i d).places.items number) ≡ slice_get (calls_to (i + 1) before) number
-  pub long : (i : ℕ) (d : CallTable) → i < nodes → length (slice_index_or lists i d).places.items ≡ length (calls_to (i + 1) before)
-
--- a late mark of a call to this node that asked this, by the places of its calls
-pub record IsCopyBy (rs : List Record) (places : List ℕ) (node : ℕ) (r : Request) (m : Mark) : Type 0 where
-  pub late : m.kind ≡ kind.Late
-  pub same : m.node ≡ node
-  pub some : 1 ≤ m.number
-  pub asked : asked_by rs (slice_get places (m.number - 1)) ≡ Some r
+-- the late copies of a record
+abbrev pub HasCopies : List Record → RequestSet → Type 0
+HasCopies rs copies = (node : ℕ) (r : Request) → Decides (has copies node r) (Contains rs (Late node r))
 
 -- the line goes by the plan, behind these lines
 abbrev pub LineIsMarked : List Mark → List Record → Record → Type 0
@@ -68,6 +67,9 @@ LineIsMarked plan before (Late k r) = IsCopy plan before k r
 LineIsMarked plan before (Operator k ask done) = Unit {0}
 LineIsMarked plan before (Outcome text) = Unit {0}
 
--- a late mark that came to its call has its copy
-abbrev pub IsCopied : List Record → Mark → Type 0
-IsCopied rs m = m.kind ≡ kind.Late → (r : Request) → Asked m.node m.number r rs → Contains rs (Late m.node r)
+-- the line is no call that is marked as late, or the record has its copy
+abbrev pub LineIsCopied : List Mark → List Record → List Record → Record → Type 0
+LineIsCopied plan before rs (Call k r t) = Contains plan (mark k (next_number k before) kind.Late) → Contains rs (Late k r)
+LineIsCopied plan before rs (Late k r) = Unit {0}
+LineIsCopied plan before rs (Operator k ask done) = Unit {0}
+LineIsCopied plan before rs (Outcome text) = Unit {0}

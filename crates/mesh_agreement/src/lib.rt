@@ -8,5 +8,7 @@ mod local;
 mod making;
 mod marking;
 mod matching;
+mod request_key;
+mod request_set;
 
 pub use agreement::agrees;

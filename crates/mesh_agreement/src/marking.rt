@@ -1,18 +1,17 @@
 // Whether a record goes by its actor's marks.
-ghost use Rattle.std.specs.Prelude.{◌≡◌, ◌<◌, ◌≤◌, ◌+◌, List, ◌-◌, ◌++◌, ◌∷◌, ◌==◌, ◌||◌, [], ℕ, Decides, IfOk, OnOk, Some, Contains, length, slice_get, slice_index_or};
+ghost use Rattle.std.specs.Prelude.{◌≡◌, ◌<◌, ◌≤◌, ◌+◌, ◌^◌, List, ◌++◌, ◌∷◌, ◌==◌, ◌&&◌, ◌||◌, [], ℕ, Decides, IfOk, OnOk, length, slice_index, replicate};
 ghost use Rattle.std.specs.BTreeSet.{contains};
 ghost use Rattle.std.specs.Ordering.{nat_cmp};
 ghost use Rattle.journal_core.specs.declared.request.Request.{Request};
 ghost use Rattle.node_world.specs.declared.record.Record.{Record};
-ghost use Rattle.node_world.specs.declared.record.Record.TheVariants.{Call, Late};
 ghost use Rattle.node_world.specs.declared.mark.Mark.{Mark};
 ghost use Rattle.node_world.specs.declared.mark.MarkKind.{MarkKind};
-ghost use Rattle.node_world.specs.declared.mark.MarkKind.TheVariants as kind;
 ghost use Rattle.mesh.specs.Matches.{AreWithin, IsWithin};
-ghost use Rattle.mesh.specs.Marks.{calls_to, IsCopy, IsMarked, AreCopied};
-ghost use Rattle.mesh_agreement.specs.Marking.{as_marked, asked_by, KnowsMarks, KnowsCalls, IsCopyBy, LineIsMarked, IsCopied};
+ghost use Rattle.mesh.specs.Marks.{IsMarked, AreCopied};
+ghost use Rattle.mesh_agreement.specs.Keys.{is_ask, has};
+ghost use Rattle.mesh_agreement.specs.Marking.{as_marked, HasNodes, KnowsMarks, KnowsPlan, KnowsCalls, HasCopies, LineIsMarked, LineIsCopied};
 
-use crate::equality::same_request;
+use crate::request_set::RequestSet;
 use journal_core::{OutOfMemory, Request};
 use node_world::{Mark, MarkKind, Record, Told};
 use std::alloc::Global;
@@ -34,10 +33,20 @@ impl Numbers {
     }
 }
 
-/// The places in a record, from 0, of the calls to one node.
+/// The numbers of the calls to each node that a plan marks, kind by kind.
+#[derive(Drop)]
+pub(crate) struct MarkTable {
+    dropped: Vec<Numbers>,
+    muted: Vec<Numbers>,
+    late: Vec<Numbers>,
+}
+
+/// What is known of a record's lines so far: the number of the next call to each node, from 1, and the requests of the calls that the
+/// plan marks as late.
 #[derive(Drop)]
 pub(crate) struct CallTable {
-    places: Vec<usize>,
+    next: Vec<u64>,
+    late: RequestSet,
 }
 
 /// The mark is of this kind, and of one of that many nodes.
@@ -78,17 +87,32 @@ fn numbers_marked(
     Ok(lists)
 }
 
-/// As many nodes without calls.
-fn no_calls(alloc: Global, nodes: usize) -> Result<Vec<CallTable>, OutOfMemory>
-    ensures { IfOk result (λ lists. (rs : List Record) → KnowsCalls nodes rs [] lists.items) }
+/// The numbers of the calls to each of that many nodes that a plan marks.
+fn marks_of(alloc: Global, nodes: usize, plan: &[Mark]) -> Result<MarkTable, OutOfMemory>
+    ensures { IfOk result (λ marks. KnowsPlan nodes plan.now marks) }
 {
-    let mut lists = Vec::with_capacity(alloc, nodes)?;
-    for _ in 0..nodes {
-        lists.push(CallTable {
-            places: Vec::new(alloc),
-        })?;
-    }
-    Ok(lists)
+    Ok(MarkTable {
+        dropped: numbers_marked(alloc, nodes, plan, MarkKind::Dropped)?,
+        muted: numbers_marked(alloc, nodes, plan, MarkKind::Muted)?,
+        late: numbers_marked(alloc, nodes, plan, MarkKind::Late)?,
+    })
+}
+
+/// The first number, for as many nodes.
+fn first_numbers(alloc: Global, nodes: usize) -> Result<Vec<u64>, OutOfMemory>
+    ensures { IfOk result (λ numbers. numbers.items ≡ replicate nodes 1) }
+{
+    let numbers = vec![in alloc; 1u64; nodes]?;
+    Ok(numbers)
+}
+
+/// As many nodes without calls.
+fn no_calls(alloc: Global, nodes: usize) -> Result<CallTable, OutOfMemory>
+    ensures { IfOk result (λ calls. (plan : List Mark) → KnowsCalls nodes plan [] calls) }
+{
+    let next = first_numbers(alloc, nodes)?;
+    let late = RequestSet::new(alloc);
+    Ok(CallTable { next, late })
 }
 
 /// A call was told as its marks say.
@@ -102,115 +126,95 @@ fn as_marked(told: &Told, is_dropped: bool, is_muted: bool) -> bool
     }
 }
 
-/// The call with this number, from 1, to a node whose calls are at these places asked this.
-fn is_asked(lines: &[Record], places: &[usize], number: u64, request: &Request) -> bool
-    requires { 1 ≤ number }
-    ensures { Decides result (asked_by lines.now (slice_get places.now (number - 1)) ≡ Some request.now) }
-{
-    let Some(place) = places.get((number - 1) as usize) else {
-        return false;
-    };
-    match lines.get(*place) {
-        Some(Record::Call { request: asked, .. }) => same_request(asked.get(), request),
-        _ => false,
-    }
-}
-
-/// The mark is a late one of a call to this node, at these places, that asked this.
-fn is_copy_by(
-    mark: Mark,
-    lines: &[Record],
-    places: &[usize],
-    node: usize,
-    request: &Request,
-) -> bool
-    ensures { Decides result (IsCopyBy lines.now places.now node request.now mark) }
-{
-    if mark.kind != MarkKind::Late {
-        return false;
-    }
-    if mark.node != node || mark.number < 1 {
-        return false;
-    }
-    is_asked(lines, places, mark.number, request)
-}
-
-/// Some late mark is of a call to this node, at these places, that asked this.
-fn is_copy(
-    plan: &[Mark],
-    lines: &[Record],
-    table: &CallTable,
-    node: usize,
-    request: &Request,
-) -> bool
-    ensures { (before : List Record) → ((number : ℕ) → asked_by lines.now (slice_get table.now.places.items number) ≡ slice_get (calls_to node before) number) → Decides result (IsCopy plan.now before node request.now) }
-{
-    for mark in plan {
-        if is_copy_by(*mark, lines, &table.places, node, request) {
-            return true;
-        }
-    }
-    false
-}
-
-/// The same, where the mark at this place, if any, is looked at first.
-fn is_copy_near(
-    plan: &[Mark],
-    near: Option<usize>,
-    lines: &[Record],
-    table: &CallTable,
-    node: usize,
-    request: &Request,
-) -> bool
-    ensures { (before : List Record) → ((number : ℕ) → asked_by lines.now (slice_get table.now.places.items number) ≡ slice_get (calls_to node before) number) → Decides result (IsCopy plan.now before node request.now) }
-{
-    if let Some(place) = near {
-        if let Some(mark) = plan.get(place) {
-            if is_copy_by(*mark, lines, &table.places, node, request) {
-                return true;
-            }
-        }
-    }
-    is_copy(plan, lines, table, node, request)
-}
-
-/// The line goes by the plan, where these are the calls before it; a late copy's mark is looked for at this place first.
+/// The line goes by the plan's marks, where these are the calls before it.
 fn is_line_marked(
-    plan: &[Mark],
-    near: Option<usize>,
-    dropped: &[Numbers],
-    muted: &[Numbers],
-    calls: &[CallTable],
-    lines: &[Record],
+    alloc: Global,
+    marks: &MarkTable,
+    calls: &CallTable,
     line: &Record,
-) -> bool
-    requires within { IsWithin (length calls.now) line.now }
-    requires dropped { KnowsMarks (length calls.now) plan.now kind.Dropped dropped.now }
-    requires muted { KnowsMarks (length calls.now) plan.now kind.Muted muted.now }
-    ensures { (before : List Record) → KnowsCalls (length calls.now) lines.now before calls.now → Decides result (LineIsMarked plan.now before line.now) }
+) -> Result<bool, OutOfMemory>
+    requires within { IsWithin (length calls.now.next.items) line.now }
+    requires nodes { HasNodes (length calls.now.next.items) marks.now }
+    ensures { IfOk result (λ is_marked. (plan : List Mark) (before : List Record) → KnowsPlan (length calls.now.next.items) plan marks.now → KnowsCalls (length calls.now.next.items) plan before calls.now → Decides is_marked (LineIsMarked plan before line.now)) }
 {
     match line {
         Record::Call { node, told, .. } => {
-            let number = calls[*node - 1].places.len() as u64 + 1;
-            let is_dropped = dropped[*node - 1].set.contains(&number);
-            let is_muted = muted[*node - 1].set.contains(&number);
-            as_marked(told, is_dropped, is_muted)
+            let number = calls.next[*node - 1];
+            let is_dropped = marks.dropped[*node - 1].set.contains(&number);
+            let is_muted = marks.muted[*node - 1].set.contains(&number);
+            Ok(as_marked(told, is_dropped, is_muted))
         }
-        Record::Late { node, request } => {
-            is_copy_near(plan, near, lines, &calls[*node - 1], *node, request.get())
-        }
-        Record::Operator { .. } | Record::Outcome { .. } => true,
+        Record::Late { node, request } => calls.late.contains(alloc, *node, request.get()),
+        Record::Operator { .. } | Record::Outcome { .. } => Ok(true),
     }
 }
 
-/// One more line of the record, at this place.
-fn push_line(calls: &mut [CallTable], place: usize, line: &Record) -> Result<(), OutOfMemory>
-    requires { IsWithin (length calls.old) line.now }
-    ensures { OnOk result ((rs before : List Record) → place ≡ length before → slice_get rs place ≡ Some line.now → KnowsCalls (length calls.old) rs before calls.old → KnowsCalls (length calls.old) rs (before ++ line.now ∷ []) calls.new) }
+/// The line is no call that the plan marks as late, or it has its copy among these.
+fn is_line_copied(
+    alloc: Global,
+    marks: &MarkTable,
+    calls: &CallTable,
+    copies: &RequestSet,
+    line: &Record,
+) -> Result<bool, OutOfMemory>
+    requires within { IsWithin (length calls.now.next.items) line.now }
+    requires nodes { HasNodes (length calls.now.next.items) marks.now }
+    ensures { IfOk result (λ is_copied. (plan : List Mark) (before lines : List Record) → KnowsPlan (length calls.now.next.items) plan marks.now → KnowsCalls (length calls.now.next.items) plan before calls.now → HasCopies lines copies.now → Decides is_copied (LineIsCopied plan before lines line.now)) }
 {
     match line {
-        Record::Call { node, .. } => {
-            calls[*node - 1].places.push(place)?;
+        Record::Call { node, request, .. } => {
+            let number = calls.next[*node - 1];
+            if !marks.late[*node - 1].set.contains(&number) {
+                return Ok(true);
+            }
+            copies.contains(alloc, *node, request.get())
+        }
+        Record::Late { .. } | Record::Operator { .. } | Record::Outcome { .. } => Ok(true),
+    }
+}
+
+/// One more request to a node, if the number of its call is one of these.
+fn push_late(
+    alloc: Global,
+    requests: &mut RequestSet,
+    numbers: &Numbers,
+    number: u64,
+    node: usize,
+    request: &Request,
+) -> Result<(), OutOfMemory>
+    ensures { OnOk result ((k : ℕ) (r : Request) → has requests.new k r ≡ ((contains nat_cmp numbers.now.set number && is_ask k r node request.now) || has requests.old k r)) }
+{
+    if numbers.set.contains(&number) {
+        requests.insert(alloc, node, request)?;
+    }
+    Ok(())
+}
+
+/// One more line of the record.
+fn push_line(
+    alloc: Global,
+    marks: &MarkTable,
+    calls: &mut CallTable,
+    line: &Record,
+) -> Result<(), OutOfMemory>
+    requires within { IsWithin (length calls.old.next.items) line.now }
+    requires nodes { HasNodes (length calls.old.next.items) marks.now }
+    requires room { (i : ℕ) → i < length calls.old.next.items → slice_index calls.old.next.items i + 1 < 2 ^ 64 }
+    ensures { OnOk result ((plan : List Mark) (before : List Record) → KnowsPlan (length calls.old.next.items) plan marks.now → KnowsCalls (length calls.old.next.items) plan before calls.old → KnowsCalls (length calls.old.next.items) plan (before ++ line.now ∷ []) calls.new) }
+{
+    match line {
+        Record::Call { node, request, .. } => {
+            let number = calls.next[*node - 1];
+            let numbers = &marks.late[*node - 1];
+            push_late(
+                alloc,
+                &mut calls.late,
+                numbers,
+                number,
+                *node,
+                request.get(),
+            )?;
+            calls.next[*node - 1] = number + 1;
             Ok(())
         }
         Record::Late { .. } => Ok(()),
@@ -219,160 +223,31 @@ fn push_line(calls: &mut [CallTable], place: usize, line: &Record) -> Result<(),
     }
 }
 
-/// The line is a late copy of this request to this node.
-fn is_late(line: &Record, node: usize, request: &Request) -> bool
-    ensures { Decides result (line.now ≡ Late node request.now) }
+/// One more line of the record, where its late copies are gathered.
+fn push_copy(alloc: Global, copies: &mut RequestSet, line: &Record) -> Result<(), OutOfMemory>
+    ensures { OnOk result ((lines : List Record) → HasCopies lines copies.old → HasCopies (lines ++ line.now ∷ []) copies.new) }
 {
     match line {
-        Record::Late {
-            node: to,
-            request: copied,
-        } => *to == node && same_request(copied.get(), request),
-        Record::Call { .. } | Record::Operator { .. } | Record::Outcome { .. } => false,
+        Record::Late { node, request } => copies.insert(alloc, *node, request.get()),
+        Record::Call { .. } => Ok(()),
+        Record::Operator { .. } => Ok(()),
+        Record::Outcome { .. } => Ok(()),
     }
 }
 
-/// The record has a late copy of this request to this node.
-fn has_copy(lines: &[Record], node: usize, request: &Request) -> bool
-    ensures { Decides result (Contains lines.now (Late node request.now)) }
+/// The late copies of a record.
+fn copies_in(alloc: Global, lines: &[Record]) -> Result<RequestSet, OutOfMemory>
+    ensures { IfOk result (λ copies. HasCopies lines.now copies) }
 {
+    let mut copies = RequestSet::new(alloc);
     for line in lines {
-        if is_late(line, node, request) {
-            return true;
-        }
+        push_copy(alloc, &mut copies, line)?;
     }
-    false
+    Ok(copies)
 }
 
-/// The same, where the line at this place, if any, is looked at first.
-fn has_copy_near(lines: &[Record], near: Option<usize>, node: usize, request: &Request) -> bool
-    ensures { Decides result (Contains lines.now (Late node request.now)) }
-{
-    if let Some(place) = near {
-        if let Some(line) = lines.get(place) {
-            if is_late(line, node, request) {
-                return true;
-            }
-        }
-    }
-    has_copy(lines, node, request)
-}
-
-/// The call with this number, from 1, to a node whose calls are at these places has its copy, if there is such a call.
-fn is_call_copied(
-    lines: &[Record],
-    near: Option<usize>,
-    places: &[usize],
-    node: usize,
-    number: u64,
-) -> bool
-    requires { 1 ≤ number }
-    ensures { Decides result ((r : Request) → asked_by lines.now (slice_get places.now (number - 1)) ≡ Some r → Contains lines.now (Late node r)) }
-{
-    let Some(place) = places.get((number - 1) as usize) else {
-        return true;
-    };
-    match lines.get(*place) {
-        Some(Record::Call { request, .. }) => has_copy_near(lines, near, node, request.get()),
-        _ => true,
-    }
-}
-
-/// A late mark that came to its call has its copy, which is looked for at this place first.
-fn is_copied(lines: &[Record], near: Option<usize>, calls: &[CallTable], mark: Mark) -> bool
-    requires within { AreWithin (length calls.now) lines.now }
-    requires calls { KnowsCalls (length calls.now) lines.now lines.now calls.now }
-    ensures { Decides result (IsCopied lines.now mark) }
-{
-    if mark.kind != MarkKind::Late {
-        return true;
-    }
-    if mark.node < 1 {
-        return true;
-    }
-    if calls.len() < mark.node {
-        return true;
-    }
-    if mark.number < 1 {
-        return true;
-    }
-    let places = &calls[mark.node - 1].places;
-    is_call_copied(lines, near, places, mark.node, mark.number)
-}
-
-/// That of the mark at this place of a plan.
-fn is_copied_at(
-    lines: &[Record],
-    near: Option<usize>,
-    calls: &[CallTable],
-    plan: &[Mark],
-    index: usize,
-) -> bool
-    requires within { AreWithin (length calls.now) lines.now }
-    requires calls { KnowsCalls (length calls.now) lines.now lines.now calls.now }
-    requires mark { index < length plan.now }
-    ensures { (d : Mark) → Decides result (IsCopied lines.now (slice_index_or plan.now index d)) }
-{
-    match plan.get(index) {
-        Some(mark) => is_copied(lines, near, calls, *mark),
-        None => true,
-    }
-}
-
-/// The mark at this place of a plan is a late one.
-fn is_late_at(plan: &[Mark], index: usize) -> bool {
-    match plan.get(index) {
-        Some(mark) => mark.kind == MarkKind::Late,
-        None => false,
-    }
-}
-
-/// The places in a plan of its late marks.
-fn late_marks(alloc: Global, plan: &[Mark]) -> Result<Vec<usize>, OutOfMemory> {
-    let mut places = Vec::new(alloc);
-    for (place, mark) in plan.iter().enumerate() {
-        if mark.kind == MarkKind::Late {
-            places.push(place)?;
-        }
-    }
-    Ok(places)
-}
-
-/// The places in a record of its late copies.
-fn late_lines(alloc: Global, lines: &[Record]) -> Result<Vec<usize>, OutOfMemory> {
-    let mut places = Vec::new(alloc);
-    for (place, line) in lines.iter().enumerate() {
-        if matches!(line, Record::Late { .. }) {
-            places.push(place)?;
-        }
-    }
-    Ok(places)
-}
-
-/// Each late mark that came to its call has its copy; the copies are at these places of the record, and are looked for there in
-/// the order of their marks first.
-fn are_copied(plan: &[Mark], lines: &[Record], copies: &[usize], calls: &[CallTable]) -> bool
-    requires within { AreWithin (length calls.now) lines.now }
-    requires calls { KnowsCalls (length calls.now) lines.now lines.now calls.now }
-    ensures { Decides result (AreCopied plan.now lines.now) }
-{
-    let mut count = 0;
-    for index in 0..plan.len() {
-        if !is_copied_at(lines, copies.get(count).copied(), calls, plan, index) {
-            return false;
-        }
-        if count < copies.len() && is_late_at(plan, index) {
-            count += 1;
-        }
-    }
-    true
-}
-
-/// The calls of a record are dropped, muted and copied as the plan of its actor marks them.
-///
-/// The copies of a record and the late marks of its plan are taken for pairs in their order, as a play and threads make them: then
-/// the cost is near n log n for n lines and marks. Where they stand in different orders, each copy that isn't at its mark's place
-/// costs a scan of the plan, and its mark one of the record.
+/// The calls of a record are dropped, muted and copied as the plan of its actor marks them. The cost is of the order of n log n for n
+/// lines and marks, in whatever order late marks and copies stand.
 pub(crate) fn goes_by_plan(
     alloc: Global,
     nodes: usize,
@@ -382,21 +257,19 @@ pub(crate) fn goes_by_plan(
     requires { AreWithin nodes lines.now }
     ensures { IfOk result (λ goes. Decides goes (IsMarked plan.now [] lines.now × AreCopied plan.now lines.now)) }
 {
-    let dropped = numbers_marked(alloc, nodes, plan, MarkKind::Dropped)?;
-    let muted = numbers_marked(alloc, nodes, plan, MarkKind::Muted)?;
-    let marks = late_marks(alloc, plan)?;
-    let copies = late_lines(alloc, lines)?;
+    let marks = marks_of(alloc, nodes, plan)?;
+    let copies = copies_in(alloc, lines)?;
     let mut calls = no_calls(alloc, nodes)?;
-    let mut count = 0;
-    for (place, line) in lines.iter().enumerate() {
-        let near = marks.get(count).copied();
-        if !is_line_marked(plan, near, &dropped, &muted, &calls, lines, line) {
+    for line in lines {
+        let is_marked = is_line_marked(alloc, &marks, &calls, line)?;
+        if !is_marked {
             return Ok(false);
         }
-        push_line(&mut calls, place, line)?;
-        if count < marks.len() && matches!(line, Record::Late { .. }) {
-            count += 1;
+        let is_copied = is_line_copied(alloc, &marks, &calls, &copies, line)?;
+        if !is_copied {
+            return Ok(false);
         }
+        push_line(alloc, &marks, &mut calls, line)?;
     }
-    Ok(are_copied(plan, lines, &copies, &calls))
+    Ok(true)
 }

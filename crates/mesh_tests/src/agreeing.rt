@@ -1,5 +1,6 @@
-//! Meshes of known and of random plays agree, and what is mixed of two plays doesn't.
+//! Meshes of known and of random plays agree and have epoch orders, and what is mixed of two plays doesn't agree.
 use crate::draws::Draws;
+use crate::orders::is_epoch_order;
 use crate::plays::mesh_of;
 use journal_core::OutOfMemory;
 use mesh::Mesh;
@@ -51,13 +52,13 @@ fn draw_script(alloc: Global, draws: &mut Draws) -> Result<String, OutOfMemory> 
     Ok(text)
 }
 
-/// The mesh agrees, and has an order.
+/// The mesh agrees, and has an epoch order.
 pub fn is_ordered(alloc: Global, mesh: &Mesh) -> Result<bool, OutOfMemory> {
     if !agrees(alloc, mesh)? {
         return Ok(false);
     }
     let events = ordered(alloc, mesh)?;
-    Ok(!events.is_empty())
+    is_epoch_order(alloc, mesh, &events)
 }
 
 fn is_played(rt: &impl Abort, alloc: Global, text: &[u8]) -> Result<(), Fail> {
@@ -73,12 +74,15 @@ fn meshes_of_plays_agree(rt: HostRuntime) -> Result<(), Fail> {
 }
 
 #[test]
-fn meshes_of_random_plays_agree(rt: HostRuntime) -> Result<(), Fail> {
+fn meshes_of_random_plays_agree_and_have_epoch_orders(rt: HostRuntime) -> Result<(), Fail> {
     let alloc = rt.alloc();
     let mut draws = Draws::new(17);
     for _ in 0..100 {
         let text = draw_script(alloc, &mut draws)?;
-        assert!(rt; agrees(alloc, &mesh_of(alloc, text.as_bytes())?)?, "{text}");
+        assert!(rt;
+            is_ordered(alloc, &mesh_of(alloc, text.as_bytes())?)?,
+            "{text}"
+        );
     }
     Ok(())
 }

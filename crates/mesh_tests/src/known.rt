@@ -1,4 +1,4 @@
-//! The meshes of the known scripts agree.
+//! The meshes of the known scripts agree, and have epoch orders.
 use crate::agreeing::is_ordered;
 use crate::plays::mesh_of;
 use std::test::Fail;

@@ -4,6 +4,10 @@
 #[cfg(test)]
 mod agreeing;
 #[cfg(test)]
+mod copies;
+#[cfg(test)]
+mod deeds;
+#[cfg(test)]
 mod drafted;
 #[cfg(test)]
 mod drafts;
@@ -13,5 +17,7 @@ mod draws;
 mod known;
 #[cfg(test)]
 mod ordering;
+#[cfg(test)]
+mod orders;
 #[cfg(test)]
 mod plays;

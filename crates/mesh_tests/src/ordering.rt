@@ -1,31 +1,11 @@
 //! The epoch orders of known scripts, as their reports tell them.
+use crate::deeds::{Deed, Kind, deed_of};
 use crate::plays::mesh_of;
-use journal_core::{OutOfMemory, Request};
+use journal_core::OutOfMemory;
 use mesh_agreement::agrees;
 use mesh_judge::ordered;
-use node_world::{Event, Fate};
 use std::alloc::Global;
 use std::test::Fail;
-
-/// What an event is.
-#[derive(Clone, Copy, Debug, PartialEq, Eq)]
-enum Kind {
-    Heard,
-    Muted,
-    Stopped,
-    Late,
-    Kill,
-    Restart,
-    Other,
-}
-
-/// What an event is, the number of its node, and the epoch of its request, or 0.
-#[derive(Clone, Copy, Debug, PartialEq, Eq)]
-struct Deed {
-    kind: Kind,
-    node: usize,
-    epoch: u64,
-}
 
 /// Events of one kind under one epoch, each at the node with the next of these digits.
 #[derive(Clone, Copy)]
@@ -39,41 +19,6 @@ impl Deeds {
     fn of(kind: Kind, epoch: u64, nodes: &'static str) -> Deeds {
         Deeds { kind, epoch, nodes }
     }
-}
-
-fn epoch_of(request: &Request) -> u64 {
-    if let Request::NewEpoch { epoch } = request {
-        return *epoch;
-    }
-    match request.head() {
-        Some(head) => head.epoch(),
-        None => 0,
-    }
-}
-
-fn kind_of(fate: Fate) -> Kind {
-    match fate {
-        Fate::Heard => Kind::Heard,
-        Fate::Muted => Kind::Muted,
-        Fate::Stopped { .. } => Kind::Stopped,
-        Fate::Dropped => Kind::Other,
-    }
-}
-
-fn deed_of(event: &Event) -> Deed {
-    let (kind, node, epoch) = match event {
-        Event::Call {
-            node,
-            request,
-            fate,
-            ..
-        } => (kind_of(*fate), *node, epoch_of(request.get())),
-        Event::Late { node, request, .. } => (Kind::Late, *node, epoch_of(request.get())),
-        Event::Kill { node } => (Kind::Kill, *node, 0),
-        Event::Restart { node } => (Kind::Restart, *node, 0),
-        _ => (Kind::Other, 0, 0),
-    };
-    Deed { kind, node, epoch }
 }
 
 /// The deeds that a table tells.

@@ -1,7 +1,11 @@
 use Rattle.std.proofs.Common.{take}
 use Rattle.mesh_agreement.specs.Marking.{KnowsCalls}
-use Rattle.mesh_agreement.proofs.MarkLaws.{Marked}
+use Rattle.mesh_agreement.proofs.MarkLaws.{Marked, Copied}
 use Rattle.mesh_agreement.proofs.marking.goes_by_plan.Given as goal
 
-abbrev pub invariant-loop-place : goal.invariant-loop-place
-invariant-loop-place l = Marked l.plan l.place l.lines × KnowsCalls l.nodes l.lines (take l.place l.lines) l.calls.items
+abbrev pub invariant-loop-line : goal.invariant-loop-line
+invariant-loop-line l = record {
+  marked : Marked l.plan l.line-index l.lines;
+  copied : Copied l.plan (take l.line-index l.lines) l.lines;
+  calls : KnowsCalls l.nodes l.plan (take l.line-index l.lines) l.calls;
+}

@@ -1,0 +1,140 @@
+//! What an event, and what a line of a node's history, did.
+use journal_core::{Refusal, Reply, Request};
+use node_world::{Event, Fate, HistoryLine, NodeAnswer, NodeAsk};
+
+/// What an event is.
+#[derive(Clone, Copy, Debug, PartialEq, Eq)]
+pub enum Kind {
+    Heard,
+    Muted,
+    Stopped,
+    Late,
+    Kill,
+    Restart,
+    Other,
+}
+
+/// What an event is, the number of its node, and the epoch of its request, or 0 where it is of none or the node was stopped before any
+/// effect.
+#[derive(Clone, Copy, Debug, PartialEq, Eq)]
+pub struct Deed {
+    pub kind: Kind,
+    pub node: usize,
+    pub epoch: u64,
+}
+
+/// The epoch that a request proposes, that of its head, or 0.
+fn epoch_of(request: &Request) -> u64 {
+    if let Request::NewEpoch { epoch } = request {
+        return *epoch;
+    }
+    match request.head() {
+        Some(head) => head.epoch(),
+        None => 0,
+    }
+}
+
+/// The same where the node was stopped after so many effects.
+fn epoch_kept(request: &Request, keep: u64) -> u64 {
+    if keep == 0 {
+        return 0;
+    }
+    epoch_of(request)
+}
+
+/// What a call was.
+fn call_deed(node: usize, request: &Request, fate: Fate) -> Deed {
+    let (kind, epoch) = match fate {
+        Fate::Heard => (Kind::Heard, epoch_of(request)),
+        Fate::Muted => (Kind::Muted, epoch_of(request)),
+        Fate::Stopped { keep } => (Kind::Stopped, epoch_kept(request, keep)),
+        Fate::Dropped => (Kind::Other, epoch_of(request)),
+    };
+    Deed { kind, node, epoch }
+}
+
+/// What a late copy was.
+fn late_deed(node: usize, request: &Request, stop: Option<u64>) -> Deed {
+    let epoch = match stop {
+        Some(keep) => epoch_kept(request, keep),
+        None => epoch_of(request),
+    };
+    Deed {
+        kind: Kind::Late,
+        node,
+        epoch,
+    }
+}
+
+/// What an event was.
+pub fn deed_of(event: &Event) -> Deed {
+    match event {
+        Event::Call {
+            node,
+            request,
+            fate,
+            ..
+        } => call_deed(*node, request.get(), *fate),
+        Event::Late {
+            node,
+            request,
+            stop,
+            ..
+        } => late_deed(*node, request.get(), *stop),
+        Event::Kill { node } => bare_deed(Kind::Kill, *node),
+        Event::Restart { node } => bare_deed(Kind::Restart, *node),
+        _ => bare_deed(Kind::Other, 0),
+    }
+}
+
+/// A deed of no epoch.
+fn bare_deed(kind: Kind, node: usize) -> Deed {
+    Deed {
+        kind,
+        node,
+        epoch: 0,
+    }
+}
+
+/// The reply came before anything changed.
+fn is_at_once(reply: &Reply) -> bool {
+    match reply {
+        Reply::Refused(refusal) => matches!(
+            refusal,
+            Refusal::Down
+                | Refusal::Limit { .. }
+                | Refusal::EpochRefused { .. }
+                | Refusal::OldSerial { .. }
+        ),
+        _ => false,
+    }
+}
+
+/// What a request did to the node that answered it so, if anything.
+fn deed_asked(node: usize, late: bool, request: &Request, answer: &NodeAnswer) -> Option<Deed> {
+    match answer {
+        NodeAnswer::Replied(reply) if epoch_of(request) > 0 && !is_at_once(reply) => {
+            if late {
+                return Some(late_deed(node, request, None));
+            }
+            Some(call_deed(node, request, Fate::Heard))
+        }
+        NodeAnswer::Stopped { keep } => {
+            if late {
+                return Some(late_deed(node, request, Some(*keep)));
+            }
+            Some(call_deed(node, request, Fate::Stopped { keep: *keep }))
+        }
+        _ => None,
+    }
+}
+
+/// What a line of a node's history did to it, if anything. A history doesn't tell whether the reply was heard.
+pub fn deed_at(node: usize, line: &HistoryLine) -> Option<Deed> {
+    match (&line.ask, &line.answer) {
+        (NodeAsk::Act { late, request }, answer) => deed_asked(node, *late, request.get(), answer),
+        (NodeAsk::Kill, NodeAnswer::Done) => Some(bare_deed(Kind::Kill, node)),
+        (NodeAsk::Restart, NodeAnswer::Done) => Some(bare_deed(Kind::Restart, node)),
+        _ => None,
+    }
+}
