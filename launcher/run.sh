@@ -26,6 +26,8 @@ open_input() {
 # Runs the proved program on descriptor 3, passes signals on, and keeps its status. The program dies with the launcher, however
 # that ends, where the machine's setpriv can say so.
 run_program() {
+  # a limit of a file's size is then a write that fails, and no signal that ends the program
+  trap '' XFSZ
   guard='setpriv --pdeathsig KILL'
   $guard true 2>/dev/null || guard=''
   # shellcheck disable=SC2086
@@ -92,21 +94,6 @@ run_or_try() {
   exit "$status"
 }
 
-# Holds the current folder for one node: the lock is on the folder itself, and goes with the last process that has it open.
-take_folder() {
-  if ! command -v flock >/dev/null; then
-    say "this machine has no flock: see to it yourself that no second node runs in this folder"
-    return
-  fi
-  exec 9<.
-  flock -n 9 2>/dev/null
-  case $? in
-    0) ;;
-    1) say "another node has this folder: $(pwd)"; exit "$FOLDER_TAKEN" ;;
-    *) say "this file system has no locks: see to it yourself that no second node runs in this folder" ;;
-  esac
-}
-
 # Serves a node in the current folder, of the proved program alone.
 serve_node() {
   if ! is_proved; then
@@ -114,7 +101,6 @@ serve_node() {
     build || exit
   fi
   make_room
-  take_folder
   open_input node
   run_program node
   [ "$status" -eq 0 ] || explain node

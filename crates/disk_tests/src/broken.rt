@@ -3,6 +3,7 @@ use std::alloc::Allocator;
 use std::fmt::Display;
 use std::io;
 use std::io::{BufRead, ErrorKind, Lines, Read};
+use std::time::{Clock, Duration};
 
 /// Neither reads nor writes anything.
 #[derive(Clone, Copy)]
@@ -52,6 +53,16 @@ impl Print for Broken {
     }
 
     fn write_all(&self, _bytes: &[u8]) -> io::Result<()> {
+        Err(io::Error::from(ErrorKind::Other))
+    }
+}
+
+impl Clock for Broken {
+    fn monotonic(&self) -> io::Result<Duration> {
+        Err(io::Error::from(ErrorKind::Other))
+    }
+
+    fn since_1970(&self) -> io::Result<Duration> {
         Err(io::Error::from(ErrorKind::Other))
     }
 }

@@ -1,6 +1,7 @@
 //! Sources and sinks in memory with and without faults, the two loops over them, and the standard ends used once.
 use crate::broken::Broken;
 use crate::recorder::Recorder;
+use crate::unready::Unready;
 use qj_outside::{
     Failed, Input, MemSink, MemSource, NoFaultSink, NoFaultSource, Sink, Source, StdSink,
     StdSource, read_all, write_all,
@@ -173,4 +174,17 @@ fn short_writes_go_on(rt: HostRuntime) {
     assert_eq!(rt; write_all(&mut sink, b" node"), Ok(()));
     let bytes = recorder.into_bytes();
     assert_eq!(rt; bytes.as_slice(), b"a journal node".as_slice());
+}
+
+#[test]
+fn what_is_not_ready_is_tried_again(rt: HostRuntime) {
+    let ends = Unready::new();
+    let mut source = StdSource::new(&ends);
+    let input = read_all(rt.alloc(), &mut source, 100);
+    assert_eq!(rt; outcome(&input), ("all", b"xxx".as_slice()));
+    // One pause before each byte, and one before the end.
+    assert_eq!(rt; ends.pauses(), 4);
+    let mut sink = StdSink::new(&ends);
+    assert_eq!(rt; write_all(&mut sink, b"ok"), Ok(()));
+    assert_eq!(rt; ends.pauses(), 6);
 }

@@ -5,7 +5,7 @@ use crate::disks::{line, one};
 use qj_disk::UntoldDisk;
 use segment_file::{
     Appended, Completed, append, append_behind_gate, complete_half_done, create, discard, finalize,
-    replace, replace_again, sync_all,
+    replace, replace_again, sync_segments,
 };
 use small_files::{NumberFile, PaxosFile, Put, put_bytes};
 use std::alloc::Global;
@@ -42,8 +42,8 @@ pub enum SegmentStep<'a> {
     Replace(u64, u64, &'a [u8]),
     /// The same once more.
     ReplaceAgain(u64, u64, &'a [u8]),
-    /// All files are made stable.
-    SyncAll,
+    /// The files of segments that count are made stable.
+    SyncSegments,
     /// What is half done is completed.
     Complete,
 }
@@ -161,7 +161,7 @@ pub fn change_segment(
             let batch = one(rt, alloc, number(rt, *first), body)?;
             is_put(rt, replace_again(alloc, disk, number(rt, *epoch), &batch))
         }
-        SegmentStep::SyncAll => sync_all(disk).is_ok(),
+        SegmentStep::SyncSegments => sync_segments(disk).is_ok(),
         SegmentStep::Complete => is_completed(rt, alloc, disk),
     };
     Ok(done)

@@ -18,6 +18,10 @@ mod files_opened;
 #[cfg(test)]
 mod folders;
 #[cfg(test)]
+mod foreign;
+#[cfg(test)]
+mod locks;
+#[cfg(test)]
 mod memory_disks;
 #[cfg(test)]
 mod node_steps;
@@ -37,5 +41,7 @@ mod sessions;
 mod small;
 #[cfg(test)]
 mod steps;
+#[cfg(test)]
+mod unready;
 #[cfg(test)]
 mod wants;

@@ -4,6 +4,7 @@ use std::cell::RefCell;
 use std::fmt::Display;
 use std::io;
 use std::io::ErrorKind;
+use std::time::{Clock, Duration};
 
 /// Keeps the bytes that it was given, and takes three of them at most in one write.
 #[derive(Drop)]
@@ -44,5 +45,15 @@ impl Print for Recorder {
             Err(_) => return Err(io::Error::from(ErrorKind::Other)),
         }
         Ok(count)
+    }
+}
+
+impl Clock for Recorder {
+    fn monotonic(&self) -> io::Result<Duration> {
+        Err(io::Error::from(ErrorKind::Other))
+    }
+
+    fn since_1970(&self) -> io::Result<Duration> {
+        Err(io::Error::from(ErrorKind::Other))
     }
 }

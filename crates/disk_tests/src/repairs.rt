@@ -3,7 +3,7 @@ use crate::disk_steps::DiskStep::Write;
 use crate::disk_steps::DiskWant::{Bytes, Count, IsThere, Length};
 use crate::disks::PROGRESS;
 use crate::file_steps::FileStep;
-use crate::file_steps::SegmentStep::{Complete, Create, Finalize, Replace, SyncAll};
+use crate::file_steps::SegmentStep::{Complete, Create, Finalize, Replace, SyncSegments};
 use crate::segments::{FINAL, TWO_EDITS, UNDER_WAY, two_edits};
 use crate::steps::Fault::{Crash, FailAt, StopAfter};
 use crate::steps::Step::{self, Disk, Fault, File, Sees, Segment, Tells};
@@ -33,7 +33,7 @@ fn an_acceptance_is_settled_after_each_stop(rt: HostRuntime) -> Result<(), Fail>
             by_choice: false,
         },
         &[
-            Segment(SyncAll),
+            Segment(SyncSegments),
             Segment(Complete),
             Tells(IsThere(UNDER_WAY, false)),
             Sees(NoneTemporary),
@@ -41,7 +41,7 @@ fn an_acceptance_is_settled_after_each_stop(rt: HostRuntime) -> Result<(), Fail>
             Sees(NoEdit(2)),
         ],
         &[
-            Segment(SyncAll),
+            Segment(SyncSegments),
             Segment(Complete),
             Tells(IsThere(UNDER_WAY, false)),
             Sees(NoneTemporary),

@@ -3,7 +3,7 @@ use crate::disk_steps::DiskStep::{Sync, Write};
 use crate::disk_steps::DiskWant::{Count, IsNot, IsThere, Length, Part};
 use crate::disks::{PROGRESS, choices, new_disk};
 use crate::file_steps::SegmentStep::{
-    Append, AppendBehindGate, Create, Discard, Finalize, Replace, ReplaceAgain, SyncAll,
+    Append, AppendBehindGate, Create, Discard, Finalize, Replace, ReplaceAgain, SyncSegments,
 };
 use crate::steps::Fault::{Crash, FailAt};
 use crate::steps::Step::{self, Disk, Fault, Sees, Segment, Tells};
@@ -271,16 +271,26 @@ fn other_names_tell_no_file(rt: HostRuntime) {
 }
 
 #[test]
-fn all_files_are_synced_but_temporary_ones(rt: HostRuntime) -> Result<(), Fail> {
-    let steps = [
-        Disk(Write("a", 0, b"1")),
-        Disk(Write("b.tmp", 0, b"1")),
-        Disk(Write("c.new", 0, b"1")),
-        Segment(SyncAll),
-        Fault(Crash(Choice::Old)),
-        Tells(Length("a", Some(1))),
-        Tells(Length("b.tmp", None)),
-        Tells(Length("c.new", None)),
+fn files_of_segments_are_synced_but_temporary_ones(rt: HostRuntime) -> Result<(), Fail> {
+    let cases = [
+        (PROGRESS, Some(1)),
+        ("edits_0000000000000000003-0000000000000000003", Some(1)),
+        ("edits_inprogress_0000000000000000001.epoch=2", Some(1)),
+        ("paxos/0000000000000000001", Some(1)),
+        ("edits_inprogress_0000000000000000001.new", None),
+        ("paxos/0000000000000000001.tmp", None),
+        ("b.tmp", None),
+        ("committed-txid", None),
+        ("a", None),
     ];
-    take_anew(&rt, rt.alloc(), &steps)
+    for (name, length) in cases {
+        let steps = [
+            Disk(Write(name, 0, b"1")),
+            Segment(SyncSegments),
+            Fault(Crash(Choice::Old)),
+            Tells(Length(name, length)),
+        ];
+        take_anew(&rt, rt.alloc(), &steps)?;
+    }
+    Ok(())
 }

@@ -32,7 +32,7 @@ abbrev pub SameFiles : Files → Files → Type 0
 SameFiles d c = (start : ℕ) (kind : Kind) → c (name_of start kind) ≡ d (name_of start kind)
 
 stands_files : (d c : Files) (gs : List Segment) → SameFiles d c → StandsFor d gs → StandsFor c gs
-stands_files d c gs same stands = stands_same d c gs (λ start kind small valid lasts. same start kind) stands
+stands_files d c gs same stands = stands_same d c gs (λ start kind first small valid lasts. same start kind) stands
 
 tidy_files : (d c : Files) → SameFiles d c → IsTidy d → IsTidy c
 tidy_files d c same tidy = record {

@@ -8,7 +8,7 @@ use Rattle.small_files.specs.Records.{IsNumber}
 use Rattle.journal_core.specs.declared.segment.Segment.{Segment}
 use Rattle.journal_core.specs.declared.node_state.NodeState.{NodeState}
 use Rattle.segment_file.specs.Names.{InProgress, FreshRecord, name_of}
-use Rattle.segment_file.specs.Opening.{AllStable, Repairs, IsRepaired, IsFirst, IsBadRecordFile}
+use Rattle.segment_file.specs.Opening.{Repairs, IsRepaired, IsFirst, IsBadRecordFile}
 use Rattle.segment_file.specs.Opened.{IsBadSegmentFile, AreOpened}
 use Rattle.segment_file.specs.Completing.{Spares}
 use Rattle.segment_file.specs.Rows.{AreSoundRows}
@@ -23,10 +23,10 @@ use Rattle.node_files.specs.declared.files.NodeFiles.{NodeFiles}
 use Rattle.node_files.specs.declared.opened.OpenedFiles.{OpenedFiles}
 use Rattle.node_files.specs.declared.opened.OpenedFiles.TheVariants as opened
 use Rattle.node_files.specs.Durable.{number_name, number_of, HaveNumbers, StandsAs}
-use Rattle.node_files.specs.Opening.{number_in, HaveNodeNumbers, AreSmall, IsBadNumberFile, NoneIs, IsUnfilled, HoldsFiles, OpensAs, Refuses, IsWithinFiles}
+use Rattle.node_files.specs.Opening.{NumbersStable, number_in, HaveNodeNumbers, AreSmall, IsBadNumberFile, NoneIs, IsUnfilled, HoldsFiles, OpensAs, Refuses, IsWithinFiles}
 use Rattle.node_files.specs.OpenSteps.{AreFilledRows, IsNumbersStop, IsUnfilledRow, IsMade, IsBadAt, IsFoundRepaired}
 use Rattle.node_files.proofs.OpenNumbers.{none_bad, bad_number_stands}
-use Rattle.node_files.proofs.OpenQuiet.{number_stays, number_stable, states_stay}
+use Rattle.node_files.proofs.OpenQuiet.{number_stays, states_stay}
 use Rattle.node_files.proofs.OpenRows.{filled_segments, unfilled_segments}
 
 -- a state with these numbers and segments
@@ -46,10 +46,10 @@ unfolding name_of
 fresh_name start = sym (append_assoc (codes "paxos/") (padded 19 start) (codes ".tmp"))
 
 -- ## The segments of repaired files
-module _ (v0 v1 : View) (stable : AllStable v1) (repairs : Repairs v0.seen v1.seen) (repaired : IsRepaired v1.seen) (numbers : NodeNumbers) (have : HaveNodeNumbers v0.seen numbers) (rows : List SegmentRow) (is : AreOpened v0.seen v1 rows) where
+module _ (v0 v1 : View) (stable : NumbersStable v1) (repairs : Repairs v0.seen v1.seen) (repaired : IsRepaired v1.seen) (numbers : NodeNumbers) (have : HaveNodeNumbers v0.seen numbers) (rows : List SegmentRow) (is : AreOpened v0.seen v1 rows) where
   have_left : (c : Files) → v1.may_leave c → HaveNodeNumbers c numbers
   have_left c left n =
-      subst (λ (file : Option (List ℕ)). IsNumber file (number_in n numbers)) (sym (number_stable v1 stable n c left ∙ number_stays v0.seen v1.seen repairs n)) (have n)
+      subst (λ (file : Option (List ℕ)). IsNumber file (number_in n numbers)) (sym (stable n c left ∙ number_stays v0.seen v1.seen repairs n)) (have n)
 
   files_held : AreFilledRows rows → HoldsFiles v0.seen v1 (record { promised = numbers.promised; writer = numbers.writer; committed = numbers.committed; table = rows })
   files_held filled = record {

@@ -1,20 +1,22 @@
 -- How the calls of opening go on: each repairs what it was given, and nothing else.
-use Rattle.std.proofs.Common.{inl, inr, ⊎_elim, ◌⊎◌, ◌≡◌, ℕ, List, ◌++◌, refl, sym, ◌∙◌, ap, subst, arith}
+use Rattle.std.proofs.Common.{inl, inr, ◌⊎◌, ◌≡◌, ℕ, List, refl, sym, ◌∙◌, ap, subst, arith}
 use Rattle.std.specs.Prelude.{Option, codes}
 use Rattle.qj_disk.specs.Files.{Files, IsSame}
-use Rattle.qj_disk.specs.View.{View, IsStable, LeavesOnly}
+use Rattle.qj_disk.specs.View.{View, LeavesOnly}
+use Rattle.qj_disk.specs.Calls.{Keeps}
 use Rattle.qj_disk.specs.Runs.{Quiet, joined, weaker}
 use Rattle.journal_core.specs.declared.node_state.NodeState.{NodeState}
 use Rattle.segment_file.specs.Names.{name_of}
-use Rattle.segment_file.specs.Opening.{IsTemporary, AllStable, Repairs}
+use Rattle.segment_file.specs.Opening.{IsTemporary, Repairs, SyncsOnly}
 use Rattle.segment_file.proofs.Frame.{stands_same}
 use Rattle.segment_file.proofs.StableLaws.{end_byte, end_behind}
+use Rattle.segment_file.proofs.SyncLemmas.{stays}
 use Rattle.small_files.specs.Records.{IsNumber}
 use Rattle.node_files.specs.declared.node_number.NodeNumber.{NodeNumber}
 use Rattle.node_files.specs.declared.node_number.NodeNumber.TheVariants.{Promised, Writer, Committed}
 use Rattle.node_files.specs.declared.node_numbers.NodeNumbers.{NodeNumbers}
 use Rattle.node_files.specs.Durable.{number_name, number_of, StandsAs}
-use Rattle.node_files.specs.Opening.{number_in, HaveNodeNumbers}
+use Rattle.node_files.specs.Opening.{NumbersStable, number_in, HaveNodeNumbers}
 use Rattle.node_files.proofs.Names.{number_other}
 
 -- ## Number files aren't temporary
@@ -24,18 +26,16 @@ number_end Writer = inl refl
 number_end Committed = inr refl
 
 pub number_lasts : (n : NodeNumber) → IsTemporary (number_name n) → ⊥
-number_lasts n is = by is.ends (number_end n)
+number_lasts n is = by (number_end n)
   where
-    by : (number_name n ≡ is.front ++ codes ".tmp") ⊎ (number_name n ≡ is.front ++ codes ".new") → (end_byte (number_name n) ≡ 104) ⊎ (end_byte (number_name n) ≡ 100) → ⊥
-    by (inl ends) (inl e) = omega (arith, e, ap end_byte ends, end_behind is.front (codes ".tmp") (omega arith))
-    by (inl ends) (inr e) = omega (arith, e, ap end_byte ends, end_behind is.front (codes ".tmp") (omega arith))
-    by (inr ends) (inl e) = omega (arith, e, ap end_byte ends, end_behind is.front (codes ".new") (omega arith))
-    by (inr ends) (inr e) = omega (arith, e, ap end_byte ends, end_behind is.front (codes ".new") (omega arith))
+    by : (end_byte (number_name n) ≡ 104) ⊎ (end_byte (number_name n) ≡ 100) → ⊥
+    by (inl e) = omega (arith, e, ap end_byte is.ends, end_behind is.front (codes ".tmp") (omega arith))
+    by (inr e) = omega (arith, e, ap end_byte is.ends, end_behind is.front (codes ".tmp") (omega arith))
 
 -- ## Repairs
 pub same_repairs : (d c : Files) → IsSame d c → Repairs d c
 same_repairs d c same = record {
-  segments = λ gs stands. stands_same d c gs (λ start kind small ok lasts. same.files (name_of start kind)) stands;
+  segments = λ gs stands. stands_same d c gs (λ start kind first small ok lasts. same.files (name_of start kind)) stands;
   others = λ name other lasts. same.files name;
 }
 
@@ -90,9 +90,18 @@ quiet_moments v w quiet = (quiet_weaker Repairs (λ d c. (s : NodeState) → Sta
 pub same_path : (d c : Files) → IsSame d c → c ≡ d
 same_path d c same = λ i name. same.files name i
 
--- a number file is the same after each crash
-pub number_stable : (v : View) → AllStable v → (n : NodeNumber) → IsStable (number_name n) v
-number_stable v stable n = ⊎_elim (λ temporary. absurd (number_lasts n temporary)) (λ is. is) (stable.each (number_name n))
+-- number files that are the same after each crash stay so
+pub numbers_stay : (v w : View) → Quiet Repairs v w → NumbersStable v → NumbersStable w
+numbers_stay v w quiet stable = λ n c left.
+    let from = quiet.now c left in
+    number_stays from.0 c from.2 n ∙ stable n from.0 from.1 ∙ sym (number_stays v.seen w.seen quiet.seen n)
+
+pub numbers_kept : (v w : View) → Keeps v w → NumbersStable v → NumbersStable w
+numbers_kept v w keeps stable = λ n. stays v w (number_name n) keeps (stable n)
 
 pub have_stays : (d c : Files) → Repairs d c → (numbers : NodeNumbers) → HaveNodeNumbers d numbers → HaveNodeNumbers c numbers
 have_stays d c repairs numbers have = λ n. subst (λ (file : Option (List ℕ)). IsNumber file (number_in n numbers)) (sym (number_stays d c repairs n)) (have n)
+
+-- what two calls spared, one after the other
+pub spared_then : (P Q R : List ℕ → Type 0) → ((name : List ℕ) → P name → R name) → ((name : List ℕ) → Q name → R name) → (u v w : View) → SyncsOnly P u v → SyncsOnly Q v w → SyncsOnly R u w
+spared_then P Q R from_p from_q u v w one two name not = two name (λ is. not (from_q name is)) ∙ one name (λ is. not (from_p name is))

@@ -1,7 +1,7 @@
 -- What opening the files of a node finds.
 use Rattle.std.specs.Prelude.{◌≡◌, ◌⊎◌, ℕ, ◌≤◌, ◌^◌, true, false, List, ◌∷◌, ◌++◌, Result, Ok, Err}
 use Rattle.qj_disk.specs.Files.{Files}
-use Rattle.qj_disk.specs.View.{View}
+use Rattle.qj_disk.specs.View.{View, IsStable}
 use Rattle.qj_disk.specs.declared.disk.DiskFail.{DiskFail}
 use Rattle.qj_disk.specs.declared.disk.DiskFail.TheVariants as fail
 use Rattle.small_files.specs.Records.{IsNumber}
@@ -10,7 +10,7 @@ use Rattle.journal_core.specs.declared.node_state.NodeState.{NodeState}
 use Rattle.journal_core.specs.Segments.{has_edit, AreSound}
 use Rattle.segment_file.specs.Names.{InProgress, name_of}
 use Rattle.segment_file.specs.Stands.{StandsFor}
-use Rattle.segment_file.specs.Opening.{IsFirst, IsBadRecordFile}
+use Rattle.segment_file.specs.Opening.{IsLastingFile, IsFirst, IsBadRecordFile}
 use Rattle.segment_file.specs.Opened.{IsBadSegmentFile, AreRowsOf, AreStarts, TellSegments}
 use Rattle.segment_file.specs.Completing.{Spares}
 use Rattle.node_files.specs.declared.node_number.NodeNumber.{NodeNumber}
@@ -20,6 +20,17 @@ use Rattle.node_files.specs.declared.files.NodeFiles.{NodeFiles}
 use Rattle.node_files.specs.declared.opened.OpenedFiles.{OpenedFiles}
 use Rattle.node_files.specs.declared.opened.OpenedFiles.TheVariants as opened
 use Rattle.node_files.specs.Durable.{number_name, StandsAs, HoldsState, AreFilled}
+
+-- each crash now leaves the files of the numbers as reads give them
+abbrev pub NumbersStable : View → Type 0
+NumbersStable v = (n : NodeNumber) → IsStable (number_name n) v
+
+abbrev pub IsNumberFile : List ℕ → Type 0
+IsNumberFile name = (n : NodeNumber) × (name ≡ number_name n)
+
+-- the name is that of a file which opening syncs: a segment's that counts, or a number's
+abbrev pub IsOwnFile : List ℕ → Type 0
+IsOwnFile name = IsLastingFile name ⊎ IsNumberFile name
 
 abbrev pub number_in : NodeNumber → NodeNumbers → ℕ
 number_in Promised numbers = numbers.promised

@@ -14,6 +14,7 @@ mod numbers;
 mod opened;
 mod opening;
 mod removing;
+mod syncing;
 pub mod worked;
 
 pub use accepting::accept_edits;

@@ -6,20 +6,20 @@ ghost use Rattle.qj_disk.specs.Calls.{HasCause, Rests};
 ghost use Rattle.qj_disk.specs.Runs.{Quiet};
 ghost use Rattle.journal_core.specs.declared.node_state.NodeState.{NodeState};
 ghost use Rattle.segment_file.specs.Names.{name_of, InProgress};
-ghost use Rattle.segment_file.specs.Opening.{AllStable, IsRepaired, Repairs};
+ghost use Rattle.segment_file.specs.Opening.{SegmentsStable, IsRepaired, Repairs};
 ghost use Rattle.node_files.specs.Durable.{StandsAs};
-ghost use Rattle.node_files.specs.Opening.{HaveNodeNumbers, AreSmall, OpensAs, Refuses, IsWithinFiles, files_result};
+ghost use Rattle.node_files.specs.Opening.{NumbersStable, HaveNodeNumbers, AreSmall, OpensAs, Refuses, IsWithinFiles, files_result};
 ghost use Rattle.node_files.specs.OpenSteps.{IsFilledRow, LacksEdit, AreFilledRows, IsUnfilledRow, IsNumberRead, AreNumbersRead, read_result, IsBadAt, IsMade, IsFoundRepaired};
 
 use crate::files::NodeFiles;
 use crate::node_number::NodeNumber;
 use crate::node_numbers::NodeNumbers;
 use crate::opened::OpenedFiles;
+use crate::syncing::sync_files;
 use qj_disk::{Disk, DiskFail};
 use qj_num::Name;
 use segment_file::{
     Completed, Opened, SegmentRow, SegmentTable, complete_half_done, open_all, progress_name,
-    sync_all,
 };
 use small_files::{Got, NumberFile};
 use std::alloc::Global;
@@ -118,8 +118,8 @@ fn open_repaired<D: Disk>(alloc: Global, disk: &mut D, numbers: NodeNumbers) -> 
     requires { AreSmall numbers }
 
     ensures tells { D.tells disk.old ↔ D.tells disk.new }
-    ensures quiet { D.tells disk.old → AllStable (D.view disk.old) → IsRepaired (D.view disk.old).seen → Quiet Repairs (D.view disk.old) (D.view disk.new) }
-    ensures told { D.tells disk.old → AllStable (D.view disk.old) → IsRepaired (D.view disk.old).seen → HaveNodeNumbers (D.view disk.old).seen numbers
+    ensures quiet { D.tells disk.old → SegmentsStable (D.view disk.old) → IsRepaired (D.view disk.old).seen → Quiet Repairs (D.view disk.old) (D.view disk.new) }
+    ensures told { D.tells disk.old → SegmentsStable (D.view disk.old) → NumbersStable (D.view disk.old) → IsRepaired (D.view disk.old).seen → HaveNodeNumbers (D.view disk.old).seen numbers
         → IsFoundRepaired (D.view disk.old).seen (D.view disk.new) result }
     ensures rows { IsWithinFiles result }
     ensures cause { HasCause (D.faults disk.old) (D.faults disk.new) (D.steady disk.old) (D.steady disk.new) (files_result result) }
@@ -137,8 +137,9 @@ fn open_numbered<D: Disk>(alloc: Global, disk: &mut D, numbers: NodeNumbers) -> 
     requires { AreSmall numbers }
 
     ensures tells { D.tells disk.old ↔ D.tells disk.new }
-    ensures quiet { D.tells disk.old → AllStable (D.view disk.old) → Quiet Repairs (D.view disk.old) (D.view disk.new) }
-    ensures told { D.tells disk.old → AllStable (D.view disk.old) → HaveNodeNumbers (D.view disk.old).seen numbers → OpensAs (D.view disk.old).seen (D.view disk.new) result × Refuses (D.view disk.old).seen (D.view disk.new).seen result }
+    ensures quiet { D.tells disk.old → SegmentsStable (D.view disk.old) → Quiet Repairs (D.view disk.old) (D.view disk.new) }
+    ensures told { D.tells disk.old → SegmentsStable (D.view disk.old) → NumbersStable (D.view disk.old) → HaveNodeNumbers (D.view disk.old).seen numbers
+        → OpensAs (D.view disk.old).seen (D.view disk.new) result × Refuses (D.view disk.old).seen (D.view disk.new).seen result }
     ensures rows { IsWithinFiles result }
     ensures cause { HasCause (D.faults disk.old) (D.faults disk.new) (D.steady disk.old) (D.steady disk.new) (files_result result) }
 {
@@ -153,8 +154,9 @@ fn open_numbered<D: Disk>(alloc: Global, disk: &mut D, numbers: NodeNumbers) -> 
 // Opens stable files.
 fn open_stable<D: Disk>(alloc: Global, disk: &mut D) -> OpenedFiles
     ensures tells { D.tells disk.old ↔ D.tells disk.new }
-    ensures quiet { D.tells disk.old → AllStable (D.view disk.old) → Quiet Repairs (D.view disk.old) (D.view disk.new) }
-    ensures told { D.tells disk.old → AllStable (D.view disk.old) → OpensAs (D.view disk.old).seen (D.view disk.new) result × Refuses (D.view disk.old).seen (D.view disk.new).seen result }
+    ensures quiet { D.tells disk.old → SegmentsStable (D.view disk.old) → Quiet Repairs (D.view disk.old) (D.view disk.new) }
+    ensures told { D.tells disk.old → SegmentsStable (D.view disk.old) → NumbersStable (D.view disk.old)
+        → OpensAs (D.view disk.old).seen (D.view disk.new) result × Refuses (D.view disk.old).seen (D.view disk.new).seen result }
     ensures rows { IsWithinFiles result }
     ensures cause { HasCause (D.faults disk.old) (D.faults disk.new) (D.steady disk.old) (D.steady disk.new) (files_result result) }
 {
@@ -164,12 +166,13 @@ fn open_stable<D: Disk>(alloc: Global, disk: &mut D) -> OpenedFiles
     }
 }
 
-/// Opens the files of a node, after a crash or not, in this order: each file but temporary ones is synced;
+/// Opens the files of a node, after a crash or not, in this order: the files of segments and of numbers but temporary ones are synced;
 /// the number files are read, in byte order of their names; what stopped calls left half done is repaired;
 /// and the files of segments are read. The first file that isn't in its format is told by its name, and
 /// then the files stand for no state at all. So is the file of an accepted segment without an edit, which
 /// no node writes. At every moment a crash leaves files that stand for what a crash before the call could
-/// have left, and files that are no segment's stay, but for temporary ones. Once this answered `Files`, each crash leaves
+/// have left, and files that are no segment's stay, but for those whose names end in `.tmp`. No other file is synced or read, so
+/// that what is wrong with it is no fault. Once this answered `Files`, each crash leaves
 /// files that stand for the state that the files stood for, and the answer tells it: its numbers, and the
 /// rows of its segments by rising start. On `DiskFault`, which comes only where the disk failed, and on
 /// `OutOfMemory` opening may begin again.
@@ -183,7 +186,7 @@ pub fn open_files<D: Disk>(alloc: Global, disk: &mut D) -> OpenedFiles
     ensures rows { IsWithinFiles result }
     ensures cause { HasCause (D.faults disk.old) (D.faults disk.new) (D.steady disk.old) (D.steady disk.new) (files_result result) }
 {
-    match sync_all(disk) {
+    match sync_files(disk) {
         Ok(()) => open_stable(alloc, disk),
         Err(DiskFail::Failed) => OpenedFiles::DiskFault,
         Err(DiskFail::OutOfMemory) => OpenedFiles::OutOfMemory,

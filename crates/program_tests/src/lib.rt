@@ -15,3 +15,5 @@ mod node_faults;
 mod nodes;
 #[cfg(test)]
 mod program;
+#[cfg(test)]
+mod words;

@@ -185,6 +185,7 @@ module _ {D : Type 0} (source : SourceUse) (sink : SinkUse) (disk : DiskUse D) (
   unopened_done status.WriteFault none why = absurd why
   unopened_done status.DiskFault none why = absurd (none refl)
   unopened_done status.OutOfMemory none why = inr refl
+  unopened_done status.Locked none why = absurd why
 
   -- how a session ended
   session_of : (told : Option (List ℕ)) (o : Served) (left before now : Option (List ℕ)) → told ≡ Some right.bytes → IsNodeSessionOf disk o told left before now → IsNodeSession disk o right.bytes left before now

@@ -98,6 +98,7 @@ module _ {D : Type 0} (sink : SinkUse) (disk : DiskUse D) (s : Status) where
   was_fault status.WriteFault e = absurd (cc e)
   was_fault status.DiskFault e = refl
   was_fault status.OutOfMemory e = absurd (cc e)
+  was_fault status.Locked e = absurd (cc e)
 
   opening_fault : (of : OpenFail D) → status_of (fault_in of) ≡ status.DiskFault → is_fault of ≡ true
   opening_fault (fail.DiskFault last) e = refl

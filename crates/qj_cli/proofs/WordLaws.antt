@@ -1,6 +1,6 @@
 -- The words of commands, and where others stop being some.
 use Rattle.std.proofs.Common.{◌≡◌, ℕ, Bool, true, false, List, [], ◌∷◌, ◌++◌, ◌||◌, Some, refl, sym, ap, subst, ◌∙◌, arith, inl, inr, ◌⊎◌, ⊎_elim}
-use Rattle.std.specs.Prelude.{codes, MatchOption, if◌then◌else◌}
+use Rattle.std.specs.Prelude.{codes, Option, None, MatchOption, if◌then◌else◌}
 use Rattle.std.specs.Str.{bytes_eq}
 use Rattle.std.proofs.lemmas.Slice.Eq.{bytes_eq-Decides}
 use Rattle.qj_cli.specs.declared.tool.SegmentTool.{SegmentTool}
@@ -225,6 +225,14 @@ first_wrong_word (word ∷ words) = first_by word words (is_alone word) (bytes_e
 -- words that are a command's have no wrong one
 pub right_words : (words : List (List ℕ)) (asked : Asked) (place : ℕ) → words ≡ words_of asked → usage_of words ≡ Some place → ⊥
 right_words words asked place is wrong = (subst (λ o. MatchOption o (IsCommand words) (StopAt words)) wrong (first_wrong_word words)).none (asked, is)
+
+-- the words of a command have no wrong one
+pub no_wrong_word : (words : List (List ℕ)) (asked : Asked) → words ≡ words_of asked → usage_of words ≡ None
+no_wrong_word words asked is = by (usage_of words) refl
+  where
+    by : (o : Option ℕ) → usage_of words ≡ o → o ≡ None
+    by None e = refl
+    by (Some place) e = absurd (right_words words asked place is e)
 
 -- the command of these words, which are one's
 unfoldable alone_at : List ℕ → Asked

@@ -11,6 +11,7 @@ pub mod Found
 pub mod Checks
 pub mod Crashes
 pub mod Serving
+pub mod Starting
 pub mod NodeEnds
 pub mod Does
 pub mod Complete

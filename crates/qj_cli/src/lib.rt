@@ -13,6 +13,7 @@ mod listing;
 mod playing;
 mod served_node;
 mod serving;
+mod starting;
 mod status;
 mod tool;
 mod top;
@@ -24,5 +25,6 @@ pub use laws::{
     files_have_one_listing, reports_show_no_fault, scripts_have_one_report,
     usage_is_of_first_wrong_word,
 };
+pub use starting::{asks_for_node, refuse_folder, refuse_words};
 pub use status::Status;
 pub use top::qjm;

@@ -25,4 +25,6 @@ pub enum Status {
     DiskFault,
     /// Memory ran out.
     OutOfMemory,
+    /// Another process serves a node in the folder. It comes before a command is begun, and of no command.
+    Locked,
 }

@@ -20,7 +20,7 @@ pub fn write_text<K: Sink>(sink: &mut K, good: Status, text: &[u8]) -> Status
 }
 
 /// Writes the line of a fault. A write that fails changes no status.
-fn write_line<K: Sink>(sink: &mut K, line: &[u8])
+pub fn write_line<K: Sink>(sink: &mut K, line: &[u8])
     ensures { WritesLine line.now (written_to K.taken K.faults sink.old sink.new) }
 {
     let _ = write_all(sink, line);

@@ -1,9 +1,10 @@
 // A folder of the system, and the calls that are made of it.
 ghost use Rattle.std.specs.Prelude.{◌≤◌, length, IfOk};
 
+use crate::lock_file::LockFile;
 use crate::written_file::WrittenFile;
 use std::alloc::AllocError;
-use std::fs::{File, Files, OpenFile, OpenOptions};
+use std::fs::{File, Files, OpenFile, OpenOptions, TryLockError};
 use std::io::{ErrorKind, Read, Seek, SeekFrom};
 use std::path::{Path, PathBuf};
 use std::{fs, io};
@@ -23,6 +24,8 @@ pub struct Folder<R: Files + Drop> {
     // no name changed since the folders were synced
     are_names_synced: bool,
     written: Option<WrittenFile<R::File>>,
+    // the folder itself, where this holds its lock
+    locked: Option<R::File>,
 }
 
 /// There is no file of such a name.
@@ -65,7 +68,25 @@ impl<R: Files + AllocGlobal + Clone + Drop> Folder<R> {
             path,
             are_names_synced: false,
             written: None,
+            locked: None,
         })
+    }
+
+    /// Takes the exclusive lock on the folder itself, for as long as this value lives. Answers whether no other has it.
+    pub fn lock(&mut self) -> io::Result<bool>
+    where
+        R::File: LockFile,
+    {
+        let path = self.path_of("")?;
+        let folder = File::open(&self.rt, path.as_path())?;
+        match folder.try_lock() {
+            Ok(()) => {
+                self.locked = Some(folder);
+                Ok(true)
+            }
+            Err(TryLockError::WouldBlock) => Ok(false),
+            Err(TryLockError::Error(error)) => Err(error),
+        }
     }
 
     fn path_of(&self, name: &str) -> Result<PathBuf, AllocError> {
@@ -196,7 +217,7 @@ impl<R: Files + AllocGlobal + Clone + Drop> Folder<R> {
     pub fn list(&self) -> io::Result<Vec<String>> {
         let mut names = Vec::new(self.rt.alloc());
         self.list_folder("", "", &mut names)?;
-        if fs::exists(&self.rt, self.path_of(SUBFOLDER)?.as_path())? {
+        if self.has_subfolder()? {
             self.list_folder(SUBFOLDER, IN_SUBFOLDER, &mut names)?;
         }
         names.sort()?;
@@ -216,14 +237,34 @@ impl<R: Files + AllocGlobal + Clone + Drop> Folder<R> {
         Ok(())
     }
 
-    /// Appends a name where it is that of a file.
+    /// Whether the name is to be listed: it is that of a file, or the system doesn't tell, as of a link into a folder that may not be
+    /// looked into. What is done with such a file then fails, and a node leaves it alone where it isn't its own.
+    fn is_listed(&self, name: &str) -> io::Result<bool> {
+        match self.length(name) {
+            Ok(length) => Ok(length.is_some()),
+            Err(error) if error.kind() == ErrorKind::OutOfMemory => Err(error),
+            Err(_) => Ok(true),
+        }
+    }
+
+    /// Appends a name where it is to be listed.
     fn list_file(&self, front: &str, name: &str, names: &mut Vec<String>) -> io::Result<()> {
         let mut whole = String::from_str(self.rt.alloc(), front)?;
         whole.push_str(name)?;
-        if self.length(whole.as_str())?.is_some() {
+        if self.is_listed(whole.as_str())? {
             names.push(whole)?;
         }
         Ok(())
+    }
+
+    /// The subfolder is there. A file of its name is none.
+    fn has_subfolder(&self) -> io::Result<bool> {
+        let path = self.path_of(SUBFOLDER)?;
+        match fs::metadata(&self.rt, path.as_path()) {
+            Ok(found) => Ok(found.is_dir()),
+            Err(error) if is_absence(&error) => Ok(false),
+            Err(error) => Err(error),
+        }
     }
 
     /// Makes the subfolder, where the name lies in it.
@@ -243,7 +284,7 @@ impl<R: Files + AllocGlobal + Clone + Drop> Folder<R> {
         if self.are_names_synced {
             return Ok(());
         }
-        if fs::exists(&self.rt, self.path_of(SUBFOLDER)?.as_path())? {
+        if self.has_subfolder()? {
             self.sync_folder(SUBFOLDER)?;
         }
         self.sync_folder("")?;

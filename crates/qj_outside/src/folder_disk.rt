@@ -1,9 +1,11 @@
 // A disk over a folder of the system.
-ghost use Rattle.std.specs.Prelude.{◌≡◌, None, IfOk, Ok};
+ghost use Rattle.std.specs.Prelude.{◌≡◌, None, IfOk, IsErrOf, Ok};
 ghost use Rattle.qj_disk.specs.Calls.{HasCause, Rose};
+ghost use Rattle.qj_outside.specs.Faults.{counted};
 
 use crate::OutOfMemory;
 use crate::folder::Folder;
+use crate::lock_file::LockFile;
 use qj_disk::{Disk, DiskFail};
 use std::fs::Files;
 use std::io;
@@ -17,7 +19,7 @@ use std::marker::Model;
 /// A name under which no file stands, be it nothing, a folder or too long for a file, is absent: it has no length and no
 /// bytes. A name that begins with `/` is one of the whole system. Names that aren't UTF-8 are left out. A file is opened
 /// anew for each call, but for the one that was written last: it stays open until another is written, a name changes or a call
-/// of it fails, so that a sync goes through the descriptor that wrote. None is locked. A sync syncs the file, and the folders
+/// of it fails, so that a sync goes through the descriptor that wrote. The folder itself can be locked. A sync syncs the file, and the folders
 /// too where a name changed since they were synced; a rename or a removal syncs the folders, and answers Failed where it can't: then it has happened, and a crash may
 /// undo it. What a device loses although it told that it had stored it, isn't seen.
 #[derive(Drop)]
@@ -45,6 +47,40 @@ impl<R: Files + AllocGlobal + Clone + Drop> FolderDisk<R> {
             faults: 0,
             reads: 0,
         })
+    }
+}
+
+/// Why a folder wasn't locked.
+#[derive(Clone, Copy, Debug, PartialEq, Eq)]
+pub enum LockFail {
+    /// Another has the lock.
+    Taken,
+    /// The folder can't be opened, or can't be locked where it lies. The disk counted it.
+    Failed,
+    /// There wasn't memory for the folder's name.
+    OutOfMemory,
+}
+
+impl<R: Files + AllocGlobal + Clone + Drop> FolderDisk<R>
+where
+    R::File: LockFile,
+{
+    /// Takes the exclusive lock on the folder itself, so that no other takes it while this value lives. It goes with its process, however
+    /// that ends, and no file stands for it. A program that doesn't ask for the lock isn't held up by it.
+    pub fn lock(&mut self) -> Result<(), LockFail>
+        ensures failed { IsErrOf result LockFail.Failed → self.new.faults ≡ counted self.old.faults }
+        ensures others { (IsErrOf result LockFail.Failed → ⊥) → self.new.faults ≡ self.old.faults }
+        ensures unread { self.new.reads ≡ self.old.reads }
+    {
+        match self.folder.lock() {
+            Ok(true) => Ok(()),
+            Ok(false) => Err(LockFail::Taken),
+            Err(error) if error.kind() == ErrorKind::OutOfMemory => Err(LockFail::OutOfMemory),
+            Err(_) => {
+                self.faults = self.faults.saturating_add(1);
+                Err(LockFail::Failed)
+            }
+        }
     }
 }
 

@@ -8,7 +8,7 @@ use Rattle.qj_disk.specs.Calls.{Rests, Lists, HasCause, Rose}
 use Rattle.qj_disk.specs.declared.disk.DiskFail.{DiskFail}
 use Rattle.qj_disk.specs.declared.disk.DiskFail.TheVariants.{Failed}
 use Rattle.segment_file.specs.Names.{Kind, InProgress, Final, UnderWay}
-use Rattle.segment_file.specs.Opening.{AllStable, IsTemporary}
+use Rattle.segment_file.specs.Opening.{SegmentsStable, IsTemporary}
 use Rattle.segment_file.specs.Completing.{Mends, IsFinalFile, AreFinals, IsWay, IsProgress, IsLeftKind, IsLeftOver, NoName, Clears, ClearsAll}
 use Rattle.segment_file.proofs.RepairLemmas.{names_cases}
 use Rattle.segment_file.proofs.MendLemmas.{mends_keeps, mends_then, one_kind}
@@ -32,7 +32,7 @@ module _ (P Free : List ℕ → Type 0) where
   -- the files of these names are cleared, of those that are there
   pub record IsClearing (told tells : Type 0) (v0 v : View) (names done : List (List ℕ)) (f0 f : ℕ) (was_steady is_steady : Type 0) : Type 0 where
     pub tells_on : told ↔ tells
-    pub mends : told → AllStable v0 → Mends v0 v
+    pub mends : told → SegmentsStable v0 → Mends v0 v
     pub listed : told → Lists names v0.seen
     pub cleared : told → Cleared done v0.seen v.seen
     pub later : f0 ≤ f
@@ -114,8 +114,8 @@ module _ (P Free : List ℕ → Type 0) (apart : (name : List ℕ) → P name �
           let told = so_far.tells_on.1 t in
           finals_stay starts v0.seen v.seen (λ name start final. ⊎_elim (λ same. same) (λ gone. absurd (no_p name start final gone.0)) ((so_far.cleared told).only name (no_free name start final))) (are told)
 
-      module _ {T : Type 0} (tells1 : Type 0) (v1 : View) (f1 : ℕ) (steady1 : Type 0) (r : Result T DiskFail) (on : tells ↔ tells1) (mends : tells → AllStable v → Mends v v1) (cause : HasCause f f1 is_steady steady1 r) where
-        mends_on : told → AllStable v0 → Mends v0 v1
+      module _ {T : Type 0} (tells1 : Type 0) (v1 : View) (f1 : ℕ) (steady1 : Type 0) (r : Result T DiskFail) (on : tells ↔ tells1) (mends : tells → SegmentsStable v → Mends v v1) (cause : HasCause f f1 is_steady steady1 r) where
+        mends_on : told → SegmentsStable v0 → Mends v0 v1
         mends_on t all = let first = so_far.mends t all in mends_then v0 v v1 first (mends (so_far.tells_on.0 t) first.stable)
 
         pub one_more : (name : List ℕ) (next : List (List ℕ)) → next ≡ done ++ name ∷ [] → (tells → Clears P Free name v.seen v1.seen) → IsClearing P Free told tells1 v0 v1 names next f0 f1 was_steady steady1
@@ -129,7 +129,7 @@ module _ (P Free : List ℕ → Type 0) (apart : (name : List ℕ) → P name �
           same = λ s. cause.same (so_far.steady s) ∙ so_far.same s;
         }
 
-        pub given_up_mends : told → AllStable v0 → Mends v0 v1
+        pub given_up_mends : told → SegmentsStable v0 → Mends v0 v1
         given_up_mends = mends_on
 
         pub given_up_tells : told ↔ tells1

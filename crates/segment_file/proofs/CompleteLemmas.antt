@@ -12,7 +12,7 @@ use Rattle.segment_file.specs.declared.completed.Completed.TheVariants as told
 use Rattle.segment_file.specs.Names.{Kind, InProgress, Final, Record, UnderWay, Fresh, name_of, IsKind, IsLasting}
 use Rattle.segment_file.specs.Kinds.{IsNamed}
 use Rattle.segment_file.specs.Stands.{IsRecordFile}
-use Rattle.segment_file.specs.Opening.{AllStable, Repairs, IsBadRecordFile, IsRepaired, IsCompleted, completed_result}
+use Rattle.segment_file.specs.Opening.{SegmentsStable, Repairs, IsBadRecordFile, IsRepaired, IsCompleted, completed_result}
 use Rattle.segment_file.specs.Completing.{Mends, Cleans, Spares, AreFinals, IsWay, IsProgress, IsLeftKind, IsLeftOver, NoName, ClearsAll, Completes}
 use Rattle.segment_file.proofs.TemporaryLemmas.{not_temporary, tmp_temporary}
 use Rattle.segment_file.proofs.MendLemmas.{mends_keeps, mends_then, one_kind}
@@ -78,7 +78,7 @@ pub repaired : (a c : Files) → Completes a c → ((name : List ℕ) → IsBadR
 repaired a c is good = record { tidy = is.tidy; none_fresh = is.none_fresh; none_temporary = is.none_temporary; records = λ name bad. good name (is.records name bad) }
 
 module _ (v0 v1 v2 : View) (rests : Rests v0 v1) where
-  pub read_then : IsSound v0 → AllStable v0 → (AllStable v1 → Mends v1 v2) → Mends v0 v2
+  pub read_then : IsSound v0 → SegmentsStable v0 → (SegmentsStable v1 → Mends v1 v2) → Mends v0 v2
   read_then sound all more = let first = mends_keeps v0 v1 sound rests.keeps all in mends_then v0 v1 v2 first (more first.stable)
 
   pub finals_then : (finals : List ℕ) → AreFinals finals v0.seen → ClearsAll IsWay IsProgress v1.seen v2.seen → AreFinals finals v2.seen

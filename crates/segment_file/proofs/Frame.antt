@@ -79,9 +79,9 @@ stands_by start d c gs hs stands same others here = record {
 }
 
 -- no file of a segment changes
-pub stands_same : (d c : Files) (gs : List Segment) → ((start : ℕ) (k : Kind) → start ≤ 2 ^ 62 → IsKind start k → IsLasting k → c (name_of start k) ≡ d (name_of start k)) → StandsFor d gs → StandsFor c gs
+pub stands_same : (d c : Files) (gs : List Segment) → ((start : ℕ) (k : Kind) → 1 ≤ start → start ≤ 2 ^ 62 → IsKind start k → IsLasting k → c (name_of start k) ≡ d (name_of start k)) → StandsFor d gs → StandsFor c gs
 stands_same d c gs same stands = record {
-  slots = λ start first most. slot_same start (slot_of d start) (slot_of c start) (λ k ok lasts. same start k most ok lasts) (find_segment start gs) (stands.slots start first most);
+  slots = λ start first most. slot_same start (slot_of d start) (slot_of c start) (λ k ok lasts. same start k first most ok lasts) (find_segment start gs) (stands.slots start first most);
 }
 
 -- other files stay where one or two of a start change

@@ -1,5 +1,5 @@
 -- The files of one start stand for one segment at most.
-use Rattle.std.proofs.Common.{inl, inr, ◌⊎◌, ◌≡◌, ◌≢◌, ℕ, ◌^◌, ◌<◌, ◌≤◌, List, [], ◌∷◌, Bool, true, false, ◌==◌, cond, refl, sym, ◌∙◌, ap, subst, arith}
+use Rattle.std.proofs.Common.{inl, inr, ◌⊎◌, ◌≡◌, ◌≢◌, ℕ, ◌^◌, ◌≤◌, List, [], ◌∷◌, Bool, true, false, refl, sym, ◌∙◌, ap, subst, arith}
 use Rattle.std.specs.Prelude.{Option, Some, None}
 use Rattle.std.proofs.lemmas.Bool.{cases_eq, cases_lt}
 use Rattle.std.proofs.lemmas.Bool.Decides.{nat_tests}
@@ -9,7 +9,7 @@ use Rattle.journal_core.specs.declared.segment.Segment.{Segment}
 use Rattle.journal_core.specs.Segments.{find_segment, AreAbove, AreRising}
 use Rattle.batch_frame.specs.Segments.{IsSegmentFile}
 use Rattle.batch_frame.proofs.SegmentLaws.{one_segment}
-use Rattle.segment_file.specs.Names.{InProgress, Final, Record, UnderWay, IsKind}
+use Rattle.segment_file.specs.Names.{Final, Record, UnderWay}
 use Rattle.segment_file.specs.Stands.{Slot, slot_of, IsAccepted, HoldsEdits, CountsUnderWay, CountsPlain, IsFinalOf, IsProgressOf, IsNone, Holds, StandsFor}
 use Rattle.segment_file.specs.Opened.{AreStarts}
 use Rattle.segment_file.proofs.OpenFiles.{one_epoch}

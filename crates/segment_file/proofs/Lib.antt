@@ -20,7 +20,7 @@ mod ScanLemmas
 mod ReadLemmas
 pub mod OpenLemmas
 pub mod KindsLemmas
-mod SyncLemmas
+pub mod SyncLemmas
 pub mod RowLaws
 pub mod RowsOf
 pub mod RowsTold
@@ -29,7 +29,7 @@ pub mod OpenFiles
 mod OpenJudged
 mod RecordOrNot
 mod OpenReads
-mod ReadLoop
+pub mod ReadLoop
 mod ScanLoop
 pub mod HeldOnce
 pub mod StableLaws
@@ -39,7 +39,7 @@ pub mod OpenWhole
 pub mod OpenBad
 mod TemporaryLemmas
 mod RepairLemmas
-mod MendLemmas
+pub mod MendLemmas
 mod ToldLemmas
 mod RecordLemmas
 mod StartLemmas

@@ -1,32 +1,31 @@
 -- What the bytes of a segment's file, and those of its record, say of the segment.
-use Rattle.std.proofs.Common.{inl, inr, ◌⊎◌, ◌≡◌, ◌≢◌, ℕ, ◌+◌, ◌-◌, ◌^◌, ◌<◌, ◌≤◌, List, [], ◌∷◌, ◌++◌, length, take, drop, Bool, true, false, ◌==◌, refl, sym, ◌∙◌, ap, subst, arith, length-append}
+use Rattle.std.proofs.Common.{inl, inr, ◌≡◌, ℕ, ◌+◌, ◌-◌, ◌≤◌, List, [], ◌∷◌, length, Bool, true, false, ◌==◌, refl, sym, ◌∙◌, ap, subst, arith, length-append}
 use Rattle.std.specs.Prelude.{Option, Some, None, MatchOption}
 use Rattle.std.specs.Bool.{Decides}
 use Rattle.std.proofs.lemmas.Option.{same_Some}
 use Rattle.std.proofs.lemmas.Bool.Decides.{nat_tests}
-use Rattle.qj_num.specs.Padded.{padded}
-use Rattle.qj_num.proofs.PaddedLaws.{length-padded, padded_injective}
+use Rattle.qj_num.proofs.PaddedLaws.{padded_injective}
 use Rattle.qj_disk.specs.Files.{Files}
-use Rattle.small_files.specs.Records.{Record, IsRecord, record_bytes}
+use Rattle.small_files.specs.Records.{Record, IsRecord}
 use Rattle.small_files.specs.Answers.{FoundIn}
 use Rattle.small_files.specs.declared.answers.GotRecord.TheVariants as got
 use Rattle.small_files.proofs.RecordLaws.{parts_of_record}
 use Rattle.journal_core.specs.Views.{BatchView}
 use Rattle.journal_core.specs.declared.segment.Segment.{Segment}
 use Rattle.journal_core.specs.declared.segment_info.SegmentInfo.{SegmentInfo}
-use Rattle.journal_core.specs.Segments.{info_of, end_of, IsWithin}
+use Rattle.journal_core.specs.Segments.{end_of, IsWithin}
 use Rattle.batch_frame.specs.Frames.{AreInOrder}
 use Rattle.batch_frame.specs.Segments.{IsSegmentFile}
 use Rattle.batch_frame.proofs.RuleLaws.{next_within}
 use Rattle.batch_frame.proofs.SegmentLaws.{one_segment}
-use Rattle.segment_file.specs.Names.{Kind, InProgress, Final, Record as record_kind, name_of, kind_of}
+use Rattle.segment_file.specs.Names.{Kind, Final, Record as record_kind, name_of, kind_of}
 use Rattle.segment_file.specs.Stands.{HasEpoch, IsRecordFile, IsAccepted}
 use Rattle.segment_file.specs.declared.file_scan.FileScan.{FileScan}
 use Rattle.segment_file.specs.Scans.{IsFileScan, ScansFile}
 use Rattle.segment_file.specs.Rows.{IsRowWithin}
 use Rattle.segment_file.specs.declared.segment_row.SegmentRow.{SegmentRow}
 use Rattle.segment_file.specs.Opened.{EndsAt, IsGoodFile}
-use Rattle.segment_file.specs.OpenSteps.{kind_by, is_final_by, segment_in, row_in, IsRowIn, IsRowFound, IsAcceptedAs, IsMarked, IsReadAs, IsFault}
+use Rattle.segment_file.specs.OpenSteps.{kind_by, is_final_by, segment_in, row_in, IsRowIn, IsRowFound, IsAcceptedAs, IsMarked, IsReadAs}
 use Rattle.segment_file.proofs.FileBytes.{split, all_bodies}
 
 -- ## The bytes of a segment's file

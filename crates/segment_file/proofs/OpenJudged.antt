@@ -1,22 +1,21 @@
 -- What a name and a file's bytes make of a judgement.
-use Rattle.std.proofs.Common.{inl, inr, ◌⊎◌, ◌≡◌, ◌≢◌, ℕ, List, Bool, true, false, refl, sym, ◌∙◌, ap, subst}
+use Rattle.std.proofs.Common.{inl, inr, ◌≡◌, ◌≢◌, ℕ, List, Bool, true, false, refl, sym, ◌∙◌, ap, subst}
 use Rattle.std.specs.Prelude.{Option, Some, None, IsSome, MatchBool}
 use Rattle.std.specs.Option.{option_copied, is_some}
 use Rattle.std.specs.Borrow.{Bor}
 use Rattle.qj_disk.specs.Files.{Files}
 use Rattle.journal_core.specs.declared.segment.Segment.{Segment}
 use Rattle.journal_core.specs.declared.segment_info.SegmentInfo.{SegmentInfo}
-use Rattle.segment_file.specs.Names.{Kind, InProgress, Final, Record, name_of, IsKind}
+use Rattle.segment_file.specs.Names.{Kind, Record, name_of, IsKind}
 use Rattle.segment_file.specs.Kinds.{IsNamed, kind_told}
 use Rattle.segment_file.specs.declared.file_kind.FileKind.{FileKind}
 use Rattle.segment_file.specs.declared.file_kind.FileKind.TheVariants as told
-use Rattle.segment_file.specs.Stands.{IsRecordFile}
 use Rattle.segment_file.specs.Rows.{find_row}
 use Rattle.segment_file.specs.declared.segment_row.SegmentRow.{SegmentRow}
 use Rattle.segment_file.specs.declared.judged.Judged.{Judged}
 use Rattle.segment_file.specs.declared.judged.Judged.TheVariants as judged
 use Rattle.segment_file.specs.Opened.{HoldsSegment, IsGoodFile}
-use Rattle.segment_file.specs.OpenSteps.{kind_by, IsRowIn, IsMarkedBy, IsBadAt, IsJudged, IsJudgedName, IsJudgedBeside, IsSegmentName, IsNoSegment, IsRefused, IsReadAs, IsIdle, IsFree}
+use Rattle.segment_file.specs.OpenSteps.{kind_by, IsRowIn, IsMarkedBy, IsBadAt, IsJudged, IsJudgedName, IsJudgedBeside, IsSegmentName, IsNoSegment, IsReadAs, IsIdle, IsFree}
 use Rattle.segment_file.proofs.NamesLemmas.{same_start, same_kind}
 use Rattle.segment_file.proofs.OpenFiles.{read_as}
 

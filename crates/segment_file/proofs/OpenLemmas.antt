@@ -87,4 +87,4 @@ elsewhere name is start FreshRecord same = is.no_record (ap (λ (l : List ℕ). 
 
 -- files of such names may change
 pub put_elsewhere_stands : (name tmp : List ℕ) → IsElsewhere name → IsElsewhere tmp → (d c : Files) (gs : List Segment) → ((other : List ℕ) → other ≢ name → other ≢ tmp → c other ≡ d other) → StandsFor d gs → StandsFor c gs
-put_elsewhere_stands name tmp name_is tmp_is d c gs others stands = stands_same d c gs (λ start kind small valid lasts. others (name_of start kind) (elsewhere name name_is start kind) (elsewhere tmp tmp_is start kind)) stands
+put_elsewhere_stands name tmp name_is tmp_is d c gs others stands = stands_same d c gs (λ start kind first small valid lasts. others (name_of start kind) (elsewhere name name_is start kind) (elsewhere tmp tmp_is start kind)) stands

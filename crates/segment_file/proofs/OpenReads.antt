@@ -1,6 +1,6 @@
 -- How the files of segments are read one after the other.
-use Rattle.std.proofs.Common.{inl, inr, ◌⊎◌, ◌≡◌, ◌≢◌, ℕ, zero, suc, ◌+◌, ◌^◌, ◌<◌, ◌≤◌, List, [], ◌∷◌, length, Bool, true, false, cond, nat_lt, ◌==◌, refl, sym, ◌∙◌, ap, subst, arith}
-use Rattle.std.specs.Prelude.{Option, Some, None, IsSome, Contains, slice_index_or}
+use Rattle.std.proofs.Common.{inl, inr, ◌⊎◌, ◌≡◌, ℕ, ◌+◌, ◌^◌, ◌<◌, ◌≤◌, List, [], ◌∷◌, length, Bool, true, false, cond, nat_lt, ◌==◌, refl, sym, ◌∙◌, ap, subst, arith}
+use Rattle.std.specs.Prelude.{Option, Some, None, IsSome, slice_index_or}
 use Rattle.std.specs.Ordering.{nat_cmp}
 use Rattle.std.specs.declared.cmp.Ordering.TheVariants.{Less}
 use Rattle.std.specs.Cmp.Lexicographic.{slice_cmp}
@@ -14,8 +14,7 @@ use Rattle.journal_core.proofs.PlaceLaws.{put_sound}
 use Rattle.journal_core.proofs.SegmentLists.{find-put_same}
 use Rattle.batch_frame.specs.Segments.{IsSegmentFile}
 use Rattle.segment_file.specs.Names.{Kind, InProgress, Final, Record, UnderWay, Fresh, FreshRecord, name_of, kind_of, IsKind}
-use Rattle.segment_file.specs.Kinds.{IsNamed}
-use Rattle.segment_file.specs.Stands.{slot_of, IsRecordFile, NoFinal, NoneUnderWay, Holds, SlotStands, StandsFor, HoldsEdits}
+use Rattle.segment_file.specs.Stands.{slot_of, NoneUnderWay, Holds, SlotStands}
 use Rattle.segment_file.specs.Opening.{IsRepaired, IsFirst}
 use Rattle.segment_file.specs.Rows.{find_row, put_row}
 use Rattle.segment_file.specs.declared.segment_row.SegmentRow.{SegmentRow}

@@ -1,26 +1,25 @@
 -- How the records of segments that aren't accepted are removed.
-use Rattle.std.proofs.Common.{inl, inr, ⊎_elim, ◌⊎◌, ◌≡◌, ◌≢◌, ℕ, ◌+◌, ◌^◌, ◌<◌, ◌≤◌, List, [], ◌∷◌, ◌++◌, length, Bool, true, false, refl, sym, ◌∙◌, ap, subst, arith}
+use Rattle.std.proofs.Common.{inl, inr, ⊎_elim, ◌⊎◌, ◌≡◌, ◌≢◌, ℕ, ◌+◌, ◌^◌, ◌<◌, ◌≤◌, List, ◌++◌, length, Bool, true, false, refl, sym, ◌∙◌, ap, subst, arith}
 use Rattle.std.specs.Prelude.{Option, Some, None, IsSome, Result, Ok, Err, IsOk, slice_index_or, codes}
 use Rattle.std.specs.Ordering.{nat_cmp}
 use Rattle.std.specs.declared.cmp.Ordering.TheVariants.{Less}
 use Rattle.std.specs.Cmp.Lexicographic.{slice_cmp}
 use Rattle.std.proofs.lemmas.Bool.{cases_eq, cases_lt}
 use Rattle.qj_disk.specs.Files.{Files, ChangesOnly, IsGone}
-use Rattle.qj_disk.specs.View.{View, IsSound, IsStable}
+use Rattle.qj_disk.specs.View.{View, IsSound}
 use Rattle.qj_disk.specs.Calls.{Keeps, Lists, Atomic, Happens}
 use Rattle.qj_disk.specs.Runs.{Quiet, quiet_start, quiet_call, quiet_keeps}
 use Rattle.qj_disk.specs.declared.disk.DiskFail.{DiskFail}
 use Rattle.journal_core.specs.declared.segment.Segment.{Segment}
 use Rattle.journal_core.specs.declared.segment_info.SegmentInfo.{SegmentInfo}
 use Rattle.journal_core.specs.Segments.{find_segment}
-use Rattle.segment_file.specs.Names.{Kind, InProgress, Final, Record, UnderWay, Fresh, Front, front_of, name_of, kind_of, IsKind}
-use Rattle.segment_file.specs.Kinds.{IsNamed}
+use Rattle.segment_file.specs.Names.{InProgress, Final, Record, UnderWay, Fresh, name_of, kind_of}
 use Rattle.segment_file.specs.Stands.{IsRecordFile, StandsFor}
 use Rattle.segment_file.specs.Effects.{IsTidy}
-use Rattle.segment_file.specs.Opening.{IsTemporary, Settled, AllStable, IsOther, Repairs, IsBadRecordFile, IsRepaired}
+use Rattle.segment_file.specs.Opening.{SegmentsStable, Repairs, IsBadRecordFile, IsRepaired}
 use Rattle.segment_file.specs.Rows.{find_row}
 use Rattle.segment_file.specs.declared.segment_row.SegmentRow.{SegmentRow}
-use Rattle.segment_file.specs.Opened.{IsRowOf, OnlyAccepted, AreOpened}
+use Rattle.segment_file.specs.Opened.{OnlyAccepted, AreOpened}
 use Rattle.segment_file.specs.OpenSteps.{IsFree, IsIdle, RemovesIdle, AreRead}
 use Rattle.segment_file.proofs.EffectLaws.{none_is_not}
 use Rattle.segment_file.proofs.HeldOnce.{found_once}
@@ -31,7 +30,7 @@ use Rattle.segment_file.proofs.RecordOrNot.{same_or_not}
 use Rattle.segment_file.proofs.RowsOf.{IsFoundRow, find_rows, rows_stay}
 use Rattle.segment_file.proofs.Single.{tidy_left}
 use Rattle.segment_file.proofs.StableLaws.{stable_stands, stable_ready}
-use Rattle.segment_file.proofs.SyncLemmas.{stays}
+use Rattle.segment_file.proofs.MendLemmas.{keeps_stable, gone_stable}
 
 -- ## Files of which some records are gone
 pub record IsLess (rows : List SegmentRow) (old new : Files) : Type 0 where
@@ -112,26 +111,14 @@ module _ (rows : List SegmentRow) (name : List ℕ) {T : Type 0} (r : Result T D
       by (inl idle) = ⊎_elim (λ h. happened idle.0 h) (λ k. kept k.seen) idle.1.failed
       by (inr other) = kept other.1.seen
 
-  pub step_stable : AllStable v → AllStable v1
+  pub step_stable : SegmentsStable v → SegmentsStable v1
   step_stable stable = by does.either
     where
-      kept : Keeps v v1 → AllStable v1
-      kept keeps = record { each = λ n. ⊎_elim (λ t. inl t) (λ s. inr (stays v v1 n keeps s)) (stable.each n) }
+      by : (IsIdle rows name × Atomic (ChangesOnly name IsGone) r v v1) ⊎ ((IsIdle rows name → ⊥) × Keeps v v1) → SegmentsStable v1
+      by (inl idle) = ⊎_elim (λ h. gone_stable v v1 name h stable) (λ k. keeps_stable v v1 k stable) idle.1.failed
+      by (inr other) = keeps_stable v v1 other.1 stable
 
-      gone_stable : (n : List ℕ) → Happens (ChangesOnly name IsGone) v v1 → IsStable n v → IsStable n v1
-      gone_stable n h s = λ c left. let from = h.crash c left in elim (same_or_not n name) [
-        | inl same ↦ ap c same ∙ from.2.here ∙ sym (ap v1.seen same ∙ h.seen.here)
-        | inr other ↦ from.2.others n other ∙ s from.0 from.1 ∙ sym (h.seen.others n other)
-      ]
-
-      happened : Happens (ChangesOnly name IsGone) v v1 → AllStable v1
-      happened h = record { each = λ n. ⊎_elim (λ t. inl t) (λ s. inr (gone_stable n h s)) (stable.each n) }
-
-      by : (IsIdle rows name × Atomic (ChangesOnly name IsGone) r v v1) ⊎ ((IsIdle rows name → ⊥) × Keeps v v1) → AllStable v1
-      by (inl idle) = ⊎_elim (λ h. happened h) (λ k. kept k) idle.1.failed
-      by (inr other) = kept other.1
-
-  module _ (v0 : View) (sound0 : IsSound v0) (sound : IsSound v) (stable : AllStable v) (tidy : IsTidy v.seen) (read : AreRead v0.seen rows) (quiet : Quiet Repairs v0 v) where
+  module _ (v0 : View) (sound0 : IsSound v0) (sound : IsSound v) (stable : SegmentsStable v) (tidy : IsTidy v.seen) (read : AreRead v0.seen rows) (quiet : Quiet Repairs v0 v) where
     -- the segments of an outcome of a crash are those that were read
     not_accepted : (e : Files) → v.may_leave e → (gs : List Segment) → StandsFor e gs → (start : ℕ) → 1 ≤ start → start ≤ 2 ^ 62 → IsFree (find_row start rows) → NotAccepted (find_segment start gs)
     not_accepted e left gs stands start first small free =
@@ -232,7 +219,7 @@ module _ (rows : List SegmentRow) (old : Files) (names : List (List ℕ)) (lists
           record { start = start; named = record { first = first; small = small; valid = tt; spelled = refl }; free = free }) there);
     }
 
-    pub all_opened : AllStable v → IsTidy v.seen → StandsFor v.seen read.segments → AreOpened old v rows
+    pub all_opened : SegmentsStable v → IsTidy v.seen → StandsFor v.seen read.segments → AreOpened old v rows
     all_opened stable tidy stands = record {
       segments = read.segments;
       sound = read.sound;

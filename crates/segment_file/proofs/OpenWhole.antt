@@ -1,16 +1,16 @@
 -- Opening, after calls that only read.
-use Rattle.std.proofs.Common.{⊎_elim, inl, inr, ◌⊎◌, ◌≡◌, List, ℕ, refl, sym, ◌∙◌, subst}
+use Rattle.std.proofs.Common.{⊎_elim, ◌⊎◌, List, sym, ◌∙◌, subst}
 use Rattle.qj_disk.specs.Files.{Files}
 use Rattle.qj_disk.specs.View.{View, IsSound}
-use Rattle.qj_disk.specs.Calls.{Keeps, Rests}
+use Rattle.qj_disk.specs.Calls.{Rests}
 use Rattle.qj_disk.specs.Runs.{Quiet, quiet_keeps, joined, weaker}
-use Rattle.segment_file.specs.Opening.{AllStable, Repairs, IsRepaired, IsFirst}
+use Rattle.segment_file.specs.Opening.{SegmentsStable, Repairs, IsRepaired, IsFirst}
 use Rattle.segment_file.specs.Opened.{AreOpened, IsOpened, IsBadSegmentFile}
 use Rattle.segment_file.specs.declared.segment_row.SegmentRow.{SegmentRow}
 use Rattle.segment_file.specs.declared.opened.Opened.{Opened}
 use Rattle.segment_file.specs.declared.opened.Opened.TheVariants as opened
 use Rattle.segment_file.specs.OpenSteps.{AreRead}
-use Rattle.segment_file.proofs.SyncLemmas.{stays}
+use Rattle.segment_file.proofs.MendLemmas.{keeps_stable}
 use Rattle.segment_file.proofs.OpenRemoves.{repairs_nothing}
 
 -- a crash left such an outcome, or one that was repaired
@@ -18,8 +18,8 @@ abbrev Left : View → Files → Type 0
 Left v c = (d : Files) × v.may_leave d × Repairs d c
 
 module _ (v0 v1 : View) (rests : Rests v0 v1) where
-  pub stable_after : AllStable v0 → AllStable v1
-  stable_after stable = record { each = λ name. ⊎_elim (λ t. inl t) (λ s. inr (stays v0 v1 name rests.keeps s)) (stable.each name) }
+  pub stable_after : SegmentsStable v0 → SegmentsStable v1
+  stable_after stable = keeps_stable v0 v1 rests.keeps stable
 
   pub repaired_after : IsRepaired v0.seen → IsRepaired v1.seen
   repaired_after is = subst IsRepaired (sym rests.keeps.seen) is

@@ -1,19 +1,18 @@
 -- The loop that reads the files of segments.
-use Rattle.std.proofs.Common.{inl, inr, ⊎_elim, ◌⊎◌, ◌≡◌, ◌↔◌, ℕ, ◌+◌, ◌<◌, ◌≤◌, List, [], length, refl, sym, ◌∙◌, ap, subst, arith}
+use Rattle.std.proofs.Common.{inl, inr, ⊎_elim, ◌⊎◌, ◌≡◌, ◌↔◌, ℕ, ◌+◌, ◌<◌, ◌≤◌, List, [], length, refl, sym, ◌∙◌, subst, arith}
 use Rattle.std.specs.Prelude.{Option, Some, None, Result, IsErrOf, slice_index_or, map}
 use Rattle.std.proofs.lemmas.List.{length-map}
 use Rattle.qj_disk.specs.Files.{Files}
-use Rattle.qj_disk.specs.View.{View, IsSound, Elapses}
+use Rattle.qj_disk.specs.View.{View, IsSound}
 use Rattle.qj_disk.specs.Calls.{Keeps, Rests, Lists, HasCause}
 use Rattle.qj_disk.specs.declared.disk.DiskFail.{DiskFail}
 use Rattle.qj_disk.specs.declared.disk.DiskFail.TheVariants.{Failed}
-use Rattle.segment_file.specs.Opening.{IsRepaired, IsFirst}
-use Rattle.segment_file.specs.Opened.{opened_result}
+use Rattle.segment_file.specs.Opening.{IsRepaired}
 use Rattle.segment_file.specs.Rows.{put_row}
 use Rattle.segment_file.specs.declared.segment_row.SegmentRow.{SegmentRow}
 use Rattle.segment_file.specs.declared.opened.Opened.{Opened}
 use Rattle.segment_file.specs.declared.opened.Opened.TheVariants as opened
-use Rattle.segment_file.specs.OpenSteps.{IsNoSegment, IsNewRow, IsAdded, IsStep, AreRead, IsReadWhole, step_result}
+use Rattle.segment_file.specs.OpenSteps.{IsNoSegment, IsNewRow, IsAdded, IsStep, AreRead, IsReadWhole}
 use Rattle.segment_file.proofs.SyncLemmas.{rose_since}
 use Rattle.segment_file.proofs.OpenReads.{IsReadTo, begun as read_nothing, skipped, added, refused, all_read}
 

@@ -1,5 +1,5 @@
 -- A file is a record in its grammar, or it isn't.
-use Rattle.std.proofs.Common.{inl, inr, ◌⊎◌, ◌≡◌, ◌≢◌, ℕ, ◌^◌, ◌<◌, ◌≤◌, List, take, drop, Bool, true, false, refl, sym, ◌∙◌, ap, subst, arith}
+use Rattle.std.proofs.Common.{inl, inr, ◌⊎◌, ◌≡◌, ◌≢◌, ℕ, ◌^◌, List, take, drop, Bool, true, false, refl, sym, ◌∙◌, ap, subst, arith}
 use Rattle.std.specs.Prelude.{Option, Some, None}
 use Rattle.std.specs.Bool.{Decides}
 use Rattle.std.specs.Str.Parse.{digits_value}
@@ -7,11 +7,10 @@ use Rattle.std.proofs.lemmas.Bool.{cases_lt}
 use Rattle.std.proofs.lemmas.Option.{same_Some}
 use Rattle.std.proofs.lemmas.Slice.Eq.{bytes_eq-Decides}
 use Rattle.std.specs.Str.{bytes_eq}
-use Rattle.qj_num.specs.Padded.{padded}
 use Rattle.qj_num.proofs.PaddedLaws.{value-padded}
 use Rattle.small_files.specs.Records.{Record, IsRecord, record_bytes}
 use Rattle.small_files.proofs.RecordLaws.{parts_of_record}
-use Rattle.segment_file.specs.Stands.{HasEpoch, IsRecordFile}
+use Rattle.segment_file.specs.Stands.{IsRecordFile}
 
 pub same_or_not : (xs ys : List ℕ) → (xs ≡ ys) ⊎ (xs ≢ ys)
 same_or_not xs ys = by (bytes_eq xs ys) (bytes_eq-Decides xs ys)

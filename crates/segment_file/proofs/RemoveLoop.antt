@@ -1,13 +1,12 @@
 -- The loop that removes records.
-use Rattle.std.proofs.Common.{◌≡◌, ◌↔◌, ℕ, ◌+◌, ◌<◌, ◌≤◌, List, [], length, refl, sym, ◌∙◌, ap, subst, arith}
+use Rattle.std.proofs.Common.{◌≡◌, ◌↔◌, ℕ, ◌+◌, ◌<◌, ◌≤◌, List, length, refl, sym, ◌∙◌, subst, arith}
 use Rattle.std.specs.Prelude.{IsSome, IsOk, Result, IsErrOf, slice_index_or}
-use Rattle.qj_disk.specs.Files.{Files}
 use Rattle.qj_disk.specs.View.{View, IsSound}
 use Rattle.qj_disk.specs.Calls.{Lists, HasCause}
 use Rattle.qj_disk.specs.Runs.{Quiet}
 use Rattle.qj_disk.specs.declared.disk.DiskFail.{DiskFail}
 use Rattle.qj_disk.specs.declared.disk.DiskFail.TheVariants.{Failed}
-use Rattle.segment_file.specs.Opening.{AllStable, Repairs, IsRepaired}
+use Rattle.segment_file.specs.Opening.{SegmentsStable, Repairs, IsRepaired}
 use Rattle.segment_file.specs.Opened.{AreOpened}
 use Rattle.segment_file.specs.declared.segment_row.SegmentRow.{SegmentRow}
 use Rattle.segment_file.specs.OpenSteps.{RemovesIdle, AreRead}
@@ -18,8 +17,8 @@ pub record IsRemoving (told tells : Type 0) (v0 v : View) (rows : List SegmentRo
   pub tells_on : told ↔ tells
   pub removed : told → Lists names v0.seen → IsRemovedTo rows v0.seen v.seen names i
   pub less : told → IsLess rows v0.seen v.seen
-  pub stable : told → AllStable v0 → AllStable v
-  pub quiet : told → AllStable v0 → IsRepaired v0.seen → AreRead v0.seen rows → Quiet Repairs v0 v
+  pub stable : told → SegmentsStable v0 → SegmentsStable v
+  pub quiet : told → SegmentsStable v0 → IsRepaired v0.seen → AreRead v0.seen rows → Quiet Repairs v0 v
   pub later : f0 ≤ f
   pub steady : was_steady → is_steady
   pub same : was_steady → f ≡ f0
@@ -54,13 +53,13 @@ module _ (told : Type 0) (v0 : View) (sound0 : told → IsSound v0) (rows : List
         less_still : told → IsLess rows v0.seen v1.seen
         less_still t = step_less rows name r v v1 (does_at t) v0.seen (so_far.less t)
 
-        pub stable_still : told → AllStable v0 → AllStable v1
+        pub stable_still : told → SegmentsStable v0 → SegmentsStable v1
         stable_still t stable = step_stable rows name r v v1 (does_at t) (so_far.stable t stable)
 
         pub repaired_still : told → IsRepaired v0.seen → IsRepaired v1.seen
         repaired_still t repaired = less_repaired rows v0.seen v1.seen (less_still t) repaired
 
-        pub quiet_still : told → AllStable v0 → IsRepaired v0.seen → AreRead v0.seen rows → Quiet Repairs v0 v1
+        pub quiet_still : told → SegmentsStable v0 → IsRepaired v0.seen → AreRead v0.seen rows → Quiet Repairs v0 v1
         quiet_still t stable repaired read =
             step_quiet rows name r v v1 (does_at t) v0 (sound0 t) (sound (so_far.tells_on.0 t)) (so_far.stable t stable) (less_repaired rows v0.seen v.seen (so_far.less t) repaired).tidy read (so_far.quiet t stable repaired read)
 
@@ -88,7 +87,7 @@ module _ (told : Type 0) (v0 : View) (sound0 : told → IsSound v0) (rows : List
     pub repaired_so_far : told → IsRepaired v0.seen → IsRepaired v.seen
     repaired_so_far t repaired = less_repaired rows v0.seen v.seen (so_far.less t) repaired
 
-    pub opened : length names ≤ i → told → AllStable v0 → IsRepaired v0.seen → Lists names v0.seen → AreRead v0.seen rows → AreOpened v0.seen v rows
+    pub opened : length names ≤ i → told → SegmentsStable v0 → IsRepaired v0.seen → Lists names v0.seen → AreRead v0.seen rows → AreOpened v0.seen v rows
     opened all t stable repaired lists read =
         all_opened rows v0.seen names lists i all v (so_far.removed t lists) read (so_far.stable t stable) (repaired_so_far t repaired).tidy
         ((so_far.quiet t stable repaired read).seen.segments read.segments read.stands)

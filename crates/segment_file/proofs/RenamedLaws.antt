@@ -25,7 +25,7 @@ use Rattle.segment_file.proofs.EffectLaws.{becomes, touches, tidy_by, none_is_no
 use Rattle.segment_file.proofs.PlacedLaws.{before_all}
 
 pub same_files_stand : (d c : Files) (gs : List Segment) → StandsFor d gs → IsSame d c → StandsFor c gs
-same_files_stand d c gs stands same = stands_same d c gs (λ start k small ok lasts. same.files (name_of start k)) stands
+same_files_stand d c gs stands same = stands_same d c gs (λ start k first small ok lasts. same.files (name_of start k)) stands
 
 -- a stop before the only call
 pub cut_one : {T : Type 0} (before after : List Segment) (left now : Option ℕ) (tells : Type 0) (result : Result T DiskFail) (v0 v1 : View) → tells → OneCut left now tells result v0 v1 → AllLeave v0 (λ c. StandsFor c before) → IsCut (λ _. name_cost false) before after left result v1

@@ -16,7 +16,7 @@ use Rattle.segment_file.proofs.Frame.{stands_by, stands_same, apart, kinds_apart
 use Rattle.segment_file.proofs.NamesLemmas.{same_start, same_kind}
 use Rattle.segment_file.proofs.AcceptLemmas.{way_stands, settled_stands, one_epoch}
 use Rattle.segment_file.proofs.OpenLemmas.{beside_final_stands}
-use Rattle.segment_file.proofs.TemporaryLemmas.{not_temporary, fresh_temporary, tmp_temporary}
+use Rattle.segment_file.proofs.TemporaryLemmas.{not_temporary, not_fresh, tmp_temporary}
 
 pub names_cases : (xs ys : List ℕ) → (xs ≡ ys) ⊎ (xs ≢ ys)
 names_cases xs ys = by (bytes_eq xs ys) refl
@@ -213,12 +213,13 @@ module _ (start epoch : ℕ) (first : 1 ≤ start) (small : start ≤ 2 ^ 62) (v
       by gs stands None is some = absurd (cc)
       by gs stands (Some bytes) is some = settled_stands start epoch valid small d c gs stands moves counts bytes is
 
--- a temporary file is removed
-pub temporary_gone : (name : List ℕ) → IsTemporary name → (d c : Files) → ChangesOnly name IsGone d c → Cleans d c
-temporary_gone name temporary d c change = record {
+-- a file that doesn't count is removed: a temporary one, or one of a segment
+uncounted_gone : (name : List ℕ) → ((start : ℕ) (kind : Kind) → IsKind start kind → IsLasting kind → name_of start kind ≢ name) → ((other : List ℕ) → IsOther other → (IsTemporary other → ⊥) → other ≢ name)
+    → (d c : Files) → ChangesOnly name IsGone d c → Cleans d c
+uncounted_gone name counts_not others_not d c change = record {
   repairs = record {
-    segments = λ gs stands. stands_same d c gs (λ start kind small ok lasts. still start kind ok lasts) stands;
-    others = λ other is lasts. change.others other (λ same. lasts (subst IsTemporary (sym same) temporary));
+    segments = λ gs stands. stands_same d c gs (λ start kind first small ok lasts. still start kind ok lasts) stands;
+    others = λ other is lasts. change.others other (others_not other is lasts);
   };
   spares = record {
     finals = λ start last first small ok. still start (Final last) ok tt;
@@ -230,7 +231,15 @@ temporary_gone name temporary d c change = record {
 }
   where
     still : (start : ℕ) (kind : Kind) → IsKind start kind → IsLasting kind → c (name_of start kind) ≡ d (name_of start kind)
-    still start kind ok lasts = change.others (name_of start kind) (λ same. not_temporary start kind ok lasts (subst IsTemporary (sym same) temporary))
+    still start kind ok lasts = change.others (name_of start kind) (counts_not start kind ok lasts)
+
+temporary_gone : (name : List ℕ) → IsTemporary name → (d c : Files) → ChangesOnly name IsGone d c → Cleans d c
+temporary_gone name temporary d c change =
+    uncounted_gone name (λ start kind ok lasts same. not_temporary start kind ok lasts (subst IsTemporary (sym same) temporary)) (λ other is lasts same. lasts (subst IsTemporary (sym same) temporary)) d c change
+
+fresh_gone : (start : ℕ) (d c : Files) → ChangesOnly (name_of start Fresh) IsGone d c → Cleans d c
+fresh_gone start d c change =
+    uncounted_gone (name_of start Fresh) (λ other kind ok lasts. not_fresh other start kind ok lasts) (λ other is lasts. not_other (name_of start Fresh) other start Fresh refl is) d c change
 
 -- a file in progress is removed beside a final one
 pub progress_gone : (start : ℕ) → 1 ≤ start → start ≤ 2 ^ 62 → (d c : Files) → FinalThere start d → ChangesOnly (name_of start InProgress) IsGone d c → Cleans d c
@@ -267,5 +276,5 @@ left_gone finals name (inr file) d c there change = by file.kind file.named file
     by (Final last) named left = absurd left
     by Record named left = absurd left
     by (UnderWay epoch) named left = absurd left
-    by Fresh named left = temporary_gone (name_of file.start Fresh) (fresh_temporary file.start) d c (renamed (λ n. ChangesOnly n IsGone) name (name_of file.start Fresh) d c named.spelled change)
+    by Fresh named left = fresh_gone file.start d c (renamed (λ n. ChangesOnly n IsGone) name (name_of file.start Fresh) d c named.spelled change)
     by FreshRecord named left = absurd left

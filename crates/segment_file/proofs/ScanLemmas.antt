@@ -1,5 +1,5 @@
 -- The windows of a segment's file, in which its frames are scanned.
-use Rattle.std.proofs.Common.{◌≡◌, ◌≢◌, ℕ, ◌+◌, ◌-◌, ◌<◌, ◌≤◌, List, [], ◌++◌, length, take, drop, refl, sym, ap, subst, ◌∙◌, arith}
+use Rattle.std.proofs.Common.{◌≡◌, ◌≢◌, ℕ, ◌+◌, ◌-◌, ◌≤◌, List, [], ◌++◌, length, take, drop, refl, sym, ap, subst, ◌∙◌, arith}
 use Rattle.std.proofs.lemmas.List.{drop-drop, drop_all, take-append-drop, take-take, length-drop, length-take}
 use Rattle.std.proofs.lemmas.Option.{same_Some}
 use Rattle.std.specs.Prelude.{Option, Some, None, option_map}
@@ -13,7 +13,6 @@ use Rattle.batch_frame.specs.Answers.{IsScan}
 use Rattle.batch_frame.proofs.SegmentLaws.{one_header, no_segment}
 use Rattle.batch_frame.proofs.PieceLaws.{in_bytes}
 use Rattle.batch_frame.proofs.WindowLaws.{tail_on, bad_in_all}
-use Rattle.segment_file.specs.declared.file_scan.FileScan.{FileScan}
 use Rattle.segment_file.specs.Scans.{IsFileScan}
 
 -- the window of n bytes after w bytes of frames

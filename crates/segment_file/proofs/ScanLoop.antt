@@ -2,7 +2,7 @@
 use Rattle.std.proofs.Common.{◌≡◌, ◌≢◌, ◌↔◌, ℕ, ◌+◌, ◌-◌, ◌*◌, ◌<◌, ◌≤◌, ◌==◌, Bool, true, false, List, [], length, drop, refl, ap, ◌∙◌, arith}
 use Rattle.std.proofs.lemmas.Bool.Decides.{nat_tests}
 use Rattle.qj_disk.specs.Files.{Files}
-use Rattle.std.specs.Prelude.{Option, Some, None, Result, Ok, IsErrOf, IfOk}
+use Rattle.std.specs.Prelude.{Some, Result, IsErrOf}
 use Rattle.qj_disk.specs.View.{View, IsSound}
 use Rattle.qj_disk.specs.Calls.{Rests, HasCause}
 use Rattle.qj_disk.specs.declared.disk.DiskFail.{DiskFail}

@@ -1,14 +1,14 @@
 -- How files become stable one after the other.
-use Rattle.std.proofs.Common.{inl, inr, ⊎_elim, ◌≡◌, ◌↔◌, ℕ, zero, suc, length, ◌+◌, ◌<◌, ◌≤◌, List, [], ◌∷◌, ◌++◌, ap, sym, ◌∙◌, refl, subst, arith, get_or, take}
+use Rattle.std.proofs.Common.{◌≡◌, ◌↔◌, ℕ, zero, suc, length, ◌+◌, ◌<◌, ◌≤◌, List, [], ◌∷◌, ◌++◌, ap, sym, ◌∙◌, refl, subst, arith, get_or, take}
 use Rattle.std.specs.Prelude.{Option, Some, None, IsSome, Contains, slice_index_or, map, Result, IsErrOf}
 use Rattle.std.proofs.lemmas.List.{take_more, take_all, map-append, length-map}
-use Rattle.qj_disk.specs.Files.{Files, IsSame}
+use Rattle.qj_disk.specs.Files.{Files, IsSame, ChangesOnly}
 use Rattle.qj_disk.specs.View.{View, IsSound, IsStable}
 use Rattle.qj_disk.specs.Calls.{Keeps, Rests, Lists, HasCause, Rose}
 use Rattle.qj_disk.specs.Runs.{Quiet, quiet_start, quiet_keeps}
 use Rattle.qj_disk.specs.declared.disk.DiskFail.{DiskFail}
 use Rattle.qj_disk.specs.declared.disk.DiskFail.TheVariants.{Failed}
-use Rattle.segment_file.specs.Opening.{Settled, AllStable}
+use Rattle.segment_file.specs.Opening.{IsLastingFile, Settled, SegmentsStable, SyncsOnly}
 
 abbrev pub AllSettled : View → List (List ℕ) → Type 0
 AllSettled v [] = Unit {0}
@@ -24,7 +24,7 @@ stays v w name keeps stable c left = stable c (keeps.crash c left) ∙ sym (ap (
 
 pub settled_stays : (v w : View) (names : List (List ℕ)) → Keeps v w → AllSettled v names → AllSettled w names
 settled_stays v w [] keeps all = tt
-settled_stays v w (name ∷ names) keeps all = (⊎_elim (λ t. inl t) (λ s. inr (stays v w name keeps s)) all.0, settled_stays v w names keeps all.1)
+settled_stays v w (name ∷ names) keeps all = (λ own. stays v w name keeps (all.0 own), settled_stays v w names keeps all.1)
 
 pub rose_since : (a b c : ℕ) → a ≤ b → Rose b c → Rose a c
 rose_since a b c le rose = omega (arith, le, rose)
@@ -38,6 +38,7 @@ pub record IsSynced (told tells : Type 0) (v0 v : View) (names done : List (List
   pub quiet : told → Quiet IsSame v0 v
   pub listed : told → Lists names v.seen
   pub settled : told → AllSettled v done
+  pub spared : told → SyncsOnly IsLastingFile v0 v
   pub later : f0 ≤ f
   pub steady : was_steady → is_steady
   pub same : was_steady → f ≡ f0
@@ -50,6 +51,7 @@ module _ (told : Type 0) (v0 : View) (sound : told → IsSound v0) (names : List
     quiet = λ t. quiet_keeps IsSame v0 v0 v (same_quiet v0 (sound t)) (rests t).keeps;
     listed = λ t. subst (λ (files : Files). Lists names files) (sym (rests t).keeps.seen) (lists t);
     settled = λ t. tt;
+    spared = λ t name not. ap (λ (files : Files). files name) (rests t).synced;
     later = cause.later;
     steady = cause.steady;
     same = cause.same;
@@ -57,12 +59,13 @@ module _ (told : Type 0) (v0 : View) (sound : told → IsSound v0) (names : List
 
   module _ (tells : Type 0) (v : View) (done : List (List ℕ)) (f : ℕ) (is_steady : Type 0) (so_far : IsSynced told tells v0 v names done f0 f was_steady is_steady)
       {T : Type 0} (tells1 : Type 0) (v1 : View) (f1 : ℕ) (steady1 : Type 0) (r : Result T DiskFail) (on : tells ↔ tells1) (keeps : tells → Keeps v v1) (cause : HasCause f f1 is_steady steady1 r) where
-    pub one_more : (name : List ℕ) (next : List (List ℕ)) → next ≡ done ++ name ∷ [] → (tells → Settled v1 name) → IsSynced told tells1 v0 v1 names next f0 f1 was_steady steady1
-    one_more name next is settled = record {
+    pub one_more : (name : List ℕ) (next : List (List ℕ)) → next ≡ done ++ name ∷ [] → (tells → Settled v1 name) → (tells → SyncsOnly IsLastingFile v v1) → IsSynced told tells1 v0 v1 names next f0 f1 was_steady steady1
+    one_more name next is settled spared = record {
       tells_on = (λ t. on.0 (so_far.tells_on.0 t), λ t. so_far.tells_on.1 (on.1 t));
       quiet = λ t. quiet_keeps IsSame v0 v v1 (so_far.quiet t) (keeps (so_far.tells_on.0 t));
       listed = λ t. subst (λ (files : Files). Lists names files) (sym (keeps (so_far.tells_on.0 t)).seen) (so_far.listed t);
       settled = λ t. subst (λ (l : List (List ℕ)). AllSettled v1 l) (sym is) (settled_push v1 done name (settled_stays v v1 done (keeps (so_far.tells_on.0 t)) (so_far.settled t)) (settled (so_far.tells_on.0 t)));
+      spared = λ t other not. spared (so_far.tells_on.0 t) other not ∙ so_far.spared t other not;
       later = omega (arith, so_far.later, cause.later);
       steady = λ s. cause.steady (so_far.steady s);
       same = λ s. cause.same (so_far.steady s) ∙ so_far.same s;
@@ -92,6 +95,10 @@ module _ (told : Type 0) (v0 : View) (sound : told → IsSound v0) (names : List
     no_fault = λ s failed. fine failed;
     same = so_far.same;
   }
+
+-- a sync of a file that counts stores no other
+pub one_synced : (v w : View) (name : List ℕ) → IsLastingFile name → ChangesOnly name (λ _ n. n ≡ v.seen name) v.synced w.synced → SyncsOnly IsLastingFile v w
+one_synced v w name own change other not = change.others other (λ same. not (subst IsLastingFile (sym same) own))
 
 -- the names of a list, one after the other
 module _ {X : Type 0} (f : X → List ℕ) where
@@ -125,11 +132,11 @@ settled_at v (x ∷ names) name (suc k) all lt is = settled_at v names name k al
 pub all_settled : (v : View) (names : List (List ℕ)) (name : List ℕ) → AllSettled v names → Contains names name → Settled v name
 all_settled v names name all there = settled_at v names name there.0 all there.1 there.2
 
-pub all_stable : (v : View) → IsSound v → (names : List (List ℕ)) → Lists names v.seen → AllSettled v names → AllStable v
+pub all_stable : (v : View) → IsSound v → (names : List (List ℕ)) → Lists names v.seen → AllSettled v names → SegmentsStable v
 all_stable v sound names lists all = record { each = λ name. by name (v.seen name) refl }
   where
     by : (name : List ℕ) (file : Option (List ℕ)) → v.seen name ≡ file → Settled v name
-    by name None is = inr (λ c left. sound.absent name c is left ∙ sym is)
+    by name None is = λ own c left. sound.absent name c is left ∙ sym is
     by name (Some bytes) is = all_settled v names name all (lists.all name (subst IsSome (sym is) refl))
 
 pub settled_name : (v : View) (told name : List ℕ) → told ≡ name → Settled v told → Settled v name

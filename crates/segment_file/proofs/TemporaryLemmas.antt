@@ -1,5 +1,5 @@
 -- A temporary file has the name of no file that counts: it ends in a letter, and those end in a digit.
-use Rattle.std.proofs.Common.{inl, inr, ◌⊎◌, ◌≡◌, ℕ, suc, ◌+◌, ◌/◌, ◌%◌, ◌≤◌, ◌<◌, ◌^◌, List, [], ◌∷◌, ◌++◌, ap, sym, ◌∙◌, refl, subst, arith, append_assoc}
+use Rattle.std.proofs.Common.{◌≡◌, ◌≢◌, ℕ, suc, ◌+◌, ◌/◌, ◌%◌, ◌≤◌, ◌<◌, ◌^◌, List, [], ◌∷◌, ◌++◌, ap, sym, ◌∙◌, refl, subst, arith, append_assoc}
 use Rattle.std.specs.Prelude.{codes}
 use Rattle.std.specs.Fmt.{decimal}
 use Rattle.std.proofs.lemmas.Fmt.{decimal_by_steps}
@@ -61,18 +61,19 @@ unfolding last_of
 new_last front = last_append 0 front (codes ".new")
 
 temporary_last : (name : List ℕ) → IsTemporary name → IsDigit (last_of 0 name) → ⊥
-temporary_last name is = by is.ends
-  where
-    by : (name ≡ is.front ++ codes ".tmp") ⊎ (name ≡ is.front ++ codes ".new") → IsDigit (last_of 0 name) → ⊥
-    by (inl ends) = λ digit. omega (arith, digit.1, ap (λ (l : List ℕ). last_of 0 l) ends ∙ tmp_last is.front)
-    by (inr ends) = λ digit. omega (arith, digit.1, ap (λ (l : List ℕ). last_of 0 l) ends ∙ new_last is.front)
+temporary_last name is digit = omega (arith, digit.1, ap (λ (l : List ℕ). last_of 0 l) is.ends ∙ tmp_last is.front)
 
 pub not_temporary : (start : ℕ) (kind : Kind) → IsKind start kind → IsLasting kind → IsTemporary (name_of start kind) → ⊥
 not_temporary start kind ok lasts is = temporary_last (name_of start kind) is (name_last start kind ok lasts)
 
-pub fresh_temporary : (start : ℕ) → IsTemporary (name_of start Fresh)
+fresh_ends : (start : ℕ) → name_of start Fresh ≡ (front_text progress ++ padded 19 start) ++ codes ".new"
 unfolding name_of
-fresh_temporary start = record { front = front_text progress ++ padded 19 start; ends = inr (sym (append_assoc (front_text progress) (padded 19 start) (codes ".new"))) }
+fresh_ends start = sym (append_assoc (front_text progress) (padded 19 start) (codes ".new"))
+
+-- nor has the temporary file of a new content
+pub not_fresh : (start other : ℕ) (kind : Kind) → IsKind start kind → IsLasting kind → name_of start kind ≢ name_of other Fresh
+not_fresh start other kind ok lasts same =
+    omega (arith, (name_last start kind ok lasts).1, ap (λ (l : List ℕ). last_of 0 l) (same ∙ fresh_ends other) ∙ new_last (front_text progress ++ padded 19 other))
 
 pub tmp_temporary : (name front : List ℕ) → name ≡ front ++ codes ".tmp" → IsTemporary name
-tmp_temporary name front ends = record { front = front; ends = inl ends }
+tmp_temporary name front ends = record { front = front; ends = ends }

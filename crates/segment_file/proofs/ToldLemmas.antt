@@ -1,10 +1,11 @@
 -- What a name tells, it tells of one file.
 use Rattle.std.proofs.Common.{◌≡◌, ℕ, List, ◌++◌, ap, sym, refl, subst, Bool, true, false}
 use Rattle.std.specs.Prelude.{MatchBool}
-use Rattle.segment_file.specs.Names.{Kind, InProgress, Final, Record, UnderWay, Fresh, FreshRecord}
+use Rattle.segment_file.specs.Names.{Kind, InProgress, Final, Record, UnderWay, Fresh, FreshRecord, IsLasting}
 use Rattle.segment_file.specs.Kinds.{IsNamed, IsTold, kind_told}
 use Rattle.segment_file.specs.declared.file_kind.FileKind.{FileKind}
 use Rattle.segment_file.specs.declared.file_kind.FileKind.TheVariants as told
+use Rattle.segment_file.specs.Opening.{IsLastingFile}
 use Rattle.segment_file.specs.Completing.{IsFinalFile, IsWay, IsLeftKind, IsLeftFile}
 use Rattle.segment_file.proofs.MendLemmas.{one_start, one_kind}
 
@@ -55,6 +56,22 @@ left_told finals s FreshRecord left = left
 
 pub no_left_file : (finals name : List ℕ) → ((start : ℕ) (kind : Kind) → IsTold kind → IsNamed name start kind → ⊥) → IsLeftFile finals name → ⊥
 no_left_file finals name none file = none file.start file.kind (left_told finals file.start file.kind file.left) file.named
+
+-- what counts, by what its name tells
+pub lasting_file : (name : List ℕ) (s : ℕ) (k : Kind) (b : Bool) → IsNamed name s k → MatchBool b (IsLasting k) (IsLasting k → ⊥) → MatchBool b (IsLastingFile name) (IsLastingFile name → ⊥)
+lasting_file name s k true named lasts = record { start = s; kind = k; named = named; lasting = lasts }
+lasting_file name s k false named not = λ file. not (subst IsLasting (sym (one_kind name s file.start k file.kind named file.named)) file.lasting)
+
+lasting_told : (k : Kind) → IsLasting k → IsTold k
+lasting_told InProgress lasts = tt
+lasting_told (Final last) lasts = tt
+lasting_told Record lasts = tt
+lasting_told (UnderWay epoch) lasts = tt
+lasting_told Fresh lasts = absurd lasts
+lasting_told FreshRecord lasts = lasts
+
+pub no_lasting_file : (name : List ℕ) → ((start : ℕ) (kind : Kind) → IsTold kind → IsNamed name start kind → ⊥) → IsLastingFile name → ⊥
+no_lasting_file name none file = none file.start file.kind (lasting_told file.kind file.lasting) file.named
 
 -- a test of how a name ends
 pub ends_cases : (name end front : List ℕ) (b : Bool) → (b ≡ true → name ≡ front ++ end) × ((other : List ℕ) → name ≡ other ++ end → b ≡ true) → MatchBool b ((other : List ℕ) × (name ≡ other ++ end)) ((other : List ℕ) → name ≡ other ++ end → ⊥)

@@ -7,7 +7,7 @@ use Rattle.segment_file.specs.Names.{Kind, InProgress, Final, Record, UnderWay, 
 use Rattle.segment_file.specs.Kinds.{IsNamed}
 use Rattle.segment_file.specs.Stands.{HasEpoch}
 use Rattle.segment_file.specs.Effects.{IsTidy}
-use Rattle.segment_file.specs.Opening.{AllStable, Repairs, IsBadRecordFile}
+use Rattle.segment_file.specs.Opening.{SegmentsStable, Repairs, IsBadRecordFile}
 
 -- a final file with this start
 pub record IsFinalFile (name : List ℕ) (start : ℕ) : Type 0 where
@@ -51,7 +51,7 @@ pub record Cleans (old new : Files) : Type 0 where
 
 pub record Mends (old new : View) : Type 0 where
   pub quiet : Quiet Cleans old new
-  pub stable : AllStable new
+  pub stable : SegmentsStable new
 
 -- the starts of the final files that are there
 pub record AreFinals (starts : List ℕ) (seen : Files) : Type 0 where

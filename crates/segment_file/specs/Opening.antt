@@ -1,5 +1,5 @@
 -- What opening makes stable, and what it repairs.
-use Rattle.std.specs.Prelude.{◌≡◌, ◌≢◌, ◌⊎◌, ℕ, ◌≤◌, ◌^◌, List, ◌++◌, None, codes, Result, Ok, Err}
+use Rattle.std.specs.Prelude.{◌≡◌, ◌≢◌, ℕ, ◌≤◌, ◌^◌, List, ◌++◌, None, codes, Result, Ok, Err}
 use Rattle.std.specs.Cmp.Lexicographic.{slice_cmp}
 use Rattle.std.specs.Ordering.{nat_cmp}
 use Rattle.std.specs.declared.cmp.Ordering.TheVariants.{Less}
@@ -8,23 +8,36 @@ use Rattle.qj_disk.specs.View.{View, IsStable}
 use Rattle.qj_disk.specs.declared.disk.DiskFail.{DiskFail}
 use Rattle.qj_disk.specs.declared.disk.DiskFail.TheVariants as fail
 use Rattle.journal_core.specs.declared.segment.Segment.{Segment}
-use Rattle.segment_file.specs.Names.{Kind, Record, Fresh, name_of}
+use Rattle.segment_file.specs.Names.{Kind, Record, Fresh, name_of, IsLasting}
+use Rattle.segment_file.specs.Kinds.{IsNamed}
 use Rattle.segment_file.specs.Stands.{IsRecordFile, StandsFor}
 use Rattle.segment_file.specs.Effects.{IsTidy}
 use Rattle.segment_file.specs.declared.completed.Completed.{Completed}
 use Rattle.segment_file.specs.declared.completed.Completed.TheVariants as completed
 
--- the name ends as that of a temporary file
+-- the name ends in .tmp, as those of temporary files, whatever stands before
 pub record IsTemporary (name : List ℕ) : Type 0 where
   pub front : List ℕ
-  pub ends : (name ≡ front ++ codes ".tmp") ⊎ (name ≡ front ++ codes ".new")
+  pub ends : name ≡ front ++ codes ".tmp"
 
--- a file that each crash now leaves as a read gives it, or a temporary one
+-- the name is that of a segment's file that counts
+pub record IsLastingFile (name : List ℕ) : Type 0 where
+  pub start : ℕ
+  pub kind : Kind
+  pub named : IsNamed name start kind
+  pub lasting : IsLasting kind
+
+-- such a file each crash now leaves as a read gives it
 abbrev pub Settled : View → List ℕ → Type 0
-Settled v name = IsTemporary name ⊎ IsStable name v
+Settled v name = IsLastingFile name → IsStable name v
 
-pub record AllStable (v : View) : Type 0 where
+-- each file of a segment that counts is stable; of other names, also foreign ones, this says nothing
+pub record SegmentsStable (v : View) : Type 0 where
   pub each : (name : List ℕ) → Settled v name
+
+-- what was stored of other files than P's is still what is stored of them
+abbrev pub SyncsOnly : (List ℕ → Type 0) → View → View → Type 0
+SyncsOnly P old new = (name : List ℕ) → (P name → ⊥) → new.synced name ≡ old.synced name
 
 -- the name of no file of a segment
 abbrev pub IsOther : List ℕ → Type 0

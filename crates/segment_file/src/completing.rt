@@ -2,7 +2,7 @@
 ghost use Rattle.std.specs.Prelude.{◌≡◌, ◌↔◌, OnOk, Result};
 ghost use Rattle.qj_disk.specs.Calls.{HasCause};
 ghost use Rattle.qj_disk.specs.Runs.{Quiet};
-ghost use Rattle.segment_file.specs.Opening.{AllStable, Repairs, IsCompleted, completed_result};
+ghost use Rattle.segment_file.specs.Opening.{SegmentsStable, Repairs, IsCompleted, completed_result};
 ghost use Rattle.segment_file.specs.Completing.{Mends, Spares, Completes};
 
 use crate::bad_record::first_bad_record;
@@ -16,7 +16,7 @@ use std::alloc::Global;
 // Repairs the files whatever the records are.
 fn repair<D: Disk>(alloc: Global, disk: &mut D) -> Result<(), DiskFail>
     ensures tells { D.tells disk.old ↔ D.tells disk.new }
-    ensures mends { D.tells disk.old → AllStable (D.view disk.old) → Mends (D.view disk.old) (D.view disk.new) }
+    ensures mends { D.tells disk.old → SegmentsStable (D.view disk.old) → Mends (D.view disk.old) (D.view disk.new) }
     ensures completes { D.tells disk.old → OnOk result (Completes (D.view disk.old).seen (D.view disk.new).seen) }
     ensures cause { HasCause (D.faults disk.old) (D.faults disk.new) (D.steady disk.old) (D.steady disk.new) result }
 {
@@ -37,7 +37,7 @@ fn completed(done: Result<(), DiskFail>) -> Completed
     }
 }
 
-/// Repairs what stopped calls left half done, over files that were synced (`sync_all`), in this order. The
+/// Repairs what stopped calls left half done, over files that were synced (`sync_segments`), in this order. The
 /// first record in byte order that isn't in its grammar is answered BadFile, with nothing changed. Each
 /// `.epoch=` file becomes the file in progress where it counts and no final file has its start, and else is
 /// removed. Each file in progress beside a final one of its start is removed, and so is each temporary
@@ -47,10 +47,10 @@ fn completed(done: Result<(), DiskFail>) -> Completed
 /// may be called again.
 pub fn complete_half_done<D: Disk>(alloc: Global, disk: &mut D) -> Completed
     ensures tells { D.tells disk.old ↔ D.tells disk.new }
-    ensures quiet { D.tells disk.old → AllStable (D.view disk.old) → Quiet Repairs (D.view disk.old) (D.view disk.new) }
-    ensures spares { D.tells disk.old → AllStable (D.view disk.old) → Quiet Spares (D.view disk.old) (D.view disk.new) }
-    ensures stable { D.tells disk.old → AllStable (D.view disk.old) → AllStable (D.view disk.new) }
-    ensures told { D.tells disk.old → AllStable (D.view disk.old) → IsCompleted (D.view disk.old).seen (D.view disk.new).seen result }
+    ensures quiet { D.tells disk.old → SegmentsStable (D.view disk.old) → Quiet Repairs (D.view disk.old) (D.view disk.new) }
+    ensures spares { D.tells disk.old → SegmentsStable (D.view disk.old) → Quiet Spares (D.view disk.old) (D.view disk.new) }
+    ensures stable { D.tells disk.old → SegmentsStable (D.view disk.old) → SegmentsStable (D.view disk.new) }
+    ensures told { D.tells disk.old → SegmentsStable (D.view disk.old) → IsCompleted (D.view disk.old).seen (D.view disk.new).seen result }
     ensures cause { HasCause (D.faults disk.old) (D.faults disk.new) (D.steady disk.old) (D.steady disk.new) (completed_result result) }
 {
     match first_bad_record(alloc, disk) {

@@ -54,4 +54,4 @@ pub use reading::read_from;
 pub use repeating::replace_again;
 pub use segment_row::SegmentRow;
 pub use segment_table::SegmentTable;
-pub use syncing::sync_all;
+pub use syncing::sync_segments;

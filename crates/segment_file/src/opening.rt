@@ -4,7 +4,7 @@ ghost use Rattle.qj_disk.specs.Calls.{HasCause, Rests, Lists};
 ghost use Rattle.qj_disk.specs.Runs.{Quiet};
 ghost use Rattle.segment_file.specs.Names.{name_of, Record};
 ghost use Rattle.segment_file.specs.Rows.{find_row, IsRowWithin};
-ghost use Rattle.segment_file.specs.Opening.{AllStable, IsRepaired, Repairs};
+ghost use Rattle.segment_file.specs.Opening.{SegmentsStable, IsRepaired, Repairs};
 ghost use Rattle.segment_file.specs.Opened.{EndsAt, AreOpened, IsOpened, opened_result};
 ghost use Rattle.segment_file.specs.OpenSteps.{kind_by, is_final_by, row_in, IsMarkedBy, IsWithinRow, IsBadAt, IsJudged, IsJudgedName, IsJudgedBeside, IsStep, AreRead, IsReadWhole, IsFree, IsIdle, RemovesIdle, judged_result, step_result};
 
@@ -270,10 +270,10 @@ fn remove_idle<D: Disk>(
     requires { D.tells disk.old → Lists (map string_bytes names.now) (D.view disk.old).seen }
 
     ensures tells { D.tells disk.old ↔ D.tells disk.new }
-    ensures quiet { D.tells disk.old → AllStable (D.view disk.old) → IsRepaired (D.view disk.old).seen → AreRead (D.view disk.old).seen table.now → Quiet Repairs (D.view disk.old) (D.view disk.new) }
-    ensures stable { D.tells disk.old → AllStable (D.view disk.old) → AllStable (D.view disk.new) }
+    ensures quiet { D.tells disk.old → SegmentsStable (D.view disk.old) → IsRepaired (D.view disk.old).seen → AreRead (D.view disk.old).seen table.now → Quiet Repairs (D.view disk.old) (D.view disk.new) }
+    ensures stable { D.tells disk.old → SegmentsStable (D.view disk.old) → SegmentsStable (D.view disk.new) }
     ensures repaired { D.tells disk.old → IsRepaired (D.view disk.old).seen → IsRepaired (D.view disk.new).seen }
-    ensures told { D.tells disk.old → AllStable (D.view disk.old) → IsRepaired (D.view disk.old).seen → AreRead (D.view disk.old).seen table.now → OnOk result (AreOpened (D.view disk.old).seen (D.view disk.new) table.now) }
+    ensures told { D.tells disk.old → SegmentsStable (D.view disk.old) → IsRepaired (D.view disk.old).seen → AreRead (D.view disk.old).seen table.now → OnOk result (AreOpened (D.view disk.old).seen (D.view disk.new) table.now) }
     ensures cause { HasCause (D.faults disk.old) (D.faults disk.new) (D.steady disk.old) (D.steady disk.new) result }
 {
     for name in names {
@@ -287,10 +287,10 @@ fn finish<D: Disk>(disk: &mut D, names: &[String], table: SegmentTable) -> Opene
     requires { D.tells disk.old → Lists (map string_bytes names.now) (D.view disk.old).seen }
 
     ensures tells { D.tells disk.old ↔ D.tells disk.new }
-    ensures quiet { D.tells disk.old → AllStable (D.view disk.old) → IsRepaired (D.view disk.old).seen → AreRead (D.view disk.old).seen table → Quiet Repairs (D.view disk.old) (D.view disk.new) }
-    ensures stable { D.tells disk.old → AllStable (D.view disk.old) → AllStable (D.view disk.new) }
+    ensures quiet { D.tells disk.old → SegmentsStable (D.view disk.old) → IsRepaired (D.view disk.old).seen → AreRead (D.view disk.old).seen table → Quiet Repairs (D.view disk.old) (D.view disk.new) }
+    ensures stable { D.tells disk.old → SegmentsStable (D.view disk.old) → SegmentsStable (D.view disk.new) }
     ensures repaired { D.tells disk.old → IsRepaired (D.view disk.old).seen → IsRepaired (D.view disk.new).seen }
-    ensures told { D.tells disk.old → AllStable (D.view disk.old) → IsRepaired (D.view disk.old).seen → AreRead (D.view disk.old).seen table → IsOpened (D.view disk.old) (D.view disk.new) result }
+    ensures told { D.tells disk.old → SegmentsStable (D.view disk.old) → IsRepaired (D.view disk.old).seen → AreRead (D.view disk.old).seen table → IsOpened (D.view disk.old) (D.view disk.new) result }
     ensures cause { HasCause (D.faults disk.old) (D.faults disk.new) (D.steady disk.old) (D.steady disk.new) (opened_result result) }
 {
     match remove_idle(disk, names, &table) {
@@ -304,10 +304,10 @@ fn open_named<D: Disk>(alloc: Global, disk: &mut D, names: &[String]) -> Opened
     requires { D.tells disk.old → Lists (map string_bytes names.now) (D.view disk.old).seen }
 
     ensures tells { D.tells disk.old ↔ D.tells disk.new }
-    ensures quiet { D.tells disk.old → AllStable (D.view disk.old) → IsRepaired (D.view disk.old).seen → Quiet Repairs (D.view disk.old) (D.view disk.new) }
-    ensures stable { D.tells disk.old → AllStable (D.view disk.old) → AllStable (D.view disk.new) }
+    ensures quiet { D.tells disk.old → SegmentsStable (D.view disk.old) → IsRepaired (D.view disk.old).seen → Quiet Repairs (D.view disk.old) (D.view disk.new) }
+    ensures stable { D.tells disk.old → SegmentsStable (D.view disk.old) → SegmentsStable (D.view disk.new) }
     ensures repaired { D.tells disk.old → IsRepaired (D.view disk.old).seen → IsRepaired (D.view disk.new).seen }
-    ensures told { D.tells disk.old → AllStable (D.view disk.old) → IsRepaired (D.view disk.old).seen → IsOpened (D.view disk.old) (D.view disk.new) result }
+    ensures told { D.tells disk.old → SegmentsStable (D.view disk.old) → IsRepaired (D.view disk.old).seen → IsOpened (D.view disk.old) (D.view disk.new) result }
     ensures cause { HasCause (D.faults disk.old) (D.faults disk.new) (D.steady disk.old) (D.steady disk.new) (opened_result result) }
 {
     match read_all(alloc, disk, names) {
@@ -318,7 +318,7 @@ fn open_named<D: Disk>(alloc: Global, disk: &mut D, names: &[String]) -> Opened
     }
 }
 
-/// Opens the segments of a disk whose files are stable and repaired, as `sync_all` and the repair of
+/// Opens the segments of a disk whose files are stable and repaired, as `sync_segments` and the repair of
 /// half-done acceptances leave them: no start has both a final file and one in progress, no acceptance is
 /// under way, and each record is in its grammar. The file of each segment is scanned, in byte order of
 /// the names. `BadFile` tells the first that is bad, nothing having changed: one that isn't in its grammar,
@@ -331,10 +331,10 @@ fn open_named<D: Disk>(alloc: Global, disk: &mut D, names: &[String]) -> Opened
 /// them.
 pub fn open_all<D: Disk>(alloc: Global, disk: &mut D) -> Opened
     ensures tells { D.tells disk.old ↔ D.tells disk.new }
-    ensures quiet { D.tells disk.old → AllStable (D.view disk.old) → IsRepaired (D.view disk.old).seen → Quiet Repairs (D.view disk.old) (D.view disk.new) }
-    ensures stable { D.tells disk.old → AllStable (D.view disk.old) → AllStable (D.view disk.new) }
+    ensures quiet { D.tells disk.old → SegmentsStable (D.view disk.old) → IsRepaired (D.view disk.old).seen → Quiet Repairs (D.view disk.old) (D.view disk.new) }
+    ensures stable { D.tells disk.old → SegmentsStable (D.view disk.old) → SegmentsStable (D.view disk.new) }
     ensures repaired { D.tells disk.old → IsRepaired (D.view disk.old).seen → IsRepaired (D.view disk.new).seen }
-    ensures told { D.tells disk.old → AllStable (D.view disk.old) → IsRepaired (D.view disk.old).seen → IsOpened (D.view disk.old) (D.view disk.new) result }
+    ensures told { D.tells disk.old → SegmentsStable (D.view disk.old) → IsRepaired (D.view disk.old).seen → IsOpened (D.view disk.old) (D.view disk.new) result }
     ensures cause { HasCause (D.faults disk.old) (D.faults disk.new) (D.steady disk.old) (D.steady disk.new) (opened_result result) }
 {
     match disk.list() {

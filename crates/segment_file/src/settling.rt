@@ -5,7 +5,7 @@ ghost use Rattle.qj_disk.specs.Calls.{Atomic, HasCause, Rests};
 ghost use Rattle.segment_file.specs.Names.{name_of, InProgress, Record, UnderWay};
 ghost use Rattle.segment_file.specs.Kinds.{IsNamed};
 ghost use Rattle.segment_file.specs.Stands.{HasEpoch};
-ghost use Rattle.segment_file.specs.Opening.{AllStable};
+ghost use Rattle.segment_file.specs.Opening.{SegmentsStable};
 ghost use Rattle.segment_file.specs.Completing.{Mends, AreFinals, IsWay, IsProgress, Clears, ClearsAll};
 
 use crate::file_kind::FileKind;
@@ -102,7 +102,7 @@ fn settle_way<D: Disk>(
     requires there { D.tells disk.old → IsSome ((D.view disk.old).seen way.now) }
 
     ensures tells { D.tells disk.old ↔ D.tells disk.new }
-    ensures mends { D.tells disk.old → AllStable (D.view disk.old) → Mends (D.view disk.old) (D.view disk.new) }
+    ensures mends { D.tells disk.old → SegmentsStable (D.view disk.old) → Mends (D.view disk.old) (D.view disk.new) }
     ensures clears { D.tells disk.old → OnOk result (Clears IsWay IsProgress way.now (D.view disk.old).seen (D.view disk.new).seen) }
     ensures cause { HasCause (D.faults disk.old) (D.faults disk.new) (D.steady disk.old) (D.steady disk.new) result }
 {
@@ -124,7 +124,7 @@ fn settle_one<D: Disk>(
     requires there { D.tells disk.old → IsWay name.now → IsSome ((D.view disk.old).seen name.now) }
 
     ensures tells { D.tells disk.old ↔ D.tells disk.new }
-    ensures mends { D.tells disk.old → AllStable (D.view disk.old) → Mends (D.view disk.old) (D.view disk.new) }
+    ensures mends { D.tells disk.old → SegmentsStable (D.view disk.old) → Mends (D.view disk.old) (D.view disk.new) }
     ensures clears { D.tells disk.old → OnOk result (Clears IsWay IsProgress name.now (D.view disk.old).seen (D.view disk.new).seen) }
     ensures cause { HasCause (D.faults disk.old) (D.faults disk.new) (D.steady disk.old) (D.steady disk.new) result }
 {
@@ -140,7 +140,7 @@ pub fn settle_all<D: Disk>(alloc: Global, disk: &mut D, finals: &[u64]) -> Resul
     requires { D.tells disk.old → AreFinals finals.now (D.view disk.old).seen }
 
     ensures tells { D.tells disk.old ↔ D.tells disk.new }
-    ensures mends { D.tells disk.old → AllStable (D.view disk.old) → Mends (D.view disk.old) (D.view disk.new) }
+    ensures mends { D.tells disk.old → SegmentsStable (D.view disk.old) → Mends (D.view disk.old) (D.view disk.new) }
     ensures clears { D.tells disk.old → OnOk result (ClearsAll IsWay IsProgress (D.view disk.old).seen (D.view disk.new).seen) }
     ensures cause { HasCause (D.faults disk.old) (D.faults disk.new) (D.steady disk.old) (D.steady disk.new) result }
 {

@@ -2,7 +2,7 @@
 ghost use Rattle.std.specs.Prelude.{◌≡◌, ◌↔◌, ◌++◌, List, ℕ, IsSome, OnOk, MatchBool, codes};
 ghost use Rattle.qj_disk.specs.Calls.{HasCause};
 ghost use Rattle.segment_file.specs.Kinds.{kind_told};
-ghost use Rattle.segment_file.specs.Opening.{AllStable};
+ghost use Rattle.segment_file.specs.Opening.{SegmentsStable};
 ghost use Rattle.segment_file.specs.Completing.{Mends, AreFinals, IsLeftKind, IsLeftFile, IsLeftOver, NoName, Clears, ClearsAll};
 
 use crate::file_kind::FileKind;
@@ -50,7 +50,7 @@ fn sweep_one<D: Disk>(disk: &mut D, finals: &[u64], name: &str) -> Result<(), Di
     requires there { D.tells disk.old → IsSome ((D.view disk.old).seen name.now) }
 
     ensures tells { D.tells disk.old ↔ D.tells disk.new }
-    ensures mends { D.tells disk.old → AllStable (D.view disk.old) → Mends (D.view disk.old) (D.view disk.new) }
+    ensures mends { D.tells disk.old → SegmentsStable (D.view disk.old) → Mends (D.view disk.old) (D.view disk.new) }
     ensures clears { D.tells disk.old → OnOk result (Clears (IsLeftOver finals.now) NoName name.now (D.view disk.old).seen (D.view disk.new).seen) }
     ensures cause { HasCause (D.faults disk.old) (D.faults disk.new) (D.steady disk.old) (D.steady disk.new) result }
 {
@@ -66,7 +66,7 @@ pub fn sweep_all<D: Disk>(disk: &mut D, finals: &[u64]) -> Result<(), DiskFail>
     requires { D.tells disk.old → AreFinals finals.now (D.view disk.old).seen }
 
     ensures tells { D.tells disk.old ↔ D.tells disk.new }
-    ensures mends { D.tells disk.old → AllStable (D.view disk.old) → Mends (D.view disk.old) (D.view disk.new) }
+    ensures mends { D.tells disk.old → SegmentsStable (D.view disk.old) → Mends (D.view disk.old) (D.view disk.new) }
     ensures clears { D.tells disk.old → OnOk result (ClearsAll (IsLeftOver finals.now) NoName (D.view disk.old).seen (D.view disk.new).seen) }
     ensures cause { HasCause (D.faults disk.old) (D.faults disk.new) (D.steady disk.old) (D.steady disk.new) result }
 {

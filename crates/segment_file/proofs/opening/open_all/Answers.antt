@@ -16,3 +16,7 @@ returns-in-Ok-clause-told g c = λ t stable repaired.
     let rests = c.in-Ok.ensures.disk t in
     opened_after v0 v1 rests (g.D.Disk.view c.open_named.new.disk) c.open_named.result
     (c.open_named.ensures.told (c.in-Ok.ensures.tells.0 t) (stable_after v0 v1 rests stable) (repaired_after v0 v1 rests repaired))
+
+pub returns-in-Ok-clause-stable : goal.returns-in-Ok-clause-stable
+returns-in-Ok-clause-stable g c = λ t stable.
+    c.open_named.ensures.stable (c.list.ensures.tells.0 t) (stable_after (g.D.Disk.view c.args.disk.now) (g.D.Disk.view c.list.new.self) (c.list.ensures.disk t) stable)

@@ -1,4 +1,3 @@
-use Rattle.std.proofs.Common.{List, ℕ, refl}
 use Rattle.std.specs.Prelude.{map, string_bytes}
 use Rattle.segment_file.specs.OpenSteps.{step_result}
 use Rattle.segment_file.proofs.SyncLemmas.{index_at}

@@ -1,6 +1,4 @@
-use Rattle.std.proofs.Common.{◌≡◌, ◌∙◌, List, ℕ, sym, subst}
-use Rattle.std.specs.Prelude.{Option}
-use Rattle.small_files.specs.Records.{paxos_name}
+use Rattle.std.proofs.Common.{List, ℕ, sym, subst}
 use Rattle.small_files.specs.Answers.{FoundIn}
 use Rattle.small_files.specs.declared.answers.GotRecord.TheVariants as got
 use Rattle.segment_file.specs.Names.{name_of, Record}

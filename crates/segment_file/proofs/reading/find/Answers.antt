@@ -1,4 +1,4 @@
-use Rattle.std.proofs.Common.{◌≡◌, ◌∙◌, ℕ, length, ◌==◌, true, sym, arith}
+use Rattle.std.proofs.Common.{◌≡◌, ◌∙◌, length, ◌==◌, true, sym, arith}
 use Rattle.std.proofs.lemmas.Bool.Decides.{nat_tests}
 use Rattle.segment_file.proofs.ReadLemmas.{ends_elsewhere, ends_before}
 use Rattle.segment_file.proofs.reading.find.Goals as goal

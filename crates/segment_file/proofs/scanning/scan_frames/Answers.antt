@@ -1,4 +1,4 @@
-use Rattle.std.proofs.Common.{List, drop}
+use Rattle.std.proofs.Common.{drop}
 use Rattle.batch_frame.specs.declared.frame_cause.FrameCause.{FrameCause}
 use Rattle.batch_frame.specs.Faults.{HaveBadFrame}
 use Rattle.segment_file.proofs.ScanLoop.{begun, told_at_first}

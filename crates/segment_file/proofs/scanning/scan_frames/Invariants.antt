@@ -1,4 +1,4 @@
-use Rattle.std.proofs.Common.{ℕ, ◌+◌, ◌-◌, ◌*◌}
+use Rattle.std.proofs.Common.{◌-◌}
 use Rattle.segment_file.proofs.ScanLoop.{IsScanning, windows_left}
 use Rattle.segment_file.proofs.scanning.scan_frames.Given as goal
 

@@ -1,5 +1,5 @@
-use Rattle.std.proofs.Common.{◌≡◌, ◌+◌, ◌-◌, ◌≤◌, ◌∙◌, ℕ, List, [], take, drop, length, ap, arith}
-use Rattle.std.specs.Prelude.{Option, Some, None}
+use Rattle.std.proofs.Common.{◌≡◌, ◌+◌, ◌-◌, ◌∙◌, ℕ, List, [], take, drop, length, ap, arith}
+use Rattle.std.specs.Prelude.{Option}
 use Rattle.qj_disk.specs.Files.{bytes_of}
 use Rattle.batch_frame.specs.declared.frame_cause.FrameCause.TheVariants.{Short}
 use Rattle.segment_file.proofs.ScanLemmas.{split, none_left, ended_in, bad_in}

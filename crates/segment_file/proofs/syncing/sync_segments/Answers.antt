@@ -2,7 +2,7 @@ use Rattle.std.proofs.Common.{ap, take}
 use Rattle.std.specs.Prelude.{map, string_bytes}
 use Rattle.segment_file.proofs.GateLemmas.{carried}
 use Rattle.segment_file.proofs.SyncLemmas.{begun, one_more, given_up_quiet, given_up_cause, going_cause, next_done, all_done, listed_there, listed_as, settled_as, settled_name, all_stable}
-use Rattle.segment_file.proofs.syncing.sync_all.Goals as goal
+use Rattle.segment_file.proofs.syncing.sync_segments.Goals as goal
 
 pub loop-name-init : goal.loop-name-init
 loop-name-init g c =
@@ -16,7 +16,7 @@ loop-name-preserved g c =
     (g.D.Disk.tells c.loop-name.disk) (g.D.Disk.view c.loop-name.disk) (map string_bytes (take c.loop-name.name-index c.deref-name-items.result.now)) (g.D.Disk.faults c.loop-name.disk) (g.D.Disk.steady c.loop-name.disk) c.loop-name.invariant
     (g.D.Disk.tells c.sync_one.new.disk) (g.D.Disk.view c.sync_one.new.disk) (g.D.Disk.faults c.sync_one.new.disk) (g.D.Disk.steady c.sync_one.new.disk) c.sync_one.result c.sync_one.ensures.tells (λ t. c.sync_one.ensures.keeps t) c.sync_one.ensures.cause
     (string_bytes c.name-item.result) _ (next_done string_bytes c.deref-name-items.result.now c.loop-name.name-index c.name-item.result c.loop-name-test.true c.name-item.is)
-    (λ t. settled_name (g.D.Disk.view c.sync_one.new.disk) _ _ c.as_str.ensures.value (c.in_ok-sync_one.ensures.settled t))
+    (λ t. settled_name (g.D.Disk.view c.sync_one.new.disk) _ _ c.as_str.ensures.value (c.in_ok-sync_one.ensures.settled t)) (λ t. c.in_ok-sync_one.ensures.spared t)
 
 pub sync_one-requires : goal.sync_one-requires
 sync_one-requires g c = λ tells.

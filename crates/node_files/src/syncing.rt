@@ -1,0 +1,54 @@
+//! The files of a node are made stable, as opening does first.
+ghost use Rattle.std.specs.Prelude.{◌≡◌, ◌↔◌, OnOk};
+ghost use Rattle.qj_disk.specs.Files.{IsSame};
+ghost use Rattle.qj_disk.specs.View.{IsStable};
+ghost use Rattle.qj_disk.specs.Calls.{HasCause, Keeps};
+ghost use Rattle.qj_disk.specs.Runs.{Quiet};
+ghost use Rattle.segment_file.specs.Opening.{SegmentsStable, SyncsOnly};
+ghost use Rattle.node_files.specs.Durable.{number_name};
+ghost use Rattle.node_files.specs.Opening.{IsNumberFile, IsOwnFile, NumbersStable};
+
+use crate::node_number::NodeNumber;
+use qj_disk::{Disk, DiskFail};
+use segment_file::sync_segments;
+
+// Syncs the file of a number, if it is there.
+fn sync_number<D: Disk>(disk: &mut D, number: NodeNumber) -> Result<(), DiskFail>
+    ensures tells { D.tells disk.old ↔ D.tells disk.new }
+    ensures keeps { D.tells disk.old → Keeps (D.view disk.old) (D.view disk.new) }
+    ensures stable { D.tells disk.old → OnOk result (IsStable (number_name number) (D.view disk.new)) }
+    ensures spared { D.tells disk.old → OnOk result (SyncsOnly (λ name. name ≡ number_name number) (D.view disk.old) (D.view disk.new)) }
+    ensures cause { HasCause (D.faults disk.old) (D.faults disk.new) (D.steady disk.old) (D.steady disk.new) result }
+{
+    match disk.length(number.name())? {
+        Some(_) => disk.sync(number.name()),
+        None => Ok(()),
+    }
+}
+
+// Syncs the files of all numbers.
+fn sync_numbers<D: Disk>(disk: &mut D) -> Result<(), DiskFail>
+    ensures tells { D.tells disk.old ↔ D.tells disk.new }
+    ensures keeps { D.tells disk.old → Keeps (D.view disk.old) (D.view disk.new) }
+    ensures stable { D.tells disk.old → OnOk result (NumbersStable (D.view disk.new)) }
+    ensures spared { D.tells disk.old → OnOk result (SyncsOnly IsNumberFile (D.view disk.old) (D.view disk.new)) }
+    ensures cause { HasCause (D.faults disk.old) (D.faults disk.new) (D.steady disk.old) (D.steady disk.new) result }
+{
+    sync_number(disk, NodeNumber::Committed)?;
+    sync_number(disk, NodeNumber::Promised)?;
+    sync_number(disk, NodeNumber::Writer)
+}
+
+/// Syncs the files of segments and of numbers but temporary ones, and no other file, so that what is read of them from then on is what
+/// a crash leaves. Nothing changes for who reads, and a crash at any moment leaves what it could leave before.
+pub(crate) fn sync_files<D: Disk>(disk: &mut D) -> Result<(), DiskFail>
+    ensures tells { D.tells disk.old ↔ D.tells disk.new }
+    ensures quiet { D.tells disk.old → Quiet IsSame (D.view disk.old) (D.view disk.new) }
+    ensures segments { D.tells disk.old → OnOk result (SegmentsStable (D.view disk.new)) }
+    ensures numbers { D.tells disk.old → OnOk result (NumbersStable (D.view disk.new)) }
+    ensures spared { D.tells disk.old → OnOk result (SyncsOnly IsOwnFile (D.view disk.old) (D.view disk.new)) }
+    ensures cause { HasCause (D.faults disk.old) (D.faults disk.new) (D.steady disk.old) (D.steady disk.new) result }
+{
+    sync_segments(disk)?;
+    sync_numbers(disk)
+}
