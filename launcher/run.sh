@@ -14,9 +14,9 @@ make_room() {
 # Opens what the program is to read as descriptor 3. A script is kept first, so that its lines can be shown; where reading
 # fails the program is to see that itself.
 open_input() {
-  if [ "$1" = play ] && head -c "$INPUT_KEPT" >"$room/input" 2>/dev/null; then
+  if { [ "$1" = play ] || [ "$1" = run ]; } && head -c "$INPUT_KEPT" >"$room/input" 2>/dev/null; then
     exec 3<"$room/input"
-  elif [ "$1" = play ] || [ "$1" = node ]; then
+  elif [ "$1" = play ] || [ "$1" = run ] || [ "$1" = node ]; then
     exec 3<&0
   else
     exec 3</dev/null
@@ -78,7 +78,7 @@ try_or_build() {
 
 # Opens what was kept once more, from its beginning.
 open_input_again() {
-  [ "$1" != play ] || [ ! -f "$room/input" ] || exec 3<"$room/input"
+  { [ "$1" != play ] && [ "$1" != run ]; } || [ ! -f "$room/input" ] || exec 3<"$room/input"
 }
 
 # Runs the program's command, explains a status that isn't 0, and ends with the status.

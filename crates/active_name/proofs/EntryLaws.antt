@@ -1,12 +1,7 @@
 -- A takeover: the rounds, and then the tail.
-use Rattle.std.proofs.Common.{◌≡◌, ◌⊎◌, inl, inr, ⊎_elim, ℕ, ◌+◌, ◌-◌, ◌<◌, ◌≤◌, nat_lt, List, [], Bool, true, false, if◌then◌else◌, Option, Some, None, refl, sym, ap, ◌∙◌, subst, arith}
-use Rattle.std.proofs.lemmas.Bool.Decides.{nat_tests}
-use Rattle.journal_core.specs.Limits.{max_number}
+use Rattle.std.proofs.Common.{◌≡◌, ◌⊎◌, inl, inr, ℕ, ◌-◌, List, [], true, if◌then◌else◌, Some, refl, sym, ap, ◌∙◌, subst}
 use Rattle.journal_core.specs.declared.peer_call.PeerCall.{PeerCall}
-use Rattle.ns_tree.specs.Space.{empty_space}
 use Rattle.ns_replay.specs.Replay.{Image}
-use Rattle.writer_core.specs.declared.phase.Phase.{Phase}
-use Rattle.writer_core.specs.declared.phase.Phase.TheVariants as phase
 use Rattle.writer_core.specs.declared.task.Task.TheVariants as task
 use Rattle.writer_core.specs.declared.turn.Outcome.TheVariants as outcome
 use Rattle.writer_core.specs.Views.{WriterView}
@@ -14,27 +9,16 @@ use Rattle.writer_core.specs.Writer.{is_writing, writer_begun, writer_stopped}
 use Rattle.quorum_writer.specs.declared.taken.Taken.TheVariants as round
 use Rattle.quorum_writer.specs.Answers.{came_of_taken}
 use Rattle.quorum_writer.specs.Tasks.{Comes}
-use Rattle.name_node.specs.Holding.{Holding, emptied}
-use Rattle.name_node.specs.Tails.{TailStep, pass_begun}
+use Rattle.name_node.specs.Holding.{Holding, enters}
+use Rattle.name_node.specs.Tails.{pass_begun}
 use Rattle.standby_tailer.specs.declared.tailed.Tailed.{Tailed}
 use Rattle.standby_tailer.specs.declared.tailed.Tailed.TheVariants as tailed
-use Rattle.standby_tailer.specs.Standbys.{StandbyView, empty_standby, held}
+use Rattle.standby_tailer.specs.Standbys.{StandbyView, held}
 use Rattle.standby_tailer.specs.Tailing.{IsTailed}
 use Rattle.active_name.specs.declared.taking.TakenOver.{TakenOver}
 use Rattle.active_name.specs.declared.taking.TakenOver.TheVariants as taken
-use Rattle.active_name.specs.Entering.{enters, entry_begun, Enters, Fails, LacksSpace, IsTakenOver, IsEntered, StandsEntered, IsTailedIn, is_active}
+use Rattle.active_name.specs.Entering.{entry_begun, Enters, IsTakenOver, IsEntered, StandsEntered, IsTailedIn, is_active}
 use Rattle.active_name.proofs.WriterEnds.{outcome_of}
-
--- ## It begins
-pub enters_empty : (last : ℕ) (images : List Image) (old new : StandbyView) → last < old.position → new ≡ empty_standby → held images new ≡ enters last (held images old)
-enters_empty last images old new below e =
-    let b : nat_lt last old.position ≡ true = grind (arith, nat_tests) in
-    ap (held images) e ∙ sym (ap (λ (x : Bool). if x then emptied (held images old) else held images old) b)
-
-pub enters_same : (last : ℕ) (images : List Image) (old : StandbyView) → old.position ≤ last → held images old ≡ enters last (held images old)
-enters_same last images old le =
-    let b : nat_lt last old.position ≡ false = grind (arith, nat_tests) in
-    sym (ap (λ (x : Bool). if x then emptied (held images old) else held images old) b)
 
 -- ## The tail
 pub tail_entered : (nodes first last : ℕ) (images : List Image) (from mid to : StandbyView) (before after : List PeerCall) (t : Tailed) → last ≡ first - 1 → held images mid ≡ enters last (held images from)

@@ -1,4 +1,5 @@
 pub mod WriterEnds
+pub mod PendLaws
 pub mod ActiveLaws
 pub mod EntryLaws
 pub mod RoundLaws

@@ -1,11 +1,9 @@
 -- An active name node behind a round.
-use Rattle.std.proofs.Common.{◌≡◌, ◌⊎◌, inl, inr, ℕ, ◌+◌, ◌-◌, ◌≤◌, ◌==◌, List, length, [], ◌∷◌, Bool, true, false, Option, Some, None, refl, sym, ap, ◌∙◌, subst, arith}
+use Rattle.std.proofs.Common.{◌≡◌, ◌⊎◌, inl, inr, ℕ, ◌+◌, ◌-◌, ◌≤◌, ◌==◌, List, length, [], ◌∷◌, Bool, true, false, None, refl, sym, ap, ◌∙◌, subst, arith}
 use Rattle.std.specs.Prelude.{◌≢◌}
 use Rattle.journal_core.specs.Limits.{max_number}
 use Rattle.journal_core.specs.declared.peer_call.PeerCall.{PeerCall}
 use Rattle.ns_tree.proofs.Noting.{rising_later}
-use Rattle.writer_core.specs.declared.phase.Phase.{Phase}
-use Rattle.writer_core.specs.declared.phase.Phase.TheVariants as phase
 use Rattle.writer_core.specs.declared.task.Task.TheVariants as task
 use Rattle.writer_core.specs.declared.task.Begun.TheVariants as begun
 use Rattle.writer_core.specs.declared.turn.Outcome.TheVariants as outcome
@@ -13,7 +11,7 @@ use Rattle.writer_core.specs.Views.{WriterView}
 use Rattle.writer_core.specs.declared.round.Round.TheVariants as round
 use Rattle.writer_core.specs.declared.phase.Aim.TheVariants as aim
 use Rattle.writer_core.specs.Rounds.{asking_all, asking_others, end_record}
-use Rattle.writer_core.specs.Writer.{Began, begins, is_writing, if_writing, log_begins, log_limit, writer_begun}
+use Rattle.writer_core.specs.Writer.{Began, begins, is_writing, if_writing, log_limit, writer_begun}
 use Rattle.quorum_writer.specs.declared.logged.Logged.{Logged}
 use Rattle.quorum_writer.specs.declared.logged.Logged.TheVariants as logged
 use Rattle.quorum_writer.specs.declared.rolled.Rolled.TheVariants as rolled
@@ -22,7 +20,6 @@ use Rattle.quorum_writer.specs.declared.closed.Closed.TheVariants as closed
 use Rattle.quorum_writer.specs.Answers.{came_of_logged, came_of_rolled, came_of_closed, came_of_purging}
 use Rattle.quorum_writer.specs.Tasks.{Comes, Refuses}
 use Rattle.active_name.specs.Actives.{ActiveView, IsActive, is_open}
-use Rattle.active_name.specs.Acting.{IsIdle}
 use Rattle.active_name.proofs.WriterEnds.{outcome_of, log_last, purge_next, roll_start, close_last}
 use Rattle.active_name.proofs.ActiveLaws.{log_going}
 

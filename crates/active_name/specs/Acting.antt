@@ -1,9 +1,7 @@
 -- What the calls of an active name node come to.
-use Rattle.std.specs.Prelude.{ℕ, ◌≡◌, ◌+◌, nat_le, List, [], ◌∷◌, ◌++◌, Bool, true, false, not}
+use Rattle.std.specs.Prelude.{ℕ, ◌≡◌, List, [], ◌∷◌, Bool, true, false}
 use Rattle.journal_core.specs.declared.peer_call.PeerCall.{PeerCall}
 use Rattle.edit_ops.specs.Records.{EditView}
-use Rattle.ns_replay.specs.declared.refusal.AdmitRefusal.{AdmitRefusal}
-use Rattle.ns_replay.specs.declared.refusal.AdmitRefusal.TheVariants.{RepeatedCall}
 use Rattle.writer_core.specs.declared.task.Task.TheVariants as task
 use Rattle.quorum_writer.specs.declared.logged.Logged.{Logged}
 use Rattle.quorum_writer.specs.declared.logged.Logged.TheVariants as logged
@@ -15,52 +13,24 @@ use Rattle.quorum_writer.specs.declared.purging.Purging.TheVariants as purging
 use Rattle.quorum_writer.specs.declared.closed.Closed.{Closed}
 use Rattle.quorum_writer.specs.declared.closed.Closed.TheVariants as closed
 use Rattle.quorum_writer.specs.Tasks.{Comes}
-use Rattle.name_node.specs.Submissions.{Due, Pends, Refused, Repeats, TooLong, submitted_one}
 use Rattle.standby_tailer.specs.Standbys.{StandbyView, empty_standby}
 use Rattle.active_name.specs.declared.submitted.Submitted.{Submitted}
 use Rattle.active_name.specs.declared.submitted.Submitted.TheVariants as submitted
 use Rattle.active_name.specs.declared.synced.Synced.{Synced}
 use Rattle.active_name.specs.declared.synced.Synced.TheVariants as synced
-use Rattle.active_name.specs.Actives.{ActiveView, is_open, submission}
+use Rattle.active_name.specs.Pendings.{IsOneMore}
+use Rattle.active_name.specs.Actives.{ActiveView, is_open, pending_of}
 
 -- ## An edit is submitted
--- by a writer whose next txid is this
-abbrev pub IsDue : ℕ → Submitted → Due → Type 0
-IsDue next submitted.Taken due = due ≡ Pends
-IsDue next (submitted.Refused refusal) due = due ≡ Refused refusal
-IsDue next (submitted.Repeated txid) due = due ≡ Repeats txid (nat_le next txid)
-IsDue next (submitted.TooLong number) due = due ≡ TooLong number
-IsDue next submitted.Ended due = ⊥
-IsDue next submitted.OutOfMemory due = ⊥
-
--- it is one more of the edits that were submitted, with this answer
+-- it is one more of the edits that were submitted, with this answer, and nothing else changes
 pub record Submits (old : ActiveView) (edit : EditView) (new : ActiveView) (answer : Submitted) : Type 0 where
-  pub due : Due
-  pub is : IsDue old.writer.next answer due
-  pub submitted : (dues : List Due) → submitted_one old.writer edit (submission dues old) ≡ submission (dues ++ due ∷ []) new
+  pub more : IsOneMore old.writer (pending_of old) edit (pending_of new) answer
   pub rest : new ≡ record old { ahead = new.ahead; bodies = new.bodies }
 
 abbrev pub IsSubmitted : ActiveView → EditView → ActiveView → Submitted → Type 0
 IsSubmitted old edit new submitted.Ended = (is_open old ≡ false) × (new ≡ old)
 IsSubmitted old edit new submitted.OutOfMemory = new ≡ old
 IsSubmitted old edit new answer = Submits old edit new answer
-
--- the same of an edit that is admitted
-abbrev pub IsPended : ActiveView → EditView → ActiveView → Submitted → Type 0
-IsPended old edit new submitted.Taken = Submits old edit new submitted.Taken
-IsPended old edit new (submitted.TooLong number) = Submits old edit new (submitted.TooLong number)
-IsPended old edit new submitted.OutOfMemory = new ≡ old
-IsPended old edit new answer = ⊥
-
--- the answer to an edit that isn't admitted
-abbrev pub refused_as : AdmitRefusal → Submitted
-refused_as (RepeatedCall txid) = submitted.Repeated txid
-refused_as refusal = submitted.Refused refusal
-
--- only an edit that is taken changes anything
-abbrev pub SameUnlessTaken : ActiveView → ActiveView → Submitted → Type 0
-SameUnlessTaken old new submitted.Taken = Unit {0}
-SameUnlessTaken old new answer = new ≡ old
 
 -- ## Rounds
 -- no call was made, and nothing changed

@@ -4,7 +4,7 @@ use Rattle.journal_core.specs.Limits.{max_number}
 use Rattle.ns_tree.specs.Space.{Space, AreRising}
 use Rattle.writer_core.specs.Views.{WriterView}
 use Rattle.writer_core.specs.Writer.{is_writing, log_limit}
-use Rattle.name_node.specs.Submissions.{Submission, Due}
+use Rattle.active_name.specs.Pendings.{PendingView}
 
 pub record ActiveView : Type 0 where
   pub writer : WriterView
@@ -34,6 +34,6 @@ pub record IsActive (a : ActiveView) : Type 0 where
   -- and where none is open no edit is pending
   pub ended : is_open a ≡ false → a.bodies ≡ []
 
--- the edits that were submitted, with what became of each
-abbrev pub submission : List Due → ActiveView → Submission
-submission dues a = record { ahead = a.ahead; bodies = a.bodies; dues = dues }
+-- its namespace and bodies, as edits that pend
+abbrev pub pending_of : ActiveView → PendingView
+pending_of a = record { ahead = a.ahead; bodies = a.bodies }

@@ -1,5 +1,5 @@
 -- A standby takes over: the writer's rounds, and then a tail up to the txid before the first segment.
-use Rattle.std.specs.Prelude.{ℕ, ◌≡◌, ◌⊎◌, ◌+◌, ◌-◌, ◌≤◌, nat_lt, Bool, true, false, List, Some, if◌then◌else◌}
+use Rattle.std.specs.Prelude.{ℕ, ◌≡◌, ◌⊎◌, ◌+◌, ◌-◌, ◌≤◌, Bool, true, false, List, Some}
 use Rattle.journal_core.specs.Limits.{max_number}
 use Rattle.journal_core.specs.declared.peer_call.PeerCall.{PeerCall}
 use Rattle.ns_replay.specs.Replay.{Image}
@@ -10,7 +10,7 @@ use Rattle.quorum_writer.specs.declared.taken.Taken.{Taken}
 use Rattle.quorum_writer.specs.declared.taken.Taken.TheVariants as round
 use Rattle.quorum_writer.specs.Answers.{came_of_taken}
 use Rattle.quorum_writer.specs.Tasks.{Comes}
-use Rattle.name_node.specs.Holding.{Holding, emptied}
+use Rattle.name_node.specs.Holding.{Holding, enters}
 use Rattle.name_node.specs.Tails.{TailStep, pass_begun}
 use Rattle.standby_tailer.specs.declared.tailed.Tailed.{Tailed}
 use Rattle.standby_tailer.specs.declared.tailed.Tailed.TheVariants as tailed
@@ -19,10 +19,7 @@ use Rattle.standby_tailer.specs.Tailing.{IsTailed}
 use Rattle.active_name.specs.declared.taking.TakenOver.{TakenOver}
 use Rattle.active_name.specs.declared.taking.TakenOver.TheVariants as taken
 
--- one that has read more begins empty
-abbrev pub enters : ℕ → Holding → Holding
-enters last h = if nat_lt last h.position then emptied h else h
-
+-- its tail begins; one that has read more begins empty
 abbrev pub entry_begun : ℕ → Holding → TailStep
 entry_begun first h = pass_begun (Some (first - 1)) (enters (first - 1) h)
 

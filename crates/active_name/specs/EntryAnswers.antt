@@ -10,7 +10,6 @@ use Rattle.active_name.specs.declared.taking.TakenOver.{TakenOver}
 use Rattle.active_name.specs.declared.taking.TakenOver.TheVariants as taken
 use Rattle.active_name.specs.declared.entered.Entered.{Entered}
 use Rattle.active_name.specs.declared.entered.Entered.TheVariants as entered
-use Rattle.active_name.specs.Actives.{ActiveView}
 use Rattle.active_name.specs.Entering.{IsTakenOver}
 
 -- a takeover of this writer and standby was answered so

@@ -1,3 +1,4 @@
+pub mod Pendings
 pub mod Actives
 pub mod Entering
 pub mod Acting

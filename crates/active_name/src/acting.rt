@@ -6,11 +6,10 @@ ghost use Rattle.active_name.specs.Acting.{IsSynced, IsRolled, IsPurging, IsClos
 
 use crate::active::Active;
 use crate::synced::Synced;
-use journal_core::{BodyList, OutOfMemory, Peers};
+use journal_core::{OutOfMemory, Peers};
 use quorum_writer::{Closed, Logged, Purging, Rolled};
 use standby_tailer::Standby;
 use std::alloc::{AllocError, Global};
-use std::mem;
 
 impl Active {
     /// Logs the pending edits as one batch.
@@ -37,10 +36,10 @@ impl Active {
         ensures nodes { nodes_of self.new.writer ≡ nodes_of self.old.writer }
         ensures peers { P.nodes peers.new ≡ P.nodes peers.old }
     {
-        if self.pending.is_empty() {
+        if self.pending.bodies().is_empty() {
             return Synced::Nothing;
         }
-        let bodies = mem::replace(&mut self.pending, BodyList::new(alloc));
+        let bodies = self.pending.take_bodies(alloc);
         match self.writer.log(alloc, peers, bodies) {
             Logged::Acked { first, last } => {
                 self.position = last;

@@ -6,8 +6,8 @@ ghost use Rattle.active_name.specs.Actives.{is_open};
 ghost use Rattle.active_name.specs.Acting.{left_by};
 ghost use Rattle.active_name.specs.Entering.{IsEntered};
 
-use journal_core::{BodyList, OutOfMemory};
-use ns_tree::Namespace;
+use crate::pending::Pending;
+use journal_core::OutOfMemory;
 use quorum_writer::QuorumWriter;
 use standby_tailer::Standby;
 use std::alloc::Global;
@@ -19,8 +19,7 @@ use std::marker::Model;
 pub struct Active {
     pub(crate) writer: QuorumWriter,
     pub(crate) position: u64,
-    pub(crate) ahead: Namespace,
-    pub(crate) pending: BodyList,
+    pub(crate) pending: Pending,
     /// A segment is open.
     pub(crate) open: bool,
     /// No round was aborted, and none lacked memory.
@@ -33,10 +32,10 @@ impl Model for Active {
 
     ghost Value = { ActiveView };
 
-    ghost view = { λ a. record { writer = a.writer; position = a.position; ahead = a.ahead; bodies = a.pending; whole = a.whole } };
+    ghost view = { λ a. record { writer = a.writer; position = a.position; ahead = a.pending.ahead; bodies = a.pending.bodies; whole = a.whole } };
 
-    ghost invariant = { λ a. IsActive (record { writer = a.writer; position = a.position; ahead = a.ahead; bodies = a.pending; whole = a.whole })
-        × (is_open (record { writer = a.writer; position = a.position; ahead = a.ahead; bodies = a.pending; whole = a.whole }) ≡ a.open) };
+    ghost invariant = { λ a. IsActive (record { writer = a.writer; position = a.position; ahead = a.pending.ahead; bodies = a.pending.bodies; whole = a.whole })
+        × (is_open (record { writer = a.writer; position = a.position; ahead = a.pending.ahead; bodies = a.pending.bodies; whole = a.whole }) ≡ a.open) };
 }
 
 impl Active {
@@ -51,8 +50,7 @@ impl Active {
         Active {
             writer,
             position: first,
-            ahead,
-            pending: BodyList::new(alloc),
+            pending: Pending::new(alloc, ahead),
             open: true,
             whole: true,
         }
@@ -73,12 +71,12 @@ impl Active {
         let Active {
             writer,
             position,
-            ahead,
             pending,
             open: _,
             whole,
         } = self;
-        if whole && pending.is_empty() {
+        let (ahead, bodies) = pending.into_parts();
+        if whole && bodies.is_empty() {
             return Ok((Standby::of(ahead, position), writer));
         }
         let standby = Standby::new(alloc)?;

@@ -1,7 +1,7 @@
 // What comes of an edit that is submitted.
 use ns_replay::AdmitRefusal;
 
-/// What came of an edit that was submitted. Only `Taken` changes the name node.
+/// What came of an edit that was submitted. Only `Taken` changes anything.
 #[derive(Clone, Copy, Debug, PartialEq, Eq)]
 pub enum Submitted {
     /// It is to be logged.

@@ -1,13 +1,11 @@
 // A standby takes over.
-ghost use Rattle.std.specs.Prelude.{◌≡◌, ◌≤◌, List, OnOk, OnErr};
+ghost use Rattle.std.specs.Prelude.{◌≡◌, List};
 ghost use Rattle.journal_core.specs.Peers.{IsPermitted};
 ghost use Rattle.ns_replay.specs.Replay.{Image};
 ghost use Rattle.quorum_writer.specs.Led.{nodes_of};
-ghost use Rattle.standby_tailer.specs.Standbys.{StandbyView, held};
-ghost use Rattle.active_name.specs.Entering.{enters, IsTailedIn, IsTakenOver, StandsEntered, is_active};
+ghost use Rattle.active_name.specs.Entering.{IsTailedIn, IsTakenOver, StandsEntered, is_active};
 
-use journal_core::{OutOfMemory, Peers};
-use ns_tree::Namespace;
+use journal_core::Peers;
 use quorum_writer::{QuorumWriter, Taken};
 use standby_tailer::{Standby, Tailed};
 use std::alloc::Global;
@@ -72,18 +70,6 @@ fn is_active(taken: &TakenOver) -> bool
     matches!(taken, TakenOver::Active { .. })
 }
 
-/// A standby that has read more than that begins empty; an `Err` changes nothing.
-fn begin_entry(alloc: Global, standby: &mut Standby, last: u64) -> Result<(), OutOfMemory>
-    ensures ok { OnOk result ((images : List Image) → held images standby.new ≡ enters last (held images standby.old)) }
-    ensures below { OnOk result (standby.new.position ≤ last) }
-    ensures err { OnErr result (standby.new ≡ standby.old) }
-{
-    if last < standby.position() {
-        *standby = Standby::new(alloc)?;
-    }
-    Ok(())
-}
-
 /// The tail of a takeover.
 fn tail_in<P: Peers>(
     alloc: Global,
@@ -98,7 +84,7 @@ fn tail_in<P: Peers>(
     ensures peers { P.nodes peers.new ≡ P.nodes peers.old }
 {
     let last = first.saturating_sub(1);
-    match begin_entry(alloc, standby, last) {
+    match standby.enter(alloc, last) {
         Ok(()) => {}
         Err(_) => return TakenOver::OutOfMemory,
     }

@@ -1,3 +1,4 @@
 pub mod MarkLaws
 pub mod IndexLaws
 pub mod LogLaws
+pub mod Fitting

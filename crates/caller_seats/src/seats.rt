@@ -1,6 +1,7 @@
 // The seats of a caller.
 ghost use Rattle.std.specs.Prelude.{◌≡◌, ◌≤◌, OnOk, IfOk};
 ghost use Rattle.journal_core.specs.Limits.{max_number};
+ghost use Rattle.journal_core.specs.Peers.{FitsHeard};
 ghost use Rattle.node_world.specs.declared.record.Record.TheVariants.{Outcome};
 ghost use Rattle.caller_seats.specs.Logs.{LogView, with_line, losing, earlier_call, mark_kind, IsCalled, IsCopied};
 
@@ -20,7 +21,7 @@ pub trait Seats {
     fn nodes(&self) -> usize
         ensures { result ≡ (log self.now).nodes };
 
-    /// A call to a node, lost as the marks say, and listed; what was heard of it.
+    /// A call to a node, lost as the marks say, and listed; what was heard of it, which fits the request.
     fn call_node(
         &mut self,
         alloc: Global,
@@ -30,6 +31,7 @@ pub trait Seats {
         requires low { 1 ≤ node }
         requires high { node ≤ (log self.old).nodes }
         ensures called { IfOk result (λ heard. IsCalled (log self.old) node request heard (log self.new)) }
+        ensures fits { IfOk result (λ heard. FitsHeard request heard) }
         ensures later { OnOk result (later self.old self.new) };
 
     /// Marks the `next`-th next call to this node: its reply is lost, or it isn't delivered.

@@ -32,17 +32,17 @@ use Rattle.node_world.specs.declared.record.Told.{Told}
 use Rattle.node_world.specs.declared.record.Told.TheVariants as told
 use Rattle.mesh.specs.Makers.{Chore, Writes, Tails as ReadsOn, Reading, Maker, heard_of, maker_of, next_node, read_heard, maker_hears, HaveBodies, IsMade, IsOfChores}
 use Rattle.name_node.specs.Submissions.{Submission, submitted, nothing_submitted}
-use Rattle.name_node.specs.Holding.{Holding, Work, Free, Tails, Logs, Broken, emptied, working, saved, loaded, reloaded, min_to_keep}
+use Rattle.name_node.specs.Holding.{Holding, Work, Free, Tails, Logs, Broken, emptied, working, saved, loaded, reloaded, min_to_keep, enters}
 use Rattle.name_node.specs.Tails.{TailEnd, Caught, Reached, PurgedFrom, BehindBy, TailStep, GoesOn, Ends, pass_begun, up_to, after_applied, pass_end, no_edits, tail_hears}
-use Rattle.cluster_runner.specs.Lines.{Deed, Does, DoDrop, DoMute, DoLate, Submits, Trims, DoTail, Saves, Reloads, IsTask, IsDeed, AreDeeds}
-use Rattle.cluster_runner.specs.Actor.{Actor, WantsCall, fresh_actor, call_wanted, work_read, read_first, is_wanting, is_broken, wants, tail_ended, tail_stepped, task_begun, copied, sync_begun, synced, logged_when, trim_at, unless_active, saving, reloading, held_deed, deed_taken, settled, enters, logs_done, task_done, held_turn, turn_with, turn_taken, judged_as, heard_in_work, heard_by, moved_on, resettled, goes_on, Fits, IsLed}
-use Rattle.cluster_runner.specs.Ready.{is_going}
+use Rattle.script_actor.specs.Lines.{Deed, Does, DoDrop, DoMute, DoLate, Submits, Trims, DoTail, Saves, Reloads, IsTask, IsDeed, AreDeeds}
+use Rattle.script_actor.specs.Actor.{Actor, WantsCall, fresh_actor, call_wanted, work_read, read_first, is_wanting, is_broken, wants, tail_ended, tail_stepped, task_begun, copied, sync_begun, synced, logged_when, trim_at, unless_active, saving, reloading, held_deed, deed_taken, while_wanting, settled, logs_done, task_done, held_turn, turn_with, turn_taken, judged_as, heard_in_work, heard_by, moved_on, resettled, goes_on, Fits, IsLed}
+use Rattle.script_actor.specs.Ready.{is_going}
 use Rattle.cluster_runner.proofs.Led.{moved_keeps}
 use Rattle.cluster_runner.proofs.Wanting.{Resting, sending, resting, fits_calling, no_operation, call_by, rests_by}
 use Rattle.cluster_runner.proofs.Makes.{busy_by}
-use Rattle.cluster_runner.proofs.WriterTurn.{call_under}
-use Rattle.cluster_runner.proofs.TurnsTell.{turn_tells}
-use Rattle.cluster_runner.proofs.Sound.{or_false}
+use Rattle.script_actor.proofs.WriterTurn.{call_under}
+use Rattle.script_actor.proofs.TurnsTell.{turn_tells}
+use Rattle.cluster_runner.proofs.Sound.{or_false, waiting_deeds}
 
 -- ## The maker's writer: the actor's, or what it was before it gave up
 abbrev Alike : WriterView → WriterView → Type 0
@@ -385,8 +385,8 @@ settled_step named rs [] a d c = record { back = λ can. can; calm = c; deeds = 
 settled_step named rs (d ∷ ds) a e c = by (is_wanting (wants a) || is_broken a) refl (settled_step named rs ds (deed_taken d a) e.1)
   where
     by : (b : Bool) → (is_wanting (wants a) || is_broken a) ≡ b → (Calm (deed_taken d a).holds (deed_taken d a).writer → Settled rs named (deed_taken d a) (settled ds (deed_taken d a)))
-        → Settled rs named a (cond b (record a { todo = d ∷ ds }) (settled ds (deed_taken d a)))
-    by true is go = record { back = λ can. can; calm = c; deeds = e }
+        → Settled rs named a (cond b (record a { todo = while_wanting (is_wanting (wants a)) (d ∷ ds) }) (settled ds (deed_taken d a)))
+    by true is go = record { back = λ can. can; calm = c; deeds = waiting_deeds named (is_wanting (wants a)) (d ∷ ds) e }
     by false is go =
         let s : Step rs a (deed_taken d a) = deed_step named rs d a e.0 (idle_of a is) in
         let more : Settled rs named (deed_taken d a) (settled ds (deed_taken d a)) = go s.calm in

@@ -8,7 +8,7 @@ use Rattle.writer_core.specs.Writer.{log_limit}
 use Rattle.ns_replay.specs.declared.refusal.AdmitRefusal.TheVariants as refusal
 use Rattle.ns_replay.specs.Admit.{Refusal, admit_of}
 use Rattle.name_node.specs.Submissions.{Due, Pends, Refused, Repeats, TooLong, Submission, unless_long, unless_refused, submitted}
-use Rattle.cluster_runner.specs.Results.{dues_logged, dues_aborted}
+use Rattle.script_actor.specs.Results.{dues_logged, dues_aborted}
 
 pub one_due : (xs : List Due) (d : Due) → length (xs ++ d ∷ []) ≡ length xs + 1
 one_due xs d = length-append xs (d ∷ [])

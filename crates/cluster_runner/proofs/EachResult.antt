@@ -24,13 +24,13 @@ use Rattle.node_world.specs.declared.record.Record.{Record}
 use Rattle.node_world.specs.declared.record.Record.TheVariants.{Call, Late, Operator, Outcome}
 use Rattle.node_world.specs.declared.record.Told.{Told}
 use Rattle.mesh.specs.Makers.{heard_of}
-use Rattle.cluster_runner.specs.Lines.{Deed, Does, DoDrop, DoMute, DoLate, Submits, Trims, DoTail, Saves, Reloads}
-use Rattle.cluster_runner.specs.Results.{for_each, acked_from, acked, done_results, results_of, inactive_results, too_long_results, late_none}
-use Rattle.cluster_runner.specs.Actor.{Actor, Rests, fresh_actor, wants, is_wanting, is_broken, task_begun, copied, deed_taken, settled, is_broken_holding, turn_with, turn_taken, moved_on, resettled, goes_on, Fits, IsLed, actor_after}
+use Rattle.script_actor.specs.Lines.{Deed, Does, DoDrop, DoMute, DoLate, Submits, Trims, DoTail, Saves, Reloads}
+use Rattle.script_actor.specs.Results.{for_each, acked_from, acked, done_results, results_of, inactive_results, too_long_results, late_none}
+use Rattle.script_actor.specs.Actor.{Actor, Rests, fresh_actor, wants, is_wanting, is_broken, task_begun, copied, deed_taken, while_wanting, settled, turn_with, turn_taken, moved_on, resettled, goes_on, Fits, IsLed, actor_after}
 use Rattle.cluster_runner.specs.Told.{results_in}
 use Rattle.cluster_runner.specs.EditResults.{results_due, AreResultsOf, AreResults, IsRaw, AreRaw}
-use Rattle.cluster_runner.proofs.Led.{moved_keeps}
-use Rattle.cluster_runner.proofs.Holds.{RawActor, raw_with, raw_heard, raw_taken, raw_moved, raw_settled, raw_goes}
+use Rattle.cluster_runner.proofs.Led.{todo_wants, waiting, either_wants, moved_keeps}
+use Rattle.cluster_runner.proofs.Holds.{RawActor, raw_with, raw_heard, raw_taken, raw_moved, raw_whole, raw_settled, raw_goes}
 use Rattle.cluster_runner.proofs.Sound.{or_false}
 use Rattle.cluster_runner.proofs.Wanting.{Calling, Resting, Saying, resting, rests_is, fits_calling, fits_saying, no_operation, raw_call, raw_rest}
 use Rattle.cluster_runner.proofs.WriterTurns.{IsBetween, Course, TurnOf, Turned, Begins, begun_turn, heard_turn, new_course, call_some, call_none}
@@ -218,7 +218,7 @@ rested : (a : Actor) → (is_wanting (wants a) || is_broken a) ≡ false → Res
 rested a is = resting a (or_false (is_wanting (wants a)) (is_broken a) is)
 
 settled_by : (b : Bool) (d : Deed) (ds : List Deed) (a : Actor) → (is_wanting (wants a) || is_broken a) ≡ b → IsRaw d → a.holds ≡ None → Live a
-    → (Live (deed_taken d a) → Live (settled ds (deed_taken d a))) → Live (cond b (record a { todo = d ∷ ds }) (settled ds (deed_taken d a)))
+    → (Live (deed_taken d a) → Live (settled ds (deed_taken d a))) → Live (cond b (record a { todo = while_wanting (is_wanting (wants a)) (d ∷ ds) }) (settled ds (deed_taken d a)))
 settled_by true d ds a is raw e l go = record { kind = l.kind; course = l.course; doing = l.doing }
 settled_by false d ds a is raw e l go = go (taken_live d a raw e (rested a is) l)
 
@@ -227,11 +227,18 @@ unfolding settled
 settled_live [] a raw e l = record { kind = l.kind; course = l.course; doing = l.doing }
 settled_live (d ∷ ds) a raw e l = settled_by (is_wanting (wants a) || is_broken a) d ds a refl raw.0 e l (settled_live ds (deed_taken d a) raw.1 (raw_taken d a raw.0 ∙ e))
 
+raw_wanting : (a : Actor) → (is_wanting (wants a) || is_broken a) ≡ true → a.holds ≡ None → is_wanting (wants a) ≡ true
+raw_wanting a is e = either_wants (is_wanting (wants a)) (is_broken a) is (raw_whole a e)
+
+-- what it still owes
+abbrev OwesAll : Actor → List (List ℕ) → Type 0
+OwesAll b texts = Owes b.says b.doing b.todo texts
+
 owes_by : (b : Bool) (d : Deed) (ds : List Deed) (a : Actor) (texts : List (List ℕ)) → (is_wanting (wants a) || is_broken a) ≡ b → IsRaw d → a.holds ≡ None → Live a
     → (Live (deed_taken d a) → Owes (settled ds (deed_taken d a)).says (settled ds (deed_taken d a)).doing (settled ds (deed_taken d a)).todo texts → Owes (deed_taken d a).says (deed_taken d a).doing ds texts)
-    → Owes (cond b (record a { todo = d ∷ ds }) (settled ds (deed_taken d a))).says (cond b (record a { todo = d ∷ ds }) (settled ds (deed_taken d a))).doing (cond b (record a { todo = d ∷ ds }) (settled ds (deed_taken d a))).todo texts
+    → OwesAll (cond b (record a { todo = while_wanting (is_wanting (wants a)) (d ∷ ds) }) (settled ds (deed_taken d a))) texts
     → Owes a.says a.doing (d ∷ ds) texts
-owes_by true d ds a texts is raw e l go h = h
+owes_by true d ds a texts is raw e l go h = subst (λ (ts : List Deed). Owes a.says a.doing ts texts) (waiting a (d ∷ ds) (raw_wanting a is e)) h
 owes_by false d ds a texts is raw e l go h =
     let r : Resting a = rested a is in
     let none : a.doing ≡ None = doing_none a l (raw_rest a e r) in
@@ -243,25 +250,15 @@ settled_owes [] a texts raw e l h = h
 settled_owes (d ∷ ds) a texts raw e l h =
     owes_by (is_wanting (wants a) || is_broken a) d ds a texts refl raw.0 e l (settled_owes ds (deed_taken d a) texts raw.1 (raw_taken d a raw.0 ∙ e)) h
 
-todo_wants : (a : Actor) (x : List Deed) → wants (record a { todo = x }) ≡ wants a
-unfolding wants
-todo_wants a x = refl
-
-raw_whole : (a : Actor) → a.holds ≡ None → is_broken a ≡ false
-unfolding is_broken
-raw_whole a e = ap is_broken_holding e
-
-neither : (b c : Bool) → (b || c) ≡ true → b ≡ false → c ≡ false → ⊥
-neither true c is e f = absurd (cc e)
-neither false c is e f = absurd (cc (is, f))
+-- one that wants nothing has nothing to do
+abbrev IsDone : Actor → Type 0
+IsDone b = is_wanting (wants b) ≡ false → b.todo ≡ []
 
 done_by : (b : Bool) (d : Deed) (ds : List Deed) (a : Actor) → (is_wanting (wants a) || is_broken a) ≡ b → a.holds ≡ None
-    → (is_wanting (wants (settled ds (deed_taken d a))) ≡ false → (settled ds (deed_taken d a)).todo ≡ [])
-    → is_wanting (wants (cond b (record a { todo = d ∷ ds }) (settled ds (deed_taken d a)))) ≡ false → (cond b (record a { todo = d ∷ ds }) (settled ds (deed_taken d a))).todo ≡ []
-done_by true d ds a is n go e = absurd (neither (is_wanting (wants a)) (is_broken a) is (ap is_wanting (sym (todo_wants a (d ∷ ds))) ∙ e) (raw_whole a n))
+    → IsDone (settled ds (deed_taken d a)) → IsDone (cond b (record a { todo = while_wanting (is_wanting (wants a)) (d ∷ ds) }) (settled ds (deed_taken d a)))
+done_by true d ds a is n go e = absurd (cc (raw_wanting a is n, ap is_wanting (sym (todo_wants a (while_wanting (is_wanting (wants a)) (d ∷ ds)))) ∙ e))
 done_by false d ds a is n go e = go e
 
--- one that wants nothing has nothing to do
 settled_done : (ds : List Deed) (a : Actor) → AreRaw ds → a.holds ≡ None → is_wanting (wants (settled ds a)) ≡ false → (settled ds a).todo ≡ []
 unfolding settled
 settled_done [] a raw n e = refl

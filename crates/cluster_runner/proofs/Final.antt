@@ -16,9 +16,9 @@ use Rattle.mesh.specs.Makers.{IsOfChores, IsOperators}
 use Rattle.mesh.specs.Matches.{reached, lines_of, AreSame, AreWithin, CallersWithin}
 use Rattle.mesh.specs.Order.{placed_at, entries_at}
 use Rattle.mesh.specs.Agree.{Agrees, operator_of, history_at, record_of, plan_of}
-use Rattle.cluster_runner.specs.Lines.{Line, declared, names_in, deeds_of, operations_in, ArePlayable, HasNodes, Declares, Acts, Operates}
-use Rattle.cluster_runner.specs.Actor.{Actor, fresh_actor, wants}
-use Rattle.cluster_runner.specs.Plays.{Play, play_steps, play_begins, has_ended, no_lines, actor_at, history_of, histories_from, mesh_of, last_of, ends_from, ends_of, IsPlay}
+use Rattle.script_actor.specs.Lines.{Line, declared, names_in, deeds_of, operations_in, ArePlayable, HasNodes, Declares, Acts, Operates}
+use Rattle.script_actor.specs.Actor.{Actor, fresh_actor, wants, last_of}
+use Rattle.cluster_runner.specs.Plays.{Play, play_steps, play_begins, has_ended, no_lines, actor_at, history_of, histories_from, mesh_of, ends_from, ends_of, IsPlay}
 use Rattle.cluster_runner.specs.Follows.{Follows, AreOperations, FollowsLines}
 use Rattle.mesh.proofs.Lists.{Alike, alike, append_none}
 use Rattle.cluster_runner.proofs.Wanting.{Resting, resting, rests_is}
@@ -110,7 +110,7 @@ ended_turn p e = by p.lines p.turn e
     by (l ∷ ls) (Some a) h = absurd (cc h)
 
 -- ## Its ends
-names_count : (ls : List Line) → length (names_in ls) ≡ declared ls
+pub names_count : (ls : List Line) → length (names_in ls) ≡ declared ls
 unfolding names_in declared
 names_count [] = refl
 names_count (Declares x ∷ ls) = ap suc (names_count ls)

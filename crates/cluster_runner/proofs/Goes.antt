@@ -14,9 +14,10 @@ use Rattle.node_world.specs.declared.mark.Mark.{Mark}
 use Rattle.node_world.specs.declared.mark.MarkKind.TheVariants as kind
 use Rattle.mesh.specs.Marks.{mark, calls_to, next_number, Asked, IsAsMarked, IsCopy, IsMarked, AreCopied}
 use Rattle.name_node.specs.Holding.{Holding}
-use Rattle.cluster_runner.specs.Lines.{Deed, Does, DoDrop, DoMute, DoLate, Submits, Trims, DoTail, Saves, Reloads, IsDeed}
-use Rattle.cluster_runner.specs.Actor.{Actor, wants, task_begun, copied, held_deed, deed_taken, moved_on, Fits}
-use Rattle.cluster_runner.proofs.Led.{held_framed, framed_keeps, moved_keeps, call_copies}
+use Rattle.script_actor.specs.Lines.{Deed, Does, DoDrop, DoMute, DoLate, Submits, Trims, DoTail, Saves, Reloads, IsDeed}
+use Rattle.script_actor.specs.Actor.{Actor, wants, task_begun, copied, held_deed, deed_taken, moved_on, Fits}
+use Rattle.script_actor.proofs.Framed.{framed_keeps, held_framed}
+use Rattle.cluster_runner.proofs.Led.{moved_keeps, call_copies}
 use Rattle.cluster_runner.proofs.Wanting.{sending, same_sending, Copying, fits_copying, no_operation}
 use Rattle.caller_seats.proofs.MarkLaws.{asked_more, asked_one, copy_more, copy_planned, IsLater, more_marks, marked_snoc}
 

@@ -26,11 +26,11 @@ use Rattle.node_world.specs.Sized.{Sized}
 use Rattle.node_world.proofs.WriterRange.{heard_sized, begun_sized}
 use Rattle.mesh.specs.Makers.{heard_of}
 use Rattle.name_node.specs.Submissions.{Submission, submitted, nothing_submitted}
-use Rattle.name_node.specs.Holding.{Holding, Work, Free, Tails, Logs, Broken, working, saved, loaded, reloaded, min_to_keep}
+use Rattle.name_node.specs.Holding.{Holding, Work, Free, Tails, Logs, Broken, working, saved, loaded, reloaded, min_to_keep, enters}
 use Rattle.name_node.specs.Tails.{TailEnd, Caught, Reached, PurgedFrom, BehindBy, TailStep, GoesOn, Ends, Breaks, is_until, pass_begun, up_to, after_applied, pass_end, no_edits, tail_hears}
-use Rattle.cluster_runner.specs.Lines.{Deed, Does, DoDrop, DoMute, DoLate, Submits, Trims, DoTail, Saves, Reloads}
+use Rattle.script_actor.specs.Lines.{Deed, Does, DoDrop, DoMute, DoLate, Submits, Trims, DoTail, Saves, Reloads}
 use Rattle.cluster_runner.specs.EditResults.{IsRaw, AreRaw}
-use Rattle.cluster_runner.specs.Actor.{Actor, is_wanting, is_broken, wants, tail_ended, tail_stepped, task_begun, copied, sync_begun, synced, logged_when, trim_at, unless_active, saving, reloading, held_deed, deed_taken, settled, enters, logs_done, task_done, held_turn, turn_with, turn_taken, judged_as, heard_in_work, heard_by, moved_on, resettled, goes_on}
+use Rattle.script_actor.specs.Actor.{Actor, is_wanting, is_broken, wants, tail_ended, tail_stepped, task_begun, copied, sync_begun, synced, logged_when, trim_at, unless_active, saving, reloading, held_deed, deed_taken, is_broken_holding, while_wanting, settled, logs_done, task_done, held_turn, turn_with, turn_taken, judged_as, heard_in_work, heard_by, moved_on, resettled, goes_on}
 use Rattle.cluster_runner.proofs.Led.{moved_keeps}
 
 -- ## With names: a tail asks a node that is there
@@ -315,20 +315,29 @@ raw_moved (Late k q) a e = e
 raw_moved (Operator k ask d) a e = e
 raw_moved (Outcome x) a e = e
 
+-- it met no bad entry
+pub raw_whole : (a : Actor) → a.holds ≡ None → is_broken a ≡ false
+unfolding is_broken
+raw_whole a e = ap is_broken_holding e
+
 -- an actor of a script without names
 pub record RawActor (a : Actor) : Type 0 where
   pub holds : a.holds ≡ None
   pub deeds : AreRaw a.todo
 
-settled_raw_by : (b : Bool) (d : Deed) (ds : List Deed) (a : Actor) → AreRaw (d ∷ ds) → a.holds ≡ None → RawActor (settled ds (deed_taken d a))
-    → RawActor (cond b (record a { todo = d ∷ ds }) (settled ds (deed_taken d a)))
-settled_raw_by true d ds a r e h = record { holds = e; deeds = r }
-settled_raw_by false d ds a r e h = h
+raw_waiting : (w : Bool) (ds : List Deed) → AreRaw ds → AreRaw (while_wanting w ds)
+raw_waiting true ds r = r
+raw_waiting false ds r = tt
+
+settled_raw_by : (b w : Bool) (d : Deed) (ds : List Deed) (a : Actor) → AreRaw (d ∷ ds) → a.holds ≡ None → RawActor (settled ds (deed_taken d a))
+    → RawActor (cond b (record a { todo = while_wanting w (d ∷ ds) }) (settled ds (deed_taken d a)))
+settled_raw_by true w d ds a r e h = record { holds = e; deeds = raw_waiting w (d ∷ ds) r }
+settled_raw_by false w d ds a r e h = h
 
 pub raw_settled : (ds : List Deed) (a : Actor) → AreRaw ds → a.holds ≡ None → RawActor (settled ds a)
 unfolding settled
 raw_settled [] a r e = record { holds = e; deeds = tt }
-raw_settled (d ∷ ds) a r e = settled_raw_by (is_wanting (wants a) || is_broken a) d ds a r e (raw_settled ds (deed_taken d a) r.1 (raw_taken d a r.0 ∙ e))
+raw_settled (d ∷ ds) a r e = settled_raw_by (is_wanting (wants a) || is_broken a) (is_wanting (wants a)) d ds a r e (raw_settled ds (deed_taken d a) r.1 (raw_taken d a r.0 ∙ e))
 
 pub raw_goes : (a : Actor) (r : Record) → RawActor a → RawActor (goes_on a r)
 unfolding goes_on resettled

@@ -1,9 +1,8 @@
 -- What is kept of a play goes along with it: the beginning, a line taken, the end.
-use Rattle.std.proofs.Common.{◌≡◌, ℕ, zero, suc, ◌+◌, ◌<◌, List, [], ◌∷◌, ◌++◌, length, map, refl, sym, ap, ◌∙◌, subst, Option, Some, None, set, get_or, replicate, ◌&&◌, false}
-use Rattle.std.specs.Prelude.{is_none}
+use Rattle.std.proofs.Common.{◌≡◌, ℕ, zero, suc, ◌+◌, ◌<◌, List, [], ◌∷◌, ◌++◌, length, map, Bool, true, false, cond, refl, sym, ap, ◌∙◌, subst, Option, Some, set, get_or, replicate, ◌&&◌}
+use Rattle.std.specs.Prelude.{◌||◌, None, is_none}
 use Rattle.std.proofs.lemmas.List.{map-append}
 use Rattle.std.proofs.Math.ListN.{get_or-map}
-use Rattle.writer_core.specs.Writer.{next_call}
 use Rattle.node_world.specs.declared.record.Record.{Record}
 use Rattle.node_world.specs.declared.history_line.HistoryLine.{HistoryLine}
 use Rattle.node_world.specs.declared.mark.Mark.{Mark}
@@ -11,14 +10,16 @@ use Rattle.node_world.specs.Cell.{fresh_cell}
 use Rattle.node_world.specs.NodeCells.{CellView, new_cell}
 use Rattle.mesh.specs.declared.whole.Mesh.{Mesh}
 use Rattle.mesh.specs.Marks.{IsMarked}
-use Rattle.cluster_runner.specs.Lines.{Line, Deed, Declares, Acts, declared}
-use Rattle.cluster_runner.specs.Actor.{Actor, IsLed, actor_after, handed, fresh_actor}
-use Rattle.cluster_runner.specs.Plays.{Play, play_step, play_begins, line_taken, actor_at, histories_from, history_of, has_ended, no_lines, mesh_of, ends_from, ends_of, raw_end}
-use Rattle.cluster_runner.specs.Kept.{Kept, KeptActor, actor_of, new_actor, resting, Stands, IsAtRest, Leads, LeadsTo, with_actor, with_actor_at, new_kept, mesh_kept, ends_kept, IsPlayed}
+use Rattle.script_actor.specs.Lines.{Line, Deed, Declares, Acts, declared}
+use Rattle.script_actor.specs.Actor.{Actor, wants, is_wanting, is_broken, while_wanting, deed_taken, settled, IsLed, actor_after, handed, fresh_actor}
+use Rattle.script_actor.specs.KeptActor.{KeptActor, new_actor, resting}
+use Rattle.script_actor.specs.Deeds.{IsIdleActor}
+use Rattle.cluster_runner.specs.Plays.{Play, play_step, play_begins, line_taken, actor_at, histories_from, history_of, has_ended, no_lines, mesh_of, ends_from, ends_of}
+use Rattle.cluster_runner.specs.Kept.{Kept, actor_of, Stands, IsAtRest, Leads, LeadsTo, with_actor, with_actor_at, new_kept, mesh_kept, end_of, ends_kept, IsPlayed}
 use Rattle.cluster_runner.specs.PlaySeats.{LinesGo}
 use Rattle.cluster_runner.proofs.KeptLists.{same_place}
 use Rattle.cluster_runner.proofs.KeptSteps.{step_line}
-use Rattle.cluster_runner.proofs.KeptActor.{handed_rest}
+use Rattle.script_actor.proofs.KeptActor.{idle_no_tail, rests}
 use Rattle.cluster_runner.proofs.KeptTurns.{leads_one, leads_on, IsActing, with_cells, after_marks, lines_act, rest_after}
 use Rattle.cluster_runner.proofs.Sound.{handed_past}
 
@@ -28,8 +29,8 @@ unfolding actor_at fresh_actor
 resting_there k p ls c s e =
     ap (λ xs. get_or xs c (fresh_actor p.named p.nodes)) e
     ∙ ap (λ b. get_or (map resting k.actors) c (fresh_actor b p.nodes)) s.named
-    ∙ ap (λ n. get_or (map resting k.actors) c (fresh_actor false n)) (sym s.nodes)
-    ∙ get_or-map resting k.actors c (new_actor (length k.nodes) [])
+    ∙ ap (λ n. get_or (map resting k.actors) c (fresh_actor k.named n)) (sym s.nodes)
+    ∙ get_or-map resting k.actors c (new_actor k.named (length k.nodes) [])
 
 -- the play once the line was taken
 abbrev pub handed_play : Play → List Line → ℕ → Actor → Play
@@ -49,16 +50,27 @@ stands_same k p ls turn xs s = record { named = s.named; nodes = s.nodes; cells 
 
 -- an actor is known without the nodes
 pub actor_as : (k : Kept) (cells : List CellView) (c : ℕ) → c < length k.actors → actor_of (with_cells k cells) c ≡ actor_of k c
-actor_as k cells c l = same_place k.actors c (new_actor (length cells) []) (new_actor (length k.nodes) []) l
+actor_as k cells c l = same_place k.actors c (new_actor k.named (length cells) []) (new_actor k.named (length k.nodes) []) l
+
+-- an idle actor leaves no deed to be done
+none_left : (b w : Bool) (d : Deed) (x y : Actor) → w ≡ false → (cond b (record x { todo = while_wanting w (d ∷ []) }) (record y { todo = [] })).todo ≡ []
+none_left true true d x y e = absurd (cc e)
+none_left true false d x y e = refl
+none_left false w d x y e = refl
+
+handed_todo : (n : ℕ) (a : KeptActor) (d : Deed) → IsIdleActor n a → (handed d (resting a)).todo ≡ []
+unfolding handed settled is_wanting
+handed_todo n a d idle =
+    none_left (is_wanting (wants (resting a)) || is_broken (resting a)) (is_wanting (wants (resting a))) d (resting a) (deed_taken d (resting a)) (ap is_wanting (rests a None (idle_no_tail a.holds idle.holds) idle.rests))
 
 -- a deed, from one rest to the next
-pub deed_leads : (k : Kept) (ls : List Line) (c : ℕ) (d : Deed) (lines : List Record) (b : KeptActor) (cells : List CellView) → c < length k.actors → next_call (actor_of k c).writer ≡ None
-    → IsLed (handed d (resting (actor_of k c))) lines → actor_after (handed d (resting (actor_of k c))) lines ≡ resting b → next_call b.writer ≡ None → b.name ≡ (actor_of k c).name
+pub deed_leads : (k : Kept) (ls : List Line) (c n : ℕ) (d : Deed) (lines : List Record) (b : KeptActor) (cells : List CellView) → c < length k.actors → IsIdleActor n (actor_of k c)
+    → IsLed (handed d (resting (actor_of k c))) lines → actor_after (handed d (resting (actor_of k c))) lines ≡ resting b → IsIdleActor n b → b.name ≡ (actor_of k c).name
     → IsMarked b.marks (actor_of k c).past lines → LinesGo c lines k.nodes cells → LeadsTo (IsAtRest (Acts c d ∷ ls) k) (IsAtRest ls (with_actor_at (with_cells k cells) c b))
-deed_leads k ls c d lines b cells l none led after over name marked go p h =
+deed_leads k ls c n d lines b cells l idle led after over name marked go p h =
     let a : KeptActor = actor_of k c in
     let x : Actor = handed d (resting a) in
-    let todo : x.todo ≡ [] = ap (λ y. y.todo) (handed_rest a d none) in
+    let todo : x.todo ≡ [] = handed_todo n a d idle in
     let marks : b.marks ≡ x.marks = sym (ap (λ y. y.marks) after) ∙ after_marks x lines todo in
     let one : Play = handed_play p ls c x in
     let acting : IsActing ls c x k one = record {
@@ -71,7 +83,7 @@ deed_leads k ls c d lines b cells l none led after over name marked go p h =
     subst (λ (ps : List Record). IsMarked x.marks ps lines) (sym (handed_past d (resting a))) (subst (λ (ms : List Mark). IsMarked ms a.past lines) marks marked) in
     let two = lines_act lines ls c x k one cells l acting todo led own go in
     let same : actor_of (with_cells k cells) c ≡ a = actor_as k cells c l in
-    let three = rest_after ls c (with_cells k cells) b two.0 l over (name ∙ ap (λ y. y.name) (sym same)) (subst (λ y. IsActing ls c y (with_cells k cells) two.0) after two.2) in
+    let three = rest_after ls c n (with_cells k cells) b two.0 l over (name ∙ ap (λ y. y.name) (sym same)) (subst (λ y. IsActing ls c y (with_cells k cells) two.0) after two.2) in
     (three.0, leads_on p one three.0 (leads_one p one (step_handed k p ls c d x h refl)) (leads_on one two.0 three.0 two.1 three.1), three.2)
 
 -- ## A declaration
@@ -82,9 +94,9 @@ step_declared : (p : Play) (ls : List Line) (name : List ℕ) → p.turn ≡ Non
 unfolding line_taken
 step_declared p ls name turn lines = step_line p (Declares name) ls turn lines
 
-fresh_last : (k : Kept) (name : List ℕ) → map resting k.actors ++ fresh_actor false (length k.nodes) ∷ [] ≡ map resting (with_actor k name).actors
+fresh_last : (k : Kept) (name : List ℕ) → map resting k.actors ++ fresh_actor k.named (length k.nodes) ∷ [] ≡ map resting (with_actor k name).actors
 unfolding fresh_actor
-fresh_last k name = sym (map-append resting k.actors (new_actor (length k.nodes) name ∷ []))
+fresh_last k name = sym (map-append resting k.actors (new_actor k.named (length k.nodes) name ∷ []))
 
 pub declare_leads : (k : Kept) (ls : List Line) (name : List ℕ) → LeadsTo (IsAtRest (Declares name ∷ ls) k) (IsAtRest ls (with_actor k name))
 declare_leads k ls name p h = (
@@ -96,7 +108,7 @@ declare_leads k ls name p h = (
       nodes = h.stands.nodes;
       cells = h.stands.cells;
       histories = h.stands.histories;
-      names = ap (λ xs. xs ++ name ∷ []) h.stands.names ∙ sym (map-append (λ a. a.name) k.actors (new_actor (length k.nodes) name ∷ []));
+      names = ap (λ xs. xs ++ name ∷ []) h.stands.names ∙ sym (map-append (λ a. a.name) k.actors (new_actor k.named (length k.nodes) name ∷ []));
       operator = h.stands.operator;
       operated = h.stands.operated;
     };
@@ -105,7 +117,7 @@ declare_leads k ls name p h = (
     actors =
         ap (λ xs. xs ++ fresh_actor p.named p.nodes ∷ []) h.actors
         ∙ ap (λ b. map resting k.actors ++ fresh_actor b p.nodes ∷ []) h.stands.named
-        ∙ ap (λ n. map resting k.actors ++ fresh_actor false n ∷ []) (sym h.stands.nodes)
+        ∙ ap (λ n. map resting k.actors ++ fresh_actor k.named n ∷ []) (sym h.stands.nodes)
         ∙ fresh_last k name;
   },
 )
@@ -128,9 +140,9 @@ replicated : {A : Type 0} (n : ℕ) (x : A) → length (replicate n x) ≡ n
 replicated zero x = refl
 replicated (suc n) x = ap suc (replicated n x)
 
-pub begins_at_rest : (n : ℕ) (ls : List Line) → IsAtRest ls (new_kept n (declared ls)) (play_begins false n ls)
+pub begins_at_rest : (named : Bool) (n : ℕ) (ls : List Line) → IsAtRest ls (new_kept named n (declared ls)) (play_begins named n ls)
 unfolding play_begins
-begins_at_rest n ls =
+begins_at_rest named n ls =
     record {
       stands = record {
         named = refl;
@@ -157,14 +169,14 @@ marks_of (a ∷ xs) = ap (λ ys. a.marks ∷ ys) (marks_of xs)
 abbrev mesh_with : ℕ → List (List HistoryLine) → List (List Record) → List Record → List (List Mark) → Mesh
 mesh_with n hs rs os ms = record { nodes = n; histories = hs; records = rs ++ os ∷ []; plan = ms }
 
-ends_are : (xs : List KeptActor) → map raw_end (map (λ a. record { name = a.name }) xs) ≡ ends_from (map (λ a. a.name) xs) (map resting xs)
+ends_are : (xs : List KeptActor) → map end_of xs ≡ ends_from (map (λ a. a.name) xs) (map resting xs)
 unfolding ends_from
 ends_are [] = refl
-ends_are (a ∷ xs) = ap (λ ys. record { name = a.name; last = None } ∷ ys) (ends_are xs)
+ends_are (a ∷ xs) = ap (λ ys. end_of a ∷ ys) (ends_are xs)
 
-pub is_played : (n : ℕ) (ls : List Line) (k : Kept) (p : Play) → Leads (play_begins false n ls) p → IsAtRest [] k p → IsPlayed false n ls (mesh_kept k) (map raw_end (ends_kept k))
+pub is_played : (named : Bool) (n : ℕ) (ls : List Line) (k : Kept) (p : Play) → Leads (play_begins named n ls) p → IsAtRest [] k p → IsPlayed named n ls (mesh_kept k) (ends_kept k)
 unfolding has_ended no_lines mesh_of ends_of
-is_played n ls k p leads h =
+is_played named n ls k p leads h =
     record {
       play = p;
       plays = record { steps = leads.steps; reached = leads.reached; ended = ap (λ x. no_lines x && is_none p.turn) h.lines_are ∙ ap is_none h.turn };

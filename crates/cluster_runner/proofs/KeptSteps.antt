@@ -8,8 +8,8 @@ use Rattle.node_world.specs.declared.record.Record.TheVariants.{Call, Late, Oper
 use Rattle.node_world.specs.Cell.{Cell, fresh_cell, cell_takes}
 use Rattle.node_world.specs.Moving.{Placed}
 use Rattle.mesh.specs.Marks.{next_number}
-use Rattle.cluster_runner.specs.Lines.{Line, Operates}
-use Rattle.cluster_runner.specs.Actor.{Actor, WantsCall, WantsCopy, Says, Rests, wants, goes_on, fresh_actor}
+use Rattle.script_actor.specs.Lines.{Line, Operates}
+use Rattle.script_actor.specs.Actor.{Actor, WantsCall, WantsCopy, Says, Rests, wants, goes_on, fresh_actor}
 use Rattle.cluster_runner.specs.Plays.{Play, play_step, turned, wanted, call_made, copy_made, Delivery, Delivered, ReplyLost, NotDelivered, delivery, told_of, noted, node_asked, is_done, actor_at, next_line, line_taken}
 
 -- what was listed of this node

@@ -4,7 +4,6 @@ use Rattle.std.proofs.lemmas.List.{map-set, length-set, length-map, get_or-set_s
 use Rattle.std.proofs.Math.ListN.{get_or-map}
 use Rattle.std.proofs.Math.Seq.{map-set_same}
 use Rattle.journal_core.specs.declared.request.Request.{Request}
-use Rattle.writer_core.specs.Writer.{next_call}
 use Rattle.node_world.specs.declared.node_ask.NodeAsk.{NodeAsk}
 use Rattle.node_world.specs.declared.node_ask.NodeAsk.TheVariants.{Act}
 use Rattle.node_world.specs.declared.mark.Mark.{Mark}
@@ -19,14 +18,16 @@ use Rattle.caller_seats.specs.declared.delivery.Delivery.{Delivery}
 use Rattle.caller_seats.specs.declared.delivery.Delivery.TheVariants.{Delivered, ReplyLost, NotDelivered}
 use Rattle.caller_seats.specs.Deliveries.{delivery}
 use Rattle.caller_seats.proofs.MarkLaws.{delivery_known}
-use Rattle.cluster_runner.specs.Lines.{Line}
-use Rattle.cluster_runner.specs.Actor.{Actor, Want, WantsCall, WantsCopy, Says, Rests, Fits, IsLed, wants, goes_on, resettled, settled, moved_on, actor_after, fresh_actor}
+use Rattle.script_actor.specs.Lines.{Line}
+use Rattle.script_actor.specs.Actor.{Actor, Want, WantsCall, WantsCopy, Says, Rests, Fits, IsLed, wants, goes_on, resettled, settled, moved_on, actor_after, fresh_actor}
 use Rattle.cluster_runner.specs.Plays.{Play, play_step, play_steps, actor_at}
-use Rattle.cluster_runner.specs.Kept.{Kept, KeptActor, node_at, actor_of, new_actor, listed, answer_to, reached_by, told_by, with_actor_at, resting, Stands, IsAtRest, Leads}
+use Rattle.script_actor.specs.KeptActor.{KeptActor, new_actor, resting}
+use Rattle.script_actor.specs.Deeds.{IsIdleActor}
+use Rattle.cluster_runner.specs.Kept.{Kept, node_at, actor_of, listed, answer_to, reached_by, told_by, with_actor_at, Stands, IsAtRest, Leads}
 use Rattle.cluster_runner.specs.PlaySeats.{Reaches, CopyReaches, LinesGo}
 use Rattle.cluster_runner.proofs.KeptLists.{set_set, histories_snoc}
 use Rattle.cluster_runner.proofs.KeptSteps.{placed, asked_play, reached_play, noted_play, called_play, copied_play, step_call, step_copy, step_says, step_rests}
-use Rattle.cluster_runner.proofs.KeptActor.{rests}
+use Rattle.script_actor.proofs.KeptActor.{idle_no_tail, rests}
 use Rattle.cluster_runner.proofs.Led.{moved_keeps}
 use Rattle.cluster_runner.proofs.Sound.{goes_past}
 
@@ -254,13 +255,13 @@ lines_act (Outcome text ∷ rs) ls c x k p cells l h todo led marked go =
 lines_act (Operator node ask done ∷ rs) ls c x k p cells l h todo led marked go = absurd go.1
 
 -- ## A deed, from one rest to the next
-pub rest_after : (ls : List Line) (c : ℕ) (k : Kept) (b : KeptActor) (p : Play) → c < length k.actors → next_call b.writer ≡ None → b.name ≡ (actor_of k c).name → IsActing ls c (resting b) k p
+pub rest_after : (ls : List Line) (c n : ℕ) (k : Kept) (b : KeptActor) (p : Play) → c < length k.actors → IsIdleActor n b → b.name ≡ (actor_of k c).name → IsActing ls c (resting b) k p
     → (q : Play) × Leads p q × IsAtRest ls (with_actor_at k c b) q
-rest_after ls c k b p l none name h = (
+rest_after ls c n k b p l idle name h = (
   record p { turn = None },
-  leads_one p (record p { turn = None }) (step_rests p c (resting b) h.turn (acting_there ls c (resting b) k p l h) (rests b None none)),
+  leads_one p (record p { turn = None }) (step_rests p c (resting b) h.turn (acting_there ls c (resting b) k p l h) (rests b None (idle_no_tail b.holds idle.holds) idle.rests)),
   record {
-    stands = stands_actor k (record p { turn = None }) c b (new_actor (length k.nodes) []) p.actors name
+    stands = stands_actor k (record p { turn = None }) c b (new_actor k.named (length k.nodes) []) p.actors name
         (record { named = h.stands.named; nodes = h.stands.nodes; cells = h.stands.cells; histories = h.stands.histories; names = h.stands.names; operator = h.stands.operator; operated = h.stands.operated });
     lines_are = h.lines_are;
     turn = refl;

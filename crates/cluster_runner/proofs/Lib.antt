@@ -1,5 +1,5 @@
 pub mod Led
-mod Holds
+pub mod Holds
 mod Wanting
 pub mod Makes
 pub mod ChoresMade
@@ -19,20 +19,13 @@ mod Dues
 mod NamedResults
 pub mod KeptSteps
 pub mod KeptLists
-pub mod KeptActor
 pub mod KeptTurns
 pub mod KeptLines
-pub mod WriterTurn
-pub mod Stretches
 pub mod LineTaken
 pub mod SeatsGo
-pub mod TurnsTell
-pub mod TurnsFit
 pub mod ClusterLaws
-pub mod ResultLaws
 pub mod PlayLaws
 pub mod NodesLeft
 pub mod FaultlessLaws
-pub mod RawEnds
 pub mod NeverBroken
 pub mod ScriptLaws

@@ -1,39 +1,23 @@
 -- A line is taken: a deed of an actor, or an operation.
-use Rattle.std.proofs.Common.{◌≡◌, ℕ, ◌-◌, ◌<◌, ◌≤◌, List, [], ◌∷◌, ◌++◌, length, false, refl, sym, ap, ◌∙◌, subst, None, set, get_or, arith, inl, inr}
+use Rattle.std.proofs.Common.{◌≡◌, ℕ, ◌-◌, ◌<◌, ◌≤◌, List, [], ◌∷◌, ◌++◌, length, false, refl, sym, ap, ◌∙◌, subst, set, get_or, arith, inl, inr}
 use Rattle.std.proofs.lemmas.List.{length-set, get_or-set_same, get_or-set_other}
 use Rattle.std.proofs.lemmas.Bool.Decides.{eqb_tells}
-use Rattle.writer_core.specs.Views.{WriterView}
-use Rattle.writer_core.specs.Writer.{next_call}
 use Rattle.node_world.specs.declared.node_ask.NodeAsk.{NodeAsk}
 use Rattle.node_world.specs.declared.record.Record.{Record}
 use Rattle.node_world.specs.declared.record.Record.TheVariants.{Call, Late, Operator, Outcome}
 use Rattle.node_world.specs.Cell.{Cell}
 use Rattle.node_world.specs.NodeCells.{CellView}
 use Rattle.mesh.specs.Marks.{IsMarked}
-use Rattle.cluster_runner.specs.Lines.{Line, Deed, Acts, Operates}
-use Rattle.cluster_runner.specs.Actor.{IsLed, actor_after, handed}
+use Rattle.script_actor.specs.Lines.{Line, Deed, Acts, Operates}
+use Rattle.script_actor.specs.Actor.{IsLed, actor_after, handed}
 use Rattle.cluster_runner.specs.Plays.{Play, is_done}
-use Rattle.cluster_runner.specs.Kept.{Kept, KeptActor, actor_of, node_at, new_actor, listed, answer_to, operates, with_actor_at, resting, Stands, IsAtRest, LeadsTo}
+use Rattle.script_actor.specs.KeptActor.{KeptActor, new_actor, resting}
+use Rattle.cluster_runner.specs.Kept.{Kept, actor_of, node_at, listed, answer_to, operates, with_actor_at, Stands, IsAtRest, LeadsTo}
 use Rattle.cluster_runner.specs.PlaySeats.{LineGoes, LinesGo}
-use Rattle.cluster_runner.specs.Ready.{IsReady, IsIdle, TakesLine}
+use Rattle.cluster_runner.specs.Ready.{IsIdleIn, IsIdle, TakesLine}
 use Rattle.cluster_runner.proofs.KeptSteps.{asked_play, operated_play, step_operated}
 use Rattle.cluster_runner.proofs.KeptTurns.{leads_one, cell_there, with_node, with_cells, stands_asked}
 use Rattle.cluster_runner.proofs.KeptLines.{deed_leads}
-
--- as many nodes and actors, each ready and at rest
-record StaysIdle (old new : Kept) : Type 0 where
-  nodes : length new.nodes ≡ length old.nodes
-  actors : length new.actors ≡ length old.actors
-  ready : (d : ℕ) → d < length old.actors → IsReady (length old.nodes) (actor_of new d).writer
-  rests : (d : ℕ) → d < length old.actors → next_call (actor_of new d).writer ≡ None
-
-still_idle : (old new : Kept) → StaysIdle old new → IsIdle old → IsIdle new
-still_idle old new s idle =
-    record {
-      some = let a = s.nodes in let b = idle.some in omega (arith, a, b);
-      ready = λ d m. let e = s.actors in subst (λ n. IsReady n (actor_of new d).writer) (sym s.nodes) (s.ready d (omega (arith, m, e)));
-      resting = λ d m. let e = s.actors in s.rests d (omega (arith, m, e));
-    }
 
 -- ## A deed
 line_length : (c : ℕ) (r : Record) (old new : List CellView) → LineGoes c r old new → length new ≡ length old
@@ -47,29 +31,32 @@ unfolding LinesGo
 lines_length c [] old new g = ap length g
 lines_length c (r ∷ rs) old new g = lines_length c rs g.0 new g.2 ∙ line_length c r old g.0 g.1
 
+-- the actor that took it, and the others as they were
+others : (k : Kept) (c e : ℕ) (b : KeptActor) (cells : List CellView) → length cells ≡ length k.nodes → c < length k.actors → IsIdleIn k.named (length k.nodes) b
+    → IsIdleIn k.named (length k.nodes) (actor_of k e) → IsIdleIn k.named (length cells) (actor_of (with_actor_at (with_cells k cells) c b) e)
+others k c e b cells long l mine other =
+    subst (λ m. IsIdleIn k.named m (get_or (set k.actors c b) e (new_actor k.named m []))) (sym long) (elim (eqb_tells e c) [
+      | inl here ↦ subst (λ a. IsIdleIn k.named (length k.nodes) a) (sym (ap (λ x. get_or (set k.actors c b) x (new_actor k.named (length k.nodes) [])) here.1 ∙ get_or-set_same k.actors c b (new_actor k.named (length k.nodes) []) l)) mine
+      | inr off ↦ subst (λ a. IsIdleIn k.named (length k.nodes) a) (sym (get_or-set_other k.actors c e b (new_actor k.named (length k.nodes) []) off.1)) other
+    ])
+
 pub takes_deed : (k : Kept) (c : ℕ) (d : Deed) (lines : List Record) (b : KeptActor) (cells : List CellView) → c < length k.actors → IsIdle k
-    → IsLed (handed d (resting (actor_of k c))) lines → actor_after (handed d (resting (actor_of k c))) lines ≡ resting b → IsReady (length k.nodes) b.writer → next_call b.writer ≡ None
+    → IsLed (handed d (resting (actor_of k c))) lines → actor_after (handed d (resting (actor_of k c))) lines ≡ resting b → IsIdleIn k.named (length k.nodes) b
     → b.name ≡ (actor_of k c).name → IsMarked b.marks (actor_of k c).past lines → LinesGo c lines k.nodes cells
     → TakesLine (Acts c d) (length k.actors) k (with_actor_at (with_cells k cells) c b)
-takes_deed k c d lines b cells l idle led after ready rests name marked go =
+takes_deed k c d lines b cells l idle led after mine name marked go =
     let n : length cells ≡ length k.nodes = lines_length c lines k.nodes cells go in
-    let new : Kept = with_actor_at (with_cells k cells) c b in
-    let m : length new.actors ≡ length k.actors = length-set k.actors c b in
+    let m : length (set k.actors c b) ≡ length k.actors = length-set k.actors c b in
     record {
       nodes = n;
       actors_are = m;
-      idle = still_idle k new (record { nodes = n; actors = m; ready = λ e h. own e (λ w. IsReady (length k.nodes) w) ready (idle.ready e h); rests = λ e h. own e (λ w. next_call w ≡ None) rests (idle.resting e h) }) idle;
-      leads = λ ls. deed_leads k ls c d lines b cells l (idle.resting c l) led after rests name marked go;
+      named = refl;
+      idle = record {
+        some = let some = idle.some in omega (arith, n, some);
+        actors = λ e h. others k c e b cells n l mine (idle.actors e (omega (arith, h, m)));
+      };
+      leads = λ ls. deed_leads k ls c (length k.nodes) d lines b cells l (idle.actors c l).idle led after mine.idle name marked go;
     }
-  where
-    writer_as : (e : ℕ) → (get_or k.actors e (new_actor (length cells) [])).writer ≡ (actor_of k e).writer
-    writer_as e = ap (λ n. (get_or k.actors e (new_actor n [])).writer) (lines_length c lines k.nodes cells go)
-
-    own : (e : ℕ) (P : WriterView → Type 0) → P b.writer → P (actor_of k e).writer → P (actor_of (with_actor_at (with_cells k cells) c b) e).writer
-    own e P mine other = elim (eqb_tells e c) [
-      | inl same ↦ subst P (sym (ap (λ x. (get_or (set k.actors c b) x (new_actor (length cells) [])).writer) same.1 ∙ ap (λ a. a.writer) (get_or-set_same k.actors c b (new_actor (length cells) []) l))) mine
-      | inr off ↦ subst P (sym (ap (λ a. a.writer) (get_or-set_other k.actors c e b (new_actor (length cells) []) off.1) ∙ writer_as e)) other
-    ]
 
 -- ## An operation
 operates_leads : (k : Kept) (ls : List Line) (node : ℕ) (ask : NodeAsk) → 1 ≤ node → node ≤ length k.nodes → LeadsTo (IsAtRest (Operates node ask ∷ ls) k) (IsAtRest ls (operates k node ask))
@@ -100,16 +87,13 @@ pub takes_operation : (old new : Kept) (node : ℕ) (ask : NodeAsk) → IsIdle o
 takes_operation old new node ask idle low high is =
     let P : Kept → Type 0 = λ k. TakesLine (Operates node ask) (length old.actors) old k in
     let n : length (operates old node ask).nodes ≡ length old.nodes = length-set old.nodes (node - 1) (listed (node_at old node) old.operator ask) in
-    let same : (d : ℕ) → (actor_of (operates old node ask) d).writer ≡ (actor_of old d).writer = λ d. ap (λ m. (get_or old.actors d (new_actor m [])).writer) n in
-    let still : StaysIdle old (operates old node ask) = record {
-      nodes = n;
-      actors = refl;
-      ready = λ d h. subst (λ w. IsReady (length old.nodes) w) (sym (same d)) (idle.ready d h);
-      rests = λ d h. ap next_call (same d) ∙ idle.resting d h;
-    } in
     subst P (sym is) (record {
       nodes = n;
       actors_are = refl;
-      idle = still_idle old (operates old node ask) still idle;
+      named = refl;
+      idle = record {
+        some = let some = idle.some in omega (arith, n, some);
+        actors = λ d h. subst (λ m. IsIdleIn old.named m (get_or old.actors d (new_actor old.named m []))) (sym n) (idle.actors d h);
+      };
       leads = λ ls. operates_leads old ls node ask low high;
     })

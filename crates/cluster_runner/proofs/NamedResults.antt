@@ -30,14 +30,14 @@ use Rattle.node_world.specs.declared.record.Record.TheVariants.{Call, Late, Oper
 use Rattle.node_world.specs.declared.record.Told.{Told}
 use Rattle.mesh.specs.Makers.{heard_of}
 use Rattle.name_node.specs.Submissions.{Due, Submission, submitted, nothing_submitted}
-use Rattle.name_node.specs.Holding.{Holding, new_holding, Work, Free, Tails, Logs, Broken, working, at_position, saved, loaded, reloaded, min_to_keep}
+use Rattle.name_node.specs.Holding.{Holding, new_holding, Work, Free, Tails, Logs, Broken, working, at_position, saved, loaded, reloaded, min_to_keep, enters}
 use Rattle.name_node.specs.Tails.{TailEnd, Caught, Reached, PurgedFrom, BehindBy, TailStep, GoesOn, Ends, Breaks, is_until, pass_begun, up_to, after_applied, pass_end, no_edits, tail_hears}
-use Rattle.cluster_runner.specs.Lines.{Deed, Does, DoDrop, DoMute, DoLate, Submits, Trims, DoTail, Saves, Reloads, IsNamesTask, IsDeed, AreDeeds}
-use Rattle.cluster_runner.specs.Results.{dues_logged, dues_aborted, abort_text, inactive_results, too_long_results, late_none}
-use Rattle.cluster_runner.specs.Actor.{Actor, Rests, WantsCall, fresh_actor, call_wanted, work_read, read_first, wants, is_wanting, is_broken_work, is_broken_holding, is_broken, tail_ended, tail_stepped, task_begun, copied, sync_begun, synced, logged_when, trim_at, unless_active, saving, reloading, held_deed, deed_taken, settled, enters, logs_done, aborted_texts, task_done, held_turn, turn_with, turn_taken, heard_in_work, heard_by, moved_on, resettled, goes_on, Fits, IsLed, actor_after}
+use Rattle.script_actor.specs.Lines.{Deed, Does, DoDrop, DoMute, DoLate, Submits, Trims, DoTail, Saves, Reloads, IsNamesTask, IsDeed, AreDeeds}
+use Rattle.script_actor.specs.Results.{dues_logged, dues_aborted, abort_text, inactive_results, too_long_results, late_none}
+use Rattle.script_actor.specs.Actor.{Actor, Rests, WantsCall, fresh_actor, call_wanted, work_read, read_first, wants, is_wanting, is_broken_work, is_broken_holding, is_broken, tail_ended, tail_stepped, task_begun, copied, sync_begun, synced, logged_when, trim_at, unless_active, saving, reloading, held_deed, deed_taken, while_wanting, settled, logs_done, aborted_texts, task_done, held_turn, turn_with, turn_taken, heard_in_work, heard_by, moved_on, resettled, goes_on, Fits, IsLed, actor_after}
 use Rattle.cluster_runner.specs.Told.{results_in}
 use Rattle.cluster_runner.specs.EditResults.{results_due, AreResultsOf, AreResults, NeverBroken}
-use Rattle.cluster_runner.proofs.Led.{moved_keeps}
+use Rattle.cluster_runner.proofs.Led.{todo_wants, waiting, either_wants, moved_keeps}
 use Rattle.cluster_runner.proofs.Wanting.{Calling, Resting, Saying, resting, rests_is, fits_calling, fits_saying, no_operation, call_by, rests_by}
 use Rattle.cluster_runner.proofs.Sound.{or_false}
 use Rattle.cluster_runner.proofs.WriterTurns.{IsBetween, Course, TurnOf, Turned, Begins, begun_turn, heard_turn, new_course, call_some, call_none}
@@ -374,14 +374,6 @@ record Settled (ds : List Deed) (a : Actor) (l : Live a) (b : Actor) : Type 0 wh
 with_todo : (a : Actor) (ds : List Deed) → Live a → Live (record a { todo = ds })
 with_todo a ds l = record { holding = l.holding; holds = l.holds; kind = l.kind; course = l.course; stage = l.stage }
 
-todo_wants : (a : Actor) (x : List Deed) → wants (record a { todo = x }) ≡ wants a
-unfolding wants
-todo_wants a x = refl
-
-either_wants : (b c : Bool) → (b || c) ≡ true → c ≡ false → b ≡ true
-either_wants true c e f = refl
-either_wants false c e f = absurd (cc (e, f))
-
 idle_owes : (a : Actor) (l : Live a) (i : Idle a) (ds : List Deed) (texts : List (List ℕ)) → l.holding.work ≡ Free → Owes [] 0 ds texts → OwesBy a l ds texts
 idle_owes a l i ds texts free h =
     subst (λ (s : List (List ℕ)). Owes s (due_of a.doing l.holding.work) ds texts) (sym i.quiet) (subst (λ (n : ℕ). Owes [] n ds texts) (sym (free_due a.doing l.holding.work i.none free)) h)
@@ -392,13 +384,15 @@ settled_so [] a l d = record { live = with_todo a [] l; deeds = tt; owes = λ te
 settled_so (d ∷ ds) a l e = by (is_wanting (wants a) || is_broken a) refl (λ g. settled_so ds (deed_taken d a) g e.1)
   where
     by : (b : Bool) → (is_wanting (wants a) || is_broken a) ≡ b → ((g : Live (deed_taken d a)) → Settled ds (deed_taken d a) g (settled ds (deed_taken d a)))
-        → Settled (d ∷ ds) a l (cond b (record a { todo = d ∷ ds }) (settled ds (deed_taken d a)))
-    by true is go = record {
-      live = with_todo a (d ∷ ds) l;
-      deeds = e;
-      owes = λ texts o. o;
-      done = λ f. absurd (cc (either_wants (is_wanting (wants a)) (is_broken a) is (live_whole a l), ap is_wanting (sym (todo_wants a (d ∷ ds))) ∙ f));
-    }
+        → Settled (d ∷ ds) a l (cond b (record a { todo = while_wanting (is_wanting (wants a)) (d ∷ ds) }) (settled ds (deed_taken d a)))
+    by true is go =
+        let at_work : is_wanting (wants a) ≡ true = either_wants (is_wanting (wants a)) (is_broken a) is (live_whole a l) in
+        subst (λ (ts : List Deed). Settled (d ∷ ds) a l (record a { todo = ts })) (sym (waiting a (d ∷ ds) at_work)) (record {
+          live = with_todo a (d ∷ ds) l;
+          deeds = e;
+          owes = λ texts o. o;
+          done = λ f. absurd (cc (at_work, ap is_wanting (sym (todo_wants a (d ∷ ds))) ∙ f));
+        })
     by false is go =
         let i : Idle a = idle_of a l (or_false (is_wanting (wants a)) (is_broken a) is) in
         let t : Taken d a (deed_taken d a) = deed_taken_so d a e.0 i in
@@ -708,7 +702,8 @@ broken_todo a x = refl
 broken_settled : (ds : List Deed) (a : Actor) → is_broken a ≡ true → is_broken (settled ds a) ≡ true
 unfolding settled
 broken_settled [] a e = broken_todo a [] ∙ e
-broken_settled (d ∷ ds) a e = broken_by (is_wanting (wants a)) (is_broken a) (record a { todo = d ∷ ds }) (settled ds (deed_taken d a)) e (broken_todo a (d ∷ ds) ∙ e)
+broken_settled (d ∷ ds) a e = broken_by (is_wanting (wants a)) (is_broken a) (record a { todo = while_wanting (is_wanting (wants a)) (d ∷ ds) }) (settled ds (deed_taken d a)) e
+    (broken_todo a (while_wanting (is_wanting (wants a)) (d ∷ ds)) ∙ e)
 
 never_first : (a : Actor) (rs : List Record) → NeverBroken a rs → is_broken a ≡ false
 unfolding NeverBroken

@@ -1,7 +1,7 @@
 -- An actor that is broken at no moment meets no bad entry on its way.
 use Rattle.std.proofs.Common.{◌≡◌, List, [], ◌∷◌, ◌++◌, false, refl, ap}
 use Rattle.node_world.specs.declared.record.Record.{Record}
-use Rattle.cluster_runner.specs.Actor.{Actor, is_broken, goes_on, actor_after}
+use Rattle.script_actor.specs.Actor.{Actor, is_broken, goes_on, actor_after}
 use Rattle.cluster_runner.specs.EditResults.{NeverBroken}
 
 pub never_broken : (rs : List Record) (a : Actor) → ((before after : List Record) → rs ≡ before ++ after → is_broken (actor_after a before) ≡ false) → NeverBroken a rs

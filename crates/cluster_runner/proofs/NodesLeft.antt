@@ -1,10 +1,10 @@
 -- The nodes at the end of a play: each is as its history leaves it.
-use Rattle.std.proofs.Common.{◌≡◌, ℕ, suc, ◌+◌, ◌<◌, List, [], ◌∷◌, length, map, Some, refl, sym, ap, ◌∙◌, subst, arith, get_or, false}
+use Rattle.std.proofs.Common.{◌≡◌, ℕ, suc, ◌+◌, ◌<◌, List, [], ◌∷◌, length, map, Bool, Some, refl, sym, ap, ◌∙◌, subst, arith, get_or}
 use Rattle.node_world.specs.Cell.{Cell, fresh_cell, cell_after}
 use Rattle.node_world.specs.NodeCells.{CellView}
 use Rattle.node_world.specs.Moving.{Placed}
 use Rattle.script_text.specs.declared.script_line.ScriptLine.{ScriptLine}
-use Rattle.cluster_runner.specs.Lines.{Line, ArePlayable}
+use Rattle.script_actor.specs.Lines.{Line, ArePlayable, HasNodes}
 use Rattle.cluster_runner.specs.Plays.{Play, play_begins, history_of, histories_from}
 use Rattle.cluster_runner.specs.Kept.{Kept, mesh_kept, states_kept, states_behind}
 use Rattle.cluster_runner.specs.Goal.{IsUnderWay}
@@ -28,11 +28,11 @@ cell_states [] = refl
 cell_states (v ∷ vs) = ap (λ xs. Some v.cell.state ∷ xs) (cell_states vs)
 
 -- at each place of a play
-pub states_left : (nodes : ℕ) (lines : List Line) (rest : List ScriptLine) (k : Kept) → ArePlayable false nodes 0 lines → IsUnderWay nodes lines rest k
+pub states_left : (named : Bool) (nodes : ℕ) (lines : List Line) (rest : List ScriptLine) (k : Kept) → HasNodes named nodes → ArePlayable named nodes 0 lines → IsUnderWay named nodes lines rest k
     → states_kept k ≡ states_behind (mesh_kept k).histories
-states_left nodes lines rest k can u =
+states_left named nodes lines rest k some can u =
     let p : Play = u.play in
-    let h : Holds false nodes lines p = subst (Holds false nodes lines) u.leads.reached (steps_hold false u.leads.steps nodes lines (play_begins false nodes lines) (begins_hold false nodes lines tt can)) in
+    let h : Holds named nodes lines p = subst (Holds named nodes lines) u.leads.reached (steps_hold named u.leads.steps nodes lines (play_begins named nodes lines) (begins_hold named nodes lines some can)) in
     let all : (i : ℕ) → i < length p.cells → cell_after fresh_cell (history_of (i + 1) p.trace) ≡ get_or p.cells i fresh_cell =
     λ i l. h.cells.state i (subst (λ m. i < m) h.cells.count l) in
     cell_states k.nodes ∙ ap (map (λ c. Some c.state)) (sym u.at_rest.stands.cells) ∙ sym (states_each p.cells 1 p.trace all)

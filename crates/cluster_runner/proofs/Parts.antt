@@ -9,8 +9,8 @@ use Rattle.node_world.specs.declared.record.Record.{Record}
 use Rattle.node_world.specs.Cell.{Cell, fresh_cell, cell_takes, IsLocalRun, cell_after}
 use Rattle.node_world.specs.Moving.{Placed}
 use Rattle.mesh.specs.Matches.{IsWithin}
-use Rattle.cluster_runner.specs.Lines.{Deed, Line, Declares, Acts, Operates, deeds_of, IsDeed, AreDeeds, HasNodes}
-use Rattle.cluster_runner.specs.Actor.{Actor, fresh_actor, settled, handed, wants, goes_on, Fits, actor_after, IsLed}
+use Rattle.script_actor.specs.Lines.{Deed, Line, Declares, Acts, Operates, deeds_of, IsDeed, AreDeeds, HasNodes}
+use Rattle.script_actor.specs.Actor.{Actor, fresh_actor, settled, handed, wants, goes_on, Fits, actor_after, IsLed}
 use Rattle.cluster_runner.specs.Plays.{history_of}
 use Rattle.mesh.proofs.Lists.{cond_true, cond_false, Alike, alike, append_none}
 use Rattle.cluster_runner.proofs.Led.{led_snoc, after_snoc, settled_more, handed_after, handed_led}

@@ -1,5 +1,5 @@
 -- The seats of a play while an actor acts: each call of theirs, and a whole deed.
-use Rattle.std.proofs.Common.{◌≡◌, ◌≢◌, ◌==◌, ◌⊎◌, ℕ, zero, suc, ◌-◌, ◌<◌, ◌≤◌, List, [], ◌∷◌, ◌++◌, length, false, true, refl, sym, ap, ◌∙◌, subst, arith, inl, inr, append_assoc, append-nil, set, get_or}
+use Rattle.std.proofs.Common.{◌≡◌, ◌≢◌, ◌==◌, ◌⊎◌, ℕ, zero, suc, ◌-◌, ◌<◌, ◌≤◌, List, [], ◌∷◌, ◌++◌, length, Bool, false, true, refl, sym, ap, ◌∙◌, subst, arith, inl, inr, append_assoc, append-nil, set, get_or}
 use Rattle.std.proofs.lemmas.List.{length-map, length-set, map-set, get_or-map, get_or-set_same, get_or-set_other, append_cancel_left}
 use Rattle.std.proofs.lemmas.List.Elements.{All-append}
 use Rattle.std.proofs.lemmas.Bool.Decides.{eqb_tells}
@@ -13,18 +13,19 @@ use Rattle.node_world.specs.declared.record.Told.{Told}
 use Rattle.node_world.specs.NodeCells.{CellView, new_cell}
 use Rattle.mesh.specs.Makers.{heard_of}
 use Rattle.mesh.specs.Marks.{next_number, IsAsMarked, IsMarked}
-use Rattle.writer_core.specs.Writer.{next_call}
 use Rattle.caller_seats.specs.declared.delivery.Delivery.{Delivery}
 use Rattle.caller_seats.specs.Deliveries.{delivery}
 use Rattle.caller_seats.specs.Logs.{LogView, with_line, copying, IsCalled}
 use Rattle.caller_seats.proofs.MarkLaws.{delivery_marked, marked_after}
+use Rattle.script_text.specs.declared.script_line.ScriptLine.{ScriptLine}
 use Rattle.cluster_runner.specs.declared.player.Player.{Player}
-use Rattle.cluster_runner.specs.Lines.{Line, Deed, Acts}
-use Rattle.cluster_runner.specs.Actor.{Actor, IsLed, handed, goes_on, actor_after}
-use Rattle.cluster_runner.specs.Deeds.{kept_of, IsIdleActor, TakesDeed, TakesIf, deed_of}
-use Rattle.cluster_runner.specs.Kept.{Kept, KeptActor, actor_of, new_actor, listed, answer_to, reached_by, told_by, resting}
+use Rattle.script_actor.specs.Lines.{Line, Deed, Acts}
+use Rattle.script_actor.specs.Actor.{Actor, IsLed, handed, goes_on, actor_after}
+use Rattle.script_actor.specs.Deeds.{IsIdleActor, TakesDeed, TakesIf, deed_of, MayCome, has_names, kept_by}
+use Rattle.script_actor.specs.KeptActor.{KeptActor, new_actor, resting}
+use Rattle.cluster_runner.specs.Kept.{Kept, actor_of, listed, answer_to, reached_by, told_by}
 use Rattle.cluster_runner.specs.PlaySeats.{SeatsView, cell_at, AreLater}
-use Rattle.cluster_runner.specs.Ready.{IsReady, IsIdle, TakesLine}
+use Rattle.cluster_runner.specs.Ready.{IsIdleIn, IsIdle, TakesLine}
 use Rattle.cluster_runner.specs.SeatLaws.{later_one}
 use Rattle.cluster_runner.specs.Shown.{keeps, kept, AreSeated}
 use Rattle.cluster_runner.proofs.KeptLists.{same_place}
@@ -83,50 +84,63 @@ say_later s caller cells log new text e said =
     (later_one (view caller cells log) (view caller cells new) (Outcome text) refl (ap (λ (l : LogView). l.nodes) said) (ap (λ (l : LogView). l.past) said) refl)
 
 -- ## A deed
-players_there : (cells : List CellView) (players : List Player) (o : ℕ) (os : List Record) (k : Kept) (c : ℕ) → kept cells players o os ≡ k → c < length k.actors → c < length players
-players_there cells players o os k c e l =
+players_there : (named : Bool) (cells : List CellView) (players : List Player) (o : ℕ) (os : List Record) (k : Kept) (c : ℕ) → kept named cells players o os ≡ k → c < length k.actors → c < length players
+players_there named cells players o os k c e l =
     let n : length k.actors ≡ length players = ap (λ (x : Kept). length x.actors) (sym e) ∙ length-map players keeps in omega (arith, l, n)
 
-actor_is : (cells : List CellView) (players : List Player) (o : ℕ) (os : List Record) (c : ℕ) (p : Player) → p ≡ get_or players c p → c < length players
-    → actor_of (kept cells players o os) c ≡ keeps p
-actor_is cells players o os c p is l = get_or-map keeps players c p (new_actor (length cells) []) l ∙ ap keeps (sym is)
+actor_is : (named : Bool) (cells : List CellView) (players : List Player) (o : ℕ) (os : List Record) (c : ℕ) (p : Player) → p ≡ get_or players c p → c < length players
+    → actor_of (kept named cells players o os) c ≡ keeps p
+actor_is named cells players o os c p is l = get_or-map keeps players c p (new_actor named (length cells) []) l ∙ ap keeps (sym is)
 
-pub idle_there : (cells : List CellView) (players : List Player) (o : ℕ) (os : List Record) (k : Kept) (c : ℕ) (p : Player) (log : LogView) → kept cells players o os ≡ k → AreSeated (length cells) players
-    → p ≡ get_or players c p → c < length k.actors → log ≡ p.log → IsIdle k → IsIdleActor log.nodes (kept_of p.writer.view log)
-idle_there cells players o os k c p log e seated is l own idle =
-    let there : c < length players = players_there cells players o os k c e l in
-    let n : p.log.nodes ≡ length cells = ap (λ (x : Player). x.log.nodes) is ∙ seated c p there in
-    let j : Kept = kept cells players o os in
+pub log_seated : (named : Bool) (cells : List CellView) (players : List Player) (o : ℕ) (os : List Record) (k : Kept) (c : ℕ) (p : Player) (log : LogView) → kept named cells players o os ≡ k → AreSeated (length cells) players
+    → p ≡ get_or players c p → c < length k.actors → log ≡ p.log → log.nodes ≡ length cells
+log_seated named cells players o os k c p log e seated is l own =
+    ap (λ (x : LogView). x.nodes) own ∙ ap (λ (x : Player). x.log.nodes) is ∙ seated c p (players_there named cells players o os k c e l)
+
+player_idle : (named : Bool) (cells : List CellView) (players : List Player) (o : ℕ) (os : List Record) (k : Kept) (c : ℕ) (p : Player) → kept named cells players o os ≡ k → p ≡ get_or players c p → c < length k.actors
+    → IsIdle k → IsIdleIn named (length cells) (keeps p)
+player_idle named cells players o os k c p e is l idle =
+    let there : c < length players = players_there named cells players o os k c e l in
+    let j : Kept = kept named cells players o os in
     let still : IsIdle j = subst (λ (x : Kept). IsIdle x) (sym e) idle in
     let m : c < length j.actors = let y = length-map players keeps in omega (arith, there, y) in
-    let a : actor_of j c ≡ keeps p = actor_is cells players o os c p is there in
-    let P : LogView → Type 0 = λ x. IsIdleActor x.nodes (kept_of p.writer.view x) in
-    subst P (sym own) (record {
-      some = let y = still.some in omega (arith, y, n);
-      ready = subst (λ x. IsReady x p.writer.view) (sym n) (subst (λ (x : KeptActor). IsReady (length cells) x.writer) a (still.ready c m));
-      rests = ap (λ (x : KeptActor). next_call x.writer) (sym a) ∙ still.resting c m;
-    })
+    subst (λ (a : KeptActor). IsIdleIn named (length cells) a) (actor_is named cells players o os c p is there) (still.actors c m)
+
+pub idle_there : (named : Bool) (cells : List CellView) (players : List Player) (o : ℕ) (os : List Record) (k : Kept) (c : ℕ) (p : Player) (log : LogView) → kept named cells players o os ≡ k → AreSeated (length cells) players
+    → p ≡ get_or players c p → c < length k.actors → log ≡ p.log → IsIdle k → IsIdleActor log.nodes (kept_by p.actor log)
+idle_there named cells players o os k c p log e seated is l own idle =
+    let n : log.nodes ≡ length cells = log_seated named cells players o os k c p log e seated is l own in
+    let i : IsIdleActor (length cells) (keeps p) = (player_idle named cells players o os k c p e is l idle).idle in
+    subst (λ m. IsIdleActor m (kept_by p.actor log)) (sym n) (record { some = i.some; ready = i.ready; rests = i.rests; holds = i.holds })
+
+-- what may come in the play may come to the actor
+pub may_there : (named : Bool) (cells : List CellView) (players : List Player) (o : ℕ) (os : List Record) (k : Kept) (c : ℕ) (p : Player) (log : LogView) (line : ScriptLine) → kept named cells players o os ≡ k
+    → AreSeated (length cells) players → p ≡ get_or players c p → c < length k.actors → log ≡ p.log → IsIdle k → MayCome k.named (length k.nodes) line → MayCome (has_names p.actor) log.nodes line
+may_there named cells players o os k c p log line e seated is l own idle may =
+    let n : log.nodes ≡ length cells = log_seated named cells players o os k c p log e seated is l own in
+    subst (λ m. MayCome (has_names p.actor) m line) (sym n)
+    (subst (λ b. MayCome b (length cells) line) (sym (player_idle named cells players o os k c p e is l idle).holds_if) (subst (λ (x : Kept). MayCome x.named (length x.nodes) line) (sym e) may))
 
 pub led_past : (x : Actor) (rs : List Record) → (actor_after x rs).past ≡ x.past ++ rs
 unfolding actor_after
 led_past x [] = sym (append-nil x.past)
 led_past x (r ∷ rs) = led_past (goes_on x r) rs ∙ ap (λ l. l ++ rs) (goes_past x r) ∙ append_assoc x.past (r ∷ []) rs
 
-pub act_takes : (cells : List CellView) (players : List Player) (o : ℕ) (os : List Record) (k : Kept) (c : ℕ) (p q : Player) (log last : LogView) (caller : ℕ) (more : List CellView) (d : Deed) (line : Line) (new : SeatsView)
-    → kept cells players o os ≡ k → AreSeated (length cells) players → p ≡ get_or players c p → c < length k.actors → log ≡ p.log → IsIdle k → line ≡ Acts c d
-    → view caller more last ≡ new → TakesIf log.nodes (deed_of line) (kept_of p.writer.view log) (kept_of q.writer.view new.log) → AreLater (view c cells log) new
-    → IsMarked last.marks [] last.past → q.name ≡ p.name → q.log ≡ last → TakesLine (Acts c d) (length k.actors) k (kept more (set players c q) o os)
-act_takes cells players o os k c p q log last caller more d line new e seated is l own idle says back takes later marked name after =
-    let there : c < length players = players_there cells players o os k c e l in
+pub act_takes : (named : Bool) (cells : List CellView) (players : List Player) (o : ℕ) (os : List Record) (k : Kept) (c : ℕ) (p q : Player) (log last : LogView) (caller : ℕ) (more : List CellView) (d : Deed) (line : Line) (new : SeatsView)
+    → kept named cells players o os ≡ k → AreSeated (length cells) players → p ≡ get_or players c p → c < length k.actors → log ≡ p.log → IsIdle k → line ≡ Acts c d
+    → view caller more last ≡ new → TakesIf log.nodes (deed_of line) (kept_by p.actor log) (kept_by q.actor new.log) → has_names q.actor ≡ has_names p.actor → AreLater (view c cells log) new
+    → IsMarked last.marks [] last.past → q.name ≡ p.name → q.log ≡ last → TakesLine (Acts c d) (length k.actors) k (kept named more (set players c q) o os)
+act_takes named cells players o os k c p q log last caller more d line new e seated is l own idle says back takes as_before later marked name after =
+    let there : c < length players = players_there named cells players o os k c e l in
     let n : p.log.nodes ≡ length cells = ap (λ (x : Player). x.log.nodes) is ∙ seated c p there in
-    let j : Kept = kept cells players o os in
+    let j : Kept = kept named cells players o os in
     let m : c < length j.actors = let y = length-map players keeps in omega (arith, there, y) in
     let still : IsIdle j = subst (λ (x : Kept). IsIdle x) (sym e) idle in
-    let a : actor_of j c ≡ keeps p = actor_is cells players o os c p is there in
-    let t : TakesDeed p.log.nodes d (kept_of p.writer.view p.log) (keeps q) =
-    subst (λ (x : LogView). TakesDeed p.log.nodes d (kept_of p.writer.view p.log) (record { name = q.name; writer = q.writer.view; past = x.past; marks = x.marks })) (sym after)
-    (named (subst (λ (x : SeatsView). TakesDeed p.log.nodes d (kept_of p.writer.view p.log) (kept_of q.writer.view x.log)) (sym back)
-    (subst (λ (x : LogView). TakesDeed x.nodes d (kept_of p.writer.view x) (kept_of q.writer.view new.log)) own (subst (λ (x : Line). TakesIf log.nodes (deed_of x) (kept_of p.writer.view log) (kept_of q.writer.view new.log)) says takes)))) in
+    let a : actor_of j c ≡ keeps p = actor_is named cells players o os c p is there in
+    let t : TakesDeed p.log.nodes d (kept_by p.actor p.log) (keeps q) =
+    subst (λ (x : LogView). TakesDeed p.log.nodes d (kept_by p.actor p.log) (record { name = q.name; writer = q.actor.writer; holds = q.actor.holds; past = x.past; marks = x.marks })) (sym after)
+    (renamed (subst (λ (x : SeatsView). TakesDeed p.log.nodes d (kept_by p.actor p.log) (kept_by q.actor x.log)) (sym back)
+    (subst (λ (x : LogView). TakesDeed x.nodes d (kept_by p.actor x) (kept_by q.actor new.log)) own (subst (λ (x : Line). TakesIf log.nodes (deed_of x) (kept_by p.actor log) (kept_by q.actor new.log)) says takes)))) in
     let g : AreLater (view c cells p.log) (view caller more last) =
     subst (λ (x : SeatsView). AreLater (view c cells p.log) x) (sym back) (subst (λ (x : LogView). AreLater (view c cells x) new) own later) in
     let x : Actor = handed d (resting (keeps p)) in
@@ -135,23 +149,19 @@ act_takes cells players o os k c p q log last caller more d line new e seated is
     let split : IsMarked last.marks [] (p.log.past ++ g.lines) = subst (λ ps. IsMarked last.marks [] ps) g.past marked in
     let own_marks : IsMarked (keeps q).marks p.log.past g.lines = subst (λ (y : LogView). IsMarked y.marks p.log.past g.lines) (sym after) (marked_after last.marks [] p.log.past g.lines split) in
     let b : KeptActor = actor_of j c in
-    let taken : TakesLine (Acts c d) (length j.actors) j (record { nodes = more; actors = set j.actors c (keeps q); operator = o; operated = os }) =
+    let taken : TakesLine (Acts c d) (length j.actors) j (record { named = named; nodes = more; actors = set j.actors c (keeps q); operator = o; operated = os }) =
     takes_deed j c d g.lines (keeps q) more m still
     (subst (λ (y : KeptActor). IsLed (handed d (resting y)) g.lines) (sym a) (subst (λ rs. IsLed x rs) same t.leads.led))
     (subst (λ (y : KeptActor). actor_after (handed d (resting y)) g.lines ≡ resting (keeps q)) (sym a) (subst (λ rs. actor_after x rs ≡ resting (keeps q)) same t.leads.after))
-    (subst (λ y. IsReady y q.writer.view) n t.idle.ready) t.idle.rests
+    (record { idle = subst (λ y. IsIdleActor y (keeps q)) n t.idle; holds_if = as_before ∙ (player_idle named cells players o os k c p e is l idle).holds_if })
     (name ∙ ap (λ (y : KeptActor). y.name) (sym a))
     (subst (λ (y : KeptActor). IsMarked (keeps q).marks y.past g.lines) (sym a) own_marks) g.went in
-    subst (λ (y : Kept). TakesLine (Acts c d) (length y.actors) y (kept more (set players c q) o os)) e
-    (subst (λ xs. TakesLine (Acts c d) (length j.actors) j (record { nodes = more; actors = xs; operator = o; operated = os })) (sym (map-set keeps players c q)) taken)
+    subst (λ (y : Kept). TakesLine (Acts c d) (length y.actors) y (kept named more (set players c q) o os)) e
+    (subst (λ xs. TakesLine (Acts c d) (length j.actors) j (record { named = named; nodes = more; actors = xs; operator = o; operated = os })) (sym (map-set keeps players c q)) taken)
   where
-    named : TakesDeed p.log.nodes d (kept_of p.writer.view p.log) (kept_of q.writer.view last) → TakesDeed p.log.nodes d (kept_of p.writer.view p.log) (record { name = q.name; writer = q.writer.view; past = last.past; marks = last.marks })
-    named h = record { idle = record { some = h.idle.some; ready = h.idle.ready; rests = h.idle.rests }; leads = record { lines = h.leads.lines; led = h.leads.led; after = h.leads.after } }
-
-pub log_seated : (cells : List CellView) (players : List Player) (o : ℕ) (os : List Record) (k : Kept) (c : ℕ) (p : Player) (log : LogView) → kept cells players o os ≡ k → AreSeated (length cells) players
-    → p ≡ get_or players c p → c < length k.actors → log ≡ p.log → log.nodes ≡ length cells
-log_seated cells players o os k c p log e seated is l own =
-    ap (λ (x : LogView). x.nodes) own ∙ ap (λ (x : Player). x.log.nodes) is ∙ seated c p (players_there cells players o os k c e l)
+    renamed : TakesDeed p.log.nodes d (kept_by p.actor p.log) (kept_by q.actor last)
+        → TakesDeed p.log.nodes d (kept_by p.actor p.log) (record { name = q.name; writer = q.actor.writer; holds = q.actor.holds; past = last.past; marks = last.marks })
+    renamed h = record { idle = record { some = h.idle.some; ready = h.idle.ready; rests = h.idle.rests; holds = h.idle.holds }; leads = record { lines = h.leads.lines; led = h.leads.led; after = h.leads.after } }
 
 pub still_seated : (cells : List CellView) (players : List Player) (c : ℕ) (q : Player) (log last : LogView) (caller : ℕ) (more : List CellView) (new : SeatsView) → view caller more last ≡ new → AreLater (view c cells log) new
     → length more ≡ last.nodes → AreSeated (length cells) players → log.nodes ≡ length cells → q.log ≡ last → AreSeated (length more) (set players c q)

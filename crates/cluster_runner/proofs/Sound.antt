@@ -13,10 +13,11 @@ use Rattle.mesh.specs.Marks.{calls_to, IsCopy}
 use Rattle.mesh.specs.Makers.{heard_of}
 use Rattle.mesh.specs.Matches.{IsWithin, AreWithin}
 use Rattle.name_node.specs.Holding.{Holding, Work, Free, Tails, Logs, Broken}
-use Rattle.cluster_runner.specs.Lines.{Deed, Does, DoDrop, DoMute, DoLate, Submits, Trims, DoTail, Saves, Reloads, IsDeed, AreDeeds, HasNodes}
+use Rattle.script_actor.specs.Lines.{Deed, Does, DoDrop, DoMute, DoLate, Submits, Trims, DoTail, Saves, Reloads, IsDeed, AreDeeds, HasNodes}
 use Rattle.cluster_runner.specs.EditResults.{IsRaw, AreRaw}
-use Rattle.cluster_runner.specs.Actor.{Actor, WantsCall, WantsCopy, fresh_actor, call_wanted, work_read, read_first, wants, is_wanting, is_broken, task_begun, copied, held_deed, deed_taken, settled, handed, moved_on, resettled, goes_on, Fits}
-use Rattle.cluster_runner.proofs.Led.{framed_keeps, held_framed, moved_keeps}
+use Rattle.script_actor.specs.Actor.{Actor, WantsCall, WantsCopy, fresh_actor, call_wanted, work_read, read_first, wants, is_wanting, is_broken, task_begun, copied, held_deed, deed_taken, while_wanting, settled, handed, moved_on, resettled, goes_on, Fits}
+use Rattle.script_actor.proofs.Framed.{framed_keeps, held_framed}
+use Rattle.cluster_runner.proofs.Led.{moved_keeps}
 use Rattle.cluster_runner.proofs.Holds.{AsksNode, AsksIn, HoldsWell, Well, taken_well, moved_well, raw_taken, raw_moved, raw_writer}
 use Rattle.mesh.proofs.Lists.{alike, Alike}
 use Rattle.cluster_runner.proofs.Wanting.{Calling, Resting, calling, copying, resting, call_by, raw_call}
@@ -126,10 +127,16 @@ pub or_false : (b c : Bool) → (b || c) ≡ false → b ≡ false
 or_false true c e = absurd (cc e)
 or_false false c e = refl
 
+pub waiting_deeds : (named w : Bool) (ds : List Deed) → AreDeeds named ds → AreDeeds named (while_wanting w ds)
+unfolding AreDeeds
+waiting_deeds named true ds e = e
+waiting_deeds named false ds e = tt
+
 settled_by : (named : Bool) (n : ℕ) (b : Bool) (d : Deed) (ds : List Deed) (a : Actor) → (is_wanting (wants a) || is_broken a) ≡ b → AreDeeds named (d ∷ ds) → Sound named n a
-    → (Sound named n (deed_taken d a) → Sound named n (settled ds (deed_taken d a))) → Sound named n (cond b (record a { todo = d ∷ ds }) (settled ds (deed_taken d a)))
+    → (Sound named n (deed_taken d a) → Sound named n (settled ds (deed_taken d a))) → Sound named n (cond b (record a { todo = while_wanting (is_wanting (wants a)) (d ∷ ds) }) (settled ds (deed_taken d a)))
 unfolding GoesBy AreDeeds
-settled_by named n true d ds a is e h go = record { sized = h.sized; within = h.within; goes = h.goes; deeds = e; holds = h.holds }
+settled_by named n true d ds a is e h go =
+    record { sized = h.sized; within = h.within; goes = h.goes; deeds = waiting_deeds named (is_wanting (wants a)) (d ∷ ds) e; holds = h.holds }
 settled_by named n false d ds a is e h go = go (taken_sound named n d a e.0 (resting a (or_false (is_wanting (wants a)) (is_broken a) is)) h)
 
 pub settled_sound : (named : Bool) (n : ℕ) (ds : List Deed) (a : Actor) → AreDeeds named ds → Sound named n a → Sound named n (settled ds a)
@@ -137,14 +144,15 @@ unfolding settled AreDeeds GoesBy
 settled_sound named n [] a e h = record { sized = h.sized; within = h.within; goes = h.goes; deeds = tt; holds = h.holds }
 settled_sound named n (d ∷ ds) a e h = settled_by named n (is_wanting (wants a) || is_broken a) d ds a refl e h (λ g. settled_sound named n ds (deed_taken d a) e.1 g)
 
-settled_past_by : (b : Bool) (d : Deed) (ds : List Deed) (a : Actor) → (settled ds (deed_taken d a)).past ≡ (deed_taken d a).past → (cond b (record a { todo = d ∷ ds }) (settled ds (deed_taken d a))).past ≡ a.past
-settled_past_by true d ds a h = refl
-settled_past_by false d ds a h = h ∙ (taken_keeps d a).1
+settled_past_by : (b : Bool) (d : Deed) (ds left : List Deed) (a : Actor) → (settled ds (deed_taken d a)).past ≡ (deed_taken d a).past
+    → (cond b (record a { todo = left }) (settled ds (deed_taken d a))).past ≡ a.past
+settled_past_by true d ds left a h = refl
+settled_past_by false d ds left a h = h ∙ (taken_keeps d a).1
 
 pub settled_past : (ds : List Deed) (a : Actor) → (settled ds a).past ≡ a.past
 unfolding settled
 settled_past [] a = refl
-settled_past (d ∷ ds) a = settled_past_by (is_wanting (wants a) || is_broken a) d ds a (settled_past ds (deed_taken d a))
+settled_past (d ∷ ds) a = settled_past_by (is_wanting (wants a) || is_broken a) d ds (while_wanting (is_wanting (wants a)) (d ∷ ds)) a (settled_past ds (deed_taken d a))
 
 pub handed_past : (d : Deed) (a : Actor) → (handed d a).past ≡ a.past
 unfolding handed
@@ -153,6 +161,11 @@ handed_past d a = settled_past (a.todo ++ d ∷ []) a
 pub handed_sound : (named : Bool) (n : ℕ) (d : Deed) (a : Actor) → IsDeed named d → Sound named n a → Sound named n (handed d a)
 unfolding handed
 handed_sound named n d a e h = settled_sound named n (a.todo ++ d ∷ []) a (deeds_snoc named a.todo d h.deeds e) h
+
+-- a script has a node
+pub has_nodes : (named : Bool) (n : ℕ) → 1 ≤ n → HasNodes named n
+has_nodes true n some = some
+has_nodes false n some = tt
 
 fresh_holds : (named : Bool) (n : ℕ) → HasNodes named n → HoldsWell named n (fresh_actor named n).holds
 unfolding fresh_actor

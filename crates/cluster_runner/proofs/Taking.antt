@@ -9,8 +9,8 @@ use Rattle.node_world.specs.declared.record.Record.TheVariants.{Call, Late, Oper
 use Rattle.node_world.specs.Cell.{fresh_cell, IsLocalRun, cell_after}
 use Rattle.mesh.specs.Makers.{IsOperation, IsOperators}
 use Rattle.mesh.specs.Matches.{reaches, IsSame, AreWithin}
-use Rattle.cluster_runner.specs.Lines.{Deed, Line, Declares, Acts, Operates, Operation, declared, names_in, operations_in, deeds_of, IsDeed, ArePlayable, HasNodes}
-use Rattle.cluster_runner.specs.Actor.{Actor, fresh_actor, handed, Rests, wants, says_first, copy_first, read_first, call_wanted}
+use Rattle.script_actor.specs.Lines.{Deed, Line, Declares, Acts, Operates, Operation, declared, names_in, operations_in, deeds_of, IsDeed, ArePlayable, HasNodes}
+use Rattle.script_actor.specs.Actor.{Actor, fresh_actor, handed, Rests, wants, says_first, copy_first, read_first, call_wanted}
 use Rattle.cluster_runner.specs.Plays.{Play, play_begins, actor_at, taken_at, node_asked, is_done, line_taken, next_line, turned, play_step, play_steps, history_of}
 use Rattle.cluster_runner.specs.Follows.{AreOperations}
 use Rattle.mesh.proofs.Lists.{Alike, alike, append_none, contains_none}

@@ -1,5 +1,5 @@
 -- Three nodes, one writer, three edits: the script, its mesh and its ends written out.
-use Rattle.std.specs.Prelude.{ℕ, List, [], ◌∷◌, ◌++◌, map, codes, None}
+use Rattle.std.specs.Prelude.{ℕ, false, List, [], ◌∷◌, ◌++◌, map, codes, None}
 use Rattle.journal_core.specs.declared.request.Request.{Request}
 use Rattle.journal_core.specs.declared.request.Request.TheVariants as request
 use Rattle.journal_core.specs.declared.reply.Reply.{Reply}
@@ -14,12 +14,13 @@ use Rattle.ns_tree.specs.declared.end.End.{End}
 use Rattle.script_text.specs.Views.{ScriptView}
 use Rattle.script_text.specs.declared.script_line.ScriptLine.TheVariants as script
 use Rattle.cluster_runner.specs.Plays.{Play}
-use Rattle.cluster_runner.specs.Lines.{lines_of}
+use Rattle.script_actor.specs.Lines.{lines_of}
 use Rattle.cluster_runner.specs.Examples.{played, head, edit, batch, tells}
 
 unfoldable pub first_script : ScriptView
 first_script =
     record {
+      named = false;
       nodes = 3;
       lines =
           script.Declare (codes "a") ∷ script.Takeover 0 ∷ script.Log 0 (edit 10) ∷ script.Log 0 (edit 11) ∷ script.Log 0 (edit 12) ∷ [];

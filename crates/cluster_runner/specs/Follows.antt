@@ -1,5 +1,5 @@
 -- When a mesh follows a script.
-use Rattle.std.specs.Prelude.{◌≡◌, ℕ, ◌<◌, Bool, false, List, [], ◌∷◌, length, map, Some, slice_get}
+use Rattle.std.specs.Prelude.{◌≡◌, ℕ, ◌<◌, Bool, List, [], ◌∷◌, length, map, Some, slice_get}
 use Rattle.node_world.specs.declared.record.Record.{Record}
 use Rattle.node_world.specs.declared.record.Record.TheVariants.{Operator}
 use Rattle.node_world.specs.declared.mark.Mark.{Mark}
@@ -7,9 +7,8 @@ use Rattle.mesh.specs.declared.whole.Mesh.{Mesh}
 use Rattle.ns_tree.specs.declared.end.End.{End}
 use Rattle.mesh.specs.Agree.{operator_of, record_of, plan_of}
 use Rattle.script_text.specs.Views.{ScriptView}
-use Rattle.cluster_runner.specs.Lines.{Deed, Line, Operation, lines_of, declared, names_in, deeds_of, operations_in}
-use Rattle.cluster_runner.specs.Actor.{Actor, fresh_actor, settled, wants, Rests, IsLed, actor_after}
-use Rattle.cluster_runner.specs.Plays.{last_of}
+use Rattle.script_actor.specs.Lines.{Deed, Line, Operation, lines_of, declared, names_in, deeds_of, operations_in}
+use Rattle.script_actor.specs.Actor.{Actor, fresh_actor, settled, wants, Rests, IsLed, actor_after, last_of}
 
 -- an actor of that many nodes with these deeds, before its first line, and after a record
 abbrev pub actor_with : Bool → ℕ → List Deed → Actor
@@ -40,4 +39,4 @@ pub record FollowsLines (named : Bool) (nodes : ℕ) (lines : List Line) (m : Me
 
 -- its nodes, its actors with their names, plan and records, and the operator's record are the script's
 abbrev pub FollowsScript : ScriptView → Mesh → List End → Type 0
-FollowsScript s m ends = FollowsLines false s.nodes (lines_of s) m ends
+FollowsScript s m ends = FollowsLines s.named s.nodes (lines_of s) m ends

@@ -1,55 +1,36 @@
 -- What the program keeps of a play, and the play that this is.
-use Rattle.std.specs.Prelude.{◌≡◌, ℕ, Bool, false, ◌+◌, ◌-◌, List, [], ◌∷◌, ◌++◌, length, map, Option, Some, None, slice_get, slice_index_or, slice_set, replicate}
+use Rattle.std.specs.Prelude.{◌≡◌, ℕ, Bool, false, ◌-◌, List, [], ◌∷◌, ◌++◌, length, map, Option, Some, None, slice_index_or, slice_set, replicate}
 use Rattle.journal_core.specs.declared.request.Request.{Request}
-use Rattle.writer_core.specs.declared.task.Task.{Task}
-use Rattle.writer_core.specs.declared.turn.Turn.{Turn}
-use Rattle.writer_core.specs.declared.turn.Turn.TheVariants as turn
-use Rattle.writer_core.specs.Views.{WriterView}
-use Rattle.writer_core.specs.Writer.{new_writer, writer_heard}
+use Rattle.journal_core.specs.declared.node_state.NodeState.{NodeState}
 use Rattle.node_world.specs.declared.node_ask.NodeAsk.{NodeAsk}
 use Rattle.node_world.specs.declared.node_ask.NodeAsk.TheVariants.{Act}
 use Rattle.node_world.specs.declared.node_ask.NodeAnswer.{NodeAnswer}
 use Rattle.node_world.specs.declared.record.Record.{Record}
-use Rattle.node_world.specs.declared.record.Record.TheVariants.{Call, Late, Operator, Outcome}
+use Rattle.node_world.specs.declared.record.Record.TheVariants.{Operator}
 use Rattle.node_world.specs.declared.record.Told.{Told}
-use Rattle.node_world.specs.declared.mark.Mark.{Mark}
-use Rattle.node_world.specs.declared.mark.MarkKind.{MarkKind}
-use Rattle.node_world.specs.declared.mark.MarkKind.TheVariants as kind
-use Rattle.journal_core.specs.declared.node_state.NodeState.{NodeState}
 use Rattle.node_world.specs.declared.history_line.HistoryLine.{HistoryLine}
 use Rattle.node_world.specs.Cell.{fresh_cell, cell_takes, cell_after}
 use Rattle.node_world.specs.NodeCells.{CellView, new_cell}
-use Rattle.cluster_runner.specs.Lines.{Line}
-use Rattle.cluster_runner.specs.Actor.{Actor}
 use Rattle.mesh.specs.declared.whole.Mesh.{Mesh}
-use Rattle.mesh.specs.declared.end.End.{End as NamedEnd}
 use Rattle.ns_tree.specs.declared.end.End.{End}
-use Rattle.mesh.specs.Marks.{mark, calls_to, next_number}
-use Rattle.mesh.specs.Makers.{heard_of}
+use Rattle.script_actor.specs.Lines.{Line}
+use Rattle.script_actor.specs.Actor.{last_of}
+use Rattle.script_actor.specs.KeptActor.{KeptActor, new_actor, resting}
 use Rattle.cluster_runner.specs.Plays.{Play, play_steps, histories_from, IsPlay, mesh_of, ends_of, Delivery, Delivered, ReplyLost, NotDelivered, told_of, is_done}
 
--- an actor's name, its writer, its record so far, and its marks
-pub record KeptActor : Type 0 where
-  pub name : List ℕ
-  pub writer : WriterView
-  pub past : List Record
-  pub marks : List Mark
-
--- the nodes with what each has listed, the actors, and the operator's number and record
+-- with names or without, the nodes with what each has listed, the actors, and the operator's number and record
 pub record Kept : Type 0 where
+  pub named : Bool
   pub nodes : List CellView
   pub actors : List KeptActor
   pub operator : ℕ
   pub operated : List Record
 
-abbrev pub new_actor : ℕ → List ℕ → KeptActor
-new_actor nodes name = record { name = name; writer = new_writer nodes; past = []; marks = [] }
-
 abbrev pub node_at : Kept → ℕ → CellView
 node_at k node = slice_index_or k.nodes (node - 1) new_cell
 
 abbrev pub actor_of : Kept → ℕ → KeptActor
-actor_of k c = slice_index_or k.actors c (new_actor (length k.nodes) [])
+actor_of k c = slice_index_or k.actors c (new_actor k.named (length k.nodes) [])
 
 -- ## What reaches a node
 abbrev pub answer_to : CellView → NodeAsk → NodeAnswer
@@ -70,27 +51,8 @@ reached_by Delivered v c r = listed v c (Act false r)
 abbrev pub told_by : Delivery → CellView → Request → Told
 told_by d v r = told_of d (answer_to v (Act false r))
 
-abbrev pub hears : KeptActor → ℕ → Request → Told → KeptActor
-hears a node r t = record a { writer = (writer_heard a.writer node (heard_of t)).writer; past = a.past ++ Call node r t ∷ [] }
-
--- ## Results
-abbrev pub says : KeptActor → List (List ℕ) → KeptActor
-says a texts = record a { past = a.past ++ map (λ text. Outcome text) texts }
-
 abbrev pub with_actor_at : Kept → ℕ → KeptActor → Kept
 with_actor_at k c a = record k { actors = slice_set k.actors c a }
-
--- ## Marks, copies and the operator
--- one of the actor's next calls to the node is marked, counted from 1
-abbrev pub loses : KeptActor → ℕ → ℕ → MarkKind → KeptActor
-loses a node call loss = record a { marks = a.marks ++ mark node (next_number node a.past + (call - 1)) loss ∷ [] }
-
--- the request of one of the actor's calls to the node so far, counted from 1
-abbrev pub earlier_call : KeptActor → ℕ → ℕ → Option Request
-earlier_call a node call = slice_get (calls_to node a.past) (call - 1)
-
-abbrev pub copies : KeptActor → ℕ → ℕ → Request → KeptActor
-copies a node call r = record a { past = a.past ++ Late node r ∷ []; marks = a.marks ++ mark node call kind.Late ∷ [] }
 
 -- the operator does this to the node
 abbrev pub operates : Kept → ℕ → NodeAsk → Kept
@@ -101,17 +63,9 @@ operates k node ask =
     }
 
 -- ## The play that this is
--- the actor, with the task under way and the results that are due; it holds no namespace
-abbrev pub shown : Option Task → List (List ℕ) → KeptActor → Actor
-shown doing texts a =
-    record { todo = []; doing = doing; writer = a.writer; holds = None; says = texts; copies = None; past = a.past; marks = a.marks }
-
-abbrev pub resting : KeptActor → Actor
-resting a = shown None [] a
-
--- all but the actors; it is a play without names
+-- all but the actors
 pub record Stands (k : Kept) (p : Play) : Type 0 where
-  pub named : p.named ≡ false
+  pub named : p.named ≡ k.named
   pub nodes : length k.nodes ≡ p.nodes
   pub cells : p.cells ≡ map (λ v. v.cell) k.nodes
   pub histories : histories_from 1 p.nodes p.trace ≡ map (λ v. v.history) k.nodes
@@ -126,11 +80,6 @@ pub record IsAtRest (lines : List Line) (k : Kept) (p : Play) : Type 0 where
   pub turn : p.turn ≡ None
   pub actors : p.actors ≡ map resting k.actors
 
--- what is under way once a call had this turn
-abbrev pub doing_after : Task → Turn → Option Task
-doing_after t turn.Going = Some t
-doing_after t _ = None
-
 -- some steps lead from one to the other
 pub record Leads (p q : Play) : Type 0 where
   pub steps : ℕ
@@ -141,12 +90,12 @@ abbrev pub LeadsTo : (Play → Type 0) → (Play → Type 0) → Type 0
 LeadsTo P Q = (p : Play) → P p → (q : Play) × Leads p q × Q q
 
 -- before the first line
-abbrev pub new_kept : ℕ → ℕ → Kept
-new_kept nodes operator = record { nodes = replicate nodes new_cell; actors = []; operator = operator; operated = [] }
+abbrev pub new_kept : Bool → ℕ → ℕ → Kept
+new_kept named nodes operator = record { named = named; nodes = replicate nodes new_cell; actors = []; operator = operator; operated = [] }
 
 -- one more actor
 abbrev pub with_actor : Kept → List ℕ → Kept
-with_actor k name = record k { actors = k.actors ++ new_actor (length k.nodes) name ∷ [] }
+with_actor k name = record k { actors = k.actors ++ new_actor k.named (length k.nodes) name ∷ [] }
 
 -- the mesh and the ends of what is kept
 abbrev pub mesh_kept : Kept → Mesh
@@ -158,8 +107,12 @@ mesh_kept k =
       plan = map (λ a. a.marks) k.actors;
     }
 
-abbrev pub ends_kept : Kept → List NamedEnd
-ends_kept k = map (λ a. record { name = a.name }) k.actors
+-- an actor's name, and what it holds at last
+abbrev pub end_of : KeptActor → End
+end_of a = record { name = a.name; last = last_of a.holds }
+
+abbrev pub ends_kept : Kept → List End
+ends_kept k = map end_of k.actors
 
 -- ## The nodes at the end
 abbrev pub states_kept : Kept → List (Option NodeState)

@@ -1,20 +1,19 @@
 -- What holds of every play, of every actor that is led, and of their lists.
-use Rattle.std.specs.Prelude.{◌≡◌, ℕ, ◌+◌, ◌<◌, ◌≤◌, Bool, false, List, [], ◌∷◌, ◌++◌, map, true}
+use Rattle.std.specs.Prelude.{◌≡◌, ℕ, ◌+◌, ◌<◌, ◌≤◌, Bool, false, List, [], ◌∷◌, ◌++◌, true}
 use Rattle.node_world.specs.declared.record.Record.{Record}
 use Rattle.node_world.specs.Cell.{fresh_cell, IsLocalRun}
 use Rattle.node_world.specs.Moving.{moving_of}
 use Rattle.node_world.specs.Run.{IsRun}
 use Rattle.mesh.specs.Makers.{IsOfTasks, IsOfChores}
 use Rattle.mesh.specs.declared.whole.Mesh.{Mesh}
-use Rattle.mesh.specs.declared.end.End.{End as NamedEnd}
 use Rattle.ns_tree.specs.declared.end.End.{End}
 use Rattle.mesh.specs.Agree.{Agrees}
 use Rattle.mesh.specs.Order.{placed_at, entries_at, epoch_order}
 use Rattle.script_text.specs.Views.{ScriptView}
-use Rattle.cluster_runner.specs.Lines.{Deed, AreDeeds, Line, ArePlayable, HasNodes, IsPlayable}
-use Rattle.cluster_runner.specs.Actor.{Actor, Rests, wants, settled, handed, actor_after, IsLed}
-use Rattle.cluster_runner.specs.Plays.{Play, IsPlay, Plays, play_steps, play_begins, history_of, mesh_of, ends_of, raw_end}
-use Rattle.cluster_runner.specs.Safe.{IsSafeWithEnds}
+use Rattle.script_actor.specs.Lines.{Deed, AreDeeds, Line, ArePlayable, HasNodes, IsPlayable}
+use Rattle.script_actor.specs.Actor.{Actor, Rests, wants, settled, handed, actor_after, IsLed}
+use Rattle.cluster_runner.specs.Plays.{Play, IsPlay, Plays, play_steps, play_begins, history_of, mesh_of, ends_of}
+use Rattle.cluster_runner.specs.Safe.{IsSafeWithEnds, HoldNothing}
 use Rattle.cluster_runner.specs.Follows.{actor_with, FollowsLines, FollowsScript}
 use Rattle.node_world.specs.declared.mark.Mark.{Mark}
 use Rattle.cluster_runner.specs.Follows.{Follows}
@@ -53,9 +52,9 @@ LinesKeepNodes =
 abbrev pub PlaysAreRuns : Type 0
 PlaysAreRuns = (s : ScriptView) → (p : Play) → IsPlayable s → Plays s p → IsRun s.nodes (moving_of p.trace)
 
--- of every mesh that agrees, whoever made it, with ends without names
+-- of every mesh that agrees, whoever made it, with whatever actors that hold nothing
 abbrev pub MeshesAreSafe : Type 0
-MeshesAreSafe = (m : Mesh) → (ends : List NamedEnd) → Agrees m → IsSafeWithEnds m.nodes (epoch_order m) (map raw_end ends)
+MeshesAreSafe = (m : Mesh) → (ends : List End) → Agrees m → HoldNothing ends → IsSafeWithEnds m.nodes (epoch_order m) ends
 
 abbrev pub OnePlay : Type 0
 OnePlay = (s : ScriptView) → (p q : Play) → Plays s p → Plays s q → p ≡ q

@@ -1,6 +1,3 @@
-pub mod Lines
-pub mod Results
-pub mod Actor
 pub mod Plays
 pub mod Follows
 pub mod Safe
@@ -13,8 +10,6 @@ pub mod FirstRun
 pub mod Broken
 pub mod Orders
 pub mod Kept
-pub mod ResultLists
-pub mod Deeds
 pub mod Shown
 pub mod PlaySeats
 pub mod SeatLaws

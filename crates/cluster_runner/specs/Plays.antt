@@ -10,18 +10,15 @@ use Rattle.node_world.specs.declared.record.Told.TheVariants as told
 use Rattle.node_world.specs.Cell.{Cell, fresh_cell, Taken, cell_takes}
 use Rattle.node_world.specs.Moving.{Placed}
 use Rattle.mesh.specs.declared.whole.Mesh.{Mesh}
-use Rattle.mesh.specs.declared.end.End.{End as NamedEnd}
 use Rattle.mesh.specs.Marks.{next_number}
 unfoldable pub use Rattle.mesh.specs.Traces.{history_of}
 use Rattle.ns_tree.specs.declared.end.End.{End}
-use Rattle.ns_tree.specs.declared.end.LastSpace.{LastSpace}
-use Rattle.name_node.specs.Holding.{Holding}
 use Rattle.script_text.specs.Views.{ScriptView}
 pub use Rattle.caller_seats.specs.declared.delivery.Delivery.{Delivery}
 pub use Rattle.caller_seats.specs.declared.delivery.Delivery.TheVariants.{Delivered, ReplyLost, NotDelivered}
 unfoldable pub use Rattle.caller_seats.specs.Deliveries.{same_kind, is_marked, delivery, told_of, is_done}
-use Rattle.cluster_runner.specs.Lines.{Line, Declares, Acts, Operates, lines_of, declared}
-use Rattle.cluster_runner.specs.Actor.{Actor, fresh_actor, handed, Want, WantsCall, WantsCopy, Says, Rests, wants, goes_on}
+use Rattle.script_actor.specs.Lines.{Line, Declares, Acts, Operates, lines_of, declared}
+use Rattle.script_actor.specs.Actor.{Actor, fresh_actor, handed, Want, WantsCall, WantsCopy, Says, Rests, wants, goes_on, last_of}
 
 pub record Play : Type 0 where
   -- with names or without
@@ -112,7 +109,7 @@ pub record IsPlay (named : Bool) (nodes : ℕ) (lines : List Line) (p : Play) : 
   pub ended : has_ended p ≡ true
 
 abbrev pub Plays : ScriptView → Play → Type 0
-Plays s p = IsPlay false s.nodes (lines_of s) p
+Plays s p = IsPlay s.named s.nodes (lines_of s) p
 
 -- ## Its mesh and its ends
 -- of so many nodes, from this one on
@@ -129,11 +126,6 @@ mesh_of p =
       plan = map (λ a. a.marks) p.actors;
     }
 
--- what is left of an actor with names: its position and rows
-abbrev pub last_of : Option Holding → Option LastSpace
-last_of None = None
-last_of (Some h) = Some (record { position = h.position; rows = h.space.pairs })
-
 unfoldable pub ends_from : List (List ℕ) → List Actor → List End
 ends_from [] rest = []
 ends_from (name ∷ names) [] = []
@@ -141,10 +133,3 @@ ends_from (name ∷ names) (a ∷ rest) = record { name = name; last = last_of a
 
 unfoldable pub ends_of : Play → List End
 ends_of p = ends_from p.names p.actors
-
--- ## Ends without names: the program keeps their names alone
-abbrev pub raw_end : NamedEnd → End
-raw_end e = record { name = e.name; last = None }
-
-abbrev pub named_end : End → NamedEnd
-named_end e = record { name = e.name }

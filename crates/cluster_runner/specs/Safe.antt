@@ -1,5 +1,5 @@
 -- Safety of a run and of what the actors end with: each namespace is a replay of the line's first entries.
-use Rattle.std.specs.Prelude.{◌≡◌, ℕ, ◌+◌, List, [], ◌∷◌, length, reverse, Some, slice_get}
+use Rattle.std.specs.Prelude.{◌≡◌, ℕ, ◌+◌, List, [], ◌∷◌, length, reverse, Some, None, slice_get}
 use Rattle.ns_tree.specs.declared.end.End.{End}
 use Rattle.ns_tree.specs.declared.end.LastSpace.{LastSpace}
 use Rattle.ns_replay.specs.Replay.{IsReplay}
@@ -16,6 +16,10 @@ abbrev pub EndsReplay : ℕ → List Entry → List End → Type 0
 EndsReplay n past ends =
     (c : ℕ) (e : End) (last : LastSpace) → slice_get ends c ≡ Some e → e.last ≡ Some last
     → (log : List (List ℕ)) × AllOn (IsOnLine n past) 0 log × (length log ≡ last.position) × IsReplay log last.rows
+
+-- of actors without names
+abbrev pub HoldNothing : List End → Type 0
+HoldNothing ends = (c : ℕ) (e : End) → slice_get ends c ≡ Some e → e.last ≡ None
 
 -- over entries oldest first, and what the actors end with
 pub record IsSafeWithEnds (n : ℕ) (entries : List Entry) (ends : List End) : Type 0 where

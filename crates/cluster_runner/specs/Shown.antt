@@ -1,15 +1,16 @@
 -- What contracts see of the program's nodes and actors.
-use Rattle.std.specs.Prelude.{◌≡◌, ℕ, List, All, map}
+use Rattle.std.specs.Prelude.{◌≡◌, ℕ, Bool, List, All, map}
 use Rattle.node_world.specs.declared.record.Record.{Record}
 use Rattle.node_world.specs.NodeCells.{CellView}
 use Rattle.cluster_runner.specs.declared.player.Player.{Player}
-use Rattle.cluster_runner.specs.Kept.{Kept, KeptActor}
+use Rattle.script_actor.specs.KeptActor.{KeptActor}
+use Rattle.cluster_runner.specs.Kept.{Kept}
 
 abbrev pub keeps : Player → KeptActor
-keeps p = record { name = p.name; writer = p.writer.view; past = p.log.past; marks = p.log.marks }
+keeps p = record { name = p.name; writer = p.actor.writer; holds = p.actor.holds; past = p.log.past; marks = p.log.marks }
 
-abbrev pub kept : List CellView → List Player → ℕ → List Record → Kept
-kept nodes players operator operated = record { nodes = nodes; actors = map keeps players; operator = operator; operated = operated }
+abbrev pub kept : Bool → List CellView → List Player → ℕ → List Record → Kept
+kept named nodes players operator operated = record { named = named; nodes = nodes; actors = map keeps players; operator = operator; operated = operated }
 
 -- each lists its calls to so many nodes
 abbrev pub AreSeated : ℕ → List Player → Type 0

@@ -3,28 +3,31 @@ ghost use Rattle.std.specs.List.{All};
 ghost use Rattle.std.specs.Prelude.{◌≡◌, ◌≤◌, ◌<◌, OnOk, IfOk, Some, length, ℕ, map, replicate};
 ghost use Rattle.journal_core.specs.Step.{fresh_state};
 ghost use Rattle.node_world.specs.NodeCells.{new_cell};
-ghost use Rattle.cluster_runner.specs.Deeds.{MayCome};
-ghost use Rattle.cluster_runner.specs.Kept.{new_kept, with_actor, operates, mesh_kept, ends_kept, states_kept};
-ghost use Rattle.cluster_runner.specs.Lines.{Acts, Deed, line_of};
+ghost use Rattle.script_actor.specs.Deeds.{MayCome};
+ghost use Rattle.cluster_runner.specs.Kept.{new_kept, with_actor, operates, mesh_kept, end_of, ends_kept, states_kept};
+ghost use Rattle.script_actor.specs.Lines.{Acts, Deed, line_of};
 ghost use Rattle.cluster_runner.specs.Ready.{IsIdle, TakesLine};
+ghost use Rattle.cluster_runner.specs.Shown.{keeps};
 
-use crate::deeds::take_deed;
 use crate::play_seats::PlaySeats;
 use crate::played::Played;
 use crate::player::Player;
 use caller_seats::{CallerLog, is_done};
-use journal_core::{Bytes, CutNode, OutOfMemory};
-use mesh::{End, EndList, HistoryTable, Mesh, RecordTable};
+use journal_core::{Bytes, CutNode, Name, OutOfMemory};
+use mesh::{HistoryTable, Mesh, RecordTable};
 use node_world::{NodeAsk, NodeCell, Plan, Record, RecordList, cells_of};
+use ns_tree::{End, EndList};
+use script_actor::ScriptActor;
 use script_text::ScriptLine;
 use std::alloc::{AllocError, Global};
 use std::marker::Model;
 use std::mem;
-use writer_core::Writer;
 
-/// The nodes and the actors of a play, and the operator's number and record. Contracts see what is kept of the play.
+/// Whether a play is one with names, its nodes and its actors, and the operator's number and record. Contracts see what is kept of
+/// the play.
 #[derive(Drop)]
 pub(crate) struct Cluster<N: CutNode + Drop> {
+    named: bool,
     cells: Vec<NodeCell<N>>,
     players: Vec<Player>,
     operator: u32,
@@ -38,7 +41,7 @@ impl<N: CutNode + Drop> Model for Cluster<N> {
 
     ghost Value = { Kept };
 
-    ghost view = { λ c. kept c.cells.items c.players.items c.operator c.operated };
+    ghost view = { λ c. kept c.named c.cells.items c.players.items c.operator c.operated };
 
     ghost invariant = { λ c. AreSeated (length c.cells.items) c.players.items };
 }
@@ -82,7 +85,7 @@ struct Lists {
 
 /// What these actors leave.
 fn lists_of(alloc: Global, players: Vec<Player>) -> Result<Lists, OutOfMemory>
-    ensures ends { IfOk result (λ l. l.ends ≡ map (λ p. record { name = p.name }) players.items) }
+    ensures ends { IfOk result (λ l. l.ends ≡ map (λ p. end_of (keeps p)) players.items) }
     ensures records { IfOk result (λ l. l.records.items ≡ map (λ p. p.log.past) players.items) }
     ensures plan { IfOk result (λ l. l.plan ≡ map (λ p. p.log.marks) players.items) }
 {
@@ -90,13 +93,10 @@ fn lists_of(alloc: Global, players: Vec<Player>) -> Result<Lists, OutOfMemory>
     let mut records = Vec::with_capacity(alloc, players.len() + 1)?;
     let mut plan = Plan::new(alloc);
     for player in players {
-        let Player {
-            name,
-            writer: _,
-            log,
-        } = player;
+        let Player { name, actor, log } = player;
+        let last = actor.into_last(alloc)?;
         let (past, marks) = log.into_parts();
-        ends.push(End { name })?;
+        ends.push(End { name, last })?;
         records.push(past)?;
         plan.push(marks)?;
     }
@@ -108,13 +108,19 @@ fn lists_of(alloc: Global, players: Vec<Player>) -> Result<Lists, OutOfMemory>
 }
 
 impl<N: CutNode + Drop> Cluster<N> {
-    /// These nodes, each fresh and steady, no actors, and an operator of this number.
-    pub(crate) fn of(alloc: Global, nodes: Vec<N>, operator: u32) -> Result<Cluster<N>, OutOfMemory>
+    /// These nodes, each fresh and steady, no actors, and an operator of this number. The actors will hold namespaces or nothing.
+    pub(crate) fn of(
+        alloc: Global,
+        named: bool,
+        nodes: Vec<N>,
+        operator: u32,
+    ) -> Result<Cluster<N>, OutOfMemory>
         requires fresh { All (λ n. N.state n ≡ Some fresh_state) nodes.items }
         requires steady { All (λ n. N.steady n) nodes.items }
-        ensures { IfOk result (λ cluster. cluster ≡ new_kept (length nodes.items) operator) }
+        ensures { IfOk result (λ cluster. cluster ≡ new_kept named (length nodes.items) operator) }
     {
         Ok(Cluster {
+            named,
             cells: cells_of(alloc, nodes)?,
             players: Vec::new(alloc),
             operator,
@@ -129,8 +135,8 @@ impl<N: CutNode + Drop> Cluster<N> {
     {
         let nodes = self.cells.len();
         let player = Player {
-            name: name.share()?,
-            writer: Writer::new(alloc, nodes)?,
+            name: Name::from_slice(alloc, name.as_slice())?,
+            actor: ScriptActor::new(alloc, self.named, nodes)?,
             log: CallerLog::new(alloc, nodes)?,
         };
         self.players.push(player)?;
@@ -146,10 +152,11 @@ impl<N: CutNode + Drop> Cluster<N> {
     ) -> Result<Cluster<N>, OutOfMemory>
         requires there { actor < length self.actors }
         requires idle { IsIdle self }
-        requires may { MayCome (length self.nodes) line.now }
+        requires may { MayCome self.named (length self.nodes) line.now }
         ensures { IfOk result (λ new. (d : Deed) → line_of line.now ≡ Acts actor d → TakesLine (Acts actor d) (length self.actors) self new) }
     {
         let Cluster {
+            named,
             cells,
             mut players,
             operator,
@@ -162,7 +169,7 @@ impl<N: CutNode + Drop> Cluster<N> {
             log,
             caller: actor,
         };
-        take_deed(alloc, &mut player.writer, &mut seats, line)?;
+        player.actor.take_line(alloc, &mut seats, line)?;
         if !seats.log.is_whole() {
             return Err(AllocError);
         }
@@ -173,6 +180,7 @@ impl<N: CutNode + Drop> Cluster<N> {
         } = seats;
         player.log = log;
         Ok(Cluster {
+            named,
             cells,
             players,
             operator,
@@ -206,6 +214,7 @@ impl<N: CutNode + Drop> Cluster<N> {
         ensures steady { IfOk result (λ played. All (λ n. N.steady n) played.nodes.items) }
     {
         let Cluster {
+            named: _,
             cells,
             players,
             operator: _,

@@ -29,7 +29,8 @@ pub fn a_play_is_a_run()
     ensures script { PlaysAreRuns }
 {}
 
-/// The moving entries of every mesh that agrees, in the order of the epochs, are safe, with whatever ends without names.
+/// The moving entries of every mesh that agrees, in the order of the epochs, are safe, whatever the actors' names
+/// are, where these hold nothing.
 pub fn a_mesh_that_agrees_is_safe()
     ensures { MeshesAreSafe }
 {}

@@ -2,16 +2,13 @@
 #![tactic(auto)]
 
 mod cluster;
-mod deeds;
 mod examples;
 mod laws;
 mod named_examples;
 mod play_seats;
 mod played;
 mod player;
-mod results;
 
-pub use deeds::take_deed;
 pub use examples::{
     refuses_broken_meshes, shows_competing_takeovers, shows_cut_in_accept, shows_dropped_call,
     shows_epoch_order, shows_fenced_writer, shows_first_order, shows_first_run, shows_killed_nodes,

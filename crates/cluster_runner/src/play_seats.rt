@@ -1,5 +1,7 @@
 // The seats of one caller in a play.
 ghost use Rattle.std.specs.Prelude.{◌≡◌, true, OnOk, IfOk};
+ghost use Rattle.journal_core.specs.Peers.{FitsHeard};
+ghost use Rattle.mesh.specs.Makers.{heard_of};
 ghost use Rattle.node_world.specs.declared.node_ask.NodeAsk.TheVariants.{Act};
 ghost use Rattle.cluster_runner.specs.Kept.{listed, reached_by, told_by};
 
@@ -28,7 +30,7 @@ impl<N: CutNode + Drop> Model for PlaySeats<N> {
     ghost invariant = { λ s. s.log.nodes ≡ length s.cells.items };
 }
 
-/// The call reaches the node, where it is delivered; what its caller is told.
+/// The call reaches the node, where it is delivered; what its caller is told. What is heard of that fits the request.
 #[tactic(auto, unfolding(caller_seats::specs::Deliveries::told_of))]
 fn deliver<N: CutNode + Drop>(
     alloc: Global,
@@ -38,6 +40,7 @@ fn deliver<N: CutNode + Drop>(
     request: &SharedRequest,
 ) -> Result<Told, OutOfMemory>
     ensures told { IfOk result (λ told. told ≡ told_by delivery cell.old request.now) }
+    ensures fits { IfOk result (λ told. FitsHeard request.now (heard_of told)) }
     ensures cell { OnOk result (cell.new ≡ reached_by delivery cell.old caller request.now) }
 {
     if delivery == Delivery::NotDelivered {

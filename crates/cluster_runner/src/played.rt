@@ -1,18 +1,18 @@
 // Scripts are played.
-ghost use Rattle.std.specs.Prelude.{◌≡◌, ◌≤◌, ◌<◌, ◌^◌, ◌∷◌, [], IfOk, OnOk, Some, false, length, map, drop, replicate};
+ghost use Rattle.std.specs.Prelude.{◌≡◌, ◌≤◌, ◌<◌, ◌^◌, ◌∷◌, [], IfOk, OnOk, Some, length, map, drop, replicate};
 ghost use Rattle.std.specs.List.{All};
 ghost use Rattle.journal_core.specs.Step.{fresh_state};
 ghost use Rattle.script_text.specs.declared.script_line.ScriptLine.{ScriptLine};
-ghost use Rattle.cluster_runner.specs.Lines.{line_of, lines_of, declared, IsPlayable, NumbersFit};
-ghost use Rattle.cluster_runner.specs.Plays.{raw_end};
+ghost use Rattle.script_actor.specs.Lines.{line_of, lines_of, declared, IsPlayable, NumbersFit};
 ghost use Rattle.cluster_runner.specs.Kept.{IsPlayed, mesh_kept, ends_kept, states_kept, states_behind};
 ghost use Rattle.cluster_runner.specs.Ready.{IsIdle, TakesLine};
 ghost use Rattle.cluster_runner.specs.Goal.{MayTake, actors_after, IsUnderWay};
 
 use crate::cluster::Cluster;
 use journal_core::{CutNode, OutOfMemory, PlainNode};
-use mesh::{EndList, Mesh};
+use mesh::Mesh;
 use node_world::NodeAsk;
+use ns_tree::EndList;
 use script_text::{Script, ScriptLine};
 use std::alloc::Global;
 
@@ -32,7 +32,7 @@ fn take_line<N: CutNode + Drop>(
     line: &ScriptLine,
 ) -> Result<Cluster<N>, OutOfMemory>
     requires idle { IsIdle cluster }
-    requires may { MayTake (length cluster.nodes) (length cluster.actors) line.now }
+    requires may { MayTake cluster.named (length cluster.nodes) (length cluster.actors) line.now }
     ensures { IfOk result (λ new. TakesLine (line_of line.now) (actors_after (length cluster.actors) line.now) cluster new) }
 {
     match line {
@@ -41,7 +41,12 @@ fn take_line<N: CutNode + Drop>(
         ScriptLine::Roll { actor } => cluster.act(alloc, *actor, line),
         ScriptLine::Close { actor } => cluster.act(alloc, *actor, line),
         ScriptLine::Log { actor, .. } => cluster.act(alloc, *actor, line),
+        ScriptLine::Edits { actor, .. } => cluster.act(alloc, *actor, line),
         ScriptLine::Purge { actor, .. } => cluster.act(alloc, *actor, line),
+        ScriptLine::Trim { actor, .. } => cluster.act(alloc, *actor, line),
+        ScriptLine::Tail { actor } => cluster.act(alloc, *actor, line),
+        ScriptLine::Checkpoint { actor } => cluster.act(alloc, *actor, line),
+        ScriptLine::Reload { actor } => cluster.act(alloc, *actor, line),
         ScriptLine::Drop { actor, .. } => cluster.act(alloc, *actor, line),
         ScriptLine::Mute { actor, .. } => cluster.act(alloc, *actor, line),
         ScriptLine::Late { actor, .. } => cluster.act(alloc, *actor, line),
@@ -58,7 +63,7 @@ fn take_line<N: CutNode + Drop>(
 }
 
 /// How many actors the line declares.
-#[tactic(auto, unfolding(crate::specs::Lines::declared))]
+#[tactic(auto, unfolding(script_actor::specs::Lines::declared))]
 fn declarations(line: &ScriptLine) -> u32
     ensures { result ≡ declared (line_of line.now ∷ []) }
 {
@@ -68,7 +73,12 @@ fn declarations(line: &ScriptLine) -> u32
         ScriptLine::Roll { .. } => 0,
         ScriptLine::Close { .. } => 0,
         ScriptLine::Log { .. } => 0,
+        ScriptLine::Edits { .. } => 0,
         ScriptLine::Purge { .. } => 0,
+        ScriptLine::Trim { .. } => 0,
+        ScriptLine::Tail { .. } => 0,
+        ScriptLine::Checkpoint { .. } => 0,
+        ScriptLine::Reload { .. } => 0,
         ScriptLine::Drop { .. } => 0,
         ScriptLine::Mute { .. } => 0,
         ScriptLine::Late { .. } => 0,
@@ -103,12 +113,12 @@ pub fn play_on<N: CutNode + Drop>(
     requires count { length nodes.items ≡ script.now.nodes }
     requires fresh { All (λ n. N.state n ≡ Some fresh_state) nodes.items }
     requires steady { All (λ n. N.steady n) nodes.items }
-    ensures played { IfOk result (λ played. IsPlayed false script.now.nodes (lines_of script.now) played.mesh (map raw_end played.ends)) }
+    ensures played { IfOk result (λ played. IsPlayed script.now.named script.now.nodes (lines_of script.now) played.mesh played.ends) }
     ensures states { IfOk result (λ played. map (λ n. N.state n) played.nodes.items ≡ states_behind played.mesh.histories) }
     ensures steady { IfOk result (λ played. All (λ n. N.steady n) played.nodes.items) }
 {
     let operator = actors_in(script.lines());
-    let mut cluster = Cluster::of(alloc, nodes, operator)?;
+    let mut cluster = Cluster::of(alloc, script.names(), nodes, operator)?;
     for line in script.lines() {
         cluster = take_line(alloc, cluster, line)?;
     }
@@ -132,7 +142,7 @@ pub fn plain_nodes(alloc: Global, count: usize) -> Result<Vec<PlainNode>, OutOfM
 pub fn play(alloc: Global, script: &Script) -> Result<Played<PlainNode>, OutOfMemory>
     requires playable { IsPlayable script.now }
     requires numbers { NumbersFit script.now }
-    ensures { IfOk result (λ played. IsPlayed false script.now.nodes (lines_of script.now) played.mesh (map raw_end played.ends)) }
+    ensures { IfOk result (λ played. IsPlayed script.now.named script.now.nodes (lines_of script.now) played.mesh played.ends) }
 {
     let nodes = plain_nodes(alloc, script.nodes())?;
     play_on(alloc, nodes, script)

@@ -1,13 +1,13 @@
 // An actor of a play.
 
 use caller_seats::CallerLog;
-use journal_core::Bytes;
-use writer_core::Writer;
+use journal_core::Name;
+use script_actor::ScriptActor;
 
-/// An actor: its name, its writer, and what it lists of its calls.
+/// An actor: its name, what it does, and what it lists of its calls.
 #[derive(Drop)]
 pub(crate) struct Player {
-    pub(crate) name: Bytes,
-    pub(crate) writer: Writer,
+    pub(crate) name: Name,
+    pub(crate) actor: ScriptActor,
     pub(crate) log: CallerLog,
 }

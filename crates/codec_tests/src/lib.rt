@@ -10,7 +10,11 @@ mod first_script;
 #[cfg(test)]
 mod frames;
 #[cfg(test)]
+mod generated;
+#[cfg(test)]
 mod listings;
+#[cfg(test)]
+mod names_scripts;
 #[cfg(test)]
 mod numbers;
 #[cfg(test)]
@@ -21,3 +25,5 @@ mod reports;
 mod requests;
 #[cfg(test)]
 mod scripts;
+#[cfg(test)]
+mod summaries;

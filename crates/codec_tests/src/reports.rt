@@ -1,7 +1,9 @@
 //! The report on its happy path, and one that is too long.
 use journal_core::{Batch, BodyList, Bytes, Head, Refusal, Reply, Request, SharedRequest};
-use mesh::{End, EndList, HistoryTable, Mesh, RecordTable};
+use mesh::{HistoryTable, Mesh, RecordTable};
 use node_world::{HistoryLine, HistoryList, NodeAnswer, NodeAsk, Plan, Record, RecordList, Told};
+use ns_tree::{End, EndList, LastSpace, Namespace, RowList};
+use qj_num::Name;
 use report_text::{Report, report_of, text_size};
 use std::alloc::Global;
 use std::test::Fail;
@@ -39,16 +41,16 @@ fn records(alloc: Global, lines: Vec<Record>) -> Result<RecordTable, Fail> {
 }
 
 /// What one actor, `a`, ends with.
-fn ends(alloc: Global) -> Result<EndList, Fail> {
-    let name = Bytes::copy_of(alloc, b"a")?.ok_or("no byte")?;
+fn ends(alloc: Global, last: Option<LastSpace>) -> Result<EndList, Fail> {
+    let name = Name::from_slice(alloc, b"a")?;
     let mut ends = EndList::new(alloc);
-    ends.push(End { name })?;
+    ends.push(End { name, last })?;
     Ok(ends)
 }
 
 /// The text of the report.
-fn text_of(alloc: Global, mesh: &Mesh) -> Result<Vec<u8>, Fail> {
-    match report_of(alloc, mesh, &ends(alloc)?)? {
+fn text_of(alloc: Global, mesh: &Mesh, ends: &EndList) -> Result<Vec<u8>, Fail> {
+    match report_of(alloc, mesh, ends)? {
         Report::Text(report) => Ok(report),
         _ => Err("too long".into()),
     }
@@ -76,8 +78,39 @@ fn a_report_is_printed(rt: HostRuntime) -> Result<(), Fail> {
     };
     let wanted =
         b"nodes 1\nnode 1\na state -> state 12\nops kill -> done\nactor a\n1 state -> refused 1 Down\nactor ops\n1 kill -> done\nend\n";
-    assert_eq!(rt; text_of(rt.alloc(), &mesh)?.as_slice(), wanted.as_slice());
-    assert_eq!(rt; text_size(&mesh, &ends(rt.alloc())?), wanted.len() as u64);
+    let ends = ends(rt.alloc(), None)?;
+    assert_eq!(rt;
+        text_of(rt.alloc(), &mesh, &ends)?.as_slice(),
+        wanted.as_slice()
+    );
+    assert_eq!(rt; text_size(&mesh, &ends), wanted.len() as u64);
+    Ok(())
+}
+
+/// The root alone, at this position.
+fn root_at(alloc: Global, position: u64) -> Result<LastSpace, Fail> {
+    let root = Namespace::new(alloc)?.row(0).copy(alloc)?;
+    let rows = RowList::of(vec![in alloc; root]?);
+    Ok(LastSpace { position, rows })
+}
+
+#[test]
+fn a_position_and_rows_are_printed(rt: HostRuntime) -> Result<(), Fail> {
+    let text = Bytes::copy_of(rt.alloc(), b"reload 0")?.ok_or("no byte")?;
+    let mesh = Mesh {
+        nodes: 0,
+        histories: HistoryTable::new(rt.alloc()),
+        records: records(rt.alloc(), vec![in rt.alloc(); Record::Outcome { text }]?)?,
+        plan: Plan::new(rt.alloc()),
+    };
+    let wanted =
+        b"nodes 0\nactor a\n= reload 0\nposition 17\n. /\t0\t0\t0\t0\t0\t0\t-1\t-1\tdrwxr-xr-x\thdfs\tsupergroup\nend\n";
+    let ends = ends(rt.alloc(), Some(root_at(rt.alloc(), 17)?))?;
+    assert_eq!(rt;
+        text_of(rt.alloc(), &mesh, &ends)?.as_slice(),
+        wanted.as_slice()
+    );
+    assert_eq!(rt; text_size(&mesh, &ends), wanted.len() as u64);
     Ok(())
 }
 
@@ -120,7 +153,7 @@ fn a_longer_report_is_too_long(rt: HostRuntime) -> Result<(), Fail> {
         records: two_calls(alloc, &long_request(alloc)?)?,
         plan: Plan::new(alloc),
     };
-    let ends = ends(alloc)?;
+    let ends = ends(alloc, None)?;
     let report = report_of(alloc, &mesh, &ends)?;
     assert!(rt; matches!(&report, Report::TooLong));
     assert_eq!(rt; text_size(&mesh, &ends), 268_435_457);

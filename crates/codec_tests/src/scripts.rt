@@ -34,7 +34,7 @@ purge a 4611686018427387904\nkill 3\nrestart 3\nlate a 1 10\ncut 15 2 0 a5\nclos
 /// A text, the first line of it that breaks a rule, and the rule.
 const BROKEN: [(&[u8], u64, u32); 24] = [
     (b"", 1, 1),
-    (b"names 3\n", 1, 1),
+    (b"names 16\n", 1, 1),
     (b"raw 16\n", 1, 1),
     (b"raw 3\nwriter a\ntakeo", 3, 10),
     (b"raw 3\nwriter a\nraw 3\n", 3, 2),

@@ -1,6 +1,6 @@
 // Scripts that cut nodes, and their whole reports.
 use crate::reports::{ACCEPTANCE, JOURNAL_KEPT, JOURNAL_LOST, NO_EFFECT, PURGE, TWO_ARMINGS};
-use qj_cli::{Status, qjm};
+use qj_cli::{Status, qjm_alone};
 use qj_disk::MemDisk;
 use qj_outside::{MemSink, MemSource};
 use std::alloc::{AllocError, Global};
@@ -36,7 +36,10 @@ fn played(alloc: Global, script: Vec<u8>) -> Result<Option<Vec<u8>>, AllocError>
     words.push(String::from_str(alloc, "play")?)?;
     let mut source = MemSource::new(script, Vec::new(alloc));
     let mut sink = MemSink::new(alloc, 1_000_000, Vec::new(alloc))?;
-    let exit = qjm(alloc, &words, &mut source, &mut sink, MemDisk::new(alloc));
+    let disk = MemDisk::new(alloc);
+    let Ok(exit) = qjm_alone(alloc, &words, &mut source, &mut sink, disk) else {
+        return Ok(None);
+    };
     if exit.status != Status::Ok {
         return Ok(None);
     }

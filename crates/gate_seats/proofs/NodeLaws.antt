@@ -8,7 +8,7 @@ use Rattle.node_world.specs.declared.node_ask.NodeAnswer.{NodeAnswer}
 use Rattle.node_world.specs.declared.history_line.HistoryLine.{HistoryLine}
 use Rattle.node_world.specs.declared.arming.Arming.{Arming}
 use Rattle.node_world.specs.Cell.{Cell, Taken, fresh_cell, cell_takes, requested, counted, replies, stops, kept_by, killed, started_again, armed, IsLocalRun, cell_after}
-use Rattle.node_world.specs.NodeCells.{CellView, IsTaken}
+use Rattle.node_world.specs.NodeCells.{CellView, IsTaken, AnswerFits}
 use Rattle.mesh.proofs.Tied.{local_snoc, cell_snoc}
 use Rattle.gate_seats.specs.Entries.{IsReplyOrStop, IsDoneOrIdle, FitsAsk}
 
@@ -55,14 +55,16 @@ arm_fits : (c : Cell) (a : Arming) (up : Bool) → IsDoneOrIdle (armed up c a).a
 arm_fits c a true = tt
 arm_fits c a false = tt
 
-takes_fits : (c : Cell) (ask : NodeAsk) → FitsAsk ask (cell_takes c ask).answer
+takes_fits : (c : Cell) (ask : NodeAsk) → AnswerFits ask (cell_takes c ask).answer → FitsAsk ask (cell_takes c ask).answer
 unfolding cell_takes
-takes_fits c (Act late r) = request_fits c r c.state.up
-takes_fits c Kill = kill_fits c c.state.up
-takes_fits c Restart = restart_fits c c.state.up
-takes_fits c (Arm calls stop) = arm_fits c (record { calls = calls; stop = stop }) c.state.up
+takes_fits c (Act late r) f = (request_fits c r c.state.up, f)
+takes_fits c Kill f = kill_fits c c.state.up
+takes_fits c Restart f = restart_fits c c.state.up
+takes_fits c (Arm calls stop) f = arm_fits c (record { calls = calls; stop = stop }) c.state.up
 
-pub taken_fits : (old new : CellView) (caller : ℕ) (ask : NodeAsk) (answer : NodeAnswer) → IsTaken old caller ask answer new → FitsAsk ask answer
-taken_fits old new caller ask answer t = subst (FitsAsk ask) (ap (λ (x : Taken). x.answer) t.taken) (takes_fits old.cell ask)
+pub taken_fits : (old new : CellView) (caller : ℕ) (ask : NodeAsk) (answer : NodeAnswer) → IsTaken old caller ask answer new → AnswerFits ask answer → FitsAsk ask answer
+taken_fits old new caller ask answer t f =
+    let e : (cell_takes old.cell ask).answer ≡ answer = ap (λ (x : Taken). x.answer) t.taken in
+    subst (FitsAsk ask) e (takes_fits old.cell ask (subst (AnswerFits ask) (sym e) f))
 
 pub ruleset locals = (nothing_local, nothing_after)

@@ -19,6 +19,7 @@ use Rattle.node_world.specs.declared.record.Record.{Record}
 use Rattle.node_world.specs.declared.record.Record.TheVariants.{Call, Late, Operator, Outcome}
 use Rattle.node_world.specs.declared.record.Told.{Told}
 use Rattle.node_world.specs.declared.record.Told.TheVariants as told
+use Rattle.node_world.specs.NodeCells.{AnswerFits}
 use Rattle.mesh.specs.Makers.{IsOperation}
 use Rattle.mesh.specs.Matches.{reaches, reached, lines_of, IsSame, AreSame, StandsFor, done_or_idle}
 use Rattle.mesh.proofs.Lists.{cond_true, same_test, other_test}
@@ -27,6 +28,7 @@ use Rattle.gate_seats.specs.Entries.{Entry, line_of, own_lines, IsReplyOrStop, I
 use Rattle.caller_seats.specs.declared.delivery.Delivery.TheVariants.{Delivered, ReplyLost, NotDelivered}
 use Rattle.caller_seats.specs.Deliveries.{told_of, is_done}
 use Rattle.caller_seats.specs.Logs.{LogView, with_line}
+use Rattle.caller_seats.proofs.Fitting.{hears_fits}
 use Rattle.gate_seats.specs.Seated.{Seat, AreSeated, IsTold, Tied, Goes}
 
 -- ## Answers
@@ -295,10 +297,13 @@ pub call_listed : (c : ℕ) (late : Bool) (q r : Request) (a : NodeAnswer) (own 
     → own2 ≡ own ++ record { caller = c; ask = Act late r; answer = a } ∷ []
 call_listed c late q r a own own2 e is = is ∙ ap (λ x. own ++ record { caller = c; ask = Act late x; answer = a } ∷ []) e
 
-pub ruleset calls = (call_listed)
+pub call_fits : (late : Bool) (q r : Request) (a : NodeAnswer) → q ≡ r → FitsAsk (Act late q) a → AnswerFits (Act late r) a
+call_fits late q r a e f = subst (λ x. AnswerFits (Act late x) a) e f.1
+
+pub ruleset calls = (call_listed, call_fits)
 
 pub ruleset deliveries = (tied_dropped, tied_muted, tied_heard, told_dropped, told_muted, told_heard)
 
-pub ruleset throughs = (goes_nothing, goes_lost)
+pub ruleset throughs = (goes_nothing, goes_lost, hears_fits)
 
 pub ruleset quiets = (quiet_seated, outcome_apart)

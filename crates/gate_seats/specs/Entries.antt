@@ -5,6 +5,7 @@ use Rattle.node_world.specs.declared.node_ask.NodeAsk.TheVariants.{Act, Kill, Re
 use Rattle.node_world.specs.declared.node_ask.NodeAnswer.{NodeAnswer}
 use Rattle.node_world.specs.declared.node_ask.NodeAnswer.TheVariants.{Replied, Stopped, Done, Idle, NotOpened}
 use Rattle.node_world.specs.declared.history_line.HistoryLine.{HistoryLine}
+use Rattle.node_world.specs.NodeCells.{AnswerFits}
 use Rattle.mesh.specs.Matches.{lines_of}
 
 abbrev pub Entry : Type 0
@@ -40,8 +41,9 @@ IsDoneOrIdle Done = Unit {0}
 IsDoneOrIdle Idle = Unit {0}
 IsDoneOrIdle (NotOpened fail) = ⊥
 
+-- of the kind that was asked for; a reply fits its request
 abbrev pub FitsAsk : NodeAsk → NodeAnswer → Type 0
-FitsAsk (Act late r) answer = IsReplyOrStop answer
+FitsAsk (Act late r) answer = IsReplyOrStop answer × AnswerFits (Act late r) answer
 FitsAsk Kill answer = IsDoneOrIdle answer
 FitsAsk Restart answer = IsDoneOrIdle answer
 FitsAsk (Arm calls stop) answer = IsDoneOrIdle answer

@@ -1,9 +1,11 @@
 // A caller's seats at the gates of all nodes.
 ghost use Rattle.std.specs.Prelude.{◌≡◌, ◌≤◌, ◌++◌, ◌∷◌, [], ℕ, map, true, length, Some, IfOk, OnOk, OnErr};
 ghost use Rattle.journal_core.specs.Limits.{max_number};
+ghost use Rattle.journal_core.specs.Peers.{FitsHeard};
 ghost use Rattle.node_world.specs.declared.node_ask.NodeAsk.TheVariants.{Act};
 ghost use Rattle.node_world.specs.declared.record.Record.TheVariants.{Call, Late, Operator, Outcome};
-ghost use Rattle.mesh.specs.Makers.{IsOperation};
+ghost use Rattle.node_world.specs.NodeCells.{AnswerFits};
+ghost use Rattle.mesh.specs.Makers.{IsOperation, heard_of};
 ghost use Rattle.mesh.specs.Marks.{IsMarked, AreCopied};
 ghost use Rattle.mesh.specs.Matches.{AreWithin};
 ghost use Rattle.caller_seats.specs.Logs.{new_log, with_line, losing, copying, earlier_call, mark_kind, IsCalled, IsCopied};
@@ -48,7 +50,8 @@ fn ask_request<R: Wait, C: NodeGate>(
     requires own { seat.old.seat.table_id ≡ gate.now.table.shared.table_id }
     ensures same { (seat.new.seat.table_id ≡ seat.old.seat.table_id) × (seat.new.caller ≡ seat.old.caller) }
     ensures ok { IfOk result (λ a. own_lines seat.new.caller seat.new.seat.me.0.seen ≡ own_lines seat.old.caller seat.old.seat.me.0.seen ++ record { caller = seat.old.caller; ask = Act late request.now; answer = a } ∷ []) }
-    ensures fits { IfOk result (λ a. IsReplyOrStop a) }
+    ensures kind { IfOk result (λ a. IsReplyOrStop a) }
+    ensures fits { IfOk result (λ a. AnswerFits (Act late request.now) a) }
     ensures err { OnErr result (own_lines seat.new.caller seat.new.seat.me.0.seen ≡ own_lines seat.old.caller seat.old.seat.me.0.seen) }
 {
     let asked = NodeAsk::Act {
@@ -58,7 +61,7 @@ fn ask_request<R: Wait, C: NodeGate>(
     ask(rt, gate, seat, &asked)
 }
 
-/// The call reaches the node, where it is delivered; what its caller is told.
+/// The call reaches the node, where it is delivered; what its caller is told. What is heard of that fits the request.
 #[tactic(auto, using(crate::proofs::SeatLaws::deliveries))]
 fn deliver<R: Wait, C: NodeGate>(
     rt: &R,
@@ -70,6 +73,7 @@ fn deliver<R: Wait, C: NodeGate>(
     requires own { seat.old.seat.table_id ≡ gate.now.table.shared.table_id }
     ensures same { (seat.new.seat.table_id ≡ seat.old.seat.table_id) × (seat.new.caller ≡ seat.old.caller) }
     ensures told { IfOk result (λ told. IsTold delivery told) }
+    ensures fits { IfOk result (λ told. FitsHeard request.now (heard_of told)) }
     ensures tied { IfOk result (λ told. (k : ℕ) → Tied k (Call k request.now told) (own_lines seat.old.caller seat.old.seat.me.0.seen) (own_lines seat.new.caller seat.new.seat.me.0.seen)) }
     ensures err { OnErr result (own_lines seat.new.caller seat.new.seat.me.0.seen ≡ own_lines seat.old.caller seat.old.seat.me.0.seen) }
 {
@@ -103,6 +107,7 @@ fn call_through<R: Wait, C: NodeGate>(
     ensures same { (seat.new.seat.table_id ≡ seat.old.seat.table_id) × (seat.new.caller ≡ seat.old.caller) }
     ensures goes { Goes node log.old (own_lines seat.old.caller seat.old.seat.me.0.seen) log.new (own_lines seat.new.caller seat.new.seat.me.0.seen) }
     ensures ok { IfOk result (λ heard. IsCalled log.old node request heard log.new) }
+    ensures fits { IfOk result (λ heard. FitsHeard request heard) }
 {
     let delivery = log.delivery(node)?;
     let told = deliver(rt, gate, seat, delivery, &request)?;

@@ -7,5 +7,5 @@ mod row_text;
 mod worked;
 
 pub use columns::{Columns, columns_of, size_of};
-pub use row_text::{put_header, put_row, put_wide};
+pub use row_text::{Column, later_columns, put_header, put_row, put_wide};
 pub use worked::{known_permissions_have_letters, known_rows_have_texts};

@@ -8,11 +8,13 @@ use crate::columns::{Columns, columns_of};
 use ns_tree::Row;
 use qj_num::{OutOfMemory, put_decimal};
 
-/// A column behind the path.
+/// A column after the path.
 #[derive(Clone, Copy)]
-enum Column<'a> {
+pub enum Column<'a> {
     Number(u64),
+    /// The bytes of a file.
     Size(u128),
+    /// A quota, printed as -1 where there is none.
     Quota(Option<u64>),
     Text(&'a [u8]),
 }
@@ -65,29 +67,33 @@ fn put_columns(out: &mut Vec<u8>, columns: &[Column<'_>]) -> Result<(), OutOfMem
     Ok(())
 }
 
-// Appends the columns behind the path.
+/// The columns after the path, in their order.
+pub fn later_columns<'a>(columns: &'a Columns<'_>) -> [Column<'a>; 11]
+    ensures { map column_text result ≡ texts (shown columns.now) }
+{
+    [
+        Column::Number(u64::from(columns.replication)),
+        Column::Number(columns.mtime),
+        Column::Number(columns.atime),
+        Column::Number(columns.block_size),
+        Column::Number(columns.block_count),
+        Column::Size(columns.size),
+        Column::Quota(columns.names),
+        Column::Quota(columns.space),
+        Column::Text(&columns.permission),
+        Column::Text(columns.user),
+        Column::Text(columns.group),
+    ]
+}
+
+// Appends the columns after the path.
 fn put_texts(out: &mut Vec<u8>, columns: &Columns<'_>) -> Result<(), OutOfMemory>
     ensures { OnOk result (out.new.items ≡ out.old.items ++ flat_map tabbed (texts (shown columns.now))) }
 {
-    put_columns(
-        out,
-        &[
-            Column::Number(u64::from(columns.replication)),
-            Column::Number(columns.mtime),
-            Column::Number(columns.atime),
-            Column::Number(columns.block_size),
-            Column::Number(columns.block_count),
-            Column::Size(columns.size),
-            Column::Quota(columns.names),
-            Column::Quota(columns.space),
-            Column::Text(&columns.permission),
-            Column::Text(columns.user),
-            Column::Text(columns.group),
-        ],
-    )
+    put_columns(out, &later_columns(columns))
 }
 
-// Appends the path and the columns behind it.
+// Appends the path and the columns after it.
 fn put_all(out: &mut Vec<u8>, columns: &Columns<'_>) -> Result<(), OutOfMemory>
     ensures { OnOk result (out.new.items ≡ out.old.items ++ ((shown columns.now).path ++ flat_map tabbed (texts (shown columns.now)))) }
 {

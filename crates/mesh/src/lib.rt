@@ -1,13 +1,11 @@
 //! The mesh: what all nodes and all callers of a play list, side by side.
 #![tactic(auto)]
 
-mod end;
 mod examples;
 mod laws;
 mod tables;
 mod whole;
 
-pub use end::{End, EndList};
 pub use examples::{refuses_log_without_body, shows_crossed_takeovers, shows_tailing_caller};
 pub use laws::{
     an_epoch_has_one_owner, an_order_of_all_lines_is_a_run, epoch_order_is_a_run,

@@ -27,6 +27,10 @@ new_holding = record { space = empty_space; position = 0; images = []; work = Fr
 abbrev pub emptied : Holding → Holding
 emptied h = record h { space = empty_space; position = 0 }
 
+-- up to a txid: one that has read more begins empty
+abbrev pub enters : ℕ → Holding → Holding
+enters last h = if nat_lt last h.position then emptied h else h
+
 abbrev pub working : Work → Holding → Holding
 working work h = record h { work = work }
 

@@ -21,12 +21,13 @@ use Rattle.writer_core.specs.declared.task.Begun.{Begun}
 use Rattle.writer_core.specs.declared.task.Begun.TheVariants as begun
 use Rattle.writer_core.specs.Views.{WriterView}
 use Rattle.writer_core.specs.Writer.{Began, is_writing, if_writing, log_begins, log_limit, writer_begun, next_call}
-use Rattle.cluster_runner.specs.Lines.{Deed, Does, DoDrop, DoMute, DoLate, Submits, Trims, DoTail, Saves, Reloads, IsNamesTask, AreEdits, IsDeed, AreDeeds}
+use Rattle.script_actor.specs.Lines.{Deed, Does, DoDrop, DoMute, DoLate, Submits, Trims, DoTail, Saves, Reloads, IsNamesTask, AreEdits, IsDeed, AreDeeds}
 use Rattle.name_node.specs.Submissions.{Submission, unless_long, unless_refused, submitted_one, submitted, nothing_submitted}
 use Rattle.name_node.specs.Holding.{Holding, Work, Free, Tails, Logs, Broken, working, saved, loaded, reloaded, min_to_keep}
 use Rattle.name_node.specs.Tails.{pass_begun}
-use Rattle.cluster_runner.specs.Actor.{Actor, Want, call_wanted, work_read, read_first, copy_first, says_first, wants, is_wanting, is_broken_work, is_broken_holding, is_broken, tail_stepped, task_begun, copied, sync_begun, synced, logged_when, trim_at, unless_active, saving, reloading, held_deed, deed_taken, settled}
+use Rattle.script_actor.specs.Actor.{Actor, Want, call_wanted, work_read, read_first, copy_first, says_first, wants, is_wanting, is_broken_work, is_broken_holding, is_broken, tail_stepped, task_begun, copied, sync_begun, synced, logged_when, trim_at, unless_active, saving, reloading, held_deed, deed_taken, while_wanting, settled}
 use Rattle.writer_core.specs.Turns.{IsInRound, aim_of}
+use Rattle.cluster_runner.proofs.Sound.{waiting_deeds}
 use Rattle.cluster_runner.proofs.WriterTurns.{has_other, Course, Begins, begun_turn, call_some}
 use Rattle.names_safety.proofs.WriterPlaces.{PhasePlace, IsLogIn}
 use Rattle.names_safety.proofs.Held.{saved_stands, reloaded_stands}
@@ -338,6 +339,7 @@ module _ (L : ℕ → List ℕ → Type 0) where
   settled_good (d ∷ ds) a is g = by (is_wanting (wants a) || is_broken a) refl (λ b. settled_good ds b is.1)
     where
       by : (b : Bool) → (is_wanting (wants a) || is_broken a) ≡ b → ((x : Actor) → GoodActor L x → GoodActor L (settled ds x) × AreDeeds true (settled ds x).todo)
-          → GoodActor L (cond b (record a { todo = d ∷ ds }) (settled ds (deed_taken d a))) × AreDeeds true (cond b (record a { todo = d ∷ ds }) (settled ds (deed_taken d a))).todo
-      by true e go = (g, is)
+          → GoodActor L (cond b (record a { todo = while_wanting (is_wanting (wants a)) (d ∷ ds) }) (settled ds (deed_taken d a)))
+          × AreDeeds true (cond b (record a { todo = while_wanting (is_wanting (wants a)) (d ∷ ds) }) (settled ds (deed_taken d a))).todo
+      by true e go = (g, waiting_deeds true (is_wanting (wants a)) (d ∷ ds) is)
       by false e go = let f : (is_wanting (wants a) ≡ false) × (is_broken a ≡ false) = or_false (is_wanting (wants a)) (is_broken a) e in go (deed_taken d a) (deed_good d a g is.0 (resting a g f.0 f.1))

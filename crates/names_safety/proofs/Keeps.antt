@@ -23,10 +23,10 @@ use Rattle.writer_core.specs.Writer.{heard_at, writer_heard}
 use Rattle.node_world.specs.declared.record.Record.{Record}
 use Rattle.node_world.specs.declared.record.Record.TheVariants.{Call, Late, Operator, Outcome}
 use Rattle.mesh.specs.Makers.{heard_of}
-use Rattle.cluster_runner.specs.Lines.{Deed, AreDeeds}
+use Rattle.script_actor.specs.Lines.{Deed, AreDeeds}
 use Rattle.name_node.specs.Submissions.{Due}
-use Rattle.name_node.specs.Holding.{Holding, new_holding, Work, Free, Tails, Logs, Broken, emptied, at_position, reloaded}
-use Rattle.cluster_runner.specs.Actor.{Actor, fresh_actor, settled, enters as enters_at, logs_done, task_done, held_turn, turn_with, turn_taken, judged_as, heard_in_work, heard_by, moved_on, resettled, goes_on}
+use Rattle.name_node.specs.Holding.{Holding, new_holding, Work, Free, Tails, Logs, Broken, emptied, at_position, reloaded, enters as enters_at}
+use Rattle.script_actor.specs.Actor.{Actor, fresh_actor, settled, logs_done, task_done, held_turn, turn_with, turn_taken, judged_as, heard_in_work, heard_by, moved_on, resettled, goes_on}
 use Rattle.writer_core.specs.Turns.{IsOf, aim_of}
 use Rattle.cluster_runner.proofs.Led.{moved_keeps}
 use Rattle.cluster_runner.proofs.WriterTurns.{has_other, IsBetween, Course, Turned, TurnOf, heard_turn, new_course}

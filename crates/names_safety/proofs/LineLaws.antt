@@ -28,9 +28,9 @@ use Rattle.node_world.specs.Entries.{Entry}
 use Rattle.node_world.proofs.Values.{get_within, get_there}
 use Rattle.mesh.specs.declared.whole.Mesh.{Mesh}
 use Rattle.mesh.specs.Agree.{operator_of, record_of, plan_of, ListsAgree}
-use Rattle.cluster_runner.specs.Lines.{Line, deeds_of}
+use Rattle.script_actor.specs.Lines.{Line, deeds_of}
 use Rattle.name_node.specs.Holding.{Holding, Work, Free, Tails, Logs, Broken}
-use Rattle.cluster_runner.specs.Actor.{Actor, Want, WantsCall, WantsCopy, Says, Rests, call_wanted, work_read, read_first, wants, Fits, IsLed, actor_after, goes_on}
+use Rattle.script_actor.specs.Actor.{Actor, Want, WantsCall, WantsCopy, Says, Rests, call_wanted, work_read, read_first, wants, Fits, IsLed, actor_after, goes_on}
 use Rattle.ns_tree.specs.declared.end.End.{End}
 use Rattle.cluster_runner.specs.Follows.{actor_with, Follows}
 use Rattle.cluster_runner.specs.Safe.{AllOn}

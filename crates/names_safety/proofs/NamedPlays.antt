@@ -8,7 +8,7 @@ use Rattle.node_world.specs.Run.{IsRun}
 use Rattle.mesh.specs.declared.whole.Mesh.{Mesh}
 use Rattle.mesh.specs.Agree.{Agrees}
 use Rattle.mesh.specs.Order.{epoch_order}
-use Rattle.cluster_runner.specs.Lines.{Line, Declares, Acts, Operates, declared, names_in, deeds_of, AreDeeds, ArePlayable}
+use Rattle.script_actor.specs.Lines.{Line, Declares, Acts, Operates, declared, names_in, deeds_of, AreDeeds, ArePlayable}
 use Rattle.cluster_runner.specs.Plays.{mesh_of, ends_of}
 use Rattle.cluster_runner.specs.Follows.{FollowsLines}
 use Rattle.cluster_runner.specs.Safe.{IsSafeWithEnds}
@@ -18,7 +18,7 @@ use Rattle.names_safety.specs.Laws.{PlayIsLinear, PlaysAreSafe}
 use Rattle.names_safety.proofs.Safeties.{names_are_safe, epoch_order_is_safe}
 
 -- each actor's deeds are deeds of such a script
-playable_deeds : (named : Bool) (nodes actors : ℕ) (lines : List Line) → ArePlayable named nodes actors lines → (c : ℕ) → AreDeeds named (deeds_of c lines)
+pub playable_deeds : (named : Bool) (nodes actors : ℕ) (lines : List Line) → ArePlayable named nodes actors lines → (c : ℕ) → AreDeeds named (deeds_of c lines)
 unfolding ArePlayable AreDeeds deeds_of
 playable_deeds named nodes actors [] p c = tt
 playable_deeds named nodes actors (Declares name ∷ ls) p c = playable_deeds named nodes (actors + 1) ls p c

@@ -34,10 +34,10 @@ use Rattle.mesh.specs.Agree.{operator_of, record_of, plan_of, ListsAgree}
 use Rattle.mesh.specs.Makers.{heard_of}
 use Rattle.mesh.proofs.Shared.{In}
 use Rattle.node_world.proofs.WriterRange.{new_sized, call_within}
-use Rattle.cluster_runner.specs.Lines.{Deed, deeds_of}
+use Rattle.script_actor.specs.Lines.{Deed, deeds_of}
 use Rattle.name_node.specs.Holding.{Holding, Work, Free, Tails, Logs, Broken}
-use Rattle.cluster_runner.specs.Actor.{Actor, fresh_actor, call_wanted, work_read, read_first, wants, settled, goes_on, Fits, IsLed, actor_after}
-use Rattle.cluster_runner.specs.Plays.{last_of}
+use Rattle.script_actor.specs.Actor.{Actor, fresh_actor, call_wanted, work_read, read_first, wants, settled, goes_on, Fits, IsLed, actor_after}
+use Rattle.script_actor.specs.Actor.{last_of}
 use Rattle.cluster_runner.specs.Follows.{actor_with, Follows}
 use Rattle.names_safety.specs.Linear.{IsLinear, OnLine, IsActor, HoldsReplay, ImagesReplay, ActorsHoldReplays, EndsAreReplays}
 use Rattle.names_safety.proofs.ReadLaws.{all_on, reads_on_line}

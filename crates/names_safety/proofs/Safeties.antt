@@ -10,7 +10,7 @@ use Rattle.mesh.specs.declared.whole.Mesh.{Mesh}
 use Rattle.mesh.specs.Order.{epoch_order}
 use Rattle.mesh.proofs.Cutting.{order_at_nodes}
 use Rattle.mesh.proofs.OrderRuns.{order_runs}
-use Rattle.cluster_runner.specs.Lines.{Line}
+use Rattle.script_actor.specs.Lines.{Line}
 use Rattle.ns_tree.specs.declared.end.End.{End}
 use Rattle.ns_tree.specs.declared.end.LastSpace.{LastSpace}
 use Rattle.mesh.specs.Agree.{ListsAgree}

@@ -26,11 +26,11 @@ use Rattle.node_world.specs.Entries.{Entry}
 use Rattle.mesh.specs.declared.whole.Mesh.{Mesh}
 use Rattle.mesh.specs.Agree.{operator_of, record_of, ListsAgree}
 use Rattle.mesh.specs.Makers.{heard_of}
-use Rattle.cluster_runner.specs.Lines.{Deed, Line, Does, DoDrop, DoMute, DoLate, Submits, Trims, DoTail, Saves, Reloads}
-use Rattle.name_node.specs.Holding.{Holding, Work, Free, Tails, Logs, Broken, working, saved, reloaded, min_to_keep}
+use Rattle.script_actor.specs.Lines.{Deed, Line, Does, DoDrop, DoMute, DoLate, Submits, Trims, DoTail, Saves, Reloads}
+use Rattle.name_node.specs.Holding.{Holding, Work, Free, Tails, Logs, Broken, working, saved, reloaded, min_to_keep, enters}
 use Rattle.name_node.specs.Tails.{Caught, Reached, PurgedFrom, BehindBy, TailStep, GoesOn, Ends, Breaks, pass_begun, up_to, after_applied, pass_end, no_edits, tail_hears}
 use Rattle.name_node.specs.Submissions.{Submission, submitted, nothing_submitted}
-use Rattle.cluster_runner.specs.Actor.{Actor, fresh_actor, wants, is_wanting, is_broken_work, is_broken_holding, is_broken, tail_ended, tail_stepped, task_begun, copied, sync_begun, synced, logged_when, trim_at, unless_active, saving, reloading, held_deed, deed_taken, settled, enters, logs_done, task_done, held_turn, turn_with, turn_taken, judged_as, heard_in_work, heard_by, moved_on, resettled, goes_on, IsLed, actor_after}
+use Rattle.script_actor.specs.Actor.{Actor, fresh_actor, wants, is_wanting, is_broken_work, is_broken_holding, is_broken, tail_ended, tail_stepped, task_begun, copied, sync_begun, synced, logged_when, trim_at, unless_active, saving, reloading, held_deed, deed_taken, while_wanting, settled, logs_done, task_done, held_turn, turn_with, turn_taken, judged_as, heard_in_work, heard_by, moved_on, resettled, goes_on, IsLed, actor_after}
 use Rattle.ns_tree.specs.declared.end.End.{End}
 use Rattle.cluster_runner.specs.Follows.{actor_with}
 use Rattle.cluster_runner.specs.Safe.{AllOn}
@@ -149,7 +149,7 @@ unfolding settled
 settled_sane [] a s = s
 settled_sane (d ∷ ds) a s = by (is_wanting (wants a) || is_broken a) (settled_sane ds (deed_taken d a) (deed_sane d a s))
   where
-    by : (b : Bool) → Sane (settled ds (deed_taken d a)).holds → Sane (cond b (record a { todo = d ∷ ds }) (settled ds (deed_taken d a))).holds
+    by : (b : Bool) → Sane (settled ds (deed_taken d a)).holds → Sane (cond b (record a { todo = while_wanting (is_wanting (wants a)) (d ∷ ds) }) (settled ds (deed_taken d a))).holds
     by true q = s
     by false q = q
 

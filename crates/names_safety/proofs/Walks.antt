@@ -20,11 +20,11 @@ use Rattle.node_world.specs.declared.record.Told.{Told}
 use Rattle.mesh.specs.Makers.{heard_of}
 use Rattle.node_world.specs.Sized.{Sized}
 use Rattle.node_world.proofs.WriterRange.{heard_sized, begun_sized, call_within}
-use Rattle.cluster_runner.specs.Lines.{Deed, Does, DoDrop, DoMute, DoLate, Submits, Trims, DoTail, Saves, Reloads}
-use Rattle.name_node.specs.Holding.{Holding, Work, Free, Tails, Logs, Broken, min_to_keep}
+use Rattle.script_actor.specs.Lines.{Deed, Does, DoDrop, DoMute, DoLate, Submits, Trims, DoTail, Saves, Reloads}
+use Rattle.name_node.specs.Holding.{Holding, Work, Free, Tails, Logs, Broken, min_to_keep, enters}
 use Rattle.name_node.specs.Tails.{TailEnd, Caught, Reached, PurgedFrom, BehindBy, TailStep, GoesOn, Ends, Breaks, pass_begun, tail_hears}
 use Rattle.name_node.specs.Submissions.{Submission, submitted, nothing_submitted}
-use Rattle.cluster_runner.specs.Actor.{Actor, Want, call_wanted, work_read, read_first, copy_first, says_first, wants, is_wanting, is_broken, tail_ended, tail_stepped, task_begun, copied, sync_begun, synced, logged_when, trim_at, unless_active, saving, reloading, held_deed, deed_taken, settled, enters, logs_done, task_done, held_turn, turn_with, turn_taken, judged_as, heard_in_work, heard_by, moved_on, resettled, goes_on, Fits}
+use Rattle.script_actor.specs.Actor.{Actor, Want, call_wanted, work_read, read_first, copy_first, says_first, wants, is_wanting, is_broken, tail_ended, tail_stepped, task_begun, copied, sync_begun, synced, logged_when, trim_at, unless_active, saving, reloading, held_deed, deed_taken, while_wanting, settled, logs_done, task_done, held_turn, turn_with, turn_taken, judged_as, heard_in_work, heard_by, moved_on, resettled, goes_on, Fits}
 use Rattle.names_safety.proofs.Oks.{Oks, heard_oks, Oks-more, begun_oks}
 
 -- ## The writer of an actor: what its deeds and tails make of it
@@ -108,7 +108,7 @@ module _ (P : WriterView → Type 0) (closed : Closed P) where
   settled_writer [] a p = p
   settled_writer (d ∷ ds) a p = by (is_wanting (wants a) || is_broken a) (settled_writer ds (deed_taken d a) (deed_writer d a p))
     where
-      by : (b : Bool) → P (settled ds (deed_taken d a)).writer → P (cond b (record a { todo = d ∷ ds }) (settled ds (deed_taken d a))).writer
+      by : (b : Bool) → P (settled ds (deed_taken d a)).writer → P (cond b (record a { todo = while_wanting (is_wanting (wants a)) (d ∷ ds) }) (settled ds (deed_taken d a))).writer
       by true q = p
       by false q = q
 

@@ -3,7 +3,7 @@ use Rattle.std.specs.Prelude.{List, [], ◌∷◌, codes}
 use Rattle.edit_ops.specs.declared.op.Op.TheVariants.{Mkdir}
 use Rattle.ns_replay.specs.Examples.{plain}
 use Rattle.writer_core.specs.declared.task.Task.TheVariants as task
-use Rattle.cluster_runner.specs.Lines.{Line, Declares, Acts, Does, Submits, DoTail}
+use Rattle.script_actor.specs.Lines.{Line, Declares, Acts, Does, Submits, DoTail}
 
 unfoldable pub tailed_lines : List Line
 tailed_lines =

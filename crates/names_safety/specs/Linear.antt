@@ -18,9 +18,9 @@ use Rattle.node_world.specs.Safe.{IsOnLine}
 use Rattle.mesh.specs.declared.whole.Mesh.{Mesh}
 use Rattle.mesh.specs.Agree.{ListsAgree, operator_of, record_of}
 use Rattle.mesh.specs.Order.{placed_at, entries_at}
-use Rattle.cluster_runner.specs.Lines.{Deed, Line, AreDeeds, deeds_of}
+use Rattle.script_actor.specs.Lines.{Deed, Line, AreDeeds, deeds_of}
 use Rattle.name_node.specs.Holding.{Holding}
-use Rattle.cluster_runner.specs.Actor.{Actor, wants, Fits, IsLed, actor_after, is_broken}
+use Rattle.script_actor.specs.Actor.{Actor, wants, Fits, IsLed, actor_after, is_broken}
 use Rattle.ns_tree.specs.declared.end.End.{End}
 use Rattle.ns_tree.specs.declared.end.LastSpace.{LastSpace}
 use Rattle.cluster_runner.specs.Follows.{actor_with, FollowsLines}

@@ -2,7 +2,7 @@
 ghost use Rattle.std.specs.Prelude.{◌≡◌, ◌∷◌, [], true};
 ghost use Rattle.node_world.specs.Moving.{moving_of};
 ghost use Rattle.ns_tree.specs.Space.{root_pair};
-ghost use Rattle.cluster_runner.specs.Lines.{ArePlayable};
+ghost use Rattle.script_actor.specs.Lines.{ArePlayable};
 ghost use Rattle.cluster_runner.specs.Plays.{IsPlay, ends_of};
 ghost use Rattle.cluster_runner.specs.NamesExamples.{played_named, last_at, left};
 ghost use Rattle.cluster_runner.specs.Safe.{IsSafeWithEnds};

@@ -2,10 +2,13 @@
 use Rattle.std.specs.Prelude.{◌≡◌, ℕ, Bool, List, [], ◌∷◌, ◌++◌, Option, Some, None, unwrap_or}
 use Rattle.journal_core.specs.declared.node_state.NodeState.{NodeState}
 use Rattle.journal_core.specs.Step.{fresh_state}
+use Rattle.journal_core.specs.Peers.{FitsHeard}
 use Rattle.node_world.specs.declared.node_ask.NodeAsk.{NodeAsk}
+use Rattle.node_world.specs.declared.node_ask.NodeAsk.TheVariants.{Act, Kill, Restart, Arm}
 use Rattle.node_world.specs.declared.node_ask.NodeAnswer.{NodeAnswer}
 use Rattle.node_world.specs.declared.history_line.HistoryLine.{HistoryLine}
 use Rattle.node_world.specs.Cell.{Cell, fresh_cell, cell_takes}
+use Rattle.node_world.specs.World.{heard_of}
 
 -- the cell as it stands, and what it has listed
 pub record CellView : Type 0 where
@@ -29,3 +32,10 @@ new_cell = record { cell = fresh_cell; history = [] }
 pub record IsTaken (old : CellView) (caller : ℕ) (ask : NodeAsk) (answer : NodeAnswer) (new : CellView) : Type 0 where
   pub taken : cell_takes old.cell ask ≡ record { answer = answer; cell = new.cell }
   pub listed : new.history ≡ old.history ++ record { caller = caller; ask = ask; answer = answer } ∷ []
+
+-- a reply fits its request, and isn't want of memory
+abbrev pub AnswerFits : NodeAsk → NodeAnswer → Type 0
+AnswerFits (Act late r) answer = FitsHeard r (heard_of answer)
+AnswerFits Kill answer = Unit {0}
+AnswerFits Restart answer = Unit {0}
+AnswerFits (Arm calls stop) answer = Unit {0}

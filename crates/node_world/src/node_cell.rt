@@ -1,9 +1,11 @@
 // A node with its arming and its history.
 ghost use Rattle.std.specs.Prelude.{◌≡◌, ◌≢◌, ◌<◌, ◌^◌, length, Some, true, is_some, IfOk, OnOk, OnErr, IsTrue, ◌↔◌};
+ghost use Rattle.journal_core.specs.declared.heard.Heard.TheVariants.{Answer};
+ghost use Rattle.journal_core.specs.Peers.{FitsHeard};
 ghost use Rattle.journal_core.specs.Step.{node_step, fresh_state, stopped};
 ghost use Rattle.node_world.specs.Cell.{kept_by, replies, stops, counted, requested, killed, started_again, armed, cell_takes};
-ghost use Rattle.node_world.specs.NodeCells.{state_told, new_cell, IsTaken};
-ghost use Rattle.node_world.specs.World.{is_due};
+ghost use Rattle.node_world.specs.NodeCells.{state_told, new_cell, IsTaken, AnswerFits};
+ghost use Rattle.node_world.specs.World.{is_due, heard_of};
 ghost use Rattle.node_world.specs.WorldViews.{stopping_at};
 
 use crate::arming::Arming;
@@ -64,6 +66,7 @@ fn reply_of<N: CutNode>(
     ensures steady { N.steady node.new }
     ensures up { OnOk result ((state_told (N.state node.new)).up ≡ (state_told (N.state node.old)).up) }
     ensures step { IfOk result (λ reply. node_step (state_told (N.state node.old)) request.now ≡ record { state = state_told (N.state node.new); reply = reply }) }
+    ensures fits { IfOk result (λ reply. FitsHeard request.now (Answer reply)) }
 {
     let reply = node.act(alloc, request);
     if is_out_of_memory(&reply) {
@@ -136,6 +139,7 @@ impl<N: CutNode> NodeCell<N> {
     /// The node replies; the arming stays.
     fn reply(&mut self, alloc: Global, request: &Request) -> Result<NodeAnswer, OutOfMemory>
         ensures taken { IfOk result (λ answer. replies self.old.cell.state request.now self.old.cell.arming ≡ record { answer = answer; cell = self.new.cell }) }
+        ensures fits { IfOk result (λ answer. FitsHeard request.now (heard_of answer)) }
         ensures history { self.new.history ≡ self.old.history }
     {
         match reply_of(alloc, &mut self.node, request) {
@@ -156,6 +160,7 @@ impl<N: CutNode> NodeCell<N> {
     ) -> Result<NodeAnswer, OutOfMemory>
         requires up { self.old.cell.state.up ≡ true }
         ensures taken { IfOk result (λ answer. counted self.old.cell.state request.now (Some arming) ≡ record { answer = answer; cell = self.new.cell }) }
+        ensures fits { IfOk result (λ answer. FitsHeard request.now (heard_of answer)) }
         ensures history { self.new.history ≡ self.old.history }
     {
         if arming.calls > 1 {
@@ -187,6 +192,7 @@ impl<N: CutNode> NodeCell<N> {
     ) -> Result<NodeAnswer, OutOfMemory>
         requires up { is_up ≡ self.old.cell.state.up }
         ensures taken { IfOk result (λ answer. requested is_up self.old.cell request.now ≡ record { answer = answer; cell = self.new.cell }) }
+        ensures fits { IfOk result (λ answer. FitsHeard request.now (heard_of answer)) }
         ensures history { self.new.history ≡ self.old.history }
     {
         match self.arming {
@@ -244,6 +250,7 @@ impl<N: CutNode> NodeCell<N> {
     #[tactic(auto, unfolding(crate::specs::Cell::cell_takes))]
     fn reach(&mut self, alloc: Global, ask: &NodeAsk) -> Result<NodeAnswer, OutOfMemory>
         ensures taken { IfOk result (λ answer. cell_takes self.old.cell ask.now ≡ record { answer = answer; cell = self.new.cell }) }
+        ensures fits { IfOk result (λ answer. AnswerFits ask.now answer) }
         ensures history { self.new.history ≡ self.old.history }
     {
         let Some(is_up) = self.is_up else {
@@ -306,6 +313,7 @@ impl<N: CutNode> NodeCell<N> {
         ask: NodeAsk,
     ) -> Result<NodeAnswer, OutOfMemory>
         ensures ok { IfOk result (λ answer. IsTaken self.old caller ask answer self.new) }
+        ensures fits { IfOk result (λ answer. AnswerFits ask answer) }
         ensures room { OnOk result (length self.new.history < 2 ^ 63) }
         ensures err { OnErr result (self.new.history ≡ self.old.history) }
     {

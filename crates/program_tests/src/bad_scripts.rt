@@ -8,7 +8,7 @@ fn bad_scripts_are_refused(rt: HostRuntime) -> Result<(), Fail> {
     let cases: [(&[u8], &[u8]); 18] = [
         (b"", b"error BadScript 1 1\n"),
         (b"raw 16\n", b"error BadScript 1 1\n"),
-        (b"names 3\n", b"error BadScript 1 1\n"),
+        (b"names 16\n", b"error BadScript 1 1\n"),
         (b"raw 3\nwriter a\ntakeo", b"error BadScript 3 10\n"),
         (b"raw 3\nfoo\n", b"error BadScript 2 2\n"),
         (b"raw 3\nraw 3\n", b"error BadScript 2 2\n"),

@@ -5,7 +5,7 @@ use std::process::Abort;
 use std::test::Fail;
 
 /// The report of the script has each of these parts.
-fn says(rt: &impl Abort, alloc: Global, script: &[u8], parts: &[&str]) -> Result<(), Fail> {
+pub fn says(rt: &impl Abort, alloc: Global, script: &[u8], parts: &[&str]) -> Result<(), Fail> {
     let bytes = report_of(rt, alloc, script)?;
     let report = str::from_utf8(&bytes)?;
     for part in parts {

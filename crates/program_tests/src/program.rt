@@ -1,5 +1,5 @@
 //! The program over memory: a report, bad words, ends that fail, and limits.
-use qj_cli::{Status, qjm};
+use qj_cli::{Status, qjm_alone};
 use qj_disk::{Disk, MemDisk};
 use qj_outside::{MemSink, MemSource};
 use std::alloc::{AllocError, Global};
@@ -34,9 +34,11 @@ pub fn run_over<D: Disk>(
     }
     let mut source = MemSource::new(script.to_vec(alloc)?, lost_reads.to_vec(alloc)?);
     let mut sink = MemSink::new(alloc, 1_000_000, lost_writes.to_vec(alloc)?)?;
-    let status = qjm(alloc, &strings, &mut source, &mut sink, disk).status;
+    let Ok(exit) = qjm_alone(alloc, &strings, &mut source, &mut sink, disk) else {
+        return Err(AllocError);
+    };
     Ok(Done {
-        status,
+        status: exit.status,
         taken: sink.bytes().to_vec(alloc)?,
     })
 }
@@ -131,7 +133,7 @@ fn scripts_without_a_writer_are_played(rt: HostRuntime) -> Result<(), Fail> {
 
 #[test]
 fn bad_words_are_told(rt: HostRuntime) -> Result<(), Fail> {
-    let cases: [(&[&str], &[u8]); 18] = [
+    let cases: [(&[&str], &[u8]); 27] = [
         (&[], b"error Usage 0\n"),
         (&["view"], b"error Usage 0\n"),
         (&["play", "twice"], b"error Usage 1\n"),
@@ -150,6 +152,18 @@ fn bad_words_are_told(rt: HostRuntime) -> Result<(), Fail> {
         (&["oiv", "delimited"], b"error Usage 2\n"),
         (&["oiv", "json", "a", "b"], b"error Usage 3\n"),
         (&["fsck", "a"], b"error Usage 1\n"),
+        (&["gen"], b"error Usage 1\n"),
+        (
+            &["gen", "4611686018427387905", "1", "3"],
+            b"error Usage 1\n",
+        ),
+        (&["gen", "01", "1", "3"], b"error Usage 1\n"),
+        (&["gen", "1"], b"error Usage 2\n"),
+        (&["gen", "1", "10001", "3"], b"error Usage 2\n"),
+        (&["gen", "1", "1"], b"error Usage 3\n"),
+        (&["gen", "1", "0", "16"], b"error Usage 3\n"),
+        (&["gen", "1", "0", "0"], b"error Usage 3\n"),
+        (&["gen", "1", "1", "3", "x"], b"error Usage 4\n"),
     ];
     for (words, text) in cases {
         let case = Case {

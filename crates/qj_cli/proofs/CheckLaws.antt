@@ -1,5 +1,5 @@
 -- How a check of the disk's files ends, case by case.
-use Rattle.std.proofs.Common.{◌≡◌, ℕ, Bool, true, false, List, Option, Result, Ok, Err, refl, sym, ap, ◌∙◌, inl, inr, ◌==◌}
+use Rattle.std.proofs.Common.{◌≡◌, ℕ, Bool, true, false, List, Result, Err, refl, sym, ap, ◌∙◌, inl, inr, ◌==◌}
 use Rattle.std.specs.Prelude.{if◌then◌else◌}
 use Rattle.std.specs.Io.KnownBytes.{Appends}
 use Rattle.qj_outside.specs.Whole.{TakesFront}
@@ -11,9 +11,9 @@ use Rattle.qj_cli.specs.declared.status.Status.{Status}
 use Rattle.qj_cli.specs.declared.status.Status.TheVariants as status
 use Rattle.qj_cli.specs.declared.fault.Fault.TheVariants as fault
 use Rattle.qj_cli.specs.Uses.{SinkUse, DiskUse, AWriteFailed, NoWriteFailed}
-use Rattle.qj_cli.specs.Told.{TellsFault, Told, wrote_text, told_fault}
+use Rattle.qj_cli.specs.Told.{TellsFault, wrote_text, told_fault}
 use Rattle.qj_cli.specs.Listing.{disk_answer, HasCalls, IsOnlyRead}
-use Rattle.qj_cli.specs.Checks.{status_with, GivesFindings, Checks}
+use Rattle.qj_cli.specs.Checks.{status_with, Checks}
 use Rattle.qj_cli.proofs.ToldLaws.{cause_from, told_status}
 
 no_fault_with : (b : Bool) → disk_answer (if b then status.Ok else status.Unsound) ≡ Err fail.Failed → ⊥

@@ -1,17 +1,17 @@
 -- Where the input is right and nothing fails a command is done, or memory ran out.
 use Rattle.std.proofs.Common.{◌≡◌, ℕ, ◌<◌, ◌≤◌, List, Option, Some, None, Bool, true, false, ◌==◌, refl, sym, ap, subst, ◌∙◌, arith, inl, inr, ◌⊎◌, length}
-use Rattle.std.specs.Prelude.{if◌then◌else◌}
+use Rattle.std.specs.Prelude.{if◌then◌else◌, Result, Ok, Err, IfOk, IsErr}
 use Rattle.qj_outside.specs.Faults.{Rose}
 use Rattle.journal_core.specs.declared.segment.Segment.{Segment}
-use Rattle.journal_core.specs.declared.node_state.NodeState.{NodeState}
 use Rattle.journal_node.specs.Opening.{IsRefusedFile}
 use Rattle.journal_node.proofs.Reopens.{one_segments, not_unfilled}
 use Rattle.node_files.specs.Durable.{StandsAs, AreFilled}
-use Rattle.node_files.specs.Opening.{IsUnfilled}
-use Rattle.node_session.specs.Session.{EndsBy}
 use Rattle.node_session.specs.declared.served.Served.{Served}
 use Rattle.node_session.specs.declared.served.Served.TheVariants as served
 use Rattle.qj_disk.specs.Files.{Files}
+use Rattle.mesh.specs.declared.whole.Mesh.{Mesh}
+use Rattle.ns_tree.specs.declared.end.End.{End}
+use Rattle.script_text.specs.Views.{ScriptView}
 use Rattle.script_text.specs.Rules.{fault_of}
 use Rattle.script_text.specs.Laws.{ScriptBreaksNoRule}
 use Rattle.qj_cli.specs.declared.status.Status.{Status}
@@ -23,13 +23,15 @@ use Rattle.qj_cli.specs.declared.tool.Tool.{Tool}
 use Rattle.qj_cli.specs.Uses.{SourceUse, SinkUse, DiskUse}
 use Rattle.qj_cli.specs.Faults.{status_of}
 use Rattle.qj_cli.specs.Told.{IsToldAs, TellsFault, TellsText, Told, wrote_text, told_fault}
-use Rattle.qj_cli.specs.Commands.{Asked, asked_in, play, node, fsck, list, words_of}
-use Rattle.qj_cli.specs.Plays.{longest_script, AreTold, IsReadWhole, IsTooLong, GivesReport, IsPlayFault, Plays}
+use Rattle.qj_cli.specs.Commands.{Asked, asked_in, play, run, node, fsck, gen, list, AskFor}
+use Rattle.qj_cli.specs.Sound.{AreSound, ComeOf}
+use Rattle.qj_cli.specs.Plays.{longest_script, AreTold, IsReadWhole, IsTooLong, IsPlayFault, Plays}
 use Rattle.qj_cli.specs.Report.{HasLongReport}
-use Rattle.qj_cli.specs.Listing.{longest_file, IsTooLong as IsTooLongFile, IsInGrammar, IsBytesFault, file_under, IsFileFault, OfFile, GivesListing, IsListFault, Lists}
-use Rattle.qj_cli.specs.Serving.{status_at, is_disk_fault, IsNodeSessionOf, IsNodeSession, ServesNode, IsUnopened, OpensNone, IsServedOrNot, opened, unopened, Serves}
+use Rattle.qj_cli.specs.Listing.{longest_file, IsTooLong as IsTooLongFile, file_under, IsFileFault, OfFile, GivesListing, IsListFault}
+use Rattle.qj_cli.specs.Serving.{status_at, is_disk_fault, IsNodeSessionOf, IsNodeSession, ServesNode, IsUnopened, IsServedOrNot, opened, unopened, Serves}
 use Rattle.qj_cli.specs.Checks.{status_with, GivesFindings, IsCheckFault}
-use Rattle.qj_cli.specs.Does.{Does, Refuses}
+use Rattle.qj_cli.specs.Generates.{IsSummaryFault, Generates}
+use Rattle.qj_cli.specs.Does.{Does, Refuses, NeedsThreads}
 use Rattle.qj_cli.specs.Complete.{HasScript, HasRequests, HasNode, HasFile, NothingFails, IsComplete}
 use Rattle.qj_cli.proofs.OneListing.{in_grammar}
 use Rattle.qj_cli.proofs.WordLaws.{one_command}
@@ -54,7 +56,7 @@ some_told : (told : Option (List ℕ)) (bytes read : List ℕ) → told ≡ Some
 some_told None bytes read e is = absurd (cc e)
 some_told (Some x) bytes read e is = is ∙ cc e
 
-module _ (source : SourceUse) (right : HasScript source) (reads : Rose source.faults_before source.faults_now → ⊥) (no_rule : ScriptBreaksNoRule) where
+module _ (Leaves : ScriptView → Mesh → List End → Type 0) (source : SourceUse) (right : HasScript Leaves source) (reads : Rose source.faults_before source.faults_now → ⊥) (no_rule : ScriptBreaksNoRule) where
   same_bytes : (read : List ℕ) → AreTold source.told read → read ≡ right.bytes
   same_bytes read is = some_told source.told right.bytes read right.told is
 
@@ -68,18 +70,18 @@ module _ (source : SourceUse) (right : HasScript source) (reads : Rose source.fa
       let short : length right.bytes ≤ longest_script = right.short in
       omega (arith, same, more, short)
 
-  not_reported : (read : List ℕ) → IsReadWhole source read → HasLongReport read → ⊥
+  not_reported : (read : List ℕ) → IsReadWhole source read → HasLongReport Leaves read → ⊥
   not_reported read whole long =
-      let same : HasLongReport right.bytes = subst HasLongReport (same_bytes read whole.told) long in
+      let same : HasLongReport Leaves right.bytes = subst (HasLongReport Leaves) (same_bytes read whole.told) long in
       let within = right.within same.text same.report in
       let longer = same.longer in
       omega (arith, within, longer)
 
-  limit_none : (number : ℕ) → IsPlayFault source (fault.Limit number) → ⊥
+  limit_none : (number : ℕ) → IsPlayFault Leaves source (fault.Limit number) → ⊥
   limit_none number (inl is) = not_long is.1
   limit_none number (inr is) = not_reported is.0 is.1 is.2.2
 
-  play_fault : (of : Fault) (s : Status) (sink : SinkUse) → IsPlayFault source of → TellsFault of s sink → Done s
+  play_fault : (of : Fault) (s : Status) (sink : SinkUse) → IsPlayFault Leaves source of → TellsFault of s sink → Done s
   play_fault (fault.Usage place) s sink is tells = absurd is
   play_fault (fault.BadScript line rule) s sink is tells = let none : fault_of is.0 ≡ None = unbroken is.0 is.1 in let some = is.2 in absurd (cc (none, some))
   play_fault fault.NoFile s sink is tells = absurd is
@@ -91,9 +93,26 @@ module _ (source : SourceUse) (right : HasScript source) (reads : Rose source.fa
   play_fault fault.DiskFault s sink is tells = absurd is
   play_fault fault.OutOfMemory s sink is tells = memory_told tells.told s tells.told_as tells.status_is
 
-  play_done : (sink : SinkUse) (s : Status) → (Rose sink.faults_before sink.faults_now → ⊥) → Plays source sink s → Done s
+  play_done : (sink : SinkUse) (s : Status) → (Rose sink.faults_before sink.faults_now → ⊥) → Plays Leaves source sink s → Done s
   play_done sink s writes (wrote_text good bytes gives tells) = text_done good s bytes sink gives.good_is writes tells
   play_done sink s writes (told_fault of is tells) = play_fault of s sink is tells
+
+-- ## A generated script
+summary_fault : (of : Fault) (s : Status) (sink : SinkUse) → IsSummaryFault of → TellsFault of s sink → Done s
+summary_fault (fault.Usage place) s sink is tells = absurd is
+summary_fault (fault.BadScript line rule) s sink is tells = absurd is
+summary_fault fault.NoFile s sink is tells = absurd is
+summary_fault (fault.BadBytes place cause) s sink is tells = absurd is
+summary_fault (fault.BadImage place cause) s sink is tells = absurd is
+summary_fault (fault.BadFile name) s sink is tells = absurd is
+summary_fault (fault.Limit number) s sink is tells = absurd is
+summary_fault fault.ReadFault s sink is tells = absurd is
+summary_fault fault.DiskFault s sink is tells = absurd is
+summary_fault fault.OutOfMemory s sink is tells = memory_told tells.told s tells.told_as tells.status_is
+
+generates_done : (number edits nodes : ℕ) (sink : SinkUse) (s : Status) → (Rose sink.faults_before sink.faults_now → ⊥) → Generates number edits nodes sink s → Done s
+generates_done number edits nodes sink s writes (wrote_text good bytes gives tells) = text_done good s bytes sink gives.good_is writes tells
+generates_done number edits nodes sink s writes (told_fault of is tells) = summary_fault of s sink is tells
 
 -- ## A listing
 module _ {D : Type 0} (of : Tool) (name : List ℕ) (disk : DiskUse D) (right : HasFile of disk name) (calls : Rose (disk.faults disk.before) (disk.faults disk.now) → ⊥) where
@@ -221,15 +240,18 @@ module _ {D : Type 0} (source : SourceUse) (sink : SinkUse) (disk : DiskUse D) (
 
 -- ## Each command
 pub completes : {D : Type 0} (asked : Asked) (source : SourceUse) (sink : SinkUse) (disk : DiskUse D) (s : Status) → ScriptBreaksNoRule → Does asked source sink disk s → IsComplete asked source sink disk s
-completes play source sink disk s no_rule does = λ right nothing. play_done source right nothing.reads no_rule sink s nothing.writes does.0
+completes play source sink disk s no_rule does = λ right nothing. play_done ComeOf source right nothing.reads no_rule sink s nothing.writes does.0
+completes run source sink disk s no_rule does = λ right nothing. play_done AreSound source right nothing.reads no_rule sink s nothing.writes does.0
 completes node source sink disk s no_rule does =
     λ right nothing. served_done source sink disk s right.0 right.1 nothing (no_disk_fault source sink disk s right.0 right.1 nothing does) does.served
 completes fsck source sink disk s no_rule does = λ right nothing. checked disk nothing.calls sink s nothing.writes does.told
+completes (gen number edits nodes) source sink disk s no_rule does = λ right nothing. generates_done number edits nodes sink s nothing.writes does.0
 completes (list of name) source sink disk s no_rule does = λ right nothing. listed of name disk right nothing.calls sink s nothing.writes does.told
 
 -- the words are this command's
-pub does_for : {D : Type 0} (did asked : Asked) (source : SourceUse) (sink : SinkUse) (disk : DiskUse D) (s : Status) → words_of did ≡ words_of asked → Does did source sink disk s → Does asked source sink disk s
-does_for did asked source sink disk s e does = subst (λ (a : Asked). Does a source sink disk s) (one_command did asked e) does
+pub does_for : {D : Type 0} (words : List (List ℕ)) (did asked : Asked) (source : SourceUse) (sink : SinkUse) (disk : DiskUse D) (s : Status) → AskFor words did → AskFor words asked
+    → Does did source sink disk s → Does asked source sink disk s
+does_for words did asked source sink disk s a b does = subst (λ (x : Asked). Does x source sink disk s) (one_command words did asked a b) does
 
 -- the place is this one
 pub refused : {D : Type 0} (at place : ℕ) (sink : SinkUse) (disk : DiskUse D) (s : Status) → Some at ≡ Some place → Refuses at sink disk s → Refuses place sink disk s
@@ -238,3 +260,17 @@ refused at place sink disk s e is = subst (λ (n : ℕ). Refuses n sink disk s) 
 -- the command is this one
 pub does_as : {D : Type 0} (is by : Command) (source : SourceUse) (sink : SinkUse) (disk : DiskUse D) (s : Status) → is ≡ by → Does (asked_in by) source sink disk s → Does (asked_in is) source sink disk s
 does_as is by source sink disk s e does = subst (λ (c : Command). Does (asked_in c) source sink disk s) (sym e) does
+
+-- only `run` needs threads
+pub needs_run : (asked : Asked) → NeedsThreads asked → asked ≡ run
+needs_run play n = absurd n
+needs_run run n = refl
+needs_run node n = absurd n
+needs_run fsck n = absurd n
+needs_run (gen number edits nodes) n = absurd n
+needs_run (list of name) n = absurd n
+
+-- a result that can't be one of success
+pub no_exit : {T E : Type 0} (r : Result T E) → IfOk r (λ t. ⊥) → IsErr r
+no_exit (Ok t) h = absurd h
+no_exit (Err e) h = refl

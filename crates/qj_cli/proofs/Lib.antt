@@ -1,5 +1,7 @@
+pub mod MeshEnds
 pub mod ReportLaws
 pub mod WordLaws
+pub mod GenLaws
 pub mod ToldLaws
 pub mod PlayLaws
 pub mod ListLaws

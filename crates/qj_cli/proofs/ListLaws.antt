@@ -1,5 +1,5 @@
 -- What is due of a listing.
-use Rattle.std.proofs.Common.{◌≡◌, ℕ, ◌+◌, ◌≤◌, List, Option, Some, None, Result, Ok, Err, length, refl, sym, ap, ◌∙◌, suc, subst, arith}
+use Rattle.std.proofs.Common.{◌≡◌, ℕ, ◌+◌, List, Option, Some, None, Result, Ok, Err, refl, sym, ap, ◌∙◌, suc, subst, arith}
 use Rattle.std.specs.Prelude.{IfOk, IfErr, IsErrAnd, IsErrOf}
 use Rattle.qj_disk.specs.declared.disk.DiskFail.{DiskFail}
 use Rattle.qj_disk.specs.declared.disk.DiskFail.TheVariants as fail
@@ -19,7 +19,7 @@ use Rattle.qj_cli.specs.declared.tool.Tool.{Tool}
 use Rattle.qj_cli.specs.declared.found.Found.{Found}
 use Rattle.qj_cli.specs.declared.found.Found.TheVariants.{Absent, TooLong, Bytes}
 use Rattle.qj_cli.specs.Uses.{DiskUse}
-use Rattle.qj_cli.specs.Listing.{IsImageTold, file_under, HasCalls, OfFile, GivesListing, IsListFault}
+use Rattle.qj_cli.specs.Listing.{IsImageTold, file_under, HasCalls, GivesListing, IsListFault}
 use Rattle.qj_cli.specs.Found.{IsFound, IsReadFault, GivesFound, IsFoundFault}
 
 -- ## What was found

@@ -17,7 +17,7 @@ use Rattle.qj_cli.specs.declared.tool.SegmentTool.{SegmentTool}
 use Rattle.qj_cli.specs.declared.tool.ImageTool.{ImageTool}
 use Rattle.qj_cli.specs.declared.tool.Tool.{Tool}
 use Rattle.qj_cli.specs.declared.tool.Tool.TheVariants as tool
-use Rattle.qj_cli.specs.Listing.{told_by, rows_told_by, IsImageTold, IsToldBy, IsInGrammar, IsBytesFault, HasDamage, IsListing, IsFileFault, FilesHaveOneListing, FilesHaveOneFault, ListedFilesHaveNoFault}
+use Rattle.qj_cli.specs.Listing.{told_by, rows_told_by, IsImageTold, IsToldBy, IsInGrammar, IsBytesFault, HasDamage, IsFileFault, FilesHaveOneListing, FilesHaveOneFault, ListedFilesHaveNoFault}
 
 one_image : (tell : List Row → List ℕ) (bytes a b : List ℕ) → IsImageTold tell bytes a → IsImageTold tell bytes b → a ≡ b
 one_image tell bytes a b p q =

@@ -2,11 +2,19 @@
 use Rattle.std.proofs.Common.{◌≡◌, ℕ, zero, suc, ◌<◌, ◌≤◌, List, [], ◌∷◌, Option, Some, None, refl, ap, arith, inl, inr, length}
 use Rattle.std.specs.Prelude.{IfSome}
 use Rattle.qj_outside.specs.Whole.{GivesAll}
+use Rattle.mesh.specs.declared.whole.Mesh.{Mesh}
+use Rattle.ns_tree.specs.declared.end.End.{End}
+use Rattle.script_text.specs.Views.{ScriptView}
+use Rattle.script_text.specs.Grammar.{IsScriptText}
+use Rattle.script_text.proofs.ScriptLaws.{breaks_no_rule}
+use Rattle.report_text.specs.Text.{text_of}
+use Rattle.report_text.specs.Limit.{longest_report}
 use Rattle.qj_cli.specs.declared.status.Status.TheVariants as status
 use Rattle.qj_cli.specs.declared.fault.Fault.{Fault}
 use Rattle.qj_cli.specs.declared.fault.Fault.TheVariants as fault
 use Rattle.qj_cli.specs.Uses.{SourceUse, NoReadFailed}
-use Rattle.qj_cli.specs.Plays.{longest_script, AreTold, IsReadOut, IsReadWhole, IsTooLong, IsDueReport, IsScriptFault, GivesReport, IsPlayFault}
+use Rattle.qj_cli.specs.Plays.{longest_script, AreTold, IsReadOut, IsReadWhole, GivesScript, IsTextFault, IsReadingFault, IsReportFault, GivesReport, IsPlayFault}
+use Rattle.qj_cli.specs.Report.{IsReport}
 
 are_told : (told left : Option (List ℕ)) (bytes : List ℕ) → GivesAll told left bytes → AreTold told bytes
 are_told None left bytes all = tt
@@ -24,25 +32,20 @@ read_whole source bytes all same short = record {
   short = short;
 }
 
-pub gives_report : (source : SourceUse) (bytes text : List ℕ) → GivesAll source.told source.left bytes → NoReadFailed source → length bytes ≤ longest_script → IsDueReport bytes text
-    → GivesReport source status.Ok text
-gives_report source bytes text all same short due = record { good_is = refl; bytes = bytes; read = read_whole source bytes all same short; due = due }
+pub gives_script : (source : SourceUse) (bytes : List ℕ) (script : ScriptView) → GivesAll source.told source.left bytes → NoReadFailed source → length bytes ≤ longest_script → IsScriptText bytes script → GivesScript source script
+gives_script source bytes script all same short reads = record { bytes = bytes; read = read_whole source bytes all same short; reads = reads }
 
-fault_of_bytes : (source : SourceUse) (bytes : List ℕ) (of : Fault) → IsReadWhole source bytes → IsScriptFault bytes of → IsPlayFault source of
-fault_of_bytes source bytes (fault.Usage place) read is = absurd is
-fault_of_bytes source bytes (fault.BadScript line rule) read is = (bytes, read, is)
-fault_of_bytes source bytes fault.NoFile read is = absurd is
-fault_of_bytes source bytes (fault.BadBytes place cause) read is = absurd is
-fault_of_bytes source bytes (fault.BadImage place cause) read is = absurd is
-fault_of_bytes source bytes (fault.BadFile name) read is = absurd is
-fault_of_bytes source bytes (fault.Limit number) read is = inr (bytes, read, is)
-fault_of_bytes source bytes fault.ReadFault read is = absurd is
-fault_of_bytes source bytes fault.DiskFault read is = absurd is
-fault_of_bytes source bytes fault.OutOfMemory read is = tt
-
-pub gives_fault : (source : SourceUse) (bytes : List ℕ) (of : Fault) → GivesAll source.told source.left bytes → NoReadFailed source → length bytes ≤ longest_script → IsScriptFault bytes of
-    → IsPlayFault source of
-gives_fault source bytes of all same short is = fault_of_bytes source bytes of (read_whole source bytes all same short) is
+pub text_fault : (source : SourceUse) (bytes : List ℕ) (of : Fault) → GivesAll source.told source.left bytes → NoReadFailed source → length bytes ≤ longest_script → IsTextFault bytes of → IsReadingFault source of
+text_fault source bytes (fault.Usage place) all same short is = absurd is
+text_fault source bytes (fault.BadScript line rule) all same short is = (bytes, read_whole source bytes all same short, is)
+text_fault source bytes fault.NoFile all same short is = absurd is
+text_fault source bytes (fault.BadBytes place cause) all same short is = absurd is
+text_fault source bytes (fault.BadImage place cause) all same short is = absurd is
+text_fault source bytes (fault.BadFile name) all same short is = absurd is
+text_fault source bytes (fault.Limit number) all same short is = absurd is
+text_fault source bytes fault.ReadFault all same short is = absurd is
+text_fault source bytes fault.DiskFault all same short is = absurd is
+text_fault source bytes fault.OutOfMemory all same short is = tt
 
 some_of_length : (n : ℕ) → (bytes : List ℕ) × (length bytes ≡ n)
 some_of_length zero = ([], refl)
@@ -53,7 +56,47 @@ long_bytes : (told : Option (List ℕ)) → IfSome told (λ bytes. longest_scrip
 long_bytes None h = let long = some_of_length 1048577 in (long.0, tt, (let is : length long.0 ≡ 1048577 = long.1 in omega arith))
 long_bytes (Some told) h = (told, refl, h)
 
-pub too_long : (source : SourceUse) → IfSome source.told (λ bytes. longest_script < length bytes) → NoReadFailed source → IsPlayFault source (fault.Limit 1048576)
+pub too_long : (source : SourceUse) → IfSome source.told (λ bytes. longest_script < length bytes) → NoReadFailed source → IsReadingFault source (fault.Limit 1048576)
 too_long source h same =
     let long = long_bytes source.told h in
-    inl (refl, record { bytes = long.0; told = long.1; no_fault = same; long = long.2 })
+    (refl, record { bytes = long.0; told = long.1; no_fault = same; long = long.2 })
+
+-- ## A script that was read, and its lists
+pub reading_fault : (Leaves : ScriptView → Mesh → List End → Type 0) (source : SourceUse) (of : Fault) → IsReadingFault source of → IsPlayFault Leaves source of
+reading_fault Leaves source (fault.Usage place) is = absurd is
+reading_fault Leaves source (fault.BadScript line rule) is = is
+reading_fault Leaves source fault.NoFile is = absurd is
+reading_fault Leaves source (fault.BadBytes place cause) is = absurd is
+reading_fault Leaves source (fault.BadImage place cause) is = absurd is
+reading_fault Leaves source (fault.BadFile name) is = absurd is
+reading_fault Leaves source (fault.Limit number) is = inl is
+reading_fault Leaves source fault.ReadFault is = is
+reading_fault Leaves source fault.DiskFault is = absurd is
+reading_fault Leaves source fault.OutOfMemory is = tt
+
+report_of : (Leaves : ScriptView → Mesh → List End → Type 0) (source : SourceUse) (script : ScriptView) (m : Mesh) (ends : List End) (text : List ℕ) → (given : GivesScript source script) → Leaves script m ends → text ≡ text_of m ends
+    → IsReport Leaves given.bytes text
+report_of Leaves source script m ends text given left is = record { script = script; reads = given.reads; mesh = m; ends = ends; leaves = left; printed = is }
+
+pub gives_report : (Leaves : ScriptView → Mesh → List End → Type 0) (source : SourceUse) (script : ScriptView) (m : Mesh) (ends : List End) (text : List ℕ) → GivesScript source script → Leaves script m ends → text ≡ text_of m ends
+    → length text ≤ longest_report → GivesReport Leaves source status.Ok text
+gives_report Leaves source script m ends text given left is within = record {
+  good_is = refl;
+  bytes = given.bytes;
+  read = given.read;
+  due = record { unbroken = breaks_no_rule given.bytes script given.reads; printed = record { report = report_of Leaves source script m ends text given left is; within = within } };
+}
+
+pub report_fault : (Leaves : ScriptView → Mesh → List End → Type 0) (source : SourceUse) (script : ScriptView) (m : Mesh) (ends : List End) (of : Fault) → GivesScript source script → Leaves script m ends → IsReportFault (text_of m ends) of
+    → IsPlayFault Leaves source of
+report_fault Leaves source script m ends (fault.Usage place) given left is = absurd is
+report_fault Leaves source script m ends (fault.BadScript line rule) given left is = absurd is
+report_fault Leaves source script m ends fault.NoFile given left is = absurd is
+report_fault Leaves source script m ends (fault.BadBytes place cause) given left is = absurd is
+report_fault Leaves source script m ends (fault.BadImage place cause) given left is = absurd is
+report_fault Leaves source script m ends (fault.BadFile name) given left is = absurd is
+report_fault Leaves source script m ends (fault.Limit number) given left is =
+    inr (given.bytes, given.read, (is.0, breaks_no_rule given.bytes script given.reads, record { text = text_of m ends; report = report_of Leaves source script m ends (text_of m ends) given left refl; longer = is.1 }))
+report_fault Leaves source script m ends fault.ReadFault given left is = absurd is
+report_fault Leaves source script m ends fault.DiskFault given left is = absurd is
+report_fault Leaves source script m ends fault.OutOfMemory given left is = tt

@@ -1,65 +1,84 @@
--- What is known of a report.
-use Rattle.std.proofs.Common.{◌≡◌, ◌≤◌, ℕ, List, false, length, map, sym, refl, subst, ◌∙◌, ap}
+-- What is known of a play, of its report and of its summary.
+use Rattle.std.proofs.Common.{◌≡◌, ◌≤◌, ℕ, Bool, true, false, List, sym, subst, ◌∙◌, ap}
 use Rattle.node_world.specs.Run.{IsRun}
 use Rattle.mesh.specs.declared.whole.Mesh.{Mesh}
-use Rattle.mesh.specs.declared.end.End.{End}
+use Rattle.ns_tree.specs.declared.end.End.{End}
 use Rattle.mesh.specs.Agree.{Agrees}
 use Rattle.mesh.specs.Order.{epoch_order}
 use Rattle.mesh.specs.Laws.{OrderIsRun}
 use Rattle.script_text.specs.Views.{ScriptView}
-use Rattle.script_text.specs.Grammar.{IsScriptText}
-use Rattle.cluster_runner.specs.Lines.{lines_of, IsPlayable}
-use Rattle.cluster_runner.specs.Plays.{mesh_of, ends_of, raw_end, named_end}
-use Rattle.cluster_runner.specs.Kept.{IsPlayed}
-use Rattle.cluster_runner.proofs.RawEnds.{named_raw}
-use Rattle.cluster_runner.specs.Laws.{PlaysAgree, PlaysFollow, MeshesAreSafe}
-use Rattle.cluster_runner.specs.Safe.{IsSafeWithEnds}
-use Rattle.cluster_runner.specs.Follows.{FollowsScript}
-use Rattle.report_text.specs.Text.{text_of}
-use Rattle.report_text.specs.declared.answer.Report.{Report}
-use Rattle.report_text.specs.declared.answer.Report.TheVariants.{Text, TooLong}
-use Rattle.report_text.specs.Limit.{longest_report, Reports}
 use Rattle.script_text.specs.Laws.{TextIsOfOneScript}
-use Rattle.cluster_runner.specs.Plays.{Play, Plays}
-use Rattle.cluster_runner.specs.Laws.{OnePlay}
-use Rattle.qj_cli.specs.Report.{IsReport, IsReportOf, ScriptsHaveOneReport}
+use Rattle.script_actor.specs.Lines.{Line, lines_of, ArePlayable, IsPlayable}
+use Rattle.script_maker.specs.Generated.{generated}
+use Rattle.cluster_runner.specs.Plays.{Play, Plays, mesh_of, ends_of}
+use Rattle.cluster_runner.specs.Kept.{IsPlayed}
+use Rattle.cluster_runner.specs.Laws.{PlaysAgree, PlaysFollow, MeshesAreSafe, OnePlay}
+use Rattle.cluster_runner.specs.Safe.{IsSafeWithEnds}
+use Rattle.cluster_runner.specs.Follows.{FollowsLines, FollowsScript}
+use Rattle.names_safety.specs.Laws.{EpochOrderIsSafe}
+use Rattle.report_text.specs.Text.{text_of}
+use Rattle.report_text.specs.Summary.{summary_text}
+use Rattle.qj_cli.specs.Sound.{AreSound, ComeOf}
+use Rattle.qj_cli.specs.Report.{IsReport, ScriptsHaveOneReport}
+use Rattle.qj_cli.specs.Generates.{IsSummary, NumbersHaveOneSummary}
+use Rattle.qj_cli.proofs.MeshEnds.{meshes_hold_nothing, is_named}
 
-pub reported : (bytes text : List ℕ) (s : ScriptView) (m : Mesh) (ends : List End) → IsScriptText bytes s → IsPlayable s
-    → IsPlayed false s.nodes (lines_of s) m (map raw_end ends) → text ≡ text_of m ends → PlaysAgree → PlaysFollow → OrderIsRun → MeshesAreSafe → IsReport bytes text
-reported bytes text s m ends reads playable played is agree follow run safe =
-    let agrees : Agrees (mesh_of played.play) = agree s played.play playable played.plays in
-    let follows : FollowsScript s (mesh_of played.play) (ends_of played.play) = follow s played.play playable played.plays in
+-- ## Lists that a script leaves
+-- of a script with names or without, whoever made the lists
+mesh_safe : (named : Bool) (nodes : ℕ) (lines : List Line) (m : Mesh) (ends : List End) → 1 ≤ nodes → ArePlayable named nodes 0 lines → Agrees m → FollowsLines named nodes lines m ends
+    → MeshesAreSafe → EpochOrderIsSafe → IsSafeWithEnds nodes (epoch_order m) ends
+mesh_safe true nodes lines m ends some can agrees follows safe names =
+    subst (λ n. IsSafeWithEnds n (epoch_order m) ends) follows.nodes_are (names m lines ends agrees (is_named nodes lines m ends some can follows))
+mesh_safe false nodes lines m ends some can agrees follows safe names =
+    subst (λ n. IsSafeWithEnds n (epoch_order m) ends) follows.nodes_are (safe m ends agrees (meshes_hold_nothing nodes lines m ends can follows))
+
+pub sound : (s : ScriptView) (m : Mesh) (ends : List End) → IsPlayable s → Agrees m → FollowsScript s m ends → OrderIsRun → MeshesAreSafe → EpochOrderIsSafe → AreSound s m ends
+sound s m ends playable agrees follows run safe names = record {
+  agrees = agrees;
+  follows = follows;
+  run = subst (λ n. IsRun n (epoch_order m)) follows.nodes_are (run m agrees);
+  safe = mesh_safe s.named s.nodes (lines_of s) m ends playable.nodes playable.lines agrees follows safe names;
+}
+
+pub comes : (s : ScriptView) (m : Mesh) (ends : List End) → IsPlayable s → IsPlayed s.named s.nodes (lines_of s) m ends → PlaysAgree → PlaysFollow → OrderIsRun → MeshesAreSafe → EpochOrderIsSafe
+    → ComeOf s m ends
+comes s m ends playable played agree follow run safe names =
+    let p : Play = played.play in
     record {
-      script = s;
-      reads = reads;
-      play = played.play;
-      plays = played.plays;
-      printed = is ∙ ap (λ x. text_of x ends) played.mesh ∙ ap (λ x. text_of (mesh_of played.play) x) (sym (named_raw ends) ∙ ap (map named_end) played.ends_are);
-      agrees = agrees;
-      follows = follows;
-      run = subst (λ n. IsRun n (epoch_order (mesh_of played.play))) follows.nodes_are (run (mesh_of played.play) agrees);
-      safe = subst (λ n. IsSafeWithEnds n (epoch_order (mesh_of played.play)) (ends_of played.play)) follows.nodes_are
-          (subst (λ es. IsSafeWithEnds (mesh_of played.play).nodes (epoch_order (mesh_of played.play)) es) played.ends_are (safe (mesh_of played.play) ends agrees));
+      play = p;
+      sound = record {
+        plays = played.plays;
+        lists = sound s (mesh_of p) (ends_of p) playable (agree s p playable played.plays) (follow s p playable played.plays) run safe names;
+      };
+      mesh = played.mesh;
+      ends_are = played.ends_are;
     }
 
-pub reported_as : (bytes : List ℕ) (r : Report) (s : ScriptView) (m : Mesh) (ends : List End) → IsScriptText bytes s → IsPlayable s
-    → IsPlayed false s.nodes (lines_of s) m (map raw_end ends) → Reports r (text_of m ends) → PlaysAgree → PlaysFollow → OrderIsRun → MeshesAreSafe → IsReportOf bytes r
-reported_as bytes (Text text) s m ends reads playable played is agree follow run safe = record {
-  report = reported bytes text.items s m ends reads playable played is.0 agree follow run safe;
-  within = subst (λ t. length t ≤ longest_report) (sym is.0) is.1;
-}
-reported_as bytes TooLong s m ends reads playable played is agree follow run safe = record {
-  text = text_of m ends;
-  report = reported bytes (text_of m ends) s m ends reads playable played refl agree follow run safe;
-  longer = is;
-}
+-- ## Its summary
+pub summed : (number edits nodes : ℕ) (text : List ℕ) (s : ScriptView) (m : Mesh) (ends : List End) → s ≡ generated number edits nodes → ComeOf s m ends → text ≡ summary_text m ends
+    → IsSummary number edits nodes text
+summed number edits nodes text s m ends e come is =
+    let made : ComeOf (generated number edits nodes) m ends = subst (λ (x : ScriptView). ComeOf x m ends) e come in
+    record {
+      play = made.play;
+      sound = made.sound;
+      printed = is ∙ ap (λ x. summary_text x ends) made.mesh ∙ ap (λ x. summary_text (mesh_of made.play) x) made.ends_are;
+    }
 
--- ## One report
-same_text : (p q : Play) → p ≡ q → text_of (mesh_of p) (map named_end (ends_of p)) ≡ text_of (mesh_of q) (map named_end (ends_of q))
-same_text p q e = ap (λ x. text_of (mesh_of x) (map named_end (ends_of x))) e
+-- ## One report, and one summary
+same_text : (p q : Play) → p ≡ q → text_of (mesh_of p) (ends_of p) ≡ text_of (mesh_of q) (ends_of q)
+same_text p q e = ap (λ x. text_of (mesh_of x) (ends_of x)) e
+
+-- the text is that of the play
+of_play : {bytes text : List ℕ} → (f : IsReport ComeOf bytes text) → text ≡ text_of (mesh_of f.leaves.play) (ends_of f.leaves.play)
+of_play f = f.printed ∙ ap (λ x. text_of x f.ends) f.leaves.mesh ∙ ap (λ x. text_of (mesh_of f.leaves.play) x) f.leaves.ends_are
 
 pub one_report : TextIsOfOneScript → OnePlay → ScriptsHaveOneReport
 one_report one_script one_play bytes a b f g =
     let e : f.script ≡ g.script = one_script bytes f.script g.script f.reads g.reads in
-    let plays : Plays f.script g.play = subst (λ s. Plays s g.play) (sym e) g.plays in
-    f.printed ∙ same_text f.play g.play (one_play f.script f.play g.play f.plays plays) ∙ sym g.printed
+    let plays : Plays f.script g.leaves.play = subst (λ s. Plays s g.leaves.play) (sym e) g.leaves.sound.plays in
+    of_play f ∙ same_text f.leaves.play g.leaves.play (one_play f.script f.leaves.play g.leaves.play f.leaves.sound.plays plays) ∙ sym (of_play g)
+
+pub one_summary : OnePlay → NumbersHaveOneSummary
+one_summary one_play number edits nodes a b f g =
+    f.printed ∙ ap (λ x. summary_text (mesh_of x) (ends_of x)) (one_play (generated number edits nodes) f.play g.play f.sound.plays g.sound.plays) ∙ sym g.printed

@@ -6,7 +6,6 @@ use Rattle.journal_node.specs.declared.open_fail.OpenFail.{OpenFail}
 use Rattle.journal_node.specs.declared.open_fail.OpenFail.TheVariants as fail
 use Rattle.journal_node.specs.Opening.{IsRefusedOpening, IsCauseOf, is_fault}
 use Rattle.node_session.specs.declared.served.Served.{Served}
-use Rattle.node_session.specs.declared.served.Served.TheVariants as served
 use Rattle.qj_cli.specs.declared.status.Status.{Status}
 use Rattle.qj_cli.specs.declared.status.Status.TheVariants as status
 use Rattle.qj_cli.specs.declared.fault.Fault.{Fault}

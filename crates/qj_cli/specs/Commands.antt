@@ -1,5 +1,6 @@
 -- The commands, and the words that ask for them.
-use Rattle.std.specs.Prelude.{ℕ, ◌≡◌, List, [], ◌∷◌, codes}
+use Rattle.std.specs.Prelude.{ℕ, ◌≡◌, List, [], ◌∷◌, codes, decimal}
+use Rattle.script_maker.specs.Generated.{IsWithin}
 use Rattle.qj_cli.specs.declared.tool.SegmentTool.{SegmentTool}
 use Rattle.qj_cli.specs.declared.tool.SegmentTool.TheVariants as segment
 use Rattle.qj_cli.specs.declared.tool.ImageTool.{ImageTool}
@@ -9,18 +10,23 @@ use Rattle.qj_cli.specs.declared.tool.Tool.TheVariants as tool
 use Rattle.qj_cli.specs.declared.command.Command.{Command}
 use Rattle.qj_cli.specs.declared.command.Command.TheVariants as command
 
--- What can be asked for: a script is played, a node is served, the disk's files are checked, or the file of this name is listed by this tool.
+-- What can be asked for: a script is played, in order or by threads, a node is served, the disk's files are checked, the script that a number gives is played, with so many
+-- edits over so many nodes, or the file of this name is listed by this tool.
 pub data Asked : Type 0 where
   play : Asked
+  run : Asked
   node : Asked
   fsck : Asked
+  gen : (number edits nodes : ℕ) → Asked
   list : Tool → List ℕ → Asked
 
 -- the same as the program has it
 abbrev pub asked_in : Command → Asked
 asked_in command.Play = play
+asked_in command.Run = run
 asked_in command.Node = node
 asked_in command.Fsck = fsck
+asked_in (command.Gen number edits nodes) = gen number edits nodes
 asked_in (command.Listing of name) = list of name.now
 
 -- ## The words of a tool
@@ -45,9 +51,21 @@ word_of (tool.Oiv of) = image_word of
 -- ## The words of a command
 abbrev pub words_of : Asked → List (List ℕ)
 words_of play = codes "play" ∷ []
+words_of run = codes "run" ∷ []
 words_of node = codes "node" ∷ []
 words_of fsck = codes "fsck" ∷ []
+words_of (gen number edits nodes) = codes "gen" ∷ decimal number ∷ decimal edits ∷ decimal nodes ∷ []
 words_of (list of name) = program_of of ∷ word_of of ∷ name ∷ []
 
+-- the numbers of a generated script are within their limits
+abbrev pub IsAllowed : Asked → Type 0
+IsAllowed (gen number edits nodes) = IsWithin number edits nodes
+IsAllowed _ = Unit {0}
+
+-- the words ask for it
+pub record AskFor (words : List (List ℕ)) (asked : Asked) : Type 0 where
+  pub words_are : words ≡ words_of asked
+  pub allowed : IsAllowed asked
+
 abbrev pub IsCommand : List (List ℕ) → Type 0
-IsCommand words = (asked : Asked) × (words ≡ words_of asked)
+IsCommand words = (asked : Asked) × AskFor words asked

@@ -10,6 +10,8 @@ use Rattle.segment_file.specs.Opened.{AreStarts}
 use Rattle.node_files.specs.Durable.{StandsAs, AreFilled}
 use Rattle.node_session.specs.Lines.{AreLines}
 use Rattle.node_session.specs.Session.{AreAll}
+use Rattle.mesh.specs.declared.whole.Mesh.{Mesh}
+use Rattle.ns_tree.specs.declared.end.End.{End}
 use Rattle.script_text.specs.Views.{ScriptView}
 use Rattle.script_text.specs.Grammar.{IsScriptText}
 use Rattle.report_text.specs.Limit.{longest_report}
@@ -17,20 +19,21 @@ use Rattle.qj_cli.specs.declared.tool.Tool.{Tool}
 use Rattle.qj_cli.specs.declared.status.Status.{Status}
 use Rattle.qj_cli.specs.declared.status.Status.TheVariants as status
 use Rattle.qj_cli.specs.Uses.{SourceUse, SinkUse, DiskUse, AReadFailed, AWriteFailed}
-use Rattle.qj_cli.specs.Commands.{Asked, play, node, fsck, list}
+use Rattle.qj_cli.specs.Commands.{Asked, play, run, node, fsck, gen, list}
+use Rattle.qj_cli.specs.Sound.{AreSound as AreSoundLists, ComeOf}
 use Rattle.qj_cli.specs.Report.{IsReport}
 use Rattle.qj_cli.specs.Plays.{longest_script}
 use Rattle.qj_cli.specs.Listing.{longest_file, IsInGrammar, file_under}
 
 -- ## Input in its grammar and within the limits
--- the source's bytes are a script's, and its report isn't longer than a report may be
-pub record HasScript (source : SourceUse) : Type 0 where
+-- the source's bytes are a script's, and none of its reports is longer than a report may be
+pub record HasScript (Leaves : ScriptView → Mesh → List End → Type 0) (source : SourceUse) : Type 0 where
   pub bytes : List ℕ
   pub told : source.told ≡ Some bytes
   pub short : length bytes ≤ longest_script
   pub script : ScriptView
   pub reads : IsScriptText bytes script
-  pub within : (text : List ℕ) → IsReport bytes text → length text ≤ longest_report
+  pub within : (text : List ℕ) → IsReport Leaves bytes text → length text ≤ longest_report
 
 abbrev pub AreRequests : List (List ℕ) → Type 0
 AreRequests [] = Unit {0}
@@ -64,9 +67,11 @@ pub record HasFile {D : Type 0} (of : Tool) (disk : DiskUse D) (name : List ℕ)
 
 -- what a command wants of its input
 abbrev pub IsRight : {D : Type 0} → Asked → SourceUse → DiskUse D → Type 0
-IsRight play source disk = HasScript source
+IsRight play source disk = HasScript ComeOf source
+IsRight run source disk = HasScript AreSoundLists source
 IsRight node source disk = HasRequests source × HasNode disk
 IsRight fsck source disk = Unit {0}
+IsRight (gen number edits nodes) source disk = Unit {0}
 IsRight (list of name) source disk = HasFile of disk name
 
 -- ## The clause
@@ -79,8 +84,10 @@ pub record NothingFails {D : Type 0} (source : SourceUse) (sink : SinkUse) (disk
 -- a command that was done has status Ok, or Unsound where it told a finding
 abbrev pub IsDone : Asked → Status → Type 0
 IsDone play s = s ≡ status.Ok
+IsDone run s = s ≡ status.Ok
 IsDone node s = s ≡ status.Ok
 IsDone fsck s = (s ≡ status.Ok) ⊎ (s ≡ status.Unsound)
+IsDone (gen number edits nodes) s = s ≡ status.Ok
 IsDone (list of name) s = s ≡ status.Ok
 
 -- where the input is right and nothing fails the command is done, or memory ran out

@@ -1,29 +1,40 @@
 -- What each command does.
-use Rattle.std.specs.Prelude.{ℕ, ◌≡◌, List}
+use Rattle.std.specs.Prelude.{ℕ, ◌≡◌}
 use Rattle.qj_cli.specs.declared.status.Status.{Status}
 use Rattle.qj_cli.specs.declared.fault.Fault.TheVariants as fault
 use Rattle.qj_cli.specs.Uses.{SourceUse, SinkUse, DiskUse}
 use Rattle.qj_cli.specs.Told.{TellsFault}
-use Rattle.qj_cli.specs.Commands.{Asked, play, node, fsck, list}
+use Rattle.qj_cli.specs.Commands.{Asked, play, run, node, fsck, gen, list}
+use Rattle.qj_cli.specs.Sound.{AreSound, ComeOf}
 use Rattle.qj_cli.specs.Plays.{Plays}
 use Rattle.qj_cli.specs.Listing.{Lists}
 use Rattle.qj_cli.specs.Serving.{Serves}
 use Rattle.qj_cli.specs.Checks.{Checks}
+use Rattle.qj_cli.specs.Generates.{Generates}
 
--- With this status, by what it did to its source, its sink and its disk. A play leaves the disk alone.
+-- With this status, by what it did to its source, its sink and its disk. A play leaves the disk alone, also that of a generated script.
 abbrev pub Does : {D : Type 0} → Asked → SourceUse → SinkUse → DiskUse D → Status → Type 0
-Does play source sink disk s = Plays source sink s × (disk.now ≡ disk.before)
+Does play source sink disk s = Plays ComeOf source sink s × (disk.now ≡ disk.before)
+Does run source sink disk s = Plays AreSound source sink s × (disk.now ≡ disk.before)
 Does node source sink disk s = Serves source sink disk s
 Does fsck source sink disk s = Checks disk sink s
+Does (gen number edits nodes) source sink disk s = Generates number edits nodes sink s × (disk.now ≡ disk.before)
 Does (list of name) source sink disk s = Lists of name disk sink s
 
 -- The words are wrong from this place on: that is told, and the disk is left alone.
 abbrev pub Refuses : {D : Type 0} → ℕ → SinkUse → DiskUse D → Status → Type 0
 Refuses place sink disk s = TellsFault (fault.Usage place) s sink × (disk.now ≡ disk.before)
 
+-- the commands that need threads
+abbrev pub NeedsThreads : Asked → Type 0
+NeedsThreads run = Unit {0}
+NeedsThreads _ = ⊥
+
 -- the commands that read no source
 abbrev pub ReadsNone : Asked → Type 0
 ReadsNone play = ⊥
+ReadsNone run = ⊥
 ReadsNone node = ⊥
 ReadsNone fsck = Unit {0}
+ReadsNone (gen number edits nodes) = Unit {0}
 ReadsNone (list of name) = Unit {0}

@@ -4,8 +4,10 @@ pub mod Words
 pub mod Uses
 pub mod Faults
 pub mod Told
+pub mod Sound
 pub mod Report
 pub mod Plays
+pub mod Generates
 pub mod Listing
 pub mod Found
 pub mod Checks

@@ -1,5 +1,5 @@
 -- How a listing of a file ends, and what it writes.
-use Rattle.std.specs.Prelude.{ℕ, ◌≡◌, ◌⊎◌, ◌+◌, ◌<◌, ◌≤◌, List, Option, Some, None, Result, Ok, Err, length}
+use Rattle.std.specs.Prelude.{ℕ, ◌≡◌, ◌+◌, ◌<◌, ◌≤◌, List, Option, Some, None, Result, Ok, Err, length}
 use Rattle.qj_outside.specs.Faults.{Rose}
 use Rattle.qj_disk.specs.Calls.{HasCause, Rests}
 use Rattle.qj_disk.specs.declared.disk.DiskFail.{DiskFail}

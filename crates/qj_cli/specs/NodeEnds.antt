@@ -7,7 +7,6 @@ use Rattle.journal_node.specs.declared.open_fail.OpenFail.{OpenFail}
 use Rattle.journal_node.specs.declared.open_fail.OpenFail.TheVariants as fail
 use Rattle.node_session.specs.Session.{IsSessionOf}
 use Rattle.node_session.specs.declared.served.Served.{Served}
-use Rattle.node_session.specs.declared.served.Served.TheVariants as served
 use Rattle.qj_cli.specs.declared.status.Status.{Status}
 use Rattle.qj_cli.specs.declared.status.Status.TheVariants as status
 use Rattle.qj_cli.specs.declared.fault.Fault.{Fault}

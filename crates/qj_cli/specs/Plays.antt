@@ -1,6 +1,11 @@
--- How the play of a script ends, and what it writes.
+-- How a script that is played, in order or by threads, ends, and what it writes.
 use Rattle.std.specs.Prelude.{ℕ, ◌≡◌, ◌<◌, ◌≤◌, ◌⊎◌, List, [], Option, Some, None, length}
+use Rattle.mesh.specs.declared.whole.Mesh.{Mesh}
+use Rattle.ns_tree.specs.declared.end.End.{End}
+use Rattle.script_text.specs.Views.{ScriptView}
+use Rattle.script_text.specs.Grammar.{IsScriptText}
 use Rattle.script_text.specs.Rules.{fault_of}
+use Rattle.report_text.specs.Limit.{longest_report}
 use Rattle.qj_cli.specs.declared.status.Status.{Status}
 use Rattle.qj_cli.specs.declared.status.Status.TheVariants as status
 use Rattle.qj_cli.specs.declared.fault.Fault.{Fault}
@@ -37,39 +42,66 @@ pub record IsTooLong (source : SourceUse) : Type 0 where
   pub no_fault : NoReadFailed source
   pub long : longest_script < length bytes
 
+-- ## A script that is read
+-- the source was read whole, and its bytes are this script's
+pub record GivesScript (source : SourceUse) (script : ScriptView) : Type 0 where
+  pub bytes : List ℕ
+  pub read : IsReadWhole source bytes
+  pub reads : IsScriptText bytes script
+
+-- why bytes give none
+abbrev pub IsTextFault : List ℕ → Fault → Type 0
+IsTextFault bytes (fault.BadScript line rule) = fault_of bytes ≡ Some (line, rule)
+IsTextFault bytes fault.OutOfMemory = Unit {0}
+IsTextFault bytes _ = ⊥
+
+-- why a source gives none
+abbrev pub IsReadingFault : SourceUse → Fault → Type 0
+IsReadingFault source (fault.BadScript line rule) = (bytes : List ℕ) × IsReadWhole source bytes × (fault_of bytes ≡ Some (line, rule))
+IsReadingFault source (fault.Limit number) = (number ≡ longest_script) × IsTooLong source
+IsReadingFault source fault.ReadFault = AReadFailed source
+IsReadingFault source fault.OutOfMemory = Unit {0}
+IsReadingFault source _ = ⊥
+
+-- why the report with this text isn't printed
+abbrev pub IsReportFault : List ℕ → Fault → Type 0
+IsReportFault text (fault.Limit number) = (number ≡ 268435456) × (longest_report < length text)
+IsReportFault text fault.OutOfMemory = Unit {0}
+IsReportFault text _ = ⊥
+
 -- ## What is due of a script's bytes
 -- its report, where they break no rule
-pub record IsDueReport (bytes text : List ℕ) : Type 0 where
+pub record IsDueReport (Leaves : ScriptView → Mesh → List End → Type 0) (bytes text : List ℕ) : Type 0 where
   pub unbroken : fault_of bytes ≡ None
-  pub printed : IsPrinted bytes text
+  pub printed : IsPrinted Leaves bytes text
 
-abbrev pub IsScriptFault : List ℕ → Fault → Type 0
-IsScriptFault bytes (fault.BadScript line rule) = fault_of bytes ≡ Some (line, rule)
-IsScriptFault bytes (fault.Limit number) = (number ≡ 268435456) × (fault_of bytes ≡ None) × HasLongReport bytes
-IsScriptFault bytes fault.OutOfMemory = Unit {0}
-IsScriptFault bytes _ = ⊥
+abbrev pub IsScriptFault : (ScriptView → Mesh → List End → Type 0) → List ℕ → Fault → Type 0
+IsScriptFault Leaves bytes (fault.BadScript line rule) = fault_of bytes ≡ Some (line, rule)
+IsScriptFault Leaves bytes (fault.Limit number) = (number ≡ 268435456) × (fault_of bytes ≡ None) × HasLongReport Leaves bytes
+IsScriptFault Leaves bytes fault.OutOfMemory = Unit {0}
+IsScriptFault Leaves bytes _ = ⊥
 
 -- ## What is due of a source
 -- with status Ok the report of its bytes
-pub record GivesReport (source : SourceUse) (good : Status) (text : List ℕ) : Type 0 where
+pub record GivesReport (Leaves : ScriptView → Mesh → List End → Type 0) (source : SourceUse) (good : Status) (text : List ℕ) : Type 0 where
   pub good_is : good ≡ status.Ok
   pub bytes : List ℕ
   pub read : IsReadWhole source bytes
-  pub due : IsDueReport bytes text
+  pub due : IsDueReport Leaves bytes text
 
 -- of bytes that were read
-abbrev pub OfBytes : SourceUse → Fault → Type 0
-OfBytes source of = (bytes : List ℕ) × IsReadWhole source bytes × IsScriptFault bytes of
+abbrev pub OfBytes : (ScriptView → Mesh → List End → Type 0) → SourceUse → Fault → Type 0
+OfBytes Leaves source of = (bytes : List ℕ) × IsReadWhole source bytes × IsScriptFault Leaves bytes of
 
 -- Each fault comes only where this holds. No two of them hold of the same bytes, but for a read that failed and want of memory, so
 -- each comes exactly there.
-abbrev pub IsPlayFault : SourceUse → Fault → Type 0
-IsPlayFault source (fault.BadScript line rule) = OfBytes source (fault.BadScript line rule)
-IsPlayFault source (fault.Limit number) = (number ≡ longest_script) × IsTooLong source ⊎ OfBytes source (fault.Limit number)
-IsPlayFault source fault.ReadFault = AReadFailed source
-IsPlayFault source fault.OutOfMemory = Unit {0}
-IsPlayFault source _ = ⊥
+abbrev pub IsPlayFault : (ScriptView → Mesh → List End → Type 0) → SourceUse → Fault → Type 0
+IsPlayFault Leaves source (fault.BadScript line rule) = OfBytes Leaves source (fault.BadScript line rule)
+IsPlayFault Leaves source (fault.Limit number) = (number ≡ longest_script) × IsTooLong source ⊎ OfBytes Leaves source (fault.Limit number)
+IsPlayFault Leaves source fault.ReadFault = AReadFailed source
+IsPlayFault Leaves source fault.OutOfMemory = Unit {0}
+IsPlayFault Leaves source _ = ⊥
 
 -- How a play ended.
-abbrev pub Plays : SourceUse → SinkUse → Status → Type 0
-Plays source sink s = Told (GivesReport source) (IsPlayFault source) s sink
+abbrev pub Plays : (ScriptView → Mesh → List End → Type 0) → SourceUse → SinkUse → Status → Type 0
+Plays Leaves source sink s = Told (GivesReport Leaves source) (IsPlayFault Leaves source) s sink

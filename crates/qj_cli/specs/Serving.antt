@@ -1,7 +1,6 @@
 -- How the serving of a node ends, what it writes, and what it leaves in the node's files.
 use Rattle.std.specs.Prelude.{ℕ, ◌≡◌, ◌≢◌, Bool, true, false, List, [], Option, Some, None}
-use Rattle.qj_disk.specs.Files.{Files}
-use Rattle.qj_disk.specs.View.{View, AllLeave, LeavesOnly}
+use Rattle.qj_disk.specs.View.{AllLeave, LeavesOnly}
 use Rattle.journal_core.specs.declared.node_state.NodeState.{NodeState}
 use Rattle.journal_core.specs.Step.{restarted}
 use Rattle.node_files.specs.Durable.{StandsAs, AreFilled}
@@ -13,7 +12,7 @@ use Rattle.qj_cli.specs.declared.status.Status.{Status}
 use Rattle.qj_cli.specs.declared.status.Status.TheVariants as status
 use Rattle.qj_cli.specs.declared.fault.Fault.TheVariants as fault
 use Rattle.qj_cli.specs.Uses.{SourceUse, SinkUse, DiskUse, AReadFailed, NoReadFailed, AWriteFailed, NoWriteFailed}
-use Rattle.qj_cli.specs.Faults.{status_of, line_of}
+use Rattle.qj_cli.specs.Faults.{line_of}
 use Rattle.qj_cli.specs.Told.{WritesLine}
 use Rattle.qj_cli.specs.Crashes.{OutlastsCrashes}
 

@@ -2,6 +2,7 @@
 use Rattle.std.specs.Prelude.{ℕ, List, [], ◌∷◌, Option, Some, None, String, Bool, ◌||◌, codes, map, if◌then◌else◌}
 use Rattle.std.specs.Str.{bytes_eq}
 use Rattle.std.specs.String.{string_bytes}
+use Rattle.script_text.specs.Words.{greatest, is_number}
 
 -- the bytes of each word
 abbrev pub bytes_of : {Z : Type 0} → List (String Z) → List (List ℕ)
@@ -9,7 +10,7 @@ bytes_of words = map string_bytes words
 
 -- a command of one word
 abbrev pub is_alone : List ℕ → Bool
-is_alone word = bytes_eq word (codes "play") || (bytes_eq word (codes "node") || bytes_eq word (codes "fsck"))
+is_alone word = bytes_eq word (codes "play") || (bytes_eq word (codes "run") || (bytes_eq word (codes "node") || bytes_eq word (codes "fsck")))
 
 -- the word of a listing of a segment's file
 abbrev pub is_oev : List ℕ → Bool
@@ -35,10 +36,28 @@ unfoldable pub behind_program : (List ℕ → Bool) → List (List ℕ) → Opti
 behind_program is_tool [] = Some 1
 behind_program is_tool (word ∷ words) = if is_tool word then behind_tool words else Some 1
 
+-- behind `gen` stand three numbers: the one that a script is made from, how many edits and how many nodes
+abbrev pub behind_nodes : List (List ℕ) → Option ℕ
+behind_nodes [] = None
+behind_nodes (word ∷ words) = Some 4
+
+abbrev pub behind_edits : List (List ℕ) → Option ℕ
+behind_edits [] = Some 3
+behind_edits (nodes ∷ words) = if is_number 1 15 nodes then behind_nodes words else Some 3
+
+abbrev pub behind_number : List (List ℕ) → Option ℕ
+behind_number [] = Some 2
+behind_number (edits ∷ words) = if is_number 0 10000 edits then behind_edits words else Some 2
+
+unfoldable pub behind_gen : List (List ℕ) → Option ℕ
+behind_gen [] = Some 1
+behind_gen (number ∷ words) = if is_number 0 greatest number then behind_number words else Some 1
+
 -- the place, from 0, of the first word that is missing or wrong
 unfoldable pub usage_of : List (List ℕ) → Option ℕ
 usage_of [] = Some 0
 usage_of (word ∷ words) =
     if is_alone word then behind_one words
     else (if bytes_eq word (codes "oev") then behind_program is_oev words
-    else (if bytes_eq word (codes "oiv") then behind_program is_oiv words else Some 0))
+    else (if bytes_eq word (codes "oiv") then behind_program is_oiv words
+    else (if bytes_eq word (codes "gen") then behind_gen words else Some 0)))

@@ -1,29 +1,45 @@
 // The commands, read from the words.
 ghost use Rattle.std.specs.Prelude.{◌≡◌, [], ◌∷◌, false, Some, codes, MatchOption, MatchResult};
-ghost use Rattle.qj_cli.specs.Commands.{asked_in, words_of};
-ghost use Rattle.qj_cli.specs.Usage.{bytes_of, is_alone, is_oev, is_oiv, behind_one, behind_tool, behind_program, usage_of};
+ghost use Rattle.qj_cli.specs.Commands.{asked_in, AskFor};
+ghost use Rattle.qj_cli.specs.Usage.{bytes_of, is_alone, is_oev, is_oiv, behind_one, behind_tool, behind_program, behind_gen, usage_of};
 
 use crate::tool::{Tool, image_tool_of, segment_tool_of};
+use script_text::number_of;
+
+/// The greatest number of a command.
+const GREATEST: u64 = 4_611_686_018_427_387_904;
+
+/// The most edits of a generated script.
+const MOST_EDITS: u64 = 10_000;
+
+/// The most nodes.
+const MOST_NODES: u64 = 15;
 
 /// What the program is asked to do.
 #[derive(Clone, Copy)]
 pub enum Command<'a> {
-    /// To play the script that the source gives.
+    /// To play the script that the source gives, all lines in order.
     Play,
+    /// To play it by threads.
+    Run,
     /// To serve a node, whose files are on the disk.
     Node,
     /// To check the disk's files.
     Fsck,
+    /// To play the script that a number gives, with so many edits over so many nodes.
+    Gen { number: u64, edits: u64, nodes: u64 },
     /// To list a file of the disk.
     Listing { tool: Tool, name: &'a str },
 }
 
 /// The command that has this word alone.
 fn command_of<'a>(word: &str) -> Option<Command<'a>>
-    ensures { MatchOption result (is_alone word.now ≡ false) (λ c. words_of (asked_in c) ≡ word.now ∷ []) }
+    ensures { MatchOption result (is_alone word.now ≡ false) (λ c. AskFor (word.now ∷ []) (asked_in c)) }
 {
     if word == "play" {
         Some(Command::Play)
+    } else if word == "run" {
+        Some(Command::Run)
     } else if word == "node" {
         Some(Command::Node)
     } else if word == "fsck" {
@@ -57,7 +73,7 @@ fn one_name(words: &[String]) -> Result<&str, u64>
 /// The listing of a segment's file that the words behind `oev` ask for; or the place of the first wrong word.
 #[tactic(auto, unfolding(crate::specs::Usage::behind_program))]
 fn read_oev(words: &[String]) -> Result<Command<'_>, u64>
-    ensures { MatchResult result (λ c. codes "oev" ∷ bytes_of words.now ≡ words_of (asked_in c)) (λ place. behind_program is_oev (bytes_of words.now) ≡ Some place) }
+    ensures { MatchResult result (λ c. AskFor (codes "oev" ∷ bytes_of words.now) (asked_in c)) (λ place. behind_program is_oev (bytes_of words.now) ≡ Some place) }
 {
     let Some((word, names)) = words.split_first() else {
         return Err(1);
@@ -77,7 +93,7 @@ fn read_oev(words: &[String]) -> Result<Command<'_>, u64>
 /// The listing of an image that the words behind `oiv` ask for; or the place of the first wrong word.
 #[tactic(auto, unfolding(crate::specs::Usage::behind_program))]
 fn read_oiv(words: &[String]) -> Result<Command<'_>, u64>
-    ensures { MatchResult result (λ c. codes "oiv" ∷ bytes_of words.now ≡ words_of (asked_in c)) (λ place. behind_program is_oiv (bytes_of words.now) ≡ Some place) }
+    ensures { MatchResult result (λ c. AskFor (codes "oiv" ∷ bytes_of words.now) (asked_in c)) (λ place. behind_program is_oiv (bytes_of words.now) ≡ Some place) }
 {
     let Some((word, names)) = words.split_first() else {
         return Err(1);
@@ -94,10 +110,43 @@ fn read_oiv(words: &[String]) -> Result<Command<'_>, u64>
     }
 }
 
+/// The play of a generated script that the words behind `gen` ask for; or the place of the first wrong word.
+#[tactic(auto, using(crate::proofs::GenLaws::asks), unfolding(crate::specs::Usage::behind_gen))]
+fn read_gen(words: &[String]) -> Result<Command<'_>, u64>
+    ensures { MatchResult result (λ c. AskFor (codes "gen" ∷ bytes_of words.now) (asked_in c)) (λ place. behind_gen (bytes_of words.now) ≡ Some place) }
+{
+    let Some((first, others)) = words.split_first() else {
+        return Err(1);
+    };
+    let Some(number) = number_of(first.as_bytes(), 0, GREATEST) else {
+        return Err(1);
+    };
+    let Some((second, others)) = others.split_first() else {
+        return Err(2);
+    };
+    let Some(edits) = number_of(second.as_bytes(), 0, MOST_EDITS) else {
+        return Err(2);
+    };
+    let Some((third, others)) = others.split_first() else {
+        return Err(3);
+    };
+    let Some(nodes) = number_of(third.as_bytes(), 1, MOST_NODES) else {
+        return Err(3);
+    };
+    if !others.is_empty() {
+        return Err(4);
+    }
+    Ok(Command::Gen {
+        number,
+        edits,
+        nodes,
+    })
+}
+
 /// The command that the words ask for; or the place, from 0, of the first that is missing or wrong.
 #[tactic(auto, unfolding(crate::specs::Usage::usage_of))]
 pub fn read_command(words: &[String]) -> Result<Command<'_>, u64>
-    ensures { MatchResult result (λ c. bytes_of words.now ≡ words_of (asked_in c)) (λ place. usage_of (bytes_of words.now) ≡ Some place) }
+    ensures { MatchResult result (λ c. AskFor (bytes_of words.now) (asked_in c)) (λ place. usage_of (bytes_of words.now) ≡ Some place) }
 {
     let Some((first, others)) = words.split_first() else {
         return Err(0);
@@ -107,6 +156,9 @@ pub fn read_command(words: &[String]) -> Result<Command<'_>, u64>
     }
     if first.as_str() == "oiv" {
         return read_oiv(others);
+    }
+    if first.as_str() == "gen" {
+        return read_gen(others);
     }
     let Some(command) = command_of(first.as_str()) else {
         return Err(0);

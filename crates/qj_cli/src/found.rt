@@ -1,5 +1,5 @@
 // A file is read whole.
-ghost use Rattle.std.specs.Prelude.{◌≡◌, ◌≢◌, ◌≤◌, ◌+◌, ◌↔◌, ℕ, Some, IfOk, IsErrOf, length, option_map};
+ghost use Rattle.std.specs.Prelude.{◌≡◌, ◌≤◌, ◌+◌, ◌↔◌, ℕ, Some, IfOk, IsErrOf, length, option_map};
 ghost use Rattle.qj_disk.specs.Calls.{HasCause, Rests};
 ghost use Rattle.qj_cli.specs.Listing.{longest_file};
 ghost use Rattle.qj_cli.specs.Found.{IsFound, IsShort};

@@ -1,5 +1,7 @@
 // What holds of every script, of all words and of every file.
+ghost use Rattle.qj_cli.specs.Sound.{AreSound, ComeOf};
 ghost use Rattle.qj_cli.specs.Report.{ScriptsHaveOneReport, ReportsShowNoFault};
+ghost use Rattle.qj_cli.specs.Generates.{NumbersHaveOneSummary};
 ghost use Rattle.qj_cli.specs.Words.{UsageIsOfFirstWrongWord};
 ghost use Rattle.qj_cli.specs.Listing.{FilesHaveOneListing, FilesHaveOneFault, ListedFilesHaveNoFault};
 
@@ -14,9 +16,18 @@ pub fn scripts_have_one_report()
     one_script_has_one_play();
 }
 
-/// No report shows a fault of a disk, a want of memory or a bad file: no answer and nothing that a caller was told is one.
+/// A number gives one summary: the same on each run.
+pub fn numbers_have_one_summary()
+    ensures { NumbersHaveOneSummary }
+{
+    one_script_has_one_play();
+}
+
+/// No report, of a play in order or by threads, shows a fault of a disk, a want of memory or a bad file: no answer and nothing that a
+/// caller was told is one.
 pub fn reports_show_no_fault()
-    ensures { ReportsShowNoFault }
+    ensures in_order { ReportsShowNoFault ComeOf }
+    ensures by_threads { ReportsShowNoFault AreSound }
 {
     a_mesh_that_agrees_shows_no_fault();
 }

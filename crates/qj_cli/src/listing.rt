@@ -1,5 +1,5 @@
 // What is due of a listing, before any of it is written.
-ghost use Rattle.std.specs.Prelude.{◌≡◌, ◌↔◌, ◌≤◌, ℕ, List, Some, IfOk, IfErr, length};
+ghost use Rattle.std.specs.Prelude.{◌↔◌, ◌≤◌, ℕ, List, Some, IfOk, IfErr, length};
 ghost use Rattle.edit_ops.specs.Records.{EditView};
 ghost use Rattle.oev_tool.specs.Segment.{IsSegment};
 ghost use Rattle.oev_tool.specs.Listed.{IsListed, GivesText};

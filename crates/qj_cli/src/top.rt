@@ -1,52 +1,108 @@
 // The top call.
-ghost use Rattle.std.specs.Prelude.{◌≡◌, ◌↔◌, ℕ, Some};
-ghost use Rattle.qj_cli.specs.Commands.{Asked, asked_in, words_of};
+ghost use Rattle.std.specs.Prelude.{◌≡◌, ◌↔◌, ℕ, Some, IfOk, IfErr, IsErr};
+ghost use Rattle.qj_cli.specs.Commands.{Asked, asked_in, IsAllowed, AskFor, run};
 ghost use Rattle.qj_cli.specs.Usage.{bytes_of, usage_of};
 ghost use Rattle.qj_cli.specs.Uses.{read_from, written_to, done_to};
-ghost use Rattle.qj_cli.specs.Does.{Does, Refuses, ReadsNone};
+ghost use Rattle.qj_cli.specs.Does.{Does, Refuses, ReadsNone, NeedsThreads};
 ghost use Rattle.qj_cli.specs.Complete.{IsComplete};
 
 use crate::checking::check_files;
 use crate::command::{Command, read_command};
 use crate::exit::Exit;
 use crate::fault::Fault;
+use crate::generating::play_generated;
 use crate::listing::list_file;
-use crate::playing::play_script;
+use crate::playing::{play_script, run_script};
 use crate::serving::serve_node;
 use crate::writing::write_fault;
+use gate_seats::Pass;
 use qj_disk::Disk;
 use qj_outside::{Sink, Source};
 use std::alloc::Global;
+use std::sync::Wait;
+use std::thread::Threads;
 
-/// Does a command.
+/// Does a command that needs no threads. The disk comes back alone where the command needs them, and then nothing was done.
 fn do_command<S: Source, K: Sink, D: Disk>(
     alloc: Global,
     command: Command<'_>,
     source: &mut S,
     sink: &mut K,
     disk: D,
-) -> Exit<D>
-    ensures done { Does (asked_in command.entry) (read_from S.left S.faults source.old source.new) (written_to K.taken K.faults sink.old sink.new)
-        (done_to D.tells D.view D.faults D.steady D.left disk result.disk) result.status }
+) -> Result<Exit<D>, D>
+    requires { IsAllowed (asked_in command) }
+    ensures done { IfOk result (λ exit. Does (asked_in command.entry) (read_from S.left S.faults source.old source.new) (written_to K.taken K.faults sink.old sink.new)
+        (done_to D.tells D.view D.faults D.steady D.left disk exit.disk) exit.status) }
     ensures unread { ReadsNone (asked_in command.entry) → source.new ≡ source.old }
-    ensures tells { D.tells disk ↔ D.tells result.disk }
+    ensures tells { IfOk result (λ exit. D.tells disk ↔ D.tells exit.disk) }
+    ensures alone { IfOk result (λ exit. NeedsThreads (asked_in command.entry) → ⊥) }
+    ensures threads { IfErr result (λ left. NeedsThreads (asked_in command.entry) × (left ≡ disk) × (source.new ≡ source.old) × (sink.new ≡ sink.old)) }
 {
     match command {
-        Command::Play => Exit {
+        Command::Play => Ok(Exit {
             status: play_script(alloc, source, sink),
             disk,
-        },
-        Command::Node => serve_node(alloc, source, sink, disk),
+        }),
+        Command::Run => Err(disk),
+        Command::Node => Ok(serve_node(alloc, source, sink, disk)),
         Command::Fsck => {
             let mut disk = disk;
             let status = check_files(alloc, sink, &mut disk);
-            Exit { status, disk }
+            Ok(Exit { status, disk })
         }
+        Command::Gen {
+            number,
+            edits,
+            nodes,
+        } => Ok(Exit {
+            status: play_generated(alloc, number, edits, nodes, sink),
+            disk,
+        }),
         Command::Listing { tool, name } => {
             let mut disk = disk;
             let status = list_file(alloc, tool, name, sink, &mut disk);
-            Exit { status, disk }
+            Ok(Exit { status, disk })
         }
+    }
+}
+
+/// Does what `qjm` does for each command that needs no threads, without them; it returns always. The disk alone comes back
+/// exactly where the words are the one word `run`, and then nothing was read or written.
+pub fn qjm_alone<S: Source, K: Sink, D: Disk>(
+    alloc: Global,
+    words: &[String],
+    source: &mut S,
+    sink: &mut K,
+    disk: D,
+) -> Result<Exit<D>, D>
+    // Of wrong words the first place is told. Nothing is read.
+    ensures refused { (place : ℕ) → usage_of (bytes_of words.now) ≡ Some place
+        → IfOk result (λ exit. Refuses place (written_to K.taken K.faults sink.old sink.new) (done_to D.tells D.view D.faults D.steady D.left disk exit.disk) exit.status) }
+    ensures refused_unread { (place : ℕ) → usage_of (bytes_of words.now) ≡ Some place → source.new ≡ source.old }
+
+    // Else they are a command's, and it is done.
+    ensures done { (asked : Asked) → AskFor (bytes_of words.now) asked
+        → IfOk result (λ exit. Does asked (read_from S.left S.faults source.old source.new) (written_to K.taken K.faults sink.old sink.new)
+        (done_to D.tells D.view D.faults D.steady D.left disk exit.disk) exit.status) }
+    ensures unread { (asked : Asked) → AskFor (bytes_of words.now) asked → ReadsNone asked → source.new ≡ source.old }
+
+    // With status Ok, or for want of memory not, where the input is right and nothing fails.
+    ensures complete { (asked : Asked) → AskFor (bytes_of words.now) asked
+        → IfOk result (λ exit. IsComplete asked (read_from S.left S.faults source.old source.new) (written_to K.taken K.faults sink.old sink.new)
+        (done_to D.tells D.view D.faults D.steady D.left disk exit.disk) exit.status) }
+
+    ensures tells { IfOk result (λ exit. D.tells disk ↔ D.tells exit.disk) }
+
+    // Only `run` needs threads.
+    ensures threads { IfErr result (λ left. AskFor (bytes_of words.now) run × (left ≡ disk) × (source.new ≡ source.old) × (sink.new ≡ sink.old)) }
+    ensures alone { AskFor (bytes_of words.now) run → IsErr result }
+{
+    match read_command(words) {
+        Ok(command) => do_command(alloc, command, source, sink, disk),
+        Err(place) => Ok(Exit {
+            status: write_fault(alloc, sink, &Fault::Usage(place)),
+            disk,
+        }),
     }
 }
 
@@ -54,11 +110,15 @@ fn do_command<S: Source, K: Sink, D: Disk>(
 ///
 /// - `play` plays the script that the source gives, over nodes on disks in memory, and writes the report to the sink. The disk
 ///   isn't called.
+/// - `run` does the same by a thread for each actor and one for the operator, each with its own lines in order; how their calls fall
+///   among one another is the schedule's. `pass` is called before each call. The call may wait.
 /// - `oev list NAME`, `oev stats NAME` and `oev json NAME` read the disk's file of that name, a segment's, and write a line for
 ///   each of its edits, how many there are of each kind, or all as an array of JSON. The source isn't read, and the disk isn't
 ///   changed.
 /// - `oiv delimited NAME`, `oiv sizes NAME` and `oiv json NAME` do the same for an image: a line of columns for each inode, how
 ///   many files there are of each size, or all inodes as an array of JSON.
+/// - `gen NUMBER EDITS NODES` plays the script that the number gives, with so many edits over so many nodes, and writes its summary.
+///   NUMBER is at most 2^62, EDITS at most 10,000, NODES from 1 to 15. The source isn't read, and the disk isn't called.
 /// - `fsck` checks each file of the disk, and writes a line for each, and how many findings there are. The source isn't read, and
 ///   the disk isn't changed. `Unsound`: there is a finding.
 /// - `node` opens a JournalNode on the disk, which keeps its state in the disk's files, and answers each request line of the
@@ -66,7 +126,7 @@ fn do_command<S: Source, K: Sink, D: Disk>(
 ///   moment of the call leaves files that stand for the state after some of the lines, stopped inside the next one, and no
 ///   fewer than were answered by then.
 ///
-/// A report, a listing and findings are computed before any of it is written. `Usage`: other words, with the place, from 0, of the first
+/// A report, a summary, a listing and findings are computed before any of it is written. `Usage`: other words, with the place, from 0, of the first
 /// word that is missing or wrong; neither the source nor the disk is called then. `Limit`: the source has more than
 /// 1,048,576 bytes, the report would have more than 268,435,456, or the file has more than 134,217,728; of a node a line with
 /// more than 1,048,576, or a source with more than 1,073,741,824. `BadScript`: the first line, from 1, that breaks a rule, and
@@ -76,8 +136,10 @@ fn do_command<S: Source, K: Sink, D: Disk>(
 /// listing or a reply was written; a prefix was. `OutOfMemory`: memory ran out. Each but `WriteFault` writes its line `error
 /// NAME ..`, behind the replies of a node to the lines before, and stays the status where that line's writing fails. The disk
 /// is given back.
-pub fn qjm<S: Source, K: Sink, D: Disk>(
+pub fn qjm<R: Threads + Wait + Sync, G: Pass + Sync, S: Source, K: Sink, D: Disk>(
+    rt: &R,
     alloc: Global,
+    pass: &G,
     words: &[String],
     source: &mut S,
     sink: &mut K,
@@ -89,22 +151,22 @@ pub fn qjm<S: Source, K: Sink, D: Disk>(
     ensures refused_unread { (place : ℕ) → usage_of (bytes_of words.now) ≡ Some place → source.new ≡ source.old }
 
     // Else they are a command's, and it is done.
-    ensures done { (asked : Asked) → bytes_of words.now ≡ words_of asked
+    ensures done { (asked : Asked) → AskFor (bytes_of words.now) asked
         → Does asked (read_from S.left S.faults source.old source.new) (written_to K.taken K.faults sink.old sink.new)
         (done_to D.tells D.view D.faults D.steady D.left disk result.disk) result.status }
-    ensures unread { (asked : Asked) → bytes_of words.now ≡ words_of asked → ReadsNone asked → source.new ≡ source.old }
+    ensures unread { (asked : Asked) → AskFor (bytes_of words.now) asked → ReadsNone asked → source.new ≡ source.old }
 
     // With status Ok, or for want of memory not, where the input is right and nothing fails.
-    ensures complete { (asked : Asked) → bytes_of words.now ≡ words_of asked
+    ensures complete { (asked : Asked) → AskFor (bytes_of words.now) asked
         → IsComplete asked (read_from S.left S.faults source.old source.new) (written_to K.taken K.faults sink.old sink.new)
         (done_to D.tells D.view D.faults D.steady D.left disk result.disk) result.status }
 
     ensures tells { D.tells disk ↔ D.tells result.disk }
 {
-    match read_command(words) {
-        Ok(command) => do_command(alloc, command, source, sink, disk),
-        Err(place) => Exit {
-            status: write_fault(alloc, sink, &Fault::Usage(place)),
+    match qjm_alone(alloc, words, source, sink, disk) {
+        Ok(exit) => exit,
+        Err(disk) => Exit {
+            status: run_script(rt, alloc, pass, source, sink),
             disk,
         },
     }

@@ -1,5 +1,5 @@
 // What is due is written.
-ghost use Rattle.std.specs.Prelude.{◌≡◌, IfOk, IfErr};
+ghost use Rattle.std.specs.Prelude.{IfOk, IfErr};
 ghost use Rattle.qj_cli.specs.Uses.{written_to};
 ghost use Rattle.qj_cli.specs.Told.{WritesLine, TellsText, TellsFault};
 

@@ -1,14 +1,16 @@
 -- The lines of histories and records, nodes and actors, counted one after another.
-use Rattle.std.proofs.Common.{ℕ, ◌≡◌, ◌<◌, ◌≤◌, ◌+◌, ◌^◌, List, [], ◌∷◌, ◌++◌, length, take, drop, get_or, refl, sym, ◌∙◌, ap, append-nil}
+use Rattle.std.proofs.Common.{ℕ, ◌≡◌, ◌<◌, ◌≤◌, ◌+◌, ◌^◌, List, [], ◌∷◌, ◌++◌, length, take, drop, get_or, map, refl, sym, ◌∙◌, ap, append-nil}
 use Rattle.std.proofs.lemmas.Grind.{flat_map-append}
-use Rattle.std.proofs.lemmas.List.{take_more, drop_more, drop_all}
+use Rattle.std.proofs.lemmas.List.{take_more, drop_more, drop_all, map-append}
 use Rattle.std.specs.List.{flat_map}
 use Rattle.node_world.specs.declared.history_line.HistoryLine.{HistoryLine}
 use Rattle.node_world.specs.declared.record.Record.{Record}
-use Rattle.mesh.specs.declared.end.End.{End}
+use Rattle.ns_tree.specs.declared.end.End.{End}
+use Rattle.inode_text.specs.declared.row_text.Column.{Column}
+use Rattle.inode_text.specs.Texts.{tabbed, column_text}
 use Rattle.request_text.specs.Counts.{counted}
 use Rattle.request_text.proofs.CountLaws.{counted_none, counted_on}
-use Rattle.report_text.specs.Text.{node_text, nodes_text, actor_text, actors_text, operator_text}
+use Rattle.report_text.specs.Text.{node_text, nodes_text, ended_text, actors_text, operator_text}
 
 -- ## Lines
 pub lines_on : {X : Type 0} (f : X → List ℕ) (n m r i : ℕ) (d : X) (xs : List X) → m ≡ counted n (flat_map f (take i xs)) → i < length xs → r ≡ counted m (f (get_or xs i d)) → r ≡ counted n (flat_map f (take (i + 1) xs))
@@ -17,6 +19,16 @@ lines_on f n m r i d xs one l two =
     (ap (flat_map f) (take_more xs i d l) ∙ flat_map-append f (take i xs) (get_or xs i d ∷ []) ∙ ap (λ x. flat_map f (take i xs) ++ x) (append-nil (f (get_or xs i d))))
 
 pub ruleset lines = (counted_none, lines_on)
+
+-- ## Columns
+pub columns_on : (n m r i : ℕ) (d : Column) (xs : List Column) → m ≡ counted n (flat_map tabbed (map column_text (take i xs))) → i < length xs → r ≡ counted m (tabbed (column_text (get_or xs i d)))
+    → r ≡ counted n (flat_map tabbed (map column_text (take (i + 1) xs)))
+columns_on n m r i d xs one l two =
+    counted_on n m r (flat_map tabbed (map column_text (take i xs))) (tabbed (column_text (get_or xs i d))) (flat_map tabbed (map column_text (take (i + 1) xs))) one two
+    (ap (λ ys. flat_map tabbed (map column_text ys)) (take_more xs i d l) ∙ ap (flat_map tabbed) (map-append column_text (take i xs) (get_or xs i d ∷ []))
+    ∙ flat_map-append tabbed (map column_text (take i xs)) (column_text (get_or xs i d) ∷ []) ∙ ap (λ x. flat_map tabbed (map column_text (take i xs)) ++ x) (append-nil (tabbed (column_text (get_or xs i d)))))
+
+pub ruleset columns = (counted_none, columns_on)
 
 -- ## Nodes
 both : (n : ℕ) (x y : List ℕ) → counted (counted n x) y ≡ counted n (x ++ y)
@@ -38,11 +50,11 @@ pub ruleset nodes = (nodes_on, nodes_end)
 
 -- ## Actors
 pub actors_on : (sum new all : ℕ) (ends : List End) (records others : List (List Record)) (lines : List Record) (i : ℕ) (d : End) → counted sum (actors_text (drop i ends) records) ≡ all → i < length ends
-    → records ≡ lines ∷ others → new ≡ counted sum (actor_text (get_or ends i d).name lines) → counted new (actors_text (drop (i + 1) ends) others) ≡ all
+    → records ≡ lines ∷ others → new ≡ counted sum (ended_text (get_or ends i d) lines) → counted new (actors_text (drop (i + 1) ends) others) ≡ all
 unfolding actors_text
 actors_on sum new all ends records others lines i d h l r e =
     ap (λ x. counted x (actors_text (drop (i + 1) ends) others)) e
-    ∙ both sum (actor_text (get_or ends i d).name lines) (actors_text (drop (i + 1) ends) others)
+    ∙ both sum (ended_text (get_or ends i d) lines) (actors_text (drop (i + 1) ends) others)
     ∙ ap (λ rs. counted sum (actors_text (get_or ends i d ∷ drop (i + 1) ends) rs)) (sym r)
     ∙ ap (λ x. counted sum (actors_text x records)) (sym (drop_more ends i d l)) ∙ h
 

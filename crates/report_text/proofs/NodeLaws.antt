@@ -3,8 +3,8 @@ use Rattle.std.proofs.Common.{ℕ, ◌≡◌, ◌<◌, ◌≤◌, ◌+◌, List,
 use Rattle.std.proofs.lemmas.List.{drop_more, drop_all}
 use Rattle.node_world.specs.declared.history_line.HistoryLine.{HistoryLine}
 use Rattle.node_world.specs.declared.record.Record.{Record}
-use Rattle.mesh.specs.declared.end.End.{End}
-use Rattle.report_text.specs.Text.{node_text, nodes_text, actor_text, actors_text, operator_text}
+use Rattle.ns_tree.specs.declared.end.End.{End}
+use Rattle.report_text.specs.Text.{node_text, nodes_text, ended_text, actors_text, operator_text}
 
 -- one more node
 pub nodes_more : (ends : List End) (out new all : List ℕ) (histories : List (List HistoryLine)) (i : ℕ) (d : List HistoryLine) → out ++ nodes_text ends (i + 1) (drop i histories) ≡ all → i < length histories
@@ -32,11 +32,11 @@ pub ruleset node_steps = (nodes_more, nodes_all)
 
 -- one more actor
 pub actors_more : (out new all : List ℕ) (ends : List End) (records others : List (List Record)) (lines : List Record) (i : ℕ) (d : End) → out ++ actors_text (drop i ends) records ≡ all → i < length ends
-    → records ≡ lines ∷ others → new ≡ out ++ actor_text (get_or ends i d).name lines → new ++ actors_text (drop (i + 1) ends) others ≡ all
+    → records ≡ lines ∷ others → new ≡ out ++ ended_text (get_or ends i d) lines → new ++ actors_text (drop (i + 1) ends) others ≡ all
 unfolding actors_text
 actors_more out new all ends records others lines i d h l r e =
     ap (λ x. x ++ actors_text (drop (i + 1) ends) others) e
-    ∙ append_assoc out (actor_text (get_or ends i d).name lines) (actors_text (drop (i + 1) ends) others)
+    ∙ append_assoc out (ended_text (get_or ends i d) lines) (actors_text (drop (i + 1) ends) others)
     ∙ ap (λ rs. out ++ actors_text (get_or ends i d ∷ drop (i + 1) ends) rs) (sym r)
     ∙ ap (λ x. out ++ actors_text x records) (sym (drop_more ends i d l)) ∙ h
 
@@ -51,9 +51,9 @@ actors_all out new all ends records i h l e = e ∙ ap (λ x. out ++ actors_text
 
 -- an actor that is too long behind what is printed makes all of it too long
 pub actors_long : (most : ℕ) (out all : List ℕ) (ends : List End) (records others : List (List Record)) (lines : List Record) (i : ℕ) (d : End) → out ++ actors_text (drop i ends) records ≡ all → i < length ends
-    → records ≡ lines ∷ others → most < length (out ++ actor_text (get_or ends i d).name lines) → most < length all
+    → records ≡ lines ∷ others → most < length (out ++ ended_text (get_or ends i d) lines) → most < length all
 actors_long most out all ends records others lines i d h l r m =
-    let text = out ++ actor_text (get_or ends i d).name lines in
+    let text = out ++ ended_text (get_or ends i d) lines in
     let rest = actors_text (drop (i + 1) ends) others in
     let e : length all ≡ length text + length rest = ap length (sym (actors_more out text all ends records others lines i d h l r refl)) ∙ length-append text rest in
     omega (arith, e, m)

@@ -1,9 +1,9 @@
--- The report: each node's history, and each caller's record.
-use Rattle.std.specs.Prelude.{ℕ, ◌+◌, Bool, true, false, List, [], ◌∷◌, ◌++◌, Option, Some, None, if◌then◌else◌, codes, decimal, slice_get}
+-- The report: each node's history, and each caller's record with what it holds at last.
+use Rattle.std.specs.Prelude.{ℕ, ◌+◌, Bool, true, false, List, [], ◌∷◌, ◌++◌, Option, Some, None, codes, decimal, slice_get}
 use Rattle.std.specs.List.{flat_map}
 use Rattle.journal_core.specs.declared.cut.Cut.{Cut}
 use Rattle.journal_core.specs.declared.cut.Cut.TheVariants as cut
-use Rattle.request_text.specs.Texts.{spaced, numbers_text, request_text, reply_text}
+use Rattle.request_text.specs.Texts.{numbers_text, request_text, reply_text}
 use Rattle.node_world.specs.declared.stop.Stop.{Stop}
 use Rattle.node_world.specs.declared.stop.Stop.TheVariants as stop
 use Rattle.node_world.specs.declared.node_ask.NodeAsk.{NodeAsk}
@@ -15,10 +15,13 @@ use Rattle.node_world.specs.declared.record.Told.{Told}
 use Rattle.node_world.specs.declared.record.Told.TheVariants as told
 use Rattle.node_world.specs.declared.record.Record.{Record}
 use Rattle.node_world.specs.declared.record.Record.TheVariants as record_
-use Rattle.mesh.specs.declared.end.End.{End}
+use Rattle.ns_tree.specs.declared.inode.Row.{Row}
+use Rattle.ns_tree.specs.declared.end.LastSpace.{LastSpace}
+use Rattle.ns_tree.specs.declared.end.End.{End}
+use Rattle.inode_text.specs.Texts.{row_text}
 use Rattle.mesh.specs.declared.whole.Mesh.{Mesh}
 
--- ## Callers
+-- ## Names
 -- the name under which the operator's lines stand
 abbrev pub operator : List ℕ
 operator = codes "ops"
@@ -106,6 +109,28 @@ nodes_text ends node (lines ∷ histories) = node_text ends node lines ++ nodes_
 unfoldable pub actor_text : List ℕ → List Record → List ℕ
 actor_text name lines = codes "actor " ++ name ++ 10 ∷ [] ++ record_text lines
 
+-- ## What an actor holds at last
+-- a row of its namespace, marked by a point
+unfoldable pub row_line_text : Row → List ℕ
+row_line_text row = codes ". " ++ row_text row ++ 10 ∷ []
+
+abbrev pub rows_text : List Row → List ℕ
+rows_text rows = flat_map row_line_text rows
+
+-- how many edits it has applied, and then its namespace's rows
+unfoldable pub space_text : LastSpace → List ℕ
+space_text last = codes "position" ++ numbers_text (last.position ∷ []) ++ 10 ∷ [] ++ rows_text last.rows
+
+-- nothing of an actor without names
+unfoldable pub last_text : Option LastSpace → List ℕ
+last_text None = []
+last_text (Some last) = space_text last
+
+-- an actor's record, and what it holds at last
+unfoldable pub ended_text : End → List Record → List ℕ
+ended_text e lines = actor_text e.name lines ++ last_text e.last
+
+-- ## Callers
 -- the operator's record, where it isn't empty
 unfoldable pub operator_text : List (List Record) → List ℕ
 operator_text [] = []
@@ -116,7 +141,7 @@ operator_text ((line ∷ lines) ∷ records) = actor_text operator (line ∷ lin
 unfoldable pub actors_text : List End → List (List Record) → List ℕ
 actors_text [] records = operator_text records
 actors_text (e ∷ ends) [] = []
-actors_text (e ∷ ends) (lines ∷ records) = actor_text e.name lines ++ actors_text ends records
+actors_text (e ∷ ends) (lines ∷ records) = ended_text e lines ++ actors_text ends records
 
 -- ## The report
 unfoldable pub text_of : Mesh → List End → List ℕ

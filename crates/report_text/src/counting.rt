@@ -1,14 +1,14 @@
 // How long the lines of a report are, without writing them: each call adds a text's length to a count, which stands still at 2^64 - 1.
 ghost use Rattle.std.specs.Prelude.{◌≡◌, ◌++◌, ◌∷◌, [], codes, decimal};
-ghost use Rattle.mesh.specs.declared.end.End.{End};
+ghost use Rattle.ns_tree.specs.declared.end.End.{End};
 ghost use Rattle.request_text.specs.Counts.{counted};
 ghost use Rattle.request_text.specs.Texts.{numbers_text, request_text};
 ghost use Rattle.report_text.specs.Text.{caller_name, arrow, choice_text, stop_text, late_text, ask_text, answer_text, heard_text, done_text, history_line_text, record_line_text, history_text, record_text};
 
 use crate::parts::caller_name;
 use journal_core::{Cut, Request};
-use mesh::End;
 use node_world::{HistoryLine, NodeAnswer, NodeAsk, Record, Stop, Told};
+use ns_tree::End;
 use request_text::{count_bytes, count_number, count_numbers, count_reply, count_request};
 
 fn count_choice(count: u64, cut: Cut) -> u64

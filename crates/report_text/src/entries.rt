@@ -1,6 +1,6 @@
 // The lines of histories and of records.
 ghost use Rattle.std.specs.Prelude.{◌≡◌, ◌<◌, ◌++◌, length, Err, OnOk};
-ghost use Rattle.mesh.specs.declared.end.End.{End};
+ghost use Rattle.ns_tree.specs.declared.end.End.{End};
 ghost use Rattle.report_text.specs.Limit.{longest_report};
 ghost use Rattle.report_text.specs.Text.{history_line_text, record_line_text, history_text, record_text};
 
@@ -9,8 +9,8 @@ use crate::parts::{caller_name, put_number};
 use crate::printed_requests::PrintedRequests;
 use crate::unprinted::{Unprinted, within_limit};
 use journal_core::OutOfMemory;
-use mesh::End;
 use node_world::{HistoryLine, Record};
+use ns_tree::End;
 
 /// A line of a node's history.
 #[tactic(auto, unfolding(crate::specs::Text::history_line_text))]

@@ -1,12 +1,12 @@
 // The smallest parts of a report, each added at the end of a list of bytes.
 ghost use Rattle.std.specs.Prelude.{◌≡◌, ◌++◌, ◌∷◌, [], OnOk, decimal};
 ghost use Rattle.request_text.specs.Texts.{numbers_text};
-ghost use Rattle.mesh.specs.declared.end.End.{End};
+ghost use Rattle.ns_tree.specs.declared.end.End.{End};
 ghost use Rattle.report_text.specs.Text.{caller_name};
 
 use itoa::write_digits;
 use journal_core::OutOfMemory;
-use mesh::End;
+use ns_tree::End;
 
 /// A number of several digits in decimal.
 #[tactic(auto, using(crate::proofs::PartLaws::decimals))]

@@ -1,17 +1,19 @@
 // The report as a whole.
 ghost use Rattle.std.specs.Prelude.{◌≡◌, ◌<◌, ◌≤◌, ◌++◌, length, Err, OnOk, IfOk};
 ghost use Rattle.report_text.specs.Limit.{longest_report, Reports};
-ghost use Rattle.mesh.specs.declared.end.End.{End};
-ghost use Rattle.report_text.specs.Text.{node_text, nodes_text, actor_text, actors_text, operator_text, text_of};
+ghost use Rattle.ns_tree.specs.declared.end.End.{End};
+ghost use Rattle.report_text.specs.Text.{node_text, nodes_text, actor_text, ended_text, actors_text, operator_text, text_of};
 
 use crate::answer::Report;
 use crate::entries::{put_history, put_record};
+use crate::lasts::put_last;
 use crate::parts::put_spaced;
 use crate::printed_requests::PrintedRequests;
 use crate::unprinted::{Unprinted, within_limit};
 use journal_core::OutOfMemory;
-use mesh::{End, EndList, Mesh};
+use mesh::Mesh;
 use node_world::{HistoryLine, HistoryList, Record, RecordList};
+use ns_tree::{End, EndList};
 use std::alloc::{AllocError, Global};
 
 /// A node's number, and its history.
@@ -68,6 +70,22 @@ fn put_actor(
     Ok(())
 }
 
+/// An actor's name, its record, and what it holds at last.
+#[tactic(auto, using(crate::proofs::LimitLaws::wholes), unfolding(crate::specs::Text::ended_text))]
+fn put_ended(
+    out: &mut Vec<u8>,
+    printed: &mut PrintedRequests,
+    end: &End,
+    lines: &[Record],
+) -> Result<(), Unprinted>
+    ensures text { OnOk result (out.new.items ≡ out.old.items ++ ended_text end.now lines.now) }
+    ensures long { result ≡ Err Unprinted.TooLong → longest_report < length (out.old.items ++ ended_text end.now lines.now) }
+{
+    put_actor(out, printed, end.name.as_slice(), lines)?;
+    put_last(out, &end.last)?;
+    Ok(())
+}
+
 /// The operator's record, where it isn't empty.
 #[tactic(auto, unfolding(crate::specs::Text::operator_text))]
 fn put_operator(
@@ -104,7 +122,7 @@ fn put_actors(
         let Some((record, others)) = rest.split_first() else {
             return Ok(());
         };
-        put_actor(out, printed, end.name.as_slice(), record.as_slice())?;
+        put_ended(out, printed, end, record.as_slice())?;
         rest = others;
     }
     put_operator(out, printed, rest)?;
@@ -142,7 +160,8 @@ fn longest_history(histories: &[HistoryList]) -> usize {
 }
 
 /// The report of what a play leaves: each node's history, and each actor's record and then the
-/// operator's. `ends` has one end per actor. `TooLong` comes exactly where the text has more than
+/// operator's; the record of an actor with names ends with its position and its namespace's rows.
+/// `ends` has one end per actor. `TooLong` comes exactly where the text has more than
 /// 268,435,456 bytes; no more than one line past them is printed then.
 pub fn report_of(alloc: Global, mesh: &Mesh, ends: &EndList) -> Result<Report, OutOfMemory>
     ensures { IfOk result (λ report. Reports report (text_of mesh.now ends.now)) }

@@ -1,15 +1,17 @@
 // The length of a report, without writing it.
 ghost use Rattle.std.specs.Prelude.{◌≡◌, ◌+◌, ◌++◌, ◌∷◌, [], codes, length, min};
-ghost use Rattle.mesh.specs.declared.end.End.{End};
+ghost use Rattle.ns_tree.specs.declared.end.End.{End};
 ghost use Rattle.request_text.specs.Counts.{counted};
 ghost use Rattle.request_text.specs.Texts.{numbers_text};
 ghost use Rattle.report_text.specs.Limit.{longest_report};
-ghost use Rattle.report_text.specs.Text.{node_text, nodes_text, actor_text, actors_text, operator_text, text_of};
+ghost use Rattle.report_text.specs.Text.{node_text, nodes_text, actor_text, ended_text, actors_text, operator_text, text_of};
 
 use crate::counting::{count_history, count_record};
+use crate::counting_lasts::count_last;
 use crate::unprinted::LONGEST_REPORT;
-use mesh::{End, EndList, Mesh};
+use mesh::Mesh;
 use node_world::{HistoryLine, HistoryList, Record, RecordList};
+use ns_tree::{End, EndList};
 use request_text::{count_bytes, count_numbers};
 
 /// A node's number, and its history.
@@ -44,6 +46,15 @@ fn count_actor(count: u64, name: &[u8], lines: &[Record]) -> u64
     count_record(line_end, lines)
 }
 
+/// An actor's name, its record, and what it holds at last.
+#[tactic(auto, using(request_text::proofs::CountLaws::counted_on), unfolding(crate::specs::Text::ended_text))]
+fn count_ended(count: u64, end: &End, lines: &[Record]) -> u64
+    ensures { result ≡ counted count (ended_text end.now lines.now) }
+{
+    let record_end = count_actor(count, end.name.as_slice(), lines);
+    count_last(record_end, &end.last)
+}
+
 /// The operator's record, where it isn't empty.
 #[tactic(auto, unfolding(crate::specs::Text::operator_text))]
 fn count_operator(count: u64, records: &[RecordList]) -> u64
@@ -70,7 +81,7 @@ fn count_actors(count: u64, ends: &[End], records: &[RecordList]) -> u64
         let Some((record, others)) = rest.split_first() else {
             return sum;
         };
-        sum = count_actor(sum, end.name.as_slice(), record.as_slice());
+        sum = count_ended(sum, end, record.as_slice());
         rest = others;
     }
     count_operator(sum, rest)

@@ -1,23 +1,23 @@
 -- A text that breaks no rule is a script's.
 use Rattle.std.proofs.Common.{ℕ, ◌≡◌, ◌≤◌, ◌+◌, List, [], ◌∷◌, ◌++◌, length, Option, Some, None, Bool, true, false, not, ◌⊎◌, inl, inr, refl, sym, ap, ◌∙◌, subst, cond}
 use Rattle.std.specs.Prelude.{is_none}
-use Rattle.std.specs.List.{list_all}
+use Rattle.std.specs.List.{list_all, AllByRecursion}
 use Rattle.std.proofs.lemmas.Bool.{false≢true}
 use Rattle.std.proofs.lemmas.Bool.Decides.{eqb_tells}
-use Rattle.std.proofs.lemmas.Slice.Eq.{bytes_eq-Decides}
 use Rattle.script_text.specs.declared.kind.Kind.{Kind}
 use Rattle.script_text.specs.declared.line_read.LineRead.TheVariants as line_read
 use Rattle.script_text.specs.declared.script_line.ScriptLine.{ScriptLine}
 use Rattle.script_text.specs.Views.{ScriptView, SaidView}
 use Rattle.script_text.specs.Lines.{Line, Ended, Open, lines_of, is_line, is_whole, Lacks, longest_line}
 use Rattle.script_text.specs.Words.{words_of, first_word}
-use Rattle.script_text.specs.Grammar.{line_text, words_in, said_after, first_line, nothing_said, texts_of, MaySay, AreLines, is_silent, telling, IsScript, IsScriptText}
-use Rattle.script_text.specs.Rules.{nodes_of, kind_of, bad_spacing, rule_said, rule_of, said_first, said_behind, said_next, or_later, first_fault, fault_of}
+use Rattle.script_text.specs.Grammar.{line_text, words_in, said_after, first_line, nothing_said, texts_of, MaySay, AreLines, is_silent, telling, script_lines, IsScript, IsScriptText}
+use Rattle.script_text.specs.Rules.{kind_of, bad_spacing, rule_said, rule_of, said_first, said_behind, said_next, or_later, first_fault, fault_of}
 use Rattle.script_text.specs.Reading.{Says}
 use Rattle.script_text.proofs.WordLaws.{words_more, words_all, text_is}
 use Rattle.script_text.proofs.KindLaws.{first_is, too_few, count_behind, no_kind, ill_spaced, rule_later, line_read_as}
+use Rattle.script_text.proofs.EditLaws.{words_lack}
 use Rattle.script_text.proofs.MeansLaws.{means_kind}
-use Rattle.script_text.proofs.FirstLaws.{told_is}
+use Rattle.script_text.proofs.FirstLaws.{first_tells}
 use Rattle.script_text.proofs.ReadLaws.{line_fits, said_is}
 
 bool_is : (b : Bool) → (b ≡ true) ⊎ (b ≡ false)
@@ -47,22 +47,22 @@ cut (b ∷ bs) =
 abbrev Meaning : SaidView → List ℕ → Type 0
 Meaning said text = (line : ScriptLine) × Says said text line
 
-means_words : (said : SaidView) (text : List ℕ) (k : Kind) (words : List (List ℕ)) → kind_of (first_word (words_of text)) ≡ Some k → bad_spacing k (words_of text) ≡ false
+means_words : (said : SaidView) (text : List ℕ) (k : Kind) (words : List (List ℕ)) → AllByRecursion (Lacks 32) words → kind_of said.named (first_word (words_of text)) ≡ Some k → bad_spacing k (words_of text) ≡ false
     → words_of text ≡ first_word (words_of text) ∷ words → rule_said (Some said) text ≡ None → Meaning said text
-means_words said text k words f b w e =
-    let m = means_kind said k words (count_behind k (words_of text) (first_word (words_of text)) words b w) (sym (rule_later said text k words f b w) ∙ e) in
+means_words said text k words a f b w e =
+    let m = means_kind said k words a (count_behind k (words_of text) (first_word (words_of text)) words b w) (sym (rule_later said text k words f b w) ∙ e) in
     (m.0, line_read_as said text k words (line_read.Says m.0) f b w m.1)
 
-means_kind_of : (said : SaidView) (text : List ℕ) (k : Kind) → kind_of (first_word (words_of text)) ≡ Some k → bad_spacing k (words_of text) ≡ false → rule_said (Some said) text ≡ None → Meaning said text
+means_kind_of : (said : SaidView) (text : List ℕ) (k : Kind) → kind_of said.named (first_word (words_of text)) ≡ Some k → bad_spacing k (words_of text) ≡ false → rule_said (Some said) text ≡ None → Meaning said text
 means_kind_of said text k f b e =
     elim (cut text) [
       | inl l ↦ absurd (false≢true (sym b ∙ too_few k (words_of text) text (words_all text l)))
-      | inr (word, rest, t, l) ↦ means_words said text k (words_of rest) f b (first_is k (words_of text) word (words_of rest) b (words_more text word rest t l)) e
+      | inr (word, rest, t, l) ↦ means_words said text k (words_of rest) (words_lack rest) f b (first_is k (words_of text) word (words_of rest) b (words_more text word rest t l)) e
     ]
 
 means : (said : SaidView) (text : List ℕ) → rule_said (Some said) text ≡ None → Meaning said text
 means said text e =
-    elim (option_is (kind_of (first_word (words_of text)))) [
+    elim (option_is (kind_of said.named (first_word (words_of text)))) [
       | inl n ↦ absurd (none_some (rule_said (Some said) text) e (no_kind said text n))
       | inr (k, f) ↦ elim (bool_is (bad_spacing k (words_of text))) [
         | inl b ↦ absurd (none_some (rule_said (Some said) text) e (ill_spaced said text k f b))
@@ -127,11 +127,11 @@ said_loud : (said : SaidView) (text : List ℕ) (ls : List Line) (line : ScriptL
     → AreSaid (said_after said line) ls lines → AreSaid said (Ended text ∷ ls) (line ∷ lines)
 unfolding texts_of AreLines
 said_loud said text ls line lines w q s a =
-    let same : text ≡ line_text said.names line = text_is text (words_in said.names line) s.words in
-    let may : MaySay said line = record { sense = s.sense; fits = subst (λ (t : List ℕ). length t ≤ longest_line) same (line_fits text w) } in
+    let same : text ≡ line_text said line = text_is text (words_in said line) s.words in
+    let may : MaySay said line = record { here = s.here; sense = s.sense; fits = subst (λ (t : List ℕ). length t ≤ longest_line) same (line_fits text w) } in
     record {
       whole = rw w a.whole;
-      says = telling_loud text ls q ∙ ap (λ t. t ∷ telling ls) same ∙ ap (λ ts. line_text said.names line ∷ ts) a.says;
+      says = telling_loud text ls q ∙ ap (λ t. t ∷ telling ls) same ∙ ap (λ ts. line_text said line ∷ ts) a.says;
       lines = (may, a.lines);
     }
 
@@ -145,7 +145,7 @@ lines_said number said (Ended text ∷ ls) e =
       | inl q ↦ let rest = lines_said (number + 1) said ls (ap (λ s. first_fault (number + 1) s ls) (sym (behind_silent (Some said) text q)) ∙ f.1) in (rest.0, said_silent said text ls rest.0 w q rest.1)
       | inr q ↦
           let m = means said text (said_good (Some said) text f.0 w q) in
-          let next : said_behind (Some said) text ≡ Some (said_after said m.0) = behind_loud (Some said) text q ∙ said_is said text m.0 m.1.words in
+          let next : said_behind (Some said) text ≡ Some (said_after said m.0) = behind_loud (Some said) text q ∙ said_is said text m.0 m.1.here m.1.words in
           let rest = lines_said (number + 1) (said_after said m.0) ls (ap (λ s. first_fault (number + 1) s ls) (sym next) ∙ f.1) in
           (m.0 ∷ rest.0, said_loud said text ls m.0 rest.0 w q m.1 rest.1)
     ]
@@ -153,20 +153,20 @@ lines_said number said (Ended text ∷ ls) e =
 -- the lines are a script's, from the first that says something on
 pub record AreScript (ls : List Line) (s : ScriptView) : Type 0 where
   pub whole : list_all is_whole ls ≡ true
-  pub says : telling ls ≡ first_line s.nodes ∷ texts_of (nothing_said s.nodes) s.lines
+  pub says : telling ls ≡ script_lines s
   pub script : IsScript s
 
 end_faults : (number : ℕ) → first_fault number None [] ≡ None → ⊥
 unfolding first_fault
 end_faults number e = cc
 
-first_good : (text : List ℕ) → rule_said None text ≡ None → (nodes : ℕ) × (nodes_of text ≡ Some nodes)
+first_good : (text : List ℕ) → rule_said None text ≡ None → (said : SaidView) × (said_first text ≡ Some said)
 unfolding rule_said
-first_good text e = by (nodes_of text) refl e
+first_good text e = by (said_first text) refl e
   where
-    by : (o : Option ℕ) → nodes_of text ≡ o → cond {A = Option ℕ} (is_none o) (Some 1) None ≡ None → (nodes : ℕ) × (nodes_of text ≡ Some nodes)
+    by : (o : Option SaidView) → said_first text ≡ o → cond {A = Option ℕ} (is_none o) (Some 1) None ≡ None → (said : SaidView) × (said_first text ≡ Some said)
     by None h k = cc
-    by (Some nodes) h k = (nodes, h)
+    by (Some said) h k = (said, h)
 
 script_said : (number : ℕ) (ls : List Line) → first_fault number None ls ≡ None → (s : ScriptView) × AreScript ls s
 script_said number [] e = absurd (end_faults number e)
@@ -180,16 +180,15 @@ script_said number (Ended text ∷ ls) e =
           (rest.0, record { whole = rw w rest.1.whole; says = telling_silent text ls q ∙ rest.1.says; script = rest.1.script })
       | inr q ↦
           let first = first_good text (said_good None text f.0 w q) in
-          let told = told_is text first.0 first.1 in
-          let same : text ≡ first_line first.0 = (bytes_eq-Decides text (first_line first.0)).0 told.0 in
-          let next : said_behind None text ≡ Some (nothing_said first.0) = behind_loud None text q ∙ ap said_first first.1 in
-          let rest = lines_said (number + 1) (nothing_said first.0) ls (ap (λ s. first_fault (number + 1) s ls) (sym next) ∙ f.1) in
-          let s : ScriptView = record { nodes = first.0; lines = rest.0 } in (
+          let told = first_tells text first.0 first.1 in
+          let next : said_behind None text ≡ Some (nothing_said first.0.named first.0.nodes) = behind_loud None text q ∙ first.1 ∙ ap (λ (v : SaidView). Some v) told.begins in
+          let rest = lines_said (number + 1) (nothing_said first.0.named first.0.nodes) ls (ap (λ s. first_fault (number + 1) s ls) (sym next) ∙ f.1) in
+          let s : ScriptView = record { named = first.0.named; nodes = first.0.nodes; lines = rest.0 } in (
             s,
             record {
               whole = rw w rest.1.whole;
-              says = telling_loud text ls q ∙ ap (λ t. t ∷ telling ls) same ∙ ap (λ ts. first_line first.0 ∷ ts) rest.1.says;
-              script = record { some = told.1; most = told.2; lines = rest.1.lines };
+              says = telling_loud text ls q ∙ ap (λ t. t ∷ telling ls) told.spelled ∙ ap (λ ts. first_line first.0.named first.0.nodes ∷ ts) rest.1.says;
+              script = record { some = told.some; most = told.most; lines = rest.1.lines };
             },
           )
     ]

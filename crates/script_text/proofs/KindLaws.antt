@@ -1,12 +1,13 @@
 -- Lines by their kinds: the first tests.
-use Rattle.std.proofs.Common.{ℕ, ◌≡◌, ◌≤◌, ◌+◌, List, [], ◌∷◌, length, drop, Some, None, Bool, true, false, not, ◌==◌, ◌||◌, refl, sym, ap, arith, ◌∙◌, nat_le, cond, subst}
+use Rattle.std.proofs.Common.{ℕ, ◌≡◌, ◌≤◌, ◌+◌, List, [], ◌∷◌, ◌++◌, length, drop, Some, None, Bool, true, false, not, ◌==◌, ◌||◌, refl, sym, ap, arith, ◌∙◌, nat_le, cond, subst}
 use Rattle.std.specs.Prelude.{Result, Ok, Err, IfOk}
-use Rattle.std.specs.List.{list_any, find}
+use Rattle.std.specs.List.{list_any, find, AllByRecursion}
 use Rattle.std.specs.Str.{bytes_eq}
 use Rattle.std.proofs.lemmas.Slice.Eq.{bytes_eq-Decides}
 use Rattle.std.proofs.lemmas.Bool.{false≢true}
 use Rattle.std.proofs.lemmas.Bool.Decides.{nat_tests}
 use Rattle.script_text.specs.declared.task_word.TaskWord.TheVariants as task
+use Rattle.script_text.specs.declared.standby_word.StandbyWord.TheVariants as standby
 use Rattle.script_text.specs.declared.call_word.CallWord.TheVariants as call
 use Rattle.script_text.specs.declared.node_word.NodeWord.TheVariants as node
 use Rattle.script_text.specs.declared.kind.Kind.{Kind}
@@ -15,39 +16,76 @@ use Rattle.script_text.specs.declared.line_read.LineRead.{LineRead}
 use Rattle.script_text.specs.declared.line_read.LineRead.TheVariants as line_read
 use Rattle.script_text.specs.Views.{SaidView}
 use Rattle.script_text.specs.Words.{words_of, is_empty, first_word}
-use Rattle.script_text.specs.Grammar.{keyword, kind_in}
-use Rattle.script_text.specs.Rules.{all_kinds, kind_of, has_length, bad_spacing, later_rule, rule_in, rule_said}
+use Rattle.script_text.specs.Grammar.{keyword, belongs, kind_in}
+use Rattle.script_text.specs.Rules.{shared_kinds, own_kinds, kind_of, has_length, bad_spacing, later_rule, rule_in, rule_said}
 use Rattle.script_text.specs.Reading.{IsRead, IsLineRead}
 use Rattle.script_text.proofs.WordLaws.{one_word}
 
 -- ## First words
-pub kind_is : (k : Kind) → kind_of (keyword k) ≡ Some k
+kind_by : (named : Bool) (k : Kind) → belongs named k ≡ true → kind_of named (keyword named k) ≡ Some k
 unfolding kind_of
-kind_is kind.Writer = refl
-kind_is (kind.Task task.Takeover) = refl
-kind_is (kind.Task task.Roll) = refl
-kind_is (kind.Task task.Close) = refl
-kind_is kind.Log = refl
-kind_is kind.Purge = refl
-kind_is (kind.Call call.Drop) = refl
-kind_is (kind.Call call.Mute) = refl
-kind_is (kind.Call call.Late) = refl
-kind_is (kind.Node node.Kill) = refl
-kind_is (kind.Node node.Restart) = refl
-kind_is kind.Stop = refl
-kind_is kind.Cut = refl
+kind_by true kind.Declare h = refl
+kind_by false kind.Declare h = refl
+kind_by true (kind.Task task.Takeover) h = refl
+kind_by false (kind.Task task.Takeover) h = refl
+kind_by true (kind.Task task.Roll) h = refl
+kind_by false (kind.Task task.Roll) h = refl
+kind_by true (kind.Task task.Close) h = refl
+kind_by false (kind.Task task.Close) h = refl
+kind_by true kind.Log h = absurd (false≢true h)
+kind_by false kind.Log h = refl
+kind_by true kind.Edits h = refl
+kind_by false kind.Edits h = absurd (false≢true h)
+kind_by true kind.Purge h = absurd (false≢true h)
+kind_by false kind.Purge h = refl
+kind_by true kind.Trim h = refl
+kind_by false kind.Trim h = absurd (false≢true h)
+kind_by true (kind.Standby standby.Tail) h = refl
+kind_by false (kind.Standby standby.Tail) h = absurd (false≢true h)
+kind_by true (kind.Standby standby.Checkpoint) h = refl
+kind_by false (kind.Standby standby.Checkpoint) h = absurd (false≢true h)
+kind_by true (kind.Standby standby.Reload) h = refl
+kind_by false (kind.Standby standby.Reload) h = absurd (false≢true h)
+kind_by true (kind.Call call.Drop) h = refl
+kind_by false (kind.Call call.Drop) h = refl
+kind_by true (kind.Call call.Mute) h = refl
+kind_by false (kind.Call call.Mute) h = refl
+kind_by true (kind.Call call.Late) h = refl
+kind_by false (kind.Call call.Late) h = refl
+kind_by true (kind.Node node.Kill) h = refl
+kind_by false (kind.Node node.Kill) h = refl
+kind_by true (kind.Node node.Restart) h = refl
+kind_by false (kind.Node node.Restart) h = refl
+kind_by true kind.Stop h = refl
+kind_by false kind.Stop h = refl
+kind_by true kind.Cut h = refl
+kind_by false kind.Cut h = refl
 
-find_here : (p : Kind → Bool) (x : Kind) (xs : List Kind) (k : Kind) (b : Bool) → p x ≡ b → (find p xs ≡ Some k → p k ≡ true) → cond b (Some x) (find p xs) ≡ Some k → p k ≡ true
-find_here p x xs k true h rest e = let same : x ≡ k = cc in ap p (sym same) ∙ h
-find_here p x xs k false h rest e = rest e
+pub kind_is : (named : Bool) (k : Kind) → belongs named k ≡ true → kind_of named (keyword named k) ≡ Some k
+kind_is named k h = kind_by named k h
 
-found_passes : (p : Kind → Bool) (ks : List Kind) (k : Kind) → find p ks ≡ Some k → p k ≡ true
-found_passes p [] k e = cc
-found_passes p (x ∷ xs) k e = find_here p x xs k (p x) refl (found_passes p xs k) e
+-- the word is the kind's, which stands in such a script
+abbrev IsFirst : Bool → List ℕ → Kind → Type 0
+IsFirst named word k = (bytes_eq word (keyword named k) ≡ true) × (belongs named k ≡ true)
 
-pub keyword_is : (word : List ℕ) (k : Kind) → kind_of word ≡ Some k → word ≡ keyword k
+all_belong : (named : Bool) → AllByRecursion (λ (k : Kind). belongs named k ≡ true) (shared_kinds ++ own_kinds named)
+all_belong true = (refl, (refl, (refl, (refl, (refl, (refl, (refl, (refl, (refl, (refl, (refl, (refl, (refl, (refl, (refl, (refl, tt))))))))))))))))
+all_belong false = (refl, (refl, (refl, (refl, (refl, (refl, (refl, (refl, (refl, (refl, (refl, (refl, (refl, tt)))))))))))))
+
+find_here : (named : Bool) (word : List ℕ) (x : Kind) (xs : List Kind) (k : Kind) (b : Bool) → bytes_eq word (keyword named x) ≡ b → belongs named x ≡ true
+    → (find (λ j. bytes_eq word (keyword named j)) xs ≡ Some k → IsFirst named word k) → cond b (Some x) (find (λ j. bytes_eq word (keyword named j)) xs) ≡ Some k → IsFirst named word k
+find_here named word x xs k true h m rest e = let same : x ≡ k = cc in subst (IsFirst named word) same (h, m)
+find_here named word x xs k false h m rest e = rest e
+
+found : (named : Bool) (word : List ℕ) (ks : List Kind) (k : Kind) → AllByRecursion (λ (j : Kind). belongs named j ≡ true) ks → find (λ j. bytes_eq word (keyword named j)) ks ≡ Some k → IsFirst named word k
+found named word [] k m e = cc
+found named word (x ∷ xs) k m e = find_here named word x xs k (bytes_eq word (keyword named x)) refl m.0 (found named word xs k m.1) e
+
+pub keyword_is : (named : Bool) (word : List ℕ) (k : Kind) → kind_of named word ≡ Some k → (word ≡ keyword named k) × (belongs named k ≡ true)
 unfolding kind_of
-keyword_is word k e = (bytes_eq-Decides word (keyword k)).0 (found_passes (λ j. bytes_eq word (keyword j)) all_kinds k e)
+keyword_is named word k e =
+    let f = found named word (shared_kinds ++ own_kinds named) k (all_belong named) e in
+    ((bytes_eq-Decides word (keyword named k)).0 f.0, f.1)
 
 -- ## The number of words
 pub or_false : (a b : Bool) → (a || b) ≡ false → (a ≡ false) × (b ≡ false)
@@ -74,10 +112,13 @@ first_is k words w ws e s =
     s ∙ ap (λ v. v ∷ ws) (sym (first_first w ws n) ∙ ap first_word (sym s))
 
 few : (k : Kind) → has_length k 1 ≡ false
-few kind.Writer = refl
+few kind.Declare = refl
 few (kind.Task t) = refl
 few kind.Log = refl
+few kind.Edits = refl
 few kind.Purge = refl
+few kind.Trim = refl
+few (kind.Standby w) = refl
 few (kind.Call c) = refl
 few (kind.Node n) = refl
 few kind.Stop = refl
@@ -121,33 +162,36 @@ no_bodies text e s =
 pub ruleset arities = (behind_two, behind_three, behind_four, one_operand)
 
 -- ## The first tests
-pub no_kind : (said : SaidView) (text : List ℕ) → kind_of (first_word (words_of text)) ≡ None → rule_said (Some said) text ≡ Some 2
+pub no_kind : (said : SaidView) (text : List ℕ) → kind_of said.named (first_word (words_of text)) ≡ None → rule_said (Some said) text ≡ Some 2
 unfolding rule_said rule_in
 no_kind said text e = rw e refl
 
-pub ill_spaced : (said : SaidView) (text : List ℕ) (k : Kind) → kind_of (first_word (words_of text)) ≡ Some k → bad_spacing k (words_of text) ≡ true → rule_said (Some said) text ≡ Some 3
+pub ill_spaced : (said : SaidView) (text : List ℕ) (k : Kind) → kind_of said.named (first_word (words_of text)) ≡ Some k → bad_spacing k (words_of text) ≡ true → rule_said (Some said) text ≡ Some 3
 unfolding rule_said rule_in
 ill_spaced said text k e b = rw e (rw b refl)
 
 pub ruleset first_tests = (no_kind, ill_spaced)
 
 -- ## The later rules
-pub rule_later : (said : SaidView) (text : List ℕ) (k : Kind) (words : List (List ℕ)) → kind_of (first_word (words_of text)) ≡ Some k → bad_spacing k (words_of text) ≡ false
+pub rule_later : (said : SaidView) (text : List ℕ) (k : Kind) (words : List (List ℕ)) → kind_of said.named (first_word (words_of text)) ≡ Some k → bad_spacing k (words_of text) ≡ false
     → words_of text ≡ first_word (words_of text) ∷ words → rule_said (Some said) text ≡ later_rule said k words
 unfolding rule_said rule_in
 rule_later said text k words e b s = ap (λ o. rule_in said o (words_of text)) e ∙ rw b (ap (λ ws. later_rule said k (drop 1 ws)) s)
 
-pub line_read_as : (said : SaidView) (text : List ℕ) (k : Kind) (words : List (List ℕ)) (r : LineRead) → kind_of (first_word (words_of text)) ≡ Some k → bad_spacing k (words_of text) ≡ false
+pub line_read_as : (said : SaidView) (text : List ℕ) (k : Kind) (words : List (List ℕ)) (r : LineRead) → kind_of said.named (first_word (words_of text)) ≡ Some k → bad_spacing k (words_of text) ≡ false
     → words_of text ≡ first_word (words_of text) ∷ words → IsRead said k words r → IsLineRead said text r
 line_read_as said text k words (line_read.Broken rule) e b s h = rule_later said text k words e b s ∙ h
 line_read_as said text k words (line_read.Says line) e b s h =
     record {
       rule = rule_later said text k words e b s ∙ h.0;
-      words = s ∙ ap (λ w. w ∷ words) (keyword_is (first_word (words_of text)) k e ∙ ap keyword (sym h.1)) ∙ ap (λ ws. keyword (kind_in line) ∷ ws) (sym h.2);
+      words =
+          s ∙ ap (λ w. w ∷ words) ((keyword_is said.named (first_word (words_of text)) k e).0 ∙ ap (keyword said.named) (sym h.1))
+          ∙ ap (λ ws. keyword said.named (kind_in line) ∷ ws) (sym h.2);
+      here = ap (belongs said.named) h.1 ∙ (keyword_is said.named (first_word (words_of text)) k e).1;
       sense = h.3;
     }
 
-pub line_reads : {E : Type 0} (said : SaidView) (text : List ℕ) (k : Kind) (words : List (List ℕ)) (r : Result LineRead E) → kind_of (first_word (words_of text)) ≡ Some k → bad_spacing k (words_of text) ≡ false
+pub line_reads : {E : Type 0} (said : SaidView) (text : List ℕ) (k : Kind) (words : List (List ℕ)) (r : Result LineRead E) → kind_of said.named (first_word (words_of text)) ≡ Some k → bad_spacing k (words_of text) ≡ false
     → words_of text ≡ first_word (words_of text) ∷ words → IfOk r (IsRead said k words) → IfOk r (IsLineRead said text)
 line_reads said text k words (Ok x) e b s h = line_read_as said text k words x e b s h
 line_reads said text k words (Err x) e b s h = h

@@ -1,11 +1,12 @@
 -- Two lines with the same words are one.
-use Rattle.std.proofs.Common.{ℕ, ◌≡◌, ◌<◌, List, [], ◌∷◌, length, Option, Some, None, refl, sym, ap, arith, ◌∙◌, map, decimal}
+use Rattle.std.proofs.Common.{ℕ, ◌≡◌, ◌<◌, List, [], ◌∷◌, length, Option, Some, None, true, refl, sym, ap, arith, ◌∙◌, map, decimal}
 use Rattle.std.specs.Str.Parse.{digits_value}
 use Rattle.request_text.specs.Texts.{hex_text}
 use Rattle.journal_core.specs.declared.cut.Cut.{Cut}
 use Rattle.journal_core.specs.declared.cut.Cut.TheVariants as choice
 use Rattle.node_world.specs.declared.stop.Stop.TheVariants as stop
 use Rattle.script_text.specs.declared.task_word.TaskWord.TheVariants as task
+use Rattle.script_text.specs.declared.standby_word.StandbyWord.TheVariants as standby
 use Rattle.script_text.specs.declared.call_word.CallWord.TheVariants as call
 use Rattle.script_text.specs.declared.node_word.NodeWord.TheVariants as node
 use Rattle.script_text.specs.declared.kind.Kind.{Kind}
@@ -13,12 +14,14 @@ use Rattle.script_text.specs.declared.kind.Kind.TheVariants as kind
 use Rattle.script_text.specs.declared.script_line.ScriptLine.{ScriptLine}
 use Rattle.script_text.specs.declared.script_line.ScriptLine.TheVariants as line
 use Rattle.script_text.specs.Views.{SaidView}
-use Rattle.script_text.specs.Words.{actor_of, name_at, choice_word, choice_of}
-use Rattle.script_text.specs.Grammar.{keyword, kind_in, operands, words_in, IsNode, IsCount, HasSense}
+use Rattle.script_text.specs.Edits.{texts_between, edits_text}
+use Rattle.script_text.specs.Words.{words_of, actor_of, name_at, choice_word, choice_of}
+use Rattle.script_text.specs.Grammar.{belongs, keyword, kind_in, operands, words_in, IsNode, IsCount, HasSense}
 use Rattle.script_text.specs.Rules.{kind_of}
 use Rattle.script_text.proofs.BodyLaws.{unhex, bodies_back}
 use Rattle.script_text.proofs.NumberLaws.{number_again, choice_again}
 use Rattle.script_text.proofs.NameLaws.{AreKnown}
+use Rattle.script_text.proofs.EditLaws.{edits_from, edits_again}
 use Rattle.script_text.proofs.KindLaws.{kind_is}
 use Rattle.script_text.proofs.SenseLaws.{AreFew}
 
@@ -35,11 +38,16 @@ place_of names name = or_first (actor_of names name)
 
 -- the line of that kind that these words say
 abbrev made : List (List ℕ) → Kind → List (List ℕ) → ScriptLine
-made names kind.Writer (name ∷ []) = line.Declare name
+made names kind.Declare (name ∷ []) = line.Declare name
 made names (kind.Task task.Takeover) (name ∷ []) = line.Takeover (place_of names name)
 made names (kind.Task task.Roll) (name ∷ []) = line.Roll (place_of names name)
 made names (kind.Task task.Close) (name ∷ []) = line.Close (place_of names name)
 made names kind.Log (name ∷ bodies) = line.Log (place_of names name) (map unhex bodies)
+made names kind.Edits (name ∷ words) = line.Edits (place_of names name) (edits_from (texts_between words))
+made names kind.Trim (name ∷ extra ∷ []) = line.Trim (place_of names name) (digits_value 10 extra)
+made names (kind.Standby standby.Tail) (name ∷ []) = line.Tail (place_of names name)
+made names (kind.Standby standby.Checkpoint) (name ∷ []) = line.Checkpoint (place_of names name)
+made names (kind.Standby standby.Reload) (name ∷ []) = line.Reload (place_of names name)
 made names kind.Purge (name ∷ min ∷ []) = line.Purge (place_of names name) (digits_value 10 min)
 made names (kind.Call call.Drop) (name ∷ i ∷ k ∷ []) = line.Drop (place_of names name) (digits_value 10 i) (digits_value 10 k)
 made names (kind.Call call.Mute) (name ∷ i ∷ k ∷ []) = line.Mute (place_of names name) (digits_value 10 i) (digits_value 10 k)
@@ -67,6 +75,11 @@ module _ (said : SaidView) (k : AreKnown said.names) (f : AreFew said) where
   made_again (line.Roll actor) s = ap line.Roll (place actor s)
   made_again (line.Close actor) s = ap line.Close (place actor s)
   made_again (line.Log actor bodies) s = ap (λ a. line.Log a (map unhex (map hex_text bodies))) (place actor s.0) ∙ ap (line.Log actor) (bodies_back bodies s.2)
+  made_again (line.Edits actor edits) s = ap (λ a. line.Edits a (edits_from (texts_between (words_of (edits_text edits))))) (place actor s.0) ∙ ap (line.Edits actor) (edits_again edits s.1 s.2)
+  made_again (line.Trim actor extra) s = ap (λ a. line.Trim a (digits_value 10 (decimal extra))) (place actor s.0) ∙ ap (line.Trim actor) (number_again extra s.1)
+  made_again (line.Tail actor) s = ap line.Tail (place actor s)
+  made_again (line.Checkpoint actor) s = ap line.Checkpoint (place actor s)
+  made_again (line.Reload actor) s = ap line.Reload (place actor s)
   made_again (line.Purge actor min) s = ap (λ a. line.Purge a (digits_value 10 (decimal min))) (place actor s.0) ∙ ap (line.Purge actor) (number_again min s.1)
   made_again (line.Drop actor i n) s =
       ap (λ a. line.Drop a (digits_value 10 (decimal i)) (digits_value 10 (decimal n))) (place actor s.0) ∙ ap (λ x. line.Drop actor x (digits_value 10 (decimal n))) (node_again i s.1) ∙ ap (line.Drop actor i) (count_again n s.2)
@@ -84,11 +97,11 @@ module _ (said : SaidView) (k : AreKnown said.names) (f : AreFew said) where
       ∙ ap (λ x. line.Arm i x (stop.DiskCalls (digits_value 10 (decimal after)) (or_old (choice_of (choice_word word))))) (count_again calls s.1)
       ∙ ap (λ x. line.Arm i calls (stop.DiskCalls x (or_old (choice_of (choice_word word))))) (number_again after s.2) ∙ ap (λ c. line.Arm i calls (stop.DiskCalls after (or_old c))) (choice_again word)
 
-  pub same_line : (x y : ScriptLine) → HasSense said x → HasSense said y → words_in said.names x ≡ words_in said.names y → x ≡ y
-  same_line x y s t e =
-      let first : keyword (kind_in x) ≡ keyword (kind_in y) = heads (keyword (kind_in x)) (keyword (kind_in y)) _ _ e in
-      let rest : operands said.names x ≡ operands said.names y = tails (keyword (kind_in x)) (keyword (kind_in y)) _ _ e in
-      let both_are : Some (kind_in x) ≡ Some (kind_in y) = sym (kind_is (kind_in x)) ∙ ap kind_of first ∙ kind_is (kind_in y) in
+  pub same_line : (x y : ScriptLine) → belongs said.named (kind_in x) ≡ true → belongs said.named (kind_in y) ≡ true → HasSense said x → HasSense said y → words_in said x ≡ words_in said y → x ≡ y
+  same_line x y g h s t e =
+      let first : keyword said.named (kind_in x) ≡ keyword said.named (kind_in y) = heads (keyword said.named (kind_in x)) (keyword said.named (kind_in y)) _ _ e in
+      let rest : operands said.names x ≡ operands said.names y = tails (keyword said.named (kind_in x)) (keyword said.named (kind_in y)) _ _ e in
+      let both_are : Some (kind_in x) ≡ Some (kind_in y) = sym (kind_is said.named (kind_in x) g) ∙ ap (kind_of said.named) first ∙ kind_is said.named (kind_in y) h in
       let same : kind_in x ≡ kind_in y = some_same (kind_in x) (kind_in y) both_are in
       sym (made_again x s) ∙ ap (λ j. made said.names j (operands said.names x)) same ∙ ap (made said.names (kind_in y)) rest ∙ made_again y t
     where

@@ -10,6 +10,8 @@ use Rattle.journal_core.specs.declared.cut.Cut.{Cut}
 use Rattle.node_world.specs.declared.stop.Stop.TheVariants as stop
 use Rattle.script_text.specs.declared.task_word.TaskWord.{TaskWord}
 use Rattle.script_text.specs.declared.task_word.TaskWord.TheVariants as task
+use Rattle.script_text.specs.declared.standby_word.StandbyWord.{StandbyWord}
+use Rattle.script_text.specs.declared.standby_word.StandbyWord.TheVariants as standby
 use Rattle.script_text.specs.declared.call_word.CallWord.{CallWord}
 use Rattle.script_text.specs.declared.call_word.CallWord.TheVariants as call
 use Rattle.script_text.specs.declared.node_word.NodeWord.{NodeWord}
@@ -20,11 +22,16 @@ use Rattle.script_text.specs.declared.script_line.ScriptLine.{ScriptLine}
 use Rattle.script_text.specs.declared.script_line.ScriptLine.TheVariants as line
 use Rattle.script_text.specs.declared.line_read.LineRead.TheVariants as line_read
 use Rattle.script_text.specs.Views.{SaidView}
-use Rattle.script_text.specs.Words.{is_name, actor_of, is_number, choice_word, choice_of, is_body, greatest, IsBody}
+use Rattle.edit_ops.specs.Records.{EditView}
+use Rattle.edit_ops.specs.Texts.{text_of}
+use Rattle.script_text.specs.Lines.{Lacks}
+use Rattle.script_text.specs.Edits.{texts_between, are_edits, edits_text}
+use Rattle.script_text.specs.Words.{words_of, is_name, actor_of, is_number, choice_word, choice_of, is_body, greatest, IsBody}
 use Rattle.script_text.specs.Grammar.{most_actors}
 use Rattle.script_text.specs.Rules.{has_length, later_rule}
-use Rattle.script_text.specs.Reading.{IsRead, Names, Tells}
+use Rattle.script_text.specs.Reading.{IsRead, Names, Tells, HasText}
 use Rattle.script_text.proofs.BodyLaws.{both, bodies_of}
+use Rattle.script_text.proofs.EditLaws.{edits_told, said_by_texts}
 use Rattle.script_text.proofs.NumberLaws.{told_number, chosen}
 use Rattle.script_text.proofs.NameLaws.{named}
 use Rattle.script_text.proofs.KindLaws.{not_false, behind_one, behind_two, behind_three, behind_four, behind_some}
@@ -79,7 +86,7 @@ actor_is names name e = let found = some_is (actor_of names name) e in (found.0,
 abbrev Meaning : SaidView → Kind → List (List ℕ) → Type 0
 Meaning said k words = (l : ScriptLine) × IsRead said k words (line_read.Says l)
 
-means_declaration : (said : SaidView) (name : List ℕ) → later_rule said kind.Writer (name ∷ []) ≡ None → Meaning said kind.Writer (name ∷ [])
+means_declaration : (said : SaidView) (name : List ℕ) → later_rule said kind.Declare (name ∷ []) ≡ None → Meaning said kind.Declare (name ∷ [])
 means_declaration said name e =
     let a = unless (not (is_name name)) 4 _ e in
     let b = unless (nat_le most_actors (length said.names)) 11 _ a.1 in
@@ -98,6 +105,29 @@ means_log said name bodies some e =
     let n = actor_is said.names name a.0 in
     let list = bodies_of bodies (not_false (list_all is_body bodies) b.0) in
     (line.Log n.0 list.0, (e, refl, ap (λ w. w ∷ map hex_text list.0) n.1.1 ∙ ap (λ ws. name ∷ ws) list.1, (n.1.2, (λ none. some (sym list.1 ∙ ap (map hex_text) none)), list.2)))
+
+means_standby : (said : SaidView) (w : StandbyWord) (name : List ℕ) (actor : ℕ) → Names said.names name actor → later_rule said (kind.Standby w) (name ∷ []) ≡ None → Meaning said (kind.Standby w) (name ∷ [])
+means_standby said standby.Tail name actor n e = (line.Tail actor, (e, refl, ap (λ w. w ∷ []) n.1, n.2))
+means_standby said standby.Checkpoint name actor n e = (line.Checkpoint actor, (e, refl, ap (λ w. w ∷ []) n.1, n.2))
+means_standby said standby.Reload name actor n e = (line.Reload actor, (e, refl, ap (λ w. w ∷ []) n.1, n.2))
+
+means_edits : (said : SaidView) (name : List ℕ) (words : List (List ℕ)) → AllByRecursion (Lacks 32) words → later_rule said kind.Edits (name ∷ words) ≡ None → Meaning said kind.Edits (name ∷ words)
+means_edits said name words l e =
+    let a = unless (is_none (actor_of said.names name)) 5 _ e in
+    let b = unless (not (are_edits words)) 9 _ a.1 in
+    let n = actor_is said.names name a.0 in
+    let list = edits_told (texts_between words) (not_false (are_edits words) b.0) in
+    let s = said_by_texts list.0 words l list.1 list.2 in
+    (line.Edits n.0 list.0, (e, refl, ap (λ w. w ∷ words_of (edits_text list.0)) n.1.1 ∙ ap (λ ws. name ∷ ws) s.words_are, (n.1.2, s.some, s.said)))
+
+means_trim : (said : SaidView) (name extra : List ℕ) → later_rule said kind.Trim (name ∷ extra ∷ []) ≡ None → Meaning said kind.Trim (name ∷ extra ∷ [])
+means_trim said name extra e =
+    let a = unless (is_none (actor_of said.names name)) 5 _ e in
+    let b = unless (not (is_number 0 greatest extra)) 7 _ a.1 in
+    let n = actor_is said.names name a.0 in
+    let m = told_number 0 greatest extra (not_false (is_number 0 greatest extra) b.0) in
+    let rest : decimal (digits_value 10 extra) ≡ extra = m.1 in
+    (line.Trim n.0 (digits_value 10 extra), (e, refl, ap (λ w. w ∷ decimal (digits_value 10 extra) ∷ []) n.1.1 ∙ ap (λ w. name ∷ w ∷ []) rest, (n.1.2, m.3)))
 
 means_purge : (said : SaidView) (name min : List ℕ) → later_rule said kind.Purge (name ∷ min ∷ []) ≡ None → Meaning said kind.Purge (name ∷ min ∷ [])
 means_purge said name min e =
@@ -145,6 +175,12 @@ task_words said t name e =
     let n = actor_is said.names name a.0 in
     means_task said t name n.0 n.1 e
 
+standby_words : (said : SaidView) (w : StandbyWord) (name : List ℕ) → Words said (kind.Standby w) (name ∷ [])
+standby_words said w name e =
+    let a = unless (is_none (actor_of said.names name)) 5 _ e in
+    let n = actor_is said.names name a.0 in
+    means_standby said w name n.0 n.1 e
+
 call_words : (said : SaidView) (c : CallWord) (name i k : List ℕ) → Words said (kind.Call c) (name ∷ i ∷ k ∷ [])
 call_words said c name i k e =
     let a = unless (is_none (actor_of said.names name)) 5 _ e in
@@ -175,29 +211,39 @@ cut_words said i calls made word e =
     let c = choice_is (choice_of word) h.1 in
     means_cut said i calls made word _ _ _ c.0 (told_number 1 said.nodes i u.0) (told_number 1 greatest calls u.1) (told_number 0 greatest made t.1) c.1 e
 
-pub means_kind : (said : SaidView) (k : Kind) (words : List (List ℕ)) → has_length k (length words + 1) ≡ true → later_rule said k words ≡ None → (l : ScriptLine) × IsRead said k words (line_read.Says l)
-means_kind said kind.Writer words n =
+pub means_kind : (said : SaidView) (k : Kind) (words : List (List ℕ)) → AllByRecursion (Lacks 32) words → has_length k (length words + 1) ≡ true → later_rule said k words ≡ None → (l : ScriptLine) × IsRead said k words (line_read.Says l)
+means_kind said kind.Declare words l n =
     let w = one_of words (behind_one (length words) n) in
-    with_words said kind.Writer words (w.0 ∷ []) w.1 (means_declaration said w.0)
-means_kind said (kind.Task t) words n =
+    with_words said kind.Declare words (w.0 ∷ []) w.1 (means_declaration said w.0)
+means_kind said (kind.Task t) words l n =
     let w = one_of words (behind_one (length words) n) in
     with_words said (kind.Task t) words (w.0 ∷ []) w.1 (task_words said t w.0)
-means_kind said kind.Log words n =
+means_kind said kind.Log words l n =
     let w = more_of words (behind_some (length words) n) in
     with_words said kind.Log words (w.0 ∷ w.1) w.3 (means_log said w.0 w.1 w.2)
-means_kind said kind.Purge words n =
+means_kind said kind.Edits words l n =
+    let w = more_of words (behind_some (length words) n) in
+    let lacks = subst (AllByRecursion (Lacks 32)) w.3 l in
+    with_words said kind.Edits words (w.0 ∷ w.1) w.3 (means_edits said w.0 w.1 lacks.1)
+means_kind said kind.Trim words l n =
+    let w = two_of words (behind_two (length words) n) in
+    with_words said kind.Trim words (w.0 ∷ w.1 ∷ []) w.2 (means_trim said w.0 w.1)
+means_kind said (kind.Standby t) words l n =
+    let w = one_of words (behind_one (length words) n) in
+    with_words said (kind.Standby t) words (w.0 ∷ []) w.1 (standby_words said t w.0)
+means_kind said kind.Purge words l n =
     let w = two_of words (behind_two (length words) n) in
     with_words said kind.Purge words (w.0 ∷ w.1 ∷ []) w.2 (means_purge said w.0 w.1)
-means_kind said (kind.Call c) words n =
+means_kind said (kind.Call c) words l n =
     let w = three_of words (behind_three (length words) n) in
     with_words said (kind.Call c) words (w.0 ∷ w.1 ∷ w.2 ∷ []) w.3 (call_words said c w.0 w.1 w.2)
-means_kind said (kind.Node t) words n =
+means_kind said (kind.Node t) words l n =
     let w = one_of words (behind_one (length words) n) in
     with_words said (kind.Node t) words (w.0 ∷ []) w.1 (node_words said t w.0)
-means_kind said kind.Stop words n =
+means_kind said kind.Stop words l n =
     let w = three_of words (behind_three (length words) n) in
     with_words said kind.Stop words (w.0 ∷ w.1 ∷ w.2 ∷ []) w.3 (stop_words said w.0 w.1 w.2)
-means_kind said kind.Cut words n =
+means_kind said kind.Cut words l n =
     let w = four_of words (behind_four (length words) n) in
     with_words said kind.Cut words (w.0 ∷ w.1 ∷ w.2 ∷ w.3 ∷ []) w.4 (cut_words said w.0 w.1 w.2 w.3)
 
@@ -210,3 +256,9 @@ pub logs : (said : SaidView) (name : List ℕ) (words bodies : List (List ℕ)) 
     → AllByRecursion IsBody bodies → IsRead said kind.Log (name ∷ words) (line_read.Says (line.Log actor bodies))
 logs said name words bodies actor n some all e h =
     (rw (n.0, all) refl, refl, ap (λ w. w ∷ map hex_text bodies) n.1 ∙ ap (λ ws. name ∷ ws) e, (n.2, (λ none. some (sym e ∙ ap (map hex_text) none)), h))
+
+pub submits : (said : SaidView) (name : List ℕ) (words : List (List ℕ)) (edits : List EditView) (actor : ℕ) → Names said.names name actor → AllByRecursion (Lacks 32) words → are_edits words ≡ true
+    → map (text_of false) edits ≡ texts_between words → AllByRecursion HasText edits → IsRead said kind.Edits (name ∷ words) (line_read.Says (line.Edits actor edits))
+submits said name words edits actor n l all e h =
+    let s = said_by_texts edits words l e h in
+    (rw (n.0, all) refl, refl, ap (λ w. w ∷ words_of (edits_text edits)) n.1 ∙ ap (λ ws. name ∷ ws) s.words_are, (n.2, s.some, s.said))

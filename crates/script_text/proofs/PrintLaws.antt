@@ -1,5 +1,5 @@
 -- What is printed is read again.
-use Rattle.std.proofs.Common.{ℕ, ◌≡◌, ◌<◌, ◌≤◌, List, [], ◌∷◌, ◌++◌, length, true, false, refl, sym, ap, arith, ◌∙◌, append_assoc, append-nil, nat_le, map, zero, suc, subst}
+use Rattle.std.proofs.Common.{ℕ, ◌≡◌, ◌<◌, ◌≤◌, List, [], ◌∷◌, ◌++◌, length, true, false, refl, sym, ap, arith, ◌∙◌, append_assoc, append-nil, nat_le, map, zero, suc, subst, Bool}
 use Rattle.std.specs.List.{list_all, AllByRecursion, flat_map}
 use Rattle.std.specs.Fmt.{digits}
 use Rattle.std.proofs.lemmas.Bool.Decides.{nat_tests}
@@ -58,11 +58,11 @@ all_told [] h = refl
 all_told (line ∷ lines) h = rw h.0.loud (ap (λ ls. line ∷ ls) (all_told lines h.1))
 
 -- ## A script's lines
-line_printed : (said : SaidView) (line : ScriptLine) → AreKnown said.names → AreFew said → MaySay said line → IsPrinted (line_text said.names line)
+line_printed : (said : SaidView) (line : ScriptLine) → AreKnown said.names → AreFew said → MaySay said line → IsPrinted (line_text said line)
 line_printed said line k f m =
     record {
-      whole = line_is (line_text said.names line) (joined_plain (words_in said.names line) (words_are_words said line k f m.sense)) m.fits;
-      loud = not_silent said.names line;
+      whole = line_is (line_text said line) (joined_plain (words_in said line) (words_are_words said line k f m.sense)) m.fits;
+      loud = not_silent said line;
     }
 
 few_after : (said : SaidView) (line : ScriptLine) → AreFew said → AreFew (said_after said line)
@@ -73,29 +73,44 @@ unfolding texts_of AreLines
 lines_printed said [] k f a = tt
 lines_printed said (line ∷ lines) k f a = (line_printed said line k f a.0, lines_printed (said_after said line) lines (known_after said line k a.0.sense) (few_after said line f) a.1)
 
-first_printed : (nodes : ℕ) → 0 < nodes → nodes < 16 → IsPrinted (first_line nodes)
+first_printed : (named : Bool) (nodes : ℕ) → 0 < nodes → nodes < 16 → IsPrinted (first_line named nodes)
 unfolding is_line digits
-first_printed zero s l = absurd (omega arith)
-first_printed (suc zero) s l = record { whole = refl; loud = refl }
-first_printed (suc (suc zero)) s l = record { whole = refl; loud = refl }
-first_printed (suc (suc (suc zero))) s l = record { whole = refl; loud = refl }
-first_printed (suc (suc (suc (suc zero)))) s l = record { whole = refl; loud = refl }
-first_printed (suc (suc (suc (suc (suc zero))))) s l = record { whole = refl; loud = refl }
-first_printed (suc (suc (suc (suc (suc (suc zero)))))) s l = record { whole = refl; loud = refl }
-first_printed (suc (suc (suc (suc (suc (suc (suc zero))))))) s l = record { whole = refl; loud = refl }
-first_printed (suc (suc (suc (suc (suc (suc (suc (suc zero)))))))) s l = record { whole = refl; loud = refl }
-first_printed (suc (suc (suc (suc (suc (suc (suc (suc (suc zero))))))))) s l = record { whole = refl; loud = refl }
-first_printed (suc (suc (suc (suc (suc (suc (suc (suc (suc (suc zero)))))))))) s l = record { whole = refl; loud = refl }
-first_printed (suc (suc (suc (suc (suc (suc (suc (suc (suc (suc (suc zero))))))))))) s l = record { whole = refl; loud = refl }
-first_printed (suc (suc (suc (suc (suc (suc (suc (suc (suc (suc (suc (suc zero)))))))))))) s l = record { whole = refl; loud = refl }
-first_printed (suc (suc (suc (suc (suc (suc (suc (suc (suc (suc (suc (suc (suc zero))))))))))))) s l = record { whole = refl; loud = refl }
-first_printed (suc (suc (suc (suc (suc (suc (suc (suc (suc (suc (suc (suc (suc (suc zero)))))))))))))) s l = record { whole = refl; loud = refl }
-first_printed (suc (suc (suc (suc (suc (suc (suc (suc (suc (suc (suc (suc (suc (suc (suc zero))))))))))))))) s l = record { whole = refl; loud = refl }
-first_printed (suc (suc (suc (suc (suc (suc (suc (suc (suc (suc (suc (suc (suc (suc (suc (suc n)))))))))))))))) s l = absurd (omega arith)
+first_printed named zero s l = absurd (omega arith)
+first_printed true (suc zero) s l = record { whole = refl; loud = refl }
+first_printed true (suc (suc zero)) s l = record { whole = refl; loud = refl }
+first_printed true (suc (suc (suc zero))) s l = record { whole = refl; loud = refl }
+first_printed true (suc (suc (suc (suc zero)))) s l = record { whole = refl; loud = refl }
+first_printed true (suc (suc (suc (suc (suc zero))))) s l = record { whole = refl; loud = refl }
+first_printed true (suc (suc (suc (suc (suc (suc zero)))))) s l = record { whole = refl; loud = refl }
+first_printed true (suc (suc (suc (suc (suc (suc (suc zero))))))) s l = record { whole = refl; loud = refl }
+first_printed true (suc (suc (suc (suc (suc (suc (suc (suc zero)))))))) s l = record { whole = refl; loud = refl }
+first_printed true (suc (suc (suc (suc (suc (suc (suc (suc (suc zero))))))))) s l = record { whole = refl; loud = refl }
+first_printed true (suc (suc (suc (suc (suc (suc (suc (suc (suc (suc zero)))))))))) s l = record { whole = refl; loud = refl }
+first_printed true (suc (suc (suc (suc (suc (suc (suc (suc (suc (suc (suc zero))))))))))) s l = record { whole = refl; loud = refl }
+first_printed true (suc (suc (suc (suc (suc (suc (suc (suc (suc (suc (suc (suc zero)))))))))))) s l = record { whole = refl; loud = refl }
+first_printed true (suc (suc (suc (suc (suc (suc (suc (suc (suc (suc (suc (suc (suc zero))))))))))))) s l = record { whole = refl; loud = refl }
+first_printed true (suc (suc (suc (suc (suc (suc (suc (suc (suc (suc (suc (suc (suc (suc zero)))))))))))))) s l = record { whole = refl; loud = refl }
+first_printed true (suc (suc (suc (suc (suc (suc (suc (suc (suc (suc (suc (suc (suc (suc (suc zero))))))))))))))) s l = record { whole = refl; loud = refl }
+first_printed false (suc zero) s l = record { whole = refl; loud = refl }
+first_printed false (suc (suc zero)) s l = record { whole = refl; loud = refl }
+first_printed false (suc (suc (suc zero))) s l = record { whole = refl; loud = refl }
+first_printed false (suc (suc (suc (suc zero)))) s l = record { whole = refl; loud = refl }
+first_printed false (suc (suc (suc (suc (suc zero))))) s l = record { whole = refl; loud = refl }
+first_printed false (suc (suc (suc (suc (suc (suc zero)))))) s l = record { whole = refl; loud = refl }
+first_printed false (suc (suc (suc (suc (suc (suc (suc zero))))))) s l = record { whole = refl; loud = refl }
+first_printed false (suc (suc (suc (suc (suc (suc (suc (suc zero)))))))) s l = record { whole = refl; loud = refl }
+first_printed false (suc (suc (suc (suc (suc (suc (suc (suc (suc zero))))))))) s l = record { whole = refl; loud = refl }
+first_printed false (suc (suc (suc (suc (suc (suc (suc (suc (suc (suc zero)))))))))) s l = record { whole = refl; loud = refl }
+first_printed false (suc (suc (suc (suc (suc (suc (suc (suc (suc (suc (suc zero))))))))))) s l = record { whole = refl; loud = refl }
+first_printed false (suc (suc (suc (suc (suc (suc (suc (suc (suc (suc (suc (suc zero)))))))))))) s l = record { whole = refl; loud = refl }
+first_printed false (suc (suc (suc (suc (suc (suc (suc (suc (suc (suc (suc (suc (suc zero))))))))))))) s l = record { whole = refl; loud = refl }
+first_printed false (suc (suc (suc (suc (suc (suc (suc (suc (suc (suc (suc (suc (suc (suc zero)))))))))))))) s l = record { whole = refl; loud = refl }
+first_printed false (suc (suc (suc (suc (suc (suc (suc (suc (suc (suc (suc (suc (suc (suc (suc zero))))))))))))))) s l = record { whole = refl; loud = refl }
+first_printed named (suc (suc (suc (suc (suc (suc (suc (suc (suc (suc (suc (suc (suc (suc (suc (suc n)))))))))))))))) s l = absurd (omega arith)
 
 pub has_its_text : (s : ScriptView) → IsScript s → IsScriptText (script_text s) s
 has_its_text s h =
-    let printed : AllByRecursion IsPrinted (script_lines s) = (first_printed s.nodes h.some h.most, lines_printed (nothing_said s.nodes) s.lines none_known h.most h.lines) in
+    let printed : AllByRecursion IsPrinted (script_lines s) = (first_printed s.named s.nodes h.some h.most, lines_printed (nothing_said s.named s.nodes) s.lines none_known h.most h.lines) in
     let again : lines_of (script_text s) ≡ map Ended (script_lines s) = lines_again (script_lines s) printed in
     record {
       whole = ap (list_all is_whole) again ∙ all_whole (script_lines s) printed;
@@ -113,7 +128,7 @@ ended_none_text : (out : List ℕ) → out ++ ended [] ≡ out
 unfolding ended
 ended_none_text out = append-nil out
 
-texts_first : (said : SaidView) (line : ScriptLine) (lines : List ScriptLine) → texts_of said (line ∷ lines) ≡ line_text said.names line ∷ texts_of (said_after said line) lines
+texts_first : (said : SaidView) (line : ScriptLine) (lines : List ScriptLine) → texts_of said (line ∷ lines) ≡ line_text said line ∷ texts_of (said_after said line) lines
 unfolding texts_of
 texts_first said line lines = refl
 
@@ -126,13 +141,13 @@ unfolding AreLines
 lines_first said line lines h = h
 
 -- before the first of these lines
-pub written_start : (out : List ℕ) (s : ScriptView) (said : SaidView) → said ≡ nothing_said s.nodes → IsScript s → out ≡ first_line s.nodes ++ 10 ∷ [] → IsWritten out said s.lines (script_text s)
+pub written_start : (out : List ℕ) (s : ScriptView) (said : SaidView) → said ≡ nothing_said s.named s.nodes → IsScript s → out ≡ first_line s.named s.nodes ++ 10 ∷ [] → IsWritten out said s.lines (script_text s)
 written_start out s said e h o =
     let P : SaidView → Type 0 = λ v. IsWritten out v s.lines (script_text s) in
     subst P (sym e) (record {
       text =
-          ap (λ t. t ++ ended (texts_of (nothing_said s.nodes) s.lines)) o ∙ append_assoc (first_line s.nodes) (10 ∷ []) (ended (texts_of (nothing_said s.nodes) s.lines))
-          ∙ sym (ended_first (first_line s.nodes) (texts_of (nothing_said s.nodes) s.lines));
+          ap (λ t. t ++ ended (texts_of (nothing_said s.named s.nodes) s.lines)) o ∙ append_assoc (first_line s.named s.nodes) (10 ∷ []) (ended (texts_of (nothing_said s.named s.nodes) s.lines))
+          ∙ sym (ended_first (first_line s.named s.nodes) (texts_of (nothing_said s.named s.nodes) s.lines));
       lines = h.lines;
     })
 
@@ -141,14 +156,14 @@ written_may out said line lines left all w e = (lines_first said line lines (sub
 
 -- one more line
 pub written_more : (out text new : List ℕ) (said next : SaidView) (line : ScriptLine) (lines left : List ScriptLine) (all : List ℕ) → IsWritten out said left all → left ≡ line ∷ lines
-    → text ≡ out ++ line_text said.names line → new ≡ text ++ 10 ∷ [] → next ≡ said_after said line → IsWritten new next lines all
+    → text ≡ out ++ line_text said line → new ≡ text ++ 10 ∷ [] → next ≡ said_after said line → IsWritten new next lines all
 written_more out text new said next line lines left all w e t n s =
     let P : SaidView → Type 0 = λ v. IsWritten new v lines all in
     let rest : List ℕ = ended (texts_of (said_after said line) lines) in
     subst P (sym s) (record {
       text =
-          ap (λ x. x ++ rest) (n ∙ ap (λ x. x ++ 10 ∷ []) t) ∙ append_assoc (out ++ line_text said.names line) (10 ∷ []) rest ∙ append_assoc out (line_text said.names line) (10 ∷ rest)
-          ∙ ap (λ x. out ++ x) (sym (ended_first (line_text said.names line) (texts_of (said_after said line) lines)) ∙ ap ended (sym (texts_first said line lines)) ∙ ap (λ ls. ended (texts_of said ls)) (sym e)) ∙ w.text;
+          ap (λ x. x ++ rest) (n ∙ ap (λ x. x ++ 10 ∷ []) t) ∙ append_assoc (out ++ line_text said line) (10 ∷ []) rest ∙ append_assoc out (line_text said line) (10 ∷ rest)
+          ∙ ap (λ x. out ++ x) (sym (ended_first (line_text said line) (texts_of (said_after said line) lines)) ∙ ap ended (sym (texts_first said line lines)) ∙ ap (λ ls. ended (texts_of said ls)) (sym e)) ∙ w.text;
       lines = (lines_first said line lines (subst (AreLines said) e w.lines)).1;
     })
 

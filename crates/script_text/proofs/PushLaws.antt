@@ -1,8 +1,14 @@
 -- Texts that grow at the end.
-use Rattle.std.proofs.Common.{ℕ, ◌≡◌, ◌<◌, ◌+◌, ◌/◌, ◌%◌, List, [], ◌∷◌, ◌++◌, length, take, get_or, refl, sym, ap, ◌∙◌, append_assoc, append-nil, map}
+use Rattle.std.proofs.Common.{ℕ, zero, suc, ◌≡◌, ◌<◌, ◌+◌, ◌/◌, ◌%◌, List, [], ◌∷◌, ◌++◌, length, take, get_or, false, codes, refl, sym, ap, arith, ◌∙◌, append_assoc, append-nil, map}
+use Rattle.std.specs.List.{AllByRecursion}
+use Rattle.std.proofs.lemmas.List.{take_more, flat_map_more}
+use Rattle.edit_ops.specs.Records.{EditView}
+use Rattle.edit_ops.specs.Texts.{text_of}
 use Rattle.request_text.specs.Texts.{hex_digit, hex_text, bodies_text}
 use Rattle.request_text.proofs.PrintLaws.{hex_more, hex_none, bodies_more, bodies_none, grow}
-use Rattle.script_text.specs.Words.{joined}
+use Rattle.script_text.specs.Words.{joined, words_of}
+use Rattle.script_text.specs.Edits.{others_text, edits_text, IsSayable}
+use Rattle.script_text.proofs.WordLaws.{words_some, words_joined}
 
 pub spaced : (old mid new word : List ℕ) → mid ≡ old ++ 32 ∷ [] → new ≡ mid ++ word → new ≡ old ++ 32 ∷ word
 spaced old mid new word m n = n ∙ ap (λ x. x ++ word) m ∙ append_assoc old (32 ∷ []) word
@@ -41,4 +47,40 @@ body_more old out mid new bodies i d body l o b m n =
     grow old out new (bodies_text (take i bodies)) (32 ∷ hex_text body) (bodies_text (take (i + 1) bodies)) o (spaced out mid new (hex_text body) m n)
     (bodies_more bodies i d l ∙ ap (λ x. bodies_text (take i bodies) ++ 32 ∷ hex_text x) (sym b))
 
-pub ruleset pushes = (spaced, hex_none, bodies_none)
+-- ## Edits
+pub others_none : (old : List ℕ) → old ≡ old ++ others_text []
+others_none old = sym (append-nil old)
+
+pub edits_none : (old : List ℕ) → old ≡ old ++ edits_text []
+edits_none old = sym (append-nil old)
+
+-- one more edit
+pub edit_more : (old out mid new : List ℕ) (edits : List EditView) (i : ℕ) (d e : EditView) → i < length edits → out ≡ old ++ others_text (take i edits) → e ≡ get_or edits i d
+    → mid ≡ out ++ codes " ; " → new ≡ mid ++ text_of false e → new ≡ old ++ others_text (take (i + 1) edits)
+edit_more old out mid new edits i d e l o is m n =
+    n ∙ ap (λ x. x ++ text_of false e) m ∙ append_assoc out (codes " ; ") (text_of false e) ∙ ap (λ x. x ++ (codes " ; " ++ text_of false e)) o
+    ∙ flat_map_more (λ f. codes " ; " ++ text_of false f) old (take i edits) e ∙ ap (λ x. old ++ others_text (take i edits ++ x ∷ [])) is ∙ ap (λ es. old ++ others_text es) (sym (take_more edits i d l))
+
+-- the first edit and the others
+pub edits_more : (old mid : List ℕ) (first : EditView) (others edits : List EditView) → edits ≡ first ∷ others → mid ≡ old ++ text_of false first → mid ++ others_text others ≡ old ++ edits_text edits
+edits_more old mid first others edits e m = ap (λ x. x ++ others_text others) m ∙ append_assoc old (text_of false first) (others_text others) ∙ ap (λ es. old ++ edits_text es) (sym e)
+
+pub sayable_at : (edits : List EditView) (i : ℕ) (d : EditView) → AllByRecursion IsSayable edits → i < length edits → IsSayable (get_or edits i d)
+sayable_at [] i d h l = absurd (omega arith)
+sayable_at (e ∷ es) zero d h l = h.0
+sayable_at (e ∷ es) (suc i) d h l = sayable_at es i d h.1 (omega arith)
+
+joined_text : (word name text : List ℕ) → joined (word ∷ name ∷ words_of text) ≡ word ++ 32 ∷ (name ++ 32 ∷ text)
+joined_text word name text = by (words_of text) refl
+  where
+    by : (ws : List (List ℕ)) → words_of text ≡ ws → joined (word ∷ name ∷ ws) ≡ word ++ 32 ∷ (name ++ 32 ∷ text)
+    by [] e = absurd (words_some text e)
+    by (w ∷ ws) e = ap (λ t. word ++ 32 ∷ (name ++ 32 ∷ t)) (ap joined (sym e) ∙ words_joined text)
+
+-- a text of several words behind a name
+pub text_more : (old named mid word name text : List ℕ) → named ≡ old ++ joined (word ∷ name ∷ []) → mid ≡ named ++ 32 ∷ [] → mid ++ text ≡ old ++ joined (word ∷ name ∷ words_of text)
+text_more old named mid word name text k m =
+    spaced named mid (mid ++ text) text m refl ∙ ap (λ x. x ++ 32 ∷ text) k ∙ append_assoc old (word ++ 32 ∷ name) (32 ∷ text)
+    ∙ ap (λ x. old ++ x) (append_assoc word (32 ∷ name) (32 ∷ text) ∙ sym (joined_text word name text))
+
+pub ruleset pushes = (spaced, hex_none, bodies_none, others_none, edits_none)

@@ -2,26 +2,25 @@
 use Rattle.std.proofs.Common.{ℕ, ◌≡◌, ◌<◌, ◌≤◌, ◌+◌, List, [], ◌∷◌, ◌++◌, length, drop, Option, Some, None, Bool, true, false, ◌&&◌, refl, sym, ap, arith, ◌∙◌, append_assoc, append-nil, nat_le, cond, subst}
 use Rattle.std.specs.Prelude.{Result, Ok, Err, IfOk, IfSome, IfNone, is_none}
 use Rattle.std.specs.List.{list_all}
-use Rattle.std.proofs.lemmas.Slice.Eq.{bytes_eq-Decides}
 use Rattle.std.proofs.lemmas.Bool.{false≢true}
 use Rattle.std.proofs.lemmas.Bool.Decides.{nat_tests}
 use Rattle.script_text.specs.declared.script_line.ScriptLine.{ScriptLine}
 use Rattle.script_text.specs.Views.{ScriptView, SaidView, ReadingView}
 use Rattle.script_text.specs.Lines.{Ended, lines_of, is_plain, is_line, is_whole, Lacks, longest_line}
 use Rattle.script_text.specs.Words.{words_of, first_word}
-use Rattle.script_text.specs.Grammar.{words_in, operands, line_text, first_line, texts_of, nothing_said, said_after, MaySay, AreLines, IsScript, script_lines, IsScriptText, is_silent, unless_silent, telling}
-use Rattle.script_text.specs.Rules.{kind_of, nodes_of, rule_said, rule_of, said_in, said_first, said_next, said_behind, or_later, fault_at_end, first_fault, fault_of}
+use Rattle.script_text.specs.Grammar.{belongs, kind_in, words_in, operands, line_text, first_line, texts_of, nothing_said, said_after, MaySay, AreLines, IsScript, script_lines, IsScriptText, is_silent, unless_silent, telling}
+use Rattle.script_text.specs.Rules.{kind_of, rule_said, rule_of, said_in, said_first, said_next, said_behind, or_later, fault_at_end, first_fault, fault_of}
 use Rattle.script_text.specs.Reading.{Says, told_if, told, all_said, AreSaidBy, IsSoundIf, IsSound, script_of, Adds, Takes, IsBehind, nothing_read}
 use Rattle.script_text.proofs.LineLaws.{line_first, line_open, no_lines}
 use Rattle.script_text.proofs.WordLaws.{text_is}
-use Rattle.script_text.proofs.FirstLaws.{told_is}
-use Rattle.script_text.proofs.SenseLaws.{kind_of_words, nodes_after}
+use Rattle.script_text.proofs.FirstLaws.{FirstTells, first_tells}
+use Rattle.script_text.proofs.SenseLaws.{kind_of_words, named_after, nodes_after}
 
 -- ## Lists of lines, one longer
-pub texts_push : (said : SaidView) (lines : List ScriptLine) (line : ScriptLine) → texts_of said (lines ++ line ∷ []) ≡ texts_of said lines ++ line_text (all_said said lines).names line ∷ []
+pub texts_push : (said : SaidView) (lines : List ScriptLine) (line : ScriptLine) → texts_of said (lines ++ line ∷ []) ≡ texts_of said lines ++ line_text (all_said said lines) line ∷ []
 unfolding texts_of all_said
 texts_push said [] line = refl
-texts_push said (l ∷ lines) line = ap (λ ts. line_text said.names l ∷ ts) (texts_push (said_after said l) lines line)
+texts_push said (l ∷ lines) line = ap (λ ts. line_text said l ∷ ts) (texts_push (said_after said l) lines line)
 
 pub said_push : (said : SaidView) (lines : List ScriptLine) (line : ScriptLine) → all_said said (lines ++ line ∷ []) ≡ said_after (all_said said lines) line
 unfolding all_said
@@ -35,9 +34,9 @@ lines_push said (l ∷ lines) line h m = (h.0, lines_push (said_after said l) li
 
 -- ## What a line says
 -- what a line says is what its words say
-pub said_is : (said : SaidView) (text : List ℕ) (line : ScriptLine) → words_of text ≡ words_in said.names line → said_next (Some said) text ≡ Some (said_after said line)
-said_is said text line e =
-    ap (λ ws. Some (said_in said (kind_of (first_word ws)) (drop 1 ws))) e ∙ ap (λ k. Some (said_in said k (operands said.names line))) (kind_of_words said.names line)
+pub said_is : (said : SaidView) (text : List ℕ) (line : ScriptLine) → belongs said.named (kind_in line) ≡ true → words_of text ≡ words_in said line → said_next (Some said) text ≡ Some (said_after said line)
+said_is said text line h e =
+    ap (λ ws. Some (said_in said (kind_of said.named (first_word ws)) (drop 1 ws))) e ∙ ap (λ k. Some (said_in said k (operands said.names line))) (kind_of_words said line h)
 
 both_true : (a b : Bool) → (a && b) ≡ true → (a ≡ true) × (b ≡ true)
 both_true true b e = (refl, e)
@@ -67,51 +66,50 @@ takes_silent r text s w q =
     }
 
 -- ## The first line
-first_rule : (text : List ℕ) (o : Option ℕ) → is_line text ≡ true → is_silent text ≡ false → nodes_of text ≡ o → rule_of None text ≡ cond (is_none o) (Some 1) None
+first_rule : (text : List ℕ) (o : Option SaidView) → is_line text ≡ true → is_silent text ≡ false → said_first text ≡ o → rule_of None text ≡ cond (is_none o) (Some 1) None
 unfolding rule_of rule_said
 first_rule text o w q e = rw (w, q, e) refl
 
-first_behind : (text : List ℕ) (o : Option ℕ) → is_silent text ≡ false → nodes_of text ≡ o → said_behind None text ≡ said_first o
+first_behind : (text : List ℕ) (o : Option SaidView) → is_silent text ≡ false → said_first text ≡ o → said_behind None text ≡ o
 unfolding said_behind
 first_behind text o q e = rw (q, e) refl
 
-pub first_broken : (r : ReadingView) (text : List ℕ) → r.said ≡ None → is_line text ≡ true → is_silent text ≡ false → nodes_of text ≡ None → rule_of r.said text ≡ Some 1
+pub first_broken : (r : ReadingView) (text : List ℕ) → r.said ≡ None → is_line text ≡ true → is_silent text ≡ false → said_first text ≡ None → rule_of r.said text ≡ Some 1
 first_broken r text n w q e = ap (λ o. rule_of o text) n ∙ first_rule text None w q e
 
-said_nothing : (nodes : ℕ) → 0 < nodes → nodes < 16 → AreSaidBy (nothing_said nodes) []
+said_nothing : (v : SaidView) (text : List ℕ) → FirstTells text v → AreSaidBy v []
 unfolding all_said AreLines
-said_nothing nodes s l = record { some = s; most = l; said = refl; lines = tt }
+said_nothing v text t = record { some = t.some; most = t.most; said = t.begins; lines = tt }
 
-texts_nothing : (nodes : ℕ) → texts_of (nothing_said nodes) [] ≡ []
+texts_nothing : (v : SaidView) → texts_of v [] ≡ []
 unfolding texts_of
-texts_nothing nodes = refl
+texts_nothing v = refl
 
-begun : (said : Option SaidView) (lines : List ScriptLine) (text : List ℕ) (m : ℕ) → said ≡ None → IsSoundIf said lines → is_line text ≡ true → is_silent text ≡ false → nodes_of text ≡ Some m
-    → Takes (record { said = said; lines = lines }) text (record { said = Some (nothing_said m); lines = lines })
-begun (Some v) lines text m n s w q e = cc
-begun None (l ∷ lines) text m n s w q e = absurd (cons_nil l lines s)
+begun : (said : Option SaidView) (lines : List ScriptLine) (text : List ℕ) (v : SaidView) → said ≡ None → IsSoundIf said lines → is_line text ≡ true → is_silent text ≡ false → said_first text ≡ Some v
+    → Takes (record { said = said; lines = lines }) text (record { said = Some v; lines = lines })
+begun (Some u) lines text v n s w q e = cc
+begun None (l ∷ lines) text v n s w q e = absurd (cons_nil l lines s)
   where
     cons_nil : (l : ScriptLine) (lines : List ScriptLine) → l ∷ lines ≡ [] → ⊥
     cons_nil l lines e = cc
-begun None [] text m n s w q e =
-    let t = told_is text m e in
+begun None [] text v n s w q e =
+    let t = first_tells text v e in
     record {
       whole = w;
-      rule = first_rule text (Some m) w q e;
-      behind = sym (first_behind text (Some m) q e);
-      told = rw q (ap (λ ts. first_line m ∷ ts) (texts_nothing m) ∙ ap (λ t. t ∷ []) (sym ((bytes_eq-Decides text (first_line m)).0 t.0)));
-      sound = said_nothing m t.1 t.2;
+      rule = first_rule text (Some v) w q e;
+      behind = sym (first_behind text (Some v) q e);
+      told = rw q (ap (λ ts. first_line v.named v.nodes ∷ ts) (texts_nothing (nothing_said v.named v.nodes)) ∙ ap (λ t. t ∷ []) (sym t.spelled));
+      sound = said_nothing v text t;
     }
 
 abbrev pub reading : Option SaidView → List ScriptLine → ReadingView
 reading said lines = record { said = said; lines = lines }
 
-pub first_taken : (r : ReadingView) (o : Option SaidView) (read : List ScriptLine) (v : SaidView) (text : List ℕ) (m : ℕ) → reading o read ≡ r → o ≡ None → v ≡ nothing_said m → IsSound r
-    → is_line text ≡ true → is_silent text ≡ false → nodes_of text ≡ Some m → Takes r text (reading (Some v) read)
-first_taken r o read v text m is n e s w q t =
+pub first_taken : (r : ReadingView) (o : Option SaidView) (read : List ScriptLine) (v : SaidView) (text : List ℕ) → reading o read ≡ r → o ≡ None → IsSound r
+    → is_line text ≡ true → is_silent text ≡ false → said_first text ≡ Some v → Takes r text (reading (Some v) read)
+first_taken r o read v text is n s w q t =
     let P : ReadingView → Type 0 = λ x. Takes x text (reading (Some v) read) in
-    let Q : SaidView → Type 0 = λ u. Takes (reading o read) text (reading (Some u) read) in
-    subst P is (subst Q (sym e) (begun o read text m n (subst (λ (x : ReadingView). IsSound x) (sym is) s) w q t))
+    subst P is (begun o read text v n (subst (λ (x : ReadingView). IsSound x) (sym is) s) w q t)
 
 -- ## A later line
 later_rule_of : (said : SaidView) (text : List ℕ) → is_line text ≡ true → is_silent text ≡ false → rule_of (Some said) text ≡ rule_said (Some said) text
@@ -125,23 +123,25 @@ later_behind said text q = rw q refl
 gone_on : (said : SaidView) (lines : List ScriptLine) (text : List ℕ) (line : ScriptLine) → AreSaidBy said lines → is_line text ≡ true → is_silent text ≡ false → Says said text line
     → Takes (record { said = Some said; lines = lines }) text (record { said = Some (said_after said line); lines = lines ++ line ∷ [] })
 gone_on said lines text line s w q e =
-    let same : text ≡ line_text said.names line = text_is text (words_in said.names line) e.words in
-    let may : MaySay said line = record { sense = e.sense; fits = subst (λ (t : List ℕ). length t ≤ longest_line) same (line_fits text w) } in
-    let first : SaidView = nothing_said said.nodes in
+    let same : text ≡ line_text said line = text_is text (words_in said line) e.words in
+    let may : MaySay said line = record { here = e.here; sense = e.sense; fits = subst (λ (t : List ℕ). length t ≤ longest_line) same (line_fits text w) } in
+    let first : SaidView = nothing_said said.named said.nodes in
+    let named : (said_after said line).named ≡ said.named = named_after said line in
     let nodes : (said_after said line).nodes ≡ said.nodes = nodes_after said line in
+    let begins : nothing_said (said_after said line).named (said_after said line).nodes ≡ nothing_said said.named said.nodes = (λ i. nothing_said (named i) (nodes i)) in
     let more : texts_of first (lines ++ line ∷ []) ≡ texts_of first lines ++ text ∷ [] =
-    texts_push first lines line ∙ ap (λ (v : SaidView). texts_of first lines ++ line_text v.names line ∷ []) (sym s.said) ∙ ap (λ t. texts_of first lines ++ t ∷ []) (sym same) in
+    texts_push first lines line ∙ ap (λ (v : SaidView). texts_of first lines ++ line_text v line ∷ []) (sym s.said) ∙ ap (λ t. texts_of first lines ++ t ∷ []) (sym same) in
     record {
       whole = w;
       rule = later_rule_of said text w q ∙ e.rule;
-      behind = sym (later_behind said text q ∙ said_is said text line e.words);
-      told = rw q (ap (λ n. first_line n ∷ texts_of (nothing_said n) (lines ++ line ∷ [])) nodes ∙ ap (λ ts. first_line said.nodes ∷ ts) more);
+      behind = sym (later_behind said text q ∙ said_is said text line e.here e.words);
+      told = rw q ((λ i. first_line (named i) (nodes i) ∷ texts_of (begins i) (lines ++ line ∷ [])) ∙ ap (λ ts. first_line said.named said.nodes ∷ ts) more);
       sound =
           record {
             some = subst (λ n. 0 < n) (sym nodes) s.some;
             most = subst (λ n. n < 16) (sym nodes) s.most;
-            said = ap (λ v. said_after v line) s.said ∙ sym (said_push first lines line) ∙ ap (λ n. all_said (nothing_said n) (lines ++ line ∷ [])) (sym nodes);
-            lines = subst (λ n. AreLines (nothing_said n) (lines ++ line ∷ [])) (sym nodes) (lines_push first lines line s.lines (subst (λ (v : SaidView). MaySay v line) s.said may));
+            said = ap (λ v. said_after v line) s.said ∙ sym (said_push first lines line) ∙ ap (λ (v : SaidView). all_said v (lines ++ line ∷ [])) (sym begins);
+            lines = subst (λ (v : SaidView). AreLines v (lines ++ line ∷ [])) (sym begins) (lines_push first lines line s.lines (subst (λ (v : SaidView). MaySay v line) s.said may));
           };
     }
 
@@ -235,7 +235,7 @@ behind_nothing bytes count r rest b e n =
 all_told : (said : Option SaidView) (lines : List ScriptLine) (s : ScriptView) → Some s ≡ script_of said lines → IsSoundIf said lines → (told_if said lines ≡ script_lines s) × IsScript s
 all_told None lines s e h = cc
 all_told (Some v) lines s e h =
-    let t : ScriptView = record { nodes = v.nodes; lines = lines } in
+    let t : ScriptView = record { named = v.named; nodes = v.nodes; lines = lines } in
     let same : t ≡ s = cc in
     subst (λ (x : ScriptView). (told_if (Some v) lines ≡ script_lines x) × IsScript x) same (refl, record { some = h.some; most = h.most; lines = h.lines })
 

@@ -7,7 +7,7 @@ use Rattle.script_text.specs.declared.script_line.ScriptLine.{ScriptLine}
 use Rattle.script_text.specs.Views.{ScriptView, SaidView}
 use Rattle.script_text.specs.Lines.{Line, Ended, Open, lines_of, is_line, is_whole}
 use Rattle.script_text.specs.Words.{words_of}
-use Rattle.script_text.specs.Grammar.{words_in, line_text, nothing_said, said_after, first_line, texts_of, MaySay, AreLines, is_silent, telling, IsScriptText}
+use Rattle.script_text.specs.Grammar.{words_in, line_text, nothing_said, said_after, first_line, texts_of, MaySay, AreLines, is_silent, telling, script_lines, IsScriptText}
 use Rattle.script_text.specs.Rules.{nodes_of, rule_said, rule_of, said_first, said_behind, said_next, or_later, first_fault, fault_of}
 use Rattle.script_text.proofs.BodyLaws.{both}
 use Rattle.script_text.proofs.NameLaws.{AreKnown, none_known}
@@ -16,25 +16,40 @@ use Rattle.script_text.proofs.MadeLaws.{same_line}
 use Rattle.script_text.proofs.ReadLaws.{said_is}
 
 -- ## No rule is broken
-pub told_all : (nodes : ℕ) → 0 < nodes → nodes < 16 → nodes_of (first_line nodes) ≡ Some nodes
+pub told_all : (named : Bool) (nodes : ℕ) → 0 < nodes → nodes < 16 → said_first (first_line named nodes) ≡ Some (nothing_said named nodes)
 unfolding nodes_of digits
-told_all zero s l = absurd (omega arith)
-told_all (suc zero) s l = refl
-told_all (suc (suc zero)) s l = refl
-told_all (suc (suc (suc zero))) s l = refl
-told_all (suc (suc (suc (suc zero)))) s l = refl
-told_all (suc (suc (suc (suc (suc zero))))) s l = refl
-told_all (suc (suc (suc (suc (suc (suc zero)))))) s l = refl
-told_all (suc (suc (suc (suc (suc (suc (suc zero))))))) s l = refl
-told_all (suc (suc (suc (suc (suc (suc (suc (suc zero)))))))) s l = refl
-told_all (suc (suc (suc (suc (suc (suc (suc (suc (suc zero))))))))) s l = refl
-told_all (suc (suc (suc (suc (suc (suc (suc (suc (suc (suc zero)))))))))) s l = refl
-told_all (suc (suc (suc (suc (suc (suc (suc (suc (suc (suc (suc zero))))))))))) s l = refl
-told_all (suc (suc (suc (suc (suc (suc (suc (suc (suc (suc (suc (suc zero)))))))))))) s l = refl
-told_all (suc (suc (suc (suc (suc (suc (suc (suc (suc (suc (suc (suc (suc zero))))))))))))) s l = refl
-told_all (suc (suc (suc (suc (suc (suc (suc (suc (suc (suc (suc (suc (suc (suc zero)))))))))))))) s l = refl
-told_all (suc (suc (suc (suc (suc (suc (suc (suc (suc (suc (suc (suc (suc (suc (suc zero))))))))))))))) s l = refl
-told_all (suc (suc (suc (suc (suc (suc (suc (suc (suc (suc (suc (suc (suc (suc (suc (suc n)))))))))))))))) s l = absurd (omega arith)
+told_all named zero s l = absurd (omega arith)
+told_all true (suc zero) s l = refl
+told_all true (suc (suc zero)) s l = refl
+told_all true (suc (suc (suc zero))) s l = refl
+told_all true (suc (suc (suc (suc zero)))) s l = refl
+told_all true (suc (suc (suc (suc (suc zero))))) s l = refl
+told_all true (suc (suc (suc (suc (suc (suc zero)))))) s l = refl
+told_all true (suc (suc (suc (suc (suc (suc (suc zero))))))) s l = refl
+told_all true (suc (suc (suc (suc (suc (suc (suc (suc zero)))))))) s l = refl
+told_all true (suc (suc (suc (suc (suc (suc (suc (suc (suc zero))))))))) s l = refl
+told_all true (suc (suc (suc (suc (suc (suc (suc (suc (suc (suc zero)))))))))) s l = refl
+told_all true (suc (suc (suc (suc (suc (suc (suc (suc (suc (suc (suc zero))))))))))) s l = refl
+told_all true (suc (suc (suc (suc (suc (suc (suc (suc (suc (suc (suc (suc zero)))))))))))) s l = refl
+told_all true (suc (suc (suc (suc (suc (suc (suc (suc (suc (suc (suc (suc (suc zero))))))))))))) s l = refl
+told_all true (suc (suc (suc (suc (suc (suc (suc (suc (suc (suc (suc (suc (suc (suc zero)))))))))))))) s l = refl
+told_all true (suc (suc (suc (suc (suc (suc (suc (suc (suc (suc (suc (suc (suc (suc (suc zero))))))))))))))) s l = refl
+told_all false (suc zero) s l = refl
+told_all false (suc (suc zero)) s l = refl
+told_all false (suc (suc (suc zero))) s l = refl
+told_all false (suc (suc (suc (suc zero)))) s l = refl
+told_all false (suc (suc (suc (suc (suc zero))))) s l = refl
+told_all false (suc (suc (suc (suc (suc (suc zero)))))) s l = refl
+told_all false (suc (suc (suc (suc (suc (suc (suc zero))))))) s l = refl
+told_all false (suc (suc (suc (suc (suc (suc (suc (suc zero)))))))) s l = refl
+told_all false (suc (suc (suc (suc (suc (suc (suc (suc (suc zero))))))))) s l = refl
+told_all false (suc (suc (suc (suc (suc (suc (suc (suc (suc (suc zero)))))))))) s l = refl
+told_all false (suc (suc (suc (suc (suc (suc (suc (suc (suc (suc (suc zero))))))))))) s l = refl
+told_all false (suc (suc (suc (suc (suc (suc (suc (suc (suc (suc (suc (suc zero)))))))))))) s l = refl
+told_all false (suc (suc (suc (suc (suc (suc (suc (suc (suc (suc (suc (suc (suc zero))))))))))))) s l = refl
+told_all false (suc (suc (suc (suc (suc (suc (suc (suc (suc (suc (suc (suc (suc (suc zero)))))))))))))) s l = refl
+told_all false (suc (suc (suc (suc (suc (suc (suc (suc (suc (suc (suc (suc (suc (suc (suc zero))))))))))))))) s l = refl
+told_all named (suc (suc (suc (suc (suc (suc (suc (suc (suc (suc (suc (suc (suc (suc (suc (suc n)))))))))))))))) s l = absurd (omega arith)
 
 silent_rule : (said : Option SaidView) (text : List ℕ) → is_line text ≡ true → is_silent text ≡ true → (rule_of said text ≡ None) × (said_behind said text ≡ said)
 unfolding rule_of said_behind
@@ -58,7 +73,7 @@ texts_none : (said : SaidView) → texts_of said [] ≡ []
 unfolding texts_of
 texts_none said = refl
 
-texts_some : (said : SaidView) (line : ScriptLine) (lines : List ScriptLine) → texts_of said (line ∷ lines) ≡ line_text said.names line ∷ texts_of (said_after said line) lines
+texts_some : (said : SaidView) (line : ScriptLine) (lines : List ScriptLine) → texts_of said (line ∷ lines) ≡ line_text said line ∷ texts_of (said_after said line) lines
 unfolding texts_of
 texts_some said line lines = refl
 
@@ -100,43 +115,44 @@ no_fault number said (Ended text ∷ ls) lines k f w t a =
         → is_silent text ≡ false → text ∷ telling ls ≡ texts_of said lines → AreLines said lines → first_fault number (Some said) (Ended text ∷ ls) ≡ None
     loud number said text ls [] k f w later q t a = absurd (cons_nil text (telling ls) (t ∙ texts_none said))
     loud number said text ls (line ∷ lines) k f w later q t a =
-        let both_are : text ∷ telling ls ≡ line_text said.names line ∷ texts_of (said_after said line) lines = t ∙ texts_some said line lines in
-        let same : text ≡ line_text said.names line = cc in
+        let both_are : text ∷ telling ls ≡ line_text said line ∷ texts_of (said_after said line) lines = t ∙ texts_some said line lines in
+        let same : text ≡ line_text said line = cc in
         let rest : telling ls ≡ texts_of (said_after said line) lines = cc in
         let may = lines_some said line lines a in
-        let says = says_it said line k f may.0.sense in
+        let says = says_it said line k f may.0.here may.0.sense in
         let rule = telling_rule (Some said) text w q in
         let said_none : rule_said (Some said) text ≡ None = ap (rule_said (Some said)) same ∙ says.rule in
-        let next : said_next (Some said) text ≡ Some (said_after said line) = ap (said_next (Some said)) same ∙ said_is said (line_text said.names line) line says.words in
+        let next : said_next (Some said) text ≡ Some (said_after said line) = ap (said_next (Some said)) same ∙ said_is said (line_text said line) line may.0.here says.words in
         fault_more number (Some said) (Some (said_after said line)) text ls (rule.0 ∙ said_none) (rule.1 ∙ next)
         ∙ later (number + 1) (said_after said line) lines (known_after said line k may.0.sense) (few_after said line f) rest may.1
 
-first_said : (text : List ℕ) (nodes : ℕ) → nodes_of text ≡ Some nodes → rule_said None text ≡ None
+first_said : (text : List ℕ) (said : SaidView) → said_first text ≡ Some said → rule_said None text ≡ None
 unfolding rule_said
-first_said text nodes e = rw e refl
+first_said text said e = rw e refl
 
-no_fault_yet : (number : ℕ) (ls : List Line) (nodes : ℕ) (lines : List ScriptLine) → 0 < nodes → nodes < 16 → list_all is_whole ls ≡ true → telling ls ≡ first_line nodes ∷ texts_of (nothing_said nodes) lines
-    → AreLines (nothing_said nodes) lines → first_fault number None ls ≡ None
-no_fault_yet number [] nodes lines s l w t a = cc
-no_fault_yet number (Open text ∷ ls) nodes lines s l w t a = absurd (false≢true w)
-no_fault_yet number (Ended text ∷ ls) nodes lines s l w t a =
+no_fault_yet : (number : ℕ) (ls : List Line) (named : Bool) (nodes : ℕ) (lines : List ScriptLine) → 0 < nodes → nodes < 16 → list_all is_whole ls ≡ true
+    → telling ls ≡ first_line named nodes ∷ texts_of (nothing_said named nodes) lines → AreLines (nothing_said named nodes) lines → first_fault number None ls ≡ None
+no_fault_yet number [] named nodes lines s l w t a = cc
+no_fault_yet number (Open text ∷ ls) named nodes lines s l w t a = absurd (false≢true w)
+no_fault_yet number (Ended text ∷ ls) named nodes lines s l w t a =
     let good = both (is_line text) (list_all is_whole ls) w in
     elim (bool_is (is_silent text)) [
       | inl q ↦
           let rule = silent_rule None text good.0 q in
-          fault_more number None None text ls rule.0 rule.1 ∙ no_fault_yet (number + 1) ls nodes lines s l good.1 (sym (telling_silent text ls q) ∙ t) a
+          fault_more number None None text ls rule.0 rule.1 ∙ no_fault_yet (number + 1) ls named nodes lines s l good.1 (sym (telling_silent text ls q) ∙ t) a
       | inr q ↦
-          let both_are : text ∷ telling ls ≡ first_line nodes ∷ texts_of (nothing_said nodes) lines = sym (telling_loud text ls q) ∙ t in
-          let same : text ≡ first_line nodes = cc in
-          let rest : telling ls ≡ texts_of (nothing_said nodes) lines = cc in
+          let both_are : text ∷ telling ls ≡ first_line named nodes ∷ texts_of (nothing_said named nodes) lines = sym (telling_loud text ls q) ∙ t in
+          let same : text ≡ first_line named nodes = cc in
+          let rest : telling ls ≡ texts_of (nothing_said named nodes) lines = cc in
           let rule = telling_rule None text good.0 q in
-          let told : nodes_of text ≡ Some nodes = ap nodes_of same ∙ told_all nodes s l in
-          fault_more number None (Some (nothing_said nodes)) text ls (rule.0 ∙ first_said text nodes told) (rule.1 ∙ ap said_first told) ∙ no_fault (number + 1) (nothing_said nodes) ls lines none_known l good.1 rest a
+          let told : said_first text ≡ Some (nothing_said named nodes) = ap said_first same ∙ told_all named nodes s l in
+          fault_more number None (Some (nothing_said named nodes)) text ls (rule.0 ∙ first_said text (nothing_said named nodes) told) (rule.1 ∙ told)
+          ∙ no_fault (number + 1) (nothing_said named nodes) ls lines none_known l good.1 rest a
     ]
 
 pub breaks_no_rule : (bytes : List ℕ) (s : ScriptView) → IsScriptText bytes s → fault_of bytes ≡ None
 unfolding fault_of
-breaks_no_rule bytes s h = no_fault_yet 1 (lines_of bytes) s.nodes s.lines h.script.some h.script.most h.whole h.says h.script.lines
+breaks_no_rule bytes s h = no_fault_yet 1 (lines_of bytes) s.named s.nodes s.lines h.script.some h.script.most h.whole h.says h.script.lines
 
 -- ## One script
 pub same_lines_of : (said : SaidView) (xs ys : List ScriptLine) → AreKnown said.names → AreFew said → AreLines said xs → AreLines said ys → texts_of said xs ≡ texts_of said ys → xs ≡ ys
@@ -145,10 +161,10 @@ same_lines_of said [] [] k f a b e = refl
 same_lines_of said [] (y ∷ ys) k f a b e = cc
 same_lines_of said (x ∷ xs) [] k f a b e = cc
 same_lines_of said (x ∷ xs) (y ∷ ys) k f a b e =
-    let text : line_text said.names x ≡ line_text said.names y = heads (line_text said.names x) (line_text said.names y) _ _ e in
-    let rest : texts_of (said_after said x) xs ≡ texts_of (said_after said y) ys = tails (line_text said.names x) (line_text said.names y) _ _ e in
-    let words : words_in said.names x ≡ words_in said.names y = sym (words_back said x k f a.0.sense) ∙ ap words_of text ∙ words_back said y k f b.0.sense in
-    let same : x ≡ y = same_line said k f x y a.0.sense b.0.sense words in
+    let text : line_text said x ≡ line_text said y = heads (line_text said x) (line_text said y) _ _ e in
+    let rest : texts_of (said_after said x) xs ≡ texts_of (said_after said y) ys = tails (line_text said x) (line_text said y) _ _ e in
+    let words : words_in said x ≡ words_in said y = sym (words_back said x k f a.0.sense) ∙ ap words_of text ∙ words_back said y k f b.0.sense in
+    let same : x ≡ y = same_line said k f x y a.0.here b.0.here a.0.sense b.0.sense words in
     let others : texts_of (said_after said x) xs ≡ texts_of (said_after said x) ys = rest ∙ ap (λ z. texts_of (said_after said z) ys) (sym same) in
     let tail : xs ≡ ys = same_lines_of (said_after said x) xs ys (known_after said x k a.0.sense) (few_after said x f) a.1 (subst (λ (z : ScriptLine). AreLines (said_after said z) ys) (sym same) b.1) others in
     ap (λ z. z ∷ xs) same ∙ ap (λ zs. y ∷ zs) tail
@@ -161,15 +177,16 @@ same_lines_of said (x ∷ xs) (y ∷ ys) k f a b e =
 
 pub one_script : (bytes : List ℕ) (s t : ScriptView) → IsScriptText bytes s → IsScriptText bytes t → s ≡ t
 one_script bytes s t h k =
-    let both_are : first_line s.nodes ∷ texts_of (nothing_said s.nodes) s.lines ≡ first_line t.nodes ∷ texts_of (nothing_said t.nodes) t.lines = sym h.says ∙ k.says in
-    let first : first_line s.nodes ≡ first_line t.nodes = heads (first_line s.nodes) (first_line t.nodes) _ _ both_are in
-    let rest : texts_of (nothing_said s.nodes) s.lines ≡ texts_of (nothing_said t.nodes) t.lines = tails (first_line s.nodes) (first_line t.nodes) _ _ both_are in
-    let told : Some s.nodes ≡ Some t.nodes = sym (told_all s.nodes h.script.some h.script.most) ∙ ap nodes_of first ∙ told_all t.nodes k.script.some k.script.most in
-    let nodes : s.nodes ≡ t.nodes = some_same s.nodes t.nodes told in
-    let again : texts_of (nothing_said s.nodes) s.lines ≡ texts_of (nothing_said s.nodes) t.lines = rest ∙ ap (λ n. texts_of (nothing_said n) t.lines) (sym nodes) in
-    let others : AreLines (nothing_said s.nodes) t.lines = subst (λ n. AreLines (nothing_said n) t.lines) (sym nodes) k.script.lines in
-    let lines : s.lines ≡ t.lines = same_lines_of (nothing_said s.nodes) s.lines t.lines none_known h.script.most h.script.lines others again in
-    same_script s.nodes t.nodes s.lines t.lines nodes lines
+    let both_are : script_lines s ≡ script_lines t = sym h.says ∙ k.says in
+    let first : first_line s.named s.nodes ≡ first_line t.named t.nodes = heads (first_line s.named s.nodes) (first_line t.named t.nodes) _ _ both_are in
+    let rest : texts_of (nothing_said s.named s.nodes) s.lines ≡ texts_of (nothing_said t.named t.nodes) t.lines = tails (first_line s.named s.nodes) (first_line t.named t.nodes) _ _ both_are in
+    let told : Some (nothing_said s.named s.nodes) ≡ Some (nothing_said t.named t.nodes) =
+    sym (told_all s.named s.nodes h.script.some h.script.most) ∙ ap said_first first ∙ told_all t.named t.nodes k.script.some k.script.most in
+    let begins : nothing_said s.named s.nodes ≡ nothing_said t.named t.nodes = some_same (nothing_said s.named s.nodes) (nothing_said t.named t.nodes) told in
+    let again : texts_of (nothing_said s.named s.nodes) s.lines ≡ texts_of (nothing_said s.named s.nodes) t.lines = rest ∙ ap (λ (v : SaidView). texts_of v t.lines) (sym begins) in
+    let others : AreLines (nothing_said s.named s.nodes) t.lines = subst (λ (v : SaidView). AreLines v t.lines) (sym begins) k.script.lines in
+    let lines : s.lines ≡ t.lines = same_lines_of (nothing_said s.named s.nodes) s.lines t.lines none_known h.script.most h.script.lines others again in
+    (λ i. record { named = (begins i).named; nodes = (begins i).nodes; lines = lines i })
   where
     heads : (u v : List ℕ) (us vs : List (List ℕ)) → u ∷ us ≡ v ∷ vs → u ≡ v
     heads u v us vs e = cc
@@ -177,8 +194,5 @@ one_script bytes s t h k =
     tails : (u v : List ℕ) (us vs : List (List ℕ)) → u ∷ us ≡ v ∷ vs → us ≡ vs
     tails u v us vs e = cc
 
-    some_same : (a b : ℕ) → Some a ≡ Some b → a ≡ b
+    some_same : (a b : SaidView) → Some a ≡ Some b → a ≡ b
     some_same a b e = cc
-
-    same_script : (a b : ℕ) (xs ys : List ScriptLine) → a ≡ b → xs ≡ ys → let p : ScriptView = record { nodes = a; lines = xs } in let q : ScriptView = record { nodes = b; lines = ys } in p ≡ q
-    same_script a b xs ys e f = cc

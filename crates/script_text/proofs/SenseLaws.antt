@@ -1,5 +1,5 @@
 -- A line that makes sense: its words are words, break no rule, and are of no other line.
-use Rattle.std.proofs.Common.{ℕ, ◌≡◌, ◌≢◌, ◌<◌, ◌≤◌, List, [], ◌∷◌, ◌++◌, length, Some, None, true, false, inl, inr, refl, ap, arith, ◌∙◌, nat_le, map, codes, decimal}
+use Rattle.std.proofs.Common.{ℕ, ◌≡◌, ◌≢◌, ◌<◌, ◌≤◌, List, [], ◌∷◌, ◌++◌, length, Some, None, Bool, true, false, inl, inr, refl, ap, arith, ◌∙◌, nat_le, map, codes, decimal}
 use Rattle.std.specs.List.{list_all, list_any, AllByRecursion}
 use Rattle.std.proofs.lemmas.Bool.Decides.{nat_tests, leb_tells}
 use Rattle.request_text.specs.Texts.{hex_text}
@@ -7,6 +7,7 @@ use Rattle.journal_core.specs.declared.cut.Cut.{Cut}
 use Rattle.journal_core.specs.declared.cut.Cut.TheVariants as choice
 use Rattle.node_world.specs.declared.stop.Stop.TheVariants as stop
 use Rattle.script_text.specs.declared.task_word.TaskWord.TheVariants as task
+use Rattle.script_text.specs.declared.standby_word.StandbyWord.TheVariants as standby
 use Rattle.script_text.specs.declared.call_word.CallWord.TheVariants as call
 use Rattle.script_text.specs.declared.node_word.NodeWord.TheVariants as node
 use Rattle.script_text.specs.declared.kind.Kind.{Kind}
@@ -15,29 +16,38 @@ use Rattle.script_text.specs.declared.script_line.ScriptLine.{ScriptLine}
 use Rattle.script_text.specs.declared.script_line.ScriptLine.TheVariants as line
 use Rattle.script_text.specs.Views.{SaidView}
 use Rattle.script_text.specs.Words.{joined, words_of, is_empty, first_word, actor_of, name_at, greatest, is_number, choice_word, is_body, IsBody}
-use Rattle.script_text.specs.Grammar.{keyword, kind_in, operands, words_in, line_text, said_after, most_actors, IsActor, IsNode, IsCount, HasSense, is_silent}
+use Rattle.script_text.specs.Edits.{edits_text}
+use Rattle.script_text.specs.Grammar.{belongs, keyword, kind_in, operands, words_in, line_text, said_after, most_actors, IsActor, IsNode, IsCount, HasSense, is_silent}
 use Rattle.script_text.specs.Rules.{kind_of, has_length, bad_spacing, later_rule, rule_in, rule_said}
 use Rattle.script_text.specs.Reading.{Says}
 use Rattle.script_text.proofs.BodyLaws.{IsWord, words_again, name_is_word, body_is_word, body_again}
 use Rattle.script_text.proofs.NumberLaws.{number_is, number_is_word, choice_again}
 use Rattle.script_text.proofs.NameLaws.{AreKnown, known_push, name_good}
+use Rattle.script_text.proofs.WordLaws.{words_some}
+use Rattle.script_text.proofs.EditLaws.{edits_full, are_edits_again}
 use Rattle.script_text.proofs.KindLaws.{kind_is}
 
 -- ## Its words
-keyword_is_word : (k : Kind) → IsWord (keyword k)
-keyword_is_word kind.Writer = refl
-keyword_is_word (kind.Task task.Takeover) = refl
-keyword_is_word (kind.Task task.Roll) = refl
-keyword_is_word (kind.Task task.Close) = refl
-keyword_is_word kind.Log = refl
-keyword_is_word kind.Purge = refl
-keyword_is_word (kind.Call call.Drop) = refl
-keyword_is_word (kind.Call call.Mute) = refl
-keyword_is_word (kind.Call call.Late) = refl
-keyword_is_word (kind.Node node.Kill) = refl
-keyword_is_word (kind.Node node.Restart) = refl
-keyword_is_word kind.Stop = refl
-keyword_is_word kind.Cut = refl
+keyword_is_word : (named : Bool) (k : Kind) → IsWord (keyword named k)
+keyword_is_word true kind.Declare = refl
+keyword_is_word false kind.Declare = refl
+keyword_is_word named (kind.Task task.Takeover) = refl
+keyword_is_word named (kind.Task task.Roll) = refl
+keyword_is_word named (kind.Task task.Close) = refl
+keyword_is_word named kind.Log = refl
+keyword_is_word named kind.Edits = refl
+keyword_is_word named kind.Purge = refl
+keyword_is_word named kind.Trim = refl
+keyword_is_word named (kind.Standby standby.Tail) = refl
+keyword_is_word named (kind.Standby standby.Checkpoint) = refl
+keyword_is_word named (kind.Standby standby.Reload) = refl
+keyword_is_word named (kind.Call call.Drop) = refl
+keyword_is_word named (kind.Call call.Mute) = refl
+keyword_is_word named (kind.Call call.Late) = refl
+keyword_is_word named (kind.Node node.Kill) = refl
+keyword_is_word named (kind.Node node.Restart) = refl
+keyword_is_word named kind.Stop = refl
+keyword_is_word named kind.Cut = refl
 
 -- a word that isn't empty
 abbrev IsFull : List ℕ → Type 0
@@ -94,6 +104,11 @@ operands_full said (line.Takeover actor) k f s = one_full (name_at said.names ac
 operands_full said (line.Roll actor) k f s = one_full (name_at said.names actor) (actor_full said.names actor k s)
 operands_full said (line.Close actor) k f s = one_full (name_at said.names actor) (actor_full said.names actor k s)
 operands_full said (line.Log actor bodies) k f s = more_full (name_at said.names actor) (map hex_text bodies) (actor_full said.names actor k s.0) (hex_full bodies s.2)
+operands_full said (line.Edits actor edits) k f s = more_full (name_at said.names actor) (words_of (edits_text edits)) (actor_full said.names actor k s.0) (edits_full edits s.1 s.2)
+operands_full said (line.Trim actor extra) k f s = two_full (name_at said.names actor) (decimal extra) (actor_full said.names actor k s.0) (number_is_word extra s.1)
+operands_full said (line.Tail actor) k f s = one_full (name_at said.names actor) (actor_full said.names actor k s)
+operands_full said (line.Checkpoint actor) k f s = one_full (name_at said.names actor) (actor_full said.names actor k s)
+operands_full said (line.Reload actor) k f s = one_full (name_at said.names actor) (actor_full said.names actor k s)
 operands_full said (line.Purge actor min) k f s = two_full (name_at said.names actor) (decimal min) (actor_full said.names actor k s.0) (number_is_word min s.1)
 operands_full said (line.Drop actor i n) k f s = call_full said actor i n k f s
 operands_full said (line.Mute actor i n) k f s = call_full said actor i n k f s
@@ -106,24 +121,33 @@ operands_full said (line.Arm i calls (stop.DiskCalls made choice)) k f s =
     more_full (decimal i) (decimal calls ∷ decimal made ∷ choice_word choice ∷ []) (node_full said i f s.0)
     (three_full (decimal calls) (decimal made) (choice_word choice) (number_is_word calls s.1.1) (number_is_word made s.2) (choice_full choice))
 
-pub words_are_words : (said : SaidView) (l : ScriptLine) → AreKnown said.names → AreFew said → HasSense said l → AllByRecursion IsWord (words_in said.names l)
-words_are_words said l k f s = (keyword_is_word (kind_in l), (operands_full said l k f s).0)
+pub words_are_words : (said : SaidView) (l : ScriptLine) → AreKnown said.names → AreFew said → HasSense said l → AllByRecursion IsWord (words_in said l)
+words_are_words said l k f s = (keyword_is_word said.named (kind_in l), (operands_full said l k f s).0)
 
-pub words_back : (said : SaidView) (l : ScriptLine) → AreKnown said.names → AreFew said → HasSense said l → words_of (line_text said.names l) ≡ words_in said.names l
-words_back said l k f s = words_again (keyword (kind_in l)) (operands said.names l) (words_are_words said l k f s)
+pub words_back : (said : SaidView) (l : ScriptLine) → AreKnown said.names → AreFew said → HasSense said l → words_of (line_text said l) ≡ words_in said l
+words_back said l k f s = words_again (keyword said.named (kind_in l)) (operands said.names l) (words_are_words said l k f s)
 
 -- ## How many there are
 some_bodies : (bodies : List (List ℕ)) (word name : List ℕ) → bodies ≢ [] → nat_le 3 (length (word ∷ name ∷ map hex_text bodies)) ≡ true
 some_bodies [] word name n = absurd (n refl)
 some_bodies (b ∷ bs) word name n = grind (arith, nat_tests)
 
-counted : (said : SaidView) (l : ScriptLine) → HasSense said l → has_length (kind_in l) (length (words_in said.names l)) ≡ true
+some_words : (words : List (List ℕ)) (word name : List ℕ) → words ≢ [] → nat_le 3 (length (word ∷ name ∷ words)) ≡ true
+some_words [] word name n = absurd (n refl)
+some_words (w ∷ ws) word name n = grind (arith, nat_tests)
+
+counted : (said : SaidView) (l : ScriptLine) → HasSense said l → has_length (kind_in l) (length (words_in said l)) ≡ true
 counted said (line.Declare name) s = refl
 counted said (line.Takeover actor) s = refl
 counted said (line.Roll actor) s = refl
 counted said (line.Close actor) s = refl
 counted said (line.Log actor bodies) s = some_bodies bodies (codes "log") (name_at said.names actor) s.1
+counted said (line.Edits actor edits) s = some_words (words_of (edits_text edits)) (codes "log") (name_at said.names actor) (words_some (edits_text edits))
 counted said (line.Purge actor min) s = refl
+counted said (line.Trim actor extra) s = refl
+counted said (line.Tail actor) s = refl
+counted said (line.Checkpoint actor) s = refl
+counted said (line.Reload actor) s = refl
 counted said (line.Drop actor i n) s = refl
 counted said (line.Mute actor i n) s = refl
 counted said (line.Late actor i n) s = refl
@@ -132,26 +156,32 @@ counted said (line.Restart i) s = refl
 counted said (line.Arm i calls (stop.Effects keep)) s = refl
 counted said (line.Arm i calls (stop.DiskCalls made choice)) s = refl
 
-keyword_full : (k : Kind) → is_empty (keyword k) ≡ false
-keyword_full kind.Writer = refl
-keyword_full (kind.Task task.Takeover) = refl
-keyword_full (kind.Task task.Roll) = refl
-keyword_full (kind.Task task.Close) = refl
-keyword_full kind.Log = refl
-keyword_full kind.Purge = refl
-keyword_full (kind.Call call.Drop) = refl
-keyword_full (kind.Call call.Mute) = refl
-keyword_full (kind.Call call.Late) = refl
-keyword_full (kind.Node node.Kill) = refl
-keyword_full (kind.Node node.Restart) = refl
-keyword_full kind.Stop = refl
-keyword_full kind.Cut = refl
+keyword_full : (named : Bool) (k : Kind) → is_empty (keyword named k) ≡ false
+keyword_full true kind.Declare = refl
+keyword_full false kind.Declare = refl
+keyword_full named (kind.Task task.Takeover) = refl
+keyword_full named (kind.Task task.Roll) = refl
+keyword_full named (kind.Task task.Close) = refl
+keyword_full named kind.Log = refl
+keyword_full named kind.Edits = refl
+keyword_full named kind.Purge = refl
+keyword_full named kind.Trim = refl
+keyword_full named (kind.Standby standby.Tail) = refl
+keyword_full named (kind.Standby standby.Checkpoint) = refl
+keyword_full named (kind.Standby standby.Reload) = refl
+keyword_full named (kind.Call call.Drop) = refl
+keyword_full named (kind.Call call.Mute) = refl
+keyword_full named (kind.Call call.Late) = refl
+keyword_full named (kind.Node node.Kill) = refl
+keyword_full named (kind.Node node.Restart) = refl
+keyword_full named kind.Stop = refl
+keyword_full named kind.Cut = refl
 
-spacing_good : (said : SaidView) (l : ScriptLine) → AreKnown said.names → AreFew said → HasSense said l → bad_spacing (kind_in l) (words_in said.names l) ≡ false
+spacing_good : (said : SaidView) (l : ScriptLine) → AreKnown said.names → AreFew said → HasSense said l → bad_spacing (kind_in l) (words_in said l) ≡ false
 spacing_good said l k f s =
-    let a : is_empty (keyword (kind_in l)) ≡ false = keyword_full (kind_in l) in
+    let a : is_empty (keyword said.named (kind_in l)) ≡ false = keyword_full said.named (kind_in l) in
     let b : list_any is_empty (operands said.names l) ≡ false = (operands_full said l k f s).1 in
-    let c : has_length (kind_in l) (length (words_in said.names l)) ≡ true = counted said l s in
+    let c : has_length (kind_in l) (length (words_in said l)) ≡ true = counted said l s in
     rw (a, b, c) refl
 
 -- ## The later rules
@@ -176,6 +206,11 @@ rule_none said (line.Takeover actor) k f s = rw (actor_rule said actor k s) refl
 rule_none said (line.Roll actor) k f s = rw (actor_rule said actor k s) refl
 rule_none said (line.Close actor) k f s = rw (actor_rule said actor k s) refl
 rule_none said (line.Log actor bodies) k f s = rw (actor_rule said actor k s.0, hex_are_bodies bodies s.2) refl
+rule_none said (line.Edits actor edits) k f s = rw (actor_rule said actor k s.0, are_edits_again edits s.1 s.2) refl
+rule_none said (line.Trim actor extra) k f s = rw (actor_rule said actor k s.0, any_number extra s.1) refl
+rule_none said (line.Tail actor) k f s = rw (actor_rule said actor k s) refl
+rule_none said (line.Checkpoint actor) k f s = rw (actor_rule said actor k s) refl
+rule_none said (line.Reload actor) k f s = rw (actor_rule said actor k s) refl
 rule_none said (line.Purge actor min) k f s = rw (actor_rule said actor k s.0, any_number min s.1) refl
 rule_none said (line.Drop actor i n) k f s = rw (actor_rule said actor k s.0, node_number said i f s.1, count_number n s.2) refl
 rule_none said (line.Mute actor i n) k f s = rw (actor_rule said actor k s.0, node_number said i f s.1, count_number n s.2) refl
@@ -185,37 +220,44 @@ rule_none said (line.Restart i) k f s = rw (node_number said i f s) refl
 rule_none said (line.Arm i calls (stop.Effects keep)) k f s = rw (node_number said i f s.0, count_number calls s.1, any_number keep s.2) refl
 rule_none said (line.Arm i calls (stop.DiskCalls made choice)) k f s = rw (node_number said i f s.0, count_number calls s.1, any_number made s.2, choice_again choice) refl
 
-first_keyword : (k : Kind) (words : List (List ℕ)) → first_word (keyword k ∷ words) ≡ keyword k
-first_keyword kind.Writer words = refl
-first_keyword (kind.Task task.Takeover) words = refl
-first_keyword (kind.Task task.Roll) words = refl
-first_keyword (kind.Task task.Close) words = refl
-first_keyword kind.Log words = refl
-first_keyword kind.Purge words = refl
-first_keyword (kind.Call call.Drop) words = refl
-first_keyword (kind.Call call.Mute) words = refl
-first_keyword (kind.Call call.Late) words = refl
-first_keyword (kind.Node node.Kill) words = refl
-first_keyword (kind.Node node.Restart) words = refl
-first_keyword kind.Stop words = refl
-first_keyword kind.Cut words = refl
+first_keyword : (named : Bool) (k : Kind) (words : List (List ℕ)) → first_word (keyword named k ∷ words) ≡ keyword named k
+first_keyword true kind.Declare words = refl
+first_keyword false kind.Declare words = refl
+first_keyword named (kind.Task task.Takeover) words = refl
+first_keyword named (kind.Task task.Roll) words = refl
+first_keyword named (kind.Task task.Close) words = refl
+first_keyword named kind.Log words = refl
+first_keyword named kind.Edits words = refl
+first_keyword named kind.Purge words = refl
+first_keyword named kind.Trim words = refl
+first_keyword named (kind.Standby standby.Tail) words = refl
+first_keyword named (kind.Standby standby.Checkpoint) words = refl
+first_keyword named (kind.Standby standby.Reload) words = refl
+first_keyword named (kind.Call call.Drop) words = refl
+first_keyword named (kind.Call call.Mute) words = refl
+first_keyword named (kind.Call call.Late) words = refl
+first_keyword named (kind.Node node.Kill) words = refl
+first_keyword named (kind.Node node.Restart) words = refl
+first_keyword named kind.Stop words = refl
+first_keyword named kind.Cut words = refl
 
-pub kind_of_words : (names : List (List ℕ)) (l : ScriptLine) → kind_of (first_word (words_in names l)) ≡ Some (kind_in l)
-kind_of_words names l = ap kind_of (first_keyword (kind_in l) (operands names l)) ∙ kind_is (kind_in l)
+pub kind_of_words : (said : SaidView) (l : ScriptLine) → belongs said.named (kind_in l) ≡ true → kind_of said.named (first_word (words_in said l)) ≡ Some (kind_in l)
+kind_of_words said l h = ap (kind_of said.named) (first_keyword said.named (kind_in l) (operands said.names l)) ∙ kind_is said.named (kind_in l) h
 
-rule_in_none : (said : SaidView) (l : ScriptLine) → AreKnown said.names → AreFew said → HasSense said l → rule_in said (Some (kind_in l)) (words_in said.names l) ≡ None
+rule_in_none : (said : SaidView) (l : ScriptLine) → AreKnown said.names → AreFew said → HasSense said l → rule_in said (Some (kind_in l)) (words_in said l) ≡ None
 unfolding rule_in
 rule_in_none said l k f s = rw (spacing_good said l k f s) (rule_none said l k f s)
 
-pub says_it : (said : SaidView) (l : ScriptLine) → AreKnown said.names → AreFew said → HasSense said l → Says said (line_text said.names l) l
+pub says_it : (said : SaidView) (l : ScriptLine) → AreKnown said.names → AreFew said → belongs said.named (kind_in l) ≡ true → HasSense said l → Says said (line_text said l) l
 unfolding rule_said
-says_it said l k f s =
+says_it said l k f h s =
     let words = words_back said l k f s in
     record {
       rule =
-          ap (λ ws. rule_in said (kind_of (first_word ws)) ws) words ∙ ap (λ o. rule_in said o (words_in said.names l)) (kind_of_words said.names l)
+          ap (λ ws. rule_in said (kind_of said.named (first_word ws)) ws) words ∙ ap (λ o. rule_in said o (words_in said l)) (kind_of_words said l h)
           ∙ rule_in_none said l k f s;
       words = words;
+      here = h;
       sense = s;
     }
 
@@ -226,6 +268,11 @@ known_after said (line.Roll actor) k s = k
 known_after said (line.Close actor) k s = k
 known_after said (line.Log actor bodies) k s = k
 known_after said (line.Purge actor min) k s = k
+known_after said (line.Edits actor edits) k s = k
+known_after said (line.Trim actor extra) k s = k
+known_after said (line.Tail actor) k s = k
+known_after said (line.Checkpoint actor) k s = k
+known_after said (line.Reload actor) k s = k
 known_after said (line.Drop actor i n) k s = k
 known_after said (line.Mute actor i n) k s = k
 known_after said (line.Late actor i n) k s = k
@@ -241,6 +288,11 @@ nodes_after said (line.Roll actor) = refl
 nodes_after said (line.Close actor) = refl
 nodes_after said (line.Log actor bodies) = refl
 nodes_after said (line.Purge actor min) = refl
+nodes_after said (line.Edits actor edits) = refl
+nodes_after said (line.Trim actor extra) = refl
+nodes_after said (line.Tail actor) = refl
+nodes_after said (line.Checkpoint actor) = refl
+nodes_after said (line.Reload actor) = refl
 nodes_after said (line.Drop actor i n) = refl
 nodes_after said (line.Mute actor i n) = refl
 nodes_after said (line.Late actor i n) = refl
@@ -248,6 +300,26 @@ nodes_after said (line.Kill i) = refl
 nodes_after said (line.Restart i) = refl
 nodes_after said (line.Arm i calls (stop.Effects keep)) = refl
 nodes_after said (line.Arm i calls (stop.DiskCalls made choice)) = refl
+
+pub named_after : (said : SaidView) (l : ScriptLine) → (said_after said l).named ≡ said.named
+named_after said (line.Declare name) = refl
+named_after said (line.Takeover actor) = refl
+named_after said (line.Roll actor) = refl
+named_after said (line.Close actor) = refl
+named_after said (line.Log actor bodies) = refl
+named_after said (line.Purge actor min) = refl
+named_after said (line.Edits actor edits) = refl
+named_after said (line.Trim actor extra) = refl
+named_after said (line.Tail actor) = refl
+named_after said (line.Checkpoint actor) = refl
+named_after said (line.Reload actor) = refl
+named_after said (line.Drop actor i n) = refl
+named_after said (line.Mute actor i n) = refl
+named_after said (line.Late actor i n) = refl
+named_after said (line.Kill i) = refl
+named_after said (line.Restart i) = refl
+named_after said (line.Arm i calls (stop.Effects keep)) = refl
+named_after said (line.Arm i calls (stop.DiskCalls made choice)) = refl
 
 -- a line that declares nobody leaves what was said
 pub said_same : (said : SaidView) (l : ScriptLine) → ((name : List ℕ) → l ≡ line.Declare name → ⊥) → said ≡ said_after said l
@@ -257,6 +329,11 @@ said_same said (line.Roll actor) h = refl
 said_same said (line.Close actor) h = refl
 said_same said (line.Log actor bodies) h = refl
 said_same said (line.Purge actor min) h = refl
+said_same said (line.Edits actor edits) h = refl
+said_same said (line.Trim actor extra) h = refl
+said_same said (line.Tail actor) h = refl
+said_same said (line.Checkpoint actor) h = refl
+said_same said (line.Reload actor) h = refl
 said_same said (line.Drop actor i n) h = refl
 said_same said (line.Mute actor i n) h = refl
 said_same said (line.Late actor i n) h = refl
@@ -265,39 +342,51 @@ said_same said (line.Restart i) h = refl
 said_same said (line.Arm i calls (stop.Effects keep)) h = refl
 said_same said (line.Arm i calls (stop.DiskCalls made choice)) h = refl
 
-speaks : (k : Kind) (words : List (List ℕ)) → is_silent (joined (keyword k ∷ words)) ≡ false
-speaks k [] = first_speaks k
+speaks : (named : Bool) (k : Kind) (words : List (List ℕ)) → is_silent (joined (keyword named k ∷ words)) ≡ false
+speaks named k [] = first_speaks named k
   where
-    first_speaks : (k : Kind) → is_silent (keyword k) ≡ false
-    first_speaks kind.Writer = refl
-    first_speaks (kind.Task task.Takeover) = refl
-    first_speaks (kind.Task task.Roll) = refl
-    first_speaks (kind.Task task.Close) = refl
-    first_speaks kind.Log = refl
-    first_speaks kind.Purge = refl
-    first_speaks (kind.Call call.Drop) = refl
-    first_speaks (kind.Call call.Mute) = refl
-    first_speaks (kind.Call call.Late) = refl
-    first_speaks (kind.Node node.Kill) = refl
-    first_speaks (kind.Node node.Restart) = refl
-    first_speaks kind.Stop = refl
-    first_speaks kind.Cut = refl
-speaks k (w ∷ ws) = more_speaks k (32 ∷ joined (w ∷ ws))
+    first_speaks : (named : Bool) (k : Kind) → is_silent (keyword named k) ≡ false
+    first_speaks true kind.Declare = refl
+    first_speaks false kind.Declare = refl
+    first_speaks named (kind.Task task.Takeover) = refl
+    first_speaks named (kind.Task task.Roll) = refl
+    first_speaks named (kind.Task task.Close) = refl
+    first_speaks named kind.Log = refl
+    first_speaks named kind.Edits = refl
+    first_speaks named kind.Purge = refl
+    first_speaks named kind.Trim = refl
+    first_speaks named (kind.Standby standby.Tail) = refl
+    first_speaks named (kind.Standby standby.Checkpoint) = refl
+    first_speaks named (kind.Standby standby.Reload) = refl
+    first_speaks named (kind.Call call.Drop) = refl
+    first_speaks named (kind.Call call.Mute) = refl
+    first_speaks named (kind.Call call.Late) = refl
+    first_speaks named (kind.Node node.Kill) = refl
+    first_speaks named (kind.Node node.Restart) = refl
+    first_speaks named kind.Stop = refl
+    first_speaks named kind.Cut = refl
+speaks named k (w ∷ ws) = more_speaks named k (32 ∷ joined (w ∷ ws))
   where
-    more_speaks : (k : Kind) (rest : List ℕ) → is_silent (keyword k ++ rest) ≡ false
-    more_speaks kind.Writer rest = refl
-    more_speaks (kind.Task task.Takeover) rest = refl
-    more_speaks (kind.Task task.Roll) rest = refl
-    more_speaks (kind.Task task.Close) rest = refl
-    more_speaks kind.Log rest = refl
-    more_speaks kind.Purge rest = refl
-    more_speaks (kind.Call call.Drop) rest = refl
-    more_speaks (kind.Call call.Mute) rest = refl
-    more_speaks (kind.Call call.Late) rest = refl
-    more_speaks (kind.Node node.Kill) rest = refl
-    more_speaks (kind.Node node.Restart) rest = refl
-    more_speaks kind.Stop rest = refl
-    more_speaks kind.Cut rest = refl
+    more_speaks : (named : Bool) (k : Kind) (rest : List ℕ) → is_silent (keyword named k ++ rest) ≡ false
+    more_speaks true kind.Declare rest = refl
+    more_speaks false kind.Declare rest = refl
+    more_speaks named (kind.Task task.Takeover) rest = refl
+    more_speaks named (kind.Task task.Roll) rest = refl
+    more_speaks named (kind.Task task.Close) rest = refl
+    more_speaks named kind.Log rest = refl
+    more_speaks named kind.Edits rest = refl
+    more_speaks named kind.Purge rest = refl
+    more_speaks named kind.Trim rest = refl
+    more_speaks named (kind.Standby standby.Tail) rest = refl
+    more_speaks named (kind.Standby standby.Checkpoint) rest = refl
+    more_speaks named (kind.Standby standby.Reload) rest = refl
+    more_speaks named (kind.Call call.Drop) rest = refl
+    more_speaks named (kind.Call call.Mute) rest = refl
+    more_speaks named (kind.Call call.Late) rest = refl
+    more_speaks named (kind.Node node.Kill) rest = refl
+    more_speaks named (kind.Node node.Restart) rest = refl
+    more_speaks named kind.Stop rest = refl
+    more_speaks named kind.Cut rest = refl
 
-pub not_silent : (names : List (List ℕ)) (l : ScriptLine) → is_silent (line_text names l) ≡ false
-not_silent names l = speaks (kind_in l) (operands names l)
+pub not_silent : (said : SaidView) (l : ScriptLine) → is_silent (line_text said l) ≡ false
+not_silent said l = speaks said.named (kind_in l) (operands said.names l)

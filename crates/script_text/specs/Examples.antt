@@ -1,8 +1,10 @@
 -- Scripts and texts, worked out at check time.
-use Rattle.std.specs.Prelude.{ℕ, List, [], ◌∷◌, ◌++◌, codes}
+use Rattle.std.specs.Prelude.{ℕ, List, [], ◌∷◌, ◌++◌, codes, false, true, None, Some}
+use Rattle.edit_ops.specs.Records.{EditView}
+use Rattle.edit_ops.specs.declared.op.Op.TheVariants as op
 use Rattle.journal_core.specs.declared.cut.Cut.TheVariants as cut
 use Rattle.node_world.specs.declared.stop.Stop.TheVariants as stop
-use Rattle.script_text.specs.declared.script_line.ScriptLine.TheVariants.{Declare, Takeover, Roll, Close, Log, Purge, Drop, Mute, Late, Kill, Restart, Arm}
+use Rattle.script_text.specs.declared.script_line.ScriptLine.TheVariants.{Declare, Takeover, Roll, Close, Log, Edits, Purge, Trim, Tail, Checkpoint, Reload, Drop, Mute, Late, Kill, Restart, Arm}
 use Rattle.script_text.specs.Views.{ScriptView}
 use Rattle.script_text.specs.Lines.{ended}
 
@@ -10,6 +12,7 @@ use Rattle.script_text.specs.Lines.{ended}
 abbrev pub one_writer : ScriptView
 one_writer =
     record {
+      named = false;
       nodes = 3;
       lines = Declare (97 ∷ []) ∷ Takeover 0 ∷ Log 0 ((10 ∷ []) ∷ []) ∷ Log 0 ((11 ∷ []) ∷ []) ∷ Log 0 ((12 ∷ []) ∷ []) ∷ [];
     }
@@ -27,6 +30,7 @@ commented_lines =
 abbrev pub every_kind : ScriptView
 every_kind =
     record {
+      named = false;
       nodes = 15;
       lines =
           Declare (97 ∷ []) ∷ Declare (98 ∷ 49 ∷ []) ∷ Drop 1 2 3 ∷ Mute 0 15 1 ∷ Arm 2 1 (stop.Effects 0) ∷ Takeover 0 ∷ Log 0 ((10 ∷ []) ∷ (255 ∷ 0 ∷ []) ∷ []) ∷ Roll 0 ∷ Purge 0 3 ∷ Kill 3 ∷ Restart 3
@@ -51,3 +55,35 @@ after_eight lines =
 -- these lines with their LF, and then bytes without
 abbrev pub cut_off : List (List ℕ) → List ℕ → List ℕ
 cut_off lines rest = ended lines ++ rest
+
+-- ## With namespaces
+-- `mkdir /u 10 755 u g`, and the same by the seventh call of the client 170
+abbrev pub a_directory : EditView
+a_directory = record { op = op.Mkdir (codes "/u") 10 493 (codes "u") (codes "g"); call = None }
+
+abbrev pub a_called_directory : EditView
+a_called_directory = record { op = op.Mkdir (codes "/u") 10 493 (codes "u") (codes "g"); call = Some (record { client = 0 ∷ 0 ∷ 0 ∷ 0 ∷ 0 ∷ 0 ∷ 0 ∷ 0 ∷ 0 ∷ 0 ∷ 0 ∷ 0 ∷ 0 ∷ 0 ∷ 0 ∷ 170 ∷ []; number = 7 }) }
+
+abbrev pub a_file_closed : EditView
+a_file_closed = record { op = op.Close (codes "/u/f") 11 12 (5 ∷ 6 ∷ []); call = None }
+
+-- a line of each kind with namespaces
+abbrev pub every_names_kind : ScriptView
+every_names_kind =
+    record {
+      named = true;
+      nodes = 3;
+      lines =
+          Declare (97 ∷ []) ∷ Declare (98 ∷ []) ∷ Drop 1 2 3 ∷ Arm 2 1 (stop.Effects 0) ∷ Takeover 0 ∷ Edits 0 (a_directory ∷ a_file_closed ∷ a_called_directory ∷ []) ∷ Edits 0 (a_directory ∷ []) ∷ Roll 0
+          ∷ Tail 1 ∷ Checkpoint 1 ∷ Reload 1 ∷ Trim 0 10 ∷ Kill 3 ∷ Close 0 ∷ [];
+    }
+
+abbrev pub every_names_kind_lines : List (List ℕ)
+every_names_kind_lines =
+    codes "names 3" ∷ codes "name a" ∷ codes "name b" ∷ codes "drop b 2 3" ∷ codes "stop 2 1 0" ∷ codes "takeover a"
+    ∷ codes "log a mkdir /u 10 755 u g ; close /u/f 11 12 5 6 ; call 000000000000000000000000000000aa 7 mkdir /u 10 755 u g" ∷ codes "log a mkdir /u 10 755 u g" ∷ codes "roll a" ∷ codes "tail b" ∷ codes "checkpoint b"
+    ∷ codes "reload b" ∷ codes "trim a 10" ∷ codes "kill 3" ∷ codes "close a" ∷ []
+
+-- three nodes and two actors with namespaces, and then these lines
+abbrev pub after_two_names : List (List ℕ) → List ℕ
+after_two_names lines = ended (codes "names 3" ∷ codes "name a" ∷ codes "name b" ∷ lines)

@@ -1,6 +1,7 @@
 pub mod Views
 pub mod Lines
 pub mod Words
+pub mod Edits
 pub mod Grammar
 pub mod Rules
 pub mod Reading

@@ -1,6 +1,8 @@
 -- What the reader of scripts answers, and where it stands between two lines.
-use Rattle.std.specs.Prelude.{ℕ, ◌≡◌, ◌<◌, ◌≤◌, ◌+◌, List, [], ◌∷◌, ◌++◌, Option, Some, None, true, length, decimal, if◌then◌else◌}
+use Rattle.std.specs.Prelude.{ℕ, ◌≡◌, ◌<◌, ◌≤◌, ◌+◌, List, [], ◌∷◌, ◌++◌, Option, Some, None, true, false, length, decimal, if◌then◌else◌}
 use Rattle.std.specs.List.{list_any, list_all}
+use Rattle.edit_ops.specs.Records.{EditView}
+use Rattle.edit_ops.specs.Texts.{text_of, IsText}
 use Rattle.script_text.specs.declared.answer.ReadScript.{ReadScript}
 use Rattle.script_text.specs.declared.answer.ReadScript.TheVariants as read
 use Rattle.script_text.specs.declared.line_read.LineRead.{LineRead}
@@ -9,7 +11,7 @@ use Rattle.script_text.specs.declared.script_line.ScriptLine.{ScriptLine}
 use Rattle.script_text.specs.declared.kind.Kind.{Kind}
 use Rattle.script_text.specs.Views.{ScriptView, SaidView, ReadingView}
 use Rattle.script_text.specs.Words.{words_of, is_empty, is_number, actor_of, name_at}
-use Rattle.script_text.specs.Grammar.{first_line, texts_of, operands, words_in, kind_in, nothing_said, said_after, HasSense, AreLines, unless_silent, telling}
+use Rattle.script_text.specs.Grammar.{first_line, texts_of, operands, words_in, kind_in, belongs, nothing_said, said_after, HasSense, AreLines, unless_silent, telling}
 use Rattle.script_text.specs.Lines.{is_line, is_whole, lines_of}
 use Rattle.script_text.specs.Rules.{later_rule, rule_of, rule_said, said_behind, first_fault, fault_of}
 
@@ -43,6 +45,10 @@ Tells least most word n = (is_number least most word ≡ true) × (decimal n ≡
 abbrev pub Names : List (List ℕ) → List ℕ → ℕ → Type 0
 Names names word actor = (actor_of names word ≡ Some actor) × (name_at names actor ≡ word) × (actor < length names)
 
+-- the edit has a text in a script
+abbrev pub HasText : EditView → Type 0
+HasText e = IsText (text_of false e) e
+
 -- ## A line behind the first
 -- what a line of that kind with these words behind the first is read as
 abbrev pub IsRead : SaidView → Kind → List (List ℕ) → LineRead → Type 0
@@ -53,7 +59,8 @@ IsRead said k words (line_read.Says line) =
 -- the line breaks no rule and says that
 pub record Says (said : SaidView) (text : List ℕ) (line : ScriptLine) : Type 0 where
   pub rule : rule_said (Some said) text ≡ None
-  pub words : words_of text ≡ words_in said.names line
+  pub words : words_of text ≡ words_in said line
+  pub here : belongs said.named (kind_in line) ≡ true
   pub sense : HasSense said line
 
 abbrev pub IsLineRead : SaidView → List ℕ → LineRead → Type 0
@@ -66,7 +73,7 @@ nothing_read = record { said = None; lines = [] }
 
 abbrev pub told_if : Option SaidView → List ScriptLine → List (List ℕ)
 told_if None lines = []
-told_if (Some said) lines = first_line said.nodes ∷ texts_of (nothing_said said.nodes) lines
+told_if (Some said) lines = first_line said.named said.nodes ∷ texts_of (nothing_said said.named said.nodes) lines
 
 -- the lines so far that say something
 abbrev pub told : ReadingView → List (List ℕ)
@@ -80,8 +87,8 @@ all_said said (line ∷ lines) = all_said (said_after said line) lines
 pub record AreSaidBy (now : SaidView) (all : List ScriptLine) : Type 0 where
   pub some : 0 < now.nodes
   pub most : now.nodes < 16
-  pub said : now ≡ all_said (nothing_said now.nodes) all
-  pub lines : AreLines (nothing_said now.nodes) all
+  pub said : now ≡ all_said (nothing_said now.named now.nodes) all
+  pub lines : AreLines (nothing_said now.named now.nodes) all
 
 abbrev pub IsSoundIf : Option SaidView → List ScriptLine → Type 0
 IsSoundIf None lines = lines ≡ []
@@ -93,7 +100,7 @@ IsSound r = IsSoundIf r.said r.lines
 -- the script, if some line said something
 abbrev pub script_of : Option SaidView → List ScriptLine → Option ScriptView
 script_of None lines = None
-script_of (Some said) lines = Some (record { nodes = said.nodes; lines = lines })
+script_of (Some said) lines = Some (record { named = said.named; nodes = said.nodes; lines = lines })
 
 -- one more line behind the first, that breaks no rule
 pub record Adds (before : SaidView) (read : List ScriptLine) (text : List ℕ) (now : SaidView) (all : List ScriptLine) : Type 0 where

@@ -4,7 +4,7 @@ ghost use Rattle.std.specs.List.{list_all};
 ghost use Rattle.script_text.specs.Lines.{ended, lines_of, is_whole};
 ghost use Rattle.script_text.specs.Grammar.{script_lines, telling};
 ghost use Rattle.script_text.specs.Rules.{fault_of};
-ghost use Rattle.script_text.specs.Examples.{one_writer, one_writer_lines, commented_lines, every_kind, every_kind_lines, after_two, after_eight, cut_off};
+ghost use Rattle.script_text.specs.Examples.{one_writer, one_writer_lines, commented_lines, every_kind, every_kind_lines, after_two, after_eight, cut_off, every_names_kind, every_names_kind_lines, after_two_names};
 
 /// The first script: its lines, and that it breaks no rule.
 pub fn one_writer_logs()
@@ -35,7 +35,10 @@ pub fn first_lines_are_told()
     ensures most_nodes { fault_of (ended (codes "raw 15" ∷ [])) ≡ None }
     ensures too_many_nodes { fault_of (ended (codes "raw 16" ∷ [])) ≡ Some (1, 1) }
     ensures leading_zero { fault_of (ended (codes "raw 03" ∷ [])) ≡ Some (1, 1) }
-    ensures names_script { fault_of (ended (codes "names 3" ∷ [])) ≡ Some (1, 1) }
+    ensures names_script { fault_of (ended (codes "names 3" ∷ [])) ≡ None }
+    ensures most_names_nodes { fault_of (ended (codes "names 15" ∷ [])) ≡ None }
+    ensures too_many_names_nodes { fault_of (ended (codes "names 16" ∷ [])) ≡ Some (1, 1) }
+    ensures one_name { fault_of (ended (codes "name 3" ∷ [])) ≡ Some (1, 1) }
     ensures behind_comments { fault_of (ended (codes "#" ∷ codes "kill 1" ∷ [])) ≡ Some (2, 1) }
     ensures not_ended { fault_of (cut_off (codes "raw 3" ∷ codes "writer a" ∷ []) (codes "takeo")) ≡ Some (3, 10) }
     ensures tabulator { fault_of (ended (codes "# a" ∷ (35 ∷ 9 ∷ []) ∷ [])) ≡ Some (2, 10) }
@@ -90,4 +93,39 @@ pub fn numbers_are_told()
     ensures odd_digits { fault_of (after_two (codes "log a 0" ∷ [])) ≡ Some (4, 8) }
     ensures capital_digits { fault_of (after_two (codes "log a 0a 0A" ∷ [])) ≡ Some (4, 8) }
     ensures nobody_logs { fault_of (after_two (codes "log c 0A" ∷ [])) ≡ Some (4, 5) }
+{}
+
+/// A line of each kind with namespaces: their text, and that it breaks no rule.
+pub fn namespaces_are_spelled()
+    ensures lines { script_lines every_names_kind ≡ every_names_kind_lines }
+    ensures fault { fault_of (ended every_names_kind_lines) ≡ None }
+    ensures says { telling (lines_of (ended every_names_kind_lines)) ≡ every_names_kind_lines }
+{}
+
+/// Scripts with namespaces and without: their kinds of line, and edits: rules 2, 3, 5, 7 and 9.
+pub fn names_are_told()
+    ensures writer { fault_of (after_two_names (codes "writer c" ∷ [])) ≡ Some (4, 2) }
+    ensures name { fault_of (after_two (codes "name c" ∷ [])) ≡ Some (4, 2) }
+    ensures purge { fault_of (after_two_names (codes "purge a 3" ∷ [])) ≡ Some (4, 2) }
+    ensures trim { fault_of (after_two (codes "trim a 3" ∷ [])) ≡ Some (4, 2) }
+    ensures tail { fault_of (after_two (codes "tail a" ∷ [])) ≡ Some (4, 2) }
+    ensures checkpoint { fault_of (after_two (codes "checkpoint a" ∷ [])) ≡ Some (4, 2) }
+    ensures reload { fault_of (after_two (codes "reload a" ∷ [])) ≡ Some (4, 2) }
+    ensures both { fault_of (after_two_names (codes "close a" ∷ codes "late b 1 1" ∷ codes "cut 1 1 0 old" ∷ [])) ≡ None }
+    ensures no_edit { fault_of (after_two_names (codes "log a" ∷ [])) ≡ Some (4, 3) }
+    ensures nobody_tails { fault_of (after_two_names (codes "tail c" ∷ [])) ≡ Some (4, 5) }
+    ensures nobody_submits { fault_of (after_two_names (codes "log c ;" ∷ [])) ≡ Some (4, 5) }
+    ensures no_number { fault_of (after_two_names (codes "trim a b" ∷ [])) ≡ Some (4, 7) }
+    ensures separator_alone { fault_of (after_two_names (codes "log a ;" ∷ [])) ≡ Some (4, 9) }
+    ensures separator_last { fault_of (after_two_names (codes "log a delete /u 1 ;" ∷ [])) ≡ Some (4, 9) }
+    ensures separator_inside { fault_of (after_two_names (codes "log a delete ; 1" ∷ [])) ≡ Some (4, 9) }
+    ensures two_edits { fault_of (after_two_names (codes "log a delete /u 1 ; delete /u; 2" ∷ [])) ≡ None }
+    ensures no_verb { fault_of (after_two_names (codes "log a 0a" ∷ [])) ≡ Some (4, 9) }
+    ensures word_missing { fault_of (after_two_names (codes "log a delete /u" ∷ [])) ≡ Some (4, 9) }
+    ensures word_more { fault_of (after_two_names (codes "log a delete /u 1 2" ∷ [])) ≡ Some (4, 9) }
+    ensures no_lengths { fault_of (after_two_names (codes "log a close /u 1 2 ; concat /u 1" ∷ [])) ≡ None }
+    ensures octal { fault_of (after_two_names (codes "log a chmod /u 7777" ∷ [])) ≡ None }
+    ensures five_octal { fault_of (after_two_names (codes "log a chmod /u 10000" ∷ [])) ≡ Some (4, 9) }
+    ensures called_twice { fault_of (after_two_names (codes "log a call 000000000000000000000000000000aa 7 call 000000000000000000000000000000aa 8 delete /u 1" ∷ [])) ≡ Some (4, 9) }
+    ensures short_client { fault_of (after_two_names (codes "log a call aa 7 delete /u 1" ∷ [])) ≡ Some (4, 9) }
 {}

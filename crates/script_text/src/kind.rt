@@ -1,24 +1,32 @@
 // The kinds of line.
 ghost use Rattle.std.specs.Prelude.{◌≡◌, ◌∷◌, true, false, MatchOption};
 ghost use Rattle.script_text.specs.Words.{words_of, first_word};
-ghost use Rattle.script_text.specs.Rules.{kind_of, bad_spacing};
+ghost use Rattle.script_text.specs.Grammar.{declaration};
+ghost use Rattle.script_text.specs.Rules.{kind_of, own_kind_of, bad_spacing};
 
 use crate::call_word::CallWord;
 use crate::node_word::NodeWord;
+use crate::standby_word::StandbyWord;
 use crate::task_word::TaskWord;
 use crate::words::{count_words, split_word};
 
 /// A kind of line behind the first, by its first word.
 #[derive(Clone, Copy, Debug, PartialEq, Eq)]
 pub enum Kind {
-    /// `writer NAME`
-    Writer,
+    /// `writer NAME`, or `name NAME` with namespaces
+    Declare,
     /// `takeover A`, `roll A` or `close A`
     Task(TaskWord),
     /// `log A BODY ..`
     Log,
+    /// `log A EDIT ; EDIT ; ..`
+    Edits,
     /// `purge A MIN`
     Purge,
+    /// `trim A EXTRA`
+    Trim,
+    /// `tail A`, `checkpoint A` or `reload A`
+    Standby(StandbyWord),
     /// `drop A I K`, `mute A I K` or `late A I K`
     Call(CallWord),
     /// `kill I` or `restart I`
@@ -29,23 +37,72 @@ pub enum Kind {
     Cut,
 }
 
-/// The kind of line that a first word begins.
-#[tactic(auto, unfolding(crate::specs::Rules::kind_of))]
-pub fn kind_of(word: &[u8]) -> Option<Kind>
-    ensures { result ≡ kind_of word.now }
+/// The first word of a declaration.
+pub fn declaration(named: bool) -> &'static [u8]
+    ensures { result.now ≡ declaration named }
+{
+    if named { b"name" } else { b"writer" }
+}
+
+/// The kind of line that a first word begins in scripts without namespaces alone.
+#[tactic(auto, unfolding(crate::specs::Rules::own_kind_of))]
+fn raw_kind_of(word: &[u8]) -> Option<Kind>
+    ensures { result ≡ own_kind_of false word.now }
 {
     if word == b"writer".as_slice() {
-        Some(Kind::Writer)
-    } else if word == b"takeover".as_slice() {
+        Some(Kind::Declare)
+    } else if word == b"log".as_slice() {
+        Some(Kind::Log)
+    } else if word == b"purge".as_slice() {
+        Some(Kind::Purge)
+    } else {
+        None
+    }
+}
+
+/// The kind of line that a first word begins in scripts with namespaces alone.
+#[tactic(auto, unfolding(crate::specs::Rules::own_kind_of))]
+fn names_kind_of(word: &[u8]) -> Option<Kind>
+    ensures { result ≡ own_kind_of true word.now }
+{
+    if word == b"name".as_slice() {
+        Some(Kind::Declare)
+    } else if word == b"log".as_slice() {
+        Some(Kind::Edits)
+    } else if word == b"trim".as_slice() {
+        Some(Kind::Trim)
+    } else if word == b"tail".as_slice() {
+        Some(Kind::Standby(StandbyWord::Tail))
+    } else if word == b"checkpoint".as_slice() {
+        Some(Kind::Standby(StandbyWord::Checkpoint))
+    } else if word == b"reload".as_slice() {
+        Some(Kind::Standby(StandbyWord::Reload))
+    } else {
+        None
+    }
+}
+
+fn own_kind_of(named: bool, word: &[u8]) -> Option<Kind>
+    ensures { result ≡ own_kind_of named word.now }
+{
+    if named {
+        names_kind_of(word)
+    } else {
+        raw_kind_of(word)
+    }
+}
+
+/// The kind of line that a first word begins in a script with namespaces or without.
+#[tactic(auto, unfolding(crate::specs::Rules::kind_of, crate::specs::Rules::own_kind_of))]
+pub fn kind_of(named: bool, word: &[u8]) -> Option<Kind>
+    ensures { result ≡ kind_of named word.now }
+{
+    if word == b"takeover".as_slice() {
         Some(Kind::Task(TaskWord::Takeover))
     } else if word == b"roll".as_slice() {
         Some(Kind::Task(TaskWord::Roll))
     } else if word == b"close".as_slice() {
         Some(Kind::Task(TaskWord::Close))
-    } else if word == b"log".as_slice() {
-        Some(Kind::Log)
-    } else if word == b"purge".as_slice() {
-        Some(Kind::Purge)
     } else if word == b"drop".as_slice() {
         Some(Kind::Call(CallWord::Drop))
     } else if word == b"mute".as_slice() {
@@ -61,7 +118,7 @@ pub fn kind_of(word: &[u8]) -> Option<Kind>
     } else if word == b"cut".as_slice() {
         Some(Kind::Cut)
     } else {
-        None
+        own_kind_of(named, word)
     }
 }
 
@@ -73,10 +130,13 @@ fn has_bad_spacing(kind: Kind, line: &[u8]) -> bool
         return true;
     };
     match kind {
-        Kind::Writer => count != 2,
+        Kind::Declare => count != 2,
         Kind::Task(_) => count != 2,
         Kind::Log => count < 3,
+        Kind::Edits => count < 3,
         Kind::Purge => count != 3,
+        Kind::Trim => count != 3,
+        Kind::Standby(_) => count != 2,
         Kind::Call(_) => count != 4,
         Kind::Node(_) => count != 2,
         Kind::Stop => count != 4,

@@ -3,6 +3,7 @@
 
 mod answer;
 mod call_word;
+mod edits;
 mod examples;
 mod kind;
 mod laws;
@@ -17,16 +18,18 @@ mod rules;
 mod said;
 mod script;
 mod script_line;
+mod standby_word;
 mod task_word;
 mod words;
 
 pub use answer::ReadScript;
 pub use examples::{
     actors_are_told, comments_say_nothing, every_kind_is_spelled, first_lines_are_told,
-    numbers_are_told, one_writer_logs, words_are_told,
+    names_are_told, namespaces_are_spelled, numbers_are_told, one_writer_logs, words_are_told,
 };
 pub use laws::{script_has_its_text, scripts_break_no_rule, text_is_of_one_script};
 pub use print::print_script;
 pub use reader::read_script;
 pub use script::Script;
 pub use script_line::ScriptLine;
+pub use words::number_of;

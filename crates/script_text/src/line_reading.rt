@@ -6,15 +6,17 @@ ghost use Rattle.script_text.specs.Rules.{has_length};
 ghost use Rattle.script_text.specs.Reading.{IsRead, IsLineRead};
 
 use crate::call_word::CallWord;
+use crate::edits::read_edits;
 use crate::kind::{Kind, kind_of, operands};
 use crate::line_read::LineRead;
 use crate::node_word::NodeWord;
 use crate::rules::{
-    BAD_BODY, BAD_NAME, BAD_NUMBER, DECLARED_AGAIN, FIRST_WORD, TOO_MANY_ACTORS, UNKNOWN_ACTOR,
-    WORD_COUNT,
+    BAD_BODY, BAD_EDIT, BAD_NAME, BAD_NUMBER, DECLARED_AGAIN, FIRST_WORD, TOO_MANY_ACTORS,
+    UNKNOWN_ACTOR, WORD_COUNT,
 };
 use crate::said::Said;
 use crate::script_line::ScriptLine;
+use crate::standby_word::StandbyWord;
 use crate::task_word::TaskWord;
 use crate::words::{
     choice_of, first_word, four_words, is_name, number_of, read_bodies, split_word, three_words,
@@ -27,7 +29,7 @@ use std::alloc::Global;
 
 /// A declaration.
 fn read_declaration(alloc: Global, said: &Said, name: &[u8]) -> Result<LineRead, OutOfMemory>
-    ensures { IfOk result (IsRead said.now kind.Writer (name.now ∷ [])) }
+    ensures { IfOk result (IsRead said.now kind.Declare (name.now ∷ [])) }
 {
     if !is_name(name) {
         return Ok(LineRead::Broken { rule: BAD_NAME });
@@ -83,6 +85,57 @@ fn read_log(
     match read_bodies(alloc, bodies, scratch)? {
         Some(bodies) => Ok(LineRead::Says(ScriptLine::Log { actor, bodies })),
         None => Ok(LineRead::Broken { rule: BAD_BODY }),
+    }
+}
+
+/// Edits that are submitted and synced.
+fn read_submits(
+    alloc: Global,
+    said: &Said,
+    name: &[u8],
+    edits: &[u8],
+) -> Result<LineRead, OutOfMemory>
+    ensures { IfOk result (IsRead said.now kind.Edits (name.now ∷ words_of edits.now)) }
+{
+    let Some(actor) = said.actor_of(name) else {
+        return Ok(LineRead::Broken {
+            rule: UNKNOWN_ACTOR,
+        });
+    };
+    match read_edits(alloc, edits)? {
+        Some(edits) => Ok(LineRead::Says(ScriptLine::Edits { actor, edits })),
+        None => Ok(LineRead::Broken { rule: BAD_EDIT }),
+    }
+}
+
+/// What a standby is asked.
+fn read_standby(said: &Said, word: StandbyWord, name: &[u8]) -> LineRead
+    ensures { IsRead said.now (kind.Standby word) (name.now ∷ []) result }
+{
+    let Some(actor) = said.actor_of(name) else {
+        return LineRead::Broken {
+            rule: UNKNOWN_ACTOR,
+        };
+    };
+    match word {
+        StandbyWord::Tail => LineRead::Says(ScriptLine::Tail { actor }),
+        StandbyWord::Checkpoint => LineRead::Says(ScriptLine::Checkpoint { actor }),
+        StandbyWord::Reload => LineRead::Says(ScriptLine::Reload { actor }),
+    }
+}
+
+/// A purge by the actor's images.
+fn read_trim(said: &Said, name: &[u8], extra: &[u8]) -> LineRead
+    ensures { IsRead said.now kind.Trim (name.now ∷ extra.now ∷ []) result }
+{
+    let Some(actor) = said.actor_of(name) else {
+        return LineRead::Broken {
+            rule: UNKNOWN_ACTOR,
+        };
+    };
+    match number_of(extra, 0, MAX) {
+        Some(extra) => LineRead::Says(ScriptLine::Trim { actor, extra }),
+        None => LineRead::Broken { rule: BAD_NUMBER },
     }
 }
 
@@ -194,16 +247,25 @@ fn read_operands(
     ensures { IfOk result (IsRead said.now kind (words_of text.now)) }
 {
     match kind {
-        Kind::Writer => read_declaration(alloc, said, text),
+        Kind::Declare => read_declaration(alloc, said, text),
         Kind::Task(task) => Ok(read_task(said, task, text)),
         Kind::Log => match split_word(text) {
             Some((name, bodies)) => read_log(alloc, said, name, bodies, scratch),
+            None => Ok(LineRead::Broken { rule: WORD_COUNT }),
+        },
+        Kind::Edits => match split_word(text) {
+            Some((name, edits)) => read_submits(alloc, said, name, edits),
             None => Ok(LineRead::Broken { rule: WORD_COUNT }),
         },
         Kind::Purge => {
             let (name, min) = two_words(text);
             Ok(read_purge(said, name, min))
         }
+        Kind::Trim => {
+            let (name, extra) = two_words(text);
+            Ok(read_trim(said, name, extra))
+        }
+        Kind::Standby(word) => Ok(read_standby(said, word, text)),
         Kind::Call(word) => {
             let (name, node, call) = three_words(text);
             Ok(read_call(said, word, name, node, call))
@@ -231,7 +293,7 @@ pub fn read_line(
     requires { length scratch.old ≡ 4096 }
     ensures { IfOk result (IsLineRead said.now line.now) }
 {
-    let Some(kind) = kind_of(first_word(line)) else {
+    let Some(kind) = kind_of(said.named(), first_word(line)) else {
         return Ok(LineRead::Broken { rule: FIRST_WORD });
     };
     let Some(text) = operands(kind, line) else {

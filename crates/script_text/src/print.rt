@@ -1,12 +1,16 @@
 // Scripts are printed.
-ghost use Rattle.std.specs.Prelude.{◌≡◌, ◌++◌, ◌∷◌, [], ◌<◌, ◌≤◌, OnOk, IfOk, codes, decimal, map};
+ghost use Rattle.std.specs.Prelude.{◌≡◌, ◌++◌, ◌∷◌, [], ◌<◌, ◌≤◌, OnOk, IfOk, codes, decimal, map, true};
+ghost use Rattle.std.specs.List.{AllByRecursion};
 ghost use Rattle.request_text.specs.Texts.{hex_digit, hex_text, bodies_text};
-ghost use Rattle.script_text.specs.Words.{joined, choice_word};
-ghost use Rattle.script_text.specs.Grammar.{first_line, line_text, script_text, HasSense, IsScript, IsScriptText};
+ghost use Rattle.script_text.specs.Words.{joined, words_of, choice_word};
+ghost use Rattle.script_text.specs.Edits.{others_text, edits_text, IsSayable};
+ghost use Rattle.script_text.specs.Grammar.{beginning, declaration, first_line, line_text, script_text, HasSense, IsScript, IsScriptText};
 
+use crate::kind::declaration;
 use crate::said::Said;
 use crate::script::Script;
 use crate::script_line::ScriptLine;
+use edit_ops::{Edit, EditList, edit_text};
 use journal_core::{BodyList, Cut, OutOfMemory};
 use node_world::Stop;
 use qj_num::put_decimal;
@@ -76,12 +80,53 @@ fn push_log(out: &mut Vec<u8>, name: &[u8], bodies: &BodyList) -> Result<(), Out
     push_bodies(out, bodies)
 }
 
+/// The texts of edits, each behind ` ; `.
 #[tactic(auto, using(crate::proofs::PushLaws::pushes))]
-fn push_purge(out: &mut Vec<u8>, name: &[u8], min: u64) -> Result<(), OutOfMemory>
-    ensures { OnOk result (out.new.items ≡ out.old.items ++ joined (codes "purge" ∷ name.now ∷ decimal min ∷ [])) }
+fn push_others(out: &mut Vec<u8>, edits: &[Edit]) -> Result<(), OutOfMemory>
+    requires { AllByRecursion IsSayable edits.now }
+    ensures { OnOk result (out.new.items ≡ out.old.items ++ others_text edits.now) }
 {
-    push_named(out, b"purge", name)?;
-    push_number(out, min)
+    for edit in edits {
+        out.extend_from_slice(b" ; ")?;
+        edit_text(edit, false, out)?;
+    }
+    Ok(())
+}
+
+/// The texts of edits, with ` ; ` between two.
+#[tactic(auto, using(crate::proofs::PushLaws::pushes))]
+fn push_edits(out: &mut Vec<u8>, edits: &[Edit]) -> Result<(), OutOfMemory>
+    requires { AllByRecursion IsSayable edits.now }
+    ensures { OnOk result (out.new.items ≡ out.old.items ++ edits_text edits.now) }
+{
+    let Some((first, others)) = edits.split_first() else {
+        return Ok(());
+    };
+    edit_text(first, false, out)?;
+    push_others(out, others)
+}
+
+fn push_submits(out: &mut Vec<u8>, name: &[u8], edits: &EditList) -> Result<(), OutOfMemory>
+    requires { AllByRecursion IsSayable edits.now }
+    ensures { OnOk result (out.new.items ≡ out.old.items ++ joined (codes "log" ∷ name.now ∷ words_of (edits_text edits.now))) }
+{
+    push_named(out, b"log", name)?;
+    out.push(b' ')?;
+    push_edits(out, edits.as_slice())
+}
+
+/// A line of an actor and a number.
+#[tactic(auto, using(crate::proofs::PushLaws::pushes))]
+fn push_numbered(
+    out: &mut Vec<u8>,
+    keyword: &[u8],
+    name: &[u8],
+    number: u64,
+) -> Result<(), OutOfMemory>
+    ensures { OnOk result (out.new.items ≡ out.old.items ++ joined (keyword.now ∷ name.now ∷ decimal number ∷ [])) }
+{
+    push_named(out, keyword, name)?;
+    push_number(out, number)
 }
 
 /// A line on one call of an actor.
@@ -145,26 +190,44 @@ fn push_cut(
     push_word(out, choice_word(cut))
 }
 
-/// The line `raw N`.
-fn push_first_line(out: &mut Vec<u8>, nodes: usize) -> Result<(), OutOfMemory>
-    ensures { OnOk result (out.new.items ≡ out.old.items ++ first_line nodes) }
+/// What stands before the number of nodes in the first line.
+fn beginning(named: bool) -> &'static [u8]
+    ensures { result.now ≡ beginning named }
 {
-    out.extend_from_slice(b"raw ")?;
+    if named { b"names " } else { b"raw " }
+}
+
+/// The line `raw N` or `names N`.
+fn push_first_line(out: &mut Vec<u8>, named: bool, nodes: usize) -> Result<(), OutOfMemory>
+    ensures { OnOk result (out.new.items ≡ out.old.items ++ first_line named nodes) }
+{
+    out.extend_from_slice(beginning(named))?;
     put_decimal(out, nodes as u64)
 }
 
 /// A later line, without its LF.
 fn push_line(out: &mut Vec<u8>, said: &Said, line: &ScriptLine) -> Result<(), OutOfMemory>
     requires { HasSense said.now line.now }
-    ensures { OnOk result (out.new.items ≡ out.old.items ++ line_text said.now.names line.now) }
+    ensures { OnOk result (out.new.items ≡ out.old.items ++ line_text said.now line.now) }
 {
     match line {
-        ScriptLine::Declare { name } => push_named(out, b"writer", name.as_slice()),
+        ScriptLine::Declare { name } => {
+            push_named(out, declaration(said.named()), name.as_slice())
+        }
         ScriptLine::Takeover { actor } => push_named(out, b"takeover", said.name_at(*actor)),
         ScriptLine::Roll { actor } => push_named(out, b"roll", said.name_at(*actor)),
         ScriptLine::Close { actor } => push_named(out, b"close", said.name_at(*actor)),
         ScriptLine::Log { actor, bodies } => push_log(out, said.name_at(*actor), bodies),
-        ScriptLine::Purge { actor, min } => push_purge(out, said.name_at(*actor), *min),
+        ScriptLine::Edits { actor, edits } => push_submits(out, said.name_at(*actor), edits),
+        ScriptLine::Purge { actor, min } => {
+            push_numbered(out, b"purge", said.name_at(*actor), *min)
+        }
+        ScriptLine::Trim { actor, extra } => {
+            push_numbered(out, b"trim", said.name_at(*actor), *extra)
+        }
+        ScriptLine::Tail { actor } => push_named(out, b"tail", said.name_at(*actor)),
+        ScriptLine::Checkpoint { actor } => push_named(out, b"checkpoint", said.name_at(*actor)),
+        ScriptLine::Reload { actor } => push_named(out, b"reload", said.name_at(*actor)),
         ScriptLine::Drop { actor, node, call } => {
             push_call(out, b"drop", said.name_at(*actor), *node, *call)
         }
@@ -190,10 +253,11 @@ pub fn print_script(alloc: Global, script: &Script) -> Result<Vec<u8>, OutOfMemo
     ensures again { IfOk result (λ v. IsScriptText v.items script.now) }
 {
     let mut out = Vec::new(alloc);
+    let named = script.names();
     let nodes = script.nodes();
-    push_first_line(&mut out, nodes)?;
+    push_first_line(&mut out, named, nodes)?;
     out.push(b'\n')?;
-    let mut said = Said::first(alloc, nodes);
+    let mut said = Said::first(alloc, named, nodes);
     for line in script.lines() {
         push_line(&mut out, &said, line)?;
         out.push(b'\n')?;

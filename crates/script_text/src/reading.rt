@@ -1,8 +1,8 @@
 // The reader of scripts, line by line.
-ghost use Rattle.std.specs.Prelude.{◌≡◌, ◌<◌, Some, None, IfOk, IfSome, IfNone, length};
+ghost use Rattle.std.specs.Prelude.{◌≡◌, ◌<◌, Some, None, IfOk, IfSome, IfNone, length, true, false};
 ghost use Rattle.std.specs.Str.{bytes_eq};
 ghost use Rattle.script_text.specs.Grammar.{first_line};
-ghost use Rattle.script_text.specs.Rules.{nodes_of, rule_said, rule_of};
+ghost use Rattle.script_text.specs.Rules.{nodes_of, said_first, rule_said, rule_of};
 ghost use Rattle.script_text.specs.Reading.{IsSound, Adds, Takes, nothing_read, script_of};
 
 use crate::line_read::LineRead;
@@ -18,9 +18,9 @@ use std::marker::Model;
 
 /// The line is `raw N` with that number.
 #[tactic(auto, using(crate::proofs::FirstLaws::first_lines))]
-fn is_first_line(line: &[u8], nodes: usize) -> bool
+fn is_raw_line(line: &[u8], nodes: usize) -> bool
     requires { nodes < 16 }
-    ensures { result ≡ bytes_eq line.now (first_line nodes) }
+    ensures { result ≡ bytes_eq line.now (first_line false nodes) }
 {
     if nodes < 10 {
         line == [b'r', b'a', b'w', b' ', b'0' + nodes as u8].as_slice()
@@ -29,17 +29,65 @@ fn is_first_line(line: &[u8], nodes: usize) -> bool
     }
 }
 
-/// The number of nodes that a first line tells.
+/// The line is `names N` with that number.
+#[tactic(auto, using(crate::proofs::FirstLaws::first_lines))]
+fn is_names_line(line: &[u8], nodes: usize) -> bool
+    requires { nodes < 16 }
+    ensures { result ≡ bytes_eq line.now (first_line true nodes) }
+{
+    if nodes < 10 {
+        line == [b'n', b'a', b'm', b'e', b's', b' ', b'0' + nodes as u8].as_slice()
+    } else {
+        line == [
+            b'n',
+            b'a',
+            b'm',
+            b'e',
+            b's',
+            b' ',
+            b'1',
+            b'0' + (nodes - 10) as u8,
+        ]
+        .as_slice()
+    }
+}
+
+/// The line is the first one of such a script with that number.
+fn is_first_line(line: &[u8], named: bool, nodes: usize) -> bool
+    requires { nodes < 16 }
+    ensures { result ≡ bytes_eq line.now (first_line named nodes) }
+{
+    if named {
+        is_names_line(line, nodes)
+    } else {
+        is_raw_line(line, nodes)
+    }
+}
+
+/// The number of nodes that the first line of such a script tells.
 #[tactic(auto, using(crate::proofs::FirstLaws::first_steps))]
-fn nodes_of(line: &[u8]) -> Option<usize>
-    ensures { result ≡ nodes_of line.now }
+fn nodes_of(named: bool, line: &[u8]) -> Option<usize>
+    ensures { result ≡ nodes_of named line.now }
 {
     for nodes in 1..16 {
-        if is_first_line(line, nodes) {
+        if is_first_line(line, named, nodes) {
             return Some(nodes);
         }
     }
     None
+}
+
+/// What the first line says, if it is `raw N` or `names N`.
+fn said_first(alloc: Global, line: &[u8]) -> Option<Said>
+    ensures { result ≡ said_first line.now }
+{
+    if let Some(nodes) = nodes_of(false, line) {
+        return Some(Said::first(alloc, false, nodes));
+    }
+    match nodes_of(true, line) {
+        Some(nodes) => Some(Said::first(alloc, true, nodes)),
+        None => None,
+    }
 }
 
 /// One more line that says something, behind the first; the answer is the rule that it breaks.
@@ -111,9 +159,9 @@ impl Reading {
         }
         match &mut self.said {
             Some(said) => add_line(alloc, said, &mut self.lines, line, scratch),
-            None => match nodes_of(line) {
-                Some(nodes) => {
-                    self.said = Some(Said::first(alloc, nodes));
+            None => match said_first(alloc, line) {
+                Some(said) => {
+                    self.said = Some(said);
                     Ok(None)
                 }
                 None => Ok(Some(FIRST_LINE)),
@@ -127,7 +175,7 @@ impl Reading {
     {
         let Reading { said, lines } = self;
         match said {
-            Some(said) => Some(Script::new(said.nodes(), lines)),
+            Some(said) => Some(Script::new(said.named(), said.nodes(), lines)),
             None => None,
         }
     }

@@ -2,7 +2,7 @@
 
 /// A byte outside 0x20 to 0x7E, a last line without LF, or more than 16,384 bytes in a line.
 pub const LINE_BYTES: u32 = 10;
-/// The first line that says something isn't `raw N` with N from 1 to 15.
+/// The first line that says something isn't `raw N` or `names N` with N from 1 to 15.
 pub const FIRST_LINE: u32 = 1;
 /// A first word that begins no line here.
 pub const FIRST_WORD: u32 = 2;
@@ -20,3 +20,5 @@ pub const UNKNOWN_ACTOR: u32 = 5;
 pub const BAD_NUMBER: u32 = 7;
 /// A body that isn't lower-case hexadecimal of 1 to 4,096 bytes.
 pub const BAD_BODY: u32 = 8;
+/// A text that isn't that of an edit.
+pub const BAD_EDIT: u32 = 9;

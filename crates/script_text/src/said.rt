@@ -13,9 +13,10 @@ use std::marker::Model;
 /// The most actors of a script.
 const MOST_ACTORS: usize = 8;
 
-/// What the lines so far said: the number of nodes, and the names that they declared, in order.
+/// What the lines so far said: whether the actors have namespaces, the number of nodes, and the names that they declared, in order.
 #[derive(Drop)]
 pub struct Said {
+    named: bool,
     nodes: usize,
     names: Vec<Bytes>,
 }
@@ -26,7 +27,7 @@ impl Model for Said {
 
     ghost Value = { SaidView };
 
-    ghost view = { λ s. record { nodes = s.nodes; names = s.names.items } };
+    ghost view = { λ s. record { named = s.named; nodes = s.nodes; names = s.names.items } };
 
     ghost invariant = { λ s. length s.names.items ≤ 8 };
 }
@@ -43,14 +44,22 @@ fn index_of(names: &[Bytes], name: &[u8]) -> Option<usize>
 }
 
 impl Said {
-    /// Behind the first line, which tells the number of nodes.
-    pub fn first(alloc: Global, nodes: usize) -> Said
-        ensures { result ≡ nothing_said nodes }
+    /// Behind the first line, which tells whether the actors have namespaces, and the number of nodes.
+    pub fn first(alloc: Global, named: bool, nodes: usize) -> Said
+        ensures { result ≡ nothing_said named nodes }
     {
         Said {
+            named,
             nodes,
             names: Vec::new(alloc),
         }
+    }
+
+    /// The actors have namespaces.
+    pub fn named(&self) -> bool
+        ensures { result ≡ self.now.named }
+    {
+        self.named
     }
 
     /// The number of nodes.

@@ -1,4 +1,5 @@
 // The lines of a script.
+use edit_ops::EditList;
 use journal_core::{BodyList, Bytes};
 use node_world::Stop;
 
@@ -6,7 +7,7 @@ use node_world::Stop;
 /// declaration, from 0; a node is its number from 1.
 #[derive(Drop)]
 pub enum ScriptLine {
-    /// `writer NAME`: a writer is declared.
+    /// `writer NAME`: a writer is declared. `name NAME`: an actor with a namespace is.
     Declare { name: Bytes },
     /// `takeover A`: the writer takes a new epoch and begins a segment.
     Takeover { actor: u32 },
@@ -16,8 +17,19 @@ pub enum ScriptLine {
     Close { actor: u32 },
     /// `log A BODY ..`: the writer logs these edits as one batch.
     Log { actor: u32, bodies: BodyList },
+    /// `log A EDIT ; EDIT ; ..`: the actor submits these edits in order, and then syncs them.
+    Edits { actor: u32, edits: EditList },
     /// `purge A MIN`: the writer lets the nodes remove segments that end below `min`.
     Purge { actor: u32, min: u64 },
+    /// `trim A EXTRA`: the actor lets the nodes remove segments that its images make needless, but for `extra`
+    /// edits more.
+    Trim { actor: u32, extra: u64 },
+    /// `tail A`: the actor reads and applies what it lacks.
+    Tail { actor: u32 },
+    /// `checkpoint A`: the actor saves its namespace as an image.
+    Checkpoint { actor: u32 },
+    /// `reload A`: the actor begins again from its newest image, or from the root alone.
+    Reload { actor: u32 },
     /// `drop A I K`: the writer's `call`-th next call to the node isn't delivered.
     Drop { actor: u32, node: usize, call: u64 },
     /// `mute A I K`: the writer's `call`-th next call to the node is delivered, and its reply is lost.

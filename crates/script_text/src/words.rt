@@ -133,7 +133,7 @@ pub fn is_name(word: &[u8]) -> bool
     is_word_of_name(word) && word != b"ops".as_slice()
 }
 
-/// The number of that range that a word is, in decimal.
+/// The number of that range that a word is, in decimal; `None` for every other word.
 #[tactic(auto, using(crate::proofs::NumberLaws::numbers))]
 pub fn number_of(word: &[u8], least: u64, most: u64) -> Option<u64>
     ensures { MatchOption result (is_number least most word.now ≡ false) (Tells least most word.now) }

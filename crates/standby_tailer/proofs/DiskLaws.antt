@@ -1,13 +1,12 @@
 -- The images that a disk holds, over a checkpoint and opening.
 use Rattle.std.proofs.Common.{inl, inr, ⊎_elim, ◌⊎◌, ◌≡◌, ℕ, ◌+◌, ◌-◌, ◌<◌, ◌≤◌, ◌^◌, max, List, [], ◌∷◌, ◌++◌, refl, sym, ap, ◌∙◌, subst, arith, length, take, drop, length-append, Option, Some, None}
-use Rattle.std.specs.Prelude.{Contains, ◌↔◌, IsSome, slice_index, Result, Ok, Err, OnOk}
-use Rattle.std.specs.List.{AllByRecursion}
+use Rattle.std.specs.Prelude.{◌↔◌, IsSome, slice_index, Result, OnOk}
 use Rattle.std.proofs.Math.Seq.{get_or-append_seam}
 use Rattle.std.proofs.lemmas.Bool.{cases_eq}
 use Rattle.qj_disk.specs.Files.{Files}
 use Rattle.ns_tree.specs.Space.{Space, empty_space}
 use Rattle.ns_replay.specs.Replay.{Image}
-use Rattle.name_node.specs.Holding.{Holding, image_put, saved, reloaded, min_to_keep}
+use Rattle.name_node.specs.Holding.{image_put, saved, reloaded, min_to_keep}
 use Rattle.image_store.specs.Images.{image_in, Counts, ListsImages}
 use Rattle.image_store.specs.Images as stored
 use Rattle.image_store.specs.Lists.{older_than, second_newest, kept_from}
@@ -29,7 +28,7 @@ use Rattle.image_store.proofs.ThinLaws.{one_list}
 use Rattle.standby_tailer.specs.declared.opened.OpenedImage.{OpenedImage}
 use Rattle.standby_tailer.specs.declared.opened.OpenedImage.TheVariants as opened
 use Rattle.standby_tailer.specs.Standbys.{StandbyView, empty_standby, held}
-use Rattle.standby_tailer.specs.Disks.{AreFalling, HasTxid, HoldsImages, rising, NewestLoadedAs, IsOpened, OpensAs, IsReloaded, IsMinOf}
+use Rattle.standby_tailer.specs.Disks.{AreFalling, HasTxid, HoldsImages, rising, IsOpened, OpensAs, IsReloaded, IsMinOf}
 use Rattle.standby_tailer.proofs.ImageLists.{Each, each_both, each_of, at_txid, has_or_not, put_has, put_has_it, put_falling, put_each, rising_has, has_rising, rising_sorted, rising_two, older_two}
 
 -- ## One image in two folders

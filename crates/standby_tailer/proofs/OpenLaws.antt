@@ -1,9 +1,8 @@
 -- What is taken of an image that was loaded.
-use Rattle.std.proofs.Common.{◌≡◌, ℕ, sym, subst}
+use Rattle.std.proofs.Common.{ℕ, subst}
 use Rattle.qj_disk.specs.Files.{Files}
 use Rattle.image_store.specs.Loads.{IsAnswer}
 use Rattle.image_store.specs.declared.loaded.Loaded.{Loaded}
-use Rattle.image_store.specs.declared.loaded.Loaded.TheVariants as loading
 use Rattle.standby_tailer.specs.declared.opened.OpenedImage.{OpenedImage}
 use Rattle.standby_tailer.specs.declared.opened.OpenedImage.TheVariants as opened
 use Rattle.standby_tailer.specs.Standbys.{StandbyView}

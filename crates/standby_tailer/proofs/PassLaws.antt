@@ -1,13 +1,13 @@
 -- What the nodes told in a pass, by one node more; and how a pass begins.
-use Rattle.std.proofs.Common.{◌≡◌, ℕ, ◌+◌, ◌*◌, ◌/◌, ◌<◌, ◌≤◌, ◌==◌, ◌&&◌, nat_lt, suc, List, [], ◌∷◌, ◌++◌, length, take, get_or, map, Bool, true, false, Option, Some, None, if◌then◌else◌, refl, sym, ap, ◌∙◌, arith}
+use Rattle.std.proofs.Common.{◌≡◌, ℕ, ◌+◌, ◌*◌, ◌/◌, ◌<◌, ◌≤◌, ◌==◌, nat_lt, suc, List, [], ◌∷◌, ◌++◌, length, take, get_or, map, Bool, true, false, Option, Some, None, if◌then◌else◌, refl, sym, ap, ◌∙◌, arith}
 use Rattle.std.specs.Option.{ForSome}
-use Rattle.std.proofs.Math.Seq.{take-suc, take-length}
+use Rattle.std.proofs.Math.Seq.{take-suc}
 use Rattle.std.proofs.lemmas.Bool.Decides.{nat_tests}
 use Rattle.std.proofs.lemmas.List.{map-append}
 use Rattle.journal_core.specs.declared.heard.Heard.{Heard}
 use Rattle.writer_core.specs.declared.cause.Cause.{Cause}
 use Rattle.name_node.specs.Holding.{Holding, Free, Tails, working}
-use Rattle.name_node.specs.Tails.{TailStep, TailEnd, Ends, GoesOn, Caught, Reached, PurgedFrom, BehindBy, told_purged, least_or, least_purged, read_cause, is_until, pass_begun, pass_end, behind_or, without_end, is_not_here}
+use Rattle.name_node.specs.Tails.{Ends, GoesOn, Caught, Reached, PurgedFrom, BehindBy, told_purged, least_or, least_purged, read_cause, is_until, pass_begun, pass_end, behind_or}
 use Rattle.standby_tailer.specs.Tailing.{is_caught}
 
 least_none : (o : Option ℕ) → least_or o None ≡ o

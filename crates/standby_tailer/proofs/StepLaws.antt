@@ -1,5 +1,5 @@
 -- The steps of a tail as the code takes them.
-use Rattle.std.proofs.Common.{◌≡◌, ℕ, ◌+◌, ◌-◌, ◌*◌, ◌<◌, ◌≤◌, List, [], ◌∷◌, ◌++◌, append-nil, length, length-append, take, Bool, true, false, nat_lt, if◌then◌else◌, Option, Some, None, refl, sym, ap, ◌∙◌, subst, arith}
+use Rattle.std.proofs.Common.{◌≡◌, ℕ, ◌+◌, ◌-◌, ◌*◌, ◌<◌, ◌≤◌, List, [], ◌∷◌, ◌++◌, append-nil, length, length-append, Bool, true, false, nat_lt, if◌then◌else◌, Option, Some, None, refl, sym, ap, ◌∙◌, subst, arith}
 use Rattle.std.specs.Prelude.{Result, Ok, Err, IfOk, OnErr}
 use Rattle.std.specs.Option.{ForSome}
 use Rattle.std.specs.declared.alloc.AllocError.{AllocError}
@@ -22,7 +22,7 @@ use Rattle.standby_tailer.specs.declared.step.Step.TheVariants as step
 use Rattle.standby_tailer.specs.declared.tailed.Tailed.{Tailed}
 use Rattle.standby_tailer.specs.Standbys.{StandbyView, held}
 use Rattle.standby_tailer.specs.Reads.{LeadsTail}
-use Rattle.standby_tailer.specs.Tailing.{asking, IsEnd, IsStep, StandsAt, edits_in, IsPart, StopsShort, TailEnds, gives_edits, is_going, IsLater, IsExact, IsGoing, Goes, IsMore, tail_left}
+use Rattle.standby_tailer.specs.Tailing.{asking, IsEnd, IsStep, StandsAt, edits_in, IsPart, StopsShort, TailEnds, gives_edits, is_going, IsLater, IsExact, IsGoing, Goes, tail_left}
 use Rattle.standby_tailer.proofs.LedLaws.{leads_none, leads_more}
 
 -- ## What is heard
@@ -127,35 +127,67 @@ stands_more nodes begun images before mid after until told now s new heard t e i
   is = is;
 }
 
+-- ## Where a step stands: it goes on, or it ended
+going_is : (t : Step) → is_going t ≡ true → t ≡ step.Going
+going_is step.Going e = refl
+going_is (step.Ended t) e = absurd (cc e)
+
+-- where it began
+pub goes_begun : (until : Option ℕ) (nodes : ℕ) (told : List Heard) (position : ℕ) (t : Step) → 1 ≤ nodes → told ≡ [] → IsGoing until position t → Goes until nodes told position t
+goes_begun until nodes told position t some e g = subst (λ (l : List Heard). Goes until nodes l position t) (sym e) (by t g)
+  where
+    by : (u : Step) → IsGoing until position u → Goes until nodes [] position u
+    by step.Going f = (f, omega (arith, some))
+    by (step.Ended end) f = f
+
+module _ (until : Option ℕ) (nodes : ℕ) (told : List Heard) (position : ℕ) (t : Step) (g : Goes until nodes told position t) where
+  goes_at : is_going t ≡ true → Goes until nodes told position step.Going
+  goes_at e = subst (λ (u : Step). Goes until nodes told position u) (going_is t e) g
+
+  -- a node is still to be asked
+  pub goes_some : is_going t ≡ true → length told < nodes
+  goes_some e = let at = goes_at e in at.1
+
+  -- before the end
+  pub goes_until : is_going t ≡ true → ForSome until (λ last. position < last)
+  goes_until e = let at = goes_at e in at.0
+
+  pub goes_exact : (end : Tailed) → t ≡ step.Ended end → IsExact until position end
+  goes_exact end e = subst (λ (u : Step). Goes until nodes told position u) e g
+
+module _ (x : TailStep) (until : Option ℕ) (told : List Heard) (images : List Image) (s : StandbyView) (t : Step) (h : IsStep x until told images s t) where
+  pub stands_on : is_going t ≡ true → x ≡ GoesOn (asking until told (held images s))
+  stands_on e = subst (λ (u : Step). IsStep x until told images s u) (going_is t e) h
+
+  pub stands_end : (end : Tailed) → t ≡ step.Ended end → IsEnd x images s end
+  stands_end end e = subst (λ (u : Step). IsStep x until told images s u) e h
+
+-- what a loop over the steps of a tail rests on
+pub ruleset stepping = (goes_begun, goes_some, goes_until, goes_exact, stands_on, stands_end)
+
 -- ## The passes
 pub record Passes (nodes : ℕ) (until : Option ℕ) (begun : List Image → TailStep) (before after : List PeerCall) (told : List Heard) (s : StandbyView) (t : Step) : Type 0 where
   pub stands : (images : List Image) → StandsAt nodes (begun images) before after until told images s t
   pub goes : Goes until nodes told s.position t
 
-going_is : (t : Step) → is_going t ≡ true → t ≡ step.Going
-going_is step.Going e = refl
-going_is (step.Ended t) e = absurd (cc e)
-
 module _ (nodes : ℕ) (until : Option ℕ) (begun : List Image → TailStep) (before after : List PeerCall) (told : List Heard) (s : StandbyView) (t : Step) (h : Passes nodes until begun before after told s t) where
   pub passes_on : is_going t ≡ true → (images : List Image) → LeadsTail nodes (begun images) before after (GoesOn (asking until told (held images s)))
   passes_on e images =
-      let x : StandsAt nodes (begun images) before after until told images s step.Going = subst (λ (u : Step). StandsAt nodes (begun images) before after until told images s u) (going_is t e) (h.stands images) in
-      subst (λ (y : TailStep). LeadsTail nodes (begun images) before after y) x.is x.leads
+      let x = h.stands images in
+      subst (λ (y : TailStep). LeadsTail nodes (begun images) before after y) (stands_on x.here until told images s t x.is e) x.leads
 
   pub passes_some : is_going t ≡ true → length told < nodes
-  passes_some e = let g : Goes until nodes told s.position step.Going = subst (λ (u : Step). Goes until nodes told s.position u) (going_is t e) h.goes in g.1
+  passes_some e = goes_some until nodes told s.position t h.goes e
 
   pub passes_until : is_going t ≡ true → ForSome until (λ last. s.position < last)
-  passes_until e = let g : Goes until nodes told s.position step.Going = subst (λ (u : Step). Goes until nodes told s.position u) (going_is t e) h.goes in g.0
+  passes_until e = goes_until until nodes told s.position t h.goes e
 
   pub passes_end : (end : Tailed) → t ≡ step.Ended end → (images : List Image) → TailEnds nodes (begun images) images before after s end
-  passes_end end e images =
-      let x : StandsAt nodes (begun images) before after until told images s (step.Ended end) = subst (λ (u : Step). StandsAt nodes (begun images) before after until told images s u) e (h.stands images) in
-      record { end = x.here; leads = x.leads; is = x.is }
+  passes_end end e images = let x = h.stands images in record { end = x.here; leads = x.leads; is = stands_end x.here until told images s t x.is end e }
 
 pub passes_exact : (nodes : ℕ) (until : Option ℕ) (begun : List Image → TailStep) (before after : List PeerCall) (told : List Heard) (s : StandbyView) (t : Step)
     → Passes nodes until begun before after told s t → (end : Tailed) → t ≡ step.Ended end → IsExact until s.position end
-passes_exact nodes until begun before after told s t h end e = subst (λ (u : Step). Goes until nodes told s.position u) e h.goes
+passes_exact nodes until begun before after told s t h end e = goes_exact until nodes told s.position t h.goes end e
 
 pub passes_begin : (nodes : ℕ) (until : Option ℕ) (calls : List PeerCall) (told : List Heard) (s : StandbyView) (t : Step) → 1 ≤ nodes → told ≡ [] → IsGoing until s.position t
     → ((images : List Image) (work : Work) → IsStep (pass_begun until (working work (held images s))) until [] images s t) → Passes nodes until (λ images. pass_begun until (held images s)) calls calls told s t
@@ -165,11 +197,7 @@ passes_begin nodes until calls told s t some e goes is = record {
     leads = leads_none nodes (pass_begun until (held images s)) calls;
     is = subst (λ (l : List Heard). IsStep (pass_begun until (held images s)) until l images s t) (sym e) (is images Free);
   };
-  goes = subst (λ (l : List Heard). Goes until nodes l s.position t) (sym e) (by t goes);
+  goes = goes_begun until nodes told s.position t some e goes;
 }
-  where
-    by : (u : Step) → IsGoing until s.position u → Goes until nodes [] s.position u
-    by step.Going f = (f, omega (arith, some))
-    by (step.Ended end) f = f
 
 pub ruleset passing = (passes_on, passes_some, passes_until, passes_end, passes_exact, passes_begin)

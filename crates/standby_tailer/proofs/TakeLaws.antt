@@ -11,7 +11,7 @@ use Rattle.ns_replay.specs.Replay.{entered, goes_on, replay_from, Applied, All, 
 use Rattle.ns_replay.proofs.Retries.{entry_rising}
 use Rattle.ns_replay.proofs.Splits.{some_is, none≢some, HasGone, has_gone}
 use Rattle.name_node.specs.Holding.{Holding, Broken}
-use Rattle.name_node.specs.Tails.{TailStep, Breaks, pass_begun, up_to, after_applied}
+use Rattle.name_node.specs.Tails.{Breaks, pass_begun, up_to, after_applied}
 use Rattle.standby_tailer.specs.Standbys.{StandbyView, IsStandby}
 
 -- no call is remembered above the last entry

@@ -5,7 +5,7 @@ use Rattle.qj_disk.specs.Files.{Files}
 use Rattle.qj_disk.specs.declared.disk.DiskFail.{DiskFail}
 use Rattle.qj_disk.specs.declared.disk.DiskFail.TheVariants as fail
 use Rattle.ns_replay.specs.Replay.{Image}
-use Rattle.name_node.specs.Holding.{Holding, reloaded}
+use Rattle.name_node.specs.Holding.{reloaded}
 use Rattle.image_store.specs.Images.{Counts}
 use Rattle.image_store.specs.Answers.{IsNewest}
 use Rattle.image_store.specs.Loads.{LoadsAs, IsAnswer}

@@ -3,7 +3,7 @@ use Rattle.std.specs.Option.{ForSome}
 use Rattle.std.specs.Prelude.{ℕ, ◌≡◌, ◌≢◌, ◌+◌, ◌-◌, ◌*◌, ◌<◌, ◌≤◌, List, [], ◌++◌, length, take, Option, Some, None, IfSome, option_to_list, Bool, true, false, nat_lt, count_by, ◌&&◌}
 use Rattle.journal_core.specs.Limits.{max_number}
 use Rattle.journal_core.specs.declared.heard.Heard.{Heard}
-use Rattle.journal_core.specs.declared.heard.Heard.TheVariants.{Answer, Silent}
+use Rattle.journal_core.specs.declared.heard.Heard.TheVariants.{Answer}
 use Rattle.journal_core.specs.declared.reply.Reply.TheVariants as reply
 use Rattle.journal_core.specs.declared.peer_call.PeerCall.{PeerCall}
 use Rattle.ns_replay.specs.Replay.{Image, replay_from}

@@ -12,4 +12,5 @@ mod tailing;
 
 pub use opened::OpenedImage;
 pub use standby::Standby;
+pub use step::Step;
 pub use tailed::Tailed;

@@ -1,8 +1,10 @@
 // A standby.
-ghost use Rattle.std.specs.Prelude.{◌≡◌, ◌≤◌, IfOk};
+ghost use Rattle.std.specs.Prelude.{◌≡◌, ◌≤◌, List, IfOk, OnOk, OnErr};
 ghost use Rattle.journal_core.specs.Limits.{max_number};
 ghost use Rattle.ns_tree.specs.Space.{AreRising};
-ghost use Rattle.standby_tailer.specs.Standbys.{StandbyView, empty_standby};
+ghost use Rattle.ns_replay.specs.Replay.{Image};
+ghost use Rattle.name_node.specs.Holding.{enters};
+ghost use Rattle.standby_tailer.specs.Standbys.{StandbyView, empty_standby, held};
 
 use ns_tree::Namespace;
 use qj_num::OutOfMemory;
@@ -64,6 +66,19 @@ impl Standby {
         ensures { result.now ≡ self.now.space }
     {
         &self.namespace
+    }
+
+    /// Begins a tail up to the txid `last`: a standby that has read more becomes empty at position 0. An `Err`
+    /// changes nothing.
+    pub fn enter(&mut self, alloc: Global, last: u64) -> Result<(), OutOfMemory>
+        ensures ok { OnOk result ((images : List Image) → held images self.new ≡ enters last (held images self.old)) }
+        ensures below { OnOk result (self.new.position ≤ last) }
+        ensures err { OnErr result (self.new ≡ self.old) }
+    {
+        if last < self.position {
+            *self = Standby::new(alloc)?;
+        }
+        Ok(())
     }
 
     /// The namespace and the position; takes no memory.

@@ -6,26 +6,29 @@ use crate::tailed::Tailed;
 
 /// Whether a tail goes on.
 #[derive(Drop)]
-pub(crate) enum Step {
-    /// It asks the next node next.
+pub enum Step {
+    /// It asks the next node next: the one after those that told something in this pass.
     Going,
     /// It is over.
     Ended(Tailed),
 }
 
-pub(crate) fn is_going(step: &Step) -> bool
-    ensures { result ≡ is_going step.now }
-{
-    matches!(step, Step::Going)
-}
+impl Step {
+    /// It goes on.
+    pub fn is_going(&self) -> bool
+        ensures { result ≡ is_going self.now }
+    {
+        matches!(self, Step::Going)
+    }
 
-/// How a tail ended that doesn't go on.
-pub(crate) fn ended(step: Step) -> Tailed
-    requires { is_going step ≡ false }
-    ensures { step ≡ Step.Ended result }
-{
-    match step {
-        Step::Ended(tailed) => tailed,
-        Step::Going => unreachable!(),
+    /// How it ended; only of a tail that doesn't go on.
+    pub fn ended(self) -> Tailed
+        requires { is_going self ≡ false }
+        ensures { self ≡ Step.Ended result }
+    {
+        match self {
+            Step::Ended(tailed) => tailed,
+            Step::Going => unreachable!(),
+        }
     }
 }

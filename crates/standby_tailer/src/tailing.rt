@@ -17,7 +17,7 @@ ghost use Rattle.standby_tailer.specs.Tailing.{asking, gives_edits, edits_in, Is
 
 use crate::passes::{is_caught, is_end, least_purged, read_causes};
 use crate::standby::Standby;
-use crate::step::{Step, ended, is_going};
+use crate::step::Step;
 use crate::tailed::Tailed;
 use journal_core::{Batch, Heard, OutOfMemory, Peers, Reply, Request, SharedRequest};
 use ns_replay::{Replayed, replay};
@@ -84,15 +84,16 @@ impl Standby {
     {
         let mut told = Vec::new(alloc);
         let mut step = self.begin_pass(until);
-        while is_going(&step) {
+        while step.is_going() {
             step = self.ask(alloc, peers, until, &mut told)?;
         }
-        Ok(ended(step))
+        Ok(step.ended())
     }
 
-    /// A pass begins, unless the end is reached.
+    /// A pass of a tail begins, unless its end, at or above the position, is reached. A caller that makes the
+    /// calls itself begins with this, and with nothing told; takes no memory.
     #[tactic(auto, using(crate::proofs::PassLaws::pass_going))]
-    fn begin_pass(&self, until: Option<u64>) -> Step
+    pub fn begin_pass(&self, until: Option<u64>) -> Step
         requires { ForSome until (λ last. self.now.position ≤ last) }
         ensures going { IsGoing until self.now.position result }
         ensures step { (images : List Image) (work : Work) → IsStep (pass_begun until (working work (held images self.now))) until [] images self.now result }
@@ -147,8 +148,10 @@ impl Standby {
         peers.call(alloc, node, &request)
     }
 
-    /// Takes what was heard of the next node.
-    fn hear(
+    /// Takes what was heard of the next node, of `nodes`: the one after those that `told` something in this
+    /// pass, which was asked for the edits behind the position. `told` is then what was told in the pass that
+    /// goes on. `OutOfMemory` leaves what was applied so far; the tail is over.
+    pub fn hear(
         &mut self,
         alloc: Global,
         nodes: usize,

@@ -3,57 +3,66 @@ use Rattle.std.proofs.Common.{◌≡◌, ℕ, zero, suc, ◌+◌, ◌<◌, ◌�
 use Rattle.std.proofs.Math.Seq.{take-suc}
 use Rattle.std.proofs.lemmas.List.{map-append}
 use Rattle.script_text.specs.declared.script_line.ScriptLine.{ScriptLine}
-use Rattle.writer_core.specs.Views.{WriterView}
 use Rattle.writer_core.specs.Writer.{new_writer, next_call}
 use Rattle.writer_core.proofs.LiveLaws.{new_live}
 use Rattle.node_world.proofs.WriterRange.{new_sized}
 use Rattle.caller_seats.specs.Logs.{LogView, new_log}
-use Rattle.cluster_runner.specs.Lines.{Deed, Line, Declares, Acts, Operates, deeds_of, line_of}
-use Rattle.cluster_runner.specs.Actor.{Actor, wants, settled, handed, fresh_actor}
-use Rattle.cluster_runner.specs.Plays.{last_of}
+use Rattle.script_actor.specs.Lines.{Deed, Line, Declares, Acts, Operates, deeds_of, line_of}
+use Rattle.script_actor.specs.Actor.{Actor, wants, settled, handed, fresh_actor, holding_if, last_of}
 use Rattle.cluster_runner.specs.Follows.{actor_with, Follows}
-use Rattle.cluster_runner.specs.Kept.{KeptActor, resting}
-use Rattle.cluster_runner.specs.Deeds.{kept_of, deed_of, LedTo, TakesDeed}
-use Rattle.cluster_runner.proofs.KeptActor.{rests}
+use Rattle.script_actor.specs.KeptActor.{KeptActor, resting}
+use Rattle.script_actor.specs.Deeds.{ActorView, new_actor_view, has_names, kept_by, deed_of, IsIdleHolding, LedTo, TakesDeed}
+use Rattle.script_actor.proofs.KeptActor.{rests, idle_no_tail}
 use Rattle.cluster_runner.proofs.Led.{settled_more, handed_led, handed_after}
 use Rattle.cluster_runner.proofs.Parts.{deeds_append}
 use Rattle.cluster_runner.proofs.SeatsGo.{led_past}
 use Rattle.cluster_runner.proofs.Sound.{settled_past}
-use Rattle.cluster_runner.proofs.Stretches.{led_same, led_on}
-use Rattle.thread_runner.specs.Threads.{is_by, TakesOwn, HasDone, FollowsRaw}
+use Rattle.script_actor.proofs.LedLaws.{led_same, led_on}
+use Rattle.ns_tree.specs.declared.end.LastSpace.{LastSpace}
+use Rattle.thread_runner.specs.Threads.{is_by, TakesOwn, HasDone, FollowsDeeds}
 
 -- ## Deed after deed
 new_rests : (n : ℕ) → next_call (new_writer n) ≡ None
 new_rests n = refl
 
-fresh_past : (n : ℕ) → (fresh_actor false n).past ≡ []
+fresh_past : (named : Bool) (n : ℕ) → (fresh_actor named n).past ≡ []
 unfolding fresh_actor
-fresh_past n = refl
+fresh_past named n = refl
 
-nothing_done : (n : ℕ) (k : KeptActor) → 1 ≤ n → k ≡ kept_of (new_writer n) (new_log n true) → HasDone n [] k
+pub new_named : (named : Bool) (n : ℕ) → has_names (new_actor_view named n) ≡ named
+new_named true n = refl
+new_named false n = refl
+
+new_holds : (named : Bool) → IsIdleHolding (holding_if named)
+new_holds true = refl
+new_holds false = tt
+
+nothing_done : (named : Bool) (n : ℕ) (k : KeptActor) → 1 ≤ n → k ≡ kept_by (new_actor_view named n) (new_log n true) → HasDone named n [] k
 unfolding settled fresh_actor
-nothing_done n k some e =
-    subst (λ x. HasDone n [] x) (sym e) (record { idle = record { some = some; ready = record { live = new_live n (omega (arith, some)); sized = new_sized n }; rests = new_rests n }; leads = led_same _ _ refl })
+nothing_done named n k some e =
+    subst (λ x. HasDone named n [] x) (sym e)
+    (record { idle = record { some = some; ready = record { live = new_live n (omega (arith, some)); sized = new_sized n }; rests = new_rests n; holds = new_holds named }; leads = led_same _ _ refl })
 
-done_more : (n : ℕ) (ds : List Deed) (d : Deed) (k new : KeptActor) → HasDone n ds k → TakesDeed n d k new → HasDone n (ds ++ d ∷ []) new
-done_more n ds d k new h t =
-    let a : Actor = actor_with false n ds in
+done_more : (named : Bool) (n : ℕ) (ds : List Deed) (d : Deed) (k new : KeptActor) → HasDone named n ds k → TakesDeed n d k new → HasDone named n (ds ++ d ∷ []) new
+done_more named n ds d k new h t =
+    let a : Actor = actor_with named n ds in
     let handed_on : LedTo (handed d a) (handed d (resting k)) =
     record { lines = h.leads.lines; led = handed_led a h.leads.lines d h.leads.led; after = handed_after a h.leads.lines d h.leads.led ∙ ap (handed d) h.leads.after } in
     record {
       idle = t.idle;
-      leads = subst (λ x. LedTo x (resting new)) (sym (settled_more ds (fresh_actor false n) d)) (led_on _ (handed d (resting k)) _ handed_on t.leads);
+      leads = subst (λ x. LedTo x (resting new)) (sym (settled_more ds (fresh_actor named n) d)) (led_on _ (handed d (resting k)) _ handed_on t.leads);
     }
 
-pub done_follows : (n : ℕ) (ds : List Deed) (w : WriterView) (l : LogView) → HasDone n ds (kept_of w l) → FollowsRaw n ds l.past l.marks
-done_follows n ds w l h e none =
-    let start : (actor_with false n ds).past ≡ [] = settled_past ds (fresh_actor false n) ∙ fresh_past n in
-    let all : h.leads.lines ≡ l.past = sym (ap (λ p. p ++ h.leads.lines) start) ∙ sym (led_past (actor_with false n ds) h.leads.lines) ∙ ap (λ (a : Actor). a.past) h.leads.after in
-    subst (λ rs. Follows false n ds rs l.marks e) all (record {
+pub done_follows : (named : Bool) (n : ℕ) (ds : List Deed) (v : ActorView) (l : LogView) (last : Option LastSpace) → HasDone named n ds (kept_by v l) → last ≡ last_of v.holds
+    → FollowsDeeds named n ds l.past l.marks last
+done_follows named n ds v l last h is e its =
+    let start : (actor_with named n ds).past ≡ [] = settled_past ds (fresh_actor named n) ∙ fresh_past named n in
+    let all : h.leads.lines ≡ l.past = sym (ap (λ p. p ++ h.leads.lines) start) ∙ sym (led_past (actor_with named n ds) h.leads.lines) ∙ ap (λ (a : Actor). a.past) h.leads.after in
+    subst (λ rs. Follows named n ds rs l.marks e) all (record {
       led = h.leads.led;
-      ended = ap wants h.leads.after ∙ rests (kept_of w l) None h.idle.rests;
+      ended = ap wants h.leads.after ∙ rests (kept_by v l) None (idle_no_tail v.holds h.idle.holds) h.idle.rests;
       marks = sym (ap (λ (a : Actor). a.marks) h.leads.after);
-      end = none ∙ sym (ap (λ (a : Actor). last_of a.holds) h.leads.after);
+      end = its ∙ is ∙ sym (ap (λ (a : Actor). last_of a.holds) h.leads.after);
     })
 
 -- ## Line after line
@@ -85,24 +94,24 @@ one_deed c (Declares name) = refl
 one_deed c (Acts actor d) = own_cond (actor == c) d
 one_deed c (Operates node ask) = refl
 
-own_done : (n c : ℕ) (ds : List Deed) (o : Option (ℕ × Deed)) (old new : KeptActor) → HasDone n ds old → TakesOwn (is_by c o) n o old new → HasDone n (ds ++ deeds_by c o) new
-own_done n c ds None old new h t = subst (λ x. HasDone n x new) (sym (append-nil ds)) (subst (λ x. HasDone n ds x) (sym t) h)
-own_done n c ds (Some d) old new h t = by (d.0 == c) t
+own_done : (named : Bool) (n c : ℕ) (ds : List Deed) (o : Option (ℕ × Deed)) (old new : KeptActor) → HasDone named n ds old → TakesOwn (is_by c o) n o old new → HasDone named n (ds ++ deeds_by c o) new
+own_done named n c ds None old new h t = subst (λ x. HasDone named n x new) (sym (append-nil ds)) (subst (λ x. HasDone named n ds x) (sym t) h)
+own_done named n c ds (Some d) old new h t = by (d.0 == c) t
   where
-    by : (b : Bool) → TakesOwn b n (Some d) old new → HasDone n (ds ++ own_deeds b d.1) new
-    by true u = done_more n ds d.1 old new h u
-    by false u = subst (λ x. HasDone n x new) (sym (append-nil ds)) (subst (λ x. HasDone n ds x) (sym u) h)
+    by : (b : Bool) → TakesOwn b n (Some d) old new → HasDone named n (ds ++ own_deeds b d.1) new
+    by true u = done_more named n ds d.1 old new h u
+    by false u = subst (λ x. HasDone named n x new) (sym (append-nil ds)) (subst (λ x. HasDone named n ds x) (sym u) h)
 
-pub done_first : (n c : ℕ) (items : List ScriptLine) (w : WriterView) (l : LogView) → 1 ≤ n → w ≡ new_writer n → l ≡ new_log n true → HasDone n (deeds_of c (map line_of (take 0 items))) (kept_of w l)
+pub done_first : (named : Bool) (n c : ℕ) (items : List ScriptLine) (v : ActorView) (l : LogView) → 1 ≤ n → v ≡ new_actor_view named n → l ≡ new_log n true → HasDone named n (deeds_of c (map line_of (take 0 items))) (kept_by v l)
 unfolding deeds_of
-done_first n c items w l some e f = nothing_done n (kept_of w l) some (ap (λ x. kept_of x l) e ∙ ap (kept_of (new_writer n)) f)
+done_first named n c items v l some e f = nothing_done named n (kept_by v l) some (ap (λ x. kept_by x l) e ∙ ap (kept_by (new_actor_view named n)) f)
 
-pub done_next : (n c : ℕ) (items : List ScriptLine) (i : ℕ) (x : ScriptLine) (old new : KeptActor) → i < length items → x ≡ get_or items i x → HasDone n (deeds_of c (map line_of (take i items))) old
-    → TakesOwn (is_by c (deed_of (line_of x))) n (deed_of (line_of x)) old new → HasDone n (deeds_of c (map line_of (take (i + 1) items))) new
-done_next n c items i x old new h e done t =
+pub done_next : (named : Bool) (n c : ℕ) (items : List ScriptLine) (i : ℕ) (x : ScriptLine) (old new : KeptActor) → i < length items → x ≡ get_or items i x → HasDone named n (deeds_of c (map line_of (take i items))) old
+    → TakesOwn (is_by c (deed_of (line_of x))) n (deed_of (line_of x)) old new → HasDone named n (deeds_of c (map line_of (take (i + 1) items))) new
+done_next named n c items i x old new h e done t =
     let more : deeds_of c (map line_of (take (i + 1) items)) ≡ deeds_of c (map line_of (take i items)) ++ deeds_by c (deed_of (line_of x)) =
     ap (deeds_of c) (lines_next items i x h e) ∙ deeds_append c (map line_of (take i items)) (line_of x ∷ []) ∙ ap (λ z. deeds_of c (map line_of (take i items)) ++ z) (one_deed c (line_of x)) in
-    subst (λ ds. HasDone n ds new) (sym more) (own_done n c (deeds_of c (map line_of (take i items))) (deed_of (line_of x)) old new done t)
+    subst (λ ds. HasDone named n ds new) (sym more) (own_done named n c (deeds_of c (map line_of (take i items))) (deed_of (line_of x)) old new done t)
 
-pub done_last : (n c : ℕ) (items : List ScriptLine) (i : ℕ) (k : KeptActor) → i ≡ length items → HasDone n (deeds_of c (map line_of (take i items))) k → HasDone n (deeds_of c (map line_of items)) k
-done_last n c items i k e h = subst (λ l. HasDone n (deeds_of c (map line_of l)) k) (take_all items i e) h
+pub done_last : (named : Bool) (n c : ℕ) (items : List ScriptLine) (i : ℕ) (k : KeptActor) → i ≡ length items → HasDone named n (deeds_of c (map line_of (take i items))) k → HasDone named n (deeds_of c (map line_of items)) k
+done_last named n c items i k e h = subst (λ l. HasDone named n (deeds_of c (map line_of l)) k) (take_all items i e) h

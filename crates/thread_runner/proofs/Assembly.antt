@@ -1,15 +1,16 @@
 -- What the threads and the gates leave is a mesh that agrees and follows.
-use Rattle.std.proofs.Common.{◌≡◌, ℕ, ◌+◌, ◌<◌, ◌≤◌, ◌==◌, false, List, [], ◌∷◌, map, None, sym, refl, ap, ◌∙◌, subst, arith, length, get_or, ◌⊎◌, inl, inr}
+use Rattle.std.proofs.Common.{◌≡◌, ℕ, ◌+◌, ◌<◌, ◌≤◌, ◌==◌, Bool, List, [], Option, None, sym, refl, ap, ◌∙◌, subst, arith, length, get_or, ◌⊎◌, inl, inr}
 use Rattle.std.proofs.lemmas.List.{length-map}
 use Rattle.std.proofs.Math.ListN.{get_or-map}
+use Rattle.std.proofs.lemmas.Option.{get_or_from_slice_get}
 use Rattle.std.proofs.lemmas.Bool.Decides.{eqb_tells}
 use Rattle.std.proofs.Math.Arith.{lt_of_le-ne}
 use Rattle.node_world.specs.declared.record.Record.{Record}
 use Rattle.node_world.specs.declared.mark.Mark.{Mark}
 use Rattle.node_world.specs.declared.history_line.HistoryLine.{HistoryLine}
 use Rattle.mesh.specs.declared.whole.Mesh.{Mesh}
-use Rattle.mesh.specs.declared.end.End.{End as NamedEnd}
 use Rattle.ns_tree.specs.declared.end.End.{End}
+use Rattle.ns_tree.specs.declared.end.LastSpace.{LastSpace}
 use Rattle.mesh.specs.Agree.{ListsAgree, record_of, plan_of, history_at}
 use Rattle.mesh.specs.Makers.{IsOfChores, IsOperators}
 use Rattle.mesh.specs.Matches.{reached, lines_of, AreSame, AreWithin, CallersWithin}
@@ -19,13 +20,11 @@ use Rattle.caller_seats.specs.Logs.{LogView}
 use Rattle.gate_seats.specs.Seated.{Seat}
 use Rattle.gate_seats.specs.Gates.{row_at, IsLeft}
 use Rattle.gate_seats.proofs.GateLaws.{get_any, element}
-use Rattle.cluster_runner.specs.Lines.{Line, ArePlayable, declared, deeds_of, operations_in}
-use Rattle.cluster_runner.specs.Plays.{raw_end}
-use Rattle.cluster_runner.specs.Follows.{Follows, AreOperations}
+use Rattle.script_actor.specs.Lines.{Line, ArePlayable, declared, deeds_of, operations_in}
+use Rattle.cluster_runner.specs.Follows.{AreOperations}
 use Rattle.cluster_runner.proofs.ChoresMade.{chores_made}
-use Rattle.cluster_runner.proofs.RawEnds.{raw_last}
-use Rattle.thread_runner.specs.Threads.{DoesLines, HasOperated, FollowsRaw}
-use Rattle.thread_runner.specs.Gathered.{CallerLeaves, AreGathered, IsRunOf}
+use Rattle.thread_runner.specs.Threads.{DoesLines, HasOperated, FollowsDeeds}
+use Rattle.thread_runner.specs.Gathered.{CallerLeaves, AreGathered, IsRunOf, last_in}
 use Rattle.thread_runner.proofs.LineLaws.{are_deeds}
 
 le_cases : (c d : ℕ) → c ≤ d → (c < d) ⊎ (c ≡ d)
@@ -39,7 +38,7 @@ last_or_actor c d l P actors last = by (le_cases c d l)
     by (inr e) = subst P (sym e) last
 
 -- ## One caller
-module _ (n operator c : ℕ) (lines : List Line) (tables : List TableId) (seats : List Seat) (rs : List Record) (plan : List Mark) (h : CallerLeaves n operator c lines tables seats rs plan) where
+module _ (named : Bool) (n operator c : ℕ) (lines : List Line) (tables : List TableId) (seats : List Seat) (rs : List Record) (plan : List Mark) (last : Option LastSpace) (h : CallerLeaves named n operator c lines tables seats rs plan last) where
   abbrev log : LogView
   log = h.does.0
 
@@ -52,7 +51,7 @@ module _ (n operator c : ℕ) (lines : List Line) (tables : List TableId) (seats
   pub seats_long : length seats ≡ n
   seats_long = h.does.5.count ∙ h.does.2
 
-  does : DoesLines (c == operator) n c lines log
+  does : DoesLines named (c == operator) n c lines log last
   does = h.does.6
 
   -- each of its seats has seen of it what its record says of that node
@@ -61,13 +60,13 @@ module _ (n operator c : ℕ) (lines : List Line) (tables : List TableId) (seats
       let e = seats_long in
       subst (λ r. AreSame (reached (i + 1) r) (get_or seats i d).own) past (h.does.5.same h.does.1 i d (omega (arith, l, e)))
 
-  pub its_follows : c < operator → FollowsRaw n (deeds_of c lines) rs plan
+  pub its_follows : c < operator → FollowsDeeds named n (deeds_of c lines) rs plan last
   its_follows l =
-      let f : FollowsRaw n (deeds_of c lines) log.past log.marks = subst (λ b. DoesLines b n c lines log) (other_test c operator (λ e. omega (arith, l, e))) does in
-      subst (λ r. FollowsRaw n (deeds_of c lines) r plan) past (subst (λ m. FollowsRaw n (deeds_of c lines) log.past m) marks f)
+      let f : FollowsDeeds named n (deeds_of c lines) log.past log.marks last = subst (λ b. DoesLines named b n c lines log last) (other_test c operator (λ e. omega (arith, l, e))) does in
+      subst (λ r. FollowsDeeds named n (deeds_of c lines) r plan last) past (subst (λ m. FollowsDeeds named n (deeds_of c lines) log.past m last) marks f)
 
   pub its_operations : c ≡ operator → HasOperated lines rs
-  its_operations e = subst (HasOperated lines) past (subst (λ b. DoesLines b n c lines log) (same_test c operator e) does)
+  its_operations e = subst (HasOperated lines) past (subst (λ b. DoesLines named b n c lines log last) (same_test c operator e) does)
 
 -- ## One node
 row_seat : (columns : List (List Seat)) (i c : ℕ) (d : Seat) → c < length columns → get_or (row_at i d columns) c d ≡ get_or (get_or columns c []) i d
@@ -80,21 +79,16 @@ node_same columns i c d rs hs l left same =
     let n = length-map columns (λ (s : List Seat). get_or s i d) in
     subst (λ z. AreSame (reached (i + 1) rs) z) (ap (λ (x : Seat). x.own) (sym (row_seat columns i c d l)) ∙ left.same c d (omega (arith, l, n))) same
 
--- an end without a namespace keeps its name
-names_raw : (ends : List NamedEnd) → map (λ (e : End). e.name) (map raw_end ends) ≡ map (λ (e : NamedEnd). e.name) ends
-names_raw [] = refl
-names_raw (x ∷ xs) = ap (λ ys. x.name ∷ ys) (names_raw xs)
-
 -- ## All
-module _ (nodes : ℕ) (lines : List Line) (m : Mesh) (ends : List NamedEnd) (playable : ArePlayable false nodes 0 lines) (g : AreGathered nodes lines m ends) where
+module _ (named : Bool) (nodes : ℕ) (lines : List Line) (m : Mesh) (ends : List End) (playable : ArePlayable named nodes 0 lines) (g : AreGathered named nodes lines m ends) where
   abbrev actors : ℕ
   actors = declared lines
 
-  actor : (c : ℕ) → c < actors → FollowsRaw nodes (deeds_of c lines) (record_of m c) (plan_of m c)
-  actor c l = its_follows nodes actors c lines g.tables (get_or g.columns c []) (record_of m c) (plan_of m c) (g.actors c l) l
+  actor : (c : ℕ) → c < actors → FollowsDeeds named nodes (deeds_of c lines) (record_of m c) (plan_of m c) (last_in ends c)
+  actor c l = its_follows named nodes actors c lines g.tables (get_or g.columns c []) (record_of m c) (plan_of m c) (last_in ends c) (g.actors c l) l
 
   operator : HasOperated lines (record_of m actors)
-  operator = its_operations nodes actors actors lines g.tables (get_or g.columns actors []) (record_of m actors) g.last g.operator refl
+  operator = its_operations named nodes actors actors lines g.tables (get_or g.columns actors []) (record_of m actors) g.last None g.operator refl
 
   within : (c : ℕ) → c ≤ actors → AreWithin nodes (record_of m c)
   within c l = last_or_actor c actors l (λ k. AreWithin nodes (record_of m k)) (λ k h. (g.actors k h).within) g.operator.within
@@ -102,7 +96,7 @@ module _ (nodes : ℕ) (lines : List Line) (m : Mesh) (ends : List NamedEnd) (pl
   -- some seat at the gate of the node
   seat_at : (i : ℕ) → i < nodes → Seat
   seat_at i l =
-      let n : length (get_or g.columns actors []) ≡ nodes = seats_long nodes actors actors lines g.tables (get_or g.columns actors []) (record_of m actors) g.last g.operator in
+      let n : length (get_or g.columns actors []) ≡ nodes = seats_long named nodes actors actors lines g.tables (get_or g.columns actors []) (record_of m actors) g.last None g.operator in
       (element (get_or g.columns actors []) i (omega (arith, l, n))).0
 
   same_at : (d : Seat) (i c : ℕ) → i < nodes → c ≤ actors → AreSame (reached (i + 1) (record_of m c)) (lines_of c (history_at m i))
@@ -110,8 +104,8 @@ module _ (nodes : ℕ) (lines : List Line) (m : Mesh) (ends : List NamedEnd) (pl
       let n = g.callers in
       node_same g.columns i c d (record_of m c) (history_at m i) (omega (arith, h, n)) (g.at_nodes i d l)
       (last_or_actor c actors h (λ k. AreSame (reached (i + 1) (record_of m k)) (get_or (get_or g.columns k []) i d).own)
-      (λ k b. own_same nodes actors k lines g.tables (get_or g.columns k []) (record_of m k) (plan_of m k) (g.actors k b) i d l)
-      (own_same nodes actors actors lines g.tables (get_or g.columns actors []) (record_of m actors) g.last g.operator i d l))
+      (λ k b. own_same named nodes actors k lines g.tables (get_or g.columns k []) (record_of m k) (plan_of m k) (last_in ends k) (g.actors k b) i d l)
+      (own_same named nodes actors actors lines g.tables (get_or g.columns actors []) (record_of m actors) g.last None g.operator i d l))
 
   callers_at : (i : ℕ) → i < nodes → CallersWithin actors (history_at m i)
   callers_at i l =
@@ -134,9 +128,9 @@ module _ (nodes : ℕ) (lines : List Line) (m : Mesh) (ends : List NamedEnd) (pl
       }
 
   made : (c : ℕ) → c < actors → IsOfChores nodes (record_of m c)
-  made c l = chores_made false nodes (deeds_of c lines) (record_of m c) (are_deeds nodes 0 c lines playable) (actor c l (record { name = []; last = None }) refl).led
+  made c l = chores_made named nodes (deeds_of c lines) (record_of m c) (are_deeds named nodes 0 c lines playable) (actor c l (record { name = []; last = last_in ends c }) refl).led
 
-  pub assembled : IsRunOf nodes lines m ends
+  pub assembled : IsRunOf named nodes lines m ends
   assembled =
       let n : m.nodes ≡ nodes = g.nodes_are in
       let p : length m.plan ≡ actors = g.plan in
@@ -150,8 +144,8 @@ module _ (nodes : ℕ) (lines : List Line) (m : Mesh) (ends : List NamedEnd) (pl
         follows = record {
           nodes_are = n;
           actors_are = p;
-          names = names_raw ends ∙ g.names;
-          actors = λ c e l at. actor c (omega (arith, l, p)) e (raw_last ends c e at);
+          names = g.names;
+          actors = λ c e l at. actor c (omega (arith, l, p)) e (ap (λ (x : End). x.last) (sym (get_or_from_slice_get ends c e (record { name = []; last = None }) at)));
           operator = subst (λ k. AreOperations (operations_in lines) (record_of m k)) (sym p) operator.operations;
         };
       }

@@ -1,5 +1,5 @@
 -- What a caller's thread leaves.
-use Rattle.std.proofs.Common.{◌≡◌, ℕ, ◌==◌, List, [], true, sym, ap, ◌∙◌, subst}
+use Rattle.std.proofs.Common.{◌≡◌, ℕ, ◌==◌, Bool, List, Option, [], true, sym, ap, ◌∙◌, subst}
 use Rattle.atomic_table.specs.Seated.{TableId}
 use Rattle.node_world.specs.declared.record.Record.{Record}
 use Rattle.node_world.specs.declared.mark.Mark.{Mark}
@@ -7,14 +7,15 @@ use Rattle.mesh.specs.Marks.{IsMarked, AreCopied}
 use Rattle.mesh.specs.Matches.{AreWithin}
 use Rattle.caller_seats.specs.Logs.{new_log}
 use Rattle.gate_seats.specs.Seated.{SeatsView, Seat, AreSeated, AreLater}
-use Rattle.cluster_runner.specs.Lines.{Line}
+use Rattle.ns_tree.specs.declared.end.LastSpace.{LastSpace}
+use Rattle.script_actor.specs.Lines.{Line}
 use Rattle.thread_runner.specs.Threads.{DoesLines}
 use Rattle.thread_runner.specs.Gathered.{CallerLeaves}
 
-module _ (n operator caller : ℕ) (lines : List Line) (tables : List TableId) (seats : List Seat) (rs : List Record) (plan : List Mark) (first last : SeatsView) where
+module _ (named : Bool) (n operator caller : ℕ) (lines : List Line) (tables : List TableId) (seats : List Seat) (rs : List Record) (plan : List Mark) (space : Option LastSpace) (first last : SeatsView) where
   pub leaves : first.caller ≡ caller → first.tables ≡ tables → first.log ≡ new_log n true → AreLater first last → last.log.whole ≡ true → AreSeated last.caller last.tables last.log seats
       → rs ≡ last.log.past → plan ≡ last.log.marks → (last.log.whole ≡ true → IsMarked last.log.marks [] last.log.past) → (last.log.whole ≡ true → AreCopied last.log.marks last.log.past)
-      → (last.log.whole ≡ true → AreWithin last.log.nodes last.log.past) → DoesLines (caller == operator) n caller lines last.log → CallerLeaves n operator caller lines tables seats rs plan
+      → (last.log.whole ≡ true → AreWithin last.log.nodes last.log.past) → DoesLines named (caller == operator) n caller lines last.log space → CallerLeaves named n operator caller lines tables seats rs plan space
   leaves c t l s whole h e f marked copied within does =
       let nodes : last.log.nodes ≡ n = s.nodes ∙ ap (λ x. x.nodes) l in
       record {

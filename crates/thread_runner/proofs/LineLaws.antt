@@ -1,43 +1,67 @@
 -- The lines of a script that can be played: each may come to its thread.
-use Rattle.std.proofs.Common.{ℕ, zero, suc, arith, ◌+◌, ◌==◌, List, [], ◌∷◌, map, Bool, true, false, cond}
+use Rattle.std.proofs.Common.{◌≡◌, ◌≢◌, refl, ℕ, zero, suc, arith, ◌+◌, ◌==◌, List, [], ◌∷◌, map, Bool, true, false, cond}
 use Rattle.std.specs.List.{All}
 use Rattle.script_text.specs.declared.script_line.ScriptLine.{ScriptLine}
 use Rattle.script_text.specs.declared.script_line.ScriptLine.TheVariants as line
-use Rattle.cluster_runner.specs.Lines.{Line, Deed, Declares, Acts, Operates, line_of, deeds_of, ArePlayable, AreInRange, AreDeeds, IsDeed}
-use Rattle.cluster_runner.specs.Deeds.{MayCome}
+use Rattle.edit_ops.specs.Records.{EditView}
+use Rattle.writer_core.specs.declared.task.Task.TheVariants as task
+use Rattle.script_actor.specs.Lines.{Line, Deed, Does, Submits, Declares, Acts, Operates, line_of, deeds_of, ArePlayable, AreInRange, AreDeeds, IsDeed, WithNames}
+use Rattle.script_actor.specs.Deeds.{MayCome}
 
-no_lines : (n : ℕ) → All (MayCome n) []
-no_lines n k d l = absurd (omega (arith, l))
+no_lines : (named : Bool) (n : ℕ) → All (MayCome named n) []
+no_lines named n k d l = absurd (omega (arith, l))
 
-one_line : (n : ℕ) (x : ScriptLine) (ls : List ScriptLine) → MayCome n x → All (MayCome n) ls → All (MayCome n) (x ∷ ls)
-one_line n x ls h t zero d l = h
-one_line n x ls h t (suc k) d l = t k d (omega (arith, l))
+one_line : (named : Bool) (n : ℕ) (x : ScriptLine) (ls : List ScriptLine) → MayCome named n x → All (MayCome named n) ls → All (MayCome named n) (x ∷ ls)
+one_line named n x ls h t zero d l = h
+one_line named n x ls h t (suc k) d l = t k d (omega (arith, l))
 
-pub may_come : (n actors : ℕ) (items : List ScriptLine) → ArePlayable false n actors (map line_of items) → AreInRange n items → All (MayCome n) items
+-- ## What belongs to scripts with names or without
+raw_log : (named : Bool) (bodies : List (List ℕ)) → IsDeed named (Does (task.Log bodies)) → (named ≡ false) × (bodies ≢ [])
+raw_log false bodies h = (refl, h)
+raw_log true bodies h = absurd h
+
+raw_purge : (named : Bool) (min : ℕ) → IsDeed named (Does (task.Purge min)) → named ≡ false
+raw_purge false min h = refl
+raw_purge true min h = absurd h
+
+some_edits : (named : Bool) (edits : List EditView) → IsDeed named (Submits edits) → (named ≡ true) × (edits ≢ [])
+some_edits true edits h = (refl, h.0)
+some_edits false edits h = absurd h
+
+with_names : (named : Bool) → WithNames named (Unit {0}) → named ≡ true
+with_names true h = refl
+with_names false h = absurd h
+
+pub may_come : (named : Bool) (n actors : ℕ) (items : List ScriptLine) → ArePlayable named n actors (map line_of items) → AreInRange n items → All (MayCome named n) items
 unfolding ArePlayable AreInRange
-may_come n actors [] p r = no_lines n
-may_come n actors (line.Declare name ∷ ls) p r = one_line n _ ls tt (may_come n (actors + 1) ls p r.1)
-may_come n actors (line.Takeover actor ∷ ls) p r = one_line n _ ls tt (may_come n actors ls p.2 r.1)
-may_come n actors (line.Roll actor ∷ ls) p r = one_line n _ ls tt (may_come n actors ls p.2 r.1)
-may_come n actors (line.Close actor ∷ ls) p r = one_line n _ ls tt (may_come n actors ls p.2 r.1)
-may_come n actors (line.Log actor bodies ∷ ls) p r = one_line n _ ls p.1 (may_come n actors ls p.2 r.1)
-may_come n actors (line.Purge actor min ∷ ls) p r = one_line n _ ls tt (may_come n actors ls p.2 r.1)
-may_come n actors (line.Drop actor node call ∷ ls) p r = one_line n _ ls (p.1, r.0.0, r.0.1, r.0.2) (may_come n actors ls p.2 r.1)
-may_come n actors (line.Mute actor node call ∷ ls) p r = one_line n _ ls (p.1, r.0.0, r.0.1, r.0.2) (may_come n actors ls p.2 r.1)
-may_come n actors (line.Late actor node call ∷ ls) p r = one_line n _ ls (p.1, r.0.0, r.0.1) (may_come n actors ls p.2 r.1)
-may_come n actors (line.Kill node ∷ ls) p r = one_line n _ ls (p.0, p.1) (may_come n actors ls p.3 r.1)
-may_come n actors (line.Restart node ∷ ls) p r = one_line n _ ls (p.0, p.1) (may_come n actors ls p.3 r.1)
-may_come n actors (line.Arm node calls stop ∷ ls) p r = one_line n _ ls (p.0, p.1) (may_come n actors ls p.3 r.1)
+may_come named n actors [] p r = no_lines named n
+may_come named n actors (line.Declare name ∷ ls) p r = one_line named n _ ls tt (may_come named n (actors + 1) ls p r.1)
+may_come named n actors (line.Takeover actor ∷ ls) p r = one_line named n _ ls tt (may_come named n actors ls p.2 r.1)
+may_come named n actors (line.Roll actor ∷ ls) p r = one_line named n _ ls tt (may_come named n actors ls p.2 r.1)
+may_come named n actors (line.Close actor ∷ ls) p r = one_line named n _ ls tt (may_come named n actors ls p.2 r.1)
+may_come named n actors (line.Log actor bodies ∷ ls) p r = one_line named n _ ls (raw_log named bodies p.1) (may_come named n actors ls p.2 r.1)
+may_come named n actors (line.Edits actor edits ∷ ls) p r = one_line named n _ ls (some_edits named edits p.1) (may_come named n actors ls p.2 r.1)
+may_come named n actors (line.Purge actor min ∷ ls) p r = one_line named n _ ls (raw_purge named min p.1) (may_come named n actors ls p.2 r.1)
+may_come named n actors (line.Trim actor extra ∷ ls) p r = one_line named n _ ls (with_names named p.1) (may_come named n actors ls p.2 r.1)
+may_come named n actors (line.Tail actor ∷ ls) p r = one_line named n _ ls (with_names named p.1) (may_come named n actors ls p.2 r.1)
+may_come named n actors (line.Checkpoint actor ∷ ls) p r = one_line named n _ ls (with_names named p.1) (may_come named n actors ls p.2 r.1)
+may_come named n actors (line.Reload actor ∷ ls) p r = one_line named n _ ls (with_names named p.1) (may_come named n actors ls p.2 r.1)
+may_come named n actors (line.Drop actor node call ∷ ls) p r = one_line named n _ ls (p.1, r.0.0, r.0.1, r.0.2) (may_come named n actors ls p.2 r.1)
+may_come named n actors (line.Mute actor node call ∷ ls) p r = one_line named n _ ls (p.1, r.0.0, r.0.1, r.0.2) (may_come named n actors ls p.2 r.1)
+may_come named n actors (line.Late actor node call ∷ ls) p r = one_line named n _ ls (p.1, r.0.0, r.0.1) (may_come named n actors ls p.2 r.1)
+may_come named n actors (line.Kill node ∷ ls) p r = one_line named n _ ls (p.0, p.1) (may_come named n actors ls p.3 r.1)
+may_come named n actors (line.Restart node ∷ ls) p r = one_line named n _ ls (p.0, p.1) (may_come named n actors ls p.3 r.1)
+may_come named n actors (line.Arm node calls stop ∷ ls) p r = one_line named n _ ls (p.0, p.1) (may_come named n actors ls p.3 r.1)
 
 -- ## An actor's deeds can be done
-own_deeds : (b : Bool) (d : Deed) (ds : List Deed) → IsDeed false d → AreDeeds false ds → AreDeeds false (cond b (d ∷ ds) ds)
+own_deeds : (named b : Bool) (d : Deed) (ds : List Deed) → IsDeed named d → AreDeeds named ds → AreDeeds named (cond b (d ∷ ds) ds)
 unfolding AreDeeds
-own_deeds true d ds h g = (h, g)
-own_deeds false d ds h g = g
+own_deeds named true d ds h g = (h, g)
+own_deeds named false d ds h g = g
 
-pub are_deeds : (n actors c : ℕ) (ls : List Line) → ArePlayable false n actors ls → AreDeeds false (deeds_of c ls)
+pub are_deeds : (named : Bool) (n actors c : ℕ) (ls : List Line) → ArePlayable named n actors ls → AreDeeds named (deeds_of c ls)
 unfolding ArePlayable AreDeeds deeds_of
-are_deeds n actors c [] p = tt
-are_deeds n actors c (Declares name ∷ ls) p = are_deeds n (actors + 1) c ls p
-are_deeds n actors c (Acts actor deed ∷ ls) p = own_deeds (actor == c) deed (deeds_of c ls) p.1 (are_deeds n actors c ls p.2)
-are_deeds n actors c (Operates node ask ∷ ls) p = are_deeds n actors c ls p.3
+are_deeds named n actors c [] p = tt
+are_deeds named n actors c (Declares name ∷ ls) p = are_deeds named n (actors + 1) c ls p
+are_deeds named n actors c (Acts actor deed ∷ ls) p = own_deeds named (actor == c) deed (deeds_of c ls) p.1 (are_deeds named n actors c ls p.2)
+are_deeds named n actors c (Operates node ask ∷ ls) p = are_deeds named n actors c ls p.3

@@ -5,7 +5,7 @@ use Rattle.node_world.specs.declared.record.Record.{Record}
 use Rattle.node_world.specs.declared.record.Record.TheVariants.{Operator}
 use Rattle.mesh.specs.Makers.{IsOperators}
 use Rattle.gate_seats.specs.LaterLaws.{later_same, later_on}
-use Rattle.cluster_runner.specs.Lines.{Line, Declares, Acts, Operates, operations_in, line_of}
+use Rattle.script_actor.specs.Lines.{Line, Declares, Acts, Operates, operations_in, line_of}
 use Rattle.cluster_runner.specs.Follows.{AreOperations}
 use Rattle.cluster_runner.proofs.Taking.{operations_append, operations_snoc, operators_snoc}
 use Rattle.thread_runner.specs.Threads.{OperatesOn, HasOperated}

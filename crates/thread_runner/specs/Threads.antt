@@ -4,12 +4,13 @@ use Rattle.node_world.specs.declared.record.Record.{Record}
 use Rattle.node_world.specs.declared.record.Record.TheVariants.{Operator}
 use Rattle.node_world.specs.declared.mark.Mark.{Mark}
 use Rattle.ns_tree.specs.declared.end.End.{End}
+use Rattle.ns_tree.specs.declared.end.LastSpace.{LastSpace}
 use Rattle.mesh.specs.Makers.{IsOperation, IsOperators}
 use Rattle.caller_seats.specs.Logs.{LogView}
-use Rattle.cluster_runner.specs.Lines.{Deed, Line, Declares, Acts, Operates, deeds_of, operations_in}
+use Rattle.script_actor.specs.Lines.{Deed, Line, Declares, Acts, Operates, deeds_of, operations_in}
 use Rattle.cluster_runner.specs.Follows.{actor_with, Follows, AreOperations}
-use Rattle.cluster_runner.specs.Kept.{KeptActor, resting}
-use Rattle.cluster_runner.specs.Deeds.{LedTo, IsIdleActor, TakesIf}
+use Rattle.script_actor.specs.KeptActor.{KeptActor, resting}
+use Rattle.script_actor.specs.Deeds.{LedTo, IsIdleActor, TakesIf}
 
 -- ## An actor
 -- the line is this actor's
@@ -23,9 +24,9 @@ TakesOwn true nodes d old new = TakesIf nodes d old new
 TakesOwn false nodes d old new = new ≡ old
 
 -- these deeds were taken, from the beginning on
-pub record HasDone (nodes : ℕ) (deeds : List Deed) (k : KeptActor) : Type 0 where
+pub record HasDone (named : Bool) (nodes : ℕ) (deeds : List Deed) (k : KeptActor) : Type 0 where
   pub idle : IsIdleActor nodes k
-  pub leads : LedTo (actor_with false nodes deeds) (resting k)
+  pub leads : LedTo (actor_with named nodes deeds) (resting k)
 
 -- ## The operator
 -- what it lists of a line
@@ -40,10 +41,11 @@ pub record HasOperated (lines : List Line) (past : List Record) : Type 0 where
   pub operates : IsOperators past
 
 -- ## A caller: the operator, or an actor
--- an actor without a namespace does its deeds; its end has nothing but its name
-abbrev pub FollowsRaw : ℕ → List Deed → List Record → List Mark → Type 0
-FollowsRaw nodes deeds rs plan = (e : End) → e.last ≡ None → Follows false nodes deeds rs plan e
+-- an actor does its deeds, and holds this at last; its end has its name beside it
+abbrev pub FollowsDeeds : Bool → ℕ → List Deed → List Record → List Mark → Option LastSpace → Type 0
+FollowsDeeds named nodes deeds rs plan last = (e : End) → e.last ≡ last → Follows named nodes deeds rs plan e
 
-abbrev pub DoesLines : Bool → ℕ → ℕ → List Line → LogView → Type 0
-DoesLines true nodes caller lines log = HasOperated lines log.past
-DoesLines false nodes caller lines log = FollowsRaw nodes (deeds_of caller lines) log.past log.marks
+-- in a script with names or without, by the operator or by an actor
+abbrev pub DoesLines : Bool → Bool → ℕ → ℕ → List Line → LogView → Option LastSpace → Type 0
+DoesLines named true nodes caller lines log last = HasOperated lines log.past
+DoesLines named false nodes caller lines log last = FollowsDeeds named nodes (deeds_of caller lines) log.past log.marks last

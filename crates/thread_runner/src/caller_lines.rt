@@ -1,10 +1,10 @@
 // One caller's thread: the lines of the operator, or of an actor, at the caller's seats.
 ghost use Rattle.std.specs.List.{All};
-ghost use Rattle.std.specs.Prelude.{◌≡◌, ◌≤◌, ◌==◌, map, length, true, OnOk, IfOk};
+ghost use Rattle.std.specs.Prelude.{◌≡◌, ◌≤◌, ◌==◌, map, length, true, IfOk, OnOk};
 ghost use Rattle.caller_seats.specs.Logs.{new_log};
 ghost use Rattle.gate_seats.specs.Seated.{seat_of, AreSeated, AreLater};
-ghost use Rattle.cluster_runner.specs.Lines.{line_of};
-ghost use Rattle.cluster_runner.specs.Deeds.{MayCome};
+ghost use Rattle.script_actor.specs.Lines.{line_of};
+ghost use Rattle.script_actor.specs.Deeds.{MayCome};
 ghost use Rattle.thread_runner.specs.Threads.{DoesLines};
 ghost use Rattle.thread_runner.specs.Gathered.{CallerLeaves};
 
@@ -14,12 +14,13 @@ use gate_seats::{GateSeats, NodeGate, Pass};
 use journal_core::OutOfMemory;
 use node_gate::{Gate, GateSeat};
 use node_world::{ActorPlan, RecordList};
+use ns_tree::LastSpace;
 use script_text::ScriptLine;
 use std::alloc::{AllocError, Global};
 use std::sync::Wait;
 
-/// What a thread leaves: its seats, its record and its marks.
-pub(crate) type Left<C> = (Vec<GateSeat<C>>, RecordList, ActorPlan);
+/// What a thread leaves: its seats, its record and its marks, and what an actor with names holds at last.
+pub(crate) type Left<C> = (Vec<GateSeat<C>>, RecordList, ActorPlan, Option<LastSpace>);
 
 /// Whether the caller is the operator.
 fn is_operator(caller: u32, operator: u32) -> bool
@@ -31,21 +32,23 @@ fn is_operator(caller: u32, operator: u32) -> bool
 /// The lines of one caller: the operator's, or an actor's.
 fn do_lines<R: Wait, C: NodeGate, G: Pass>(
     alloc: Global,
+    named: bool,
     lines: &[ScriptLine],
     operator: u32,
     caller: u32,
     seats: &mut GateSeats<'_, R, C, G>,
-) -> Result<(), OutOfMemory>
+) -> Result<Option<LastSpace>, OutOfMemory>
     requires some { 1 ≤ seats.old.log.nodes }
     requires log { seats.old.log ≡ new_log seats.old.log.nodes true }
-    requires may { All (MayCome seats.old.log.nodes) lines.now }
-    ensures does { OnOk result (DoesLines (caller == operator) seats.old.log.nodes caller (map line_of lines.now) seats.new.log) }
+    requires may { All (MayCome named seats.old.log.nodes) lines.now }
+    ensures does { IfOk result (λ last. DoesLines named (caller == operator) seats.old.log.nodes caller (map line_of lines.now) seats.new.log last) }
     ensures later { OnOk result (AreLater seats.old seats.new) }
 {
     if is_operator(caller, operator) {
-        operate_alone(lines, seats)
+        operate_alone(named, lines, seats)?;
+        Ok(None)
     } else {
-        act_alone(alloc, lines, caller, seats)
+        act_alone(alloc, named, lines, caller, seats)
     }
 }
 
@@ -54,6 +57,7 @@ fn do_lines<R: Wait, C: NodeGate, G: Pass>(
 pub(crate) fn take_lines<R: Wait, C: NodeGate, G: Pass>(
     rt: &R,
     alloc: Global,
+    named: bool,
     lines: &[ScriptLine],
     gates: &[Gate<C>],
     pass: &G,
@@ -63,13 +67,14 @@ pub(crate) fn take_lines<R: Wait, C: NodeGate, G: Pass>(
 ) -> Result<Left<C>, OutOfMemory>
     requires some { 1 ≤ length seats.items }
     requires seated { AreSeated caller (map (λ g. g.table.shared.table_id) gates.now) (new_log (length seats.items) true) (map (λ t. seat_of t.seat.table_id t.caller t.seat.me.0.seen) seats.items) }
-    requires may { All (MayCome (length seats.items)) lines.now }
-    ensures { IfOk result (λ left. CallerLeaves (length seats.items) operator caller (map line_of lines.now) (map (λ g. g.table.shared.table_id) gates.now) (map (λ t. seat_of t.seat.table_id t.caller t.seat.me.0.seen) left.0.items) left.1 left.2) }
+    requires may { All (MayCome named (length seats.items)) lines.now }
+    ensures { IfOk result (λ left. CallerLeaves named (length seats.items) operator caller (map line_of lines.now) (map (λ g. g.table.shared.table_id) gates.now) (map (λ t. seat_of t.seat.table_id t.caller t.seat.me.0.seen) left.0.items) left.1 left.2 left.3) }
 {
     let mut seats = GateSeats::new(alloc, rt, gates, seats, caller, pass)?;
-    do_lines(alloc, lines, operator, caller, &mut seats)?;
+    let last = do_lines(alloc, named, lines, operator, caller, &mut seats)?;
     if !seats.is_whole() {
         return Err(AllocError);
     }
-    Ok(seats.into_parts())
+    let (seats, past, marks) = seats.into_parts();
+    Ok((seats, past, marks, last))
 }

@@ -1,26 +1,33 @@
 // The ends of the actors that a script declares.
-ghost use Rattle.std.specs.Prelude.{◌≡◌, ◌++◌, ◌∷◌, [], map, OnOk, IfOk};
-ghost use Rattle.cluster_runner.specs.Lines.{line_of, names_in};
+ghost use Rattle.std.specs.Prelude.{◌≡◌, ◌++◌, ◌∷◌, [], map, length, OnOk, IfOk};
+ghost use Rattle.script_actor.specs.Lines.{line_of, names_in};
 
 use journal_core::OutOfMemory;
-use mesh::{End, EndList};
+use ns_tree::{End, EndList, LastSpace};
+use qj_num::Name;
 use script_text::ScriptLine;
 use std::alloc::Global;
 
-/// One more end, if the line declares an actor.
-#[tactic(auto, using(crate::proofs::EndLaws::ends), unfolding(cluster_runner::specs::Lines::names_in))]
-fn note_end(ends: &mut EndList, line: &ScriptLine) -> Result<(), OutOfMemory>
-    ensures { OnOk result (map (λ e. e.name) ends.new ≡ map (λ e. e.name) ends.old ++ names_in (line_of line.now ∷ [])) }
+/// One more name, if the line declares an actor.
+#[tactic(auto, using(crate::proofs::EndLaws::ends), unfolding(script_actor::specs::Lines::names_in))]
+fn note_name(alloc: Global, names: &mut Vec<Name>, line: &ScriptLine) -> Result<(), OutOfMemory>
+    ensures { OnOk result (names.new.items ≡ names.old.items ++ names_in (line_of line.now ∷ [])) }
 {
     match line {
-        ScriptLine::Declare { name } => ends.push(End {
-            name: name.share()?,
-        }),
+        ScriptLine::Declare { name } => {
+            names.push(Name::from_slice(alloc, name.as_slice())?)?;
+            Ok(())
+        }
         ScriptLine::Takeover { .. } => Ok(()),
         ScriptLine::Roll { .. } => Ok(()),
         ScriptLine::Close { .. } => Ok(()),
         ScriptLine::Log { .. } => Ok(()),
+        ScriptLine::Edits { .. } => Ok(()),
         ScriptLine::Purge { .. } => Ok(()),
+        ScriptLine::Trim { .. } => Ok(()),
+        ScriptLine::Tail { .. } => Ok(()),
+        ScriptLine::Checkpoint { .. } => Ok(()),
+        ScriptLine::Reload { .. } => Ok(()),
         ScriptLine::Drop { .. } => Ok(()),
         ScriptLine::Mute { .. } => Ok(()),
         ScriptLine::Late { .. } => Ok(()),
@@ -30,13 +37,31 @@ fn note_end(ends: &mut EndList, line: &ScriptLine) -> Result<(), OutOfMemory>
     }
 }
 
-/// The ends of the actors that these lines declare, in order.
-pub(crate) fn ends_in(alloc: Global, lines: &[ScriptLine]) -> Result<EndList, OutOfMemory>
-    ensures { IfOk result (λ ends. map (λ e. e.name) ends ≡ names_in (map line_of lines.now)) }
+/// The names of the actors that these lines declare, in order.
+fn names_of(alloc: Global, lines: &[ScriptLine]) -> Result<Vec<Name>, OutOfMemory>
+    ensures { IfOk result (λ names. names.items ≡ names_in (map line_of lines.now)) }
 {
-    let mut ends = EndList::new(alloc);
+    let mut names = Vec::new(alloc);
     for line in lines {
-        note_end(&mut ends, line)?;
+        note_name(alloc, &mut names, line)?;
+    }
+    Ok(names)
+}
+
+/// The ends of the actors that these lines declare, in order, where each holds this at last.
+pub(crate) fn ends_in(
+    alloc: Global,
+    lines: &[ScriptLine],
+    lasts: Vec<Option<LastSpace>>,
+) -> Result<EndList, OutOfMemory>
+    requires { length lasts.items ≡ length (names_in (map line_of lines.now)) }
+    ensures names { IfOk result (λ ends. map (λ e. e.name) ends ≡ names_in (map line_of lines.now)) }
+    ensures lasts { IfOk result (λ ends. map (λ e. e.last) ends ≡ lasts.items) }
+{
+    let names = names_of(alloc, lines)?;
+    let mut ends = EndList::new(alloc);
+    for (name, last) in names.into_iter().zip(lasts) {
+        ends.push(End { name, last })?;
     }
     Ok(ends)
 }

@@ -3,8 +3,8 @@ ghost use Rattle.std.specs.List.{All};
 ghost use Rattle.std.specs.Prelude.{◌≡◌, map, true, OnOk};
 ghost use Rattle.caller_seats.specs.Logs.{new_log};
 ghost use Rattle.gate_seats.specs.Seated.{AreLater};
-ghost use Rattle.cluster_runner.specs.Lines.{line_of};
-ghost use Rattle.cluster_runner.specs.Deeds.{MayCome};
+ghost use Rattle.script_actor.specs.Lines.{line_of};
+ghost use Rattle.script_actor.specs.Deeds.{MayCome};
 ghost use Rattle.thread_runner.specs.Threads.{OperatesOn, HasOperated};
 
 use gate_seats::{GateSeats, NodeGate, Pass};
@@ -16,13 +16,15 @@ use std::sync::Wait;
 /// A line, if it is the operator's.
 #[tactic(auto, using(crate::proofs::OperatorLaws::operators))]
 fn take_operation<R: Wait, C: NodeGate, G: Pass>(
+    named: bool,
     seats: &mut GateSeats<'_, R, C, G>,
     line: &ScriptLine,
 ) -> Result<(), OutOfMemory>
-    requires may { MayCome seats.old.log.nodes line.now }
+    requires may { MayCome named seats.old.log.nodes line.now }
     ensures takes { OnOk result (OperatesOn (line_of line.now) seats.old.log.past seats.new.log.past) }
     ensures later { OnOk result (AreLater seats.old seats.new) }
 {
+    let _ = named;
     match line {
         ScriptLine::Kill { node } => {
             let _ = seats.operate(*node, NodeAsk::Kill)?;
@@ -42,7 +44,12 @@ fn take_operation<R: Wait, C: NodeGate, G: Pass>(
         ScriptLine::Roll { .. } => {}
         ScriptLine::Close { .. } => {}
         ScriptLine::Log { .. } => {}
+        ScriptLine::Edits { .. } => {}
         ScriptLine::Purge { .. } => {}
+        ScriptLine::Trim { .. } => {}
+        ScriptLine::Tail { .. } => {}
+        ScriptLine::Checkpoint { .. } => {}
+        ScriptLine::Reload { .. } => {}
         ScriptLine::Drop { .. } => {}
         ScriptLine::Mute { .. } => {}
         ScriptLine::Late { .. } => {}
@@ -53,16 +60,17 @@ fn take_operation<R: Wait, C: NodeGate, G: Pass>(
 /// All lines of the operator at these seats: what it lists is what they ask, in order.
 #[tactic(auto, using(crate::proofs::OperatorLaws::operators))]
 pub(crate) fn operate_alone<R: Wait, C: NodeGate, G: Pass>(
+    named: bool,
     lines: &[ScriptLine],
     seats: &mut GateSeats<'_, R, C, G>,
 ) -> Result<(), OutOfMemory>
     requires log { seats.old.log ≡ new_log seats.old.log.nodes true }
-    requires may { All (MayCome seats.old.log.nodes) lines.now }
+    requires may { All (MayCome named seats.old.log.nodes) lines.now }
     ensures operates { OnOk result (HasOperated (map line_of lines.now) seats.new.log.past) }
     ensures later { OnOk result (AreLater seats.old seats.new) }
 {
     for line in lines {
-        take_operation(seats, line)?;
+        take_operation(named, seats, line)?;
     }
     Ok(())
 }

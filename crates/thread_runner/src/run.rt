@@ -3,7 +3,7 @@ ghost use Rattle.std.specs.List.{All};
 ghost use Rattle.std.specs.Prelude.{◌≡◌, ◌<◌, ◌+◌, ◌-◌, ◌^◌, Some, map, take, length, IfOk};
 ghost use Rattle.journal_core.specs.Step.{fresh_state};
 ghost use Rattle.cluster_runner.specs.Kept.{states_behind};
-ghost use Rattle.cluster_runner.specs.Lines.{lines_of, IsPlayable, NumbersFit};
+ghost use Rattle.script_actor.specs.Lines.{lines_of, IsPlayable, NumbersFit};
 ghost use Rattle.thread_runner.specs.Gathered.{Assembled, IsRunOf};
 
 use crate::ends::ends_in;
@@ -35,12 +35,12 @@ fn callers_of(operator: u32) -> Result<u32, OutOfMemory>
 }
 
 /// All but the last, which is the operator's.
-fn without_operator(plans: Vec<ActorPlan>) -> Vec<ActorPlan>
-    ensures { result.items ≡ take (length plans.items - 1) plans.items }
+fn without_operator<T: Drop>(items: Vec<T>) -> Vec<T>
+    ensures { result.items ≡ take (length items.items - 1) items.items }
 {
-    let mut plans = plans;
-    let _ = plans.pop();
-    plans
+    let mut items = items;
+    let _ = items.pop();
+    items
 }
 
 /// The marks of these actors, in order.
@@ -70,7 +70,7 @@ pub fn run_on<R: Threads + Wait + Sync, N: CutNode + Drop + Send, G: Pass + Sync
     requires count { length nodes.items ≡ script.now.nodes }
     requires fresh { All (λ n. N.state n ≡ Some fresh_state) nodes.items }
     requires steady { All (λ n. N.steady n) nodes.items }
-    ensures run { IfOk result (λ played. IsRunOf script.now.nodes (lines_of script.now) played.mesh played.ends) }
+    ensures run { IfOk result (λ played. IsRunOf script.now.named script.now.nodes (lines_of script.now) played.mesh played.ends) }
     ensures states { IfOk result (λ played. map (λ n. N.state n) played.nodes.items ≡ states_behind played.mesh.histories) }
     ensures steady { IfOk result (λ played. All (λ n. N.steady n) played.nodes.items) }
 {
@@ -80,14 +80,24 @@ pub fn run_on<R: Threads + Wait + Sync, N: CutNode + Drop + Send, G: Pass + Sync
     let callers = callers_of(operator)?;
     let (gates, keepers, columns) = open_gates(alloc, nodes, callers)?;
     let jobs = jobs_of(alloc, columns)?;
-    let lefts = take_all(rt, alloc, lines, &gates, pass, operator, jobs)?;
-    let (columns, records, plans) = side_by_side(alloc, lefts)?;
+    let lefts = take_all(
+        rt,
+        alloc,
+        script.names(),
+        lines,
+        &gates,
+        pass,
+        operator,
+        jobs,
+    )?;
+    let (columns, records, plans, lasts) = side_by_side(alloc, lefts)?;
     let plans = without_operator(plans);
+    let lasts = without_operator(lasts);
     let (nodes, histories) = close_gates(alloc, gates, keepers, columns)?;
     let histories = HistoryTable::of(histories);
     let records = RecordTable::of(records);
     let plan = plan_of(alloc, plans)?;
-    let ends = ends_in(alloc, lines)?;
+    let ends = ends_in(alloc, lines, lasts)?;
     let mesh = Mesh {
         nodes: count,
         histories,

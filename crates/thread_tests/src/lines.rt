@@ -1,6 +1,7 @@
 // Every kind of line, one actor alone, and random scripts.
 use crate::running::{play_text, report, run_text};
 use gate_seats::FreePass;
+use mesh::Mesh;
 use rand_core::utils::NextWord;
 use rand_pcg::Pcg32;
 use std::alloc::{AllocError, Global};
@@ -16,6 +17,7 @@ const ONE_ACTOR: &[u8] =
 fn every_kind_of_line_runs(rt: HostRuntime) -> Result<(), Fail> {
     let ran = run_text(&rt, rt.alloc(), ALL_LINES, &FreePass)?;
     let mesh = &ran.played.mesh;
+    assert!(rt; ran.agrees);
     assert!(rt; mesh.histories.as_slice().len() == 3);
     assert!(rt; mesh.records.as_slice().len() == 3);
     assert!(rt; mesh.records.as_slice()[2].as_slice().len() == 4);
@@ -28,6 +30,43 @@ fn every_kind_of_line_runs(rt: HostRuntime) -> Result<(), Fail> {
 fn one_actor_alone_prints_what_a_play_prints(rt: HostRuntime) -> Result<(), Fail> {
     let ran = run_text(&rt, rt.alloc(), ONE_ACTOR, &FreePass)?;
     let played = play_text(rt.alloc(), ONE_ACTOR)?;
+    assert!(rt; report(rt.alloc(), &ran.played)? == report(rt.alloc(), &played)?);
+    Ok(())
+}
+
+const COMPETING_NAMES: &[u8] =
+    b"names 3\nname a\nname b\nname s\ntakeover a\nlog a mkdir /a 1 755 u g\ntakeover b\nlog b mkdir /b 2 755 u g\ntail s\ntail a\n";
+
+const ONE_NAME: &[u8] =
+    b"names 3\nname a\ntakeover a\nlog a mkdir /a 1 755 u g ; mkdir /a 2 755 u g\nroll a\nclose a\ncheckpoint a\nlog a delete /a 3\nreload a\ntakeover a\ndrop a 2 1\nlog a delete /a 4\ntrim a 0\n";
+
+// Whether some node lists a call of this caller.
+fn has_called(mesh: &Mesh, caller: u32) -> bool {
+    for history in mesh.histories.as_slice() {
+        if history.as_slice().iter().any(|line| line.caller == caller) {
+            return true;
+        }
+    }
+    false
+}
+
+#[test]
+fn competing_name_nodes_run(rt: HostRuntime) -> Result<(), Fail> {
+    for _ in 0..10 {
+        let ran = run_text(&rt, rt.alloc(), COMPETING_NAMES, &FreePass)?;
+        assert!(rt; ran.agrees);
+        assert!(rt; ran.played.ends.as_slice().len() == 3);
+        for caller in 0..3u32 {
+            assert!(rt; has_called(&ran.played.mesh, caller));
+        }
+    }
+    Ok(())
+}
+
+#[test]
+fn one_name_node_alone_prints_what_a_play_prints(rt: HostRuntime) -> Result<(), Fail> {
+    let ran = run_text(&rt, rt.alloc(), ONE_NAME, &FreePass)?;
+    let played = play_text(rt.alloc(), ONE_NAME)?;
     assert!(rt; report(rt.alloc(), &ran.played)? == report(rt.alloc(), &played)?);
     Ok(())
 }
@@ -78,10 +117,11 @@ fn random_script(alloc: Global, seed: u64, lines: u64) -> Result<Vec<u8>, AllocE
 }
 
 #[test]
-fn ten_random_scripts_run(rt: HostRuntime) -> Result<(), Fail> {
-    for seed in 0..10u64 {
+fn fifty_random_scripts_run(rt: HostRuntime) -> Result<(), Fail> {
+    for seed in 0..50u64 {
         let text = random_script(rt.alloc(), seed, 60)?;
         let ran = run_text(&rt, rt.alloc(), &text, &FreePass)?;
+        assert!(rt; ran.agrees);
         let mut lines = 0u64;
         for history in ran.played.mesh.histories.as_slice() {
             lines = lines.saturating_add(history.as_slice().len() as u64);

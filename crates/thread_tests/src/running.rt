@@ -4,6 +4,7 @@ ghost use Rattle.script_text.specs.Grammar.{IsScript};
 use cluster_runner::{Played, plain_nodes, play, scripts_are_playable};
 use gate_seats::Pass;
 use journal_core::PlainNode;
+use mesh_agreement::agrees;
 use mesh_judge::ordered;
 use node_world::Event;
 use report_text::{Report, report_of};
@@ -14,11 +15,12 @@ use std::test::Fail;
 use std::thread::Threads;
 use thread_runner::run_on;
 
-/// What a run leaves, and the epoch order of its mesh.
+/// What a run leaves, the epoch order of its mesh, and whether its lists agree.
 #[derive(Drop)]
 pub(crate) struct Ran {
     pub(crate) played: Played<PlainNode>,
     pub(crate) events: Vec<Event>,
+    pub(crate) agrees: bool,
 }
 
 fn run_script<R: Threads + Wait + Sync, G: Pass + Sync>(
@@ -33,7 +35,12 @@ fn run_script<R: Threads + Wait + Sync, G: Pass + Sync>(
     let nodes = plain_nodes(alloc, script.nodes())?;
     let played = run_on(rt, alloc, nodes, script, pass)?;
     let events = ordered(alloc, &played.mesh)?;
-    Ok(Ran { played, events })
+    let agrees = agrees(alloc, &played.mesh)?;
+    Ok(Ran {
+        played,
+        events,
+        agrees,
+    })
 }
 
 /// A run of the script with this text.

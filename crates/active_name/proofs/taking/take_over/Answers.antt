@@ -1,4 +1,4 @@
-use Rattle.std.proofs.Common.{◌≡◌, ℕ, Bool, [], if◌then◌else◌, sym, ap, ◌∙◌, subst}
+use Rattle.std.proofs.Common.{ℕ, Bool, [], if◌then◌else◌, sym, ap, ◌∙◌, subst}
 use Rattle.writer_core.specs.Views.{WriterView}
 use Rattle.writer_core.specs.Writer.{writer_stopped}
 use Rattle.active_name.specs.Entering.{IsTailedIn}

@@ -1,6 +1,7 @@
 use Rattle.std.proofs.Common.{◌≡◌, map}
-use Rattle.cluster_runner.proofs.ClusterLaws.{named_end}
+use Rattle.cluster_runner.specs.Kept.{end_of}
+use Rattle.cluster_runner.specs.Shown.{keeps}
 use Rattle.cluster_runner.proofs.cluster.lists_of.Given as goal
 
 abbrev pub invariant-loop-player : goal.invariant-loop-player
-invariant-loop-player l = (l.ends ≡ map (λ p. named_end p.name) l.yielded) × (l.records.items ≡ map (λ p. p.log.past) l.yielded) × (l.plan ≡ map (λ p. p.log.marks) l.yielded)
+invariant-loop-player l = (l.ends ≡ map (λ p. end_of (keeps p)) l.yielded) × (l.records.items ≡ map (λ p. p.log.past) l.yielded) × (l.plan ≡ map (λ p. p.log.marks) l.yielded)

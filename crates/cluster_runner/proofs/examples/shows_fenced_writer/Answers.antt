@@ -16,10 +16,10 @@ use Rattle.mesh.specs.Makers.{maker_of, maker_hears}
 use Rattle.mesh.specs.Matches.{reaches, reached, lines_of}
 use Rattle.mesh.specs.Owners.{wins, owns}
 use Rattle.mesh.specs.Order.{placed_from, place_of, key_of, is_below, tags_of, blocks_cut, blocks_from, put_block, sorted, entries_in, epoch_order}
-use Rattle.cluster_runner.specs.Lines.{declared, names_in, deeds_of, operations_in}
+use Rattle.script_actor.specs.Lines.{declared, names_in, deeds_of, operations_in}
 use Rattle.request_text.specs.Texts.{refusal_cause_text, refusal_name}
-use Rattle.cluster_runner.specs.Results.{cause_word, cause_words, name_of, for_each, acked_from, acked, done_results, results_of, inactive_results, too_long_results, late_none}
-use Rattle.cluster_runner.specs.Actor.{fresh_actor, call_wanted, copy_first, read_first, says_first, wants, is_wanting, is_broken, task_begun, copied, deed_taken, settled, handed, turn_taken, turn_with, moved_on, heard_by, resettled, goes_on, actor_after}
+use Rattle.script_actor.specs.Results.{cause_word, cause_words, name_of, for_each, acked_from, acked, done_results, results_of, inactive_results, too_long_results, late_none}
+use Rattle.script_actor.specs.Actor.{fresh_actor, call_wanted, copy_first, read_first, says_first, wants, is_wanting, is_broken, task_begun, copied, deed_taken, settled, handed, turn_taken, turn_with, moved_on, heard_by, resettled, goes_on, actor_after}
 use Rattle.cluster_runner.specs.Plays.{play_begins, actor_at, node_asked, noted, same_kind, is_marked, delivery, told_of, call_made, copy_made, wanted, is_done, line_taken, next_line, turned, play_step, play_steps, no_lines, has_ended, history_of, histories_from, mesh_of, ends_of, ends_from}
 use Rattle.cluster_runner.specs.Told.{told_in, results_in}
 use Rattle.cluster_runner.specs.Examples.{played, results_at, listed, dropped_call, killed_nodes, competing_takeovers, fenced_writer, fencing_lines, before_recovery, recovered_edit, recovering_lines, lost_fetch, second_fetch_lines, late_copies, late_lines, rolled_and_purged, purging_lines, stopped_in_prepare, stopping_lines, cut_in_accept, cut_lines}

@@ -1,7 +1,6 @@
-use Rattle.std.specs.Prelude.{false}
 use Rattle.cluster_runner.proofs.Unique.{one_play}
-use Rattle.cluster_runner.specs.Lines.{lines_of}
+use Rattle.script_actor.specs.Lines.{lines_of}
 use Rattle.cluster_runner.proofs.laws.one_script_has_one_play.Goals as goal
 
 pub returns : goal.returns
-returns c = λ s p q h g. one_play false s.nodes (lines_of s) p q h g
+returns c = λ s p q h g. one_play s.named s.nodes (lines_of s) p q h g

@@ -20,9 +20,9 @@ use Rattle.request_text.specs.Texts.{refusal_cause_text, refusal_name}
 use Rattle.name_node.specs.Submissions.{submitted}
 use Rattle.name_node.specs.Holding.{image_put, saved, reloaded, min_to_keep}
 use Rattle.name_node.specs.Tails.{pass_begun, least_purged, pass_end, tail_hears}
-use Rattle.cluster_runner.specs.Lines.{declared}
-use Rattle.cluster_runner.specs.Results.{cause_word, cause_words, name_of, for_each, acked_from, acked, done_results, results_of, inactive_results, too_long_results, late_none, refusal_text, dues_logged, dues_aborted, abort_text}
-use Rattle.cluster_runner.specs.Actor.{fresh_actor, call_wanted, read_first, copy_first, says_first, wants, is_wanting, is_broken, tail_text, entry_text, tail_ended, tail_stepped, task_begun, copied, logged_when, trim_at, held_deed, deed_taken, settled, handed, logs_done, task_done, held_turn, turn_with, turn_taken, heard_by, moved_on, resettled, goes_on}
+use Rattle.script_actor.specs.Lines.{declared}
+use Rattle.script_actor.specs.Results.{cause_word, cause_words, name_of, for_each, acked_from, acked, done_results, results_of, inactive_results, too_long_results, late_none, refusal_text, dues_logged, dues_aborted, abort_text}
+use Rattle.script_actor.specs.Actor.{fresh_actor, call_wanted, read_first, copy_first, says_first, wants, is_wanting, is_broken, tail_text, entry_text, tail_ended, tail_stepped, task_begun, copied, logged_when, trim_at, held_deed, deed_taken, settled, handed, logs_done, task_done, held_turn, turn_with, turn_taken, heard_by, moved_on, resettled, goes_on}
 use Rattle.cluster_runner.specs.Plays.{play_begins, actor_at, node_asked, noted, same_kind, is_marked, delivery, told_of, call_made, copy_made, wanted, is_done, line_taken, next_line, turned, play_step, play_steps, no_lines, has_ended}
 use Rattle.cluster_runner.specs.Told.{results_in}
 use Rattle.cluster_runner.specs.Examples.{results_at}

@@ -1,5 +1,5 @@
 use Rattle.std.proofs.Common.{◌≡◌, map, length, arith}
-use Rattle.cluster_runner.specs.Lines.{line_of, declared}
+use Rattle.script_actor.specs.Lines.{line_of, declared}
 use Rattle.cluster_runner.proofs.PlayLaws.{count_more, count_all}
 use Rattle.cluster_runner.proofs.played.actors_in.Goals as goal
 

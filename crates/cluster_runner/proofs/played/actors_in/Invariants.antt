@@ -1,5 +1,5 @@
 use Rattle.std.proofs.Common.{◌≡◌, ◌+◌, drop, map}
-use Rattle.cluster_runner.specs.Lines.{line_of, declared}
+use Rattle.script_actor.specs.Lines.{line_of, declared}
 use Rattle.cluster_runner.proofs.played.actors_in.Given as goal
 
 abbrev pub invariant-loop-line : goal.invariant-loop-line

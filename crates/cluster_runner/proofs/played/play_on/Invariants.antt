@@ -1,7 +1,7 @@
 use Rattle.std.proofs.Common.{drop}
-use Rattle.cluster_runner.specs.Lines.{lines_of}
+use Rattle.script_actor.specs.Lines.{lines_of}
 use Rattle.cluster_runner.specs.Goal.{IsUnderWay}
 use Rattle.cluster_runner.proofs.played.play_on.Given as goal
 
 abbrev pub invariant-loop-line : goal.invariant-loop-line
-invariant-loop-line g l = IsUnderWay l.script.nodes (lines_of l.script) (drop l.line-index l.line-items) l.cluster
+invariant-loop-line g l = IsUnderWay l.script.named l.script.nodes (lines_of l.script) (drop l.line-index l.line-items) l.cluster

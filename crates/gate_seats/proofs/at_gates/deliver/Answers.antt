@@ -1,4 +1,5 @@
-use Rattle.std.proofs.Common.{sym, subst}
+use Rattle.std.proofs.Common.{refl, sym, subst}
+use Rattle.caller_seats.proofs.Fitting.{heard_fits}
 use Rattle.gate_seats.specs.Seated.{IsTold}
 use Rattle.gate_seats.proofs.SeatLaws.{told_heard}
 use Rattle.gate_seats.proofs.at_gates.deliver.Goals as goal
@@ -7,3 +8,8 @@ pub returns-in_ok-answer-in-Delivered-clause-told : goal.returns-in_ok-answer-in
 returns-in_ok-answer-in-Delivered-clause-told g c =
     subst (λ d. IsTold d c.told_of.result) (sym c.in-Delivered.is)
     (told_heard c.in_ok-answer-in-Delivered.answer c.told_of.result c.told_of.ensures)
+
+pub returns-in_ok-answer-in-Delivered-clause-fits : goal.returns-in_ok-answer-in-Delivered-clause-fits
+returns-in_ok-answer-in-Delivered-clause-fits g c =
+    let r = c.args.request.now in
+    heard_fits r r c.in_ok-answer-in-Delivered.answer c.told_of.result refl c.told_of.ensures c.in_ok-answer-in-Delivered.ensures.fits

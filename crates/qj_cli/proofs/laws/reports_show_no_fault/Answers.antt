@@ -1,5 +1,12 @@
+use Rattle.std.proofs.Common.{subst, sym}
+use Rattle.cluster_runner.specs.Faultless.{ShowsNoFault}
 use Rattle.cluster_runner.specs.Plays.{mesh_of}
 use Rattle.qj_cli.proofs.laws.reports_show_no_fault.Goals as goal
 
-pub returns : goal.returns
-returns c = λ bytes text r. c.a_mesh_that_agrees_shows_no_fault.ensures (mesh_of r.play) r.agrees
+pub returns-clause-in_order : goal.returns-clause-in_order
+returns-clause-in_order c =
+    λ bytes text r.
+    subst ShowsNoFault (sym r.leaves.mesh) (c.a_mesh_that_agrees_shows_no_fault.ensures (mesh_of r.leaves.play) r.leaves.sound.lists.agrees)
+
+pub returns-clause-by_threads : goal.returns-clause-by_threads
+returns-clause-by_threads c = λ bytes text r. c.a_mesh_that_agrees_shows_no_fault.ensures r.mesh r.leaves.agrees

@@ -1,4 +1,5 @@
-use Rattle.std.proofs.Common.{refl}
+use Rattle.std.proofs.Common.{refl, subst}
+use Rattle.qj_cli.specs.Commands.{asked_in, IsAllowed}
 use Rattle.qj_cli.specs.declared.command.Command.TheVariants as command
 use Rattle.qj_cli.specs.Uses.{read_from, written_to, done_to}
 use Rattle.qj_cli.proofs.CompleteLaws.{does_as}
@@ -9,3 +10,12 @@ returns-in-Play-clause-done g c =
     does_as c.args.command command.Play (read_from g.S.Source.left g.S.Source.faults c.args.source.now c.play_script.new.source)
     (written_to g.K.Sink.taken g.K.Sink.faults c.args.sink.now c.play_script.new.sink)
     (done_to g.D.Disk.tells g.D.Disk.view g.D.Disk.faults g.D.Disk.steady g.D.Disk.left c.args.disk c.args.disk) c.play_script.result c.in-Play.is (c.play_script.ensures, refl)
+
+pub returns-in-Gen-clause-done : goal.returns-in-Gen-clause-done
+returns-in-Gen-clause-done g c =
+    does_as c.args.command (command.Gen c.in-Gen.number c.in-Gen.edits c.in-Gen.nodes) (read_from g.S.Source.left g.S.Source.faults c.args.source.now c.args.source.now)
+    (written_to g.K.Sink.taken g.K.Sink.faults c.args.sink.now c.play_generated.new.sink)
+    (done_to g.D.Disk.tells g.D.Disk.view g.D.Disk.faults g.D.Disk.steady g.D.Disk.left c.args.disk c.args.disk) c.play_generated.result c.in-Gen.is (c.play_generated.ensures, refl)
+
+pub play_generated-requires : goal.play_generated-requires
+play_generated-requires g c = subst (λ x. IsAllowed (asked_in x)) c.in-Gen.is c.requires

@@ -1,61 +1,40 @@
-use Rattle.std.proofs.Common.{refl, sym, subst, ◌∙◌}
+use Rattle.std.proofs.Common.{subst, sym}
 use Rattle.script_text.proofs.ScriptLaws.{breaks_no_rule}
-use Rattle.qj_cli.specs.Commands.{asked_in}
+use Rattle.qj_cli.specs.Commands.{run}
+use Rattle.qj_cli.specs.Sound.{AreSound}
+use Rattle.qj_cli.specs.Plays.{Plays}
 use Rattle.qj_cli.specs.Usage.{bytes_of}
-use Rattle.qj_cli.specs.Uses.{SourceUse, SinkUse, DiskUse, read_from, written_to, done_to}
+use Rattle.qj_cli.specs.Uses.{read_from, written_to, done_to}
 use Rattle.qj_cli.specs.Does.{ReadsNone}
 use Rattle.qj_cli.proofs.WordLaws.{one_command, right_words}
-use Rattle.qj_cli.proofs.CompleteLaws.{completes, does_for, refused}
+use Rattle.qj_cli.proofs.CompleteLaws.{completes, does_for}
 use Rattle.qj_cli.proofs.top.qjm.Goals as goal
 
-pub returns-in-Ok-clause-refused : goal.returns-in-Ok-clause-refused
-returns-in-Ok-clause-refused g c = λ place e. absurd (right_words (bytes_of c.args.words.now) (asked_in c.in-Ok.command) place c.in-Ok.ensures e)
-
-pub returns-in-Ok-clause-refused_unread : goal.returns-in-Ok-clause-refused_unread
-returns-in-Ok-clause-refused_unread g c = λ place e. absurd (right_words (bytes_of c.args.words.now) (asked_in c.in-Ok.command) place c.in-Ok.ensures e)
-
-pub returns-in-Ok-clause-done : goal.returns-in-Ok-clause-done
-returns-in-Ok-clause-done g c =
-    λ asked e.
-    does_for (asked_in c.in-Ok.command) asked (read_from g.S.Source.left g.S.Source.faults c.args.source.now c.do_command.new.source)
-    (written_to g.K.Sink.taken g.K.Sink.faults c.args.sink.now c.do_command.new.sink)
-    (done_to g.D.Disk.tells g.D.Disk.view g.D.Disk.faults g.D.Disk.steady g.D.Disk.left c.args.disk c.do_command.result.disk) c.do_command.result.status
-    (sym c.in-Ok.ensures ∙ e) c.do_command.ensures.done
-
-pub returns-in-Ok-clause-unread : goal.returns-in-Ok-clause-unread
-returns-in-Ok-clause-unread g c =
-    λ asked e none. c.do_command.ensures.unread (subst ReadsNone (sym (one_command (asked_in c.in-Ok.command) asked (sym c.in-Ok.ensures ∙ e))) none)
-
-pub returns-in-Ok-clause-complete : goal.returns-in-Ok-clause-complete
-returns-in-Ok-clause-complete g c =
-    let source = read_from g.S.Source.left g.S.Source.faults c.args.source.now c.do_command.new.source in
-    let sink = written_to g.K.Sink.taken g.K.Sink.faults c.args.sink.now c.do_command.new.sink in
-    let disk = done_to g.D.Disk.tells g.D.Disk.view g.D.Disk.faults g.D.Disk.steady g.D.Disk.left c.args.disk c.do_command.result.disk in
-    λ asked e.
-    completes asked source sink disk c.do_command.result.status breaks_no_rule
-    (does_for (asked_in c.in-Ok.command) asked source sink disk c.do_command.result.status (sym c.in-Ok.ensures ∙ e) c.do_command.ensures.done)
-
-pub returns-in-Ok-clause-tells : goal.returns-in-Ok-clause-tells
-returns-in-Ok-clause-tells g c = c.do_command.ensures.tells
-
 pub returns-in-Err-clause-refused : goal.returns-in-Err-clause-refused
-returns-in-Err-clause-refused g c =
-    λ place e.
-    refused c.in-Err.place place (written_to g.K.Sink.taken g.K.Sink.faults c.args.sink.now c.write_fault.new.sink)
-    (done_to g.D.Disk.tells g.D.Disk.view g.D.Disk.faults g.D.Disk.steady g.D.Disk.left c.args.disk c.args.disk) c.write_fault.result
-    (sym c.in-Err.ensures ∙ e) (c.write_fault.ensures, refl)
+returns-in-Err-clause-refused g c = λ place e. absurd (right_words (bytes_of c.args.words.now) run place c.in-Err.ensures.threads.0 e)
 
 pub returns-in-Err-clause-refused_unread : goal.returns-in-Err-clause-refused_unread
-returns-in-Err-clause-refused_unread g c = λ place e. refl
+returns-in-Err-clause-refused_unread g c = λ place e. absurd (right_words (bytes_of c.args.words.now) run place c.in-Err.ensures.threads.0 e)
 
 pub returns-in-Err-clause-done : goal.returns-in-Err-clause-done
-returns-in-Err-clause-done g c = λ asked e. absurd (right_words (bytes_of c.args.words.now) asked c.in-Err.place e c.in-Err.ensures)
+returns-in-Err-clause-done g c =
+    let source = read_from g.S.Source.left g.S.Source.faults c.args.source.now c.run_script.new.source in
+    let sink = written_to g.K.Sink.taken g.K.Sink.faults c.args.sink.now c.run_script.new.sink in
+    let disk = done_to g.D.Disk.tells g.D.Disk.view g.D.Disk.faults g.D.Disk.steady g.D.Disk.left c.args.disk c.in-Err.disk in
+    let plays : Plays AreSound source sink c.run_script.result =
+    subst (λ k. Plays AreSound source (written_to g.K.Sink.taken g.K.Sink.faults k c.run_script.new.sink) c.run_script.result) c.in-Err.ensures.threads.3
+    (subst (λ s. Plays AreSound (read_from g.S.Source.left g.S.Source.faults s c.run_script.new.source) (written_to g.K.Sink.taken g.K.Sink.faults c.qjm_alone.new.sink c.run_script.new.sink) c.run_script.result) c.in-Err.ensures.threads.2 c.run_script.ensures) in
+    λ asked e. does_for (bytes_of c.args.words.now) run asked source sink disk c.run_script.result c.in-Err.ensures.threads.0 e (plays, c.in-Err.ensures.threads.1)
 
 pub returns-in-Err-clause-unread : goal.returns-in-Err-clause-unread
-returns-in-Err-clause-unread g c = λ asked e. absurd (right_words (bytes_of c.args.words.now) asked c.in-Err.place e c.in-Err.ensures)
+returns-in-Err-clause-unread g c = λ asked e none. absurd (subst ReadsNone (one_command (bytes_of c.args.words.now) asked run e c.in-Err.ensures.threads.0) none)
 
 pub returns-in-Err-clause-complete : goal.returns-in-Err-clause-complete
-returns-in-Err-clause-complete g c = λ asked e. absurd (right_words (bytes_of c.args.words.now) asked c.in-Err.place e c.in-Err.ensures)
+returns-in-Err-clause-complete g c =
+    let source = read_from g.S.Source.left g.S.Source.faults c.args.source.now c.run_script.new.source in
+    let sink = written_to g.K.Sink.taken g.K.Sink.faults c.args.sink.now c.run_script.new.sink in
+    let disk = done_to g.D.Disk.tells g.D.Disk.view g.D.Disk.faults g.D.Disk.steady g.D.Disk.left c.args.disk c.in-Err.disk in
+    λ asked e. completes asked source sink disk c.run_script.result breaks_no_rule (returns-in-Err-clause-done g c asked e)
 
 pub returns-in-Err-clause-tells : goal.returns-in-Err-clause-tells
-returns-in-Err-clause-tells g c = ((λ t. t), (λ t. t))
+returns-in-Err-clause-tells g c = subst (λ d. (g.D.Disk.tells c.args.disk → g.D.Disk.tells d) × (g.D.Disk.tells d → g.D.Disk.tells c.args.disk)) (sym c.in-Err.ensures.threads.1) ((λ t. t), (λ t. t))

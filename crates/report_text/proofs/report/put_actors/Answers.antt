@@ -3,8 +3,8 @@ use Rattle.std.proofs.lemmas.Result.{err_from_is_err_and}
 use Rattle.report_text.specs.declared.unprinted.Unprinted.TheVariants.{TooLong}
 use Rattle.report_text.specs.Limit.{longest_report}
 use Rattle.std.proofs.lemmas.List.{nil_from_length}
-use Rattle.mesh.specs.declared.end.End.{End}
-use Rattle.report_text.specs.Text.{actor_text}
+use Rattle.ns_tree.specs.declared.end.End.{End}
+use Rattle.report_text.specs.Text.{ended_text}
 use Rattle.report_text.proofs.NodeLaws.{actors_more, actors_none, actors_all, actors_long, operator_long}
 use Rattle.report_text.proofs.report.put_actors.Goals as goal
 
@@ -15,24 +15,22 @@ returns-in_default-clause-text c =
 
 pub loop-end-preserved : goal.loop-end-preserved
 loop-end-preserved c =
-    actors_more c.loop-end.out.items c.put_actor.new.out.items _ c.args.ends.now c.loop-end.rest.now c.in-Some.others.now c.in-Some.record.now c.loop-end.end-index c.end-item.result
+    actors_more c.loop-end.out.items c.put_ended.new.out.items _ c.args.ends.now c.loop-end.rest.now c.in-Some.others.now c.in-Some.record.now c.loop-end.end-index c.end-item.result
     c.loop-end.invariant (omega (arith, c.loop-end-test.true)) c.in-Some.ensures.cases.0
-    (c.in_ok-put_actor.ensures.text ∙ ap (λ n. c.loop-end.out.items ++ actor_text n c.as_slice-in-loop-end.result.now) c.as_slice.ensures
-    ∙ ap (λ (e : End). c.loop-end.out.items ++ actor_text e.name c.as_slice-in-loop-end.result.now) c.end-item.is
-    ∙ ap (λ l. c.loop-end.out.items ++ actor_text (get_or c.args.ends.now c.loop-end.end-index c.end-item.result).name l) c.as_slice-in-loop-end.ensures)
+    (c.in_ok-put_ended.ensures.text ∙ ap (λ (e : End). c.loop-end.out.items ++ ended_text e c.as_slice.result.now) c.end-item.is
+    ∙ ap (λ l. c.loop-end.out.items ++ ended_text (get_or c.args.ends.now c.loop-end.end-index c.end-item.result) l) c.as_slice.ensures)
 
 pub returns-clause-text : goal.returns-clause-text
 returns-clause-text c = actors_all c.loop-end.out.items c.put_operator.new.out.items _ c.args.ends.now c.loop-end.rest.now c.loop-end.end-index c.loop-end.invariant (omega (arith, c.loop-end-test.false)) c.in_ok-put_operator.ensures.text
 
-pub returns-in_err-put_actor-clause-long : goal.returns-in_err-put_actor-clause-long
-returns-in_err-put_actor-clause-long c h =
+pub returns-in_err-put_ended-clause-long : goal.returns-in_err-put_ended-clause-long
+returns-in_err-put_ended-clause-long c h =
     let p = err_from_is_err_and c.from_residual.result c.from_residual.ensures.1 in
-    let e : c.put_actor.result ≡ Err TooLong = grind (arith, h, p.1, p.2, c.in_err-put_actor.was) in
+    let e : c.put_ended.result ≡ Err TooLong = grind (arith, h, p.1, p.2, c.in_err-put_ended.was) in
     actors_long longest_report c.loop-end.out.items _ c.args.ends.now c.loop-end.rest.now c.in-Some.others.now c.in-Some.record.now c.loop-end.end-index c.end-item.result
     c.loop-end.invariant (omega (arith, c.loop-end-test.true)) c.in-Some.ensures.cases.0
-    (rw (sym (ap (λ n. c.loop-end.out.items ++ actor_text n c.as_slice-in-loop-end.result.now) c.as_slice.ensures
-    ∙ ap (λ (e : End). c.loop-end.out.items ++ actor_text e.name c.as_slice-in-loop-end.result.now) c.end-item.is
-    ∙ ap (λ l. c.loop-end.out.items ++ actor_text (get_or c.args.ends.now c.loop-end.end-index c.end-item.result).name l) c.as_slice-in-loop-end.ensures)) (c.put_actor.ensures.long e))
+    (rw (sym (ap (λ (e : End). c.loop-end.out.items ++ ended_text e c.as_slice.result.now) c.end-item.is
+    ∙ ap (λ l. c.loop-end.out.items ++ ended_text (get_or c.args.ends.now c.loop-end.end-index c.end-item.result) l) c.as_slice.ensures)) (c.put_ended.ensures.long e))
 
 pub returns-in_err-put_operator-clause-long : goal.returns-in_err-put_operator-clause-long
 returns-in_err-put_operator-clause-long c h =

@@ -1,9 +1,9 @@
-use Rattle.std.proofs.Common.{◌≡◌, ◌∙◌, ap, arith, get_or}
+use Rattle.std.proofs.Common.{◌∙◌, ap, arith, get_or}
 use Rattle.std.proofs.lemmas.List.{nil_from_length}
-use Rattle.mesh.specs.declared.end.End.{End}
+use Rattle.ns_tree.specs.declared.end.End.{End}
 use Rattle.request_text.specs.Counts.{counted}
 use Rattle.request_text.proofs.CountLaws.{counted_small}
-use Rattle.report_text.specs.Text.{actor_text}
+use Rattle.report_text.specs.Text.{ended_text}
 use Rattle.report_text.proofs.CountedLaws.{actors_on, actors_none, actors_end}
 use Rattle.report_text.proofs.size.count_actors.Goals as goal
 
@@ -14,12 +14,11 @@ returns-in_default c =
 
 pub loop-end-preserved : goal.loop-end-preserved
 loop-end-preserved c = (
-  actors_on c.loop-end.sum c.count_actor-sum.result _ c.args.ends.now c.loop-end.rest.now c.in-Some.others.now c.in-Some.record.now c.loop-end.end-index c.end-item.result
+  actors_on c.loop-end.sum c.count_ended-sum.result _ c.args.ends.now c.loop-end.rest.now c.in-Some.others.now c.in-Some.record.now c.loop-end.end-index c.end-item.result
       c.loop-end.invariant.0 (omega (arith, c.loop-end-test.true)) c.in-Some.ensures.cases.0
-      (c.count_actor-sum.ensures ∙ ap (λ n. counted c.loop-end.sum (actor_text n c.as_slice-in-loop-end.result.now)) c.as_slice.ensures
-      ∙ ap (λ (e : End). counted c.loop-end.sum (actor_text e.name c.as_slice-in-loop-end.result.now)) c.end-item.is
-      ∙ ap (λ l. counted c.loop-end.sum (actor_text (get_or c.args.ends.now c.loop-end.end-index c.end-item.result).name l)) c.as_slice-in-loop-end.ensures),
-  counted_small _ _ _ c.count_actor-sum.ensures,
+      (c.count_ended-sum.ensures ∙ ap (λ (e : End). counted c.loop-end.sum (ended_text e c.as_slice.result.now)) c.end-item.is
+      ∙ ap (λ l. counted c.loop-end.sum (ended_text (get_or c.args.ends.now c.loop-end.end-index c.end-item.result) l)) c.as_slice.ensures),
+  counted_small _ _ _ c.count_ended-sum.ensures,
 )
 
 pub returns : goal.returns

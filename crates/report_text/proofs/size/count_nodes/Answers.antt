@@ -1,4 +1,4 @@
-use Rattle.std.proofs.Common.{◌≡◌, ◌∙◌, ap, arith, ◌+◌}
+use Rattle.std.proofs.Common.{◌∙◌, ap, arith, ◌+◌}
 use Rattle.request_text.specs.Counts.{counted}
 use Rattle.request_text.proofs.CountLaws.{counted_small}
 use Rattle.report_text.specs.Text.{node_text}

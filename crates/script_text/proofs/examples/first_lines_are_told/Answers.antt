@@ -46,3 +46,15 @@ returns-clause-not_ended c = refl
 pub returns-clause-tabulator : goal.returns-clause-tabulator
 unfolding lines_of ended is_line words_of is_name actor_of is_number choice_of is_body hex_text texts_of nodes_of kind_of rule_in rule_said rule_of said_behind first_fault fault_of digits
 returns-clause-tabulator c = refl
+
+pub returns-clause-most_names_nodes : goal.returns-clause-most_names_nodes
+unfolding lines_of ended is_line words_of is_name actor_of is_number choice_of is_body hex_text texts_of nodes_of kind_of rule_in rule_said rule_of said_behind first_fault fault_of digits
+returns-clause-most_names_nodes c = refl
+
+pub returns-clause-too_many_names_nodes : goal.returns-clause-too_many_names_nodes
+unfolding lines_of ended is_line words_of is_name actor_of is_number choice_of is_body hex_text texts_of nodes_of kind_of rule_in rule_said rule_of said_behind first_fault fault_of digits
+returns-clause-too_many_names_nodes c = refl
+
+pub returns-clause-one_name : goal.returns-clause-one_name
+unfolding lines_of ended is_line words_of is_name actor_of is_number choice_of is_body hex_text texts_of nodes_of kind_of rule_in rule_said rule_of said_behind first_fault fault_of digits
+returns-clause-one_name c = refl

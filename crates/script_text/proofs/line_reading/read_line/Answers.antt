@@ -1,4 +1,4 @@
-use Rattle.std.proofs.Common.{ap, sym, ◌∙◌}
+use Rattle.std.proofs.Common.{sym, ◌∙◌}
 use Rattle.script_text.specs.Words.{words_of, first_word}
 use Rattle.script_text.specs.Rules.{kind_of}
 use Rattle.script_text.proofs.KindLaws.{count_behind, line_reads}
@@ -10,5 +10,5 @@ read_operands-requires-clause-count c =
 
 pub returns : goal.returns
 returns c =
-    line_reads c.args.said.now c.args.line.now c.in-Some.kind (words_of c.in-Some-operands.text.now) _ (sym (c.in-Some.ensures ∙ ap kind_of c.first_word.ensures)) c.in-Some-operands.ensures.0 c.in-Some-operands.ensures.1
+    line_reads c.args.said.now c.args.line.now c.in-Some.kind (words_of c.in-Some-operands.text.now) _ (sym (c.in-Some.ensures ∙ (λ i. kind_of (c.named.ensures i) (c.first_word.ensures i)))) c.in-Some-operands.ensures.0 c.in-Some-operands.ensures.1
     c.read_operands.ensures

@@ -7,7 +7,7 @@ use Rattle.script_text.proofs.print.print_script.Goals as goal
 
 pub loop-line-init : goal.loop-line-init
 loop-line-init c =
-    rw c.lines-line-items.ensures (written_start c.push.new.self.items c.args.script.now c.first-said.result (c.first-said.ensures ∙ ap nothing_said c.nodes-nodes.ensures) c.requires (grind (arith, common_steps)))
+    rw c.lines-line-items.ensures (written_start c.push.new.self.items c.args.script.now c.first-said.result (c.first-said.ensures ∙ (λ i. nothing_said (c.names-named.ensures i) (c.nodes-nodes.ensures i))) c.requires (grind (arith, common_steps)))
 
 pub push_line-requires : goal.push_line-requires
 push_line-requires c =

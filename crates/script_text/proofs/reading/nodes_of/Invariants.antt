@@ -4,4 +4,4 @@ use Rattle.script_text.proofs.reading.nodes_of.Given as goal
 
 -- no lower number is told
 abbrev pub invariant-loop-nodes : goal.invariant-loop-nodes
-invariant-loop-nodes l = told_from l.line l.nodes ≡ told_from l.line 1
+invariant-loop-nodes l = told_from l.named l.line l.nodes ≡ told_from l.named l.line 1

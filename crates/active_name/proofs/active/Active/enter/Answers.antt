@@ -1,4 +1,4 @@
-use Rattle.std.proofs.Common.{◌≡◌, inl, ap, ◌∙◌, subst}
+use Rattle.std.proofs.Common.{inl, ap, ◌∙◌, subst}
 use Rattle.writer_core.specs.Views.{WriterView}
 use Rattle.writer_core.specs.Writer.{new_writer}
 use Rattle.active_name.specs.Entering.{IsTakenOver}

@@ -1,4 +1,4 @@
-use Rattle.std.proofs.Common.{◌≡◌, ◌∙◌, ap, sym, [], List, ℕ}
+use Rattle.std.proofs.Common.{◌≡◌, ◌∙◌, ap, sym, []}
 use Rattle.active_name.specs.Actives.{ActiveView, is_open}
 use Rattle.active_name.proofs.ActiveLaws.{purge_inactive}
 use Rattle.active_name.proofs.RoundLaws.{purge_kept}
@@ -6,7 +6,7 @@ use Rattle.active_name.proofs.active.Active.purge.Goals as goal
 
 pub invariant_of-self : goal.invariant_of-self
 invariant_of-self g c =
-    let a : ActiveView = record { writer = c.self.inside.writer; position = c.self.inside.position; ahead = c.self.inside.ahead; bodies = c.self.inside.pending; whole = c.self.inside.whole } in
+    let a : ActiveView = record { writer = c.self.inside.writer; position = c.self.inside.position; ahead = c.self.inside.pending.ahead; bodies = c.self.inside.pending.bodies; whole = c.self.inside.whole } in
     let none : a.bodies ≡ [] = ap (λ (v : ActiveView). v.bodies) c.self.view_is ∙ c.requires.none in
     let kept = purge_kept a c.purge.new.self (g.P.Peers.calls c.args.peers.now) (g.P.Peers.calls c.purge.new.peers) c.args.min c.self.invariant.0 none c.in-Done.ensures.came in
     (kept.0, kept.1 ∙ c.self.invariant.1)
@@ -16,7 +16,7 @@ returns-in-NotActive-clause-purging g c =
     let refused = c.in-NotActive.ensures.came in (
       ap is_open (sym c.self.view_is) ∙ purge_inactive c.self.inside.writer c.args.min refused.refused,
       record {
-        same = (λ i. record { writer = refused.same i; position = c.self.inside.position; ahead = c.self.inside.ahead; bodies = c.self.inside.pending; whole = c.self.inside.whole }) ∙ c.self.view_is;
+        same = (λ i. record { writer = refused.same i; position = c.self.inside.position; ahead = c.self.inside.pending.ahead; bodies = c.self.inside.pending.bodies; whole = c.self.inside.whole }) ∙ c.self.view_is;
         none = refused.none;
       },
     )

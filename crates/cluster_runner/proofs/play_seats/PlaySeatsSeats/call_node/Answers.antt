@@ -1,5 +1,6 @@
 use Rattle.std.proofs.Common.{◌≤◌, length}
 use Rattle.mesh.specs.Marks.{next_number}
+use Rattle.caller_seats.proofs.Fitting.{hears_fits}
 use Rattle.cluster_runner.proofs.SeatsGo.{within, told_as_marked, is_called, call_later}
 use Rattle.cluster_runner.proofs.play_seats.PlaySeatsSeats.call_node.Goals as goal
 
@@ -21,3 +22,6 @@ returns-clause-later g c =
     let high : c.args.node ≤ length s.cells.items = within c.args.self.now s.caller s.cells.items s.log c.args.node c.self.view_is c.self.invariant c.requires.high in
     call_later c.args.self.now s.caller s.cells.items s.log c.call.new.self c.args.node c.args.request c.in_ok-told.told c.in_ok-delivery.delivery c.index_mut.result.now c.deliver.new.cell c.self.view_is
     c.requires.low high c.index_mut.ensures.value c.in_ok-told.ensures.told c.in_ok-told.ensures.cell c.in_ok-call.ensures.ok
+
+pub returns-clause-fits : goal.returns-clause-fits
+returns-clause-fits g c = hears_fits c.args.request c.in_ok-told.told c.in_ok-heard.heard c.in_ok-heard.ensures c.in_ok-told.ensures.fits

@@ -12,4 +12,4 @@ invariant_of-self-2 g c =
 pub returns-clause-fits : goal.returns-clause-fits
 returns-clause-fits g c =
     subst (λ x. FitsAsk x c.in_ok-answer.answer) c.in_ok-asked.ensures
-    (taken_fits c.self.inside.cell c.take.new.self c.args.caller c.in_ok-asked.asked c.in_ok-answer.answer c.in_ok-answer.ensures.ok)
+    (taken_fits c.self.inside.cell c.take.new.self c.args.caller c.in_ok-asked.asked c.in_ok-answer.answer c.in_ok-answer.ensures.ok c.in_ok-answer.ensures.fits)

@@ -16,7 +16,7 @@ returns-in-Some-clause-taken c =
     later_taken c.args.self.now c.self.inside.said c.self.inside.lines.items c.add_line.new.lines.items c.in-Some.said c.add_line.new.said c.args.line.now c.add_line.result c.self.view_is c.in-Some.is c.requires.sound
     (sym c.is_line.ensures ∙ c.if-not-is_line.false) (sym c.is_silent.ensures ∙ c.if-is_silent.false) c.add_line.ensures.taken
 
-pub returns-in-Some-nodes_of-clause-taken : goal.returns-in-Some-nodes_of-clause-taken
-returns-in-Some-nodes_of-clause-taken c =
-    first_taken c.args.self.now c.self.inside.said c.self.inside.lines.items c.first.result c.args.line.now c.in-Some-nodes_of.nodes c.self.view_is c.in-None.is c.first.ensures c.requires.sound
-    (sym c.is_line.ensures ∙ c.if-not-is_line.false) (sym c.is_silent.ensures ∙ c.if-is_silent.false) (sym c.in-Some-nodes_of.ensures)
+pub returns-in-Some-said_first-clause-taken : goal.returns-in-Some-said_first-clause-taken
+returns-in-Some-said_first-clause-taken c =
+    first_taken c.args.self.now c.self.inside.said c.self.inside.lines.items c.in-Some-said_first.said c.args.line.now c.self.view_is c.in-None.is c.requires.sound
+    (sym c.is_line.ensures ∙ c.if-not-is_line.false) (sym c.is_silent.ensures ∙ c.if-is_silent.false) (sym c.in-Some-said_first.ensures)

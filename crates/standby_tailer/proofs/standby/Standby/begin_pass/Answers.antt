@@ -1,6 +1,5 @@
-use Rattle.std.proofs.Common.{◌≡◌, ℕ, Bool, true, false, sym, ap, ◌∙◌}
-use Rattle.ns_replay.specs.Replay.{Image}
-use Rattle.name_node.specs.Holding.{Work, working}
+use Rattle.std.proofs.Common.{◌≡◌, true, false, sym, ap, ◌∙◌}
+use Rattle.name_node.specs.Holding.{working}
 use Rattle.name_node.specs.Tails.{is_until}
 use Rattle.standby_tailer.specs.Standbys.{held}
 use Rattle.standby_tailer.proofs.PassLaws.{pass_ends, pass_goes}

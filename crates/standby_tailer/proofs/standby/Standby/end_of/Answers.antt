@@ -1,4 +1,4 @@
-use Rattle.std.proofs.Common.{◌≡◌, ℕ, sym, ap, ◌∙◌}
+use Rattle.std.proofs.Common.{sym, ap, ◌∙◌}
 use Rattle.name_node.specs.Tails.{TailEnd, Ends}
 use Rattle.standby_tailer.specs.Standbys.{held}
 use Rattle.standby_tailer.proofs.PassLaws.{ends_caught, ends_purged, ends_behind}

@@ -1,4 +1,4 @@
-use Rattle.std.proofs.Common.{◌≡◌, ◌∙◌, ◌++◌, ◌∷◌, [], sym, subst, List, length, arith}
+use Rattle.std.proofs.Common.{◌≡◌, subst, List, length, arith}
 use Rattle.journal_core.specs.declared.heard.Heard.{Heard}
 use Rattle.name_node.specs.Tails.{Ends, pass_end}
 use Rattle.standby_tailer.specs.Standbys.{held}

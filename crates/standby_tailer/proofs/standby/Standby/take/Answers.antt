@@ -1,10 +1,9 @@
 use Rattle.std.proofs.Common.{◌≡◌, ℕ, ◌+◌, ◌-◌, ◌≤◌, ◌<◌, [], refl, sym, ap, ◌∙◌, subst, arith}
 use Rattle.std.specs.Option.{ForSome}
-use Rattle.journal_core.specs.Views.{BatchView}
-use Rattle.ns_replay.specs.Replay.{Image, All, BadEntry, applied}
-use Rattle.name_node.specs.Holding.{Work, Broken, working}
+use Rattle.ns_replay.specs.Replay.{All, applied}
+use Rattle.name_node.specs.Holding.{Broken, working}
 use Rattle.name_node.specs.Tails.{up_to, after_applied, pass_begun, Breaks}
-use Rattle.standby_tailer.specs.Standbys.{StandbyView, IsStandby, held}
+use Rattle.standby_tailer.specs.Standbys.{StandbyView, held}
 use Rattle.standby_tailer.specs.Tailing.{IsStep}
 use Rattle.standby_tailer.proofs.StepLaws.{step_as}
 use Rattle.standby_tailer.proofs.TakeLaws.{IsCut, all_sound, bad_positive, bad_sound, part_sound, all_goes, bad_before, bad_breaks}

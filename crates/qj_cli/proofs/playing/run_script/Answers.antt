@@ -1,0 +1,5 @@
+use Rattle.qj_cli.proofs.ToldLaws.{told_of}
+use Rattle.qj_cli.proofs.playing.run_script.Goals as goal
+
+pub returns : goal.returns
+returns g c = told_of (λ text. text.items) _ _ _ _ _ c.due_by_threads-due.ensures.text c.due_by_threads-due.ensures.fault c.write_due.ensures.text c.write_due.ensures.fault

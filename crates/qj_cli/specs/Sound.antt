@@ -1,0 +1,32 @@
+-- What holds of the lists that a script leaves, in order or by threads.
+use Rattle.std.specs.Prelude.{◌≡◌, List}
+use Rattle.node_world.specs.Run.{IsRun}
+use Rattle.mesh.specs.declared.whole.Mesh.{Mesh}
+use Rattle.mesh.specs.Agree.{Agrees}
+use Rattle.mesh.specs.Order.{epoch_order}
+use Rattle.ns_tree.specs.declared.end.End.{End}
+use Rattle.script_text.specs.Views.{ScriptView}
+use Rattle.cluster_runner.specs.Plays.{Play, Plays, mesh_of, ends_of}
+use Rattle.cluster_runner.specs.Follows.{FollowsScript}
+use Rattle.cluster_runner.specs.Safe.{IsSafeWithEnds}
+
+-- The lists agree, and they are what the script's lines ask for. What moved its nodes, in the order of the epochs, is a run of the journal world, and a
+-- safe one with what its actors end with: an acknowledged edit survives, finalised segments agree, and each namespace is the replay of the line's first
+-- entries.
+pub record AreSound (script : ScriptView) (m : Mesh) (ends : List End) : Type 0 where
+  pub agrees : Agrees m
+  pub follows : FollowsScript script m ends
+  pub run : IsRun script.nodes (epoch_order m)
+  pub safe : IsSafeWithEnds script.nodes (epoch_order m) ends
+
+-- the one play of the script
+pub record IsSound (script : ScriptView) (play : Play) : Type 0 where
+  pub plays : Plays script play
+  pub lists : AreSound script (mesh_of play) (ends_of play)
+
+-- the mesh and the ends are those of such a play
+pub record ComeOf (script : ScriptView) (m : Mesh) (ends : List End) : Type 0 where
+  pub play : Play
+  pub sound : IsSound script play
+  pub mesh : m ≡ mesh_of play
+  pub ends_are : ends ≡ ends_of play

@@ -1,0 +1,53 @@
+// What is due of a number, before any of it is written.
+ghost use Rattle.std.specs.Prelude.{IfOk, IfErr};
+ghost use Rattle.script_maker.specs.Generated.{IsWithin};
+ghost use Rattle.qj_cli.specs.Uses.{written_to};
+ghost use Rattle.qj_cli.specs.Generates.{IsSummary, GivesSummary, IsSummaryFault, Generates};
+
+use crate::fault::Fault;
+use crate::plays::play_soundly;
+use crate::status::Status;
+use crate::writing::write_due;
+use journal_core::OutOfMemory;
+use qj_outside::Sink;
+use report_text::summary_of;
+use script_maker::generate;
+use std::alloc::Global;
+
+/// The summary of the script that a number gives, played over fresh nodes on disks in memory.
+fn summary(alloc: Global, number: u64, edits: u64, nodes: u64) -> Result<Vec<u8>, OutOfMemory>
+    requires { IsWithin number edits nodes }
+    ensures { IfOk result (λ text. IsSummary number edits nodes text.items) }
+{
+    let script = generate(alloc, number, edits, nodes)?;
+    let played = play_soundly(alloc, &script)?;
+    let text = summary_of(alloc, &played.mesh, &played.ends)?;
+    Ok(text)
+}
+
+/// What is due of a number.
+fn due_of_number(alloc: Global, number: u64, edits: u64, nodes: u64) -> Result<Vec<u8>, Fault>
+    requires { IsWithin number edits nodes }
+    ensures text { IfOk result (λ text. GivesSummary number edits nodes Status.Ok text.items) }
+    ensures fault { IfErr result IsSummaryFault }
+{
+    match summary(alloc, number, edits, nodes) {
+        Ok(text) => Ok(text),
+        Err(_) => Err(Fault::OutOfMemory),
+    }
+}
+
+/// Plays the script that a number gives, and writes its summary, or why there is none.
+pub fn play_generated<K: Sink>(
+    alloc: Global,
+    number: u64,
+    edits: u64,
+    nodes: u64,
+    sink: &mut K,
+) -> Status
+    requires { IsWithin number edits nodes }
+    ensures { Generates number edits nodes (written_to K.taken K.faults sink.old sink.new) result }
+{
+    let due = due_of_number(alloc, number, edits, nodes);
+    write_due(alloc, sink, &due)
+}

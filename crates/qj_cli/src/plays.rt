@@ -1,0 +1,59 @@
+// Scripts played over fresh nodes on disks in memory, in order or by threads.
+ghost use Rattle.std.specs.Prelude.{IfOk};
+ghost use Rattle.script_text.specs.Grammar.{IsScript};
+ghost use Rattle.qj_cli.specs.Sound.{AreSound, ComeOf};
+
+use cluster_runner::{
+    Played, a_mesh_that_agrees_is_safe, a_play_agrees, a_play_follows, play_on,
+    scripts_are_playable,
+};
+use disk_nodes::fresh_nodes;
+use gate_seats::Pass;
+use journal_core::OutOfMemory;
+use journal_node::JournalNode;
+use mesh::epoch_order_is_a_run;
+use names_safety::epoch_order_is_safe;
+use qj_disk::MemDisk;
+use script_text::Script;
+use std::alloc::Global;
+use std::sync::Wait;
+use std::thread::Threads;
+use thread_runner::run_on;
+
+/// A script played, all lines in order.
+pub fn play_soundly(
+    alloc: Global,
+    script: &Script,
+) -> Result<Played<JournalNode<MemDisk>>, OutOfMemory>
+    requires { IsScript script.now }
+    ensures { IfOk result (λ played. ComeOf script.now played.mesh played.ends) }
+{
+    scripts_are_playable();
+    a_play_agrees();
+    a_play_follows();
+    epoch_order_is_a_run();
+    a_mesh_that_agrees_is_safe();
+    epoch_order_is_safe();
+    let nodes = fresh_nodes(alloc, script.nodes())?;
+    let played = play_on(alloc, nodes, script)?;
+    Ok(played)
+}
+
+/// A script played by a thread for each actor and one for the operator, each with its own lines in order. `pass` is called before each call.
+pub fn run_soundly<R: Threads + Wait + Sync, G: Pass + Sync>(
+    rt: &R,
+    alloc: Global,
+    script: &Script,
+    pass: &G,
+) -> Result<Played<JournalNode<MemDisk>>, OutOfMemory>
+    requires { IsScript script.now }
+    ensures { IfOk result (λ played. AreSound script.now played.mesh played.ends) }
+{
+    scripts_are_playable();
+    epoch_order_is_a_run();
+    a_mesh_that_agrees_is_safe();
+    epoch_order_is_safe();
+    let nodes = fresh_nodes(alloc, script.nodes())?;
+    let played = run_on(rt, alloc, nodes, script, pass)?;
+    Ok(played)
+}

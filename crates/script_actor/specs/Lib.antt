@@ -1,0 +1,12 @@
+pub mod Lines
+pub mod Results
+pub mod ResultLists
+pub mod Actor
+pub mod KeptActor
+pub mod Ready
+pub mod Went
+pub mod Deeds
+pub mod Holdings
+pub mod Named
+pub mod Submitting
+pub mod Held

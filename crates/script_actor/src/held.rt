@@ -1,0 +1,9 @@
+// An actor with names beside its writer.
+use crate::holding::NameHolding;
+
+/// What an actor with names holds beside its writer, and whether its writer holds an open segment.
+#[derive(Drop)]
+pub(crate) struct Held {
+    pub(crate) holding: NameHolding,
+    pub(crate) is_open: bool,
+}

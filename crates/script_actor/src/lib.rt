@@ -1,0 +1,21 @@
+//! An actor of a script: what it does with each of its lines, call by call, over the seats through which it calls.
+#![tactic(auto)]
+
+mod deeds;
+mod edit_due;
+mod held;
+mod holding;
+mod name_results;
+mod named_tasks;
+mod results;
+mod saved_images;
+mod script_actor;
+mod segment_task;
+mod standby_deeds;
+mod submissions;
+mod tailing;
+mod trims;
+
+pub use holding::NameHolding;
+pub use saved_images::SavedImages;
+pub use script_actor::ScriptActor;
