@@ -44,3 +44,31 @@ fn eight_writers_are_played(rt: HostRuntime) -> Result<(), Fail> {
     assert!(rt; report.ends_with(b"actor g\nactor h\nend\n"));
     Ok(())
 }
+
+#[test]
+fn each_prefix_of_a_script_is_answered(rt: HostRuntime) -> Result<(), Fail> {
+    let lines: [(&[u8], &[u8]); 5] = [
+        (b"names 1", b"error BadScript 1 10\n"),
+        (b"name a", b"error BadScript 2 10\n"),
+        (b"takeover a", b"error BadScript 3 10\n"),
+        (b"log a mkdir /u 1 755 u g", b"error BadScript 4 10\n"),
+        (b"drop a 1 1", b"error BadScript 5 10\n"),
+    ];
+    plays(
+        &rt,
+        rt.alloc(),
+        b"",
+        Status::BadScript,
+        b"error BadScript 1 1\n",
+    )?;
+    let mut prefix = Vec::new(rt.alloc());
+    for (line, fault) in lines {
+        for byte in line {
+            prefix.push(*byte)?;
+            plays(&rt, rt.alloc(), &prefix, Status::BadScript, fault)?;
+        }
+        prefix.push(b'\n')?;
+        report_of(&rt, rt.alloc(), &prefix)?;
+    }
+    Ok(())
+}
