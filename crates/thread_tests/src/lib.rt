@@ -6,4 +6,6 @@ mod held;
 #[cfg(test)]
 mod lines;
 #[cfg(test)]
+mod replayed;
+#[cfg(test)]
 mod running;

@@ -1,5 +1,6 @@
 // Every kind of line, one actor alone, and random scripts.
-use crate::running::{play_text, report, run_text};
+use crate::replayed::are_replayed;
+use crate::running::{Ran, play_text, report, run_text};
 use gate_seats::FreePass;
 use mesh::Mesh;
 use rand_core::utils::NextWord;
@@ -13,11 +14,17 @@ const ALL_LINES: &[u8] =
 const ONE_ACTOR: &[u8] =
     b"raw 3\nwriter a\ndrop a 2 3\nmute a 3 4\ntakeover a\nlog a 0a\nlate a 1 2\nlate a 1 99\nlog a 0b 0c\nroll a\nlog a 0d\nclose a\npurge a 2\n";
 
+// Whether the epoch order of what a run leaves leads fresh nodes to its nodes' states.
+fn replays(alloc: Global, ran: &Ran) -> bool {
+    are_replayed(alloc, ran.events.as_slice(), ran.played.nodes.as_slice())
+}
+
 #[test]
 fn every_kind_of_line_runs(rt: HostRuntime) -> Result<(), Fail> {
     let ran = run_text(&rt, rt.alloc(), ALL_LINES, &FreePass)?;
     let mesh = &ran.played.mesh;
     assert!(rt; ran.agrees);
+    assert!(rt; replays(rt.alloc(), &ran));
     assert!(rt; mesh.histories.as_slice().len() == 3);
     assert!(rt; mesh.records.as_slice().len() == 3);
     assert!(rt; mesh.records.as_slice()[2].as_slice().len() == 4);
@@ -55,6 +62,7 @@ fn competing_name_nodes_run(rt: HostRuntime) -> Result<(), Fail> {
     for _ in 0..10 {
         let ran = run_text(&rt, rt.alloc(), COMPETING_NAMES, &FreePass)?;
         assert!(rt; ran.agrees);
+        assert!(rt; replays(rt.alloc(), &ran));
         assert!(rt; ran.played.ends.as_slice().len() == 3);
         for caller in 0..3u32 {
             assert!(rt; has_called(&ran.played.mesh, caller));
@@ -122,6 +130,7 @@ fn fifty_random_scripts_run(rt: HostRuntime) -> Result<(), Fail> {
         let text = random_script(rt.alloc(), seed, 60)?;
         let ran = run_text(&rt, rt.alloc(), &text, &FreePass)?;
         assert!(rt; ran.agrees);
+        assert!(rt; replays(rt.alloc(), &ran));
         let mut lines = 0u64;
         for history in ran.played.mesh.histories.as_slice() {
             lines = lines.saturating_add(history.as_slice().len() as u64);
