@@ -16,12 +16,13 @@ use Rattle.node_world.specs.declared.node_ask.NodeAsk.{NodeAsk}
 use Rattle.node_world.specs.declared.mark.Mark.{Mark}
 use Rattle.node_world.specs.declared.mark.MarkKind.{MarkKind}
 use Rattle.node_world.specs.declared.mark.MarkKind.TheVariants as kind
+use Rattle.node_world.proofs.Values.{get_append_left}
 use Rattle.mesh.specs.Marks.{calls_to, next_number, mark}
-use Rattle.mesh.proofs.Lists.{get_left, same_test, other_test}
+use Rattle.mesh.proofs.Lists.{same_test, other_test}
+use Rattle.mesh.proofs.CallLists.{calls_append}
 use Rattle.caller_seats.specs.declared.calls_to.CallsTo.{CallsTo}
 use Rattle.caller_seats.specs.Deliveries.{Delivery, Delivered, ReplyLost, NotDelivered, delivery, is_marked, same_kind}
 use Rattle.caller_seats.specs.Indexes.{asked_of, asked_at, IsIndex, AreIndexes}
-use Rattle.caller_seats.proofs.MarkLaws.{calls_append}
 
 -- ## One mark more
 cmp_eq : (x y : ℕ) → is_eq (nat_cmp x y) ≡ (x == y)
@@ -71,7 +72,7 @@ asked_more : (past more : List Record) (i : ℕ) (r : Request) → asked_at past
 asked_more past more i r h = by (slice_get past i) refl h
   where
     by : (o : Option Record) → slice_get past i ≡ o → asked_of o ≡ Some r → asked_at (past ++ more) i ≡ Some r
-    by (Some line) e g = ap asked_of (get_left past more i line e) ∙ g
+    by (Some line) e g = ap asked_of (get_append_left past more i line e) ∙ g
     by None e g = absurd (cc g)
 
 asked_heads : (f : ℕ → Option Request) (i : ℕ) (is : List ℕ) (r : Request) (rs : List Request) → map f (i ∷ is) ≡ map (λ r. Some r) (r ∷ rs) → (f i ≡ Some r) × (map f is ≡ map (λ r. Some r) rs)

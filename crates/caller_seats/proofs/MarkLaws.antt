@@ -3,6 +3,7 @@ use Rattle.std.proofs.Common.{◌≡◌, ℕ, ◌+◌, ◌-◌, ◌<◌, ◌≤�
 use Rattle.std.specs.Prelude.{Some, ◌≢◌, ◌&&◌, ◌||◌, ◌==◌, slice_get}
 use Rattle.std.proofs.lemmas.List.Elements.{Contains-append_left}
 use Rattle.std.proofs.lemmas.Bool.Decides.{eqb_tells}
+use Rattle.std.proofs.lemmas.Bool.{or_right}
 use Rattle.journal_core.specs.declared.request.Request.{Request}
 use Rattle.node_world.specs.declared.node_ask.NodeAnswer.{NodeAnswer}
 use Rattle.node_world.specs.declared.node_ask.NodeAnswer.TheVariants.{Replied, Stopped, Done, Idle, NotOpened}
@@ -13,25 +14,15 @@ use Rattle.node_world.specs.declared.record.Told.TheVariants as told
 use Rattle.node_world.specs.declared.mark.Mark.{Mark}
 use Rattle.node_world.specs.declared.mark.MarkKind.{MarkKind}
 use Rattle.node_world.specs.declared.mark.MarkKind.TheVariants as kind
+use Rattle.node_world.proofs.Values.{get_append_left}
 use Rattle.mesh.specs.Marks.{mark, calls_to, next_number, Asked, IsAsMarked, IsCopy, IsMarked}
 use Rattle.caller_seats.specs.Deliveries.{Delivery, Delivered, ReplyLost, NotDelivered, same_kind, is_marked, delivery, told_of}
-use Rattle.mesh.proofs.Lists.{contains_cases, contains_head, contains_tail, contains_less, contains_none, get_left, append_none, same_test, cond_true}
+use Rattle.mesh.proofs.Lists.{contains_cases, contains_head, contains_tail, contains_less, contains_none, append_none, same_test, cond_true}
+use Rattle.mesh.proofs.CallLists.{calls_append}
 
 -- ## Calls of a longer record
-pub calls_append : (k : ℕ) (xs ys : List Record) → calls_to k (xs ++ ys) ≡ calls_to k xs ++ calls_to k ys
-unfolding calls_to
-calls_append k [] ys = refl
-calls_append k (Call i q t ∷ xs) ys = by (i == k) (calls_append k xs ys)
-  where
-    by : (b : Bool) → calls_to k (xs ++ ys) ≡ calls_to k xs ++ calls_to k ys → cond b (q ∷ calls_to k (xs ++ ys)) (calls_to k (xs ++ ys)) ≡ cond b (q ∷ calls_to k xs) (calls_to k xs) ++ calls_to k ys
-    by true h = ap (λ (l : List Request). q ∷ l) h
-    by false h = h
-calls_append k (Late i q ∷ xs) ys = calls_append k xs ys
-calls_append k (Operator i a d ∷ xs) ys = calls_append k xs ys
-calls_append k (Outcome x ∷ xs) ys = calls_append k xs ys
-
 pub asked_more : (k n : ℕ) (q : Request) (xs ys : List Record) → Asked k n q xs → Asked k n q (xs ++ ys)
-asked_more k n q xs ys h = (h.0, ap (λ (l : List Request). slice_get l (n - 1)) (calls_append k xs ys) ∙ get_left (calls_to k xs) (calls_to k ys) (n - 1) q h.1)
+asked_more k n q xs ys h = (h.0, ap (λ (l : List Request). slice_get l (n - 1)) (calls_append k xs ys) ∙ get_append_left (calls_to k xs) (calls_to k ys) (n - 1) q h.1)
 
 pub asked_one : (k n : ℕ) (q r : Request) (xs : List Record) → Asked k n q xs → Asked k n r xs → q ≡ r
 asked_one k n q r xs h g = let same : Some q ≡ Some r = sym h.1 ∙ g.1 in cc same
@@ -141,10 +132,6 @@ marked_has k n kd (m ∷ ms) e = by ((m.node == k) && ((m.number == n) && same_k
 
 self_test : (k n : ℕ) (kd : MarkKind) → ((k == k) && ((n == n) && same_kind kd kd)) ≡ true
 self_test k n kd = rw (same_test k k refl, same_test n n refl) (kind_self kd)
-
-or_right : (b c : Bool) → c ≡ true → (b || c) ≡ true
-or_right true c e = refl
-or_right false c e = e
 
 has_marked : (k n : ℕ) (kd : MarkKind) (ms : List Mark) → Contains ms (mark k n kd) → is_marked ms k n kd ≡ true
 unfolding is_marked

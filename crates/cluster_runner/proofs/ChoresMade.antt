@@ -2,6 +2,7 @@
 use Rattle.std.proofs.Common.{◌≡◌, ℕ, zero, suc, ◌+◌, ◌-◌, ◌≤◌, List, [], ◌∷◌, ◌++◌, length, take, Bool, true, false, cond, refl, sym, ap, ◌∙◌, subst, arith, ◌⊎◌, inl, inr}
 use Rattle.std.specs.Prelude.{Option, Some, None, ◌≢◌, is_some, nat_lt, ◌||◌}
 use Rattle.std.proofs.lemmas.Bool.Decides.{eqb_tells, nat_tests}
+use Rattle.std.proofs.lemmas.Bool.{cond-false}
 use Rattle.journal_core.specs.Views.{BatchView}
 use Rattle.journal_core.specs.declared.heard.Heard.{Heard}
 use Rattle.journal_core.specs.declared.heard.Heard.TheVariants.{Answer, Silent}
@@ -22,10 +23,10 @@ use Rattle.writer_core.specs.declared.turn.Outcome.TheVariants as outcome
 use Rattle.writer_core.specs.Views.{WriterView}
 use Rattle.writer_core.specs.declared.phase.Aim.TheVariants as aim
 use Rattle.writer_core.specs.declared.round.Round.TheVariants as round
-use Rattle.writer_core.specs.Rounds.{Judged, asking_all}
-use Rattle.writer_core.specs.Writer.{HasBody, new_writer, is_under_way, is_writing, if_writing, begins, call_in, writer_begun, next_call, writer_heard, writer_stopped}
+use Rattle.writer_core.specs.Rounds.{Judged}
+use Rattle.writer_core.specs.Writer.{HasBody, new_writer, is_under_way, is_writing, call_in, writer_begun, next_call, writer_heard, writer_stopped}
 use Rattle.ns_tree.specs.Space.{Space}
-use Rattle.ns_replay.specs.Replay.{Image, Applied, All, BadEntry, entered, applied_next, applied}
+use Rattle.ns_replay.specs.Replay.{Applied, All, BadEntry, entered, applied_next, applied}
 use Rattle.node_world.specs.declared.record.Record.{Record}
 use Rattle.node_world.specs.declared.record.Record.TheVariants.{Call, Late, Operator, Outcome}
 use Rattle.node_world.specs.declared.record.Told.{Told}
@@ -42,7 +43,9 @@ use Rattle.cluster_runner.proofs.Wanting.{Resting, sending, resting, fits_callin
 use Rattle.cluster_runner.proofs.Makes.{busy_by}
 use Rattle.script_actor.proofs.WriterTurn.{call_under}
 use Rattle.script_actor.proofs.TurnsTell.{turn_tells}
+use Rattle.script_actor.proofs.TrimLaws.{purge_begins}
 use Rattle.cluster_runner.proofs.Sound.{or_false, waiting_deeds}
+use Rattle.cluster_runner.proofs.NamedResults.{loaded_work}
 
 -- ## The maker's writer: the actor's, or what it was before it gave up
 abbrev Alike : WriterView → WriterView → Type 0
@@ -153,13 +156,10 @@ quiet_step rs a b e q r = record {
   calm = quiet_calm b.holds b.writer r;
 }
 
-maker_passes : (b : Bool) (x y : Maker) → b ≡ false → cond b x y ≡ y
-maker_passes b x y e = ap (λ (c : Bool). cond c x y) e
-
 -- a task begins
 writes_first : (t : Task) (cs : List Chore) (w : WriterView) → next_call w ≡ None → maker_of (Writes t ∷ cs) w ≡ maker_of cs (writer_begun w t).writer
 unfolding maker_of
-writes_first t cs w none = maker_passes (is_some (next_call w)) (record { chores = Writes t ∷ cs; writer = w; reading = None }) (maker_of cs (writer_begun w t).writer) (ap is_some none)
+writes_first t cs w none = cond-false (is_some (next_call w)) (record { chores = Writes t ∷ cs; writer = w; reading = None }) (maker_of cs (writer_begun w t).writer) (ap is_some none)
 
 task_step : (rs : List Record) (a b : Actor) (t : Task) → HasBody t → next_call a.writer ≡ None → (writer_begun a.writer t).begun ≡ begun.Going → b.writer ≡ (writer_begun a.writer t).writer
     → IsQuiet a.holds → IsQuiet b.holds → Step rs a b
@@ -178,7 +178,7 @@ task_step rs a b t body none going e q r = record { back = back; calm = quiet_ca
 reads_first : (p more : ℕ) (cs : List Chore) (w : WriterView) → next_call w ≡ None → maker_of (ReadsOn p more ∷ cs) w ≡ record { chores = cs; writer = w; reading = Some (record { position = p; node = 1; more = more }) }
 unfolding maker_of
 reads_first p more cs w none =
-    maker_passes (is_some (next_call w)) (record { chores = ReadsOn p more ∷ cs; writer = w; reading = None }) (record { chores = cs; writer = w; reading = Some (record { position = p; node = 1; more = more }) }) (ap is_some none)
+    cond-false (is_some (next_call w)) (record { chores = ReadsOn p more ∷ cs; writer = w; reading = None }) (record { chores = cs; writer = w; reading = Some (record { position = p; node = 1; more = more }) }) (ap is_some none)
 
 begins_reading : (rs : List Record) (until : Option ℕ) (h : Holding) (w : WriterView) → next_call w ≡ None → CanMake (Some (working (Tails until 1 []) h)) w rs → CanBegin w rs
 unfolding HaveBodies
@@ -302,10 +302,6 @@ unfolding logged_when
 logged_step rs true es h a i = synced_step rs (submitted a.writer es (nothing_submitted h.space)).bodies (submitted a.writer es (nothing_submitted h.space)) h a i refl
 logged_step rs false es h a i = quiet_step rs a _ refl i.quiet i.quiet
 
-purge_begins : (w : WriterView) (min : ℕ) → is_writing w.phase ≡ true → (writer_begun w (task.Purge min)).begun ≡ begun.Going
-unfolding writer_begun
-purge_begins w min e = ap (λ (b : Bool). (if_writing b (begins (asking_all (round.Purge min) (record w { aim = aim.Purge }))) w).begun) e
-
 trim_step : (rs : List Record) (b : Bool) (min : Option ℕ) (a : Actor) → Idle a → is_writing a.writer.phase ≡ b → Step rs a (trim_at b min a)
 unfolding trim_at
 trim_step rs false min a i e = quiet_step rs a _ refl i.quiet i.quiet
@@ -323,10 +319,6 @@ tail_step rs h a i = record {
   back = λ can w al. from_quiet a.holds w rs i.quiet (begins_reading rs None h w (alike_none w a.writer al i.none) (can w al));
   calm = (i.none, tt);
 }
-
-loaded_work : (images : List Image) (h : Holding) → (loaded images h).work ≡ h.work
-loaded_work [] h = refl
-loaded_work (i ∷ is) h = refl
 
 reloaded_quiet : (h : Holding) → IsQuiet (Some (reloaded h))
 unfolding reloaded

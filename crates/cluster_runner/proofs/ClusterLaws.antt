@@ -1,5 +1,6 @@
 -- What the program's nodes and actors become is what is kept of a play.
-use Rattle.std.proofs.Common.{◌≡◌, ℕ, ◌+◌, List, [], ◌∷◌, ◌++◌, length, map, Bool, refl, sym, ap, ◌∙◌, arith, zero, suc, replicate}
+use Rattle.std.proofs.Common.{◌≡◌, ℕ, ◌+◌, List, [], ◌∷◌, ◌++◌, length, map, Bool, refl, sym, ap, ◌∙◌, arith}
+pub use Rattle.std.proofs.lemmas.List.{replicate_more as replicated_more}
 use Rattle.std.proofs.lemmas.List.{map-append}
 use Rattle.node_world.specs.declared.history_line.HistoryLine.{HistoryLine}
 use Rattle.node_world.specs.declared.record.Record.{Record}
@@ -15,10 +16,6 @@ abbrev with_actors : Bool → List CellView → ℕ → List Record → List Kep
 with_actors named nodes o os xs = record { named = named; nodes = nodes; actors = xs; operator = o; operated = os }
 
 -- ## Nodes and actors
-pub replicated_more : {B : Type 0} (n : ℕ) (x : B) → replicate n x ++ x ∷ [] ≡ replicate (n + 1) x
-replicated_more zero x = refl
-replicated_more (suc n) x = let e : suc n + 1 ≡ suc (n + 1) = omega arith in ap (λ xs. x ∷ xs) (replicated_more n x) ∙ ap (λ k. replicate k x) (sym e)
-
 pub one_more_actor : (named : Bool) (nodes : List CellView) (players : List Player) (o : ℕ) (os : List Record) (name : List ℕ) (p : Player) → keeps p ≡ new_actor named (length nodes) name
     → kept named nodes (players ++ p ∷ []) o os ≡ with_actor (kept named nodes players o os) name
 one_more_actor named nodes players o os name p e =

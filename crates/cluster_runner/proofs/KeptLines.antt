@@ -1,7 +1,7 @@
 -- What is kept of a play goes along with it: the beginning, a line taken, the end.
 use Rattle.std.proofs.Common.{◌≡◌, ℕ, zero, suc, ◌+◌, ◌<◌, List, [], ◌∷◌, ◌++◌, length, map, Bool, true, false, cond, refl, sym, ap, ◌∙◌, subst, Option, Some, set, get_or, replicate, ◌&&◌}
 use Rattle.std.specs.Prelude.{◌||◌, None, is_none}
-use Rattle.std.proofs.lemmas.List.{map-append}
+use Rattle.std.proofs.lemmas.List.{map-append, get_or_default, length-replicate}
 use Rattle.std.proofs.Math.ListN.{get_or-map}
 use Rattle.node_world.specs.declared.record.Record.{Record}
 use Rattle.node_world.specs.declared.history_line.HistoryLine.{HistoryLine}
@@ -17,7 +17,6 @@ use Rattle.script_actor.specs.Deeds.{IsIdleActor}
 use Rattle.cluster_runner.specs.Plays.{Play, play_step, play_begins, line_taken, actor_at, histories_from, history_of, has_ended, no_lines, mesh_of, ends_from, ends_of}
 use Rattle.cluster_runner.specs.Kept.{Kept, actor_of, Stands, IsAtRest, Leads, LeadsTo, with_actor, with_actor_at, new_kept, mesh_kept, end_of, ends_kept, IsPlayed}
 use Rattle.cluster_runner.specs.PlaySeats.{LinesGo}
-use Rattle.cluster_runner.proofs.KeptLists.{same_place}
 use Rattle.cluster_runner.proofs.KeptSteps.{step_line}
 use Rattle.script_actor.proofs.KeptActor.{idle_no_tail, rests}
 use Rattle.cluster_runner.proofs.KeptTurns.{leads_one, leads_on, IsActing, with_cells, after_marks, lines_act, rest_after}
@@ -50,7 +49,7 @@ stands_same k p ls turn xs s = record { named = s.named; nodes = s.nodes; cells 
 
 -- an actor is known without the nodes
 pub actor_as : (k : Kept) (cells : List CellView) (c : ℕ) → c < length k.actors → actor_of (with_cells k cells) c ≡ actor_of k c
-actor_as k cells c l = same_place k.actors c (new_actor k.named (length cells) []) (new_actor k.named (length k.nodes) []) l
+actor_as k cells c l = get_or_default k.actors c (new_actor k.named (length cells) []) (new_actor k.named (length k.nodes) []) l
 
 -- an idle actor leaves no deed to be done
 none_left : (b w : Bool) (d : Deed) (x y : Actor) → w ≡ false → (cond b (record x { todo = while_wanting w (d ∷ []) }) (record y { todo = [] })).todo ≡ []
@@ -136,17 +135,13 @@ unfolding histories_from history_of
 no_histories k zero = refl
 no_histories k (suc n) = ap (λ xs. [] ∷ xs) (no_histories (k + 1) n)
 
-replicated : {A : Type 0} (n : ℕ) (x : A) → length (replicate n x) ≡ n
-replicated zero x = refl
-replicated (suc n) x = ap suc (replicated n x)
-
 pub begins_at_rest : (named : Bool) (n : ℕ) (ls : List Line) → IsAtRest ls (new_kept named n (declared ls)) (play_begins named n ls)
 unfolding play_begins
 begins_at_rest named n ls =
     record {
       stands = record {
         named = refl;
-        nodes = replicated n new_cell;
+        nodes = length-replicate n new_cell;
         cells = fresh_cells n;
         histories = no_histories 1 n ∙ fresh_histories n;
         names = refl;

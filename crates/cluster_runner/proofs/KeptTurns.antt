@@ -19,7 +19,7 @@ use Rattle.caller_seats.specs.declared.delivery.Delivery.TheVariants.{Delivered,
 use Rattle.caller_seats.specs.Deliveries.{delivery}
 use Rattle.caller_seats.proofs.MarkLaws.{delivery_known}
 use Rattle.script_actor.specs.Lines.{Line}
-use Rattle.script_actor.specs.Actor.{Actor, Want, WantsCall, WantsCopy, Says, Rests, Fits, IsLed, wants, goes_on, resettled, settled, moved_on, actor_after, fresh_actor}
+use Rattle.script_actor.specs.Actor.{Actor, WantsCall, WantsCopy, Says, IsLed, wants, goes_on, resettled, settled, moved_on, actor_after, fresh_actor}
 use Rattle.cluster_runner.specs.Plays.{Play, play_step, play_steps, actor_at}
 use Rattle.script_actor.specs.KeptActor.{KeptActor, new_actor, resting}
 use Rattle.script_actor.specs.Deeds.{IsIdleActor}
@@ -30,6 +30,7 @@ use Rattle.cluster_runner.proofs.KeptSteps.{placed, asked_play, reached_play, no
 use Rattle.script_actor.proofs.KeptActor.{idle_no_tail, rests}
 use Rattle.cluster_runner.proofs.Led.{moved_keeps}
 use Rattle.cluster_runner.proofs.Sound.{goes_past}
+use Rattle.cluster_runner.proofs.Wanting.{call_want, copy_want, says_want}
 
 -- ## Some steps
 steps_add : (m n : ℕ) (p : Play) → play_steps n (play_steps m p) ≡ play_steps (m + n) p
@@ -140,28 +141,6 @@ stands_acted k p xs s = record { named = s.named; nodes = s.nodes; cells = s.cel
 again : (xs ys : List Actor) (c : ℕ) (x y : Actor) → ys ≡ set xs c x → set ys c y ≡ set xs c y
 again xs ys c x y e = ap (λ zs. set zs c y) e ∙ set_set xs c x y
 
--- what the actor wanted
-wanted_call : (w : Want) (node : ℕ) (r : Request) (told : Told) → Fits w (Call node r told) → w ≡ WantsCall node r
-unfolding Fits
-wanted_call (WantsCall k q) node r told h = ap (λ z. WantsCall z q) (sym h.0) ∙ ap (λ z. WantsCall node z) (sym h.1)
-wanted_call (WantsCopy k q) node r told h = absurd h
-wanted_call (Says text) node r told h = absurd h
-wanted_call Rests node r told h = absurd h
-
-wanted_copy : (w : Want) (node : ℕ) (r : Request) → Fits w (Late node r) → w ≡ WantsCopy node r
-unfolding Fits
-wanted_copy (WantsCall k q) node r h = absurd h
-wanted_copy (WantsCopy k q) node r h = ap (λ z. WantsCopy z q) (sym h.0) ∙ ap (λ z. WantsCopy node z) (sym h.1)
-wanted_copy (Says text) node r h = absurd h
-wanted_copy Rests node r h = absurd h
-
-wanted_text : (w : Want) (text : List ℕ) → Fits w (Outcome text) → w ≡ Says text
-unfolding Fits
-wanted_text (WantsCall k q) text h = absurd h
-wanted_text (WantsCopy k q) text h = absurd h
-wanted_text (Says x) text h = ap (λ z. Says z) (sym h)
-wanted_text Rests text h = absurd h
-
 -- some steps, to where the actor is this one and the nodes are these
 abbrev Acts : List Line → ℕ → Actor → Kept → List CellView → Play → Type 0
 Acts ls c y k cells p = (q : Play) × Leads p q × IsActing ls c y (with_cells k cells) q
@@ -244,13 +223,13 @@ lines_act [] ls c x k p cells l h todo led marked go =
     let Q : List CellView → Type 0 = λ vs. IsActing ls c x (with_cells k vs) p in
     (p, leads_same p, subst Q (sym go) h)
 lines_act (Call node r told ∷ rs) ls c x k p cells l h todo led marked go =
-    then_acts ls c k p (goes_on x (Call node r told)) (actor_after (goes_on x (Call node r told)) rs) go.0 cells (call_acts ls c x k p node r told go.0 l h (wanted_call (wants x) node r told led.0) marked.0 go.1)
+    then_acts ls c k p (goes_on x (Call node r told)) (actor_after (goes_on x (Call node r told)) rs) go.0 cells (call_acts ls c x k p node r told go.0 l h (call_want (wants x) node r told led.0) marked.0 go.1)
     (λ q g. lines_act rs ls c (goes_on x (Call node r told)) (with_cells k go.0) q cells l g (goes_marks x (Call node r told) todo).0 led.1 (next_marked x (Call node r told) rs todo marked.1) go.2)
 lines_act (Late node r ∷ rs) ls c x k p cells l h todo led marked go =
-    then_acts ls c k p (goes_on x (Late node r)) (actor_after (goes_on x (Late node r)) rs) go.0 cells (copy_acts ls c x k p node r go.0 l h (wanted_copy (wants x) node r led.0) go.1)
+    then_acts ls c k p (goes_on x (Late node r)) (actor_after (goes_on x (Late node r)) rs) go.0 cells (copy_acts ls c x k p node r go.0 l h (copy_want (wants x) node r led.0) go.1)
     (λ q g. lines_act rs ls c (goes_on x (Late node r)) (with_cells k go.0) q cells l g (goes_marks x (Late node r) todo).0 led.1 (next_marked x (Late node r) rs todo marked.1) go.2)
 lines_act (Outcome text ∷ rs) ls c x k p cells l h todo led marked go =
-    then_acts ls c k p (goes_on x (Outcome text)) (actor_after (goes_on x (Outcome text)) rs) go.0 cells (say_acts ls c x k p text go.0 l h (wanted_text (wants x) text led.0) go.1)
+    then_acts ls c k p (goes_on x (Outcome text)) (actor_after (goes_on x (Outcome text)) rs) go.0 cells (say_acts ls c x k p text go.0 l h (says_want (wants x) text led.0) go.1)
     (λ q g. lines_act rs ls c (goes_on x (Outcome text)) (with_cells k go.0) q cells l g (goes_marks x (Outcome text) todo).0 led.1 (next_marked x (Outcome text) rs todo marked) go.2)
 lines_act (Operator node ask done ∷ rs) ls c x k p cells l h todo led marked go = absurd go.1
 

@@ -29,3 +29,4 @@ pub mod NodesLeft
 pub mod FaultlessLaws
 pub mod NeverBroken
 pub mod ScriptLaws
+pub mod PlayableDeeds

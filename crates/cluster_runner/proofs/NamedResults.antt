@@ -1,7 +1,7 @@
 -- An actor with names that meets no bad entry says, deed by deed, as many results as are due.
 use Rattle.std.proofs.Common.{◌≡◌, ℕ, suc, ◌+◌, ◌-◌, ◌≤◌, List, [], ◌∷◌, ◌++◌, Bool, true, false, cond, refl, sym, ap, ◌∙◌, subst, arith, length, drop, append_assoc, ◌⊎◌, inl, inr}
 use Rattle.std.specs.Prelude.{Option, Some, None, ◌≢◌, ◌||◌, map, nat_lt, codes}
-use Rattle.std.proofs.lemmas.List.{length-map, length-append}
+use Rattle.std.proofs.lemmas.List.{length-map, length-append, nil_from_length}
 use Rattle.journal_core.specs.declared.request.Request.{Request}
 use Rattle.journal_core.specs.declared.heard.Heard.{Heard}
 use Rattle.journal_core.specs.declared.heard.Heard.TheVariants.{Answer, Silent}
@@ -35,6 +35,7 @@ use Rattle.name_node.specs.Tails.{TailEnd, Caught, Reached, PurgedFrom, BehindBy
 use Rattle.script_actor.specs.Lines.{Deed, Does, DoDrop, DoMute, DoLate, Submits, Trims, DoTail, Saves, Reloads, IsNamesTask, IsDeed, AreDeeds}
 use Rattle.script_actor.specs.Results.{dues_logged, dues_aborted, abort_text, inactive_results, too_long_results, late_none}
 use Rattle.script_actor.specs.Actor.{Actor, Rests, WantsCall, fresh_actor, call_wanted, work_read, read_first, wants, is_wanting, is_broken_work, is_broken_holding, is_broken, tail_ended, tail_stepped, task_begun, copied, sync_begun, synced, logged_when, trim_at, unless_active, saving, reloading, held_deed, deed_taken, while_wanting, settled, logs_done, aborted_texts, task_done, held_turn, turn_with, turn_taken, heard_in_work, heard_by, moved_on, resettled, goes_on, Fits, IsLed, actor_after}
+use Rattle.script_actor.proofs.TrimLaws.{purge_begins}
 use Rattle.cluster_runner.specs.Told.{results_in}
 use Rattle.cluster_runner.specs.EditResults.{results_due, AreResultsOf, AreResults, NeverBroken}
 use Rattle.cluster_runner.proofs.Led.{todo_wants, waiting, either_wants, moved_keeps}
@@ -107,10 +108,6 @@ owes_deed d says n ds texts f h = record {
   are_results = (says ++ h.due, h.rest, h.all ∙ sym (append_assoc says h.due h.rest), f h.due h.count, h.are_results);
 }
 
-empty_of : (xs : List (List ℕ)) → length xs ≡ 0 → xs ≡ []
-empty_of [] e = refl
-empty_of (x ∷ xs) e = absurd (omega (arith, e))
-
 -- an actor between deeds
 record Idle (a : Actor) : Type 0 where
   live : Live a
@@ -177,7 +174,7 @@ goes_task d t a i are single e = by (begun_turn t a.writer i.live.course.other)
     }
 
 none_more : (says xs : List (List ℕ)) → says ≡ [] → length xs ≡ 0 → says ++ xs ≡ []
-none_more says xs e f = ap (λ (l : List (List ℕ)). l ++ xs) e ∙ empty_of xs f
+none_more says xs e f = ap (λ (l : List (List ℕ)). l ++ xs) e ∙ nil_from_length xs f
 
 few_more : (says xs : List (List ℕ)) → length says ≤ 1 → length xs ≡ 0 → length (says ++ xs) ≤ 1
 few_more says xs e f = omega (arith, length-append says xs, e, f)
@@ -244,15 +241,11 @@ logged_taken true es h a i =
     synced_taken x.bodies es x h a i many
 logged_taken false es h a i = said_same (Submits es) a _ i refl refl refl (as_many (map _ es) (length es) (length-map es _))
 
-purge_goes : (w : WriterView) (min : ℕ) → is_writing w.phase ≡ true → (writer_begun w (task.Purge min)).begun ≡ begun.Going
-unfolding writer_begun
-purge_goes w min e = rw e refl
-
 trim_taken : (extra : ℕ) (b : Bool) (min : Option ℕ) (a : Actor) → Idle a → is_writing a.writer.phase ≡ b → Taken (Trims extra) a (trim_at b min a)
 unfolding trim_at
 trim_taken extra false min a i e = said_same (Trims extra) a _ i refl refl refl (as_many (codes "trim inactive" ∷ []) 1 refl)
 trim_taken extra true None a i e = said_same (Trims extra) a _ i refl refl refl (as_many (codes "trim noimage" ∷ []) 1 refl)
-trim_taken extra true (Some min) a i e = goes_task (Trims extra) (task.Purge min) a i (λ xs f. f) tt (purge_goes a.writer min e)
+trim_taken extra true (Some min) a i e = goes_task (Trims extra) (task.Purge min) a i (λ xs f. f) tt (purge_begins a.writer min e)
 
 unless_taken : (d : Deed) (b : Bool) (c a : Actor) → Idle a → ((xs : List (List ℕ)) → length xs ≡ 1 → AreResultsOf d xs) → Taken d a c → Taken d a (unless_active b c a)
 unless_taken d true c a i are t = said_same d a _ i refl refl refl (λ xs f. are (_ ∷ xs) (ap suc f))
@@ -271,7 +264,7 @@ tail_taken h a i = record {
   owes = λ ds texts o. owes_deed DoTail a.says 1 ds texts (λ xs f. one_more a.says xs i.quiet f) (subst (λ (t : Option Task). Owes a.says (due_of t (Tails None 1 [])) ds texts) i.none o);
 }
 
-loaded_work : (images : List Image) (h : Holding) → (loaded images h).work ≡ h.work
+pub loaded_work : (images : List Image) (h : Holding) → (loaded images h).work ≡ h.work
 loaded_work [] h = refl
 loaded_work (i ∷ is) h = refl
 
@@ -752,4 +745,4 @@ each_named_result n ds rs h d led whole e =
     let new : Actor = fresh_actor true n in
     let s : Settled ds new (fresh_live n h) (settled ds new) = settled_so ds new (fresh_live n h) d in
     let o : Owes [] 0 ds (results_in rs) = s.owes (results_in rs) (led_owes rs (settled ds new) s.live s.deeds s.done led whole e) in
-    subst (AreResults ds) (sym (o.all ∙ ap (λ (x : List (List ℕ)). x ++ o.rest) (empty_of o.due o.count))) o.are_results
+    subst (AreResults ds) (sym (o.all ∙ ap (λ (x : List (List ℕ)). x ++ o.rest) (nil_from_length o.due o.count))) o.are_results

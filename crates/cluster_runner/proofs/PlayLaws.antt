@@ -1,7 +1,7 @@
 -- A script's lines are taken one after the other.
-use Rattle.std.proofs.Common.{◌≡◌, ◌==◌, ◌⊎◌, ℕ, zero, suc, ◌+◌, ◌<◌, ◌≤◌, List, [], ◌∷◌, ◌++◌, length, map, Bool, true, false, refl, sym, ap, ◌∙◌, subst, arith, drop, get_or, replicate, inl, inr}
+use Rattle.std.proofs.Common.{◌≡◌, ◌==◌, ◌⊎◌, ℕ, zero, suc, ◌+◌, ◌<◌, ◌≤◌, List, [], ◌∷◌, ◌++◌, length, map, Bool, true, false, refl, sym, ap, ◌∙◌, subst, arith, drop, get_or, inl, inr}
 use Rattle.std.specs.Prelude.{◌≢◌, is_some}
-use Rattle.std.proofs.lemmas.List.{length-append, get_or_append_left}
+use Rattle.std.proofs.lemmas.List.{length-append, get_or_append_left, length-replicate}
 use Rattle.std.proofs.Math.Seq.{get_or-append_seam}
 use Rattle.std.proofs.Math.Arith.{lt_of_le-ne}
 use Rattle.std.proofs.lemmas.Bool.Decides.{eqb_tells}
@@ -80,7 +80,7 @@ edits_may : (named : Bool) (edits : List EditView) → WithNames named ((edits �
 edits_may true edits h = (refl, h.0)
 edits_may false edits h = absurd h
 
-names_may : (named : Bool) → WithNames named (Unit {0}) → named ≡ true
+pub names_may : (named : Bool) → WithNames named (Unit {0}) → named ≡ true
 names_may true h = refl
 names_may false h = absurd h
 
@@ -144,10 +144,6 @@ under_way_more named nodes lines l ls old new u t =
       at_rest = step.2;
     }
 
-pub replicated : {A : Type 0} (n : ℕ) (x : A) → length (replicate n x) ≡ n
-replicated zero x = refl
-replicated (suc n) x = ap suc (replicated n x)
-
 pub under_way_first : (s : ScriptView) (named : Bool) (n operator : ℕ) (ls : List ScriptLine) (k : Kept) → IsPlayable s → NumbersFit s → named ≡ s.named → n ≡ s.nodes → ls ≡ s.lines
     → operator ≡ declared (map line_of ls) → k ≡ new_kept named n operator → IsUnderWay s.named s.nodes (lines_of s) ls k
 under_way_first s named n operator ls k playable fits kind same are o e =
@@ -157,10 +153,10 @@ under_way_first s named n operator ls k playable fits kind same are o e =
     e ∙ ap (λ b. new_kept b n operator) kind ∙ ap (λ m. new_kept s.named m operator) same ∙ ap (new_kept s.named s.nodes) (o ∙ ap (λ xs. declared (map line_of xs)) are) in
     subst P (sym first) (subst Q (sym are) (record {
       idle = record {
-        some = let m = replicated s.nodes new_cell in let some = playable.nodes in omega (arith, some, m);
+        some = let m = length-replicate s.nodes new_cell in let some = playable.nodes in omega (arith, some, m);
         actors = λ d l. absurd (omega (arith, l));
       };
-      same_nodes = replicated s.nodes new_cell;
+      same_nodes = length-replicate s.nodes new_cell;
       as_named = refl;
       in_range = fits.lines;
       playable = playable.lines;

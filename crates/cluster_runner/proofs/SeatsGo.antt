@@ -1,6 +1,6 @@
 -- The seats of a play while an actor acts: each call of theirs, and a whole deed.
 use Rattle.std.proofs.Common.{◌≡◌, ◌≢◌, ◌==◌, ◌⊎◌, ℕ, zero, suc, ◌-◌, ◌<◌, ◌≤◌, List, [], ◌∷◌, ◌++◌, length, Bool, false, true, refl, sym, ap, ◌∙◌, subst, arith, inl, inr, append_assoc, append-nil, set, get_or}
-use Rattle.std.proofs.lemmas.List.{length-map, length-set, map-set, get_or-map, get_or-set_same, get_or-set_other, append_cancel_left}
+use Rattle.std.proofs.lemmas.List.{length-map, length-set, map-set, get_or-map, get_or-set_same, get_or-set_other, append_cancel_left, get_or_default}
 use Rattle.std.proofs.lemmas.List.Elements.{All-append}
 use Rattle.std.proofs.lemmas.Bool.Decides.{eqb_tells}
 use Rattle.journal_core.specs.declared.request.Request.{Request}
@@ -28,7 +28,6 @@ use Rattle.cluster_runner.specs.PlaySeats.{SeatsView, cell_at, AreLater}
 use Rattle.cluster_runner.specs.Ready.{IsIdleIn, IsIdle, TakesLine}
 use Rattle.cluster_runner.specs.SeatLaws.{later_one}
 use Rattle.cluster_runner.specs.Shown.{keeps, kept, AreSeated}
-use Rattle.cluster_runner.proofs.KeptLists.{same_place}
 use Rattle.cluster_runner.proofs.LineTaken.{takes_deed}
 use Rattle.cluster_runner.proofs.Sound.{goes_past, handed_past}
 
@@ -49,7 +48,7 @@ is_called s caller cells log new node r told heard e hears marked listed_is =
     subst (λ (x : SeatsView). IsCalled x.log node r heard new) e (record { told = told; hears = hears; as_marked = marked; listed = listed_is })
 
 here : (cells : List CellView) (node : ℕ) (v : CellView) → 1 ≤ node → node ≤ length cells → v ≡ get_or cells (node - 1) v → cell_at cells node ≡ v
-here cells node v low high is = same_place cells (node - 1) new_cell v (omega (arith, low, high)) ∙ sym is
+here cells node v low high is = get_or_default cells (node - 1) new_cell v (omega (arith, low, high)) ∙ sym is
 
 pub call_later : (s : SeatsView) (caller : ℕ) (cells : List CellView) (log new : LogView) (node : ℕ) (r : Request) (told : Told) (d : Delivery) (v w : CellView) → view caller cells log ≡ s
     → 1 ≤ node → node ≤ length cells → v ≡ get_or cells (node - 1) v → told ≡ told_by d v r → w ≡ reached_by d v caller r → new ≡ with_line log (Call node r told)

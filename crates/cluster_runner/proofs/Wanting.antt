@@ -142,21 +142,21 @@ unfolding is_wanting
 rests_is w e = ap is_wanting e
 
 -- ## What fits a want
-call_want : (w : Want) (k : ℕ) (q : Request) (t : Told) → Fits w (Call k q t) → w ≡ WantsCall k q
+pub call_want : (w : Want) (k : ℕ) (q : Request) (t : Told) → Fits w (Call k q t) → w ≡ WantsCall k q
 unfolding Fits
 call_want (WantsCall i p) k q t h = cc (h.0, h.1)
 call_want (WantsCopy i p) k q t h = absurd h
 call_want (Says x) k q t h = absurd h
 call_want Rests k q t h = absurd h
 
-copy_want : (w : Want) (k : ℕ) (q : Request) → Fits w (Late k q) → w ≡ WantsCopy k q
+pub copy_want : (w : Want) (k : ℕ) (q : Request) → Fits w (Late k q) → w ≡ WantsCopy k q
 unfolding Fits
 copy_want (WantsCall i p) k q h = absurd h
 copy_want (WantsCopy i p) k q h = cc (h.0, h.1)
 copy_want (Says x) k q h = absurd h
 copy_want Rests k q h = absurd h
 
-says_want : (w : Want) (x : List ℕ) → Fits w (Outcome x) → w ≡ Says x
+pub says_want : (w : Want) (x : List ℕ) → Fits w (Outcome x) → w ≡ Says x
 unfolding Fits
 says_want (WantsCall i p) x h = absurd h
 says_want (WantsCopy i p) x h = absurd h

@@ -8,7 +8,7 @@ use Rattle.node_files.specs.declared.node_number.NodeNumber.{NodeNumber}
 use Rattle.node_files.specs.declared.node_number.NodeNumber.TheVariants.{Promised, Writer, Committed}
 use Rattle.segment_file.specs.Names.{Kind, InProgress, Final, Record, UnderWay, Fresh, FreshRecord, name_of}
 use Rattle.segment_file.specs.Kinds.{IsNamed, IsTold}
-use Rattle.segment_file.proofs.NamesLemmas.{same_start, same_kind}
+use Rattle.segment_file.proofs.MendLemmas.{one_start, one_kind}
 use Rattle.image_store.specs.Names as image
 use Rattle.image_store.proofs.NameLaws.{parts_apart, same_txid}
 use Rattle.fsck_tool.specs.declared.file_role.FileRole.{FileRole}
@@ -142,14 +142,6 @@ image_last txid image.Checkpoint is = refl
 image_last txid image.FreshDigest is = refl
 
 -- ## One role
-one_start : (name : List ℕ) (s t : ℕ) (j k : Kind) → IsNamed name s j → IsNamed name t k → s ≡ t
-one_start name s t j k one two = same_start s t j k one.small two.small (sym one.spelled ∙ two.spelled)
-
-one_kind : (name : List ℕ) (s t : ℕ) (j k : Kind) → IsNamed name s j → IsNamed name t k → j ≡ k
-one_kind name s t j k one two =
-    let at_t : IsNamed name t j = subst (λ (n : ℕ). IsNamed name n j) (one_start name s t j k one two) one in
-    same_kind t j k at_t.valid two.valid (sym at_t.spelled ∙ two.spelled)
-
 number_and_segment : (n : NodeNumber) (start : ℕ) (kind : Kind) → number_name n ≡ name_of start kind → ⊥
 number_and_segment n start kind is = by (number_first n) (segment_first start kind) (ap first_byte is)
   where

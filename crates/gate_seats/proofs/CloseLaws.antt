@@ -1,14 +1,14 @@
 -- Gates closed one after the other, each with the row of its seats.
 use Rattle.std.proofs.Common.{◌≡◌, ℕ, zero, suc, ◌+◌, ◌<◌, List, [], ◌∷◌, ◌++◌, length, map, replicate, drop, refl, sym, ap, ◌∙◌, subst, arith, get_or}
-use Rattle.std.proofs.lemmas.List.{length-map, map-append}
+use Rattle.std.proofs.lemmas.List.{length-map, map-append, get_or_default}
 use Rattle.std.proofs.Math.ListN.{get_or-map}
 use Rattle.atomic_table.specs.Seated.{TableId}
 use Rattle.node_world.specs.declared.history_line.HistoryLine.{HistoryLine}
 use Rattle.node_gate.specs.Board.{AllAt}
-use Rattle.node_gate.proofs.Histories.{all_push}
+use Rattle.node_gate.proofs.Histories.{all_push, at_less}
 use Rattle.gate_seats.specs.Seated.{Seat}
 use Rattle.gate_seats.specs.Gates.{dealt, fresh_seat, row_at, AreOf, IsLeft}
-use Rattle.gate_seats.proofs.GateLaws.{map_compose, map_dealt, none_none, dealt_count, row_is, get_any, elem_map, below, of_length, columns_long, row_seats}
+use Rattle.gate_seats.proofs.GateLaws.{map_compose, map_dealt, none_none, dealt_count, row_is, elem_map, of_length, columns_long, row_seats}
 
 -- ## What is left of a list
 drop_first : {A : Type 0} (l : List A) (i : ℕ) (x : A) → get_or (drop i l) 0 x ≡ get_or l i x
@@ -37,7 +37,7 @@ some_left all left i e h = subst (λ z. 0 < length z) (sym e) (drop_some all i h
 
 -- ## What fits the gate
 pub at_map : {A X : Type 0} (f : A → X) (l : List A) (i : ℕ) (a : A) (d : X) → i < length l → a ≡ get_or l i a → f a ≡ get_or (map f l) i d
-at_map f l i a d h is = ap f is ∙ sym (get_or-map f l i a) ∙ get_any (map f l) i (f a) d (let n = length-map l f in omega (arith, h, n))
+at_map f l i a d h is = ap f is ∙ sym (get_or-map f l i a) ∙ get_or_default (map f l) i (f a) d (let n = length-map l f in omega (arith, h, n))
 
 pub same_long : {A B X : Type 0} (f : A → X) (g : B → X) (xs : List A) (ys : List B) → map f xs ≡ map g ys → length xs ≡ length ys
 same_long f g xs ys e = sym (length-map xs f) ∙ ap length e ∙ length-map ys g
@@ -111,5 +111,5 @@ module _ {V S : Type 0} (items : V → List S) (seat : S → Seat) where
 
     pub left_all : (hs : List (List HistoryLine)) → length hs ≡ length tables → AllAt (λ j x. IsLeft (get_or (map shown rows) j []) x) hs → (d : Seat) → AllAt (λ j x. IsLeft (row_at j d (map shown columns)) x) hs
     left_all hs n all d i h at =
-        let b = below hs i h at in
+        let b = at_less hs i h at in
         subst (λ r. IsLeft r h) (row_is (map shown rows) (map shown columns) (length tables) i d (rows_shown rows columns (length tables) dealt_so) (omega (arith, b, n)) (columns_long tables (map shown columns) theirs)) (all i h at)

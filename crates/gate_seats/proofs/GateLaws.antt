@@ -1,7 +1,7 @@
 -- Rows dealt to columns; seats before the first call; a gate that is closed.
 use Rattle.std.proofs.Common.{◌≡◌, ℕ, zero, suc, ◌+◌, ◌<◌, ◌≤◌, List, [], ◌∷◌, ◌++◌, length, map, refl, sym, ap, ◌∙◌, set, get_or, arith, replicate}
 use Rattle.std.proofs.Common.{◌⊎◌, inl, inr, Bool, true, false, cond, filter, ◌==◌, append-nil, append_assoc}
-use Rattle.std.proofs.lemmas.List.{length-map, length-replicate, map-set, map-append}
+use Rattle.std.proofs.lemmas.List.{length-map, length-replicate, map-set, map-append, get_or_default}
 use mathlib.Core.Option.{some}
 use lib.ListN.{get_elem?}
 use Rattle.atomic_table.specs.Seated.{TableId}
@@ -9,6 +9,7 @@ use Rattle.node_world.specs.declared.history_line.HistoryLine.{HistoryLine}
 use Rattle.mesh.specs.Matches.{lines_of, CallersWithin}
 use Rattle.mesh.proofs.Lists.{cond_true, same_test}
 use Rattle.node_gate.specs.Board.{Begins, places_of}
+use Rattle.node_gate.proofs.Histories.{at_less}
 use Rattle.gate_seats.specs.Entries.{Entry, entries_of, own_lines, line_of as line_in}
 use Rattle.gate_seats.proofs.SeatLaws.{not_acted}
 use Rattle.gate_seats.specs.Seated.{Seat, seat_of}
@@ -197,11 +198,6 @@ pub row_is : (rows columns : List (List Seat)) (m i : ℕ) (d : Seat) → rows �
 row_is rows columns m i d e l long = row_from rows columns m i d [] refl e l long
 
 -- ## The elements of a list
-pub get_any : {A : Type 0} (l : List A) (i : ℕ) (a b : A) → i < length l → get_or l i a ≡ get_or l i b
-get_any [] i a b l = absurd (omega (arith, l))
-get_any (x ∷ xs) zero a b l = refl
-get_any (x ∷ xs) (suc i) a b l = get_any xs i a b (omega (arith, l))
-
 pub element : {A : Type 0} (l : List A) (k : ℕ) → k < length l → (s : A) × (get_elem? l k ≡ some s)
 element [] k h = absurd (omega (arith, h))
 element (x ∷ xs) zero h = (x, refl)
@@ -211,11 +207,6 @@ is_element : {A : Type 0} (l : List A) (k : ℕ) (s d : A) → get_elem? l k ≡
 is_element [] k s d e = absurd (cc e)
 is_element (x ∷ xs) zero s d e = cc e
 is_element (x ∷ xs) (suc k) s d e = is_element xs k s d e
-
-pub below : {A : Type 0} (l : List A) (k : ℕ) (s : A) → get_elem? l k ≡ some s → k < length l
-below [] k s e = absurd (cc e)
-below (x ∷ xs) zero s e = omega arith
-below (x ∷ xs) (suc k) s e = let h = below xs k s e in omega (arith, h)
 
 pub elem_map : {A B : Type 0} (f : A → B) (l : List A) (k : ℕ) (s : A) → get_elem? l k ≡ some s → get_elem? (map f l) k ≡ some (f s)
 elem_map f [] k s e = absurd (cc e)
@@ -239,18 +230,18 @@ module _ (tables : List TableId) (columns : List (List Seat)) (own : (k : ℕ) (
 
   -- the seat of a caller in the row of a gate
   at_row : (i k : ℕ) (d s : Seat) → k < length columns → get_or (row_at i d columns) k s ≡ get_or (get_or columns k []) i d
-  at_row i k d s l = get_any (row_at i d columns) k s (get_or [] i d) (let n = length-map columns (λ (c : List Seat). get_or c i d) in omega (arith, l, n)) ∙ get_or-map (λ (c : List Seat). get_or c i d) columns k []
+  at_row i k d s l = get_or_default (row_at i d columns) k s (get_or [] i d) (let n = length-map columns (λ (c : List Seat). get_or c i d) in omega (arith, l, n)) ∙ get_or-map (λ (c : List Seat). get_or c i d) columns k []
 
   pub row_seats : (i : ℕ) (d : Seat) (row : List Seat) (k : ℕ) (s : Seat) (t : TableId) → i < length tables → row ≡ row_at i d columns → get_elem? row k ≡ some s → t ≡ get_or tables i t
       → (s.table ≡ t) × (s.caller ≡ k)
   row_seats i d row k s t l e at is =
       let m : length row ≡ length columns = ap length e ∙ length-map columns (λ (c : List Seat). get_or c i d) in
-      let b : k < length row = below row k s at in
+      let b : k < length row = at_less row k s at in
       let kk : k < length columns = omega (arith, b, m) in
       let c : List Seat = get_or columns k [] in
       let n : length c ≡ length tables = columns_long k [] kk in
       let there : i < length c = omega (arith, l, n) in
       let same : s ≡ get_or c i d = sym (is_element row k s s at) ∙ ap (λ z. get_or z k s) e ∙ at_row i k d s kk in (
-        ap (λ (x : Seat). x.table) same ∙ sym (get_or-map (λ (x : Seat). x.table) c i d) ∙ ap (λ z. get_or z i d.table) (own k [] kk).gates ∙ get_any tables i d.table t l ∙ sym is,
+        ap (λ (x : Seat). x.table) same ∙ sym (get_or-map (λ (x : Seat). x.table) c i d) ∙ ap (λ z. get_or z i d.table) (own k [] kk).gates ∙ get_or_default tables i d.table t l ∙ sym is,
         ap (λ (x : Seat). x.caller) same ∙ (own k [] kk).callers i d there,
       )

@@ -1,8 +1,8 @@
 -- What a caller finds of its own at its gates goes along with its record.
-use Rattle.std.proofs.Common.{◌≡◌, ℕ, zero, suc, ◌+◌, ◌-◌, ◌<◌, ◌≤◌, ◌==◌, List, [], ◌∷◌, ◌++◌, length, map, filter, Bool, true, false, cond, refl, sym, ap, ◌∙◌, subst, set, get_or, arith, inl, inr, append-nil, length-append}
+use Rattle.std.proofs.Common.{◌≡◌, ℕ, suc, ◌+◌, ◌-◌, ◌<◌, ◌≤◌, ◌==◌, List, [], ◌∷◌, ◌++◌, length, map, filter, Bool, true, false, cond, refl, sym, ap, ◌∙◌, subst, set, get_or, arith, inl, inr, append-nil, length-append}
 use Rattle.std.specs.Prelude.{Result, Ok, Err, IfOk, OnOk, OnErr}
 use Rattle.std.proofs.lemmas.Bool.Decides.{eqb_tells}
-use Rattle.std.proofs.lemmas.List.{length-set, length-map, map-append, map-set, get_or-set_same, get_or-set_other}
+use Rattle.std.proofs.lemmas.List.{length-set, length-map, map-append, map-set, get_or-set_same, get_or-set_other, get_or_default}
 use Rattle.std.proofs.lemmas.List.Elements.{filter-append}
 use Rattle.std.proofs.Math.Seq.{map-set_same}
 use Rattle.std.proofs.Math.ListN.{get_or-map}
@@ -259,11 +259,6 @@ quiet_seated c tables old new seats h n q = record {
 }
 
 -- ## The program's seats and gates, each shown as what it is known by
-get_any : {A : Type 0} (l : List A) (i : ℕ) (a b : A) → i < length l → get_or l i a ≡ get_or l i b
-get_any [] i a b l = absurd (omega (arith, l))
-get_any (x ∷ xs) zero a b l = refl
-get_any (x ∷ xs) (suc i) a b l = get_any xs i a b (omega (arith, l))
-
 module _ {G S : Type 0} (table : G → TableId) (seat : S → Seat) where
   pub own_table : (gates : List G) (seats : List S) (c node : ℕ) (log : LogView) (s : S) (d : G) → 1 ≤ node → node ≤ log.nodes → AreSeated c (map table gates) log (map seat seats)
       → s ≡ get_or seats (node - 1) s → (seat s).table ≡ table (get_or gates (node - 1) d)
@@ -276,7 +271,7 @@ module _ {G S : Type 0} (table : G → TableId) (seat : S → Seat) where
       ∙ ap (λ (x : Seat). x.table) (sym (get_or-map seat seats i s))
       ∙ sym (get_or-map (λ (x : Seat). x.table) (map seat seats) i (seat s))
       ∙ ap (λ l. get_or l i (seat s).table) h.gates
-      ∙ get_any (map table gates) i (seat s).table (table d) (omega (arith, low, high, n, m, e))
+      ∙ get_or_default (map table gates) i (seat s).table (table d) (omega (arith, low, high, n, m, e))
       ∙ get_or-map table gates i d
 
   pub seated_on : (gates : List G) (seats : List S) (c node : ℕ) (old new : LogView) (s t : S) → 1 ≤ node → node ≤ old.nodes → AreSeated c (map table gates) old (map seat seats)

@@ -4,7 +4,7 @@ use Rattle.std.specs.Prelude.{nat_le, is_none}
 use Rattle.std.specs.List.{flat_map, AllByRecursion}
 use Rattle.std.specs.Int.{w32, w64, to_be_bytes}
 use Rattle.std.proofs.lemmas.Bool.{leb-true, le-leb}
-use Rattle.std.proofs.lemmas.List.{take_at, drop_at, take-append-drop, append-nil, length-append, length-take}
+use Rattle.std.proofs.lemmas.List.{take_at, drop_at, take-append-drop, append-nil, length-append, length-take, length_push}
 use Rattle.edit_ops.specs.declared.edit.Call.{Call}
 use Rattle.ns_tree.specs.declared.inode.Noted.{Noted}
 use Rattle.ns_tree.specs.declared.inode.Row.{Row}
@@ -187,9 +187,6 @@ rising_one above (c ∷ d ∷ calls) one h more low = (h.0, rising_one c.txid (d
 low_of : (calls : List Noted) (one : Noted) → last_txid calls + 1 ≤ one.txid → 0 + 1 ≤ one.txid
 low_of calls one h = omega (arith, h)
 
-one_longer : (calls : List Noted) (one : Noted) → length (calls ++ one ∷ []) ≡ length calls + 1
-one_longer calls one = length-append calls (one ∷ [])
-
 so_far_one : (rows : List Row) (calls : List Noted) (one : Noted) (txid : ℕ) → AreSoFar rows calls → length calls < 1024 → txid ≤ 2 ^ 62 → txid_of one.call calls ≡ None → last_txid calls + 1 ≤ one.txid → one.txid ≤ txid
     → AreSoFar rows (calls ++ one ∷ [])
 so_far_one rows calls one txid h room most new above below =
@@ -216,7 +213,7 @@ so_far_all rows txid calls (one ∷ more) h few most last next =
     let whole : (calls ++ one ∷ []) ++ more ≡ calls ++ one ∷ more = append_assoc calls (one ∷ []) more in
     let below = next.0.most in
     let one_more = so_far_one rows calls one txid h (omega (arith, few)) most next.0.new next.0.above below in
-    let rest = so_far_all rows txid (calls ++ one ∷ []) more one_more (omega (arith, few, one_longer calls one)) most (omega (arith, last_snoc calls one, below)) next.1 in
+    let rest = so_far_all rows txid (calls ++ one ∷ []) more one_more (omega (arith, few, length_push calls one)) most (omega (arith, last_snoc calls one, below)) next.1 in
     record {
       tree = subst (λ (ns : List Noted). IsTree (record { pairs = rows; calls = ns })) whole rest.tree;
       rising = subst (AreRising 0 txid) whole rest.rising;

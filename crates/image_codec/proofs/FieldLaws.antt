@@ -2,7 +2,7 @@
 use Rattle.std.proofs.Common.{◌≡◌, ℕ, suc, ◌+◌, ◌^◌, ◌<◌, ◌≤◌, Bool, true, false, List, [], ◌∷◌, ◌++◌, length, take, drop, Result, Ok, Err, refl, sym, ap, subst, ◌∙◌, append_assoc, arith, inl, inr, ◌&&◌, ◌==◌}
 use Rattle.std.specs.Prelude.{nat_le, ◌||◌}
 use Rattle.std.specs.Int.{Width, w16, w32, w64, byte_len, from_be_bytes, to_be_bytes}
-use Rattle.std.proofs.lemmas.Bool.{cases_lt, leb-true, le-leb}
+use Rattle.std.proofs.lemmas.Bool.{cases_lt, leb-true, le-leb, and_parts}
 use Rattle.std.proofs.lemmas.List.{take_at, drop_at, take-append-drop, length-append, length-take, get_or-drop, get_or-take, get_or_past}
 use Rattle.std.proofs.lemmas.Nat.{be_bytes_2, be_bytes_4, be_bytes_8, from_be_bytes-to_be_bytes_2, from_be_bytes-to_be_bytes_4, from_be_bytes-to_be_bytes_8}
 use Rattle.ns_tree.specs.Path.{is_path, is_owner, is_letter, all_owner_bytes}
@@ -38,10 +38,6 @@ done x = Ok x
 
 pub ok_is : {A : Type 0} (x y : A) → done x ≡ done y → x ≡ y
 ok_is x y e = cc
-
-pub and_both : (a b : Bool) → (a && b) ≡ true → (a ≡ true) × (b ≡ true)
-and_both true b e = (refl, e)
-and_both false b e = absurd (cc e)
 
 -- what a reader took from the front
 pub record Takes (bytes text rest : List ℕ) : Type 0 where
@@ -106,7 +102,7 @@ module _ (w : Width) (limit : ℕ) (wide : IsWide w limit) where
       let n = bind_ok e in
       let t = whole_takes fits n.1 in
       let g = wanted_ok (nat_le low n.0.0 && nat_le n.0.0 high) cause bytes n.0 x n.2 in
-      let within = and_both (nat_le low n.0.0) (nat_le n.0.0 high) g.0 in
+      let within = and_parts (nat_le low n.0.0) (nat_le n.0.0 high) g.0 in
       subst (λ (y : ℕ × List ℕ). Takes bytes (to_be_bytes w y.0) y.1 × (low ≤ y.0) × (y.0 ≤ high)) g.1 (t.0, leb-true _ _ within.0, leb-true _ _ within.1)
 
   pub number_again : (low high : ℕ) (cause : ImageCause) (n : ℕ) (rest : List ℕ) → n < limit → low ≤ n → n ≤ high → number_at w low high cause (to_be_bytes w n ++ rest) ≡ Ok (n, rest)
@@ -156,7 +152,7 @@ unfolding path_at
 path_takes {bytes = bytes} {x = x} fits e =
     let b = bind_ok e in
     let g = wanted_ok (is_short_path b.0.0) Field bytes b.0 x b.2 in
-    let both = and_both (is_path b.0.0) (nat_le (length b.0.0) 1000) g.0 in
+    let both = and_parts (is_path b.0.0) (nat_le (length b.0.0) 1000) g.0 in
     subst (λ (y : List ℕ × List ℕ). Takes bytes (text_bytes y.0) y.1 × (is_path y.0 ≡ true) × (length y.0 ≤ 1000)) g.1 (text_takes fits b.1, both.0, leb-true _ _ both.1)
 
 pub path_again : (path rest : List ℕ) → is_path path ≡ true → length path ≤ 1000 → path_at (text_bytes path ++ rest) ≡ Ok (path, rest)
@@ -176,8 +172,8 @@ owner_takes {bytes = bytes} {x = x} fits e =
 pub owner_short : (owner : List ℕ) → is_owner owner ≡ true → length owner ≤ 32
 owner_short [] e = absurd cc
 owner_short (b ∷ bs) e =
-    let front = and_both ((is_letter b || (b == 95)) && nat_le (length (b ∷ bs)) 32) (all_owner_bytes bs) e in
-    leb-true _ _ (and_both (is_letter b || (b == 95)) (nat_le (length (b ∷ bs)) 32) front.0).1
+    let front = and_parts ((is_letter b || (b == 95)) && nat_le (length (b ∷ bs)) 32) (all_owner_bytes bs) e in
+    leb-true _ _ (and_parts (is_letter b || (b == 95)) (nat_le (length (b ∷ bs)) 32) front.0).1
 
 pub owner_again : (owner rest : List ℕ) → is_owner owner ≡ true → owner_at (text_bytes owner ++ rest) ≡ Ok (owner, rest)
 unfolding owner_at

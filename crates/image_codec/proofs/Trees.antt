@@ -6,6 +6,7 @@ use Rattle.std.specs.List.{insert}
 use Rattle.std.proofs.lemmas.Bool.Decides.{nat_tests}
 use Rattle.std.proofs.lemmas.Cmp.{nat_cmp_total, tied_itself}
 use Rattle.std.proofs.lemmas.List.{append-nil}
+use Rattle.std.proofs.lemmas.Bool.{and_parts}
 use Rattle.ns_tree.specs.declared.inode.Inode.{Inode}
 use Rattle.ns_tree.specs.declared.inode.Row.{Row}
 use Rattle.ns_tree.specs.Path.{is_path, is_root, walk_cmp, parent_of, same_text, path_of_stem, before_last_slash, rank_of}
@@ -17,7 +18,7 @@ use Rattle.ns_tree.proofs.Finds.{or_in, find_append}
 use Rattle.ns_tree.proofs.Walks.{each_imp}
 use Rattle.ns_tree.proofs.Place.{each_right, order_right}
 use Rattle.ns_tree.proofs.Last.{sound_append}
-use Rattle.ns_tree.proofs.Pairs.{and_both, Below, below_root, slash_behind}
+use Rattle.ns_tree.proofs.Pairs.{Below, below_root, slash_behind}
 use Rattle.ns_tree.proofs.Tails.{begins_split}
 use Rattle.image_codec.proofs.RowLaws.{root_row, MayStand, MayGoOn}
 
@@ -38,7 +39,7 @@ found_in q P (x ∷ xs) e h = by (same_text q x.path) refl e (λ f. found_in q P
 -- ## The root comes first
 off_root : (b c : ℕ) (bs : List ℕ) → is_path (b ∷ c ∷ bs) ≡ true → walk_cmp (b ∷ c ∷ bs) (47 ∷ []) ≡ Less → ⊥
 off_root b c bs good less =
-    let first : (b == 47) ≡ true = (and_both (b == 47) _ good).0 in
+    let first : (b == 47) ≡ true = (and_parts (b == 47) _ good).0 in
     let slash : b ≡ 47 = grind (arith, nat_tests, first) in
     let other : walk_cmp (47 ∷ c ∷ bs) (47 ∷ []) ≡ Less = subst (λ (n : ℕ). walk_cmp (n ∷ c ∷ bs) (47 ∷ []) ≡ Less) slash less in
     cc other
@@ -76,7 +77,7 @@ parent_less p good below = by (before_last_slash p) refl
 
     first_slash : (q : List ℕ) → is_path q ≡ true → (b : ℕ) (c : ℕ) (bs : List ℕ) → q ≡ b ∷ c ∷ bs → q ≡ 47 ∷ c ∷ bs
     first_slash q good b c bs is =
-        let first : (b == 47) ≡ true = (and_both (b == 47) _ (sym (ap is_path is) ∙ good)).0 in
+        let first : (b == 47) ≡ true = (and_parts (b == 47) _ (sym (ap is_path is) ∙ good)).0 in
         let slash : b ≡ 47 = grind (arith, nat_tests, first) in
         is ∙ ap (λ (n : ℕ). n ∷ c ∷ bs) slash
 

@@ -1,12 +1,12 @@
 -- The list of the images that count.
-use Rattle.std.proofs.Common.{inl, inr, ⊎_elim, ◌⊎◌, ◌≡◌, ◌≢◌, ℕ, zero, suc, ◌+◌, ◌-◌, ◌<◌, ◌≤◌, ◌^◌, List, [], ◌∷◌, ◌++◌, ap, sym, ◌∙◌, refl, subst, arith, length, take, get_or, Bool, true, false, ◌||◌, ◌&&◌}
+use Rattle.std.proofs.Common.{inl, inr, ⊎_elim, ◌⊎◌, ◌≡◌, ◌≢◌, ℕ, zero, suc, ◌+◌, ◌-◌, ◌<◌, ◌≤◌, ◌^◌, List, [], ◌∷◌, ◌++◌, ap, sym, ◌∙◌, refl, subst, arith, length, take, get_or, Bool, true, false}
 use Rattle.std.specs.Prelude.{Contains, IsTrue, IsSome, Option, Some, None, slice_index_or, codes, map, Result, Ok, Err, IfOk}
 use Rattle.std.specs.BTreeMap.{is_at}
 use Rattle.std.specs.BTreeSet.{BTreeSet, contains, Updates, IsIntersection}
 use Rattle.std.specs.List.{list_any}
 use Rattle.std.specs.List.Sorted.{IsStrictlySortedBy}
 use Rattle.std.specs.Ordering.{nat_cmp}
-use Rattle.std.proofs.lemmas.Bool.{cases_eq}
+use Rattle.std.proofs.lemmas.Bool.{cases_eq, or_cases, or_left, or_right, and_parts, and_from}
 use Rattle.std.proofs.lemmas.Bool.Decides.{nat_tests}
 use Rattle.std.proofs.lemmas.List.Elements.{Contains-push, Contains-push_cases, Contains-append_left, Contains-get_or}
 use Rattle.std.proofs.lemmas.Map.Keys.{below_from_sorted}
@@ -80,28 +80,6 @@ one_name_more names next name rest old new is are adds = subst (λ (l : List (Li
         (Contains-push_cases names name has.name has.among))
 
 -- ## Both sets
-or_cases : (a b : Bool) → (a || b) ≡ true → (a ≡ true) ⊎ (b ≡ true)
-or_cases true b is = inl refl
-or_cases false b is = inr is
-
-or_left : (a b : Bool) → a ≡ true → (a || b) ≡ true
-or_left true b is = refl
-or_left false b is = absurd (cc)
-
-or_right : (a b : Bool) → b ≡ true → (a || b) ≡ true
-or_right true b is = refl
-or_right false b is = is
-
-and_both : (a b : Bool) → (a && b) ≡ true → (a ≡ true) × (b ≡ true)
-and_both true true is = (refl, refl)
-and_both true false is = absurd (cc)
-and_both false b is = absurd (cc)
-
-and_of : (a b : Bool) → a ≡ true → b ≡ true → (a && b) ≡ true
-and_of true true one two = refl
-and_of true false one two = absurd (cc)
-and_of false b one two = absurd (cc)
-
 same_key : (q k : ℕ) → is_at (nat_cmp q) k ≡ true → q ≡ k
 same_key q k is = ⊎_elim (λ same. same) (λ ne. let e = other_at q k ne in absurd (cc)) (cases_eq q k)
 
@@ -124,8 +102,8 @@ pub lists_named : (names : List (List ℕ)) (images digests : BTreeSet ℕ) (txi
     → IsStrictlySortedBy nat_cmp txids → ListsNamed names txids
 lists_named names images digests txids are_images are_digests both sorted = record {
   each = λ q. (
-    λ among. let parts = and_both (contains nat_cmp images q) (contains nat_cmp digests q) (sym (both q) ∙ is_listed q txids among) in ((are_images.each q).0 parts.0, (are_digests.each q).0 parts.1),
-    λ has. listed q txids (both q ∙ and_of (contains nat_cmp images q) (contains nat_cmp digests q) ((are_images.each q).1 has.0) ((are_digests.each q).1 has.1)),
+    λ among. let parts = and_parts (contains nat_cmp images q) (contains nat_cmp digests q) (sym (both q) ∙ is_listed q txids among) in ((are_images.each q).0 parts.0, (are_digests.each q).0 parts.1),
+    λ has. listed q txids (both q ∙ and_from (contains nat_cmp images q) (contains nat_cmp digests q) ((are_images.each q).1 has.0) ((are_digests.each q).1 has.1)),
   );
   sorted = sorted;
 }

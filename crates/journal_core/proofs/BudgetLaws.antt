@@ -17,11 +17,11 @@ stopped_spends old new cost o n e = record { spent = λ rest. rw (o, n) (sym e) 
 pub spends_nothing : (b : Budget) (cost : Cost) → b.going ≡ false → SpendsTo b (cost ∷ []) b
 spends_nothing b cost o = stopped_spends b b cost o o refl
 
-standing_one : (calls : ℕ) (cost : Cost) (rest : List Cost) → cost.decides ≤ calls → standing calls (cost ∷ rest) ≡ suc (standing (calls - cost.calls) rest)
+pub standing_one : (calls : ℕ) (cost : Cost) (rest : List Cost) → cost.decides ≤ calls → standing calls (cost ∷ rest) ≡ suc (standing (calls - cost.calls) rest)
 unfolding standing
 standing_one calls cost rest l = grind (arith, nat_tests)
 
-standing_stop : (calls : ℕ) (cost : Cost) (rest : List Cost) → calls < cost.decides → standing calls (cost ∷ rest) ≡ 0
+pub standing_stop : (calls : ℕ) (cost : Cost) (rest : List Cost) → calls < cost.decides → standing calls (cost ∷ rest) ≡ 0
 unfolding standing
 standing_stop calls cost rest l = grind (arith, nat_tests)
 

@@ -9,9 +9,9 @@ use Rattle.journal_core.specs.Limits.{head_of}
 use Rattle.journal_core.specs.Effects.{Effect, Promise, after_effects}
 use Rattle.journal_core.specs.Step.{node_step, refused_at_once, front_effects, fronted, row_refused, row_effects, stopped, crashed, restarted}
 use Rattle.journal_core.specs.Laws.{Event, Asked, Stopped, Killed, Restarted, after_event, after_events, front, one_effect, follow, down, up, Parts, none, more, IsKept, EventsAreParts}
-use Rattle.journal_core.proofs.StopLaws.{front_passed, front_crash, take_behind}
+use Rattle.journal_core.proofs.StopLaws.{take_nil, front_crash, take_behind}
 use Rattle.journal_core.proofs.NodeLaws.{after-append}
-use Rattle.journal_core.proofs.Steps.{Acted, at_once, by_row, done, acted, append_nil}
+use Rattle.journal_core.proofs.Steps.{Acted, at_once, by_row, done, acted, append_nil, front_passed}
 
 -- the first effects of a row
 pub rows_kept : (P : NodeState → Type 0) → IsKept P → (s : NodeState) (r : Request) → refused_at_once s r ≡ None → row_refused (fronted s r) r ≡ None
@@ -63,18 +63,14 @@ unfolding after_effects
 stop_split s r ys a zero = inl refl
 stop_split s r ys a (suc k) = inr (stop_from_front s r ys a k)
 
-pub take_nothing : (k : ℕ) → take k (let es : List Effect = [] in es) ≡ []
-take_nothing zero = refl
-take_nothing (suc k) = refl
-
 stop_kept : (P : NodeState → Type 0) → IsKept P → (s : NodeState) (r : Request) (k : ℕ) → Acted s r → P s → P (stopped s r k)
 unfolding after_effects
-stop_kept P kept s r k (at_once x a n e) p = rw (e, take_nothing k) (kept s (crashed s) (down refl) p)
+stop_kept P kept s r k (at_once x a n e) p = rw (e, take_nil k) (kept s (crashed s) (down refl) p)
 stop_kept P kept s r k (by_row x a b n e) p =
     subst (λ es. P (crashed (after_effects s (take k es)))) (sym (e ∙ sym (append_nil (front_effects s (head_of r))))) (
     elim (stop_split s r [] a k) [
       | inl q ↦ subst P (sym q) (kept s (crashed s) (down refl) p)
-      | inr q ↦ subst P (sym q.1) (rw (take_nothing q.0) (kept (fronted s r) (crashed (fronted s r)) (down refl) (kept s (fronted s r) (front r a refl) p)))
+      | inr q ↦ subst P (sym q.1) (rw (take_nil q.0) (kept (fronted s r) (crashed (fronted s r)) (down refl) (kept s (fronted s r) (front r a refl) p)))
     ])
 stop_kept P kept s r k (done a b n e) p =
     subst (λ es. P (crashed (after_effects s (take k es)))) (sym e) (

@@ -1,6 +1,6 @@
 -- Laws of a step, its effects and stops inside it.
 use Rattle.std.proofs.Common.{ℕ, ◌≡◌, ◌≤◌, ◌<◌, List, [], ◌∷◌, ◌++◌, length, Option, Some, None, refl, sym, ap, ◌∙◌, subst, arith, inl, inr, suc}
-use Rattle.std.proofs.lemmas.Bool.Decides.{leb_tells, nat_tests}
+use Rattle.std.proofs.lemmas.Bool.Decides.{leb_tells}
 use Rattle.std.proofs.lemmas.List.{take_all}
 use Rattle.journal_core.specs.declared.node_state.NodeState.{NodeState}
 use Rattle.journal_core.specs.declared.refusal.Refusal.{Refusal}
@@ -10,7 +10,8 @@ use Rattle.journal_core.specs.Limits.{head_of}
 use Rattle.journal_core.specs.Effects.{Effect, after_effects, after_effect, promised_after, writer_after, committed_after, segments_after}
 use Rattle.journal_core.specs.Step.{node_step, unless_refused, behind_front, refused_at_once, front_refused, front_effects, front_promised, fronted, row_refused, effects_of, effects_unless, effects_behind, stopped, crashed}
 use Rattle.journal_core.specs.Laws.{SameDurable}
-use Rattle.journal_core.proofs.StopLaws.{front_passed, same_crash}
+use Rattle.journal_core.proofs.StopLaws.{same_crash}
+use Rattle.journal_core.proofs.Steps.{front_passed, promise_le}
 
 -- what is refused at once
 unless_idle : (s : NodeState) (r : Request) (o : Option Refusal) (refusal : Refusal) → o ≡ Some refusal → unless_refused s r o ≡ unless_refused s r (Some refusal)
@@ -36,9 +37,6 @@ unfolding after_effects
 after-append [] ys s = refl
 after-append (x ∷ xs) ys s = after-append xs ys (after_effect s x)
 
-pub not_below : (s : NodeState) (h : HeadView) → front_refused s (Some h) ≡ None → s.promised ≤ h.epoch
-not_below s h e = grind (arith, nat_tests)
-
 front_durable : (s t : NodeState) (h : Option HeadView) → front_refused s h ≡ None → t.promised ≡ front_promised s.promised h → t.writer ≡ s.writer → t.committed ≡ s.committed → t.segments ≡ s.segments
     → SameDurable t (after_effects s (front_effects s h))
 unfolding after_effects
@@ -46,7 +44,7 @@ front_durable s t None n p w c g = (p, w, c, g)
 front_durable s t (Some h) n p w c g =
     elim (leb_tells (suc s.promised) h.epoch) [
       | inl q ↦ rw q.0 ((let l : suc s.promised ≤ h.epoch = q.1 in omega arith), w, c, g)
-      | inr q ↦ rw q.0 ((let l : h.epoch < suc s.promised = q.1 in omega (arith, not_below s h n)), w, c, g)
+      | inr q ↦ rw q.0 ((let l : h.epoch < suc s.promised = q.1 in omega (arith, promise_le s h n)), w, c, g)
     ]
 
 behind_durable : (t : NodeState) (r : Request) (o : Option Refusal) → SameDurable (behind_front t r o).state (after_effects t (effects_behind t r o))

@@ -1,6 +1,6 @@
 -- Laws of places in a list of segments by rising start.
-use Rattle.std.proofs.Common.{ℕ, ◌≡◌, ◌<◌, ◌≤◌, ◌+◌, List, [], ◌∷◌, length, Option, Some, None, Bool, true, false, cond, nat_lt, ◌==◌, refl, sym, ◌∙◌, ap, arith, take, drop, get_or, set, insert, add-one, suc, zero, ◌⊎◌, inl, inr, max, subst}
-use Rattle.std.proofs.lemmas.Bool.{cases_lt}
+use Rattle.std.proofs.Common.{ℕ, ◌≡◌, ◌≢◌, ◌<◌, ◌≤◌, ◌+◌, List, [], ◌∷◌, length, Option, Some, None, Bool, true, false, cond, nat_lt, ◌==◌, refl, sym, ◌∙◌, ap, arith, take, drop, get_or, set, insert, add-one, suc, zero, inl, inr, max, subst}
+use Rattle.std.proofs.lemmas.Bool.{cases_order}
 use Rattle.std.proofs.lemmas.Bool.Decides.{nat_tests}
 use Rattle.std.proofs.lemmas.List.{drop_more, drop_all}
 use Rattle.journal_core.specs.declared.segment.Segment.{Segment}
@@ -94,27 +94,23 @@ lt_irrefl n = grind (arith, nat_tests)
 eqb_refl : (n : ℕ) → (n == n) ≡ true
 eqb_refl n = grind (arith, nat_tests)
 
-find_more : (start : ℕ) (g : Segment) (gs : List Segment) → g.start < start → find_segment start (g ∷ gs) ≡ find_segment start gs
+pub find_on : (start : ℕ) (g : Segment) (gs : List Segment) → g.start ≢ start → find_segment start (g ∷ gs) ≡ find_segment start gs
 unfolding find_segment
-find_more start g gs l = grind (arith, nat_tests)
+find_on start g gs ne = grind (arith, nat_tests)
 
-find_here : (start : ℕ) (g : Segment) (gs : List Segment) → g.start ≡ start → find_segment start (g ∷ gs) ≡ Some g
+pub find_here : (start : ℕ) (g : Segment) (gs : List Segment) → g.start ≡ start → find_segment start (g ∷ gs) ≡ Some g
 unfolding find_segment
 find_here start g gs l = grind (arith, nat_tests)
 
-find_no : (start : ℕ) (g : Segment) (gs : List Segment) → start < g.start → find_segment start (g ∷ gs) ≡ find_segment start gs
-unfolding find_segment
-find_no start g gs l = grind (arith, nat_tests)
-
-put_more : (new g : Segment) (gs : List Segment) → g.start < new.start → put_segment new (g ∷ gs) ≡ g ∷ put_segment new gs
+pub put_more : (new g : Segment) (gs : List Segment) → g.start < new.start → put_segment new (g ∷ gs) ≡ g ∷ put_segment new gs
 unfolding put_segment
 put_more new g gs l = grind (arith, nat_tests)
 
-put_here : (new g : Segment) (gs : List Segment) → g.start ≡ new.start → put_segment new (g ∷ gs) ≡ new ∷ gs
+pub put_here : (new g : Segment) (gs : List Segment) → g.start ≡ new.start → put_segment new (g ∷ gs) ≡ new ∷ gs
 unfolding put_segment
 put_here new g gs l = grind (arith, nat_tests)
 
-put_before : (new g : Segment) (gs : List Segment) → new.start < g.start → put_segment new (g ∷ gs) ≡ new ∷ g ∷ gs
+pub put_before : (new g : Segment) (gs : List Segment) → new.start < g.start → put_segment new (g ∷ gs) ≡ new ∷ g ∷ gs
 unfolding put_segment
 put_before new g gs l = grind (arith, nat_tests)
 
@@ -131,20 +127,20 @@ found_at start i [] d r l h = absurd (omega arith)
 found_at start zero (g ∷ gs) d r l h = find_here start g gs h
 found_at start (suc i) (g ∷ gs) d r l h =
     let a : g.start < (get_or gs i d).start = above_at g.start gs i d r.0 (omega arith) in
-    find_more start g gs (omega arith) ∙ found_at start i gs d r.1 (omega arith) h
+    find_on start g gs (λ e. omega (arith, e)) ∙ found_at start i gs d r.1 (omega arith) h
 
 -- the segment at its place is found
 pub find_there : (start i : ℕ) (gs : List Segment) (d : Segment) → AreSound gs → IsAt start i gs → find_segment start gs ≡ Some (get_or gs i d)
 find_there start i gs d s p = found_at start i gs d s.rising p.within (p.there d)
 
-find_above : (start : ℕ) (gs : List Segment) → AreAbove start gs → find_segment start gs ≡ None
+pub find_above : (start : ℕ) (gs : List Segment) → AreAbove start gs → find_segment start gs ≡ None
 find_above start [] p = find_none start
-find_above start (g ∷ gs) p = find_no start g gs p.0 ∙ find_above start gs p.1
+find_above start (g ∷ gs) p = find_on start g gs (λ e. omega (arith, p.0, e)) ∙ find_above start gs p.1
 
 find_beside : (start i : ℕ) (gs : List Segment) → AreBelow start (take i gs) → AreAbove start (drop i gs) → find_segment start gs ≡ None
 find_beside start zero gs b a = find_above start gs a
 find_beside start (suc i) [] b a = find_none start
-find_beside start (suc i) (g ∷ gs) b a = find_more start g gs b.0 ∙ find_beside start i gs b.1 a
+find_beside start (suc i) (g ∷ gs) b a = find_on start g gs (λ e. omega (arith, b.0, e)) ∙ find_beside start i gs b.1 a
 
 pub find_nowhere : (start i : ℕ) (gs : List Segment) → IsGap start i gs → find_segment start gs ≡ None
 find_nowhere start i gs p = find_beside start i gs p.below p.above
@@ -172,23 +168,20 @@ pub put_between : (new : Segment) (i : ℕ) (gs : List Segment) → IsGap new.st
 put_between new i gs p = insert_beside new i gs p.below p.above
 
 -- ## What keeps a list sound
-three : (a b : ℕ) → (a < b) ⊎ ((a ≡ b) ⊎ (b < a))
-three a b = elim (cases_lt a b) [ inl h ↦ inl h | inr h ↦ elim (cases_lt b a) [ inl k ↦ inr (inr k) | inr k ↦ inr (inl (omega arith)) ] ]
-
-put_above : (a : ℕ) (new : Segment) (gs : List Segment) → a < new.start → AreAbove a gs → AreAbove a (put_segment new gs)
+pub put_above : (a : ℕ) (new : Segment) (gs : List Segment) → a < new.start → AreAbove a gs → AreAbove a (put_segment new gs)
 put_above a new [] l p = rw (put_last new) (l, tt)
 put_above a new (g ∷ gs) l p =
-    elim (three new.start g.start) [ inl h ↦ rw (put_before new g gs h) (l, p) | inr q ↦ elim q [ inl h ↦ rw (put_here new g gs (sym h)) (l, p.1) | inr h ↦ rw (put_more new g gs h) (p.0, put_above a new gs l p.1) ] ]
+    elim (cases_order new.start g.start) [ inl h ↦ rw (put_here new g gs (sym h)) (l, p.1) | inr q ↦ elim q [ inl h ↦ rw (put_before new g gs h) (l, p) | inr h ↦ rw (put_more new g gs h) (p.0, put_above a new gs l p.1) ] ]
 
 pub put_rising : (new : Segment) (gs : List Segment) → AreRising gs → AreRising (put_segment new gs)
 put_rising new [] r = rw (put_last new) (tt, tt)
 put_rising new (g ∷ gs) r =
-    elim (three new.start g.start) [ inl h ↦ rw (put_before new g gs h) ((h, AreAbove-mono new.start g.start gs (omega arith) r.0), r) | inr q ↦ elim q [ inl h ↦ rw (put_here new g gs (sym h)) (rw h r.0, r.1) | inr h ↦ rw (put_more new g gs h) (put_above g.start new gs h r.0, put_rising new gs r.1) ] ]
+    elim (cases_order new.start g.start) [ inl h ↦ rw (put_here new g gs (sym h)) (rw h r.0, r.1) | inr q ↦ elim q [ inl h ↦ rw (put_before new g gs h) ((h, AreAbove-mono new.start g.start gs (omega arith) r.0), r) | inr h ↦ rw (put_more new g gs h) (put_above g.start new gs h r.0, put_rising new gs r.1) ] ]
 
 pub put_within : (new : Segment) (gs : List Segment) → IsWithin new → AreWithin gs → AreWithin (put_segment new gs)
 put_within new [] n r = rw (put_last new) (n, tt)
 put_within new (g ∷ gs) n r =
-    elim (three new.start g.start) [ inl h ↦ rw (put_before new g gs h) (n, r) | inr q ↦ elim q [ inl h ↦ rw (put_here new g gs (sym h)) (n, r.1) | inr h ↦ rw (put_more new g gs h) (r.0, put_within new gs n r.1) ] ]
+    elim (cases_order new.start g.start) [ inl h ↦ rw (put_here new g gs (sym h)) (n, r.1) | inr q ↦ elim q [ inl h ↦ rw (put_before new g gs h) (n, r) | inr h ↦ rw (put_more new g gs h) (r.0, put_within new gs n r.1) ] ]
 
 pub put_sound : (new : Segment) (gs : List Segment) → IsWithin new → AreSound gs → AreSound (put_segment new gs)
 put_sound new gs n s = record { rising = put_rising new gs s.rising; within = put_within new gs n s.within }

@@ -14,10 +14,11 @@ use Rattle.journal_core.specs.Step.{node_step, refused_at_once, effects_of, fron
 use Rattle.journal_core.specs.Laws.{Event, Asked, Stopped, Killed, Restarted, after_event, IsStored, OpenIsLed, IsSound, SoundStays, OpenSegmentIsLed, PromiseNeverFalls, epoch_of, AnsweredIsPromised, IsPurge, FinalStays, HeaderNeverFalls, HasEdit, NewestNeverFalls, RefusedBehindLeavesFront, IsQuestion, QuestionsAreIdle}
 use Rattle.journal_core.proofs.SegmentLists.{newest-above, newest-found}
 use Rattle.journal_core.proofs.Steps.{Acted, at_once, by_row, done, acted, append_nil, front_le, none≢some, segments_all, segments-after}
-use Rattle.journal_core.proofs.KeptLaws.{rows_kept, stop_from_front, take_nothing, event_kept, all_events}
+use Rattle.journal_core.proofs.KeptLaws.{rows_kept, stop_from_front, event_kept, all_events}
 use Rattle.journal_core.proofs.Stored.{any_body_append, stored_kept, stored_fresh, promise_kept}
 use Rattle.journal_core.proofs.Changes.{Change, same, created, grown, made_final, replaced, removed, NoEdit, NotFinal, change_stopped, change_answered}
 use Rattle.journal_core.proofs.Opened.{open_acted, IsProposal, promise_done}
+use Rattle.journal_core.proofs.StopLaws.{take_nil}
 
 -- ## What holds of every node
 open_event : (s : NodeState) (e : Event) → IsSound s → OpenIsLed (after_event s e)
@@ -89,7 +90,7 @@ stopped_is_promised s r h k is a = go (acted s r)
     go (by_row x b c n e) =
         let split = stop_from_front s r [] a k in
         subst (λ es. h.epoch ≤ (crashed (after_effects s (take (suc k) es))).promised) (sym (e ∙ sym (append_nil (front_effects s (head_of r)))))
-        (subst (λ t. h.epoch ≤ t.promised) (sym split.1) (subst (λ es. h.epoch ≤ (after_effects (fronted s r) es).promised) (sym (take_nothing split.0)) front))
+        (subst (λ t. h.epoch ≤ t.promised) (sym split.1) (subst (λ es. h.epoch ≤ (after_effects (fronted s r) es).promised) (sym (take_nil split.0)) front))
     go (done b c n e) =
         let split = stop_from_front s r (row_effects (fronted s r) r) a k in
         subst (λ es. h.epoch ≤ (crashed (after_effects s (take (suc k) es))).promised) (sym e)

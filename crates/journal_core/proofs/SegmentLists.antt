@@ -3,32 +3,20 @@ use Rattle.std.proofs.Common.{◌≡◌, ◌≢◌, ℕ, ◌<◌, ◌≤◌, max
 use Rattle.std.proofs.lemmas.Bool.{cond_both, eqb-true, eqb-false, eq-eqb, ne_eqb, cond-true, cond-false, ltb-true, ltb-false}
 use Rattle.journal_core.specs.Segments.{find_segment, put_segment, remove_segment, newest, has_edit, max_or, AreAbove, AreRising}
 use Rattle.journal_core.specs.declared.segment.Segment.{Segment}
-
-Above-less : (j k : ℕ) (xs : List Segment) → j ≤ k → AreAbove k xs → AreAbove j xs
-Above-less j k [] le a = tt
-Above-less j k (s ∷ rest) le a = (omega (arith, a.0), Above-less j k rest le a.1)
-
-Above-put : (k : ℕ) (g : Segment) (xs : List Segment) → k < g.start → AreAbove k xs → AreAbove k (put_segment g xs)
-unfolding put_segment
-Above-put k g [] lt a = (lt, tt)
-Above-put k g (s ∷ rest) lt a =
-    cond_both (s.start == g.start) (g ∷ rest) (cond (nat_lt g.start s.start) (g ∷ s ∷ rest) (s ∷ put_segment g rest)) (λ zs. AreAbove k zs)
-    (λ e. (lt, a.1))
-    (λ e. cond_both (nat_lt g.start s.start) (g ∷ s ∷ rest) (s ∷ put_segment g rest) (λ zs. AreAbove k zs)
-    (λ f. (lt, a)) (λ f. (a.0, Above-put k g rest lt a.1)))
+use Rattle.journal_core.proofs.PlaceLaws.{AreAbove-mono, put_above}
 
 pub Rising-put : (g : Segment) (xs : List Segment) → AreRising xs → AreRising (put_segment g xs)
 unfolding put_segment
 Rising-put g [] r = (tt, tt)
 Rising-put g (s ∷ rest) r =
     cond_both (s.start == g.start) (g ∷ rest) (cond (nat_lt g.start s.start) (g ∷ s ∷ rest) (s ∷ put_segment g rest)) (λ zs. AreRising zs)
-    (λ e. (Above-less g.start s.start rest (let same : s.start ≡ g.start = eqb-true s.start g.start e in omega arith) r.0, r.1))
+    (λ e. (AreAbove-mono g.start s.start rest (let same : s.start ≡ g.start = eqb-true s.start g.start e in omega arith) r.0, r.1))
     (λ e. cond_both (nat_lt g.start s.start) (g ∷ s ∷ rest) (s ∷ put_segment g rest) (λ zs. AreRising zs)
     (λ f. let lt : g.start < s.start = ltb-true g.start s.start f in
-    ((lt, Above-less g.start s.start rest (omega arith) r.0), r))
+    ((lt, AreAbove-mono g.start s.start rest (omega arith) r.0), r))
     (λ f. let le : s.start ≤ g.start = ltb-false g.start s.start f in
     let ne : s.start ≢ g.start = eqb-false s.start g.start e in
-    (Above-put s.start g rest (omega arith) r.0, Rising-put g rest r.1)))
+    (put_above s.start g rest (omega arith) r.0, Rising-put g rest r.1)))
 
 Above-remove : (k m : ℕ) (xs : List Segment) → AreAbove k xs → AreAbove k (remove_segment m xs)
 unfolding remove_segment
@@ -88,12 +76,12 @@ find-remove_other m k (s ∷ rest) ne =
     (λ e. ap (λ o. cond (s.start == m) (Some s) o) (find-remove_other m k rest ne))
 
 -- ## The newest start
-find_above : (k m : ℕ) (xs : List Segment) (g : Segment) → AreAbove k xs → find_segment m xs ≡ Some g → k < m
+pub found_above : (k m : ℕ) (xs : List Segment) (g : Segment) → AreAbove k xs → find_segment m xs ≡ Some g → k < m
 unfolding find_segment
-find_above k m [] g a e = cc
-find_above k m (s ∷ rest) g a e =
+found_above k m [] g a e = cc
+found_above k m (s ∷ rest) g a e =
     cond_both (s.start == m) (Some s) (find_segment m rest) (λ o. o ≡ Some g → k < m)
-    (λ t f. let same : s.start ≡ m = eqb-true s.start m t in omega (arith, a.0)) (λ t f. find_above k m rest g a.1 f) e
+    (λ t f. let same : s.start ≡ m = eqb-true s.start m t in omega (arith, a.0)) (λ t f. found_above k m rest g a.1 f) e
 
 -- a segment with an edit starts at or below the newest start
 pub newest-above : (m : ℕ) (xs : List Segment) (g : Segment) → find_segment m xs ≡ Some g → has_edit g ≡ true → (k : ℕ) × (newest xs ≡ Some k) × (m ≤ k)
@@ -122,7 +110,7 @@ HasEditAt m xs = (g : Segment) × (find_segment m xs ≡ Some g) × (has_edit g 
 edit_later : (m : ℕ) (s : Segment) (rest : List Segment) → AreAbove s.start rest → HasEditAt m rest → HasEditAt m (s ∷ rest)
 unfolding find_segment
 edit_later m s rest a p =
-    let lt : s.start < m = find_above s.start m rest p.0 a p.1 in
+    let lt : s.start < m = found_above s.start m rest p.0 a p.1 in
     (p.0, cond-false (s.start == m) (Some s) (find_segment m rest) (ne_eqb s.start m (omega arith)) ∙ p.1, p.2)
 
 edit_here : (m : ℕ) (s : Segment) (rest : List Segment) → AreAbove s.start rest → has_edit s ≡ true → (o : Option ℕ) → ((k : ℕ) → o ≡ Some k → HasEditAt k rest) →
@@ -131,7 +119,7 @@ unfolding find_segment
 edit_here m s rest a t None ih f = let same : s.start ≡ m = cc in (s, cond-true (s.start == m) (Some s) (find_segment m rest) (eq-eqb s.start m same), t)
 edit_here m s rest a t (Some k) ih f =
     let p : HasEditAt k rest = ih k refl in
-    let lt : s.start < k = find_above s.start k rest p.0 a p.1 in
+    let lt : s.start < k = found_above s.start k rest p.0 a p.1 in
     let most : max s.start k ≡ m = cc in
     let same : k ≡ m = omega arith in
     subst (λ j. HasEditAt j (s ∷ rest)) same (edit_later k s rest a p)

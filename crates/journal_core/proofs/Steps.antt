@@ -1,5 +1,5 @@
 -- What a node step is, by its three cases, and what its effects do to the segments.
-use Rattle.std.proofs.Common.{◌≡◌, ℕ, zero, suc, ◌≤◌, ◌⊎◌, List, [], ◌∷◌, ◌++◌, take, Option, Some, None, refl, inl, inr, subst, sym, ap, ◌∙◌, nat_lt}
+use Rattle.std.proofs.Common.{◌≡◌, ℕ, zero, suc, ◌≤◌, ◌⊎◌, List, [], ◌∷◌, ◌++◌, take, Option, Some, None, Bool, true, false, cond, refl, inl, inr, subst, sym, ap, ◌∙◌, nat_lt}
 use Rattle.std.proofs.lemmas.Bool.{cond_both, cases_Bool, ltb-false, cond-true}
 use Rattle.journal_core.specs.Effects.{Effect, Promise, WriterEpoch, Commit, NewSegment, Append, Replace, MakeFinal, Remove, after_effect, after_effects, segments_after}
 use Rattle.journal_core.specs.Limits.{limit_of, head_of}
@@ -46,13 +46,16 @@ acted s r = acted_front s r (refused_at_once s r) refl
 pub none≢some : {A : Type 0} {P : Type 0} (x : A) → ◌≡◌ {A = Option A} None (Some x) → P
 none≢some x e = cc
 
-limits_passed : (limit : Option ℕ) (o : Option Refusal) → unless_limited limit o ≡ None → o ≡ None
+pub limits_passed : (limit : Option ℕ) (o : Option Refusal) → unless_limited limit o ≡ None → o ≡ None
 limits_passed None o e = e
 limits_passed (Some number) o e = none≢some (Limit number) (sym e)
 
-front_passed : (s : NodeState) (r : Request) → refused_at_once s r ≡ None → front_refused s (head_of r) ≡ None
-front_passed s r e = cond_both s.up (unless_limited (limit_of r) (front_refused s (head_of r))) (Some Down) (λ o. o ≡ None → front_refused s (head_of r) ≡ None)
-    (λ t f. limits_passed (limit_of r) (front_refused s (head_of r)) f) (λ t f. none≢some Down (sym f)) e
+pub test_passed : (b : Bool) (o : Option Refusal) (x : Refusal) → cond b o (Some x) ≡ None → o ≡ None
+test_passed true o x e = e
+test_passed false o x e = none≢some x (sym e)
+
+pub front_passed : (s : NodeState) (r : Request) → refused_at_once s r ≡ None → front_refused s (head_of r) ≡ None
+front_passed s r e = limits_passed (limit_of r) (front_refused s (head_of r)) (test_passed s.up (unless_limited (limit_of r) (front_refused s (head_of r))) Down e)
 
 -- past the front the head's epoch is at least the promise
 pub promise_le : (s : NodeState) (h : HeadView) → front_refused s (Some h) ≡ None → s.promised ≤ h.epoch

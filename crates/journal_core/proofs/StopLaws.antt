@@ -1,6 +1,6 @@
 -- Laws of stops inside a request.
 use Rattle.std.proofs.Common.{ℕ, ◌≡◌, ◌<◌, ◌≤◌, ◌+◌, ◌-◌, List, [], ◌∷◌, ◌++◌, length, take, filter, min, Option, Some, None, Bool, true, false, cond, nat_lt, refl, sym, ◌∙◌, ap, arith, zero, suc, inl, inr, if◌then◌else◌}
-use Rattle.std.proofs.lemmas.Bool.Decides.{nat_tests, leb_tells}
+use Rattle.std.proofs.lemmas.Bool.Decides.{leb_tells}
 use Rattle.std.proofs.lemmas.List.{take-map, length-map, length-append}
 use Rattle.journal_core.specs.Views.{HeadView}
 use Rattle.journal_core.specs.declared.segment.Segment.{Segment}
@@ -8,15 +8,15 @@ use Rattle.journal_core.specs.declared.node_state.NodeState.{NodeState}
 use Rattle.journal_core.specs.declared.refusal.Refusal.{Refusal}
 use Rattle.journal_core.specs.declared.request.Request.{Request}
 use Rattle.journal_core.specs.declared.request.Request.TheVariants.{Fetch, Purge}
-use Rattle.journal_core.specs.declared.refusal.Refusal.TheVariants.{Down}
-use Rattle.journal_core.specs.Limits.{head_of, limit_of}
+use Rattle.journal_core.specs.Limits.{head_of}
 use Rattle.journal_core.specs.Effects.{Effect, Promise, Remove, after_effects, after_effect, promised_after, writer_after, committed_after, segments_after}
-use Rattle.journal_core.specs.Step.{refused_at_once, unless_limited, may_go, front_effects, fronted, front_promised, front_refused, effects_of, effects_unless, effects_behind, crashed}
+use Rattle.journal_core.specs.Step.{refused_at_once, may_go, front_effects, fronted, front_promised, front_refused, effects_of, effects_unless, effects_behind, crashed}
 use Rattle.journal_core.specs.Stops.{IsRowStop, IsStop, effects_of_row, raises_promise}
 use Rattle.journal_core.proofs.Within.{journal_within}
 use Rattle.journal_core.proofs.PurgeLaws.{removed_each}
 pub use Rattle.journal_core.proofs.FrontLaws.{start_fits, journal_fits, accept_fits}
 use Rattle.journal_core.specs.Places.{without}
+use Rattle.journal_core.proofs.Steps.{front_passed, promise_le}
 
 pub take_none : (k : ℕ) (es : List Effect) → k ≡ 0 → take k es ≡ []
 take_none k es e = rw e refl
@@ -75,9 +75,6 @@ none_of false k first e l = absurd (omega arith)
 
 pub ruleset rows = (idle, start_fits, journal_fits, accept_fits)
 
-not_below : (s : NodeState) (h : HeadView) → front_refused s (Some h) ≡ None → s.promised ≤ h.epoch
-not_below s h e = grind (arith, nat_tests)
-
 -- the front's effect is what the front does to what is durable
 pub front_crash : (s t : NodeState) (h : Option HeadView) (es : List Effect) → front_refused s h ≡ None → t.promised ≡ front_promised s.promised h → t.writer ≡ s.writer → t.committed ≡ s.committed
     → t.segments ≡ s.segments → crashed (after_effects t es) ≡ crashed (after_effects s (front_effects s h ++ es))
@@ -86,7 +83,7 @@ front_crash s t None es n p w c g = same_crash es t s p w c g
 front_crash s t (Some h) es n p w c g =
     elim (leb_tells (suc s.promised) h.epoch) [
       | inl q ↦ rw q.0 (same_crash es t (after_effect s (Promise h.epoch)) (let l : suc s.promised ≤ h.epoch = q.1 in omega arith) w c g)
-      | inr q ↦ rw q.0 (same_crash es t s (let l : h.epoch < suc s.promised = q.1 in omega (arith, not_below s h n)) w c g)
+      | inr q ↦ rw q.0 (same_crash es t s (let l : h.epoch < suc s.promised = q.1 in omega (arith, promise_le s h n)) w c g)
     ]
 
 front_length : (s : NodeState) (h : Option HeadView) → length (front_effects s h) ≡ (if raises_promise s.promised h then 1 else 0)
@@ -97,17 +94,6 @@ pub take_behind : (xs ys : List Effect) (k : ℕ) → length xs ≤ k → take k
 take_behind [] ys k l = let e : k - 0 ≡ k = omega arith in rw e refl
 take_behind (x ∷ xs) ys k l =
     take_first k x (xs ++ ys) (omega arith) ∙ ap (λ zs. x ∷ zs) (take_behind xs ys (k - 1) (omega arith) ∙ ap (λ n. xs ++ take n ys) (omega arith))
-
-pub front_passed : (s : NodeState) (r : Request) → refused_at_once s r ≡ None → front_refused s (head_of r) ≡ None
-front_passed s r e = by_up s.up e
-  where
-    by_limit : (n : Option ℕ) (o : Option Refusal) → unless_limited n o ≡ None → o ≡ None
-    by_limit (Some n) o h = cc
-    by_limit None o h = h
-
-    by_up : (b : Bool) → cond b (unless_limited (limit_of r) (front_refused s (head_of r))) (Some Down) ≡ None → front_refused s (head_of r) ≡ None
-    by_up true h = by_limit (limit_of r) (front_refused s (head_of r)) h
-    by_up false h = cc
 
 pub unless_all : (s : NodeState) (r : Request) (o : Option Refusal) → o ≡ None → effects_unless s r o ≡ front_effects s (head_of r) ++ effects_of_row (fronted s r) r
 unless_all s r o e = rw e refl

@@ -1,5 +1,5 @@
 -- What holds of all that is durable, kept by each effect.
-use Rattle.std.proofs.Common.{◌≡◌, ℕ, ◌<◌, ◌≤◌, ◌==◌, Bool, true, false, not, List, [], ◌∷◌, ◌++◌, map, Option, Some, None, refl, inl, inr, arith, subst, sym, ap, ◌∙◌, nat_le, if◌then◌else◌}
+use Rattle.std.proofs.Common.{◌≡◌, ℕ, ◌<◌, ◌≤◌, ◌==◌, Bool, true, false, not, List, [], ◌∷◌, ◌++◌, map, Option, Some, None, refl, inl, inr, arith, subst, sym, ap, ◌∙◌, nat_le, if◌then◌else◌, length}
 use Rattle.std.proofs.lemmas.Bool.{cond_both, cases_Bool, cases_eq, leb-false, cond-true, not-false}
 use Rattle.journal_core.specs.Effects.{Effect, Promise, WriterEpoch, Commit, NewSegment, Append, Replace, MakeFinal, Remove, after_effect, after_effects, segments_after, appended, finalized}
 use Rattle.journal_core.specs.Limits.{head_of}
@@ -46,6 +46,10 @@ AllAllowed s (e ∷ rest) = Allowed s e × AllAllowed (after_effect s e) rest
 
 false≢true : {P : Type 0} → false ≡ true → P
 false≢true e = cc
+
+pub some_body : (bodies : List (List ℕ)) → any_body bodies ≡ true → 0 < length bodies
+some_body [] e = false≢true e
+some_body (x ∷ xs) e = omega arith
 
 pub any_body_append : (xs ys : List (List ℕ)) → any_body xs ≡ true → any_body (xs ++ ys) ≡ true
 any_body_append [] ys e = false≢true e

@@ -21,7 +21,7 @@ owner_here : (s : NodeState) (h : HeadView) (start : ℕ) (batch : BatchView) �
     → open_refused s.opened start batch.first (start + bodies_in (find_segment start s.segments)) ≡ None
 owner_here s h start batch none = grind (arith, nat_tests)
 
-first_is : (o : Option ℕ) (start first expected : ℕ) → open_refused o start first expected ≡ None → first ≡ expected
+pub first_is : (o : Option ℕ) (start first expected : ℕ) → open_refused o start first expected ≡ None → first ≡ expected
 first_is None start first expected h = cc
 first_is (Some opened) start first expected h = first_there opened start first expected h
 

@@ -13,6 +13,7 @@ use Rattle.journal_core.specs.declared.request.Request.TheVariants.{State, NewEp
 use Rattle.journal_core.specs.Limits.{head_of, limit_of, max_number}
 use Rattle.journal_core.specs.Effects.{Effect, after_effects}
 use Rattle.journal_core.specs.Step.{refused_at_once, row_refused, fronted, front_opened, front_effects, front_known, open_refused, effects_of, effects_behind, crashed, front_refused, unless_limited}
+use Rattle.journal_core.proofs.Steps.{test_passed}
 use Rattle.segment_file.specs.Rows.{RowsRise}
 use Rattle.segment_file.specs.declared.segment_row.SegmentRow.{SegmentRow}
 use Rattle.node_files.specs.declared.node_number.NodeNumber.TheVariants.{Promised, Writer, Committed}
@@ -26,7 +27,8 @@ use Rattle.node_files.specs.Durable.{AreFilled}
 use Rattle.journal_node.proofs.Filled.{stopped_filled}
 use Rattle.journal_node.specs.Node.{BringsEdits, IsUp, IsDown, HasState, IsNode, IsStoppedIn, settled, state_behind}
 use Rattle.node_deeds.specs.declared.deed.Deed.{Deed}
-use Rattle.node_deeds.proofs.LimitLaws.{IsHeadWithin, head_fits}
+use Rattle.node_deeds.proofs.LimitLaws.{head_fits}
+use Rattle.node_deeds.proofs.DueLaws.{known_fits}
 use Rattle.journal_node.proofs.DoneAppends.{AllFit, deeds_fit, front_fits, appends_within}
 use Rattle.journal_node.proofs.DoneLaws.{SameRest, rest_noted}
 use Rattle.journal_node.proofs.ActingFront.{effects_are, ends_open}
@@ -41,10 +43,6 @@ opened_is (Some opened) start first expected none = by (opened == start) refl no
 
     by : (b : Bool) → opened == start ≡ b → open_refused (Some opened) start first expected ≡ None → Some opened ≡ Some start
     by b is n = ap (λ (x : ℕ). Some x) (grind (arith, nat_tests))
-
-owner_is : (b : Bool) (o : Option Refusal) (refusal : Refusal) → cond b o (Some refusal) ≡ None → o ≡ None
-owner_is true o refusal none = none
-owner_is false o refusal none = absurd (cc)
 
 was_open : (s : NodeState) (r : Request) (h : HeadView) (start : ℕ) → front_opened s r (Some h) ≡ Some start → s.opened ≡ Some start
 was_open s r h start is = by (cond_of (front_opened s r (Some h)) refl) is
@@ -67,7 +65,7 @@ journal_appends : (s : NodeState) (h : HeadView) (start : ℕ) (b : BatchView) �
 journal_appends s h start b none = by (row_refused (fronted s (Journal h start b)) (Journal h start b)) refl
   where
     by : (o : Option Refusal) → row_refused (fronted s (Journal h start b)) (Journal h start b) ≡ o → Appends s (Journal h start b)
-    by None row = to_open start refl (was_open s (Journal h start b) h start (opened_is (front_opened s (Journal h start b) (Some h)) start b.first _ (owner_is _ _ _ row)))
+    by None row = to_open start refl (was_open s (Journal h start b) h start (opened_is (front_opened s (Journal h start b) (Some h)) start b.first _ (test_passed _ _ _ row)))
     by (Some refusal) row = to_none (subst (λ (es : List Effect). AllFit None es) (sym (effects_are s (Journal h start b) none ∙ ap (λ (o : Option Refusal). front_effects s (Some h) ++ effects_behind (fronted s (Journal h start b)) (Journal h start b) o) row)) (front_fits None s (Some h) [] tt))
 
 module _ (v : View) (m : NodeState) (rows : List SegmentRow) (s : NodeState) (r : Request) (ds : List Deed) (up : IsUp v m rows s) (due : AreDue s.segments rows r ds) (are : effects_by r ds ≡ effects_of s r) where
@@ -192,10 +190,6 @@ pub stopped_moments : (v0 v1 : View) (s : NodeState) (r : Request) (ds : List De
 stopped_moments v0 v1 s r ds are leaves = subst (λ (es : List Effect). LeavesOnly v0 v1 (StandsStopped s es)) are leaves
 
 -- ## A node of any disk
-known_fits : (known : ℕ) (h : Option HeadView) → IsHeadWithin h → known ≤ max_number → front_known known h ≤ max_number
-known_fits known None f k = k
-known_fits known (Some h) f k = omega (arith, f.1)
-
 settled_known : (o : Option Refusal) (x front : NodeState) (r : Request) → (settled o x front r).known ≡ front.known
 settled_known None x front r = refl
 settled_known (Some refusal) x front r = refl
@@ -204,15 +198,12 @@ settled_up : (o : Option Refusal) (x front : NodeState) (r : Request) → (settl
 settled_up None x front r = refl
 settled_up (Some refusal) x front r = refl
 
-unless_up : (m : NodeState) (r : Request) → refused_at_once m r ≡ None → m.up ≡ true
-unless_up m r none = by m.up refl
+pub is_up : (m : NodeState) (r : Request) → refused_at_once m r ≡ None → m.up ≡ true
+is_up m r none = by m.up refl
   where
     by : (b : Bool) → m.up ≡ b → m.up ≡ true
     by true is = is
     by false is = grind (arith, nat_tests)
-
-pub is_up : (m : NodeState) (r : Request) → refused_at_once m r ≡ None → m.up ≡ true
-is_up m r none = unless_up m r none
 
 -- a state that stands at a node that is up
 pub up_of : (v : View) (m : NodeState) (rows : List SegmentRow) (s : NodeState) → m.up ≡ true → HasState m.up v m rows s → IsUp v m rows s

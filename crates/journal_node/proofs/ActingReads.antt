@@ -1,6 +1,5 @@
 -- A segment's file has the edits that are to be told.
 use Rattle.std.proofs.Common.{inl, inr, ℕ, ◌≡◌, ◌⊎◌, ◌≤◌, ◌-◌, Bool, List, [], ◌∷◌, take, drop, Option, Some, None, refl, sym, ap, subst, ◌∙◌, arith, zero, suc, length-take, length-drop}
-use Rattle.std.proofs.lemmas.Bool.Decides.{eqb_tells}
 use Rattle.std.proofs.lemmas.List.{take-take}
 use Rattle.std.proofs.lemmas.Option.{same_Some}
 use Rattle.qj_disk.specs.View.{View, IsSound}
@@ -11,7 +10,7 @@ use Rattle.journal_core.specs.declared.node_state.NodeState.{NodeState}
 use Rattle.journal_core.specs.declared.reply.Reply.{Reply}
 use Rattle.journal_core.specs.declared.reply.Reply.TheVariants.{Edits}
 use Rattle.journal_core.specs.Limits.{max_number}
-use Rattle.journal_core.specs.Segments.{find_segment, end_of, IsWithin, AreWithin, AreSound}
+use Rattle.journal_core.specs.Segments.{find_segment, end_of, IsWithin, AreSound}
 use Rattle.std.specs.Prelude.{Result, Ok, Err, IfOk}
 use Rattle.qj_disk.specs.declared.disk.DiskFail.{DiskFail}
 use Rattle.node_deeds.specs.Told.{state_with}
@@ -19,6 +18,7 @@ use Rattle.node_deeds.specs.Served.{IsServedBy, IsLineOf}
 use Rattle.journal_core.specs.Reads.{piece_of as fetched_piece}
 use Rattle.journal_core.specs.Reads.{served, serving, edits_from, answer_from, not_served, least_served}
 use Rattle.journal_core.specs.Answers.{Serves as NodeServes}
+use Rattle.journal_core.proofs.SegmentLists.{find-start}
 use Rattle.segment_file.specs.Names.{Kind, InProgress, Final, name_of, kind_of}
 use Rattle.segment_file.specs.Stands.{HoldsEdits, Holds, IsFinalOf, IsProgressOf, CountsUnderWay, CountsPlain, slot_of}
 use Rattle.segment_file.specs.Effects.{IsReady, IsTidy}
@@ -27,27 +27,10 @@ use Rattle.segment_file.specs.declared.given.Given.TheVariants as given
 use Rattle.node_deeds.specs.Told.{Tells, line_of}
 use Rattle.journal_node.specs.Decoded.{bodies_in}
 use Rattle.journal_node.proofs.Decodes.{segment_file_decoded}
+use Rattle.journal_node.proofs.DoingRows.{within_of}
 use Rattle.segment_file.specs.Rows.{find_row}
 use Rattle.segment_file.specs.declared.segment_row.SegmentRow.{SegmentRow}
 use Rattle.node_deeds.proofs.ToldLaws.{IsTold, found}
-
-within_at : (start : ℕ) (gs : List Segment) (g : Segment) → AreWithin gs → find_segment start gs ≡ Some g → IsWithin g
-unfolding find_segment
-within_at start [] g within known = absurd (cc)
-within_at start (x ∷ gs) g within known =
-    elim (eqb_tells x.start start) [
-      | inl p ↦ subst (λ (y : Segment). IsWithin y) (same_Some x g (sym (rw p.0 refl) ∙ known)) within.0
-      | inr p ↦ within_at start gs g within.1 (sym (rw p.0 refl) ∙ known)
-    ]
-
-start_at : (start : ℕ) (gs : List Segment) (g : Segment) → find_segment start gs ≡ Some g → g.start ≡ start
-unfolding find_segment
-start_at start [] g known = absurd (cc)
-start_at start (x ∷ gs) g known =
-    elim (eqb_tells x.start start) [
-      | inl p ↦ ap (λ (y : Segment). y.start) (sym (same_Some x g (sym (rw p.0 refl) ∙ known))) ∙ p.1
-      | inr p ↦ start_at start gs g (sym (rw p.0 refl) ∙ known)
-    ]
 
 from_one : (gs : List Segment) (rows : List SegmentRow) (start : ℕ) (g : Segment) → Tells gs rows → find_segment start gs ≡ Some g → 1 ≤ g.start
 from_one gs rows start g t known = by (find_row start rows) (subst (λ (o : Option Segment). IsTold o (find_row start rows)) known (found gs rows start t))
@@ -125,8 +108,8 @@ pub told_edits : (start from most : ℕ) (g : Segment) (gs : List Segment) (b : 
     → (last_txid (record { first = from; bodies = take most b.bodies }) ≤ max_number → reply ≡ Edits (record { first = from; bodies = take most b.bodies }))
     → reply ≡ Edits (record { first = from; bodies = take most (take 256 (drop (from - g.start) g.bodies)) })
 told_edits start from most g gs b reply sound known low high piece told =
-    let at : g.start ≡ start = start_at start gs g known in
-    let within : IsWithin g = within_at start gs g sound.within known in
+    let at : g.start ≡ start = find-start start gs g known in
+    let within : IsWithin g = within_of start gs g sound.within known in
     let bodies : b.bodies ≡ take 256 (drop (from - g.start) g.bodies) = ap (λ (x : BatchView). x.bodies) piece ∙ ap (λ (n : ℕ). take 256 (drop (from - n) g.bodies)) (sym at) in
     let P : List (List ℕ) → Type 0 = λ xs. (last_txid (record { first = from; bodies = take most xs }) ≤ max_number → reply ≡ Edits (record { first = from; bodies = take most xs })) in
     subst P bodies told (omega (arith, length-take most (take 256 (drop (from - g.start) g.bodies)), length-take 256 (drop (from - g.start) g.bodies), length-drop (from - g.start) g.bodies, within, at))
@@ -179,14 +162,14 @@ TellsEdits gs line from most result = (g : Segment) → 1 ≤ line.start → fin
 pub read_reply : (m : NodeState) (gs : List Segment) (rows : List SegmentRow) (from count : ℕ) (line : SegmentLine) (result : Result Reply DiskFail) → Tells gs rows → IsServedBy (state_with m gs) from line count
     → TellsEdits gs line from (count - (from - line.start)) result → IfOk result (λ reply. reply ≡ edits_from (state_with m gs) from)
 read_reply m gs rows from count line result t served told =
-    let at : served.segment.start ≡ line.start = start_at line.start gs served.segment served.known in
+    let at : served.segment.start ≡ line.start = find-start line.start gs served.segment served.known in
     on_ok_map result _ (λ reply. reply ≡ edits_from (state_with m gs) from) (λ reply is. read_told (state_with m gs) from count served.segment line.start reply at served.serves is)
     (told served.segment (subst (λ (n : ℕ). 1 ≤ n) at (from_one gs rows line.start served.segment t served.known)) served.known served.line_is)
 
 pub fetch_reply : (gs : List Segment) (rows : List SegmentRow) (start from : ℕ) (line : SegmentLine) (result : Result Reply DiskFail) → Tells gs rows → IsLineOf gs start line → TellsEdits gs line from 256 result
     → IfOk result (λ reply. reply ≡ Edits (record { first = from; bodies = fetched_piece (find_segment start gs) from }))
 fetch_reply gs rows start from line result t of told =
-    let at : of.segment.start ≡ start = start_at start gs of.segment of.known in
+    let at : of.segment.start ≡ start = find-start start gs of.segment of.known in
     let here : line.start ≡ of.segment.start = ap (λ (l : SegmentLine). l.start) of.line_is in
     let known : find_segment line.start gs ≡ Some of.segment = ap (λ (n : ℕ). find_segment n gs) (here ∙ at) ∙ of.known in
     on_ok_map result _ _ (λ reply is. is ∙ ap (λ (xs : List (List ℕ)). Edits (record { first = from; bodies = xs })) (take-take 256 256 (drop (from - of.segment.start) of.segment.bodies) (omega arith) ∙ sym (ap (λ (o : Option Segment). fetched_piece o from) of.known)))

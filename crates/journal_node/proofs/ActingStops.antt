@@ -13,7 +13,7 @@ use Rattle.journal_core.specs.declared.node_fail.NodeFail.TheVariants.{DiskFault
 use Rattle.journal_core.specs.declared.refusal.Refusal.{Refusal}
 use Rattle.journal_core.specs.declared.request.Request.{Request}
 use Rattle.journal_core.specs.Effects.{Effect, segments_after, after_effects}
-use Rattle.journal_core.specs.Step.{refused_at_once, effects_of, effects_unless, crashed, stopped}
+use Rattle.journal_core.specs.Step.{refused_at_once, effects_of, crashed, stopped}
 use Rattle.journal_core.specs.Stops.{Stops, Kills}
 use Rattle.segment_file.specs.Rows.{RowsRise}
 use Rattle.segment_file.specs.declared.segment_row.SegmentRow.{SegmentRow}
@@ -28,6 +28,7 @@ use Rattle.node_deeds.specs.declared.deed.Deed.{Deed}
 use Rattle.journal_node.proofs.DoingRows.{tells_covers}
 use Rattle.journal_node.proofs.DoingDeed.{stands_now}
 use Rattle.journal_node.proofs.ActingDone.{has_down, up_of, is_up}
+use Rattle.journal_node.proofs.ActingAnswer.{none_at_once}
 
 -- ## The first deeds
 pub due_first : (n : ℕ) (gs : List Segment) (rows : List SegmentRow) (r : Request) (ds : List Deed) → AreDue gs rows r ds → AreDue gs rows r (take n ds)
@@ -163,10 +164,6 @@ node_goes_down A v m0 m rows now node is rise =
       known = λ up. absurd (differs m.up down up);
       stands = λ t. let s = node.stands t in (crashed s.0, has_down v m rows (crashed s.0) down (goes_down m0.up v m0 m rows s.0 (now t) s.1 is rise));
     }
-
-none_at_once : (s : NodeState) (r : Request) (refusal : Refusal) → refused_at_once s r ≡ Some refusal → effects_of s r ≡ []
-unfolding effects_of
-none_at_once s r refusal e = ap (effects_unless s r) e
 
 take_nothing : (keep : ℕ) (es : List Effect) → es ≡ [] → take keep es ≡ []
 take_nothing zero es e = refl

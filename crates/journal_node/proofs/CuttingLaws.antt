@@ -1,7 +1,6 @@
 -- A node is cut between two disk calls of a request.
 use Rattle.std.proofs.Common.{ℕ, ◌≡◌, ◌≢◌, ◌<◌, ◌≤◌, ◌+◌, ◌-◌, Bool, true, false, List, [], ◌∷◌, map, take, drop, get_or, length, Option, Some, None, suc, refl, sym, ap, subst, ◌∙◌, add-one, drop-cons, arith, lit≤}
 use Rattle.std.specs.Prelude.{Result, Ok, Err, OnOk, OnErr}
-use Rattle.std.proofs.lemmas.Bool.Decides.{nat_tests}
 use Rattle.std.proofs.lemmas.List.{take_all, drop_all}
 use Rattle.qj_disk.specs.Files.{Files}
 use Rattle.qj_disk.specs.View.{View, AllLeave}
@@ -22,6 +21,8 @@ use Rattle.journal_core.specs.Effects.{Effect, Promise, WriterEpoch, Commit, New
 use Rattle.journal_core.specs.Step.{refused_at_once, effects_of, crashed, stopped}
 use Rattle.journal_core.specs.Cuts.{Cost, number_cost, append_cost, accept_cost, name_cost, has_record, cost_of, standing, effects_standing, IsCut}
 use Rattle.journal_core.proofs.CutLaws.{cut_refused}
+use Rattle.journal_core.proofs.BudgetLaws.{standing_one, standing_stop}
+use Rattle.journal_core.proofs.NodeLaws.{stop_nothing}
 use Rattle.segment_file.specs.Effects.{choice_of, IsCounted}
 use Rattle.segment_file.specs.Effects as effects
 use Rattle.segment_file.specs.Rows.{RowsRise}
@@ -79,14 +80,6 @@ pub record IsCountedTo (cut : Cut) (ds : List Deed) (calls left count i : ℕ) :
   pub few : count ≤ i
   pub total : standing calls (map (deed_cost cut) ds) ≡ count + standing left (map (deed_cost cut) (drop i ds))
 
-stands_more : (calls : ℕ) (c : Cost) (cs : List Cost) → c.decides ≤ calls → standing calls (c ∷ cs) ≡ suc (standing (calls - c.calls) cs)
-unfolding standing
-stands_more calls c cs l = grind (arith, nat_tests)
-
-stands_none : (calls : ℕ) (c : Cost) (cs : List Cost) → calls < c.decides → standing calls (c ∷ cs) ≡ 0
-unfolding standing
-stands_none calls c cs l = grind (arith, nat_tests)
-
 rest_of : (cut : Cut) (ds : List Deed) (i : ℕ) (d : Deed) → i < length ds → map (deed_cost cut) (drop i ds) ≡ deed_cost cut (get_or ds i d) ∷ map (deed_cost cut) (drop (i + 1) ds)
 rest_of cut ds i d within = ap (map (deed_cost cut)) (drop-cons ds i d within ∙ ap (λ (n : ℕ). get_or ds i d ∷ drop n ds) (sym (add-one i)))
 
@@ -95,7 +88,7 @@ pub counted_next : (cut : Cut) (ds : List Deed) (calls left next count i : ℕ) 
 counted_next cut ds calls left next count i d cost within is enough spent counted =
     let rest : List Cost = map (deed_cost cut) (drop (i + 1) ds) in
     let here : map (deed_cost cut) (drop i ds) ≡ cost ∷ rest = rest_of cut ds i d within ∙ ap (λ (c : Cost). c ∷ rest) (sym is) in
-    let one : standing left (map (deed_cost cut) (drop i ds)) ≡ suc (standing next rest) = ap (standing left) here ∙ stands_more left cost rest enough ∙ ap (λ (n : ℕ). suc (standing n rest)) (sym spent) in
+    let one : standing left (map (deed_cost cut) (drop i ds)) ≡ suc (standing next rest) = ap (standing left) here ∙ standing_one left cost rest enough ∙ ap (λ (n : ℕ). suc (standing n rest)) (sym spent) in
     record { few = omega (arith, counted.few); total = omega (arith, counted.total, one) }
 
 pub counted_stop : (cut : Cut) (ds : List Deed) (calls left count i : ℕ) (d : Deed) (cost : Cost) → i < length ds → cost ≡ deed_cost cut (get_or ds i d) → left < cost.decides → IsCountedTo cut ds calls left count i
@@ -103,7 +96,7 @@ pub counted_stop : (cut : Cut) (ds : List Deed) (calls left count i : ℕ) (d : 
 counted_stop cut ds calls left count i d cost within is short counted =
     let rest : List Cost = map (deed_cost cut) (drop (i + 1) ds) in
     let here : map (deed_cost cut) (drop i ds) ≡ cost ∷ rest = rest_of cut ds i d within ∙ ap (λ (c : Cost). c ∷ rest) (sym is) in
-    let none : standing left (map (deed_cost cut) (drop i ds)) ≡ 0 = ap (standing left) here ∙ stands_none left cost rest short in
+    let none : standing left (map (deed_cost cut) (drop i ds)) ≡ 0 = ap (standing left) here ∙ standing_stop left cost rest short in
     omega (arith, counted.total, none)
 
 pub counted_all : (cut : Cut) (ds : List Deed) (calls left count i : ℕ) → length ds ≤ i → IsCountedTo cut ds calls left count i → count ≡ standing calls (map (deed_cost cut) ds)
@@ -144,7 +137,7 @@ all_stand cut gs (e ∷ es) calls enough =
     let first : c.decides ≤ c.calls = decides cut gs e in
     let here : c.decides ≤ calls = omega arith in
     let rest : calls_of (map (cost_of cut gs) es) ≤ calls - c.calls = omega arith in
-    stands_more calls c (map (cost_of cut gs) es) here ∙ ap suc (all_stand cut gs es (calls - c.calls) rest)
+    standing_one calls c (map (cost_of cut gs) es) here ∙ ap suc (all_stand cut gs es (calls - c.calls) rest)
 
 -- ## The node is down
 pub view_same : (a b : MemDisk) → IsSameBut a b → disk_view b ≡ disk_view a
@@ -234,18 +227,10 @@ crash_left v0 v m0 m rows s now up is rise = record {
   state = refl;
 }
 
-stopped_first : (s : NodeState) (r : Request) → stopped s r 0 ≡ crashed s
-unfolding after_effects
-stopped_first s r = ap (λ (es : List Effect). crashed (after_effects s es)) (none_of (effects_of s r))
-  where
-    none_of : (es : List Effect) → take 0 es ≡ []
-    none_of [] = refl
-    none_of (e ∷ es) = refl
-
 pub cut_at_once : (v0 v : View) (m0 m : NodeState) (rows : List SegmentRow) (s : NodeState) (r : Request) (refusal : Refusal) (calls : ℕ) (cut : Cut) → v0.may_leave v.seen → IsUp v0 m0 rows s → m ≡ crashed m0 → RowsRise rows → refused_at_once s r ≡ Some refusal
     → (t : NodeState) × HasState m.up v m rows t × IsCut s r calls cut 0 t
 cut_at_once v0 v m0 m rows s r refusal calls cut now up is rise e =
-    (crashed s, has_down v m rows (crashed s) (ap (λ (x : NodeState). x.up) is) (crash_left v0 v m0 m rows s now up is rise), record { count = cut_refused cut s r calls refusal e; state = sym (stopped_first s r) })
+    (crashed s, has_down v m rows (crashed s) (ap (λ (x : NodeState). x.up) is) (crash_left v0 v m0 m rows s now up is rise), record { count = cut_refused cut s r calls refusal e; state = sym (stop_nothing s r) })
 
 pub node_at_once : (v0 v : View) (m0 m : NodeState) (rows : List SegmentRow) → v0.may_leave v.seen → m0.up ≡ true → IsNode (Unit {0}) v0 m0 rows → m ≡ crashed m0 → RowsRise rows → IsNode (Unit {0}) v m rows
 node_at_once v0 v m0 m rows now was node is rise =

@@ -158,7 +158,7 @@ covers_before r (deed.Finalize start end accepted) place gs rows before t due = 
 covers_before r (deed.Remove info) place gs rows before t due = absurd before
 
 -- ## Sound lists
-within_of : (start : ℕ) (gs : List Segment) (g : Segment) → AreWithin gs → find_segment start gs ≡ Some g → IsWithin g
+pub within_of : (start : ℕ) (gs : List Segment) (g : Segment) → AreWithin gs → find_segment start gs ≡ Some g → IsWithin g
 unfolding find_segment
 within_of start [] g within is = absurd (cc)
 within_of start (h ∷ gs) g within is =

@@ -1,9 +1,9 @@
 -- Deeds done one after the other, as far as they are done.
-use Rattle.std.proofs.Common.{inl, inr, ⊎_elim, ◌≡◌, ◌⊎◌, ◌↔◌, ℕ, ◌≤◌, ◌<◌, ◌+◌, ◌++◌, List, [], ◌∷◌, length, take, drop, map, Option, refl, sym, ap, subst, ◌∙◌, arith, suc, get_or, drop-cons, length-append, append_assoc}
+use Rattle.std.proofs.Common.{inl, inr, ⊎_elim, ◌≡◌, ◌⊎◌, ◌↔◌, ℕ, ◌≤◌, ◌<◌, ◌+◌, ◌++◌, List, [], ◌∷◌, length, take, drop, map, Option, refl, sym, ap, subst, ◌∙◌, arith, get_or, length-append, append_assoc}
 use Rattle.std.specs.Prelude.{Result, IsOk}
 use Rattle.std.specs.List.{take-map}
 use Rattle.std.proofs.Math.Seq.{take-append_seam}
-use Rattle.std.proofs.lemmas.List.{length-map, map-append, take_more}
+use Rattle.std.proofs.lemmas.List.{length-map, map-append, take_more, drop_more}
 use Rattle.qj_disk.specs.Files.{Files}
 use Rattle.qj_disk.specs.View.{View, IsSound, LeavesOnly}
 use Rattle.qj_disk.specs.Calls.{HasCause}
@@ -234,13 +234,10 @@ module _ (told : Type 0) (v0 : View) (m0 : NodeState) (rows0 : List SegmentRow) 
   }
 
 -- ## The place of a loop
-pub here_is : (ds : List Deed) (i : ℕ) (d : Deed) → i < length ds → drop i ds ≡ get_or ds i d ∷ drop (i + 1) ds
-here_is ds i d lt = let e : suc i ≡ i + 1 = omega arith in drop-cons ds i d lt ∙ ap (λ (n : ℕ). get_or ds i d ∷ drop n ds) e
-
 module _ (told tells : Type 0) (v0 v : View) (m0 m : NodeState) (rows0 rows : List SegmentRow) (r : Request) (ds : List Deed) (i : ℕ) (d : Deed) (f0 f : ℕ) (was_steady is_steady : Type 0) (left0 left : Option ℕ) (lt : i < length ds) where
   pub way_here : IsUnderWay told tells v0 v m0 m rows0 rows r ds (take i ds) (drop i ds) f0 f was_steady is_steady left0 left
       → IsUnderWay told tells v0 v m0 m rows0 rows r ds (take i ds) (get_or ds i d ∷ drop (i + 1) ds) f0 f was_steady is_steady left0 left
-  way_here way = subst (λ (xs : List Deed). IsUnderWay told tells v0 v m0 m rows0 rows r ds (take i ds) xs f0 f was_steady is_steady left0 left) (here_is ds i d lt) way
+  way_here way = subst (λ (xs : List Deed). IsUnderWay told tells v0 v m0 m rows0 rows r ds (take i ds) xs f0 f was_steady is_steady left0 left) (drop_more ds i d lt) way
 
   pub way_next : IsUnderWay told tells v0 v m0 m rows0 rows r ds (take i ds ++ get_or ds i d ∷ []) (drop (i + 1) ds) f0 f was_steady is_steady left0 left
       → IsUnderWay told tells v0 v m0 m rows0 rows r ds (take (i + 1) ds) (drop (i + 1) ds) f0 f was_steady is_steady left0 left

@@ -11,8 +11,9 @@ use Rattle.journal_core.specs.Limits.{head_of}
 use Rattle.journal_core.specs.Segments.{find_segment, any_body}
 use Rattle.journal_core.specs.Effects.{Effect, Promise, WriterEpoch, Commit, NewSegment, Append, Replace, MakeFinal, Remove, after_effect, after_effects, segments_after, appended, finalized, empty_segment, accepted_segment}
 use Rattle.journal_core.specs.Step.{refused_at_once, front_effects, fronted, row_refused, may_go, row_effects, effects_behind, effects_unless, effects_of}
+use Rattle.journal_core.proofs.Stored.{any_body_append}
 use Rattle.node_files.specs.Durable.{AreFilled}
-use Rattle.node_files.proofs.Lists.{filled_put, filled_remove, filled_of, any_longer}
+use Rattle.node_files.proofs.Lists.{filled_put, filled_remove, filled_of}
 use Rattle.journal_node.specs.Node.{BringsEdits}
 
 abbrev Fills : Effect → Type 0
@@ -28,7 +29,7 @@ not_accepted P e = absurd (false≢true e)
 
 append_fills : (start : ℕ) (bodies : List (List ℕ)) (gs : List Segment) (o : Option Segment) → find_segment start gs ≡ o → AreFilled gs → AreFilled (appended bodies o gs)
 append_fills start bodies gs None known filled = filled
-append_fills start bodies gs (Some g) known filled = filled_put (record g { bodies = g.bodies ++ bodies }) gs (λ accepted. any_longer g.bodies bodies (filled_of start gs g filled known accepted)) filled
+append_fills start bodies gs (Some g) known filled = filled_put (record g { bodies = g.bodies ++ bodies }) gs (λ accepted. any_body_append g.bodies bodies (filled_of start gs g filled known accepted)) filled
 
 final_fills : (gs : List Segment) (o : Option Segment) → AreFilled gs → AreFilled (finalized o gs)
 final_fills gs None filled = filled

@@ -1,30 +1,28 @@
 -- The newest edits in memory follow each deed of a request.
-use Rattle.std.proofs.Common.{ℕ, suc, ◌≡◌, ◌≢◌, ◌≤◌, ◌<◌, ◌+◌, Bool, true, false, List, [], ◌∷◌, ◌++◌, length, get_or, drop, Option, Some, None, refl, sym, ap, subst, ◌∙◌, arith}
+use Rattle.std.proofs.Common.{ℕ, ◌≡◌, ◌≢◌, ◌+◌, Bool, false, List, [], ◌∷◌, length, Option, Some, None, refl, sym, ap, subst, ◌∙◌, arith}
 use Rattle.std.proofs.lemmas.Bool.Decides.{nat_tests}
 use Rattle.std.proofs.lemmas.List.{append-nil}
-use Rattle.std.proofs.Math.Seq.{drop-cons}
 use Rattle.std.specs.Prelude.{nat_lt}
 use Rattle.std.specs.List.{list_any}
-use Rattle.journal_core.specs.Views.{HeadView, BatchView, last_txid}
+use Rattle.journal_core.specs.Views.{HeadView, BatchView}
 use Rattle.journal_core.specs.declared.segment.Segment.{Segment}
 use Rattle.journal_core.specs.declared.node_state.NodeState.{NodeState}
 use Rattle.journal_core.specs.declared.request.Request.{Request}
 use Rattle.journal_core.specs.declared.request.Request.TheVariants.{State, NewEpoch, Start, Journal, Finalize, Prepare, Fetch, Accept, Purge, Read, Manifest}
-use Rattle.journal_core.specs.Limits.{limit_of, max_body, max_number}
+use Rattle.journal_core.specs.Limits.{limit_of, max_body}
 use Rattle.journal_core.specs.declared.segment_info.SegmentInfo.{SegmentInfo}
 use Rattle.journal_core.specs.Segments.{find_segment, put_segment}
-use Rattle.journal_core.specs.Effects.{Effect, appended, empty_segment, accepted_segment, segments_after, after_effect, after_effects}
+use Rattle.journal_core.specs.Effects.{appended, empty_segment, accepted_segment, segments_after, after_effect, after_effects}
 use Rattle.segment_file.specs.declared.segment_row.SegmentRow.{SegmentRow}
 use Rattle.node_files.specs.declared.node_number.NodeNumber.{NodeNumber}
-use Rattle.node_files.specs.declared.node_number.NodeNumber.TheVariants.{Promised, Writer, Committed}
-use Rattle.node_files.specs.Deeds.{number_effect}
 use Rattle.node_deeds.specs.declared.deed.Deed.{Deed}
 use Rattle.node_deeds.specs.declared.deed.Deed.TheVariants as deed
 use Rattle.node_deeds.specs.Due.{batch_of, effect_of, rows_after, IsDue, AreDue}
-use Rattle.edit_cache.specs.Edits.{Edit, Follows, kept, numbered}
+use Rattle.edit_cache.specs.Edits.{kept}
 use Rattle.recent_edits.specs.Recent.{Recent, IsRecent, cached_after, cached_behind, most_stored, nothing}
 use Rattle.recent_edits.proofs.Following.{appended_to, begun, replaced, removed, finalized_too}
 use Rattle.journal_node.specs.Done.{effects_by}
+use Rattle.journal_node.proofs.DoingRows.{number_same}
 
 -- ## The batch of a request that passes no limit
 journal_short : (h : HeadView) (start : ℕ) (b : BatchView) → limit_of (Journal h start b) ≡ None → list_any (λ body. nat_lt max_body (length body)) b.bodies ≡ false
@@ -48,35 +46,9 @@ short_bodies (Purge h least) none = refl
 short_bodies (Read from) none = refl
 short_bodies Manifest none = refl
 
-journal_last : (h : HeadView) (start : ℕ) (b : BatchView) → limit_of (Journal h start b) ≡ None → last_txid b ≤ max_number
-unfolding limit_of
-journal_last h start b none = grind (arith, nat_tests)
-
-accept_last : (h : HeadView) (b : BatchView) → limit_of (Accept h b) ≡ None → last_txid b ≤ max_number
-unfolding limit_of
-accept_last h b none = grind (arith, nat_tests)
-
-pub last_fits : (r : Request) → limit_of r ≡ None → last_txid (batch_of r) ≤ max_number
-last_fits State none = omega arith
-last_fits (NewEpoch epoch) none = omega arith
-last_fits (Start h start) none = omega arith
-last_fits (Journal h start b) none = journal_last h start b none
-last_fits (Finalize h start end) none = omega arith
-last_fits (Prepare h start) none = omega arith
-last_fits (Fetch h start from) none = omega arith
-last_fits (Accept h b) none = accept_last h b none
-last_fits (Purge h least) none = omega arith
-last_fits (Read from) none = omega arith
-last_fits Manifest none = omega arith
-
 -- ## Deeds that change no edits
-number_segments : (n : NodeNumber) (value : ℕ) (gs : List Segment) → segments_after gs (number_effect n value) ≡ gs
-number_segments Promised value gs = refl
-number_segments Writer value gs = refl
-number_segments Committed value gs = refl
-
 pub number_held : (recent : Recent) (gs : List Segment) (r : Request) (d : Deed) (n : NodeNumber) (value : ℕ) → d ≡ deed.Number n value → IsRecent recent gs → IsRecent recent (segments_after gs (effect_of r d))
-number_held recent gs r d n value is held = subst (λ (x : Deed). IsRecent recent (segments_after gs (effect_of r x))) (sym is) (subst (λ (xs : List Segment). IsRecent recent xs) (sym (number_segments n value gs)) held)
+number_held recent gs r d n value is held = subst (λ (x : Deed). IsRecent recent (segments_after gs (effect_of r x))) (sym is) (subst (λ (xs : List Segment). IsRecent recent xs) (sym (number_same n value gs)) held)
 
 pub final_held : (recent : Recent) (gs : List Segment) (r : Request) (d : Deed) (start end : ℕ) (accepted : Bool) → d ≡ deed.Finalize start end accepted → IsRecent recent gs → IsRecent recent (segments_after gs (effect_of r d))
 final_held recent gs r d start end accepted is held = subst (λ (x : Deed). IsRecent recent (segments_after gs (effect_of r x))) (sym is) (finalized_too recent gs start held)
@@ -103,9 +75,6 @@ none_appended r gs start first g bodies none known next recent =
     (appended_to r r gs start first [] g known next refl (λ other. refl) (λ before is e follows. e ∙ ap (kept most_stored) (sym (append-nil before))) recent)
 
 -- ## One deed after the other
-pub drop_next : (ds : List Deed) (i : ℕ) (d : Deed) → i < length ds → drop i ds ≡ get_or ds i d ∷ drop (i + 1) ds
-drop_next ds i d within = drop-cons ds i d within ∙ (let e : suc i ≡ i + 1 = omega arith in ap (λ (n : ℕ). get_or ds i d ∷ drop n ds) e)
-
 pub cached_goes : (r : Request) (cached new : Option ℕ) (d : Deed) (ds left : List Deed) → ds ≡ d ∷ left → new ≡ cached_after cached (effect_of r d) → cached_behind cached (effects_by r ds) ≡ cached_behind new (effects_by r left)
 cached_goes r cached new d ds left is next = ap (λ (xs : List Deed). cached_behind cached (effects_by r xs)) is ∙ ap (λ (c : Option ℕ). cached_behind c (effects_by r left)) (sym next)
 

@@ -18,6 +18,7 @@ use Rattle.node_files.specs.Durable.{number_of, number_name, StandsAs, AreFilled
 use Rattle.std.specs.Prelude.{Result, Ok}
 use Rattle.journal_core.specs.declared.node_fail.NodeFail.{NodeFail}
 use Rattle.journal_core.specs.Stops.{Restarts}
+use Rattle.journal_core.proofs.SegmentLists.{found_above}
 use Rattle.node_files.specs.declared.files.NodeFiles.{NodeFiles}
 use Rattle.node_files.specs.Opening.{IsUnfilled, IsFirstBad, HoldsFiles}
 use Rattle.journal_node.proofs.NodeOpens.{memory_in, files_up}
@@ -37,15 +38,6 @@ row_start start (x ∷ rows) row starts there =
       | inr p ↦ row_start start rows row starts.1 (sym (rw p.0 refl) ∙ there)
     ]
 
-above_found : (a start : ℕ) (gs : List Segment) (g : Segment) → AreAbove a gs → find_segment start gs ≡ Some g → a < start
-unfolding find_segment
-above_found a start [] g above known = absurd (cc)
-above_found a start (x ∷ gs) g above known =
-    elim (eqb_tells x.start start) [
-      | inl p ↦ subst (λ (n : ℕ). a < n) p.1 above.0
-      | inr p ↦ above_found a start gs g above.1 (sym (rw p.0 refl) ∙ known)
-    ]
-
 head_found : (g : Segment) (gs : List Segment) → find_segment g.start (g ∷ gs) ≡ Some g
 unfolding find_segment
 head_found g gs = elim (eqb_tells g.start g.start) [ inl p ↦ rw p.0 refl | inr p ↦ absurd (p.1 refl) ]
@@ -54,7 +46,7 @@ tail_found : (g : Segment) (gs : List Segment) (start : ℕ) (h : Segment) → A
 unfolding find_segment
 tail_found g gs start h above known =
     elim (eqb_tells g.start start) [
-      | inl p ↦ absurd (let l : g.start < start = above_found g.start start gs h above known in omega (arith, p.1, l))
+      | inl p ↦ absurd (let l : g.start < start = found_above g.start start gs h above known in omega (arith, p.1, l))
       | inr p ↦ rw p.0 known
     ]
 

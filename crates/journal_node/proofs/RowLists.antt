@@ -1,11 +1,14 @@
 -- Segments that are looked up by the rows of a table, one after the other, are all of them.
-use Rattle.std.proofs.Common.{◌≡◌, ◌≢◌, ◌⊎◌, inl, inr, ℕ, ◌<◌, ◌≤◌, true, List, [], ◌∷◌, Some, None, ◌==◌, refl, sym, ap, subst, ◌∙◌, arith}
+use Rattle.std.proofs.Common.{◌≡◌, ◌≢◌, ◌⊎◌, inl, inr, ℕ, ◌<◌, true, List, [], ◌∷◌, Some, None, ◌==◌, refl, sym, ap, subst, ◌∙◌, arith}
 use Rattle.std.proofs.lemmas.Bool.{cond-true, cond-false, cond_both, cases_order, eqb-true, eq-eqb, ne_eqb}
 use Rattle.std.proofs.lemmas.Option.{same_Some}
 use Rattle.journal_core.specs.declared.segment.Segment.{Segment}
 use Rattle.journal_core.specs.Segments.{find_segment, end_of, AreAbove, AreRising}
+use Rattle.journal_core.proofs.PlaceLaws.{AreAbove-mono, find_here, find_on, find_above}
+use Rattle.journal_core.proofs.SegmentLists.{found_above}
 use Rattle.segment_file.specs.Rows.{find_row, RowsAbove, RowsRise}
 use Rattle.segment_file.specs.declared.segment_row.SegmentRow.{SegmentRow}
+use Rattle.segment_file.proofs.RowLaws.{RowsAbove-mono}
 use Rattle.journal_node.specs.FileState.{with_one, Covers}
 
 -- those that the rows find
@@ -19,35 +22,12 @@ pub record HasRows (rows : List SegmentRow) (gs : List Segment) : Type 0 where
 
 -- ## What is found in a list that rises
 
-above_less : (j k : ℕ) (gs : List Segment) → j ≤ k → AreAbove k gs → AreAbove j gs
-above_less j k [] le above = tt
-above_less j k (g ∷ gs) le above = (omega (arith, above.0), above_less j k gs le above.1)
-
-rows_above_less : (j k : ℕ) (rows : List SegmentRow) → j ≤ k → RowsAbove k rows → RowsAbove j rows
-rows_above_less j k [] le above = tt
-rows_above_less j k (row ∷ rows) le above = (omega (arith, above.0), rows_above_less j k rows le above.1)
-
-segment_above : (k start : ℕ) (gs : List Segment) (g : Segment) → AreAbove k gs → find_segment start gs ≡ Some g → k < start
-unfolding find_segment
-segment_above k start [] g above e = absurd (cc)
-segment_above k start (h ∷ gs) g above e =
-    cond_both (h.start == start) (Some h) (find_segment start gs) (λ o. o ≡ Some g → k < start)
-    (λ t f. let same : h.start ≡ start = eqb-true h.start start t in omega (arith, above.0)) (λ t f. segment_above k start gs g above.1 f) e
-
 row_above : (k start : ℕ) (rows : List SegmentRow) (row : SegmentRow) → RowsAbove k rows → find_row start rows ≡ Some row → k < start
 unfolding find_row
 row_above k start [] row above e = absurd (cc)
 row_above k start (other ∷ rows) row above e =
     cond_both (other.info.start == start) (Some other) (find_row start rows) (λ o. o ≡ Some row → k < start)
     (λ t f. let same : other.info.start ≡ start = eqb-true other.info.start start t in omega (arith, above.0)) (λ t f. row_above k start rows row above.1 f) e
-
-segment_here : (start : ℕ) (g : Segment) (gs : List Segment) → g.start ≡ start → find_segment start (g ∷ gs) ≡ Some g
-unfolding find_segment
-segment_here start g gs same = cond-true (g.start == start) (Some g) (find_segment start gs) (eq-eqb g.start start same)
-
-segment_later : (start : ℕ) (g : Segment) (gs : List Segment) → g.start ≢ start → find_segment start (g ∷ gs) ≡ find_segment start gs
-unfolding find_segment
-segment_later start g gs ne = cond-false (g.start == start) (Some g) (find_segment start gs) (ne_eqb g.start start ne)
 
 row_later : (start : ℕ) (row : SegmentRow) (rows : List SegmentRow) → row.info.start ≢ start → find_row start (row ∷ rows) ≡ find_row start rows
 unfolding find_row
@@ -57,22 +37,17 @@ row_here : (row : SegmentRow) (rows : List SegmentRow) → find_row row.info.sta
 unfolding find_row
 row_here row rows = cond-true (row.info.start == row.info.start) (Some row) (find_row row.info.start rows) (eq-eqb row.info.start row.info.start refl)
 
-none_below : (start : ℕ) (gs : List Segment) → AreAbove start gs → find_segment start gs ≡ None
-unfolding find_segment
-none_below start [] above = refl
-none_below start (g ∷ gs) above = segment_later start g gs (λ same. omega (arith, above.0, same)) ∙ none_below start gs above.1
-
 -- ## By the first row and the first segment
 
 -- a segment is not found by later rows
 found_later : (g : Segment) (gs : List Segment) (rows : List SegmentRow) → RowsAbove g.start rows → found rows (g ∷ gs) ≡ found rows gs
 found_later g gs [] above = refl
-found_later g gs (row ∷ rows) above = λ i. with_one (segment_later row.info.start g gs (λ same. omega (arith, above.0, same)) i) (found_later g gs rows above.1 i)
+found_later g gs (row ∷ rows) above = λ i. with_one (find_on row.info.start g gs (λ same. omega (arith, above.0, same)) i) (found_later g gs rows above.1 i)
 
 rows_left : (row : SegmentRow) (rows : List SegmentRow) (gs : List Segment) → AreAbove row.info.start gs → HasRows (row ∷ rows) gs → HasRows rows gs
 rows_left row rows gs above has = record {
   row_of = λ start g e.
-      let lt : row.info.start < start = segment_above row.info.start start gs g above e in
+      let lt : row.info.start < start = found_above row.info.start start gs g above e in
       let there = has.row_of start g e in
       (there.0, sym (row_later start row rows (λ same. omega (arith, lt, same))) ∙ there.1);
 }
@@ -80,33 +55,33 @@ rows_left row rows gs above has = record {
 segments_left : (g : Segment) (gs : List Segment) (rows : List SegmentRow) → AreAbove g.start gs → HasRows rows (g ∷ gs) → HasRows rows gs
 segments_left g gs rows above has = record {
   row_of = λ start h e.
-      let lt : g.start < start = segment_above g.start start gs h above e in
-      has.row_of start h (segment_later start g gs (λ same. omega (arith, lt, same)) ∙ e);
+      let lt : g.start < start = found_above g.start start gs h above e in
+      has.row_of start h (find_on start g gs (λ same. omega (arith, lt, same)) ∙ e);
 }
 
 same_one : (row : SegmentRow) (rows : List SegmentRow) (g : Segment) (gs : List Segment) → row.info.start ≡ g.start → RowsAbove row.info.start rows → found rows gs ≡ gs → found (row ∷ rows) (g ∷ gs) ≡ g ∷ gs
 same_one row rows g gs same above rest =
-    λ i. with_one (segment_here row.info.start g gs (sym same) i) ((found_later g gs rows (subst (λ (k : ℕ). RowsAbove k rows) same above) ∙ rest) i)
+    λ i. with_one (find_here row.info.start g gs (sym same) i) ((found_later g gs rows (subst (λ (k : ℕ). RowsAbove k rows) same above) ∙ rest) i)
 
 empty_row : (row : SegmentRow) (rows : List SegmentRow) (gs : List Segment) → AreAbove row.info.start gs → found rows gs ≡ gs → found (row ∷ rows) gs ≡ gs
-empty_row row rows gs above rest = λ i. with_one (none_below row.info.start gs above i) (rest i)
+empty_row row rows gs above rest = λ i. with_one (find_above row.info.start gs above i) (rest i)
 
 no_row : (row : SegmentRow) (rows : List SegmentRow) (g : Segment) (gs : List Segment) → g.start < row.info.start → RowsAbove row.info.start rows → HasRows (row ∷ rows) (g ∷ gs) → ⊥
 no_row row rows g gs lt above has =
-    let there = has.row_of g.start g (segment_here g.start g gs refl) in
-    let less : g.start < g.start = row_above g.start g.start (row ∷ rows) there.0 (lt, rows_above_less g.start row.info.start rows (omega (arith, lt)) above) there.1 in
+    let there = has.row_of g.start g (find_here g.start g gs refl) in
+    let less : g.start < g.start = row_above g.start g.start (row ∷ rows) there.0 (lt, RowsAbove-mono g.start row.info.start rows (omega (arith, lt)) above) there.1 in
     omega (arith, less)
 
 no_rows : (g : Segment) (gs : List Segment) → HasRows [] (g ∷ gs) → ⊥
 unfolding find_row
-no_rows g gs has = let there = has.row_of g.start g (segment_here g.start g gs refl) in let e : None ≡ Some there.0 = there.1 in absurd (cc)
+no_rows g gs has = let there = has.row_of g.start g (find_here g.start g gs refl) in let e : None ≡ Some there.0 = there.1 in absurd (cc)
 
 by_order : (row : SegmentRow) (rows : List SegmentRow) (g : Segment) (gs : List Segment) → RowsAbove row.info.start rows → AreAbove g.start gs → HasRows (row ∷ rows) (g ∷ gs) → (HasRows rows gs → found rows gs ≡ gs) → (HasRows rows (g ∷ gs) → found rows (g ∷ gs) ≡ g ∷ gs)
     → (row.info.start ≡ g.start) ⊎ ((row.info.start < g.start) ⊎ (g.start < row.info.start)) → found (row ∷ rows) (g ∷ gs) ≡ g ∷ gs
 by_order row rows g gs above up has both one (inl same) =
     same_one row rows g gs same above (both (rows_left row rows gs (subst (λ (k : ℕ). AreAbove k gs) (sym same) up) (segments_left g gs (row ∷ rows) up has)))
 by_order row rows g gs above up has both one (inr (inl below)) =
-    let less : AreAbove row.info.start (g ∷ gs) = (below, above_less row.info.start g.start gs (omega (arith, below)) up) in
+    let less : AreAbove row.info.start (g ∷ gs) = (below, AreAbove-mono row.info.start g.start gs (omega (arith, below)) up) in
     empty_row row rows (g ∷ gs) less (one (rows_left row rows (g ∷ gs) less has))
 by_order row rows g gs above up has both one (inr (inr later)) = absurd (no_row row rows g gs later above has)
 

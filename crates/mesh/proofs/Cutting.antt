@@ -2,6 +2,7 @@
 use Rattle.std.proofs.Common.{◌≡◌, ℕ, zero, suc, ◌+◌, ◌<◌, List, [], ◌∷◌, ◌++◌, Bool, true, false, cond, filter, refl, sym, ap, ◌∙◌, subst, arith, length, get_or, append_assoc, ◌⊎◌, inl, inr}
 use Rattle.std.specs.Prelude.{Option, Some, None, ◌==◌, nat_lt, ◌||◌, ◌&&◌, ◌≢◌, filter_map}
 use Rattle.std.proofs.lemmas.Bool.{le-ltb}
+use Rattle.std.proofs.lemmas.List.Elements.{filter-append}
 use Rattle.node_world.specs.declared.history_line.HistoryLine.{HistoryLine}
 use Rattle.node_world.specs.Cell.{Cell, cell_takes, fresh_cell}
 use Rattle.node_world.specs.Entries.{Entry, Move}
@@ -109,14 +110,6 @@ order_append test (x ∷ xs) ys h g (inl off) = by (test x) refl (λ f. order_ap
     by true e go f = absurd (cc f)
     by false e go f = ((λ (k : test x ≡ true). absurd (cc (e, k))), go f)
 
-filter_append : {A : Type 0} (test : A → Bool) (xs ys : List A) → filter test (xs ++ ys) ≡ filter test xs ++ filter test ys
-filter_append test [] ys = refl
-filter_append {A} test (x ∷ xs) ys = by (test x) (filter_append test xs ys)
-  where
-    by : (b : Bool) → filter test (xs ++ ys) ≡ filter test xs ++ filter test ys → cond b (x ∷ filter test (xs ++ ys)) (filter test (xs ++ ys)) ≡ cond b (x ∷ filter test xs) (filter test xs) ++ filter test ys
-    by true h = ap (λ (l : List A). x ∷ l) h
-    by false h = h
-
 filter_at : (k : ℕ) (bs : List Block) → AllAt k bs → filter (is_at k) bs ≡ bs
 unfolding AllAt
 filter_at k [] h = refl
@@ -209,7 +202,7 @@ entries_off k j (x ∷ xs) h e = cond_false (x.node == k) (x ∷ entries_at k xs
 entries_pick : (k : ℕ) (bs : List Block) → ArePure bs → entries_at k (entries_in bs) ≡ entries_in (filter (is_at k) bs)
 unfolding entries_in ArePure Alike
 entries_pick k [] p = refl
-entries_pick k (b ∷ bs) p = filter_append (λ (e : Entry). e.node == k) b.entries (entries_in bs) ∙ by (alike b.node k) (entries_pick k bs p.1)
+entries_pick k (b ∷ bs) p = filter-append (λ (e : Entry). e.node == k) b.entries (entries_in bs) ∙ by (alike b.node k) (entries_pick k bs p.1)
   where
     by : Alike b.node k → entries_at k (entries_in bs) ≡ entries_in (filter (is_at k) bs) → entries_at k b.entries ++ entries_at k (entries_in bs) ≡ entries_in (cond (b.node == k) (b ∷ filter (is_at k) bs) (filter (is_at k) bs))
     by (inl e) h =
@@ -223,7 +216,7 @@ entries_pick k (b ∷ bs) p = filter_append (λ (e : Entry). e.node == k) b.entr
 all_off : (m : Mesh) (j k : ℕ) (hss : List (List HistoryLine)) → j < k → filter (is_at j) (blocks_from m k hss) ≡ []
 unfolding blocks_from
 all_off m j k [] l = refl
-all_off m j k (hs ∷ hss) l = filter_append (is_at j) (blocks_at m k hs) (blocks_from m (k + 1) hss)
+all_off m j k (hs ∷ hss) l = filter-append (is_at j) (blocks_at m k hs) (blocks_from m (k + 1) hss)
     ∙ (ap (λ (x : List Block). x ++ filter (is_at j) (blocks_from m (k + 1) hss)) (filter_off j k (blocks_at m k hs) (λ (e : k ≡ j). omega (arith, e, l)) (cut_at k (tags_of m k fresh_cell [] hs) (front_block k) refl))
     ∙ all_off m j (k + 1) hss (omega (arith, l)))
 
@@ -233,11 +226,11 @@ all_on m i k [] l = absurd (omega (arith, l))
 all_on m zero k (hs ∷ hss) l =
     let same : k + 0 ≡ k = omega arith in
     subst (λ (j : ℕ). filter (is_at j) (blocks_at m k hs ++ blocks_from m (k + 1) hss) ≡ blocks_at m j hs) (sym same)
-    (filter_append (is_at k) (blocks_at m k hs) (blocks_from m (k + 1) hss)
+    (filter-append (is_at k) (blocks_at m k hs) (blocks_from m (k + 1) hss)
     ∙ (ap (λ (x : List Block). x ++ filter (is_at k) (blocks_from m (k + 1) hss)) (filter_at k (blocks_at m k hs) (cut_at k (tags_of m k fresh_cell [] hs) (front_block k) refl))
     ∙ (ap (λ (x : List Block). blocks_at m k hs ++ x) (all_off m k (k + 1) hss (omega arith)) ∙ append_none (blocks_at m k hs))))
 all_on m (suc i) k (hs ∷ hss) l =
-    filter_append (is_at (k + suc i)) (blocks_at m k hs) (blocks_from m (k + 1) hss)
+    filter-append (is_at (k + suc i)) (blocks_at m k hs) (blocks_from m (k + 1) hss)
     ∙ (ap (λ (x : List Block). x ++ filter (is_at (k + suc i)) (blocks_from m (k + 1) hss)) (filter_off (k + suc i) k (blocks_at m k hs) (λ (e : k ≡ k + suc i). omega (arith, e)) (cut_at k (tags_of m k fresh_cell [] hs) (front_block k) refl))
     ∙ subst (λ (j : ℕ). filter (is_at j) (blocks_from m (k + 1) hss) ≡ blocks_at m j (get_or hss i [])) (omega arith) (all_on m i (k + 1) hss (omega (arith, l))))
 

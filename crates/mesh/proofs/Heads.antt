@@ -46,7 +46,7 @@ reached_in k r (y ∷ rs) x = by (out_cond (reaches k y) r y (filter (reaches k)
     by (inl e) go = inl e
     by (inr z) go = inr (go z)
 
-same_in : (rs : List Record) (hs : List HistoryLine) (h : HistoryLine) → AreSame rs hs → In h hs → (r : Record) × In r rs × IsSame r h
+pub same_in : (rs : List Record) (hs : List HistoryLine) (h : HistoryLine) → AreSame rs hs → In h hs → (r : Record) × In r rs × IsSame r h
 unfolding In AreSame
 same_in [] [] h s x = absurd x
 same_in [] (y ∷ hs) h s x = absurd s

@@ -2,6 +2,7 @@
 use Rattle.std.proofs.Common.{◌≡◌, ℕ, zero, suc, ◌+◌, ◌<◌, ◌≤◌, List, [], ◌∷◌, ◌++◌, Bool, true, false, cond, filter, refl, sym, ap, ◌∙◌, subst, arith, length, get_or, append_assoc, length-append, ◌⊎◌, inl, inr}
 use Rattle.std.specs.Prelude.{Option, Some, None, ◌==◌, nat_lt, ◌&&◌, ◌||◌}
 use Rattle.std.proofs.lemmas.Bool.{le-ltb, cases_Bool}
+use Rattle.std.proofs.lemmas.List.Elements.{filter-append}
 use Rattle.journal_core.specs.declared.request.Request.{Request}
 use Rattle.node_world.specs.declared.node_ask.NodeAsk.TheVariants.{Act}
 use Rattle.node_world.specs.declared.history_line.HistoryLine.{HistoryLine}
@@ -55,17 +56,9 @@ places_rise k (suc i) (suc j) p (r ∷ rs) l m = by (reaches k r) m (λ x. place
 unfoldable pub count_of : ℕ → List HistoryLine → ℕ
 count_of c hs = length (lines_of c hs)
 
-filter_append : {A : Type 0} (test : A → Bool) (xs ys : List A) → filter test (xs ++ ys) ≡ filter test xs ++ filter test ys
-filter_append test [] ys = refl
-filter_append {A} test (x ∷ xs) ys = by (test x) (filter_append test xs ys)
-  where
-    by : (b : Bool) → filter test (xs ++ ys) ≡ filter test xs ++ filter test ys → cond b (x ∷ filter test (xs ++ ys)) (filter test (xs ++ ys)) ≡ cond b (x ∷ filter test xs) (filter test xs) ++ filter test ys
-    by true h = ap (λ (l : List A). x ∷ l) h
-    by false h = h
-
 pub count_append : (c : ℕ) (xs ys : List HistoryLine) → count_of c (xs ++ ys) ≡ count_of c xs + count_of c ys
 unfolding count_of lines_of
-count_append c xs ys = ap length (filter_append (λ (h : HistoryLine). h.caller == c) xs ys) ∙ length-append (filter (λ (h : HistoryLine). h.caller == c) xs) (filter (λ (h : HistoryLine). h.caller == c) ys)
+count_append c xs ys = ap length (filter-append (λ (h : HistoryLine). h.caller == c) xs ys) ∙ length-append (filter (λ (h : HistoryLine). h.caller == c) xs) (filter (λ (h : HistoryLine). h.caller == c) ys)
 
 pub count_self : (h : HistoryLine) (hs : List HistoryLine) → count_of h.caller (h ∷ hs) ≡ suc (count_of h.caller hs)
 unfolding count_of lines_of
@@ -95,7 +88,7 @@ place_by false d p r is h = omega arith
 place_by true d p r is h = rw is (h refl)
 
 -- ## A line that moves
-entry_move : (node : ℕ) (o : Option Move) (e : Entry) → entry_at node o ≡ Some e → o ≡ Some e.move
+pub entry_move : (node : ℕ) (o : Option Move) (e : Entry) → entry_at node o ≡ Some e → o ≡ Some e.move
 entry_move node None e h = absurd (cc h)
 entry_move node (Some m) e h = let same : record { node = node; move = m } ≡ e = cc h in ap (λ (x : Entry). Some x.move) same
 

@@ -27,3 +27,4 @@ pub mod Traced
 pub mod EmptyLogs
 pub mod Crossed
 pub mod Tailed
+pub mod CallLists

@@ -1,6 +1,6 @@
 -- Lists: one item more, and what a list contains.
-use Rattle.std.proofs.Common.{◌≡◌, ℕ, zero, suc, List, [], ◌∷◌, ◌++◌, Bool, true, false, cond, filter, Contains, refl, ap, arith, ◌⊎◌, inl, inr}
-use Rattle.std.specs.Prelude.{Some, slice_get, ◌≢◌, ◌==◌}
+use Rattle.std.proofs.Common.{◌≡◌, ℕ, List, [], ◌∷◌, ◌++◌, Bool, true, false, cond, filter, Contains, refl, ap, arith, ◌⊎◌, inl, inr}
+use Rattle.std.specs.Prelude.{◌≢◌, ◌==◌}
 use Rattle.std.proofs.lemmas.List.Elements.{Contains-push_cases, Contains-append_right, Contains-append_cases}
 use Rattle.std.proofs.lemmas.Bool.Decides.{eqb_tells}
 
@@ -74,11 +74,6 @@ contains_less {A} x y xs off h = by (Contains-push_cases xs y x h)
     by : Contains xs x ⊎ (y ≡ x) → Contains xs x
     by (inl g) = g
     by (inr e) = absurd (off e)
-
-pub get_left : {A : Type 0} (xs ys : List A) (i : ℕ) (x : A) → slice_get xs i ≡ Some x → slice_get (xs ++ ys) i ≡ Some x
-get_left [] ys i x e = absurd (cc e)
-get_left (y ∷ xs) ys zero x e = e
-get_left (y ∷ xs) ys (suc i) x e = get_left xs ys i x e
 
 pub append_none : {A : Type 0} (xs : List A) → xs ++ [] ≡ xs
 append_none [] = refl

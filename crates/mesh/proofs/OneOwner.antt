@@ -118,7 +118,7 @@ in_reached k r (y ∷ rs) e (inr i) = by (reaches k y) (in_reached k r rs e i)
     by true h = inr h
     by false h = h
 
-same_line : (rs : List Record) (hs : List HistoryLine) (r : Record) → AreSame rs hs → In r rs → (h : HistoryLine) × In h hs × IsSame r h
+pub same_line : (rs : List Record) (hs : List HistoryLine) (r : Record) → AreSame rs hs → In r rs → (h : HistoryLine) × In h hs × IsSame r h
 unfolding In AreSame
 same_line [] hs r s i = absurd i
 same_line (x ∷ rs) [] r s i = absurd s

@@ -1,7 +1,7 @@
 -- Who sends a request with a head has had its proposals of that epoch promised by more than half of the nodes.
 use Rattle.std.proofs.Common.{◌≡◌, ℕ, ◌+◌, ◌-◌, ◌*◌, ◌<◌, List, [], ◌∷◌, ◌++◌, Bool, true, false, cond, refl, sym, ap, ◌∙◌, subst, arith, length, length-set, append_assoc, ◌⊎◌, inl, inr}
 use Rattle.std.specs.Prelude.{Option, Some, None, ◌==◌, ◌||◌, nat_lt, count_by}
-use Rattle.std.proofs.lemmas.Bool.{lt-ltb}
+use Rattle.std.proofs.lemmas.Bool.{lt-ltb, or_left, or_right}
 use Rattle.std.proofs.lemmas.Bool.Decides.{nat_tests}
 use Rattle.journal_core.specs.declared.request.Request.{Request}
 use Rattle.journal_core.specs.declared.request.Request.TheVariants as request
@@ -39,13 +39,6 @@ Sends q (Call k p t ∷ rs) = (p ≡ q) ⊎ Sends q rs
 Sends q (Late k p ∷ rs) = Sends q rs
 Sends q (Operator k p d ∷ rs) = Sends q rs
 Sends q (Outcome x ∷ rs) = Sends q rs
-
-or_left : (a b : Bool) → a ≡ true → (a || b) ≡ true
-or_left a b e = rw e refl
-
-or_right : (a b : Bool) → b ≡ true → (a || b) ≡ true
-or_right true b e = refl
-or_right false b e = e
 
 module _ (n : ℕ) where
   -- whatever follows, the epoch is owned

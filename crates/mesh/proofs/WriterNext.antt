@@ -1,5 +1,6 @@
 -- What an answer leaves a writer in: the same round, the round of proposals behind that of states, a later one, or none.
 use Rattle.std.proofs.Common.{◌≡◌, ℕ, ◌+◌, ◌-◌, List, ◌++◌, Bool, true, false, cond, refl, ◌∙◌, length, take, ◌⊎◌, inl, inr}
+use Rattle.std.proofs.lemmas.Bool.{and_parts}
 use Rattle.std.specs.Prelude.{Option, Some, None, ◌≢◌, ◌&&◌, nat_lt}
 use Rattle.std.specs.List.{list_any}
 use Rattle.journal_core.specs.Views.{BatchView}
@@ -113,15 +114,11 @@ judged_next : (b : Bool) (r s : Round) (w u : WriterView) (k : ℕ) (h : Heard) 
 judged_next true r s w u k h p off e d = later w k h _ s p (d refl) (along w (with_causes r u) _ e (done_later r (with_causes r u) off))
 judged_next false r s w u k h p off e d = Stops _ refl
 
-and_right : (b c : Bool) → (b && c) ≡ true → c ≡ true
-and_right true c e = e
-and_right false c e = absurd (cc e)
-
 round_next : (b : Bool) (r : Round) (w : WriterView) (k : ℕ) (h : Heard) → w.phase ≡ phase.InRound r → r ≢ round.State → (has_majority r (with_answer w k h).slots ≡ true → IsLaterRound r ⊎ IsDone w k h r) → Next w k h (judged_when b r (with_answer w k h)).writer
 unfolding judged
 round_next true r w k h p off d = Stays r p
 round_next false r w k h p off d =
-    judged_next (numbers_fit (with_answer w k h) r && has_majority r (with_answer w k h).slots) r r w (with_answer w k h) k h p off refl (λ e. d (and_right (numbers_fit (with_answer w k h) r) (has_majority r (with_answer w k h).slots) e))
+    judged_next (numbers_fit (with_answer w k h) r && has_majority r (with_answer w k h).slots) r r w (with_answer w k h) k h p off refl (λ e. d (and_parts (numbers_fit (with_answer w k h) r) (has_majority r (with_answer w k h).slots) e).1)
 
 state_round : (b : Bool) (w : WriterView) (k : ℕ) (h : Heard) → w.phase ≡ phase.InRound round.State → Next w k h (judged_when b round.State (with_answer w k h)).writer
 unfolding judged

@@ -3,7 +3,7 @@ use Rattle.std.proofs.Common.{◌≡◌, ◌≢◌, ℕ, suc, ◌+◌, ◌-◌, 
 use Rattle.std.specs.Prelude.{slice_get, unwrap_or, ◌&&◌, ◌||◌}
 use Rattle.std.specs.BTreeSet.{contains}
 use Rattle.std.specs.Ordering.{nat_cmp}
-use Rattle.std.proofs.lemmas.Bool.{true≢false, and_parts, and_from, or_cases, eqb-true, eq-eqb}
+use Rattle.std.proofs.lemmas.Bool.{true≢false, and_parts, and_from, or_cases, eqb-true, eq-eqb, or_left, or_right}
 use Rattle.std.proofs.lemmas.List.{take_more, take_all, drop_all, get_or-set_same, get_or-set_other, length-set, get_or-replicate, length-replicate, get_or_default}
 use Rattle.std.proofs.lemmas.List.Elements.{Contains-push, Contains-push_cases, Contains-append_left}
 use Rattle.std.proofs.lemmas.List.Folds.{list_any-append}
@@ -21,6 +21,7 @@ use Rattle.node_world.proofs.Values.{get_append, get_append_left}
 use Rattle.node_world.proofs.Oks.{get_append_right}
 use Rattle.mesh.specs.Marks.{mark, calls_to, next_number, IsAsMarked, IsCopy, IsMarked, AreCopied}
 use Rattle.mesh.proofs.Lists.{Alike, alike, contains_cases, contains_head, contains_tail, contains_none}
+use Rattle.mesh.proofs.CallLists.{calls_append}
 use Rattle.mesh_agreement.specs.declared.marking.Numbers.{Numbers}
 use Rattle.mesh_agreement.specs.declared.marking.MarkTable.{MarkTable}
 use Rattle.mesh_agreement.specs.declared.marking.CallTable.{CallTable}
@@ -53,14 +54,6 @@ test_is m k n kd e =
 
 test_self : (k n : ℕ) (kd : MarkKind) → test (mark k n kd) k n kd ≡ true
 test_self k n kd = and_from (k == k) ((n == n) && same_kind kd kd) (eq-eqb k k refl) (and_from (n == n) (same_kind kd kd) (eq-eqb n n refl) (kind_self kd))
-
-or_right : (b c : Bool) → c ≡ true → (b || c) ≡ true
-or_right true c e = refl
-or_right false c e = e
-
-or_left : (b c : Bool) → b ≡ true → (b || c) ≡ true
-or_left true c e = refl
-or_left false c e = absurd (true≢false (sym e))
 
 has_mark : (k n : ℕ) (kd : MarkKind) (ms : List Mark) → is_marked ms k n kd ≡ true → Contains ms (mark k n kd)
 has_mark k n kd [] e = absurd (true≢false (sym e))
@@ -192,18 +185,6 @@ pub no_marks : (nodes : ℕ) (kd : MarkKind) (lists : List Numbers) → length l
 no_marks nodes kd lists l e = record { count = l; each = λ i q d low. e i q d low }
 
 -- ## Calls so far
-calls_append : (k : ℕ) (xs ys : List Record) → calls_to k (xs ++ ys) ≡ calls_to k xs ++ calls_to k ys
-unfolding calls_to
-calls_append k [] ys = refl
-calls_append k (Call i q t ∷ xs) ys = by (i == k) (calls_append k xs ys)
-  where
-    by : (b : Bool) → calls_to k (xs ++ ys) ≡ calls_to k xs ++ calls_to k ys → cond b (q ∷ calls_to k (xs ++ ys)) (calls_to k (xs ++ ys)) ≡ cond b (q ∷ calls_to k xs) (calls_to k xs) ++ calls_to k ys
-    by true h = ap (λ (l : List Request). q ∷ l) h
-    by false h = h
-calls_append k (Late i q ∷ xs) ys = calls_append k xs ys
-calls_append k (Operator i a d ∷ xs) ys = calls_append k xs ys
-calls_append k (Outcome x ∷ xs) ys = calls_append k xs ys
-
 -- no more than there are lines
 calls_fit : (k : ℕ) (xs : List Record) → length (calls_to k xs) ≤ length xs
 unfolding calls_to

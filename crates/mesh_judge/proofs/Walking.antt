@@ -23,6 +23,7 @@ use Rattle.mesh.specs.Order.{Key, Block, Tagged, is_muted, line_of_caller, place
 use Rattle.mesh.proofs.Lists.{Alike, alike}
 use Rattle.mesh.proofs.Keys.{count_of, count_append, count_self, fits}
 use Rattle.mesh.proofs.Matching.{entry_moves}
+use Rattle.mesh.proofs.Tied.{cell_snoc}
 use Rattle.mesh_judge.specs.declared.caller.Caller.{Caller}
 use Rattle.mesh_judge.specs.declared.moved.Moved.{Moved}
 use Rattle.mesh_judge.specs.declared.ranking.Rank.{Rank}
@@ -150,11 +151,6 @@ module _ (m : Mesh) (i : ℕ) (before : List HistoryLine) (h : HistoryLine) (cel
             ∙ ap (λ (w : Moved). event_ranked (rank_of c w.epoch place last) w.event ∷ ranks_from (rank_of c w.epoch place last) later) same
 
 -- ## Where a line stands
-cell_snoc : (c : Cell) (hs : List HistoryLine) (h : HistoryLine) → cell_after c (hs ++ h ∷ []) ≡ (cell_takes (cell_after c hs) h.ask).cell
-unfolding cell_after
-cell_snoc c [] h = refl
-cell_snoc c (x ∷ hs) h = cell_snoc (cell_takes c x.ask).cell hs h
-
 local_at : (c : Cell) (hs : List HistoryLine) (k : ℕ) (d : HistoryLine) → IsLocalRun c hs → k < length hs → (get_or hs k d).answer ≡ (cell_takes (cell_after c (take k hs)) (get_or hs k d).ask).answer
 unfolding IsLocalRun cell_after
 local_at c [] k d run l = absurd (omega (arith, l))

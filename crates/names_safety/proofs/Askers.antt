@@ -15,33 +15,24 @@ use Rattle.node_world.specs.declared.record.Record.{Record}
 use Rattle.node_world.specs.declared.record.Record.TheVariants.{Call, Late, Operator, Outcome}
 use Rattle.node_world.specs.declared.record.Told.{Told}
 use Rattle.node_world.specs.Entries.{Entry, Move, Answer, Stop, Kill as KillMove, Restart as RestartMove, Earlier, now, before as earlier_one}
-use Rattle.node_world.specs.Moving.{Placed, moves, way_of, move_of, entry_at, entry_of, moving_of}
+use Rattle.node_world.specs.Moving.{Placed, moves, way_of, move_of, entry_of, moving_of}
 use Rattle.node_world.specs.Run.{IsNextEntry}
 use Rattle.node_world.specs.Safe.{IsOf}
 use Rattle.node_world.proofs.Places.{next_of}
 use Rattle.mesh.specs.declared.whole.Mesh.{Mesh}
 use Rattle.mesh.specs.Agree.{operator_of, record_of, history_at, plan_of, ListsAgree}
 use Rattle.mesh.specs.Marks.{calls_to, IsMarked}
-use Rattle.mesh.specs.Matches.{reaches, reached, lines_of, IsSame, AreSame}
+use Rattle.mesh.specs.Matches.{reaches, reached, lines_of, IsSame}
 use Rattle.mesh.specs.Order.{placed_from, placed_at}
 use Rattle.mesh.proofs.Shared.{In}
 use Rattle.ns_replay.proofs.Splits.{some_is, none≢some}
 use Rattle.names_safety.specs.Linear.{IsLinear}
 use Rattle.names_safety.proofs.ReadLaws.{in_filter, of_filter}
-use Rattle.mesh.proofs.OrderSigns.{in_left}
-use Rattle.mesh.proofs.Heads.{operator_acts, within_in}
+use Rattle.mesh.proofs.OrderSigns.{in_left, in_either}
+use Rattle.mesh.proofs.Heads.{operator_acts, within_in, same_in}
+use Rattle.mesh.proofs.Keys.{entry_move}
 
 -- ## Members
-in_parts : {A : Type 0} (x : A) (xs ys : List A) → In x (xs ++ ys) → In x xs ⊎ In x ys
-unfolding In
-in_parts x [] ys i = inr i
-in_parts {A} x (y ∷ xs) ys (inl e) = inl (inl e)
-in_parts {A} x (y ∷ xs) ys (inr i) = by (in_parts x xs ys i)
-  where
-    by : In x xs ⊎ In x ys → ((y ≡ x) ⊎ In x xs) ⊎ In x ys
-    by (inl j) = inl (inr j)
-    by (inr j) = inr j
-
 in_only : {A : Type 0} (x y : A) → In x (y ∷ []) → y ≡ x
 unfolding In
 in_only x y (inl e) = e
@@ -50,7 +41,7 @@ in_only x y (inr i) = absurd i
 of_reverse : (e : Entry) (xs : List Entry) → In e (reverse xs) → In e xs
 unfolding In
 of_reverse e [] i = i
-of_reverse e (x ∷ xs) i = by (in_parts e (reverse xs) (x ∷ []) (subst (λ (l : List Entry). In e l) (reverse-append (x ∷ []) xs) i)) (λ j. of_reverse e xs j)
+of_reverse e (x ∷ xs) i = by (in_either e (reverse xs) (x ∷ []) (subst (λ (l : List Entry). In e l) (reverse-append (x ∷ []) xs) i)) (λ j. of_reverse e xs j)
   where
     by : In e (reverse xs) ⊎ In e (x ∷ []) → (In e (reverse xs) → In e xs) → (x ≡ e) ⊎ In e xs
     by (inl j) go = inr (go j)
@@ -81,11 +72,6 @@ unfolding In placed_from
 of_placed m node acc [] x i = absurd i
 of_placed m node acc (h ∷ hs) x (inl e) = inl (ap (λ (z : Placed). z.line) e)
 of_placed m node acc (h ∷ hs) x (inr i) = inr (of_placed m node (acc ++ h ∷ []) hs x i)
-
--- what an entry moved by asks
-move_at : (node : ℕ) (o : Option Move) (e : Entry) → entry_at node o ≡ Some e → o ≡ Some e.move
-move_at node None e is = none≢some e is
-move_at node (Some move) e is = ap (λ (z : Entry). Some z.move) (some_is (record { node = node; move = move }) e is)
 
 asked_by : Request → Move → Request
 asked_by d (Answer caller way q r) = q
@@ -122,14 +108,6 @@ move_asks caller muted Restart _ mv q e is = none≢some mv e
 move_asks caller muted (Arm calls stop) _ mv q e is = none≢some mv e
 
 -- ## From a line of a history to a call of a record
-same_record : (rs : List Record) (hs : List HistoryLine) (h : HistoryLine) → AreSame rs hs → In h hs → (r : Record) × In r rs × IsSame r h
-unfolding In AreSame
-same_record [] [] h s x = absurd x
-same_record [] (y ∷ hs) h s x = absurd s
-same_record (r ∷ rs) [] h s x = absurd s
-same_record (r ∷ rs) (y ∷ hs) h s (inl e) = (r, inl refl, subst (IsSame r) e s.0)
-same_record (r ∷ rs) (y ∷ hs) h s (inr x) = let w : (z : Record) × In z rs × IsSame z h = same_record rs hs h s.1 x in (w.0, inr w.1, w.2)
-
 called_in : (k i : ℕ) (q : Request) (rs : List Record) → slice_get (calls_to k rs) i ≡ Some q → (t : Told) × In (Call k q t) rs
 unfolding calls_to In
 called_in k i q [] e = none≢some q e
@@ -255,7 +233,7 @@ asker m entries lists lin none old e q p is = by (below_or (operator_of m) h.cal
     in_history = of_placed m (i + 1) [] (history_at m i) x.0 x.1
 
     asks : (late : Bool) × (h.ask ≡ Act late q)
-    asks = move_asks h.caller x.0.muted h.ask h.answer e.move q (unfold entry_of in move_at x.0.node (move_of h.caller x.0.muted h.ask h.answer) e x.2) (of_move e q is)
+    asks = move_asks h.caller x.0.muted h.ask h.answer e.move q (unfold entry_of in entry_move x.0.node (move_of h.caller x.0.muted h.ask h.answer) e x.2) (of_move e q is)
 
     c : ℕ
     c = h.caller
@@ -267,7 +245,7 @@ asker m entries lists lin none old e q p is = by (below_or (operator_of m) h.cal
     mine = unfold lines_of in in_filter (λ (z : HistoryLine). z.caller == c) h (history_at m i) in_history own
 
     r : (z : Record) × In z (reached (i + 1) (record_of m c)) × IsSame z h
-    r = same_record (reached (i + 1) (record_of m c)) (lines_of c (history_at m i)) h (lists.same i c small (within_in (operator_of m) (history_at m i) h (lists.callers i small) in_history)) mine
+    r = same_in (reached (i + 1) (record_of m c)) (lines_of c (history_at m i)) h (lists.same i c small (within_in (operator_of m) (history_at m i) h (lists.callers i small) in_history)) mine
 
     in_record : In r.0 (record_of m c)
     in_record = let y : In r.0 (record_of m c) × (reaches (i + 1) r.0 ≡ true) = unfold reached in of_filter (reaches (i + 1)) r.0 (record_of m c) r.1 in y.0

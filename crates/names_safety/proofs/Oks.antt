@@ -1,6 +1,6 @@
 -- The Ok answers of a journal round stand in the record of its caller: each with the round's request.
-use Rattle.std.proofs.Common.{◌≡◌, ℕ, zero, suc, ◌+◌, ◌-◌, ◌≤◌, List, [], ◌∷◌, ◌++◌, Bool, true, false, cond, refl, sym, ap, subst, arith, length, ◌⊎◌, inl, inr, take}
-use Rattle.std.specs.Prelude.{Option, Some, None, ◌&&◌, nat_lt, option_map, slice_set}
+use Rattle.std.proofs.Common.{◌≡◌, ℕ, ◌+◌, ◌-◌, ◌≤◌, List, [], ◌∷◌, ◌++◌, Bool, true, false, cond, refl, sym, ap, subst, arith, length, ◌⊎◌, inl, inr, take}
+use Rattle.std.specs.Prelude.{Option, Some, None, ◌&&◌, nat_lt, option_map}
 use Rattle.std.specs.List.{list_any}
 use Rattle.journal_core.specs.Views.{BatchView}
 use Rattle.journal_core.specs.Limits.{max_number}
@@ -29,7 +29,7 @@ use Rattle.node_world.specs.declared.record.Record.{Record}
 use Rattle.node_world.specs.declared.record.Record.TheVariants.{Call}
 use Rattle.node_world.specs.declared.record.Told.{Told}
 use Rattle.node_world.specs.declared.record.Told.TheVariants as told
-use Rattle.node_world.proofs.Slots.{At, IsFresh, to_others_fresh}
+use Rattle.node_world.proofs.Slots.{At, IsFresh, to_others_fresh, At-set}
 use Rattle.mesh.specs.Makers.{heard_of}
 use Rattle.mesh.proofs.Shared.{In}
 use Rattle.mesh.proofs.OrderSigns.{in_left}
@@ -45,17 +45,6 @@ ok_told (told.Reply r) e = cc e
 ok_told told.Dropped e = absurd (cc e)
 ok_told told.Muted e = absurd (cc e)
 ok_told told.Silent e = absurd (cc e)
-
--- a part that was replaced
-At-set : (first place node : ℕ) (xs : List Slot) (y slot : Slot) → At first (slice_set xs place y) node slot → ((node ≡ first + place) × (slot ≡ y)) ⊎ At first xs node slot
-At-set first place node [] y slot a = absurd a
-At-set first zero node (x ∷ xs) y slot (inl a) = inl (omega (arith, a.0), sym a.1)
-At-set first zero node (x ∷ xs) y slot (inr a) = inr (inr a)
-At-set first (suc place) node (x ∷ xs) y slot (inl a) = inr (inl a)
-At-set first (suc place) node (x ∷ xs) y slot (inr a) = elim (At-set (first + 1) place node xs y slot a) [
-  | inl b ↦ inl (omega (arith, b.0), b.1)
-  | inr b ↦ inr (inr b)
-]
 
 -- ## Of a record
 abbrev pub AllOks : List Record → Request → List Slot → Type 0

@@ -39,10 +39,11 @@ use Rattle.node_world.proofs.Served.{served_on_line}
 use Rattle.journal_core.proofs.Steps.{Acted, at_once, by_row, done, acted}
 use Rattle.mesh.specs.declared.whole.Mesh.{Mesh}
 use Rattle.mesh.specs.Agree.{record_of, history_at}
-use Rattle.mesh.specs.Matches.{reaches, reached, lines_of, IsSame, AreSame, IsWithin, AreWithin}
+use Rattle.mesh.specs.Matches.{reaches, reached, lines_of, IsSame, IsWithin, AreWithin}
 use Rattle.mesh.specs.Order.{is_muted, line_of_caller, placed_from, placed_at, entries_at}
 use Rattle.ns_replay.proofs.Splits.{some_is, none≢some}
 use Rattle.mesh.proofs.Shared.{In}
+use Rattle.mesh.proofs.OneOwner.{same_line}
 use Rattle.cluster_runner.specs.Safe.{AllOn}
 use Rattle.names_safety.specs.Linear.{OnLine, ReadsAreOnLine}
 
@@ -295,15 +296,6 @@ of_filter {A} test x (y ∷ xs) i = by (test y) refl i (λ j. of_filter test x x
     by true is (inl s) go = (inl s, ap test (sym s) ∙ is)
     by true is (inr j) go = let r : In x xs × (test x ≡ true) = go j in (inr r.0, r.1)
     by false is j go = let r : In x xs × (test x ≡ true) = go j in (inr r.0, r.1)
-
--- the node's line of a line that reached it
-pub same_line : (rs : List Record) (hs : List HistoryLine) (r : Record) → AreSame rs hs → In r rs → (h : HistoryLine) × In h hs × IsSame r h
-unfolding In AreSame
-same_line [] [] r s x = absurd x
-same_line [] (y ∷ hs) r s x = absurd s
-same_line (z ∷ rs) [] r s x = absurd s
-same_line (z ∷ rs) (y ∷ hs) r s (inl e) = (y, inl refl, subst (λ (w : Record). IsSame w y) e s.0)
-same_line (z ∷ rs) (y ∷ hs) r s (inr x) = let w : (h : HistoryLine) × In h hs × IsSame r h = same_line rs hs r s.1 x in (w.0, inr w.1, w.2)
 
 pub within_in : (n : ℕ) (rs : List Record) (r : Record) → AreWithin n rs → In r rs → IsWithin n r
 unfolding In AreWithin

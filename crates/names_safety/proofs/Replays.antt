@@ -2,6 +2,7 @@
 use Rattle.std.proofs.Common.{◌≡◌, ℕ, zero, suc, ◌+◌, ◌-◌, ◌<◌, List, [], ◌∷◌, ◌++◌, Bool, true, refl, sym, ap, ◌∙◌, subst, arith, length, append_assoc, reverse}
 use Rattle.std.specs.Prelude.{Option, Some, None, slice_get, slice_set}
 use Rattle.std.proofs.lemmas.List.{append-nil}
+use Rattle.std.proofs.lemmas.Option.{slice_get_within}
 use Rattle.journal_core.specs.Views.{HeadView, BatchView}
 use Rattle.journal_core.specs.declared.request.Request.{Request}
 use Rattle.journal_core.specs.declared.request.Request.TheVariants.{Journal, Read}
@@ -9,7 +10,7 @@ use Rattle.journal_core.specs.declared.reply.Reply.{Reply}
 use Rattle.journal_core.specs.declared.reply.Reply.TheVariants as reply
 use Rattle.journal_core.specs.declared.heard.Heard.TheVariants.{Answer}
 use Rattle.ns_replay.specs.Replay.{Image}
-use Rattle.ns_replay.proofs.Splits.{some_is, none≢some}
+use Rattle.ns_replay.proofs.Splits.{some_is}
 use Rattle.writer_core.specs.declared.round.Round.{Round}
 use Rattle.writer_core.specs.declared.round.Round.TheVariants as round
 use Rattle.writer_core.specs.declared.phase.Phase.{Phase}
@@ -205,16 +206,11 @@ actors_hold_replays m entries c a h lists lin below x is = (
     s = subst (λ (z : Holding). Standing (OnLine m entries) z) same g.stands
 
 -- ## At its end
-get_in_range : {A : Type 0} (xs : List A) (k : ℕ) (x : A) → slice_get xs k ≡ Some x → k < length xs
-get_in_range [] k x e = none≢some x e
-get_in_range (y ∷ xs) zero x e = omega arith
-get_in_range (y ∷ xs) (suc k) x e = let rec : k < length xs = get_in_range xs k x e in omega (arith, rec)
-
 pub ends_are_replays : EndsAreReplays
 ends_are_replays m entries lines ends c e lists lin named is = (record { position = h.position; rows = h.space.pairs }, last, (r.0.log, r.0.of_line, r.0.position, (h.space, r.0.replayed, refl)))
   where
     below : c < operator_of m
-    below = let range : c < length ends = get_in_range ends c e is in let many : length ends ≡ operator_of m = named.as_many in omega (arith, range, many)
+    below = let range : c < length ends = slice_get_within ends c e is in let many : length ends ≡ operator_of m = named.as_many in omega (arith, range, many)
 
     f : Follows true m.nodes (deeds_of c lines) (record_of m c) (plan_of m c) e
     f = named.follows.actors c e below is

@@ -11,7 +11,7 @@ use Rattle.journal_core.specs.Segments.{find_segment, newest, info_of}
 use Rattle.journal_core.specs.Limits.{head_of}
 use Rattle.journal_core.specs.Effects.{Promise, NewSegment, MakeFinal, Replace, Remove, Commit, WriterEpoch}
 use Rattle.journal_core.specs.Places.{is_old}
-use Rattle.journal_core.specs.Step.{row_refused, row_effects, refused_at_once, fronted, effects_of, effects_unless, effects_behind, front_effects, is_final_one, finalize_refused}
+use Rattle.journal_core.specs.Step.{row_refused, row_effects, refused_at_once, fronted, effects_of, effects_behind, front_effects, is_final_one, finalize_refused}
 use Rattle.segment_file.specs.declared.segment_row.SegmentRow.{SegmentRow}
 use Rattle.segment_file.specs.Rows.{find_row}
 use Rattle.segment_file.specs.Opened.{AreInfos, AreStarts}
@@ -23,6 +23,7 @@ use Rattle.node_deeds.specs.Table.{refusal_of, front_deeds, start_deeds, final_d
 use Rattle.node_deeds.specs.Due.{effect_of}
 use Rattle.node_deeds.proofs.ToldLaws.{IsTold, found, start_told, edit_told, last_told, newest_told}
 use Rattle.node_deeds.proofs.RefusalLaws.{refusal_same}
+use Rattle.node_deeds.proofs.StepLaws.{unless_none}
 
 front_same : (m : NodeState) (r : Request) (h : Option HeadView) → map (effect_of r) (front_deeds m h) ≡ front_effects m h
 front_same m r None = refl
@@ -101,9 +102,6 @@ behind_same : (m : NodeState) (r : Request) (gs : List Segment) (rows : List Seg
     → AreDeedsBehind m rows r o deeds → map (effect_of r) deeds ≡ effects_behind (state_with m gs) r o
 behind_same m r gs rows (Some refusal) ds t e are = ap (map (effect_of r)) are
 behind_same m r gs rows None ds t e are = row_same m r gs rows ds t (sym e) are
-
-unless_none : (s : NodeState) (r : Request) (o : Option Refusal) → o ≡ None → effects_unless s r o ≡ front_effects s (head_of r) ++ effects_behind (fronted s r) r (row_refused (fronted s r) r)
-unless_none s r o e = rw e refl
 
 -- the deed of the front and those behind it have the effects of the request
 pub effects_same : (m : NodeState) (r : Request) (gs : List Segment) (rows : List SegmentRow) (front rest : List Deed) → Tells gs rows → refused_at_once m r ≡ None

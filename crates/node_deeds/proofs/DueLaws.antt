@@ -10,9 +10,12 @@ use Rattle.journal_core.specs.declared.request.Request.{Request}
 use Rattle.journal_core.specs.declared.request.Request.TheVariants.{State, NewEpoch, Start, Journal, Finalize, Prepare, Fetch, Accept, Purge, Read, Manifest}
 use Rattle.journal_core.specs.Segments.{find_segment, remove_segment, has_edit, any_body, end_of}
 use Rattle.journal_core.specs.Limits.{head_of, limit_of, max_number}
-use Rattle.journal_core.specs.Step.{row_refused, fronted, front_known, start_refused, journal_refused, open_refused, bodies_in, finalize_refused}
+use Rattle.journal_core.specs.Step.{row_refused, fronted, front_known, start_refused, journal_refused, bodies_in, finalize_refused}
 use Rattle.journal_core.specs.Cuts.{has_record_of}
 use Rattle.journal_core.proofs.SegmentLists.{find-start, find-remove_other}
+use Rattle.journal_core.proofs.Steps.{test_passed}
+use Rattle.journal_core.proofs.Within.{first_is}
+use Rattle.journal_core.proofs.Stored.{some_body}
 use Rattle.segment_file.specs.declared.segment_row.SegmentRow.{SegmentRow}
 use Rattle.segment_file.specs.Rows.{find_row, remove_row, newest_row, RowsAbove, RowsRise}
 use Rattle.segment_file.specs.Calls.{NotFinal, HasNoEdit}
@@ -46,14 +49,6 @@ start_due m h start gs rows fits s e none =
     [ true ↦ (begin, λ place. tt) | false ↦ (within.1, λ place. (begin, λ place. tt)) ]
 
 -- ## Journal
-open_first : (o : Option ℕ) (start first expected : ℕ) → open_refused o start first expected ≡ None → first ≡ expected
-open_first None start first expected h = absurd (cc)
-open_first (Some opened) start first expected h = grind (arith, nat_tests)
-
-by_owner : (b : Bool) (o : Option Refusal) (refusal : Refusal) → cond b o (Some refusal) ≡ None → o ≡ None
-by_owner true o refusal h = h
-by_owner false o refusal h = absurd (cc)
-
 append_by : (start : ℕ) (b : BatchView) (gs : List Segment) (rows : List SegmentRow) (row : SegmentRow) (o : Option Segment) → find_segment start gs ≡ o → IsTold o (Some row)
     → find_row start rows ≡ Some row → row.info.is_final ≡ false → row.whole_length < max_number → b.first ≡ start + bodies_in o → last_txid b ≤ max_number
     → IsAppendDue start row.whole_length b gs rows
@@ -76,7 +71,7 @@ journal_due : (m : NodeState) (h : HeadView) (start : ℕ) (b : BatchView) (gs :
     → limit_of (Journal h start b) ≡ None → journal_refused (state_with m gs) h start b ≡ None → AreAppend start rows deeds → AreDue gs rows (Journal h start b) deeds
 journal_due m h start b gs rows deeds t fits none are =
     let within = journal_fits h start b fits in
-    let next : b.first ≡ start + bodies_in (find_segment start gs) = open_first m.opened start b.first _ (by_owner (m.writer == h.epoch) _ _ none) in
+    let next : b.first ≡ start + bodies_in (find_segment start gs) = first_is m.opened start b.first _ (test_passed (m.writer == h.epoch) _ _ none) in
     let told : IsTold (find_segment start gs) (Some are.row) = subst (λ p. IsTold (find_segment start gs) p) are.known (found gs rows start t) in
     let due : IsAppendDue start are.row.whole_length b gs rows = append_by start b gs rows are.row (find_segment start gs) refl told are.known are.in_progress are.small next within.1 in
     subst (λ ds. AreDue gs rows (Journal h start b) ds) (sym are.deeds_are) (due, λ place. tt)
@@ -84,10 +79,6 @@ journal_due m h start b gs rows deeds t fits none are =
 -- ## Finalize
 finalize_tells : (epoch end : ℕ) (g : Segment) → finalize_refused epoch end (Some g) ≡ None → (has_edit g ≡ true) × (end_of g ≡ end)
 finalize_tells epoch end g h = (grind (arith, nat_tests), grind (arith, nat_tests))
-
-some_body : (xs : List (List ℕ)) → any_body xs ≡ true → 0 < length xs
-some_body [] h = absurd (cc)
-some_body (x ∷ xs) h = omega arith
 
 final_by : (start end epoch : ℕ) (gs : List Segment) (g : Segment) (row : SegmentRow) → find_segment start gs ≡ Some g → IsTold (Some g) (Some row) → row.info.is_final ≡ false
     → finalize_refused epoch end (Some g) ≡ None → start ≤ max_number → end ≤ max_number → IsFinalizeDue start end row.info.accepted gs
@@ -231,7 +222,7 @@ front_due m r None gs rows rest f due = due
 front_due m r (Some h) gs rows rest f due =
     elim (nat_lt m.promised h.epoch) as (λ b. AreDue gs rows r (cond b (deed.Number Promised h.epoch ∷ []) [] ++ rest)) [ true ↦ (f.0, λ place. due) | false ↦ due ]
 
-known_fits : (known : ℕ) (h : Option HeadView) → IsHeadWithin h → known ≤ max_number → front_known known h ≤ max_number
+pub known_fits : (known : ℕ) (h : Option HeadView) → IsHeadWithin h → known ≤ max_number → front_known known h ≤ max_number
 known_fits known None f k = k
 known_fits known (Some h) f k = omega (arith, f.1)
 

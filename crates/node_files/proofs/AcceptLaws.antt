@@ -1,7 +1,7 @@
 -- What an acceptance asks and keeps.
 use Rattle.std.proofs.Common.{inl, inr, ◌≡◌, ◌≢◌, ℕ, List, [], ◌∷◌, ap, sym, ◌∙◌, refl, subst, ◌^◌, ◌≤◌, ◌==◌, Bool, true, false}
 use Rattle.std.specs.Prelude.{◌&&◌, Option, Some, None, IsSome, Result, OnOk}
-use Rattle.std.proofs.lemmas.Bool.{cases_eq, eqb-true, eq-eqb}
+use Rattle.std.proofs.lemmas.Bool.{cases_eq, eqb-true, eq-eqb, and_parts}
 use Rattle.std.proofs.lemmas.Result.{on_ok_weaker}
 use Rattle.qj_disk.specs.Files.{Files}
 use Rattle.qj_disk.specs.View.{View, IsSound}
@@ -16,16 +16,12 @@ use Rattle.segment_file.specs.Names.{Kind, InProgress, Record, UnderWay, Fresh, 
 use Rattle.segment_file.specs.Stands.{HasEpoch}
 use Rattle.segment_file.specs.Effects.{Touches}
 use Rattle.segment_file.specs.Calls.{NotFinal, CanReplace, CanReplaceAgain}
-use Rattle.segment_file.proofs.AcceptLemmas.{one_epoch}
+use Rattle.segment_file.proofs.OpenFiles.{one_epoch}
 use Rattle.node_files.specs.Durable.{HoldsState}
 use Rattle.node_files.specs.Deeds.{CanAccept, IsCutAt}
 use Rattle.node_files.proofs.Names.{fronts_apart, outside_other}
 use Rattle.node_files.proofs.Lists.{any_some}
 use Rattle.node_files.proofs.OneCall.{Kept, kept_put, accepted_epoch, on_ok_always}
-
-both_true : (x y : Bool) → (x && y) ≡ true → (x ≡ true) × (y ≡ true)
-both_true true y is = (refl, is)
-both_true false y is = let p : false ≡ true = is in absurd (cc)
 
 module _ (epoch : ℕ) (b : BatchView) (first : 1 ≤ b.first) (small : b.first ≤ 2 ^ 62) (v : View) (sound : IsSound v) (s : NodeState) (holds : HoldsState v s) where
   -- a record that a crash leaves is there
@@ -53,7 +49,7 @@ module _ (epoch : ℕ) (b : BatchView) (first : 1 ≤ b.first) (small : b.first 
       by : (held : Option Segment) → find_segment b.first s.segments ≡ held → (g : Segment) × CanReplaceAgain epoch b s.segments v g
       by None none = let p : true ≡ false = sym is ∙ can.told ∙ ap (λ (held : Option Segment). has_record_of epoch held) none in absurd (cc)
       by (Some g) known =
-          let yes = both_true g.accepted (g.epoch == epoch) (sym (ap (λ (held : Option Segment). has_record_of epoch held) known) ∙ sym can.told ∙ is) in (
+          let yes = and_parts g.accepted (g.epoch == epoch) (sym (ap (λ (held : Option Segment). has_record_of epoch held) known) ∙ sym can.told ∙ is) in (
             g,
             record {
               known = known;

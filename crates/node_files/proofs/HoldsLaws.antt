@@ -16,6 +16,7 @@ use Rattle.segment_file.specs.Effects.{AppendsAt}
 use Rattle.segment_file.proofs.FileBytes.{gate_shut}
 use Rattle.segment_file.proofs.Single.{plain_here}
 use Rattle.segment_file.proofs.PlacedLaws.{before_all}
+use Rattle.segment_file.proofs.EffectLaws.{none_is_not}
 use Rattle.node_files.specs.declared.node_number.NodeNumber.{NodeNumber}
 use Rattle.node_files.specs.declared.node_number.NodeNumber.TheVariants.{Promised, Writer, Committed}
 use Rattle.node_files.specs.Durable.{number_name, number_of, HaveNumbers, StandsAs, HoldsState}
@@ -50,10 +51,6 @@ no_segments c none = record {
 pub fresh_stands : (c : Files) → ((name : List ℕ) → c name ≡ None) → StandsAs c fresh_state
 fresh_stands c none = record { numbers = fresh_numbers c none; segments = no_segments c none }
 
-none_some : (x : Option (List ℕ)) → x ≡ None → IsSome x → ⊥
-none_some None is some = absurd (cc)
-none_some (Some y) is some = absurd (cc)
-
 pub fresh_holds : (v : View) → IsSound v → ((name : List ℕ) → v.seen name ≡ None) → HoldsState v fresh_state
 fresh_holds v sound none = record {
   numbers = λ c left. fresh_numbers c (λ name. sound.absent name c (none name) left);
@@ -66,7 +63,7 @@ fresh_holds v sound none = record {
   };
   starts = tt;
   filled = tt;
-  records = record { accepted = λ start first small there. absurd (none_some (v.seen (name_of start Record)) (none (name_of start Record)) there) };
+  records = record { accepted = λ start first small there. absurd (none_is_not (v.seen (name_of start Record)) (none (name_of start Record)) there) };
   none_temporary = λ n. none _;
   none_fresh_record = λ start first small. none _;
 }

@@ -1,5 +1,5 @@
 -- What each effect keeps of a list of segments: its starts, and that accepted segments hold an edit.
-use Rattle.std.proofs.Common.{◌≡◌, ◌≢◌, ℕ, ◌≤◌, ◌^◌, ◌==◌, true, false, List, [], ◌∷◌, ◌++◌, refl, subst, cond, nat_lt}
+use Rattle.std.proofs.Common.{◌≡◌, ◌≢◌, ℕ, ◌≤◌, ◌^◌, ◌==◌, true, List, [], ◌∷◌, refl, subst, cond, nat_lt}
 use Rattle.std.specs.Prelude.{Some}
 use Rattle.std.proofs.lemmas.Bool.{cond_both}
 use Rattle.journal_core.specs.declared.segment.Segment.{Segment}
@@ -52,11 +52,6 @@ starts_of start [] g are known = absurd (cc)
 starts_of start (h ∷ gs) g are known =
     cond_both (h.start == start) (Some h) (find_segment start gs) (λ held. held ≡ Some g → (1 ≤ g.start) × (g.start ≤ 2 ^ 62))
     (λ t is. let same : h ≡ g = cc in subst (λ (s : Segment). (1 ≤ s.start) × (s.start ≤ 2 ^ 62)) same are.0) (λ t is. starts_of start gs g are.1 is) known
-
--- bodies behind others
-pub any_longer : (xs ys : List (List ℕ)) → any_body xs ≡ true → any_body (xs ++ ys) ≡ true
-any_longer [] ys any = let p : false ≡ true = any in absurd (cc)
-any_longer (x ∷ xs) ys any = refl
 
 pub any_some : (xs : List (List ℕ)) → xs ≢ [] → any_body xs ≡ true
 any_some [] ne = absurd (ne refl)

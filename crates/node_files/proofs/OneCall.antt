@@ -21,6 +21,7 @@ use Rattle.segment_file.specs.Calls.{HasNoEdit, HasOtherEpoch}
 use Rattle.node_files.specs.declared.node_number.NodeNumber.{NodeNumber}
 use Rattle.node_files.specs.declared.node_number.NodeNumber.TheVariants.{Promised, Writer, Committed}
 use Rattle.segment_file.specs.Opened.{OnlyAccepted, AreStarts}
+use Rattle.segment_file.proofs.EffectLaws.{none_is_not}
 use Rattle.node_files.specs.Durable.{number_name, number_of, HaveNumbers, StandsAs, AreFilled, HoldsState}
 use Rattle.node_files.specs.Deeds.{Does, IsCutAt, KeepsOthers}
 use Rattle.node_files.proofs.Names.{number_other, temporary_other, outside_all, outside_other}
@@ -122,10 +123,6 @@ pub on_ok_always : {T E : Type 0} (r : Result T E) (P : Type 0) → P → OnOk r
 on_ok_always (Ok x) P fact = fact
 on_ok_always (Err e) P fact = tt
 
-none_some : (x : Option (List ℕ)) → x ≡ None → IsSome x → ⊥
-none_some None is some = absurd (cc)
-none_some (Some y) is some = absurd (cc)
-
 module _ (start : ℕ) (first : 1 ≤ start) (small : start ≤ 2 ^ 62) (v0 v1 : View) (s : NodeState) (holds : HoldsState v0 s)
     (stays : (other : ℕ) → other ≤ 2 ^ 62 → other ≢ start → v1.seen (name_of other Record) ≡ v0.seen (name_of other Record))
     (fresh : (other : ℕ) → 1 ≤ other → other ≤ 2 ^ 62 → v1.seen (name_of other FreshRecord) ≡ None) where
@@ -151,7 +148,7 @@ module _ (start : ℕ) (first : 1 ≤ start) (small : start ≤ 2 ^ 62) (v0 v1 :
     filled = filled_remove start s.segments holds.filled;
     records = record {
       accepted = λ other first_other small_other there. elim (cases_eq other start) [
-        | inl is ↦ absurd (none_some (v1.seen (name_of start Record)) gone (subst (λ (m : ℕ). IsSome (v1.seen (name_of m Record))) is there))
+        | inl is ↦ absurd (none_is_not (v1.seen (name_of start Record)) gone (subst (λ (m : ℕ). IsSome (v1.seen (name_of m Record))) is there))
         | inr ne ↦ let was = holds.records.accepted other first_other small_other (subst IsSome (stays other small_other ne) there) in
             (was.0, find-remove_other other start s.segments (λ same. ne (sym same)) ∙ was.1, was.2)
       ];

@@ -1,5 +1,5 @@
 -- Where a line ends, and lines behind one another.
-use Rattle.std.proofs.Common.{ℕ, ◌≡◌, ◌≢◌, ◌<◌, ◌≤◌, ◌+◌, List, [], ◌∷◌, ◌++◌, length, true, ◌==◌, sym, ap, arith, ◌∙◌, append-nil, take, drop, get_or, inl, inr, suc, subst, length-append}
+use Rattle.std.proofs.Common.{ℕ, ◌≡◌, ◌≢◌, ◌<◌, ◌≤◌, ◌+◌, List, [], ◌∷◌, ◌++◌, length, true, ◌==◌, sym, ap, arith, ◌∙◌, append-nil, take, drop, get_or, inl, inr, suc, subst}
 use Rattle.std.proofs.Math.Seq.{take-add}
 use Rattle.std.proofs.lemmas.Bool.Decides.{eqb_tells}
 use Rattle.std.proofs.lemmas.List.{take-append-drop, get_or-take, length-take-le}
@@ -50,6 +50,3 @@ lines_text_more lines line =
 pub lines_more : (lines : List (List ℕ)) (line : List ℕ) → AreLines lines → IsLine line → length line ≤ longest_line → AreLines (lines ++ line ∷ [])
 lines_more [] line h one short = (one, short, tt)
 lines_more (l ∷ ls) line h one short = (h.0, h.1, lines_more ls line h.2 one short)
-
-pub length_more : (lines : List (List ℕ)) (line : List ℕ) → length (lines ++ line ∷ []) ≡ length lines + 1
-length_more lines line = omega (arith, length-append lines (line ∷ []))

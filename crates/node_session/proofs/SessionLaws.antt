@@ -1,6 +1,7 @@
 -- A session so far.
 use Rattle.std.proofs.Common.{ℕ, ◌≡◌, ◌≤◌, ◌+◌, List, [], ◌∷◌, ◌++◌, length, Option, Some, None, refl, sym, ap, ◌∙◌, arith, append_assoc, subst, length-append}
 use Rattle.std.proofs.KnownBytes.{Appends-nil, Appends-trans, prepend_known-nil}
+use Rattle.std.proofs.lemmas.List.{length_push}
 use Rattle.std.specs.Io.KnownBytes.{Appends, prepend_known}
 use Rattle.journal_core.specs.declared.node_state.NodeState.{NodeState}
 use Rattle.journal_core.specs.Step.{node_step}
@@ -8,7 +9,7 @@ use Rattle.node_session.specs.Lines.{longest_line, IsLine, AreLines, lines_text}
 use Rattle.node_session.specs.Reader.{LineReaderView, to_come, TakesLine}
 use Rattle.node_session.specs.Session.{AreAnswered, Asks}
 use Rattle.node_session.specs.Answering.{reply_line, IsServedOf}
-use Rattle.node_session.proofs.LineLaws.{lines_text_more, lines_more, length_more}
+use Rattle.node_session.proofs.LineLaws.{lines_text_more, lines_more}
 use Rattle.node_session.proofs.AnswerLaws.{answered_more}
 
 -- these lines were taken from the input's front and answered, and their replies written; the rest is still to come
@@ -76,7 +77,7 @@ served_more lines told rest behind line old now new before written after taken n
       text = s.text ++ reply_line now a.request;
       answered = subst P (sym a.so.0) (answered_more old now lines line s.text a.request s.answered a.reads);
       wrote = Appends-trans before written after s.text (reply_line now a.request) s.wrote a.so.1;
-      counted = omega (arith, s.counted, length_more lines line);
+      counted = omega (arith, s.counted, length_push lines line);
     }
 
 -- a line was taken, answered, and its reply written

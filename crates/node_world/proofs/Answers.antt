@@ -8,6 +8,7 @@ use Rattle.journal_core.specs.declared.segment_info.SegmentInfo.{SegmentInfo}
 use Rattle.journal_core.specs.declared.reply.Reply.{Reply}
 use Rattle.journal_core.specs.declared.reply.Reply.TheVariants.{Ok, State as StateTold, NewEpoch as EpochTaken, Prepared, Edits, Segments, Refused}
 use Rattle.journal_core.specs.declared.heard.Heard.TheVariants.{Answer, Silent}
+use Rattle.journal_core.proofs.Stored.{some_body}
 use Rattle.writer_core.specs.declared.round.Round.{Round as TableRound}
 use Rattle.writer_core.specs.declared.round.Round.TheVariants as table
 use Rattle.writer_core.specs.declared.phase.Phase.TheVariants as phase
@@ -220,10 +221,6 @@ record TaskNext (x : WriterView) (next : Underway) : Type 0 where
   next_is : next.writer.next ≡ x.next
   is : ((bodies : List (List ℕ)) × (next.round ≡ table.Write bodies) × (1 ≤ length bodies)) ⊎ ((min : ℕ) × (next.round ≡ table.Purge min))
 
-any_long : (xs : List (List ℕ)) → any_body xs ≡ true → 1 ≤ length xs
-any_long [] e = true≢false (sym e)
-any_long (x ∷ xs) e = omega arith
-
 task_next : (x : WriterView) (tasks : List Task) (next : Underway) → list_all may_follow tasks ≡ true → next_task (record x { phase = phase.Writing }) tasks ≡ Some next → TaskNext x next
 unfolding next_task writer_begun
 task_next x [] next ok e = none≢some next e
@@ -248,7 +245,7 @@ task_next x (task.Log bodies ∷ tasks) next ok e = go (log_limit (record x { ph
       committed = refl;
       start = refl;
       next_is = refl;
-      is = inl (bodies, refl, any_long bodies p.0);
+      is = inl (bodies, refl, omega (arith, some_body bodies p.0));
     })
 task_next x (task.Roll ∷ tasks) next ok e = subst (λ z. TaskNext x z) (some_same e) (record {
   epoch = refl;

@@ -12,9 +12,6 @@ use Rattle.node_world.proofs.SeenLaws.{Round, Propose, Ask, Get, Recover, Seal, 
 use Rattle.node_world.proofs.Frames.{Newest, Counted, Getting, Framed, Frame, IsWriting, IsAsking, more_pieces, StepOf, asks_for, opens_at_one, opens_found_none, gets, gets_more, recovers, seals_recovered, opens_next, writes_first, seals_written, goes_on}
 use Rattle.node_world.proofs.Rounds.{Comes, comes, frame}
 
-to : {A : Type 0} (P : A → Type 0) {x y : A} → x ≡ y → P x → P y
-to P e p = subst P e p
-
 -- ## The stages of a takeover
 -- proposed, asked, recovering, recovered, and then segment by segment
 abbrev pub stage : Round → ℕ
@@ -123,7 +120,7 @@ opened_from n t s w next m (asks_for k is o e) q = let no : Open m ≡ Ask k = s
 opened_from n t s w next m (opens_at_one is o e) q = let same : Open m ≡ Open 1 = sym q ∙ e in at_one is o cc
 opened_from n t s w next m (opens_found_none k slots a c o e) q =
     let same : Open m ≡ Open k = sym q ∙ e in let one : k ≡ m = cc in
-    found_none slots (to (λ z. IsAsking z w.round) one a) (to (λ z. Counted n t z slots) one c) (to (λ z. best_of z slots ≡ None) one o)
+    found_none slots (subst (λ z. IsAsking z w.round) one a) (subst (λ z. Counted n t z slots) one c) (subst (λ z. best_of z slots ≡ None) one o)
 opened_from n t s w next m (gets k node end slots a g e) q = let no : Open m ≡ Get node k end [] = sym q ∙ e in cc
 opened_from n t s w next m (gets_more k node end bodies batch slots is h g e) q = let no : Open m ≡ Get node k end (more_pieces k end bodies batch) = sym q ∙ e in cc
 opened_from n t s w next m (recovers k node end bodies batch slots is h g lt e) q = let no : Open m ≡ Recover (batch_from k (more_pieces k end bodies batch)) = sym q ∙ e in cc
@@ -131,7 +128,7 @@ opened_from n t s w next m (seals_recovered b is e) q = let no : Open m ≡ Seal
 opened_from n t s w next m (opens_next k l is e) q = let same : Open m ≡ Open (l + 1) = sym q ∙ e in after_seal_of k l is cc
 opened_from n t s w next m (writes_first k is e st co) q = let no : Open m ≡ Write k (batch_from k start_record) = sym q ∙ e in cc
 opened_from n t s w next m (seals_written k b is e) q = let no : Open m ≡ Seal w.start (last_txid b) = sym q ∙ e in cc
-opened_from n t s w next m (goes_on a b st co) q = absurd (to (λ r. IsWriting r) q b)
+opened_from n t s w next m (goes_on a b st co) q = absurd (subst (λ r. IsWriting r) q b)
 
 pub open_before : (n : ℕ) (t : Takeover) (s : ℕ) (w : Writer) (m : ℕ) → (c : Comes n t s w) → w.round ≡ Open m → OpenedBy n t s c.writer m
 open_before n t s w m c q = opened_from n t s c.writer w m c.step q
@@ -163,7 +160,7 @@ recovered_from n t s w next b (seals_recovered k is e) q = let no : Recover b �
 recovered_from n t s w next b (opens_next k l is e) q = let no : Recover b ≡ Open (l + 1) = sym q ∙ e in cc
 recovered_from n t s w next b (writes_first k is e st co) q = let no : Recover b ≡ Write k (batch_from k start_record) = sym q ∙ e in cc
 recovered_from n t s w next b (seals_written k x is e) q = let no : Recover b ≡ Seal w.start (last_txid x) = sym q ∙ e in cc
-recovered_from n t s w next b (goes_on a x st co) q = absurd (to (λ r. IsWriting r) q x)
+recovered_from n t s w next b (goes_on a x st co) q = absurd (subst (λ r. IsWriting r) q x)
 
 pub recover_before : (n : ℕ) (t : Takeover) (s : ℕ) (w : Writer) (b : BatchView) → (c : Comes n t s w) → w.round ≡ Recover b → RecoveredBy n t s c.writer b
 recover_before n t s w b c q = recovered_from n t s c.writer w b c.step q
@@ -179,7 +176,7 @@ got_from n t s w next node m end pieces (opens_at_one is o e) q = let no : Get n
 got_from n t s w next node m end pieces (opens_found_none k slots a c o e) q = let no : Get node m end pieces ≡ Open k = sym q ∙ e in cc
 got_from n t s w next node m end pieces (gets k node2 end2 slots a g e) q =
     let same : Get node m end pieces ≡ Get node2 k end2 [] = sym q ∙ e in
-    let at : k ≡ m = cc in let none : pieces ≡ [] = cc in nothing_yet (to (λ z. IsAsking z w.round) at a) none
+    let at : k ≡ m = cc in let none : pieces ≡ [] = cc in nothing_yet (subst (λ z. IsAsking z w.round) at a) none
 got_from n t s w next node m end pieces (gets_more k node2 end2 bodies batch slots is h g e) q =
     let same : Get node m end pieces ≡ Get node2 k end2 (more_pieces k end2 bodies batch) = sym q ∙ e in
     let a : node2 ≡ node = cc in let b : k ≡ m = cc in let c : end2 ≡ end = cc in let d : pieces ≡ more_pieces k end2 bodies batch = cc in
@@ -190,14 +187,14 @@ got_from n t s w next node m end pieces (seals_recovered k is e) q = let no : Ge
 got_from n t s w next node m end pieces (opens_next k l is e) q = let no : Get node m end pieces ≡ Open (l + 1) = sym q ∙ e in cc
 got_from n t s w next node m end pieces (writes_first k is e st co) q = let no : Get node m end pieces ≡ Write k (batch_from k start_record) = sym q ∙ e in cc
 got_from n t s w next node m end pieces (seals_written k x is e) q = let no : Get node m end pieces ≡ Seal w.start (last_txid x) = sym q ∙ e in cc
-got_from n t s w next node m end pieces (goes_on a x st co) q = absurd (to (λ r. IsWriting r) q x)
+got_from n t s w next node m end pieces (goes_on a x st co) q = absurd (subst (λ r. IsWriting r) q x)
 
 pub got_before : (n : ℕ) (t : Takeover) (s : ℕ) (w : Writer) (node m end : ℕ) (pieces : List (List ℕ)) → (c : Comes n t s w) → w.round ≡ Get node m end pieces → GotBy n t s c.writer node m end pieces
 got_before n t s w node m end pieces c q = got_from n t s c.writer w node m end pieces c.step q
 
 -- before a prepare
 asked_from : (n : ℕ) (t : Takeover) (s : ℕ) (w next : Writer) (m : ℕ) → StepOf n t s w next → next.round ≡ Ask m → (w.round ≡ Propose) × Newest n (t.heard s) (Some m)
-asked_from n t s w next m (asks_for k is o e) q = let same : Ask m ≡ Ask k = sym q ∙ e in let one : k ≡ m = cc in (is, to (λ z. Newest n (t.heard s) (Some z)) one o)
+asked_from n t s w next m (asks_for k is o e) q = let same : Ask m ≡ Ask k = sym q ∙ e in let one : k ≡ m = cc in (is, subst (λ z. Newest n (t.heard s) (Some z)) one o)
 asked_from n t s w next m (opens_at_one is o e) q = let no : Ask m ≡ Open 1 = sym q ∙ e in cc
 asked_from n t s w next m (opens_found_none k slots a c o e) q = let no : Ask m ≡ Open k = sym q ∙ e in cc
 asked_from n t s w next m (gets k node end slots a g e) q = let no : Ask m ≡ Get node k end [] = sym q ∙ e in cc
@@ -207,7 +204,7 @@ asked_from n t s w next m (seals_recovered k is e) q = let no : Ask m ≡ Seal k
 asked_from n t s w next m (opens_next k l is e) q = let no : Ask m ≡ Open (l + 1) = sym q ∙ e in cc
 asked_from n t s w next m (writes_first k is e st co) q = let no : Ask m ≡ Write k (batch_from k start_record) = sym q ∙ e in cc
 asked_from n t s w next m (seals_written k x is e) q = let no : Ask m ≡ Seal w.start (last_txid x) = sym q ∙ e in cc
-asked_from n t s w next m (goes_on a x st co) q = absurd (to (λ r. IsWriting r) q x)
+asked_from n t s w next m (goes_on a x st co) q = absurd (subst (λ r. IsWriting r) q x)
 
 pub ask_before : (n : ℕ) (t : Takeover) (s : ℕ) (w : Writer) (m : ℕ) → (c : Comes n t s w) → w.round ≡ Ask m → (c.writer.round ≡ Propose) × Newest n (t.heard s) (Some m)
 ask_before n t s w m c q = asked_from n t s c.writer w m c.step q
@@ -222,7 +219,7 @@ ask_round n t (suc s) w m e is =
 
 -- while a segment is asked for or fetched, it was asked for in the second round
 pub asked_at : (n : ℕ) (t : Takeover) (s : ℕ) (w : Writer) (m : ℕ) → seen_at n t s ≡ Some w → IsAsking m w.round → (x : Writer) × (seen_at n t 1 ≡ Some x) × (x.round ≡ Ask m) × (1 ≤ s)
-asked_at n t zero w m e a = absurd (to (λ r. IsAsking m r) (seen_first n t w e).0 a)
+asked_at n t zero w m e a = absurd (subst (λ r. IsAsking m r) (seen_first n t w e).0 a)
 asked_at n t (suc s) w m e a = by w.round refl a (λ v at b. asked_at n t s v m at b)
   where
     c : Comes n t s w
@@ -231,12 +228,12 @@ asked_at n t (suc s) w m e a = by w.round refl a (λ v at b. asked_at n t s v m 
     by : (r : Round) → w.round ≡ r → IsAsking m r → ((v : Writer) → seen_at n t s ≡ Some v → IsAsking m v.round → (x : Writer) × (seen_at n t 1 ≡ Some x) × (x.round ≡ Ask m) × (1 ≤ s)) → (x : Writer) × (seen_at n t 1 ≡ Some x) × (x.round ≡ Ask m) × (1 ≤ suc s)
     by (Ask k) is b again =
         (let one : suc s ≡ 1 = ask_round n t (suc s) w k e is in
-        (w, to (λ z. seen_at n t z ≡ Some w) one e, is ∙ ap (λ z. Ask z) b, omega arith))
+        (w, subst (λ z. seen_at n t z ≡ Some w) one e, is ∙ ap (λ z. Ask z) b, omega arith))
     by (Get node k end pieces) is b again = got (got_before n t s w node k end pieces c is)
       where
         got : GotBy n t s c.writer node k end pieces → (x : Writer) × (seen_at n t 1 ≡ Some x) × (x.round ≡ Ask m) × (1 ≤ suc s)
-        got (nothing_yet asking none) = (let y = again c.writer c.at (to (λ z. IsAsking z c.writer.round) b asking) in (y.0, y.1, y.2, omega arith))
-        got (one_more old batch before h more) = (let y = again c.writer c.at (to (λ z. IsAsking m z) (sym before) b) in (y.0, y.1, y.2, omega arith))
+        got (nothing_yet asking none) = (let y = again c.writer c.at (subst (λ z. IsAsking z c.writer.round) b asking) in (y.0, y.1, y.2, omega arith))
+        got (one_more old batch before h more) = (let y = again c.writer c.at (subst (λ z. IsAsking m z) (sym before) b) in (y.0, y.1, y.2, omega arith))
     by Propose is b again = absurd b
     by (Recover x) is b again = absurd b
     by (Seal k l) is b again = absurd b
@@ -263,9 +260,9 @@ sealed_from n t s w next m l f (writes_first k is e st co) q = let no : Seal m l
 sealed_from n t s w next m l f (seals_written k b is e) q =
     let same : Seal m l ≡ Seal w.start (last_txid b) = sym q ∙ e in
     let start : m ≡ w.start = cc in
-    let own : w.start ≡ k = (to (λ r. Framed w r) is f).1 in
+    let own : w.start ≡ k = (subst (λ r. Framed w r) is f).1 in
     a_write b (is ∙ ap (λ z. Write z b) (sym (start ∙ own))) (sym start) cc
-sealed_from n t s w next m l f (goes_on a x st co) q = absurd (to (λ r. IsWriting r) q x)
+sealed_from n t s w next m l f (goes_on a x st co) q = absurd (subst (λ r. IsWriting r) q x)
 
 pub seal_before : (n : ℕ) (t : Takeover) (s : ℕ) (w : Writer) (m l : ℕ) → (c : Comes n t s w) → w.round ≡ Seal m l → SealedBy c.writer m l
 seal_before n t s w m l c q = sealed_from n t s c.writer w m l (frame n t s c.writer c.at) c.step q
@@ -293,15 +290,15 @@ more_writes n t opened s start w at writing is old = λ k x lt le e. elim (cases
 
 opened_by : (n : ℕ) (t : Takeover) (s : ℕ) (w : Writer) → seen_at n t (suc s) ≡ Some w → (c : Comes n t s w) → IsWriting w.round →
     (IsWriting c.writer.round → OpenedAt n t s c.writer.start) → StepOf n t s c.writer w → OpenedAt n t (suc s) w.start
-opened_by n t s w at c writing ih (asks_for k is o e) = absurd (to (λ z. IsWriting z) e writing)
-opened_by n t s w at c writing ih (opens_at_one is o e) = absurd (to (λ z. IsWriting z) e writing)
-opened_by n t s w at c writing ih (opens_found_none k slots a c2 o e) = absurd (to (λ z. IsWriting z) e writing)
-opened_by n t s w at c writing ih (gets k node end slots a g e) = absurd (to (λ z. IsWriting z) e writing)
-opened_by n t s w at c writing ih (gets_more k node end bodies batch slots is h g e) = absurd (to (λ z. IsWriting z) e writing)
-opened_by n t s w at c writing ih (recovers k node end bodies batch slots is h g lt e) = absurd (to (λ z. IsWriting z) e writing)
-opened_by n t s w at c writing ih (seals_recovered b is e) = absurd (to (λ z. IsWriting z) e writing)
-opened_by n t s w at c writing ih (opens_next k l is e) = absurd (to (λ z. IsWriting z) e writing)
-opened_by n t s w at c writing ih (seals_written k b is e) = absurd (to (λ r. IsWriting r) e writing)
+opened_by n t s w at c writing ih (asks_for k is o e) = absurd (subst (λ z. IsWriting z) e writing)
+opened_by n t s w at c writing ih (opens_at_one is o e) = absurd (subst (λ z. IsWriting z) e writing)
+opened_by n t s w at c writing ih (opens_found_none k slots a c2 o e) = absurd (subst (λ z. IsWriting z) e writing)
+opened_by n t s w at c writing ih (gets k node end slots a g e) = absurd (subst (λ z. IsWriting z) e writing)
+opened_by n t s w at c writing ih (gets_more k node end bodies batch slots is h g e) = absurd (subst (λ z. IsWriting z) e writing)
+opened_by n t s w at c writing ih (recovers k node end bodies batch slots is h g lt e) = absurd (subst (λ z. IsWriting z) e writing)
+opened_by n t s w at c writing ih (seals_recovered b is e) = absurd (subst (λ z. IsWriting z) e writing)
+opened_by n t s w at c writing ih (opens_next k l is e) = absurd (subst (λ z. IsWriting z) e writing)
+opened_by n t s w at c writing ih (seals_written k b is e) = absurd (subst (λ r. IsWriting r) e writing)
 opened_by n t s w at c writing ih (writes_first k is e start co) =
     record {
       round = s;
@@ -326,7 +323,7 @@ opened_by n t s w at c writing ih (goes_on a b same_start co) =
     }
 
 pub opened_at : (n : ℕ) (t : Takeover) (s : ℕ) (w : Writer) → seen_at n t s ≡ Some w → IsWriting w.round → OpenedAt n t s w.start
-opened_at n t zero w e writing = absurd (to (λ z. IsWriting z) (seen_first n t w e).0 writing)
+opened_at n t zero w e writing = absurd (subst (λ z. IsWriting z) (seen_first n t w e).0 writing)
 opened_at n t (suc s) w e writing =
     let c : Comes n t s w = comes n t s w e in
     opened_by n t s w e c writing (λ a. opened_at n t s c.writer c.at a) c.step

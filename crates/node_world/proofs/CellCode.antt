@@ -31,7 +31,7 @@ unless_up : (s : NodeState) (r : Request) (o : Option Refusal) → (unless_refus
 unless_up s r (Some f) = refl
 unless_up s r None = behind_up (fronted s r) r (row_refused (fronted s r) r)
 
-step_up : (s : NodeState) (r : Request) → (node_step s r).state.up ≡ s.up
+pub step_up : (s : NodeState) (r : Request) → (node_step s r).state.up ≡ s.up
 unfolding node_step
 step_up s r = unless_up s r (refused_at_once s r)
 

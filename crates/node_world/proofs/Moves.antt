@@ -1,12 +1,12 @@
 -- What a request does to a node: it moves it, or leaves it as it was.
-use Rattle.std.proofs.Common.{◌≡◌, ◌≢◌, ℕ, ◌+◌, ◌<◌, ◌≤◌, ◌⊎◌, ◌==◌, ◌&&◌, ◌||◌, Bool, true, false, not, cond, max, min, nat_lt, List, [], ◌∷◌, ◌++◌, length, map, refl, sym, ap, ◌∙◌, subst, arith, inl, inr, Option, Some, None, is_some, filter}
+use Rattle.std.proofs.Common.{◌≡◌, ◌≢◌, ℕ, ◌+◌, ◌<◌, ◌≤◌, ◌⊎◌, ◌==◌, ◌&&◌, Bool, true, false, not, cond, max, min, nat_lt, List, [], ◌∷◌, ◌++◌, length, map, refl, sym, ap, ◌∙◌, subst, arith, inl, inr, Option, Some, None, is_some, filter}
 use Rattle.std.specs.Prelude.{nat_le}
 use Rattle.std.proofs.lemmas.Bool.Decides.{nat_tests}
-use Rattle.journal_core.specs.Views.{HeadView, BatchView, last_txid}
-use Rattle.journal_core.specs.Limits.{head_of, limit_of}
-use Rattle.journal_core.specs.Segments.{find_segment, has_edit, end_of}
+use Rattle.journal_core.specs.Views.{HeadView}
+use Rattle.journal_core.specs.Limits.{head_of}
+use Rattle.journal_core.specs.Segments.{find_segment}
 use Rattle.journal_core.specs.Effects.{Effect, Promise, WriterEpoch, Commit, NewSegment, Append, Replace, MakeFinal, Remove, after_effect, after_effects}
-use Rattle.journal_core.specs.Step.{Stepped, node_step, effects_of, refused_at_once, unless_limited, front_refused, front_promised, front_serial, fronted, start_refused, open_refused, bodies_in, finalize_refused, fetch_refused, accept_refused, row_refused, row_effects, row_then, row_reply, is_final_one, may_go, front_effects}
+use Rattle.journal_core.specs.Step.{Stepped, node_step, effects_of, refused_at_once, fronted, row_refused, row_effects, row_then, row_reply, is_final_one, may_go, front_effects}
 use Rattle.journal_core.specs.declared.segment.Segment.{Segment}
 use Rattle.journal_core.specs.declared.node_state.NodeState.{NodeState}
 use Rattle.journal_core.specs.declared.request.Request.{Request}
@@ -16,6 +16,8 @@ use Rattle.journal_core.specs.declared.refusal.Refusal.TheVariants as refusal
 use Rattle.journal_core.specs.declared.reply.Reply.{Reply}
 use Rattle.journal_core.specs.declared.reply.Reply.TheVariants as reply
 use Rattle.node_world.specs.Moving.{epoch_of, is_at_once, is_refused_at_once, moves}
+use Rattle.node_world.proofs.Fronts.{row_late, at_once as refused_once}
+use Rattle.node_world.proofs.Requests.{front_passes, front_promise}
 use Rattle.journal_core.proofs.Steps.{Acted, at_once, by_row, done, acted}
 
 -- ## Three kinds of requests: those that read, the proposal of an epoch, and those with a head
@@ -68,54 +70,6 @@ others_if : (b : Bool) (xs ys : List Effect) → AreOther xs → AreOther ys →
 others_if true xs ys p q = p
 others_if false xs ys p q = q
 
-if_late : (b : Bool) (x : Refusal) (o : Option Refusal) (f : Refusal) → is_at_once x ≡ false → (o ≡ Some f → is_at_once f ≡ false) → cond b (Some x) o ≡ Some f → is_at_once f ≡ false
-if_late true x o f e g h = let one : x ≡ f = cc h in ap is_at_once (sym one) ∙ e
-if_late false x o f e g h = g h
-
-no_late : (f : Refusal) → ◌≡◌ {A = Option Refusal} None (Some f) → is_at_once f ≡ false
-no_late f h = absurd (cc h)
-
-one_late : (x f : Refusal) → is_at_once x ≡ false → Some x ≡ Some f → is_at_once f ≡ false
-one_late x f e h = if_late true x None f e (λ (g : ◌≡◌ {A = Option Refusal} None (Some f)). no_late f g) h
-
-last_late : (b : Bool) (x f : Refusal) → is_at_once x ≡ false → cond b (Some x) None ≡ Some f → is_at_once f ≡ false
-last_late b x f e h = if_late b x None f e (λ (i : ◌≡◌ {A = Option Refusal} None (Some f)). no_late f i) h
-
-start_late : (o : Option Segment) (f : Refusal) → start_refused o ≡ Some f → is_at_once f ≡ false
-start_late None f h = no_late f h
-start_late (Some g) f h =
-    let rest : Option Refusal = cond (has_edit g) (Some (refusal.SegmentHasEdits (end_of g))) None in
-    if_late g.is_final (refusal.SegmentFinal (end_of g)) rest f refl (λ (i : rest ≡ Some f). last_late (has_edit g) (refusal.SegmentHasEdits (end_of g)) f refl i) h
-
-open_late : (o : Option ℕ) (start first expected : ℕ) (f : Refusal) → open_refused o start first expected ≡ Some f → is_at_once f ≡ false
-open_late None start first expected f h = one_late refusal.NoOpenSegment f refl h
-open_late (Some opened) start first expected f h =
-    let rest : Option Refusal = cond (not (first == expected)) (Some (refusal.WrongTxid expected)) None in
-    if_late (not (opened == start)) (refusal.WrongSegment opened) rest f refl (λ (i : rest ≡ Some f). last_late (not (first == expected)) (refusal.WrongTxid expected) f refl i) h
-
-journal_late : (b : Bool) (s : NodeState) (o : Option Refusal) (f : Refusal) → (o ≡ Some f → is_at_once f ≡ false) → cond b o (Some (refusal.NotWriter s.writer)) ≡ Some f → is_at_once f ≡ false
-journal_late true s o f g h = g h
-journal_late false s o f g h = one_late (refusal.NotWriter s.writer) f refl h
-
-finalize_late : (epoch end : ℕ) (o : Option Segment) (f : Refusal) → finalize_refused epoch end o ≡ Some f → is_at_once f ≡ false
-finalize_late epoch end None f h = one_late refusal.NoSegment f refl h
-finalize_late epoch end (Some g) f h =
-    let last : Option Refusal = cond (not (end_of g == end)) (Some (refusal.LengthDiffers (end_of g))) None in
-    let rest : Option Refusal = cond (not g.is_final && not (g.epoch == epoch)) (Some (refusal.OtherEpoch g.epoch)) last in
-    if_late (not (has_edit g)) refusal.NoSegment rest f refl
-    (λ (i : rest ≡ Some f). if_late (not g.is_final && not (g.epoch == epoch)) (refusal.OtherEpoch g.epoch) last f refl
-    (λ (j : last ≡ Some f). last_late (not (end_of g == end)) (refusal.LengthDiffers (end_of g)) f refl j) i) h
-
-fetch_late : (from : ℕ) (o : Option Segment) (f : Refusal) → fetch_refused from o ≡ Some f → is_at_once f ≡ false
-fetch_late from None f h = one_late refusal.NoSegment f refl h
-fetch_late from (Some g) f h =
-    let rest : Option Refusal = cond (nat_lt from g.start || nat_lt (end_of g) from) (Some (refusal.NotHere (end_of g))) None in
-    if_late (not (has_edit g)) refusal.NoSegment rest f refl (λ (i : rest ≡ Some f). last_late (nat_lt from g.start || nat_lt (end_of g) from) (refusal.NotHere (end_of g)) f refl i) h
-
-accept_late : (batch : BatchView) (o : Option Segment) (f : Refusal) → accept_refused batch o ≡ Some f → is_at_once f ≡ false
-accept_late batch None f h = no_late f h
-accept_late batch (Some g) f h = last_late (g.is_final && not (end_of g == last_txid batch)) (refusal.LengthDiffers (end_of g)) f refl h
-
 pub kind : (r : Request) → Kind r
 unfolding epoch_of after_effects
 kind request.State = reads refl (λ s. refl) (λ s. refl) (λ s. refl) (λ s t. refl)
@@ -123,23 +77,23 @@ kind (request.Read from) = reads refl (λ s. refl) (λ s. refl) (λ s. refl) (λ
 kind request.Manifest = reads refl (λ s. refl) (λ s. refl) (λ s. refl) (λ s t. refl)
 kind (request.NewEpoch epoch) = proposes epoch refl
 kind (request.Start head start) =
-    headed head refl refl (λ s f h. start_late (find_segment start s.segments) f h)
+    headed head refl refl (λ s f h. row_late s (request.Start head start) head f refl h)
     (λ s. others_promised s (row_effects s (request.Start head start)) (others_append (cond (s.writer == head.epoch) [] (WriterEpoch head.epoch ∷ [])) (NewSegment start head.epoch ∷ []) (others_if (s.writer == head.epoch) [] (WriterEpoch head.epoch ∷ []) tt (tt, tt)) (tt, tt)))
     (λ s. serial_stays s (row_effects s (request.Start head start))) (λ s. refl)
 kind (request.Journal head start batch) =
-    headed head refl refl (λ s f h. journal_late (s.writer == head.epoch) s (open_refused s.opened start batch.first (start + bodies_in (find_segment start s.segments))) f (λ i. open_late s.opened start batch.first (start + bodies_in (find_segment start s.segments)) f i) h)
+    headed head refl refl (λ s f h. row_late s (request.Journal head start batch) head f refl h)
     (λ s. others_promised s (row_effects s (request.Journal head start batch)) (tt, tt)) (λ s. serial_stays s (row_effects s (request.Journal head start batch))) (λ s. refl)
 kind (request.Finalize head start end) =
-    headed head refl refl (λ s f h. finalize_late head.epoch end (find_segment start s.segments) f h)
+    headed head refl refl (λ s f h. row_late s (request.Finalize head start end) head f refl h)
     (λ s. others_promised s (row_effects s (request.Finalize head start end)) (others_append (cond (is_final_one (find_segment start s.segments)) [] (MakeFinal start ∷ [])) (cond (nat_lt s.committed s.known) (Commit s.known ∷ []) []) (others_if (is_final_one (find_segment start s.segments)) [] (MakeFinal start ∷ []) tt (tt, tt)) (others_if (nat_lt s.committed s.known) (Commit s.known ∷ []) [] (tt, tt) tt)))
     (λ s. serial_stays s (row_effects s (request.Finalize head start end))) (λ s. refl)
-kind (request.Prepare head start) = headed head refl refl (λ s f h. no_late f h) (λ s. refl) (λ s. refl) (λ s. refl)
-kind (request.Fetch head start from) = headed head refl refl (λ s f h. fetch_late from (find_segment start s.segments) f h) (λ s. refl) (λ s. refl) (λ s. refl)
+kind (request.Prepare head start) = headed head refl refl (λ s f h. row_late s (request.Prepare head start) head f refl h) (λ s. refl) (λ s. refl) (λ s. refl)
+kind (request.Fetch head start from) = headed head refl refl (λ s f h. row_late s (request.Fetch head start from) head f refl h) (λ s. refl) (λ s. refl) (λ s. refl)
 kind (request.Accept head batch) =
-    headed head refl refl (λ s f h. accept_late batch (find_segment batch.first s.segments) f h)
+    headed head refl refl (λ s f h. row_late s (request.Accept head batch) head f refl h)
     (λ s. others_promised s (row_effects s (request.Accept head batch)) (others_if (is_final_one (find_segment batch.first s.segments)) [] (Replace head.epoch batch ∷ []) tt (tt, tt))) (λ s. serial_stays s (row_effects s (request.Accept head batch))) (λ s. refl)
 kind (request.Purge head min) =
-    headed head refl refl (λ s f h. no_late f h)
+    headed head refl refl (λ s f h. row_late s (request.Purge head min) head f refl h)
     (λ s. others_promised s (row_effects s (request.Purge head min)) (others_removed (filter (may_go s head.committed min) s.segments))) (λ s. serial_stays s (row_effects s (request.Purge head min))) (λ s. refl)
 
 -- ## The front
@@ -150,49 +104,12 @@ if_once : (b : Bool) (x : Refusal) (o : Option Refusal) (f : Refusal) → is_at_
 if_once true x o f e g h = some_late x f h e
 if_once false x o f e g h = g h
 
-front_once : (s : NodeState) (o : Option HeadView) (f : Refusal) → front_refused s o ≡ Some f → is_at_once f ≡ true
-front_once s None f h = absurd (cc h)
-front_once s (Some x) f h =
-    let rest : Option Refusal = cond ((x.epoch == s.promised) && nat_le x.serial s.serial) (Some (refusal.OldSerial s.serial)) None in
-    if_once (nat_lt x.epoch s.promised) (refusal.EpochRefused s.promised) rest f refl
-    (λ (i : rest ≡ Some f). if_once ((x.epoch == s.promised) && nat_le x.serial s.serial) (refusal.OldSerial s.serial) None f refl (λ (j : ◌≡◌ {A = Option Refusal} None (Some f)). absurd (cc j)) i) h
-
-limit_once : (o : Option ℕ) (x : Option Refusal) (f : Refusal) → (x ≡ Some f → is_at_once f ≡ true) → unless_limited o x ≡ Some f → is_at_once f ≡ true
-limit_once None x f g h = g h
-limit_once (Some m) x f g h = some_late (refusal.Limit m) f h refl
-
-up_once : (b : Bool) (x : Option Refusal) (f : Refusal) → (x ≡ Some f → is_at_once f ≡ true) → cond b x (Some refusal.Down) ≡ Some f → is_at_once f ≡ true
-up_once true x f g h = g h
-up_once false x f g h = some_late refusal.Down f h refl
-
-refused_once : (s : NodeState) (r : Request) (f : Refusal) → refused_at_once s r ≡ Some f → is_at_once f ≡ true
-refused_once s r f h =
-    up_once s.up (unless_limited (limit_of r) (front_refused s (head_of r))) f
-    (λ (i : unless_limited (limit_of r) (front_refused s (head_of r)) ≡ Some f). limit_once (limit_of r) (front_refused s (head_of r)) f (λ (j : front_refused s (head_of r) ≡ Some f). front_once s (head_of r) f j) i) h
-
 -- past the front the promise or the serial is raised
 abbrev Raises : NodeState → HeadView → Type 0
 Raises s h = (s.promised < h.epoch) ⊎ (s.serial < h.serial)
 
-up_passed : (b : Bool) (x : Option Refusal) → cond b x (Some refusal.Down) ≡ None → x ≡ None
-up_passed true x h = h
-up_passed false x h = absurd (cc h)
-
-limit_passed : (o : Option ℕ) (x : Option Refusal) → unless_limited o x ≡ None → x ≡ None
-limit_passed None x h = h
-limit_passed (Some m) x h = absurd (cc h)
-
-front_by : (a b c : Bool) (x y : Refusal) (s : NodeState) (h : HeadView) → nat_lt h.epoch s.promised ≡ a → (h.epoch == s.promised) ≡ b → nat_le h.serial s.serial ≡ c
-    → cond a (Some x) (cond (b && c) (Some y) None) ≡ None → Raises s h
-front_by true b c x y s h p q r e = absurd (cc e)
-front_by false true true x y s h p q r e = absurd (cc e)
-front_by false true false x y s h p q r e = let lt : s.serial < h.serial = grind (arith, nat_tests) in inr lt
-front_by false false c x y s h p q r e = let lt : s.promised < h.epoch = grind (arith, nat_tests) in inl lt
-
 raises : (s : NodeState) (r : Request) (h : HeadView) → head_of r ≡ Some h → refused_at_once s r ≡ None → Raises s h
-raises s r h is e =
-    front_by (nat_lt h.epoch s.promised) (h.epoch == s.promised) (nat_le h.serial s.serial) (refusal.EpochRefused s.promised) (refusal.OldSerial s.serial) s h refl refl refl
-    (subst (λ (o : Option HeadView). front_refused s o ≡ None) is (limit_passed (limit_of r) (front_refused s (head_of r)) (up_passed s.up (unless_limited (limit_of r) (front_refused s (head_of r))) e)))
+raises s r h is e = elim (front_passes s r h is e) [ inl lt ↦ inl lt | inr both ↦ inr both.1 ]
 
 -- ## What a step does
 pub data Went (s : NodeState) (r : Request) : Type 0 where
@@ -211,9 +128,6 @@ and_false false = refl
 raised : (s t : NodeState) (h : HeadView) → Raises s h → t.promised ≡ max s.promised h.epoch → t.serial ≡ h.serial → t ≢ s
 raised s t h (inl lt) p q same = let e : t.promised ≡ s.promised = ap (λ (x : NodeState). x.promised) same in absurd (omega (arith, e, p, lt))
 raised s t h (inr lt) p q same = let e : t.serial ≡ s.serial = ap (λ (x : NodeState). x.serial) same in absurd (omega (arith, e, q, lt))
-
-front_at : (s : NodeState) (r : Request) (h : HeadView) → head_of r ≡ Some h → ((fronted s r).promised ≡ max s.promised h.epoch) × ((fronted s r).serial ≡ h.serial)
-front_at s r h e = (ap (λ (o : Option HeadView). front_promised s.promised o) e, ap (λ (o : Option HeadView). front_serial s.serial o) e)
 
 once_stays : (s : NodeState) (r : Request) (x : Refusal) → is_at_once x ≡ true → (node_step s r).reply ≡ reply.Refused x → (node_step s r).state ≡ s → Went s r
 once_stays s r x once told same =
@@ -245,11 +159,11 @@ by_kind s r (proposes epoch is) w = subst (λ (x : Request). Went s x) (sym is) 
 by_kind s r (reads none front row then_ effects) (by_row x a b n e) = let no : row_refused (fronted s r) r ≡ None = row (fronted s r) in absurd (cc (b, no))
 by_kind s r (reads none front row then_ effects) (done a b n e) = reads_stays s r none (ap (λ (z : Stepped). z.state) n ∙ then_ (fronted s r) ∙ front s)
 by_kind s r (headed h is some late promised serial told) (by_row x a b n e) =
-    let f : ((fronted s r).promised ≡ max s.promised h.epoch) × ((fronted s r).serial ≡ h.serial) = front_at s r h is in
+    let f : ((fronted s r).promised ≡ max s.promised h.epoch) × ((fronted s r).serial ≡ h.serial) = front_promise s r h is in
     goes (test_moves r (node_step s r).reply true false some (ap (λ (z : Stepped). is_refused_at_once z.reply) n ∙ late (fronted s r) x b))
     (λ same. raised s (fronted s r) h (raises s r h is a) f.0 f.1 (sym (ap (λ (z : Stepped). z.state) n) ∙ same)) some
 by_kind s r (headed h is some late promised serial told) (done a b n e) =
-    let f : ((fronted s r).promised ≡ max s.promised h.epoch) × ((fronted s r).serial ≡ h.serial) = front_at s r h is in
+    let f : ((fronted s r).promised ≡ max s.promised h.epoch) × ((fronted s r).serial ≡ h.serial) = front_promise s r h is in
     let t : NodeState = row_then (after_effects (fronted s r) (row_effects (fronted s r) r)) r in
     goes (test_moves r (node_step s r).reply true false some (ap (λ (z : Stepped). is_refused_at_once z.reply) n ∙ told (fronted s r)))
     (λ same. raised s t h (raises s r h is a) (promised (fronted s r) ∙ f.0) (serial (fronted s r) ∙ f.1) (sym (ap (λ (z : Stepped). z.state) n) ∙ same)) some

@@ -1,6 +1,6 @@
 -- A takeover that a majority of nodes serves fetches a piece.
 use Rattle.std.proofs.Common.{◌≡◌, ◌≢◌, ℕ, zero, suc, ◌+◌, ◌-◌, ◌<◌, ◌≤◌, ◌==◌, ◌&&◌, ◌⊎◌, inl, inr, min, List, [], ◌∷◌, ◌++◌, Bool, true, false, length, take, drop, length-append, length-take, length-drop, refl, sym, ap, ◌∙◌, subst, arith, Option, Some, None}
-use Rattle.std.proofs.lemmas.Bool.{cases_eq, eq-eqb, cond-true, cond-false}
+use Rattle.std.proofs.lemmas.Bool.{cases_eq, eq-eqb, cond-true, cond-false, and_from}
 use Rattle.std.proofs.lemmas.Bool.Decides.{nat_tests}
 use Rattle.journal_core.specs.Views.{HeadView, BatchView}
 use Rattle.journal_core.specs.Limits.{max_number}
@@ -46,16 +46,13 @@ piece_some (b ∷ bodies) (suc k) l = piece_some bodies k (omega (arith, l))
 fits_le : (k : ℕ) → k ≤ max_number → fits k ≡ true
 fits_le k l = grind (arith, nat_tests, l)
 
-both : (b c : Bool) → b ≡ true → c ≡ true → (b && c) ≡ true
-both b c e f = ap (λ (x : Bool). x && c) e ∙ f
-
 piece_fits : (g : Segment) (from : ℕ) → g.start ≤ from → from ≤ end_of g → has_edit g ≡ true → end_of g ≤ max_number → fits_edits from (record { first = from; bodies = piece_of (Some g) from }) ≡ true
 piece_fits g from low high edit end =
     let len : 1 ≤ length g.bodies = some g.bodies edit in
     let rest : length (drop (from - g.start) g.bodies) ≡ length g.bodies - (from - g.start) = length-drop (from - g.start) g.bodies in
     let got : length (take most_edits (drop (from - g.start) g.bodies)) ≡ min most_edits (length (drop (from - g.start) g.bodies)) = length-take most_edits (drop (from - g.start) g.bodies) in
-    both (from == from) _ (eq-eqb from from refl)
-    (both (any_body (take most_edits (drop (from - g.start) g.bodies))) _ (piece_some g.bodies (from - g.start) (omega (arith, low, high, len)))
+    and_from (from == from) _ (eq-eqb from from refl)
+    (and_from (any_body (take most_edits (drop (from - g.start) g.bodies))) _ (piece_some g.bodies (from - g.start) (omega (arith, low, high, len)))
     (fits_le (from + length (take most_edits (drop (from - g.start) g.bodies)) - 1) (omega (arith, got, rest, end, low, high, len))))
   where
     some : (bodies : List (List ℕ)) → any_body bodies ≡ true → 1 ≤ length bodies
@@ -207,7 +204,7 @@ module _ (n : ℕ) (nodes : List ℕ) (majority : IsMajority n nodes) (before af
       inside : GivesPiece f.info → Member j nodes → Way nodes after Now (fetched j m end bodies d v).writer
       inside g mem =
           subst (λ z. Way nodes after Now (fetched j m end bodies z v).writer) (sym g.is)
-          (subst (λ b. Way nodes after Now (edits_fetched b j m end bodies g.batch v).writer) (sym (both (numbers_fit v (round.Fetch j m end bodies)) _ g.numbers g.fits_it))
+          (subst (λ b. Way nodes after Now (edits_fetched b j m end bodies g.batch v).writer) (sym (and_from (numbers_fit v (round.Fetch j m end bodies)) _ g.numbers g.fits_it))
           (piece_goes f g.batch k.left is lefts agreed k.sane_after (λ i q. tell i q (cases_eq i j))))
         where
           tell : (i : ℕ) → Member i nodes → (i ≡ j) ⊎ (i ≢ j) → Telling n nodes majority after Now m (next_serial v) i

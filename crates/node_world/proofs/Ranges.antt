@@ -11,27 +11,19 @@ use Rattle.journal_core.specs.declared.segment.Segment.{Segment}
 use Rattle.journal_core.specs.declared.node_state.NodeState.{NodeState}
 use Rattle.journal_core.specs.declared.request.Request.{Request}
 use Rattle.journal_core.specs.declared.request.Request.TheVariants as request
-use Rattle.journal_core.specs.declared.refusal.Refusal.{Refusal}
 use Rattle.journal_core.specs.declared.refusal.Refusal.TheVariants as refusal
 use Rattle.node_world.specs.Entries.{Move, Answer, Stop, Kill, Restart, Entry, moved, node_after}
-use Rattle.journal_core.proofs.Steps.{Acted, at_once, by_row, done, acted}
+use Rattle.journal_core.proofs.Steps.{Acted, at_once, by_row, done, acted, test_passed}
 use Rattle.journal_core.proofs.SegmentLists.{find-start}
 use Rattle.node_world.proofs.Slots.{none≢some, some_same, true≢false}
 use Rattle.journal_core.proofs.Changes.{Change, same, created, grown, made_final, replaced, removed}
+use Rattle.journal_core.proofs.FrontLaws.{limit_passed as limits_none}
 use Rattle.node_world.proofs.Along.{Changes, entry_change, node_here, node_elsewhere}
 use Rattle.std.proofs.lemmas.Bool.{cases_eq}
 
 -- ## What is past the limits isn't taken
-limits_none : (o : Option ℕ) (p : Option Refusal) → unless_limited o p ≡ None → o ≡ None
-limits_none None p e = refl
-limits_none (Some n) p e = none≢some (refusal.Limit n) (sym e)
-
-up_none : (b : Bool) (p : Option Refusal) → cond b p (Some refusal.Down) ≡ None → p ≡ None
-up_none true p e = e
-up_none false p e = none≢some refusal.Down (sym e)
-
 pub limit_passed : (s : NodeState) (r : Request) → refused_at_once s r ≡ None → limit_of r ≡ None
-limit_passed s r e = limits_none (limit_of r) (front_refused s (head_of r)) (up_none s.up (unless_limited (limit_of r) (front_refused s (head_of r))) e)
+limit_passed s r e = limits_none (limit_of r) (front_refused s (head_of r)) (test_passed s.up (unless_limited (limit_of r) (front_refused s (head_of r))) refusal.Down e)
 
 abbrev pub AllSmall : List ℕ → Type 0
 AllSmall [] = Unit {0}
@@ -179,14 +171,11 @@ abbrev pub EndSmall : Option Segment → Type 0
 EndSmall None = Unit {0}
 EndSmall (Some g) = has_edit g ≡ true → end_of g ≤ max_number
 
-batch_small : (r : Request) → limit_of r ≡ None → AllSmall (numbers_of r)
-batch_small r e = numbers_small r e
-
 change_end : (s : NodeState) (r : Request) (m : ℕ) (o new : Option Segment) → Change s r m o new → limit_of r ≡ None → ((g : Segment) → o ≡ Some g → g.start ≡ m) → EndSmall o → EndSmall new
 change_end s r m o new same limit at h = h
 change_end s r m o new (created h q n) limit at p = λ e. true≢false (sym e)
 change_end s r m (Some g) new (grown h b q header f first) limit at p =
-    let small : AllSmall (numbers_of r) = batch_small r limit in
+    let small : AllSmall (numbers_of r) = numbers_small r limit in
     let mine : AllSmall (numbers_of (request.Journal h m b)) = subst (λ (x : Request). AllSmall (numbers_of x)) q small in
     let l : last_txid b ≤ max_number = mine.1.1.0 in
     let start : g.start ≡ m = at g refl in
@@ -194,7 +183,7 @@ change_end s r m (Some g) new (grown h b q header f first) limit at p =
     λ e. omega (arith, l, start, len, first)
 change_end s r m (Some g) new (made_final h l q edit f header ends) limit at p = p
 change_end s r m o new (replaced h b q first f) limit at p =
-    let mine : AllSmall (numbers_of (request.Accept h b)) = subst (λ (x : Request). AllSmall (numbers_of x)) q (batch_small r limit) in
+    let mine : AllSmall (numbers_of (request.Accept h b)) = subst (λ (x : Request). AllSmall (numbers_of x)) q (numbers_small r limit) in
     let l : last_txid b ≤ max_number = mine.1.0 in
     λ e. l
 change_end s r m (Some g) new (removed h l q newer le shut) limit at p = tt

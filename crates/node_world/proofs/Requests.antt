@@ -8,9 +8,10 @@ use Rattle.journal_core.specs.declared.request.Request.{Request}
 use Rattle.journal_core.specs.declared.request.Request.TheVariants as request
 use Rattle.journal_core.specs.declared.refusal.Refusal.{Refusal}
 use Rattle.journal_core.specs.declared.refusal.Refusal.TheVariants as refusal
-use Rattle.journal_core.specs.Limits.{head_of, limit_of}
+use Rattle.journal_core.specs.Limits.{head_of}
 use Rattle.journal_core.specs.Effects.{after_effects}
-use Rattle.journal_core.specs.Step.{Stepped, front_refused, unless_limited, refused_at_once, fronted, row_refused, row_effects, serial_then, row_reply, behind_front, unless_refused, node_step}
+use Rattle.journal_core.specs.Step.{Stepped, front_refused, refused_at_once, fronted, row_refused, row_effects, serial_then, row_reply, behind_front, unless_refused, node_step}
+use Rattle.journal_core.proofs.Steps.{front_passed}
 use Rattle.node_world.specs.Moving.{epoch_of, is_refused_at_once, moves}
 use Rattle.node_world.proofs.Fronts.{quiet_promise, same_serial, quiet_row, at_once, row_late}
 
@@ -54,7 +55,7 @@ pub record Fronted (s : NodeState) (h : HeadView) (after : NodeState) : Type 0 w
   pub promised : after.promised ≡ max s.promised h.epoch
   pub serial : after.serial ≡ h.serial
 
-front_promise : (s : NodeState) (r : Request) (h : HeadView) → head_of r ≡ Some h → ((fronted s r).promised ≡ max s.promised h.epoch) × ((fronted s r).serial ≡ h.serial)
+pub front_promise : (s : NodeState) (r : Request) (h : HeadView) → head_of r ≡ Some h → ((fronted s r).promised ≡ max s.promised h.epoch) × ((fronted s r).serial ≡ h.serial)
 front_promise s r h e = (rw e refl, rw e refl)
 
 pub behind : (s : NodeState) (r : Request) (h : HeadView) (o : Option Refusal) → head_of r ≡ Some h → ((n : ℕ) → serial_then n r ≡ n) → Fronted s h (behind_front (fronted s r) r o).state
@@ -63,15 +64,6 @@ behind s r h None e then = record {
   promised = quiet_promise (row_effects (fronted s r) r) (fronted s r) (quiet_row (fronted s r) r h e) ∙ (front_promise s r h e).0;
   serial = then (after_effects (fronted s r) (row_effects (fronted s r) r)).serial ∙ (same_serial (row_effects (fronted s r) r) (fronted s r) ∙ (front_promise s r h e).1);
 }
-
--- what the front lets pass
-limited_none : (o : Option ℕ) (p : Option Refusal) → unless_limited o p ≡ None → p ≡ None
-limited_none (Some n) p e = absurd (cc e)
-limited_none None p e = e
-
-up_none : (b : Bool) (p : Option Refusal) → cond b p (Some refusal.Down) ≡ None → (b ≡ true) × (p ≡ None)
-up_none true p e = (refl, e)
-up_none false p e = absurd (cc e)
 
 tests_none : (b c : Bool) (x y : Refusal) → cond b (Some x) (cond c (Some y) None) ≡ None → (b ≡ false) × (c ≡ false)
 tests_none true c x y e = absurd (cc e)
@@ -86,7 +78,7 @@ passes s h e =
 
 pub front_passes : (s : NodeState) (r : Request) (h : HeadView) → head_of r ≡ Some h → refused_at_once s r ≡ None → (s.promised < h.epoch) ⊎ ((s.promised ≡ h.epoch) × (s.serial < h.serial))
 front_passes s r h e f =
-    let p : front_refused s (head_of r) ≡ None = limited_none (limit_of r) (front_refused s (head_of r)) (up_none s.up (unless_limited (limit_of r) (front_refused s (head_of r))) f).1 in
+    let p : front_refused s (head_of r) ≡ None = front_passed s r f in
     passes s h (rw e at p)
 
 -- ## Promise and serial after any request

@@ -1,17 +1,13 @@
 -- Lists of bodies that differ in length aren't the same.
-use Rattle.std.proofs.Common.{◌≡◌, ◌≢◌, ℕ, List, [], ◌∷◌, Bool, true, false, length, refl, ap, sym, suc}
-use Rattle.std.specs.Prelude.{◌&&◌}
+use Rattle.std.proofs.Common.{◌≡◌, ◌≢◌, ℕ, List, [], ◌∷◌, false, length, refl, ap, sym, suc}
+use Rattle.std.proofs.lemmas.Bool.{and_right}
 use Rattle.node_world.specs.Same.{same_nats, same_bodies}
-
-and_false : (b c : Bool) → c ≡ false → (b && c) ≡ false
-and_false true c e = e
-and_false false c e = refl
 
 differ : (a b : List (List ℕ)) → length a ≢ length b → same_bodies a b ≡ false
 differ [] [] h = absurd (h refl)
 differ [] (y ∷ ys) h = refl
 differ (x ∷ xs) [] h = refl
-differ (x ∷ xs) (y ∷ ys) h = and_false (same_nats x y) (same_bodies xs ys) (differ xs ys (λ e. h (ap suc e)))
+differ (x ∷ xs) (y ∷ ys) h = and_right (same_nats x y) (same_bodies xs ys) (differ xs ys (λ e. h (ap suc e)))
 
 pub lengths_differ : (a b : List (List ℕ)) → length a ≢ length b → false ≡ same_bodies a b
 lengths_differ a b h = sym (differ a b h)

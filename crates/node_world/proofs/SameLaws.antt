@@ -1,6 +1,6 @@
 -- What the tests of equality say.
-use Rattle.std.proofs.Common.{◌≡◌, ℕ, ◌==◌, ◌&&◌, Bool, true, List, [], ◌∷◌, refl, sym, ap, ◌∙◌}
-use Rattle.std.proofs.lemmas.Bool.{and_parts, eqb-true, eq-eqb}
+use Rattle.std.proofs.Common.{◌≡◌, ℕ, ◌==◌, true, List, [], ◌∷◌, refl, sym, ap, ◌∙◌}
+use Rattle.std.proofs.lemmas.Bool.{and_parts, eqb-true, eq-eqb, and_from}
 use Rattle.journal_core.specs.Views.{HeadView, BatchView}
 use Rattle.journal_core.specs.declared.request.Request.{Request}
 use Rattle.journal_core.specs.declared.request.Request.TheVariants.{State, NewEpoch, Start, Journal, Finalize, Prepare, Fetch, Accept, Purge, Read, Manifest}
@@ -50,32 +50,29 @@ request_same Manifest Manifest e = refl
 request_same a b e = true≢false (sym e)
 
 -- ## What is equal passes
-both : (b c : Bool) → b ≡ true → c ≡ true → (b && c) ≡ true
-both b c e f = ap (λ (x : Bool). x && c) e ∙ f
-
 nats_self : (xs : List ℕ) → same_nats xs xs ≡ true
 nats_self [] = refl
-nats_self (x ∷ xs) = both (x == x) (same_nats xs xs) (eq-eqb x x refl) (nats_self xs)
+nats_self (x ∷ xs) = and_from (x == x) (same_nats xs xs) (eq-eqb x x refl) (nats_self xs)
 
 bodies_self : (xs : List (List ℕ)) → same_bodies xs xs ≡ true
 bodies_self [] = refl
-bodies_self (x ∷ xs) = both (same_nats x x) (same_bodies xs xs) (nats_self x) (bodies_self xs)
+bodies_self (x ∷ xs) = and_from (same_nats x x) (same_bodies xs xs) (nats_self x) (bodies_self xs)
 
 batch_self : (a : BatchView) → same_batch a a ≡ true
-batch_self a = both (a.first == a.first) (same_bodies a.bodies a.bodies) (eq-eqb a.first a.first refl) (bodies_self a.bodies)
+batch_self a = and_from (a.first == a.first) (same_bodies a.bodies a.bodies) (eq-eqb a.first a.first refl) (bodies_self a.bodies)
 
 head_self : (a : HeadView) → same_head a a ≡ true
-head_self a = both (a.epoch == a.epoch) _ (eq-eqb a.epoch a.epoch refl) (both (a.serial == a.serial) (a.committed == a.committed) (eq-eqb a.serial a.serial refl) (eq-eqb a.committed a.committed refl))
+head_self a = and_from (a.epoch == a.epoch) _ (eq-eqb a.epoch a.epoch refl) (and_from (a.serial == a.serial) (a.committed == a.committed) (eq-eqb a.serial a.serial refl) (eq-eqb a.committed a.committed refl))
 
 pub request_self : (r : Request) → same_request r r ≡ true
 request_self State = refl
 request_self (NewEpoch a) = eq-eqb a a refl
-request_self (Start h m) = both (same_head h h) (m == m) (head_self h) (eq-eqb m m refl)
-request_self (Journal h m a) = both (same_head h h) _ (head_self h) (both (m == m) (same_batch a a) (eq-eqb m m refl) (batch_self a))
-request_self (Finalize h m a) = both (same_head h h) _ (head_self h) (both (m == m) (a == a) (eq-eqb m m refl) (eq-eqb a a refl))
-request_self (Prepare h m) = both (same_head h h) (m == m) (head_self h) (eq-eqb m m refl)
-request_self (Fetch h m a) = both (same_head h h) _ (head_self h) (both (m == m) (a == a) (eq-eqb m m refl) (eq-eqb a a refl))
-request_self (Accept h a) = both (same_head h h) (same_batch a a) (head_self h) (batch_self a)
-request_self (Purge h m) = both (same_head h h) (m == m) (head_self h) (eq-eqb m m refl)
+request_self (Start h m) = and_from (same_head h h) (m == m) (head_self h) (eq-eqb m m refl)
+request_self (Journal h m a) = and_from (same_head h h) _ (head_self h) (and_from (m == m) (same_batch a a) (eq-eqb m m refl) (batch_self a))
+request_self (Finalize h m a) = and_from (same_head h h) _ (head_self h) (and_from (m == m) (a == a) (eq-eqb m m refl) (eq-eqb a a refl))
+request_self (Prepare h m) = and_from (same_head h h) (m == m) (head_self h) (eq-eqb m m refl)
+request_self (Fetch h m a) = and_from (same_head h h) _ (head_self h) (and_from (m == m) (a == a) (eq-eqb m m refl) (eq-eqb a a refl))
+request_self (Accept h a) = and_from (same_head h h) (same_batch a a) (head_self h) (batch_self a)
+request_self (Purge h m) = and_from (same_head h h) (m == m) (head_self h) (eq-eqb m m refl)
 request_self (Read a) = eq-eqb a a refl
 request_self Manifest = refl

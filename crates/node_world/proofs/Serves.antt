@@ -1,6 +1,6 @@
 -- A node that serves a takeover answers its next call with the Ok kind.
-use Rattle.std.proofs.Common.{◌≡◌, ℕ, ◌<◌, ◌≤◌, ◌==◌, ◌&&◌, inl, inr, List, [], ◌∷◌, ◌++◌, Bool, true, false, cond, refl, sym, ap, ◌∙◌, subst, arith, length, Option, Some, None, nat_lt, nat_le}
-use Rattle.std.proofs.lemmas.Bool.{eq-eqb, lt-ltb}
+use Rattle.std.proofs.Common.{◌≡◌, ℕ, ◌<◌, ◌≤◌, ◌==◌, inl, inr, List, [], ◌∷◌, ◌++◌, Bool, true, false, cond, refl, sym, ap, ◌∙◌, subst, arith, length, Option, Some, None, nat_lt, nat_le}
+use Rattle.std.proofs.lemmas.Bool.{eq-eqb, lt-ltb, and_from}
 use Rattle.std.proofs.lemmas.Bool.Decides.{nat_tests}
 use Rattle.journal_core.specs.Laws.{IsStored, OpenIsLed}
 use Rattle.journal_core.specs.Views.{HeadView, last_txid}
@@ -21,6 +21,7 @@ use Rattle.writer_core.specs.Rounds.{request_in, head_now, batch_from, start_rec
 use Rattle.node_world.specs.Complete.{IsHeeded}
 use Rattle.node_world.specs.World.{CallMade}
 use Rattle.journal_core.proofs.SegmentLists.{find-start, newest-found}
+use Rattle.journal_core.proofs.Stored.{some_body}
 use Rattle.node_world.proofs.Slots.{some_same, true≢false}
 use Rattle.node_world.proofs.Oks.{AcceptHeld, accept_held}
 use Rattle.node_world.proofs.Ranges.{Small, EndSmall}
@@ -39,13 +40,6 @@ pub record Sane (s : NodeState) : Type 0 where
 fits_le : (k : ℕ) → k ≤ max_number → fits k ≡ true
 fits_le k l = grind (arith, nat_tests, l)
 
-both : (b c : Bool) → b ≡ true → c ≡ true → (b && c) ≡ true
-both b c e f = ap (λ (x : Bool). x && c) e ∙ f
-
-edit_length : (bodies : List (List ℕ)) → any_body bodies ≡ true → 1 ≤ length bodies
-edit_length [] e = true≢false (sym e)
-edit_length (b ∷ bodies) e = omega arith
-
 told_fits : (m : ℕ) (s : NodeState) (o : Option Segment) → find_segment m s.segments ≡ o → Sane s → fits_told m (told_of o) ≡ true
 told_fits m s None e sane = refl
 told_fits m s (Some g) e sane = by (has_edit g) refl
@@ -54,11 +48,11 @@ told_fits m s (Some g) e sane = by (has_edit g) refl
     by false f = refl
     by true f =
         let start : g.start ≡ m = find-start m s.segments g e in
-        let len : 1 ≤ length g.bodies = edit_length g.bodies f in
+        let len : 1 ≤ length g.bodies = omega (arith, some_body g.bodies f) in
         let end : end_of g ≤ max_number = (subst EndSmall e (sane.ends m)) f in
         let header : g.epoch ≤ s.promised = (sane.durable.segments m g e).header in
         let low : nat_le m (end_of g) ≡ true = (let l : m ≤ end_of g = omega (arith, start, len) in grind (arith, nat_tests, l)) in
-        both (g.start == m) _ (eq-eqb g.start m start) (both (nat_le m (end_of g)) _ low (both (fits (end_of g)) (fits g.epoch) (fits_le (end_of g) end) (fits_le g.epoch (omega (arith, header, sane.small.0)))))
+        and_from (g.start == m) _ (eq-eqb g.start m start) (and_from (nat_le m (end_of g)) _ low (and_from (fits (end_of g)) (fits g.epoch) (fits_le (end_of g) end) (fits_le g.epoch (omega (arith, header, sane.small.0)))))
 
 pub newest_fits : (s : NodeState) → Sane s → fits_newest (newest s.segments) ≡ true
 newest_fits s sane = by (newest s.segments) refl
@@ -69,9 +63,9 @@ newest_fits s sane = by (newest s.segments) refl
         let f : (g : Segment) × (find_segment k s.segments ≡ Some g) × (has_edit g ≡ true) = newest-found k s.segments sane.durable.rising e in
         let low : 1 ≤ k = sane.starts k f.0 f.1 f.2 in
         let start : f.0.start ≡ k = find-start k s.segments f.0 f.1 in
-        let len : 1 ≤ length f.0.bodies = edit_length f.0.bodies f.2 in
+        let len : 1 ≤ length f.0.bodies = omega (arith, some_body f.0.bodies f.2) in
         let end : end_of f.0 ≤ max_number = (subst EndSmall f.1 (sane.ends k)) f.2 in
-        both (nat_lt 0 k) (fits k) (lt-ltb 0 k low) (fits_le k (omega (arith, end, start, len)))
+        and_from (nat_lt 0 k) (fits k) (lt-ltb 0 k low) (fits_le k (omega (arith, end, start, len)))
 
 -- ## The calls so far are old
 old_more : (i epoch top up : ℕ) (calls : List CallMade) (x : CallMade) → top ≤ up → AreOld i epoch top calls → ((h : HeadView) → head_of x.request ≡ Some h → h.serial ≤ up) → AreOld i epoch up (calls ++ x ∷ [])
@@ -111,7 +105,7 @@ serves (round.Prepare m) v s calls i up sane then k heeded =
     let known : ℕ = (node_step s q).state.known in
     let writer : s.writer ≤ s.promised = sane.durable.writer in
     let kind : fits_prepare m (reply.Prepared s.writer (node_step s (Prepare (head_now v) m)).state.known (told_of (find_segment m s.segments))) ≡ true =
-    both (fits s.writer) _ (fits_le s.writer (omega (arith, writer, sane.small.0))) (both (fits (node_step s (Prepare (head_now v) m)).state.known) _ (fits_le (node_step s (Prepare (head_now v) m)).state.known then.small.1) (told_fits m s (find_segment m s.segments) refl sane)) in
+    and_from (fits s.writer) _ (fits_le s.writer (omega (arith, writer, sane.small.0))) (and_from (fits (node_step s (Prepare (head_now v) m)).state.known) _ (fits_le (node_step s (Prepare (head_now v) m)).state.known then.small.1) (told_fits m s (find_segment m s.segments) refl sane)) in
     record {
       kind = ap (fits_prepare m) p.tells ∙ kind;
       after = record {

@@ -37,7 +37,7 @@ At-range first [] node slot a = absurd a
 At-range first (x ∷ xs) node slot (inl a) = (omega (arith, a.0), omega (arith, a.0))
 At-range first (x ∷ xs) node slot (inr a) = let r = At-range (first + 1) xs node slot a in (omega (arith, r.0), omega (arith, r.1))
 
-At-set : (first place node : ℕ) (xs : List Slot) (y slot : Slot) → At first (slice_set xs place y) node slot → ((node ≡ first + place) × (slot ≡ y)) ⊎ At first xs node slot
+pub At-set : (first place node : ℕ) (xs : List Slot) (y slot : Slot) → At first (slice_set xs place y) node slot → ((node ≡ first + place) × (slot ≡ y)) ⊎ At first xs node slot
 At-set first place node [] y slot a = absurd a
 At-set first zero node (x ∷ xs) y slot (inl a) = inl (omega (arith, a.0), sym a.1)
 At-set first zero node (x ∷ xs) y slot (inr a) = inr (inr a)

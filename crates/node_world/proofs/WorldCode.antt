@@ -1,9 +1,10 @@
 -- What the world's code does is one step of the world.
-use Rattle.std.proofs.Common.{◌≡◌, ◌≢◌, ℕ, ◌-◌, ◌<◌, ◌≤◌, List, [], ◌∷◌, ◌++◌, Bool, true, false, length, map, refl, sym, ap, ◌∙◌, Option, Some, None, set, get_or, arith, ◌+◌, zero, suc, replicate}
+use Rattle.std.proofs.Common.{◌≡◌, ◌≢◌, ℕ, ◌-◌, ◌<◌, ◌≤◌, List, [], ◌∷◌, ◌++◌, Bool, true, false, length, map, refl, sym, ap, ◌∙◌, Option, Some, None, set, get_or, arith, ◌+◌}
 use Rattle.std.proofs.lemmas.Bool.{eqb-true, eqb-false, and_parts}
 use Rattle.std.specs.Prelude.{option_map}
 use Rattle.std.specs.Prelude.{filter, ◌==◌, if◌then◌else◌}
 use Rattle.std.proofs.Math.ListN.{get_or-map as mapped_at}
+pub use Rattle.std.proofs.lemmas.List.{replicate_more as one_more_alike}
 use Rattle.std.proofs.lemmas.List.{get_or_read, length-set, get_or-set_other, map-set, append-nil, set-get_or}
 use Rattle.node_world.specs.declared.node_ask.NodeAsk.{NodeAsk}
 use Rattle.node_world.specs.declared.node_ask.NodeAnswer.{NodeAnswer}
@@ -236,8 +237,3 @@ begin_steps old new actor task x y s l is told did n =
     let e : acting_at actor (bare old) ≡ x = sym (get_or_read old.actors actor x l is (fresh_acting (length old.cells))) in
     let t = begins_by (is_under_way x.writer.phase) old new actor task x e l is (n ∙ ap (λ z. record old { actors = set old.actors actor z }) did) in
     rw e (rw told t)
-
--- ## Fresh nodes and actors
-pub one_more_alike : {B : Type 0} (n : ℕ) (x : B) → replicate n x ++ x ∷ [] ≡ replicate (n + 1) x
-one_more_alike zero x = refl
-one_more_alike (suc n) x = let e : suc n + 1 ≡ suc (n + 1) = omega arith in ap (λ xs. x ∷ xs) (one_more_alike n x) ∙ ap (λ k. replicate k x) (sym e)

@@ -1,7 +1,7 @@
 -- The nodes of a world, against the entries of its trace.
-use Rattle.std.proofs.Common.{◌≡◌, ◌≢◌, ℕ, suc, ◌-◌, ◌<◌, ◌≤◌, ◌==◌, ◌⊎◌, inl, inr, List, [], ◌∷◌, ◌++◌, Bool, true, false, not, cond, ◌&&◌, length, refl, sym, ap, ◌∙◌, arith, Option, Some, None, reverse, get_or, set, length-set, get_or-set_same, get_or-set_other}
+use Rattle.std.proofs.Common.{◌≡◌, ◌≢◌, ℕ, suc, ◌-◌, ◌<◌, ◌≤◌, ◌⊎◌, inl, inr, List, [], ◌∷◌, ◌++◌, Bool, true, false, not, cond, ◌&&◌, length, refl, sym, ap, ◌∙◌, arith, Option, Some, None, reverse, get_or, set, length-set, get_or-set_same, get_or-set_other}
 use Rattle.std.specs.List.{filter_map}
-use Rattle.std.proofs.lemmas.Bool.{cases_eq, cond-true, cond-false, eq-eqb, ne_eqb}
+use Rattle.std.proofs.lemmas.Bool.{cases_eq}
 use Rattle.std.proofs.lemmas.List.{reverse-append}
 use Rattle.std.proofs.lemmas.List.Elements.{filter_map-append}
 use Rattle.journal_core.specs.declared.node_state.NodeState.{NodeState}
@@ -12,6 +12,7 @@ use Rattle.node_world.specs.Moving.{Placed, move_of, entry_at, entry_of, moving_
 use Rattle.node_world.specs.World.{World, cell_at, is_due, stopping, taken_at, node_asked}
 use Rattle.node_world.specs.declared.stop.Stop.TheVariants.{Effects}
 use Rattle.node_world.proofs.CallLeft.{entry}
+use Rattle.node_world.proofs.Along.{node_here, node_elsewhere}
 
 -- the entries of a trace, newest first
 abbrev pub entries : List Placed → List Entry
@@ -48,14 +49,6 @@ entries_more : (xs : List Placed) (x : Placed) (o : Option Entry) → entry_of x
 unfolding moving_of
 entries_more xs x o e =
     ap reverse (filter_map-append entry_of xs (x ∷ []) ∙ ap (λ (l : List Entry). filter_map entry_of xs ++ l) (one_more x o e)) ∙ reverse_onto o (filter_map entry_of xs)
-
-node_here : (i : ℕ) (e : Entry) (old : List Entry) → e.node ≡ i → node_after i (e ∷ old) ≡ moved (node_after i old) e.move
-unfolding node_after
-node_here i e old is = cond-true (e.node == i) _ _ (eq-eqb e.node i is)
-
-node_elsewhere : (i : ℕ) (e : Entry) (old : List Entry) → e.node ≢ i → node_after i (e ∷ old) ≡ node_after i old
-unfolding node_after
-node_elsewhere i e old other = cond-false (e.node == i) _ _ (ne_eqb e.node i other)
 
 -- ## The nodes behind it
 agree_still : (n : ℕ) (cells : List Cell) (past : List Entry) (node : ℕ) (c : Cell) → Agree n cells past → 1 ≤ node → node ≤ n → c.state ≡ (get_or cells (node - 1) fresh_cell).state

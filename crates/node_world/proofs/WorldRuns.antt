@@ -234,7 +234,7 @@ first_told n = record { fair = tt; labels = λ old e p. absurd (none old e p) }
     none : (old : List Entry) (e : Entry) → Earlier (e ∷ old) [] → ⊥
     none old e p = omega (arith, place_below e p)
 
-get_replicate : {A : Type 0} (m i : ℕ) (x : A) → get_or (replicate m x) i x ≡ x
+pub get_replicate : {A : Type 0} (m i : ℕ) (x : A) → get_or (replicate m x) i x ≡ x
 get_replicate zero i x = refl
 get_replicate (suc m) zero x = refl
 get_replicate (suc m) (suc i) x = get_replicate m i x

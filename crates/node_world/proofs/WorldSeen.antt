@@ -1,6 +1,6 @@
 -- What is seen of an event, and what it changes.
 use Rattle.std.proofs.Common.{◌≡◌, ◌≢◌, ℕ, ◌⊎◌, ◌↔◌, ◌==◌, ◌&&◌, ◌||◌, inl, inr, List, [], ◌∷◌, Bool, true, false, refl, sym, ap, ◌∙◌, Option, Some, None}
-use Rattle.std.proofs.lemmas.Bool.{and_parts, or_cases, eqb-true, eq-eqb}
+use Rattle.std.proofs.lemmas.Bool.{and_parts, or_cases, eqb-true, eq-eqb, or_right}
 use Rattle.journal_core.specs.declared.request.Request.{Request}
 use Rattle.writer_core.specs.declared.task.Task.{Task}
 use Rattle.writer_core.specs.declared.task.Begun.{Begun}
@@ -96,10 +96,6 @@ made_among node r (x ∷ xs) e = elim (or_cases _ (was_made node r xs) e) [
       inl (ap (λ z. record { node = z; request = x.request }) at ∙ ap (λ z. record { node = node; request = z }) same))
   | inr f ↦ inr (made_among node r xs f)
 ]
-
-or_right : (a b : Bool) → b ≡ true → (a || b) ≡ true
-or_right true b e = refl
-or_right false b e = e
 
 among_made : (node : ℕ) (r : Request) (xs : List CallMade) → IsAmong node r xs → was_made node r xs ≡ true
 among_made node r [] m = absurd m

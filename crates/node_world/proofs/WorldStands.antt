@@ -1,7 +1,7 @@
 -- A step doesn't depend on what was listed before, and lists behind it.
 use Rattle.std.proofs.Common.{◌≡◌, ℕ, List, [], ◌∷◌, ◌++◌, Bool, true, false, length, map, refl, sym, ap, ◌∙◌, subst, Option, ◌-◌, zero, suc, get_or, replicate}
 use Rattle.std.specs.Prelude.{filter, ◌==◌, if◌then◌else◌}
-use Rattle.std.proofs.lemmas.List.{map-append, append-nil}
+use Rattle.std.proofs.lemmas.List.{map-append, append-nil, length-replicate}
 use Rattle.journal_core.specs.declared.request.Request.{Request}
 use Rattle.writer_core.specs.declared.task.Task.{Task}
 use Rattle.writer_core.specs.declared.task.Begun.{Begun}
@@ -127,10 +127,6 @@ steps_stand old new e s g = λ w h.
     }
 
 -- ## A new world
-count_is : {B : Type 0} (n : ℕ) (x : B) → length (replicate n x) ≡ n
-count_is zero x = refl
-count_is (suc n) x = ap suc (count_is n x)
-
 cells_are : (n : ℕ) → map (λ (c : CellView). c.cell) (replicate n new_cell) ≡ replicate n fresh_cell
 cells_are zero = refl
 cells_are (suc n) = ap (λ cs. fresh_cell ∷ cs) (cells_are n)
@@ -144,7 +140,7 @@ pub new_stands : (nodes actors : ℕ) → StandsFor (new_view nodes actors) (new
 unfolding new_world history_in
 new_stands nodes actors =
     record {
-      world = ap (λ n. record { nodes = n; cells = map (λ (c : CellView). c.cell) (replicate nodes new_cell); actors = replicate actors (fresh_acting nodes); operator = actors; trace = [] }) (count_is nodes new_cell)
+      world = ap (λ n. record { nodes = n; cells = map (λ (c : CellView). c.cell) (replicate nodes new_cell); actors = replicate actors (fresh_acting nodes); operator = actors; trace = [] }) (length-replicate nodes new_cell)
           ∙ ap (λ cs. record { nodes = nodes; cells = cs; actors = replicate actors (fresh_acting nodes); operator = actors; trace = [] }) (cells_are nodes);
       histories = λ node m. ap (λ (c : CellView). c.history) (alike_at nodes (node - 1));
     }

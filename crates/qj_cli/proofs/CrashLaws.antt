@@ -9,10 +9,9 @@ use Rattle.journal_core.specs.declared.node_state.NodeState.{NodeState}
 use Rattle.journal_core.specs.declared.request.Request.{Request}
 use Rattle.journal_core.specs.declared.reply.Reply.{Reply}
 use Rattle.journal_core.specs.declared.reply.Reply.TheVariants as reply
-use Rattle.journal_core.specs.declared.refusal.Refusal.{Refusal}
 use Rattle.journal_core.specs.declared.refusal.Refusal.TheVariants as refusal
-use Rattle.journal_core.specs.Effects.{Effect, after_effect, after_effects}
-use Rattle.journal_core.specs.Step.{Stepped, node_step, unless_refused, behind_front, fronted, refused_at_once, row_refused, row_effects, effects_of, restarted}
+use Rattle.journal_core.specs.Effects.{after_effects}
+use Rattle.journal_core.specs.Step.{Stepped, node_step, effects_of, restarted}
 use Rattle.request_text.specs.Reading.{reading_of}
 use Rattle.request_text.specs.Texts.{reply_text}
 use Rattle.request_text.specs.declared.request_line.ReadRequest.TheVariants.{Read}
@@ -26,25 +25,8 @@ use Rattle.journal_node.proofs.ActingDone.{up_of, has_up}
 use Rattle.journal_node.proofs.ActingAnswer.{up_stands}
 use Rattle.node_session.specs.Session.{Asks}
 use Rattle.node_session.specs.Asking.{AreAsked, IsAskedLast}
+use Rattle.node_world.proofs.CellCode.{step_up}
 use Rattle.qj_cli.specs.Crashes.{StandsInside, with_next, OutlastsCrashes, WasAsked}
-
--- ## A request leaves a node up or down, as it was
-effects_up : (s : NodeState) (es : List Effect) → (after_effects s es).up ≡ s.up
-unfolding after_effects
-effects_up s [] = refl
-effects_up s (e ∷ es) = effects_up (after_effect s e) es
-
-behind_up : (s : NodeState) (r : Request) (o : Option Refusal) → (behind_front s r o).state.up ≡ s.up
-behind_up s r (Some f) = refl
-behind_up s r None = effects_up s (row_effects s r)
-
-unless_up : (s : NodeState) (r : Request) (o : Option Refusal) → (unless_refused s r o).state.up ≡ s.up
-unless_up s r (Some f) = refl
-unless_up s r None = behind_up (fronted s r) r (row_refused (fronted s r) r)
-
-pub step_up : (s : NodeState) (r : Request) → (node_step s r).state.up ≡ s.up
-unfolding node_step
-step_up s r = unless_up s r (refused_at_once s r)
 
 -- ## Files inside some lines
 -- stopped inside the first line

@@ -1,5 +1,5 @@
 -- What a mesh that follows a script is to the laws on safety: its actors hold nothing, or it is one of a script with names.
-use Rattle.std.proofs.Common.{◌≡◌, ℕ, ◌<◌, ◌≤◌, Bool, List, [], ◌∷◌, true, false, length, sym, refl, subst, ◌∙◌, ap}
+use Rattle.std.proofs.Common.{◌≡◌, ℕ, ◌<◌, Bool, List, [], ◌∷◌, false, length, sym, refl, subst, ◌∙◌, ap}
 use Rattle.std.proofs.lemmas.List.{length-map}
 use Rattle.std.proofs.lemmas.Option.{slice_get_within}
 use Rattle.node_world.specs.declared.record.Record.{Record}
@@ -13,8 +13,7 @@ use Rattle.cluster_runner.specs.Safe.{HoldNothing}
 use Rattle.cluster_runner.proofs.Holds.{RawActor, raw_settled, raw_goes}
 use Rattle.cluster_runner.proofs.Sound.{deeds_raw}
 use Rattle.cluster_runner.proofs.Final.{names_count}
-use Rattle.names_safety.specs.Linear.{IsNamed}
-use Rattle.names_safety.proofs.NamedPlays.{playable_deeds}
+use Rattle.cluster_runner.proofs.PlayableDeeds.{playable_deeds}
 
 -- one end for each actor
 ends_many : (named : Bool) (nodes : ℕ) (lines : List Line) (m : Mesh) (ends : List End) → FollowsLines named nodes lines m ends → length ends ≡ operator_of m
@@ -32,11 +31,3 @@ meshes_hold_nothing nodes lines m ends can f c e at =
     let follows = f.actors c e (subst (λ n. c < n) many (slice_get_within ends c e at)) at in
     let begun : RawActor (actor_with false nodes (deeds_of c lines)) = raw_settled (deeds_of c lines) (fresh_actor false nodes) (deeds_raw (deeds_of c lines) (playable_deeds false nodes 0 lines can c)) refl in
     follows.end ∙ ap last_of (raw_after (record_of m c) (actor_with false nodes (deeds_of c lines)) begun).holds
-
-pub is_named : (nodes : ℕ) (lines : List Line) (m : Mesh) (ends : List End) → 1 ≤ nodes → ArePlayable true nodes 0 lines → FollowsLines true nodes lines m ends → IsNamed lines m ends
-is_named nodes lines m ends some can f = record {
-  some = subst (λ n. 1 ≤ n) (sym f.nodes_are) some;
-  deeds = playable_deeds true nodes 0 lines can;
-  as_many = ends_many true nodes lines m ends f;
-  follows = subst (λ n. FollowsLines true n lines m ends) (sym f.nodes_are) f;
-}

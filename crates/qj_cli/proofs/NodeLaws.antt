@@ -14,12 +14,13 @@ use Rattle.journal_node.proofs.NodeStands.{state_told, rows_start}
 use Rattle.node_session.specs.Session.{AreAnswered, EndsBy, IsSession, IsSessionOf}
 use Rattle.node_session.specs.declared.served.Served.{Served}
 use Rattle.node_session.specs.declared.served.Served.TheVariants as served
+use Rattle.node_world.proofs.CellCode.{step_up}
 use Rattle.qj_cli.specs.declared.status.Status.{Status}
 use Rattle.qj_cli.specs.Uses.{SourceUse, SinkUse, DiskUse}
 use Rattle.qj_cli.specs.Serving.{IsNodeSessionOf, ServesNode}
 use Rattle.qj_cli.specs.Crashes.{OutlastsCrashes, WasAsked}
 use Rattle.qj_cli.specs.NodeEnds.{IsKept, ServesFrom}
-use Rattle.qj_cli.proofs.CrashLaws.{step_up, outlasts}
+use Rattle.qj_cli.proofs.CrashLaws.{outlasts}
 
 -- ## A session leaves a node up or down, as it was
 answered_up : (s t : NodeState) (lines : List (List ℕ)) (text : List ℕ) → AreAnswered s lines text t → t.up ≡ s.up

@@ -16,12 +16,13 @@ use Rattle.cluster_runner.specs.Laws.{PlaysAgree, PlaysFollow, MeshesAreSafe, On
 use Rattle.cluster_runner.specs.Safe.{IsSafeWithEnds}
 use Rattle.cluster_runner.specs.Follows.{FollowsLines, FollowsScript}
 use Rattle.names_safety.specs.Laws.{EpochOrderIsSafe}
+use Rattle.names_safety.proofs.NamedPlays.{is_named}
 use Rattle.report_text.specs.Text.{text_of}
 use Rattle.report_text.specs.Summary.{summary_text}
 use Rattle.qj_cli.specs.Sound.{AreSound, ComeOf}
 use Rattle.qj_cli.specs.Report.{IsReport, ScriptsHaveOneReport}
 use Rattle.qj_cli.specs.Generates.{IsSummary, NumbersHaveOneSummary}
-use Rattle.qj_cli.proofs.MeshEnds.{meshes_hold_nothing, is_named}
+use Rattle.qj_cli.proofs.MeshEnds.{meshes_hold_nothing}
 
 -- ## Lists that a script leaves
 -- of a script with names or without, whoever made the lists

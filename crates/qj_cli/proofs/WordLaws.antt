@@ -4,6 +4,7 @@ use Rattle.std.specs.Prelude.{codes, Option, None, MatchOption, if◌then◌else
 use Rattle.std.specs.Str.{bytes_eq}
 use Rattle.std.specs.Str.Parse.{digits_value}
 use Rattle.std.proofs.lemmas.Slice.Eq.{bytes_eq-Decides}
+use Rattle.std.proofs.lemmas.Bool.{or_cases}
 use Rattle.script_text.specs.Words.{greatest, is_number}
 use Rattle.script_text.proofs.NumberLaws.{number_is, number_again, told_number}
 use Rattle.script_maker.specs.Generated.{IsWithin}
@@ -21,24 +22,16 @@ use Rattle.qj_cli.specs.Words.{StopAt, UsageIsOfFirstWrongWord}
 bytes_other : (a b : List ℕ) → bytes_eq a b ≡ false → a ≡ b → ⊥
 bytes_other a b n e = let y : bytes_eq a b ≡ true = (bytes_eq-Decides a b).1 e in absurd (cc (n, y))
 
-bytes_same : (a b : List ℕ) → bytes_eq a b ≡ true → a ≡ b
-bytes_same a b y = (bytes_eq-Decides a b).0 y
-
 both_not : (a : Bool) → a ≡ false → a ≡ true → ⊥
 both_not a n y = cc (n, y)
 
--- one of two tests holds
-either : (a b : Bool) → (a || b) ≡ true → (a ≡ true) ⊎ (b ≡ true)
-either true b e = inl refl
-either false b e = inr e
-
 -- one of three
 one_of_three : (word a b c : List ℕ) → (bytes_eq word a || (bytes_eq word b || bytes_eq word c)) ≡ true → (word ≡ a) ⊎ ((word ≡ b) ⊎ (word ≡ c))
-one_of_three word a b c t = ⊎_elim (λ y. inl (bytes_same word a y)) (λ r. inr (⊎_elim (λ y. inl (bytes_same word b y)) (λ y. inr (bytes_same word c y)) (either (bytes_eq word b) (bytes_eq word c) r)))
-    (either (bytes_eq word a) (bytes_eq word b || bytes_eq word c) t)
+one_of_three word a b c t = ⊎_elim (λ y. inl ((bytes_eq-Decides word a).0 y)) (λ r. inr (⊎_elim (λ y. inl ((bytes_eq-Decides word b).0 y)) (λ y. inr ((bytes_eq-Decides word c).0 y)) (or_cases (bytes_eq word b) (bytes_eq word c) r)))
+    (or_cases (bytes_eq word a) (bytes_eq word b || bytes_eq word c) t)
 
 alone_word : (word : List ℕ) → is_alone word ≡ true → IsCommand (word ∷ [])
-alone_word word t = of (either (bytes_eq word (codes "play")) (bytes_eq word (codes "run") || (bytes_eq word (codes "node") || bytes_eq word (codes "fsck"))) t)
+alone_word word t = of (or_cases (bytes_eq word (codes "play")) (bytes_eq word (codes "run") || (bytes_eq word (codes "node") || bytes_eq word (codes "fsck"))) t)
   where
     by : (word ≡ codes "run") ⊎ ((word ≡ codes "node") ⊎ (word ≡ codes "fsck")) → IsCommand (word ∷ [])
     by (inl e) = (run, record { words_are = ap (λ (w : List ℕ). w ∷ []) e; allowed = tt })
@@ -46,7 +39,7 @@ alone_word word t = of (either (bytes_eq word (codes "play")) (bytes_eq word (co
     by (inr (inr e)) = (fsck, record { words_are = ap (λ (w : List ℕ). w ∷ []) e; allowed = tt })
 
     of : (bytes_eq word (codes "play") ≡ true) ⊎ ((bytes_eq word (codes "run") || (bytes_eq word (codes "node") || bytes_eq word (codes "fsck"))) ≡ true) → IsCommand (word ∷ [])
-    of (inl y) = (play, record { words_are = ap (λ (w : List ℕ). w ∷ []) (bytes_same word (codes "play") y); allowed = tt })
+    of (inl y) = (play, record { words_are = ap (λ (w : List ℕ). w ∷ []) ((bytes_eq-Decides word (codes "play")).0 y); allowed = tt })
     of (inr y) = by (one_of_three word (codes "run") (codes "node") (codes "fsck") y)
 
 oev_word : (word : List ℕ) → is_oev word ≡ true → (of : SegmentTool) × (word ≡ segment_word of)
@@ -364,11 +357,11 @@ first_by : (word : List ℕ) (words : List (List ℕ)) (a o p q : Bool) → is_a
 unfolding usage_of
 first_by word words true o p q e h k g = rw e (alone_first word words e (alone_word word e))
 first_by word words false true p q e h k g =
-    rw (e, h) (subst (λ w. MatchOption (behind_program is_oev words) (IsCommand (w ∷ words)) (StopAt (w ∷ words))) (sym (bytes_same word (codes "oev") h)) (oev_first words))
+    rw (e, h) (subst (λ w. MatchOption (behind_program is_oev words) (IsCommand (w ∷ words)) (StopAt (w ∷ words))) (sym ((bytes_eq-Decides word (codes "oev")).0 h)) (oev_first words))
 first_by word words false false true q e h k g =
-    rw (e, h, k) (subst (λ w. MatchOption (behind_program is_oiv words) (IsCommand (w ∷ words)) (StopAt (w ∷ words))) (sym (bytes_same word (codes "oiv") k)) (oiv_first words))
+    rw (e, h, k) (subst (λ w. MatchOption (behind_program is_oiv words) (IsCommand (w ∷ words)) (StopAt (w ∷ words))) (sym ((bytes_eq-Decides word (codes "oiv")).0 k)) (oiv_first words))
 first_by word words false false false true e h k g =
-    rw (e, h, k, g) (subst (λ w. MatchOption (behind_gen words) (IsCommand (w ∷ words)) (StopAt (w ∷ words))) (sym (bytes_same word (codes "gen") g)) (gen_first words))
+    rw (e, h, k, g) (subst (λ w. MatchOption (behind_gen words) (IsCommand (w ∷ words)) (StopAt (w ∷ words))) (sym ((bytes_eq-Decides word (codes "gen")).0 g)) (gen_first words))
 first_by word words false false false false e h k g =
     rw (e, h, k, g) (wrong_first word words e (bytes_other word (codes "oev") h) (bytes_other word (codes "oiv") k) (bytes_other word (codes "gen") g))
 

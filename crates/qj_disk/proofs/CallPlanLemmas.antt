@@ -4,6 +4,7 @@ use Rattle.std.specs.declared.alloc.Global.{Global}
 use Rattle.std.specs.Prelude.{Vec, min, Option, Some, None, Ok, Err, nat_lt, ◌==◌, option_map, if◌then◌else◌}
 use Rattle.std.specs.List.{list_any, list_all}
 use Rattle.std.proofs.lemmas.Bool.Decides.{nat_tests}
+use Rattle.std.proofs.lemmas.Bool.{and_parts}
 use Rattle.qj_disk.specs.Calls.{HasCause}
 use Rattle.qj_disk.specs.CallPlan.{is_listed, is_stopped, is_past, IsSteady, left_of, Counted}
 use Rattle.qj_disk.specs.declared.disk.DiskFail.TheVariants.{Failed}
@@ -18,20 +19,16 @@ below_other n m = grind (arith, nat_tests)
 above_none : (k : ℕ) → (suc k == 0) ≡ false
 above_none k = grind (arith, nat_tests)
 
-both_true : (a b : Bool) → (a && b) ≡ true → (a ≡ true) × (b ≡ true)
-both_true true b h = (refl, h)
-both_true false b h = absurd (cc)
-
 past_more : (xs : List ℕ) (m k : ℕ) → m ≤ k → list_all (λ n. nat_lt n m) xs ≡ true → list_all (λ n. nat_lt n k) xs ≡ true
 past_more [] m k le all = refl
 past_more (x ∷ xs) m k le all =
-    let both = both_true (nat_lt x m) (list_all (λ n. nat_lt n m) xs) all in
+    let both = and_parts (nat_lt x m) (list_all (λ n. nat_lt n m) xs) all in
     ap (λ (b : Bool). b && list_all (λ n. nat_lt n k) xs) (below_more x m k le both.0) ∙ past_more xs m k le both.1
 
 past_none : (xs : List ℕ) (m : ℕ) → list_all (λ n. nat_lt n m) xs ≡ true → list_any (λ n. n == m) xs ≡ false
 past_none [] m all = refl
 past_none (x ∷ xs) m all =
-    let both = both_true (nat_lt x m) (list_all (λ n. nat_lt n m) xs) all in
+    let both = and_parts (nat_lt x m) (list_all (λ n. nat_lt n m) xs) all in
     ap (λ (b : Bool). b || list_any (λ n. n == m) xs) (below_other x m both.0) ∙ past_none xs m both.1
 
 -- a call counted

@@ -1,11 +1,9 @@
 -- Numbers in decimal.
-use Rattle.std.proofs.Common.{ℕ, ◌≡◌, ◌<◌, ◌≤◌, ◌+◌, ◌-◌, ◌^◌, List, [], ◌∷◌, ◌++◌, length, take, drop, replicate, sym, ◌∙◌, ap, append_assoc, append-nil, decimal, rules}
-use Rattle.std.proofs.lemmas.Fmt.{length-decimal-le, decimal_digit}
+use Rattle.std.proofs.Common.{ℕ, ◌≡◌, ◌<◌, ◌+◌, ◌-◌, List, [], ◌∷◌, ◌++◌, length, take, drop, replicate, sym, ◌∙◌, ap, append_assoc, append-nil, decimal}
+use Rattle.std.proofs.lemmas.Fmt.{decimal_digit}
 use Rattle.std.proofs.lemmas.List.{take_rest}
 use Rattle.request_text.specs.Texts.{numbers_text}
-
-pub decimal_short : (n : ℕ) → n < 2 ^ 64 → length (decimal n) ≤ 20
-decimal_short n h = search (rules, length-decimal-le 20)
+use Rattle.request_text.proofs.PrintLaws.{decimal_short}
 
 -- the digits stand behind the place at which they start
 pub digits_piece : (n start : ℕ) (buf : List ℕ) → length buf ≡ 20 → drop start buf ≡ decimal n ++ drop 20 (replicate 20 32) → take (20 - start) (drop start buf) ≡ decimal n

@@ -74,14 +74,14 @@ lines_begun n h = counted_none n h ∙ ap (λ xs. counted n xs) lines_nil
 pub lines_on : (n m r i : ℕ) (d : SegmentLine) (lines : List SegmentLine) → m ≡ counted n (lines_text (take i lines)) → i < length lines → r ≡ counted m (line_text (get_or lines i d)) → r ≡ counted n (lines_text (take (i + 1) lines))
 lines_on n m r i d lines one l two = counted_on n m r (lines_text (take i lines)) (line_text (get_or lines i d)) (lines_text (take (i + 1) lines)) one two (lines_more lines i d l)
 
-hex-length : (bytes : List ℕ) → length (hex_text bytes) ≡ 2 * length bytes
+pub length-hex_text : (bytes : List ℕ) → length (hex_text bytes) ≡ 2 * length bytes
 unfolding hex_text
-hex-length [] = refl
-hex-length (b ∷ bytes) = let e = hex-length bytes in omega (arith, e)
+length-hex_text [] = refl
+length-hex_text (b ∷ bytes) = let e = length-hex_text bytes in omega (arith, e)
 
 pub body_counted : (n a b r : ℕ) (bytes : List ℕ) → a ≡ min (n + 1) 18446744073709551615 → b ≡ min (a + length bytes) 18446744073709551615 → r ≡ min (b + length bytes) 18446744073709551615 → r ≡ counted n (32 ∷ hex_text bytes)
 unfolding counted
-body_counted n a b r bytes x y z = let h = hex-length bytes in omega (arith, h, x, y, z)
+body_counted n a b r bytes x y z = let h = length-hex_text bytes in omega (arith, h, x, y, z)
 
 pub ruleset counts = (numbers_begun, numbers_on, bodies_begun, bodies_on, counted_on)
 

@@ -2,27 +2,24 @@
 use Rattle.std.proofs.Common.{ℕ, ◌≡◌, ◌<◌, ◌≤◌, ◌+◌, ◌-◌, ◌*◌, ◌/◌, ◌%◌, List, [], ◌∷◌, ◌++◌, length, Bool, true, false, not, ◌&&◌, ◌||◌, inl, inr, refl, sym, ap, arith, ◌∙◌, nat_le, nat_lt, cond, map, suc}
 use Rattle.std.specs.List.{list_all, AllByRecursion}
 use Rattle.std.specs.Str.{bytes_eq}
-use Rattle.std.proofs.lemmas.Bool.{false≢true}
+use Rattle.std.proofs.lemmas.Bool.{false≢true, and_parts}
 use Rattle.std.proofs.lemmas.Bool.Decides.{nat_tests, leb_tells}
 use Rattle.request_text.specs.Texts.{hex_digit, hex_text}
+use Rattle.request_text.proofs.CountLaws.{length-hex_text}
 use Rattle.script_text.specs.Lines.{Lacks, is_plain}
 use Rattle.script_text.specs.Words.{joined, words_of, is_empty, is_letter, is_name_byte, is_word_of_name, is_name, operator, hex_byte, is_hex_digit, is_hex, is_body, IsByte, IsBody}
-use Rattle.script_text.proofs.WordLaws.{words_more, words_all, length-hex_text}
-
-pub both : (a b : Bool) → (a && b) ≡ true → (a ≡ true) × (b ≡ true)
-both true b e = (refl, e)
-both false b e = absurd (false≢true e)
+use Rattle.script_text.proofs.WordLaws.{words_more, words_all}
 
 pub all_append : (p : ℕ → Bool) (xs ys : List ℕ) → list_all p xs ≡ true → list_all p ys ≡ true → list_all p (xs ++ ys) ≡ true
 all_append p [] ys h k = k
 all_append p (x ∷ xs) ys h k =
-    let t : (p x ≡ true) × (list_all p xs ≡ true) = both (p x) (list_all p xs) h in
+    let t : (p x ≡ true) × (list_all p xs ≡ true) = and_parts (p x) (list_all p xs) h in
     rw t.0 (all_append p xs ys t.1 k)
 
 all_weaker : (p q : ℕ → Bool) → ((b : ℕ) → p b ≡ true → q b ≡ true) → (xs : List ℕ) → list_all p xs ≡ true → list_all q xs ≡ true
 all_weaker p q w [] h = refl
 all_weaker p q w (x ∷ xs) h =
-    let t : (p x ≡ true) × (list_all p xs ≡ true) = both (p x) (list_all p xs) h in
+    let t : (p x ≡ true) × (list_all p xs ≡ true) = and_parts (p x) (list_all p xs) h in
     let u : q x ≡ true = w x t.0 in
     rw u (all_weaker p q w xs t.1)
 
@@ -36,7 +33,7 @@ IsWord word = list_all is_word_byte word ≡ true
 
 byte_between : (b : ℕ) → is_word_byte b ≡ true → (33 ≤ b) × (b ≤ 126)
 byte_between b h =
-    let t : (nat_le 33 b ≡ true) × (nat_le b 126 ≡ true) = both (nat_le 33 b) (nat_le b 126) h in
+    let t : (nat_le 33 b ≡ true) × (nat_le b 126 ≡ true) = and_parts (nat_le 33 b) (nat_le b 126) h in
     (le_true 33 b t.0, le_true b 126 t.1)
   where
     le_true : (m n : ℕ) → nat_le m n ≡ true → m ≤ n
@@ -56,13 +53,13 @@ between_is low high b l h =
 
 pub between_from : (low high b : ℕ) → (nat_le low b && nat_le b high) ≡ true → (low ≤ b) × (b ≤ high)
 between_from low high b e =
-    let t : (nat_le low b ≡ true) × (nat_le b high ≡ true) = both (nat_le low b) (nat_le b high) e in
+    let t : (nat_le low b ≡ true) × (nat_le b high ≡ true) = and_parts (nat_le low b) (nat_le b high) e in
     (le_from low b t.0, le_from b high t.1)
 
 pub word_lacks : (c : ℕ) (word : List ℕ) → c < 33 → IsWord word → Lacks c word
 word_lacks c [] l h = tt
 word_lacks c (b ∷ bs) l h =
-    let t : (is_word_byte b ≡ true) × (list_all is_word_byte bs ≡ true) = both (is_word_byte b) (list_all is_word_byte bs) h in
+    let t : (is_word_byte b ≡ true) × (list_all is_word_byte bs ≡ true) = and_parts (is_word_byte b) (list_all is_word_byte bs) h in
     let r : (33 ≤ b) × (b ≤ 126) = byte_between b t.0 in
     ((λ e. absurd (omega (arith, r.0, e))), word_lacks c bs l t.1)
 
@@ -94,14 +91,14 @@ letter_is b h = let r : (97 ≤ b) × (b ≤ 122) = between_from 97 122 b h in b
 word_of_name : (word : List ℕ) → is_word_of_name word ≡ true → IsWord word × (is_empty word ≡ false)
 word_of_name [] h = absurd (false≢true h)
 word_of_name (b ∷ bs) h =
-    let t : ((is_letter b && list_all is_name_byte bs) ≡ true) × (nat_lt (length bs) 16 ≡ true) = both (is_letter b && list_all is_name_byte bs) (nat_lt (length bs) 16) h in
-    let u : (is_letter b ≡ true) × (list_all is_name_byte bs ≡ true) = both (is_letter b) (list_all is_name_byte bs) t.0 in
+    let t : ((is_letter b && list_all is_name_byte bs) ≡ true) × (nat_lt (length bs) 16 ≡ true) = and_parts (is_letter b && list_all is_name_byte bs) (nat_lt (length bs) 16) h in
+    let u : (is_letter b ≡ true) × (list_all is_name_byte bs ≡ true) = and_parts (is_letter b) (list_all is_name_byte bs) t.0 in
     let v : is_word_byte b ≡ true = letter_is b u.0 in
     (rw v (all_weaker is_name_byte is_word_byte name_byte_is bs u.1), refl)
 
 pub name_is_word : (word : List ℕ) → is_name word ≡ true → IsWord word × (is_empty word ≡ false)
 unfolding is_name
-name_is_word word h = word_of_name word (both (is_word_of_name word) (not (bytes_eq word operator)) h).0
+name_is_word word h = word_of_name word (and_parts (is_word_of_name word) (not (bytes_eq word operator)) h).0
 
 -- ## Hexadecimal
 or_true : (b : Bool) → (b || true) ≡ true
@@ -218,8 +215,8 @@ unfolding hex_text
 bytes_of [] e = ([], refl, tt)
 bytes_of (high ∷ []) e = absurd (false≢true e)
 bytes_of (high ∷ low ∷ digits) e =
-    let t : ((is_hex_digit high && is_hex_digit low) ≡ true) × (is_hex digits ≡ true) = both (is_hex_digit high && is_hex_digit low) (is_hex digits) e in
-    let u : (is_hex_digit high ≡ true) × (is_hex_digit low ≡ true) = both (is_hex_digit high) (is_hex_digit low) t.0 in
+    let t : ((is_hex_digit high && is_hex_digit low) ≡ true) × (is_hex digits ≡ true) = and_parts (is_hex_digit high && is_hex_digit low) (is_hex digits) e in
+    let u : (is_hex_digit high ≡ true) × (is_hex_digit low ≡ true) = and_parts (is_hex_digit high) (is_hex_digit low) t.0 in
     let b = byte_of high low u.0 u.1 in
     let bs = bytes_of digits t.1 in
     (b.0 ∷ bs.0, ap (λ xs. xs ++ hex_text bs.0) b.2 ∙ ap (λ xs. high ∷ low ∷ xs) bs.1, (b.1, bs.2))
@@ -227,8 +224,8 @@ bytes_of (high ∷ low ∷ digits) e =
 body_of : (word : List ℕ) → is_body word ≡ true → (body : List ℕ) × (hex_text body ≡ word) × IsBody body
 unfolding is_body
 body_of word e =
-    let t : ((nat_le (length word) 8192 && is_hex word) ≡ true) × (not (is_empty word) ≡ true) = both (nat_le (length word) 8192 && is_hex word) (not (is_empty word)) e in
-    let u : (nat_le (length word) 8192 ≡ true) × (is_hex word ≡ true) = both (nat_le (length word) 8192) (is_hex word) t.0 in
+    let t : ((nat_le (length word) 8192 && is_hex word) ≡ true) × (not (is_empty word) ≡ true) = and_parts (nat_le (length word) 8192 && is_hex word) (not (is_empty word)) e in
+    let u : (nat_le (length word) 8192 ≡ true) × (is_hex word ≡ true) = and_parts (nat_le (length word) 8192) (is_hex word) t.0 in
     let bs = bytes_of word u.1 in
     let two : 2 * length bs.0 ≡ length word = sym (length-hex_text bs.0) ∙ ap length bs.1 in
     let most : length word ≤ 8192 = le_from (length word) 8192 u.0 in
@@ -242,7 +239,7 @@ body_of word e =
 pub bodies_of : (words : List (List ℕ)) → list_all is_body words ≡ true → (bodies : List (List ℕ)) × (map hex_text bodies ≡ words) × AllByRecursion IsBody bodies
 bodies_of [] e = ([], refl, tt)
 bodies_of (word ∷ words) e =
-    let t : (is_body word ≡ true) × (list_all is_body words ≡ true) = both (is_body word) (list_all is_body words) e in
+    let t : (is_body word ≡ true) × (list_all is_body words ≡ true) = and_parts (is_body word) (list_all is_body words) e in
     let b = body_of word t.0 in
     let bs = bodies_of words t.1 in
     (b.0 ∷ bs.0, ap (λ x. x ∷ map hex_text bs.0) b.1 ∙ ap (λ xs. word ∷ xs) bs.1, (b.2, bs.2))

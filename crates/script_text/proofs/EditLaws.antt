@@ -1,7 +1,7 @@
 -- Edits in a line: their texts, with words `;` between.
 use Rattle.std.proofs.Common.{ℕ, ◌≡◌, ◌≢◌, ◌+◌, ◌-◌, List, [], ◌∷◌, ◌++◌, length, length-append, map, take, Bool, true, false, refl, sym, ap, arith, ◌∙◌, append_assoc, append-nil, cond, subst, inl, inr}
 use Rattle.std.specs.List.{list_all, list_any, flat_map, slice_split, onto_first, AllByRecursion}
-use Rattle.std.proofs.lemmas.Bool.{false≢true}
+use Rattle.std.proofs.lemmas.Bool.{false≢true, and_parts, or_parts}
 use Rattle.std.proofs.lemmas.Bool.Decides.{eqb_tells}
 use Rattle.std.proofs.lemmas.List.{take_at}
 use Rattle.std.proofs.lemmas.Slice.Eq.{bytes_eq-Decides}
@@ -16,8 +16,7 @@ use Rattle.script_text.specs.Words.{joined, is_space, words_of, is_empty}
 use Rattle.script_text.specs.Edits.{separator, is_separator, texts_between, are_edits, edits_text, edit_words, IsSayable}
 use Rattle.script_text.specs.Reading.{HasText}
 use Rattle.script_text.proofs.WordLaws.{words_more, words_all, words_joined, words_some, all_push}
-use Rattle.script_text.proofs.BodyLaws.{both, IsWord, words_again}
-use Rattle.script_text.proofs.KindLaws.{or_false}
+use Rattle.script_text.proofs.BodyLaws.{IsWord, words_again}
 
 -- ## Words of texts
 onto_lacks : (b : ℕ) (parts : List (List ℕ)) → b ≢ 32 → AllByRecursion (Lacks 32) parts → AllByRecursion (Lacks 32) (onto_first b parts)
@@ -117,13 +116,13 @@ are_groups (word ∷ words) h = by (is_separator word) refl (are_groups words h.
 split_apart : (group words : List (List ℕ)) → list_any is_separator group ≡ false → slice_split is_separator (group ++ separator ∷ words) ≡ group ∷ slice_split is_separator words
 split_apart [] words n = refl
 split_apart (word ∷ group) words n =
-    let t = or_false (is_separator word) (list_any is_separator group) n in
+    let t = or_parts (is_separator word) (list_any is_separator group) n in
     rw t.0 (ap (onto_first word) (split_apart group words t.1))
 
 split_last : (group : List (List ℕ)) → list_any is_separator group ≡ false → slice_split is_separator group ≡ group ∷ []
 split_last [] n = refl
 split_last (word ∷ group) n =
-    let t = or_false (is_separator word) (list_any is_separator group) n in
+    let t = or_parts (is_separator word) (list_any is_separator group) n in
     rw t.0 (ap (onto_first word) (split_last group t.1))
 
 -- ## The words of edits
@@ -186,7 +185,7 @@ edit_full e is =
 full_append : (xs ys : List (List ℕ)) → AreFull xs → AreFull ys → AreFull (xs ++ ys)
 full_append [] ys p q = q
 full_append (x ∷ xs) ys p q =
-    let t = or_false (is_empty x) (list_any is_empty xs) p.1 in
+    let t = or_parts (is_empty x) (list_any is_empty xs) p.1 in
     let r = full_append xs ys (p.0.1, t.1) q in
     ((p.0.0, r.0), rw t.0 r.1)
 
@@ -225,7 +224,7 @@ edits_again es n h = ap edits_from (texts_again es n h) ∙ edits_again_from es 
 pub edits_told : (ts : List (List ℕ)) → list_all is_edit_text ts ≡ true → (es : List EditView) × (map (text_of false) es ≡ ts) × AllByRecursion HasText es
 edits_told [] h = ([], refl, tt)
 edits_told (t ∷ ts) h =
-    let p = both (is_edit_text t) (list_all is_edit_text ts) h in
+    let p = and_parts (is_edit_text t) (list_all is_edit_text ts) h in
     let first = edit_from t p.0 in
     let rest = edits_told ts p.1 in
     (first.0 ∷ rest.0, (λ i. sym first.1.spelled i ∷ rest.1 i), (subst (λ (x : List ℕ). IsText x first.0) first.1.spelled first.1, rest.2))
@@ -298,7 +297,7 @@ ended_push (w ∷ before) word rest =
 any_push : (words : List (List ℕ)) (word : List ℕ) → list_any is_separator words ≡ false → is_separator word ≡ false → list_any is_separator (words ++ word ∷ []) ≡ false
 any_push [] word n e = rw e refl
 any_push (w ∷ words) word n e =
-    let t = or_false (is_separator w) (list_any is_separator words) n in
+    let t = or_parts (is_separator w) (list_any is_separator words) n in
     rw t.0 (any_push words word t.1 e)
 
 -- the words of a rest with a space

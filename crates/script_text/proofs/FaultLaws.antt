@@ -104,10 +104,10 @@ behind_loud : (said : Option SaidView) (text : List ℕ) → is_silent text ≡ 
 unfolding said_behind
 behind_loud said text q = rw q refl
 
-telling_silent : (text : List ℕ) (lines : List Line) → is_silent text ≡ true → telling (Ended text ∷ lines) ≡ telling lines
+pub telling_silent : (text : List ℕ) (lines : List Line) → is_silent text ≡ true → telling (Ended text ∷ lines) ≡ telling lines
 telling_silent text lines q = rw q refl
 
-telling_loud : (text : List ℕ) (lines : List Line) → is_silent text ≡ false → telling (Ended text ∷ lines) ≡ text ∷ telling lines
+pub telling_loud : (text : List ℕ) (lines : List Line) → is_silent text ≡ false → telling (Ended text ∷ lines) ≡ text ∷ telling lines
 telling_loud text lines q = rw q refl
 
 -- the lines say this script's lines

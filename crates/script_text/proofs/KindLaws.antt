@@ -4,7 +4,7 @@ use Rattle.std.specs.Prelude.{Result, Ok, Err, IfOk}
 use Rattle.std.specs.List.{list_any, find, AllByRecursion}
 use Rattle.std.specs.Str.{bytes_eq}
 use Rattle.std.proofs.lemmas.Slice.Eq.{bytes_eq-Decides}
-use Rattle.std.proofs.lemmas.Bool.{false≢true}
+use Rattle.std.proofs.lemmas.Bool.{false≢true, or_parts}
 use Rattle.std.proofs.lemmas.Bool.Decides.{nat_tests}
 use Rattle.script_text.specs.declared.task_word.TaskWord.TheVariants as task
 use Rattle.script_text.specs.declared.standby_word.StandbyWord.TheVariants as standby
@@ -22,47 +22,44 @@ use Rattle.script_text.specs.Reading.{IsRead, IsLineRead}
 use Rattle.script_text.proofs.WordLaws.{one_word}
 
 -- ## First words
-kind_by : (named : Bool) (k : Kind) → belongs named k ≡ true → kind_of named (keyword named k) ≡ Some k
-unfolding kind_of
-kind_by true kind.Declare h = refl
-kind_by false kind.Declare h = refl
-kind_by true (kind.Task task.Takeover) h = refl
-kind_by false (kind.Task task.Takeover) h = refl
-kind_by true (kind.Task task.Roll) h = refl
-kind_by false (kind.Task task.Roll) h = refl
-kind_by true (kind.Task task.Close) h = refl
-kind_by false (kind.Task task.Close) h = refl
-kind_by true kind.Log h = absurd (false≢true h)
-kind_by false kind.Log h = refl
-kind_by true kind.Edits h = refl
-kind_by false kind.Edits h = absurd (false≢true h)
-kind_by true kind.Purge h = absurd (false≢true h)
-kind_by false kind.Purge h = refl
-kind_by true kind.Trim h = refl
-kind_by false kind.Trim h = absurd (false≢true h)
-kind_by true (kind.Standby standby.Tail) h = refl
-kind_by false (kind.Standby standby.Tail) h = absurd (false≢true h)
-kind_by true (kind.Standby standby.Checkpoint) h = refl
-kind_by false (kind.Standby standby.Checkpoint) h = absurd (false≢true h)
-kind_by true (kind.Standby standby.Reload) h = refl
-kind_by false (kind.Standby standby.Reload) h = absurd (false≢true h)
-kind_by true (kind.Call call.Drop) h = refl
-kind_by false (kind.Call call.Drop) h = refl
-kind_by true (kind.Call call.Mute) h = refl
-kind_by false (kind.Call call.Mute) h = refl
-kind_by true (kind.Call call.Late) h = refl
-kind_by false (kind.Call call.Late) h = refl
-kind_by true (kind.Node node.Kill) h = refl
-kind_by false (kind.Node node.Kill) h = refl
-kind_by true (kind.Node node.Restart) h = refl
-kind_by false (kind.Node node.Restart) h = refl
-kind_by true kind.Stop h = refl
-kind_by false kind.Stop h = refl
-kind_by true kind.Cut h = refl
-kind_by false kind.Cut h = refl
-
 pub kind_is : (named : Bool) (k : Kind) → belongs named k ≡ true → kind_of named (keyword named k) ≡ Some k
-kind_is named k h = kind_by named k h
+unfolding kind_of
+kind_is true kind.Declare h = refl
+kind_is false kind.Declare h = refl
+kind_is true (kind.Task task.Takeover) h = refl
+kind_is false (kind.Task task.Takeover) h = refl
+kind_is true (kind.Task task.Roll) h = refl
+kind_is false (kind.Task task.Roll) h = refl
+kind_is true (kind.Task task.Close) h = refl
+kind_is false (kind.Task task.Close) h = refl
+kind_is true kind.Log h = absurd (false≢true h)
+kind_is false kind.Log h = refl
+kind_is true kind.Edits h = refl
+kind_is false kind.Edits h = absurd (false≢true h)
+kind_is true kind.Purge h = absurd (false≢true h)
+kind_is false kind.Purge h = refl
+kind_is true kind.Trim h = refl
+kind_is false kind.Trim h = absurd (false≢true h)
+kind_is true (kind.Standby standby.Tail) h = refl
+kind_is false (kind.Standby standby.Tail) h = absurd (false≢true h)
+kind_is true (kind.Standby standby.Checkpoint) h = refl
+kind_is false (kind.Standby standby.Checkpoint) h = absurd (false≢true h)
+kind_is true (kind.Standby standby.Reload) h = refl
+kind_is false (kind.Standby standby.Reload) h = absurd (false≢true h)
+kind_is true (kind.Call call.Drop) h = refl
+kind_is false (kind.Call call.Drop) h = refl
+kind_is true (kind.Call call.Mute) h = refl
+kind_is false (kind.Call call.Mute) h = refl
+kind_is true (kind.Call call.Late) h = refl
+kind_is false (kind.Call call.Late) h = refl
+kind_is true (kind.Node node.Kill) h = refl
+kind_is false (kind.Node node.Kill) h = refl
+kind_is true (kind.Node node.Restart) h = refl
+kind_is false (kind.Node node.Restart) h = refl
+kind_is true kind.Stop h = refl
+kind_is false kind.Stop h = refl
+kind_is true kind.Cut h = refl
+kind_is false kind.Cut h = refl
 
 -- the word is the kind's, which stands in such a script
 abbrev IsFirst : Bool → List ℕ → Kind → Type 0
@@ -88,10 +85,6 @@ keyword_is named word k e =
     ((bytes_eq-Decides word (keyword named k)).0 f.0, f.1)
 
 -- ## The number of words
-pub or_false : (a b : Bool) → (a || b) ≡ false → (a ≡ false) × (b ≡ false)
-or_false true b e = absurd (false≢true (sym e))
-or_false false b e = (refl, e)
-
 or_true : (b : Bool) → (b || true) ≡ true
 or_true true = refl
 or_true false = refl
@@ -108,7 +101,7 @@ first_first (b ∷ bs) ws e = refl
 pub first_is : (k : Kind) (words : List (List ℕ)) (w : List ℕ) (ws : List (List ℕ)) → bad_spacing k words ≡ false → words ≡ w ∷ ws → words ≡ first_word words ∷ ws
 first_is k words w ws e s =
     let f : bad_spacing k (w ∷ ws) ≡ false = ap (bad_spacing k) (sym s) ∙ e in
-    let n : is_empty w ≡ false = (or_false (is_empty w) (list_any is_empty ws) (or_false (list_any is_empty (w ∷ ws)) (not (has_length k (length (w ∷ ws)))) f).0).0 in
+    let n : is_empty w ≡ false = (or_parts (is_empty w) (list_any is_empty ws) (or_parts (list_any is_empty (w ∷ ws)) (not (has_length k (length (w ∷ ws)))) f).0).0 in
     s ∙ ap (λ v. v ∷ ws) (sym (first_first w ws n) ∙ ap first_word (sym s))
 
 few : (k : Kind) → has_length k 1 ≡ false
@@ -133,7 +126,7 @@ pub ruleset spacings = (first_is, too_few)
 pub count_behind : (k : Kind) (words : List (List ℕ)) (w : List ℕ) (ws : List (List ℕ)) → bad_spacing k words ≡ false → words ≡ w ∷ ws → has_length k (length ws + 1) ≡ true
 count_behind k words w ws e s =
     let n : length words ≡ length ws + 1 = ap length s ∙ omega arith in
-    ap (has_length k) (sym n) ∙ not_false (has_length k (length words)) (or_false (list_any is_empty words) (not (has_length k (length words))) e).1
+    ap (has_length k) (sym n) ∙ not_false (has_length k (length words)) (or_parts (list_any is_empty words) (not (has_length k (length words))) e).1
 
 pub behind_one : (n : ℕ) → ((n + 1) == 2) ≡ true → n ≡ 1
 behind_one n e = grind (arith, nat_tests)

@@ -3,7 +3,7 @@ use Rattle.std.proofs.Common.{ℕ, ◌≡◌, ◌≢◌, ◌<◌, ◌≤◌, ◌
 use Rattle.std.specs.Prelude.{is_some, is_none}
 use Rattle.std.specs.List.{list_all, AllByRecursion}
 use Rattle.std.specs.Str.Parse.{digits_value}
-use Rattle.std.proofs.lemmas.Bool.{false≢true}
+use Rattle.std.proofs.lemmas.Bool.{false≢true, and_parts}
 use Rattle.std.proofs.lemmas.Bool.Decides.{leb_tells}
 use Rattle.request_text.specs.Texts.{hex_text}
 use Rattle.journal_core.specs.declared.cut.Cut.{Cut}
@@ -30,7 +30,7 @@ use Rattle.script_text.specs.Words.{words_of, is_name, actor_of, is_number, choi
 use Rattle.script_text.specs.Grammar.{most_actors}
 use Rattle.script_text.specs.Rules.{has_length, later_rule}
 use Rattle.script_text.specs.Reading.{IsRead, Names, Tells, HasText}
-use Rattle.script_text.proofs.BodyLaws.{both, bodies_of}
+use Rattle.script_text.proofs.BodyLaws.{bodies_of}
 use Rattle.script_text.proofs.EditLaws.{edits_told, said_by_texts}
 use Rattle.script_text.proofs.NumberLaws.{told_number, chosen}
 use Rattle.script_text.proofs.NameLaws.{named}
@@ -186,7 +186,7 @@ call_words said c name i k e =
     let a = unless (is_none (actor_of said.names name)) 5 _ e in
     let b = unless (not (is_number 1 said.nodes i && is_number 1 greatest k)) 7 _ a.1 in
     let n = actor_is said.names name a.0 in
-    let t = both (is_number 1 said.nodes i) (is_number 1 greatest k) (not_false (is_number 1 said.nodes i && is_number 1 greatest k) b.0) in
+    let t = and_parts (is_number 1 said.nodes i) (is_number 1 greatest k) (not_false (is_number 1 said.nodes i && is_number 1 greatest k) b.0) in
     means_call said c name i k n.0 _ _ n.1 (told_number 1 said.nodes i t.0) (told_number 1 greatest k t.1) e
 
 node_words : (said : SaidView) (t : NodeWord) (i : List ℕ) → Words said (kind.Node t) (i ∷ [])
@@ -197,17 +197,17 @@ node_words said t i e =
 stop_words : (said : SaidView) (i calls keep : List ℕ) → Words said kind.Stop (i ∷ calls ∷ keep ∷ [])
 stop_words said i calls keep e =
     let a = unless (not (is_number 1 said.nodes i && is_number 1 greatest calls && is_number 0 greatest keep)) 7 _ e in
-    let t = both (is_number 1 said.nodes i && is_number 1 greatest calls) (is_number 0 greatest keep) (not_false (is_number 1 said.nodes i && is_number 1 greatest calls && is_number 0 greatest keep) a.0) in
-    let u = both (is_number 1 said.nodes i) (is_number 1 greatest calls) t.0 in
+    let t = and_parts (is_number 1 said.nodes i && is_number 1 greatest calls) (is_number 0 greatest keep) (not_false (is_number 1 said.nodes i && is_number 1 greatest calls && is_number 0 greatest keep) a.0) in
+    let u = and_parts (is_number 1 said.nodes i) (is_number 1 greatest calls) t.0 in
     means_stop said i calls keep _ _ _ (told_number 1 said.nodes i u.0) (told_number 1 greatest calls u.1) (told_number 0 greatest keep t.1) e
 
 cut_words : (said : SaidView) (i calls made word : List ℕ) → Words said kind.Cut (i ∷ calls ∷ made ∷ word ∷ [])
 cut_words said i calls made word e =
     let all : Bool = is_number 1 said.nodes i && is_number 1 greatest calls && is_number 0 greatest made && is_some (choice_of word) in
     let a = unless (not all) 7 _ e in
-    let h = both (is_number 1 said.nodes i && is_number 1 greatest calls && is_number 0 greatest made) (is_some (choice_of word)) (not_false all a.0) in
-    let t = both (is_number 1 said.nodes i && is_number 1 greatest calls) (is_number 0 greatest made) h.0 in
-    let u = both (is_number 1 said.nodes i) (is_number 1 greatest calls) t.0 in
+    let h = and_parts (is_number 1 said.nodes i && is_number 1 greatest calls && is_number 0 greatest made) (is_some (choice_of word)) (not_false all a.0) in
+    let t = and_parts (is_number 1 said.nodes i && is_number 1 greatest calls) (is_number 0 greatest made) h.0 in
+    let u = and_parts (is_number 1 said.nodes i) (is_number 1 greatest calls) t.0 in
     let c = choice_is (choice_of word) h.1 in
     means_cut said i calls made word _ _ _ c.0 (told_number 1 said.nodes i u.0) (told_number 1 greatest calls u.1) (told_number 0 greatest made t.1) c.1 e
 

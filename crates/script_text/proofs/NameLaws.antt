@@ -5,7 +5,7 @@ use Rattle.std.specs.Str.{bytes_eq}
 use Rattle.std.proofs.lemmas.Slice.Eq.{bytes_eq-Decides}
 use Rattle.std.proofs.lemmas.Bool.{false≢true}
 use Rattle.std.proofs.lemmas.Bool.Decides.{leb_tells}
-use Rattle.std.proofs.lemmas.List.{get_or_append_left, get_or_at}
+use Rattle.std.proofs.lemmas.List.{get_or_append_left, get_or_at, length_push}
 use Rattle.std.proofs.lemmas.List.Quantifiers.{position-Some}
 use Rattle.script_text.specs.Words.{is_name, actor_of, name_at}
 use Rattle.script_text.specs.Reading.{Names}
@@ -58,10 +58,6 @@ place_late p (x ∷ xs) y e t =
 lt_is : (m n : ℕ) → m < n → nat_lt m n ≡ true
 lt_is m n l = elim (leb_tells (suc m) n) [ inl p ↦ p.0 | inr p ↦ absurd (omega (arith, p.1)) ]
 
-length_more : (xs : List (List ℕ)) (y : List ℕ) → length (xs ++ y ∷ []) ≡ length xs + 1
-length_more [] y = refl
-length_more (x ∷ xs) y = omega (arith, length_more xs y)
-
 actor_is : (names : List (List ℕ)) (name : List ℕ) (actor : ℕ) → position_or_len (λ n. bytes_eq n name) names ≡ actor → actor < length names → actor_of names name ≡ Some actor
 unfolding actor_of
 actor_is names name actor e l =
@@ -110,7 +106,7 @@ known_push names name k n e =
         place_early (λ m. bytes_eq m (name_at names actor)) names (name ∷ []) (omega (arith, at.0, at.1)) ∙ at.0 in
         ap (actor_of (names ++ name ∷ [])) same ∙ actor_is (names ++ name ∷ []) (name_at names actor) actor early l
     found_in actor l (inr p) =
-        let at : actor ≡ length names = omega (arith, p.1, length_more names name) in
+        let at : actor ≡ length names = omega (arith, p.1, length_push names name) in
         let same : name_at (names ++ name ∷ []) actor ≡ name = get_or_at names name [] [] actor (sym at) in
         let late : position_or_len (λ m. bytes_eq m name) (names ++ name ∷ []) ≡ actor =
         place_late (λ m. bytes_eq m name) names name (place_none names name e) ((bytes_eq-Decides name name).1 refl) ∙ sym at in

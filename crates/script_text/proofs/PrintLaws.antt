@@ -3,12 +3,13 @@ use Rattle.std.proofs.Common.{ℕ, ◌≡◌, ◌<◌, ◌≤◌, List, [], ◌�
 use Rattle.std.specs.List.{list_all, AllByRecursion, flat_map}
 use Rattle.std.specs.Fmt.{digits}
 use Rattle.std.proofs.lemmas.Bool.Decides.{nat_tests}
+use Rattle.std.proofs.lemmas.Bool.{and_parts}
 use Rattle.script_text.specs.declared.script_line.ScriptLine.{ScriptLine}
 use Rattle.script_text.specs.Views.{ScriptView, SaidView}
 use Rattle.script_text.specs.Lines.{Ended, lines_of, ended, Lacks, is_plain, is_line, is_whole, longest_line}
 use Rattle.script_text.specs.Grammar.{words_in, line_text, first_line, nothing_said, said_after, texts_of, MaySay, AreLines, IsScript, IsScriptText, script_lines, script_text, is_silent, telling}
 use Rattle.script_text.proofs.LineLaws.{line_first, no_lines}
-use Rattle.script_text.proofs.BodyLaws.{both, between_from, joined_plain}
+use Rattle.script_text.proofs.BodyLaws.{between_from, joined_plain}
 use Rattle.script_text.proofs.NameLaws.{AreKnown, none_known}
 use Rattle.script_text.proofs.SenseLaws.{AreFew, known_after, nodes_after, words_are_words, not_silent}
 
@@ -16,7 +17,7 @@ use Rattle.script_text.proofs.SenseLaws.{AreFew, known_after, nodes_after, words
 plain_lacks : (line : List ℕ) → list_all is_plain line ≡ true → Lacks 10 line
 plain_lacks [] h = tt
 plain_lacks (b ∷ bs) h =
-    let t : (is_plain b ≡ true) × (list_all is_plain bs ≡ true) = both (is_plain b) (list_all is_plain bs) h in
+    let t : (is_plain b ≡ true) × (list_all is_plain bs ≡ true) = and_parts (is_plain b) (list_all is_plain bs) h in
     let r : (32 ≤ b) × (b ≤ 126) = between_from 32 126 b t.0 in
     ((λ e. absurd (omega (arith, r.0, e))), plain_lacks bs t.1)
 
@@ -27,7 +28,7 @@ pub record IsPrinted (line : List ℕ) : Type 0 where
 
 printed_lacks : (line : List ℕ) → is_line line ≡ true → Lacks 10 line
 unfolding is_line
-printed_lacks line h = plain_lacks line (both (list_all is_plain line) (nat_le (length line) longest_line) h).0
+printed_lacks line h = plain_lacks line (and_parts (list_all is_plain line) (nat_le (length line) longest_line) h).0
 
 le_true : (m n : ℕ) → m ≤ n → nat_le m n ≡ true
 le_true m n l = grind (arith, nat_tests)
@@ -128,7 +129,7 @@ ended_none_text : (out : List ℕ) → out ++ ended [] ≡ out
 unfolding ended
 ended_none_text out = append-nil out
 
-texts_first : (said : SaidView) (line : ScriptLine) (lines : List ScriptLine) → texts_of said (line ∷ lines) ≡ line_text said line ∷ texts_of (said_after said line) lines
+pub texts_first : (said : SaidView) (line : ScriptLine) (lines : List ScriptLine) → texts_of said (line ∷ lines) ≡ line_text said line ∷ texts_of (said_after said line) lines
 unfolding texts_of
 texts_first said line lines = refl
 
@@ -136,7 +137,7 @@ texts_none : (said : SaidView) → texts_of said [] ≡ []
 unfolding texts_of
 texts_none said = refl
 
-lines_first : (said : SaidView) (line : ScriptLine) (lines : List ScriptLine) → AreLines said (line ∷ lines) → MaySay said line × AreLines (said_after said line) lines
+pub lines_first : (said : SaidView) (line : ScriptLine) (lines : List ScriptLine) → AreLines said (line ∷ lines) → MaySay said line × AreLines (said_after said line) lines
 unfolding AreLines
 lines_first said line lines h = h
 

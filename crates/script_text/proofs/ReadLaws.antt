@@ -2,7 +2,7 @@
 use Rattle.std.proofs.Common.{ℕ, ◌≡◌, ◌<◌, ◌≤◌, ◌+◌, List, [], ◌∷◌, ◌++◌, length, drop, Option, Some, None, Bool, true, false, ◌&&◌, refl, sym, ap, arith, ◌∙◌, append_assoc, append-nil, nat_le, cond, subst}
 use Rattle.std.specs.Prelude.{Result, Ok, Err, IfOk, IfSome, IfNone, is_none}
 use Rattle.std.specs.List.{list_all}
-use Rattle.std.proofs.lemmas.Bool.{false≢true}
+use Rattle.std.proofs.lemmas.Bool.{and_parts}
 use Rattle.std.proofs.lemmas.Bool.Decides.{nat_tests}
 use Rattle.script_text.specs.declared.script_line.ScriptLine.{ScriptLine}
 use Rattle.script_text.specs.Views.{ScriptView, SaidView, ReadingView}
@@ -38,16 +38,12 @@ pub said_is : (said : SaidView) (text : List ℕ) (line : ScriptLine) → belong
 said_is said text line h e =
     ap (λ ws. Some (said_in said (kind_of said.named (first_word ws)) (drop 1 ws))) e ∙ ap (λ k. Some (said_in said k (operands said.names line))) (kind_of_words said line h)
 
-both_true : (a b : Bool) → (a && b) ≡ true → (a ≡ true) × (b ≡ true)
-both_true true b e = (refl, e)
-both_true false b e = absurd (false≢true e)
-
 le_from : (m n : ℕ) → nat_le m n ≡ true → m ≤ n
 le_from m n e = grind (arith, nat_tests)
 
 pub line_fits : (text : List ℕ) → is_line text ≡ true → length text ≤ longest_line
 unfolding is_line
-line_fits text e = le_from (length text) longest_line (both_true (list_all is_plain text) (nat_le (length text) longest_line) e).1
+line_fits text e = le_from (length text) longest_line (and_parts (list_all is_plain text) (nat_le (length text) longest_line) e).1
 
 -- ## Any line
 pub bad_line : (r : ReadingView) (text : List ℕ) → is_line text ≡ false → rule_of r.said text ≡ Some 10

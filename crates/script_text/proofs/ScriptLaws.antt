@@ -2,18 +2,19 @@
 use Rattle.std.proofs.Common.{ℕ, ◌≡◌, ◌<◌, ◌+◌, List, [], ◌∷◌, Option, Some, None, Bool, true, false, ◌⊎◌, inl, inr, refl, sym, ap, arith, ◌∙◌, subst, zero, suc}
 use Rattle.std.specs.List.{list_all}
 use Rattle.std.specs.Fmt.{digits}
-use Rattle.std.proofs.lemmas.Bool.{false≢true}
+use Rattle.std.proofs.lemmas.Bool.{false≢true, and_parts}
 use Rattle.script_text.specs.declared.script_line.ScriptLine.{ScriptLine}
 use Rattle.script_text.specs.Views.{ScriptView, SaidView}
 use Rattle.script_text.specs.Lines.{Line, Ended, Open, lines_of, is_line, is_whole}
 use Rattle.script_text.specs.Words.{words_of}
-use Rattle.script_text.specs.Grammar.{words_in, line_text, nothing_said, said_after, first_line, texts_of, MaySay, AreLines, is_silent, telling, script_lines, IsScriptText}
+use Rattle.script_text.specs.Grammar.{words_in, line_text, nothing_said, said_after, first_line, texts_of, AreLines, is_silent, telling, script_lines, IsScriptText}
 use Rattle.script_text.specs.Rules.{nodes_of, rule_said, rule_of, said_first, said_behind, said_next, or_later, first_fault, fault_of}
-use Rattle.script_text.proofs.BodyLaws.{both}
 use Rattle.script_text.proofs.NameLaws.{AreKnown, none_known}
 use Rattle.script_text.proofs.SenseLaws.{AreFew, words_back, says_it, known_after, nodes_after}
 use Rattle.script_text.proofs.MadeLaws.{same_line}
 use Rattle.script_text.proofs.ReadLaws.{said_is}
+use Rattle.script_text.proofs.PrintLaws.{texts_first, lines_first}
+use Rattle.script_text.proofs.FaultLaws.{telling_loud, telling_silent}
 
 -- ## No rule is broken
 pub told_all : (named : Bool) (nodes : ℕ) → 0 < nodes → nodes < 16 → said_first (first_line named nodes) ≡ Some (nothing_said named nodes)
@@ -73,20 +74,6 @@ texts_none : (said : SaidView) → texts_of said [] ≡ []
 unfolding texts_of
 texts_none said = refl
 
-texts_some : (said : SaidView) (line : ScriptLine) (lines : List ScriptLine) → texts_of said (line ∷ lines) ≡ line_text said line ∷ texts_of (said_after said line) lines
-unfolding texts_of
-texts_some said line lines = refl
-
-lines_some : (said : SaidView) (line : ScriptLine) (lines : List ScriptLine) → AreLines said (line ∷ lines) → MaySay said line × AreLines (said_after said line) lines
-unfolding AreLines
-lines_some said line lines h = h
-
-telling_silent : (text : List ℕ) (lines : List Line) → is_silent text ≡ true → telling (Ended text ∷ lines) ≡ telling lines
-telling_silent text lines q = rw q refl
-
-telling_loud : (text : List ℕ) (lines : List Line) → is_silent text ≡ false → telling (Ended text ∷ lines) ≡ text ∷ telling lines
-telling_loud text lines q = rw q refl
-
 bool_is : (b : Bool) → (b ≡ true) ⊎ (b ≡ false)
 bool_is true = inl refl
 bool_is false = inr refl
@@ -102,7 +89,7 @@ pub no_fault : (number : ℕ) (said : SaidView) (ls : List Line) (lines : List S
 no_fault number said [] lines k f w t a = fault_end number said
 no_fault number said (Open text ∷ ls) lines k f w t a = absurd (false≢true w)
 no_fault number said (Ended text ∷ ls) lines k f w t a =
-    let good = both (is_line text) (list_all is_whole ls) w in
+    let good = and_parts (is_line text) (list_all is_whole ls) w in
     elim (bool_is (is_silent text)) [
       | inl q ↦
           let rule = silent_rule (Some said) text good.0 q in
@@ -115,10 +102,10 @@ no_fault number said (Ended text ∷ ls) lines k f w t a =
         → is_silent text ≡ false → text ∷ telling ls ≡ texts_of said lines → AreLines said lines → first_fault number (Some said) (Ended text ∷ ls) ≡ None
     loud number said text ls [] k f w later q t a = absurd (cons_nil text (telling ls) (t ∙ texts_none said))
     loud number said text ls (line ∷ lines) k f w later q t a =
-        let both_are : text ∷ telling ls ≡ line_text said line ∷ texts_of (said_after said line) lines = t ∙ texts_some said line lines in
+        let both_are : text ∷ telling ls ≡ line_text said line ∷ texts_of (said_after said line) lines = t ∙ texts_first said line lines in
         let same : text ≡ line_text said line = cc in
         let rest : telling ls ≡ texts_of (said_after said line) lines = cc in
-        let may = lines_some said line lines a in
+        let may = lines_first said line lines a in
         let says = says_it said line k f may.0.here may.0.sense in
         let rule = telling_rule (Some said) text w q in
         let said_none : rule_said (Some said) text ≡ None = ap (rule_said (Some said)) same ∙ says.rule in
@@ -135,7 +122,7 @@ no_fault_yet : (number : ℕ) (ls : List Line) (named : Bool) (nodes : ℕ) (lin
 no_fault_yet number [] named nodes lines s l w t a = cc
 no_fault_yet number (Open text ∷ ls) named nodes lines s l w t a = absurd (false≢true w)
 no_fault_yet number (Ended text ∷ ls) named nodes lines s l w t a =
-    let good = both (is_line text) (list_all is_whole ls) w in
+    let good = and_parts (is_line text) (list_all is_whole ls) w in
     elim (bool_is (is_silent text)) [
       | inl q ↦
           let rule = silent_rule None text good.0 q in

@@ -7,6 +7,7 @@ use Rattle.std.proofs.lemmas.List.Splits.{join_with_byte-slice_split}
 use Rattle.request_text.specs.Texts.{hex_text}
 use Rattle.script_text.specs.Lines.{Lacks}
 use Rattle.request_text.proofs.WordLaws.{pair_of}
+use Rattle.request_text.proofs.CountLaws.{length-hex_text}
 use Rattle.script_text.specs.Words.{joined, is_space, words_of, hex_byte, IsByte, IsBody, StandFor, is_body, is_hex_digit, is_hex, is_empty}
 
 -- ## Words
@@ -75,11 +76,6 @@ some_of (b ∷ bs) h = refl
 last_false : (a b : Bool) → (a && false && b) ≡ false
 last_false true b = refl
 last_false false b = refl
-
-pub length-hex_text : (bytes : List ℕ) → length (hex_text bytes) ≡ 2 * length bytes
-unfolding hex_text
-length-hex_text [] = refl
-length-hex_text (b ∷ bs) = omega (arith, length-hex_text bs)
 
 -- one more byte
 pub hex_push : (bytes : List ℕ) (b high low : ℕ) (rest : List ℕ) → hex_byte b ≡ high ∷ low ∷ [] → hex_text (bytes ++ b ∷ []) ++ rest ≡ hex_text bytes ++ high ∷ low ∷ rest

@@ -1,12 +1,10 @@
 -- An acceptance on the files of one start: its content is written beside the file in progress, its record makes it count, and it
 -- takes the place of that file.
-use Rattle.std.proofs.Common.{inl, inr, ◌⊎◌, ◌≡◌, ◌≢◌, ℕ, List, [], ◌∷◌, ◌++◌, ap, sym, ◌∙◌, refl, subst, ◌^◌, ◌≤◌, Bool, true, false, take, append_assoc}
+use Rattle.std.proofs.Common.{inl, inr, ◌⊎◌, ◌≡◌, ◌≢◌, ℕ, List, ◌++◌, ap, sym, ◌∙◌, refl, subst, ◌^◌, ◌≤◌, Bool, true, false, append_assoc}
 use Rattle.std.specs.Prelude.{Option, Some, None, Result, codes}
 use Rattle.std.proofs.lemmas.Bool.{cases_eq}
-use Rattle.std.proofs.lemmas.Option.{same_Some}
-use Rattle.std.proofs.lemmas.List.{take_at, append-nil}
+use Rattle.std.proofs.lemmas.List.{append-nil}
 use Rattle.qj_num.specs.Padded.{padded}
-use Rattle.qj_num.proofs.PaddedLaws.{length-padded, padded_injective}
 use Rattle.qj_disk.specs.Files.{Files, Moves}
 use Rattle.qj_disk.specs.View.{View}
 use Rattle.qj_disk.specs.Calls.{Effect}
@@ -21,13 +19,7 @@ use Rattle.batch_frame.specs.Segments.{IsSegmentFile}
 use Rattle.segment_file.specs.Names.{Kind, InProgress, Final, Record, UnderWay, FreshRecord, name_of, IsKind, IsLasting}
 use Rattle.segment_file.specs.Stands.{Slot, slot_of, HasEpoch, IsRecordFile, IsAccepted, NoFinal, NoneUnderWay, CountsUnderWay, CountsPlain, Holds, SlotStands, StandsFor}
 use Rattle.segment_file.proofs.Frame.{stands_by, apart, kinds_apart, no_final_same, accepted_same, epoch_same, final_same}
-
--- a record has one epoch
-pub one_epoch : (file : Option (List ℕ)) (e f : ℕ) → HasEpoch file e → HasEpoch file f → e ≡ f
-one_epoch file e f one two =
-    let same : record_bytes (record { epoch = e; end = one.end }) ≡ record_bytes (record { epoch = f; end = two.end }) = sym one.spelled.spelled ∙ same_Some one.bytes two.bytes (sym one.there ∙ two.there) ∙ two.spelled.spelled in
-    padded_injective e f one.spelled.epoch two.spelled.epoch
-    (sym (take_at (padded 19 e) (32 ∷ (padded 19 one.end ++ 10 ∷ [])) 19 (length-padded 19 e)) ∙ ap (λ (l : List ℕ). take 19 l) same ∙ take_at (padded 19 f) (32 ∷ (padded 19 two.end ++ 10 ∷ [])) 19 (length-padded 19 f))
+use Rattle.segment_file.proofs.OpenFiles.{one_epoch}
 
 -- the content is written under the name of an epoch that the record hasn't
 module _ (start epoch : ℕ) (valid : IsKind start (UnderWay epoch)) where

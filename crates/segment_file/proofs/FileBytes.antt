@@ -1,5 +1,5 @@
 -- The bytes of a segment file, taken apart and put together.
-use Rattle.std.proofs.Common.{◌≡◌, ◌≢◌, ℕ, List, [], ◌∷◌, ◌++◌, ap, sym, ◌∙◌, refl, subst, arith, ◌+◌, ◌≤◌, get_or, take, drop, length, length-append, take-append-drop, append_assoc}
+use Rattle.std.proofs.Common.{◌≡◌, ◌≢◌, ℕ, List, [], ◌∷◌, ◌++◌, ap, sym, ◌∙◌, refl, subst, arith, ◌+◌, ◌≤◌, get_or, take, drop, length, length-append, take-append-drop, append_assoc, ◌^◌}
 use Rattle.std.specs.Prelude.{None}
 use Rattle.std.specs.List.{flat_map}
 use Rattle.std.proofs.lemmas.List.{take_at, drop_at, get_or-drop, append-nil, length-take-le}
@@ -20,6 +20,9 @@ pub record InRange (start epoch : ℕ) : Type 0 where
   pub start_within : start ≤ max_number
   pub some_epoch : 1 ≤ epoch
   pub epoch_within : epoch ≤ max_number
+
+pub in_range : (start epoch : ℕ) → (1 ≤ start) × (start ≤ 2 ^ 62) → (1 ≤ epoch) × (epoch ≤ 2 ^ 62) → InRange start epoch
+in_range start epoch a b = record { some_start = a.0; start_within = a.1; some_epoch = b.0; epoch_within = b.1 }
 
 pub record Parts (bytes : List ℕ) (start epoch : ℕ) (bodies : List (List ℕ)) (whole : ℕ) : Type 0 where
   pub range : InRange start epoch

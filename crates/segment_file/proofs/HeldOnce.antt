@@ -2,11 +2,11 @@
 use Rattle.std.proofs.Common.{inl, inr, ◌⊎◌, ◌≡◌, ◌≢◌, ℕ, ◌^◌, ◌≤◌, List, [], ◌∷◌, Bool, true, false, refl, sym, ◌∙◌, ap, subst, arith}
 use Rattle.std.specs.Prelude.{Option, Some, None}
 use Rattle.std.proofs.lemmas.Bool.{cases_eq, cases_lt}
-use Rattle.std.proofs.lemmas.Bool.Decides.{nat_tests}
 use Rattle.std.proofs.lemmas.Option.{same_Some}
 use Rattle.qj_disk.specs.Files.{Files}
 use Rattle.journal_core.specs.declared.segment.Segment.{Segment}
 use Rattle.journal_core.specs.Segments.{find_segment, AreAbove, AreRising}
+use Rattle.journal_core.proofs.PlaceLaws.{find_here, find_on, find_above, AreAbove-mono}
 use Rattle.batch_frame.specs.Segments.{IsSegmentFile}
 use Rattle.batch_frame.proofs.SegmentLaws.{one_segment}
 use Rattle.segment_file.specs.Names.{Final, Record, UnderWay}
@@ -94,23 +94,6 @@ pub found_once : (files : Files) (gs hs : List Segment) → StandsFor files gs �
 found_once files gs hs is also start first small = held_once start (slot_of files start) (find_segment start gs) (find_segment start hs) (is.slots start first small).holds (also.slots start first small).holds
 
 -- ## Lists by rising start
-find_here : (start : ℕ) (g : Segment) (gs : List Segment) → g.start ≡ start → find_segment start (g ∷ gs) ≡ Some g
-unfolding find_segment
-find_here start g gs same = grind (arith, nat_tests)
-
-find_on : (start : ℕ) (g : Segment) (gs : List Segment) → g.start ≢ start → find_segment start (g ∷ gs) ≡ find_segment start gs
-unfolding find_segment
-find_on start g gs ne = grind (arith, nat_tests)
-
-find_above : (start : ℕ) (gs : List Segment) → AreAbove start gs → find_segment start gs ≡ None
-unfolding find_segment
-find_above start [] above = refl
-find_above start (g ∷ gs) above = find_on start g gs (λ same. omega (arith, above.0, same)) ∙ find_above start gs above.1
-
-above_less : (low high : ℕ) (gs : List Segment) → low ≤ high → AreAbove high gs → AreAbove low gs
-above_less low high [] le above = tt
-above_less low high (g ∷ gs) le above = (omega (arith, above.0, le), above_less low high gs le above.1)
-
 pub none_some : (o : Option Segment) (g : Segment) → o ≡ None → o ≡ Some g → ⊥
 none_some o g none some = let p = sym none ∙ some in absurd (cc)
 
@@ -130,7 +113,7 @@ one_list (g ∷ gs) (h ∷ hs) r s a b same = elim (cases_eq g.start h.start) [
         | inr ne ↦ sym (find_on start g gs ne) ∙ same start low high ∙ find_on start h hs (λ at. ne (starts ∙ at))
       ]) i
   | inr ne ↦ elim (cases_lt g.start h.start) [
-    | inl lt ↦ absurd (not_above g gs (h ∷ hs) (same g.start a.0.0 a.0.1) (lt, above_less g.start h.start hs (omega (arith, lt)) s.0))
-    | inr le ↦ absurd (not_above h hs (g ∷ gs) (sym (same h.start b.0.0 b.0.1)) (omega (arith, le, ne), above_less h.start g.start gs (omega (arith, le)) r.0))
+    | inl lt ↦ absurd (not_above g gs (h ∷ hs) (same g.start a.0.0 a.0.1) (lt, AreAbove-mono g.start h.start hs (omega (arith, lt)) s.0))
+    | inr le ↦ absurd (not_above h hs (g ∷ gs) (sym (same h.start b.0.0 b.0.1)) (omega (arith, le, ne), AreAbove-mono h.start g.start gs (omega (arith, le)) r.0))
   ]
 ]

@@ -7,7 +7,7 @@ use Rattle.std.proofs.lemmas.Bool.Decides.{Decides-eqb}
 use Rattle.std.proofs.lemmas.List.Elements.{Contains-push_cases}
 use Rattle.qj_disk.specs.Files.{Files}
 use Rattle.qj_disk.specs.View.{View, IsSound}
-use Rattle.qj_disk.specs.Calls.{Rests, Lists, HasCause, Rose}
+use Rattle.qj_disk.specs.Calls.{Rests, Lists, HasCause}
 use Rattle.qj_disk.specs.declared.disk.DiskFail.{DiskFail}
 use Rattle.qj_disk.specs.declared.disk.DiskFail.TheVariants.{Failed}
 use Rattle.small_files.specs.Records.{IsRecord, paxos_name}
@@ -16,8 +16,10 @@ use Rattle.segment_file.specs.Names.{Record, name_of}
 use Rattle.segment_file.specs.Kinds.{IsNamed}
 use Rattle.segment_file.specs.Stands.{HasEpoch, IsRecordFile}
 use Rattle.segment_file.specs.Opening.{IsBadRecordFile, IsFirst}
-use Rattle.segment_file.proofs.AcceptLemmas.{record_name, one_epoch}
+use Rattle.segment_file.proofs.AcceptLemmas.{record_name}
 use Rattle.segment_file.proofs.TurnLemmas.{Turn, less_is_done}
+use Rattle.segment_file.proofs.OpenFiles.{one_epoch}
+use Rattle.segment_file.proofs.SyncLemmas.{rose_since}
 
 module _ (start : ℕ) (files : Files) where
   pub found_epoch : (epoch end : ℕ) → (bytes : List ℕ) × (files (paxos_name start) ≡ Some bytes) × IsRecord bytes (record { epoch = epoch; end = end }) → HasEpoch (files (name_of start Record)) epoch
@@ -59,9 +61,6 @@ bad_there files name is = by (files name) is.bad
     by : (file : Option (List ℕ)) → (IsRecordFile file → ⊥) → IsSome file
     by None bad = absurd (bad (inl refl))
     by (Some bytes) bad = refl
-
-rose_since : (a b c : ℕ) → a ≤ b → Rose b c → Rose a c
-rose_since a b c le rose = omega (arith, le, rose)
 
 pub rests_on : (u v w : View) → IsSound u → Rests u v → Rests v w → Rests u w
 rests_on u v w sound one two = record {

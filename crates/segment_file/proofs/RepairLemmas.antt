@@ -14,9 +14,11 @@ use Rattle.segment_file.specs.Opening.{IsTemporary, IsOther, Repairs}
 use Rattle.segment_file.specs.Completing.{HasFinal, IsContent, BecomesFile, BecomesContent, Spares, Cleans, IsLeftKind, IsLeftOver}
 use Rattle.segment_file.proofs.Frame.{stands_by, stands_same, apart, kinds_apart, final_same}
 use Rattle.segment_file.proofs.NamesLemmas.{same_start, same_kind}
-use Rattle.segment_file.proofs.AcceptLemmas.{way_stands, settled_stands, one_epoch}
+use Rattle.segment_file.proofs.AcceptLemmas.{way_stands, settled_stands}
 use Rattle.segment_file.proofs.OpenLemmas.{beside_final_stands}
 use Rattle.segment_file.proofs.TemporaryLemmas.{not_temporary, not_fresh, tmp_temporary}
+use Rattle.segment_file.proofs.EffectLaws.{none_is_not}
+use Rattle.segment_file.proofs.OpenFiles.{one_epoch}
 
 pub names_cases : (xs ys : List ℕ) → (xs ≡ ys) ⊎ (xs ≢ ys)
 names_cases xs ys = by (bytes_eq xs ys) refl
@@ -110,10 +112,6 @@ not_other name other start kind spelled is same = is start kind (sym spelled ∙
 
 pub renamed : (step : List ℕ → Files → Files → Type 0) (m n : List ℕ) (d c : Files) → m ≡ n → step m d c → step n d c
 renamed step m n d c same is = subst (λ (name : List ℕ). step name d c) same is
-
-none_is_not : (x : Option (List ℕ)) → x ≡ None → IsSome x → ⊥
-none_is_not None is some = absurd (cc)
-none_is_not (Some y) is some = absurd (cc)
 
 -- a final file is there in d
 pub record FinalThere (start : ℕ) (d : Files) : Type 0 where

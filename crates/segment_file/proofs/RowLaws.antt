@@ -1,6 +1,6 @@
 -- Laws of places in a list of rows by rising start.
-use Rattle.std.proofs.Common.{ℕ, ◌≡◌, ◌<◌, ◌≤◌, ◌+◌, List, [], ◌∷◌, length, Option, Some, None, Bool, true, false, cond, nat_lt, ◌==◌, refl, sym, ◌∙◌, ap, arith, take, drop, get_or, set, insert, add-one, suc, zero, ◌⊎◌, inl, inr, max, subst}
-use Rattle.std.proofs.lemmas.Bool.{cases_lt}
+use Rattle.std.proofs.Common.{ℕ, ◌≡◌, ◌<◌, ◌≤◌, ◌+◌, List, [], ◌∷◌, length, Option, Some, None, Bool, true, false, cond, nat_lt, ◌==◌, refl, sym, ◌∙◌, ap, arith, take, drop, get_or, set, insert, add-one, suc, zero, inl, inr, max, subst}
+use Rattle.std.proofs.lemmas.Bool.{cases_order}
 use Rattle.std.proofs.lemmas.Bool.Decides.{nat_tests}
 use Rattle.std.specs.List.{remove}
 use Rattle.std.proofs.lemmas.List.{drop_more, drop_all}
@@ -111,15 +111,15 @@ find_no : (start : ℕ) (row : SegmentRow) (rows : List SegmentRow) → start < 
 unfolding find_row
 find_no start row rows l = grind (arith, nat_tests)
 
-put_more : (new row : SegmentRow) (rows : List SegmentRow) → row.info.start < new.info.start → put_row new (row ∷ rows) ≡ row ∷ put_row new rows
+pub put_more : (new row : SegmentRow) (rows : List SegmentRow) → row.info.start < new.info.start → put_row new (row ∷ rows) ≡ row ∷ put_row new rows
 unfolding put_row
 put_more new row rows l = grind (arith, nat_tests)
 
-put_here : (new row : SegmentRow) (rows : List SegmentRow) → row.info.start ≡ new.info.start → put_row new (row ∷ rows) ≡ new ∷ rows
+pub put_here : (new row : SegmentRow) (rows : List SegmentRow) → row.info.start ≡ new.info.start → put_row new (row ∷ rows) ≡ new ∷ rows
 unfolding put_row
 put_here new row rows l = grind (arith, nat_tests)
 
-put_before : (new row : SegmentRow) (rows : List SegmentRow) → new.info.start < row.info.start → put_row new (row ∷ rows) ≡ new ∷ row ∷ rows
+pub put_before : (new row : SegmentRow) (rows : List SegmentRow) → new.info.start < row.info.start → put_row new (row ∷ rows) ≡ new ∷ row ∷ rows
 unfolding put_row
 put_before new row rows l = grind (arith, nat_tests)
 
@@ -177,23 +177,20 @@ pub put_between : (new : SegmentRow) (i : ℕ) (rows : List SegmentRow) → IsRo
 put_between new i rows p = insert_beside new i rows p.below p.above
 
 -- ## What keeps a list sound
-three : (a b : ℕ) → (a < b) ⊎ ((a ≡ b) ⊎ (b < a))
-three a b = elim (cases_lt a b) [ inl h ↦ inl h | inr h ↦ elim (cases_lt b a) [ inl k ↦ inr (inr k) | inr k ↦ inr (inl (omega arith)) ] ]
-
 put_above : (a : ℕ) (new : SegmentRow) (rows : List SegmentRow) → a < new.info.start → RowsAbove a rows → RowsAbove a (put_row new rows)
 put_above a new [] l p = rw (put_last new) (l, tt)
 put_above a new (row ∷ rows) l p =
-    elim (three new.info.start row.info.start) [ inl h ↦ rw (put_before new row rows h) (l, p) | inr q ↦ elim q [ inl h ↦ rw (put_here new row rows (sym h)) (l, p.1) | inr h ↦ rw (put_more new row rows h) (p.0, put_above a new rows l p.1) ] ]
+    elim (cases_order new.info.start row.info.start) [ inl h ↦ rw (put_here new row rows (sym h)) (l, p.1) | inr q ↦ elim q [ inl h ↦ rw (put_before new row rows h) (l, p) | inr h ↦ rw (put_more new row rows h) (p.0, put_above a new rows l p.1) ] ]
 
 pub put_rising : (new : SegmentRow) (rows : List SegmentRow) → RowsRise rows → RowsRise (put_row new rows)
 put_rising new [] r = rw (put_last new) (tt, tt)
 put_rising new (row ∷ rows) r =
-    elim (three new.info.start row.info.start) [ inl h ↦ rw (put_before new row rows h) ((h, RowsAbove-mono new.info.start row.info.start rows (omega arith) r.0), r) | inr q ↦ elim q [ inl h ↦ rw (put_here new row rows (sym h)) (rw h r.0, r.1) | inr h ↦ rw (put_more new row rows h) (put_above row.info.start new rows h r.0, put_rising new rows r.1) ] ]
+    elim (cases_order new.info.start row.info.start) [ inl h ↦ rw (put_here new row rows (sym h)) (rw h r.0, r.1) | inr q ↦ elim q [ inl h ↦ rw (put_before new row rows h) ((h, RowsAbove-mono new.info.start row.info.start rows (omega arith) r.0), r) | inr h ↦ rw (put_more new row rows h) (put_above row.info.start new rows h r.0, put_rising new rows r.1) ] ]
 
 pub put_within : (new : SegmentRow) (rows : List SegmentRow) → IsRowWithin new → RowsWithin rows → RowsWithin (put_row new rows)
 put_within new [] n r = rw (put_last new) (n, tt)
 put_within new (row ∷ rows) n r =
-    elim (three new.info.start row.info.start) [ inl h ↦ rw (put_before new row rows h) (n, r) | inr q ↦ elim q [ inl h ↦ rw (put_here new row rows (sym h)) (n, r.1) | inr h ↦ rw (put_more new row rows h) (r.0, put_within new rows n r.1) ] ]
+    elim (cases_order new.info.start row.info.start) [ inl h ↦ rw (put_here new row rows (sym h)) (n, r.1) | inr q ↦ elim q [ inl h ↦ rw (put_before new row rows h) (n, r) | inr h ↦ rw (put_more new row rows h) (r.0, put_within new rows n r.1) ] ]
 
 pub put_sound : (new : SegmentRow) (rows : List SegmentRow) → IsRowWithin new → AreSoundRows rows → AreSoundRows (put_row new rows)
 put_sound new rows n s = record { rising = put_rising new rows s.rising; within = put_within new rows n s.within }
@@ -254,17 +251,17 @@ remove_nowhere start i rows p = sym (remove_beside start i rows p.below p.above)
 above_less : (a start : ℕ) (rows : List SegmentRow) → RowsAbove a rows → RowsAbove a (remove_row start rows)
 above_less a start [] p = rw (remove_none start) tt
 above_less a start (row ∷ rows) p =
-    elim (three start row.info.start) [ inl h ↦ rw (remove_no start row rows h) (p.0, above_less a start rows p.1) | inr q ↦ elim q [ inl h ↦ rw (remove_here start row rows (sym h)) (above_less a start rows p.1) | inr h ↦ rw (remove_more start row rows h) (p.0, above_less a start rows p.1) ] ]
+    elim (cases_order start row.info.start) [ inl h ↦ rw (remove_here start row rows (sym h)) (above_less a start rows p.1) | inr q ↦ elim q [ inl h ↦ rw (remove_no start row rows h) (p.0, above_less a start rows p.1) | inr h ↦ rw (remove_more start row rows h) (p.0, above_less a start rows p.1) ] ]
 
 rising_less : (start : ℕ) (rows : List SegmentRow) → RowsRise rows → RowsRise (remove_row start rows)
 rising_less start [] r = rw (remove_none start) tt
 rising_less start (row ∷ rows) r =
-    elim (three start row.info.start) [ inl h ↦ rw (remove_no start row rows h) (above_less row.info.start start rows r.0, rising_less start rows r.1) | inr q ↦ elim q [ inl h ↦ rw (remove_here start row rows (sym h)) (rising_less start rows r.1) | inr h ↦ rw (remove_more start row rows h) (above_less row.info.start start rows r.0, rising_less start rows r.1) ] ]
+    elim (cases_order start row.info.start) [ inl h ↦ rw (remove_here start row rows (sym h)) (rising_less start rows r.1) | inr q ↦ elim q [ inl h ↦ rw (remove_no start row rows h) (above_less row.info.start start rows r.0, rising_less start rows r.1) | inr h ↦ rw (remove_more start row rows h) (above_less row.info.start start rows r.0, rising_less start rows r.1) ] ]
 
 within_less : (start : ℕ) (rows : List SegmentRow) → RowsWithin rows → RowsWithin (remove_row start rows)
 within_less start [] r = rw (remove_none start) tt
 within_less start (row ∷ rows) r =
-    elim (three start row.info.start) [ inl h ↦ rw (remove_no start row rows h) (r.0, within_less start rows r.1) | inr q ↦ elim q [ inl h ↦ rw (remove_here start row rows (sym h)) (within_less start rows r.1) | inr h ↦ rw (remove_more start row rows h) (r.0, within_less start rows r.1) ] ]
+    elim (cases_order start row.info.start) [ inl h ↦ rw (remove_here start row rows (sym h)) (within_less start rows r.1) | inr q ↦ elim q [ inl h ↦ rw (remove_no start row rows h) (r.0, within_less start rows r.1) | inr h ↦ rw (remove_more start row rows h) (r.0, within_less start rows r.1) ] ]
 
 pub remove_sound : (start i : ℕ) (rows : List SegmentRow) (d : SegmentRow) → AreSoundRows rows → IsRowAt start i rows → AreSoundRows (remove rows i)
 remove_sound start i rows d s p = rw (remove_there start i rows d s p) record { rising = rising_less start rows s.rising; within = within_less start rows s.within }

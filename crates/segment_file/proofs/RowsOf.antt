@@ -6,10 +6,12 @@ use Rattle.qj_disk.specs.Files.{Files}
 use Rattle.journal_core.specs.declared.segment.Segment.{Segment}
 use Rattle.journal_core.specs.declared.segment_info.SegmentInfo.{SegmentInfo}
 use Rattle.journal_core.specs.Segments.{find_segment, put_segment, remove_segment, newest, max_or, has_edit, any_body, end_of, AreAbove, AreRising}
+use Rattle.journal_core.proofs.PlaceLaws.{put_here, put_before, put_more}
 use Rattle.segment_file.specs.Names.{name_of, kind_of}
 use Rattle.segment_file.specs.declared.segment_row.SegmentRow.{SegmentRow}
 use Rattle.segment_file.specs.Rows.{find_row, put_row, remove_row, newest_row, row_has_edit}
 use Rattle.segment_file.specs.Opened.{IsRowOf, AreRowsOf, AreStarts}
+use Rattle.segment_file.proofs.RowLaws.{put_here as row_here, put_before as row_before, put_more as row_behind}
 
 module _ (seen : Files) where
   pub row_start : (g : Segment) (row : SegmentRow) → IsRowOf seen g row → row.info.start ≡ g.start
@@ -101,30 +103,6 @@ removed_others start [] = tt
 removed_others start (g ∷ gs) = cond_both (g.start == start) (remove_segment start gs) (g ∷ remove_segment start gs) (λ xs. AreOthers start xs)
     (λ e. removed_others start gs) (λ e. (eqb-false g.start start e, removed_others start gs))
 
-put_here : (g h : Segment) (gs : List Segment) → h.start ≡ g.start → put_segment g (h ∷ gs) ≡ g ∷ gs
-unfolding put_segment
-put_here g h gs same = grind (arith, nat_tests)
-
-put_before : (g h : Segment) (gs : List Segment) → g.start < h.start → put_segment g (h ∷ gs) ≡ g ∷ h ∷ gs
-unfolding put_segment
-put_before g h gs less = grind (arith, nat_tests)
-
-put_behind : (g h : Segment) (gs : List Segment) → h.start < g.start → put_segment g (h ∷ gs) ≡ h ∷ put_segment g gs
-unfolding put_segment
-put_behind g h gs less = grind (arith, nat_tests)
-
-row_here : (row r : SegmentRow) (rows : List SegmentRow) → r.info.start ≡ row.info.start → put_row row (r ∷ rows) ≡ row ∷ rows
-unfolding put_row
-row_here row r rows same = grind (arith, nat_tests)
-
-row_before : (row r : SegmentRow) (rows : List SegmentRow) → row.info.start < r.info.start → put_row row (r ∷ rows) ≡ row ∷ r ∷ rows
-unfolding put_row
-row_before row r rows less = grind (arith, nat_tests)
-
-row_behind : (row r : SegmentRow) (rows : List SegmentRow) → r.info.start < row.info.start → put_row row (r ∷ rows) ≡ r ∷ put_row row rows
-unfolding put_row
-row_behind row r rows less = grind (arith, nat_tests)
-
 put_alone : (seen : Files) (g : Segment) (row : SegmentRow) → IsRowOf seen g row → AreRowsOf seen (put_segment g []) (put_row row [])
 unfolding put_segment put_row
 put_alone seen g row is = (is, tt)
@@ -151,7 +129,7 @@ module _ (old new : Files) (start : ℕ) (same : (other end : ℕ) (is_final : B
       let row_at : row.info.start ≡ g.start = row_start new g row is in
       let r_at : r.info.start ≡ h.start = row_start old h r are.0 in
       elim (cases_lt h.start g.start) [
-        | inl less ↦ joined _ _ _ _ (put_behind g h gs less) (row_behind row r rows (omega (arith, less, row_at, r_at)))
+        | inl less ↦ joined _ _ _ _ (put_more g h gs less) (row_behind row r rows (omega (arith, less, row_at, r_at)))
             (row_beside h r (λ e. omega (arith, less, at, e)) are.0, put_rows_after g row at is gs rows rising.1 are.1)
         | inr le ↦ elim (cases_eq h.start g.start) [
           | inl e ↦ joined _ _ _ _ (put_here g h gs e) (row_here row r rows (omega (arith, e, row_at, r_at))) (is, rows_beside gs rows (others_above start h.start gs (omega (arith, e, at)) rising.0) are.1)

@@ -1,6 +1,6 @@
 -- What the threads and the gates leave is a mesh that agrees and follows.
 use Rattle.std.proofs.Common.{◌≡◌, ℕ, ◌+◌, ◌<◌, ◌≤◌, ◌==◌, Bool, List, [], Option, None, sym, refl, ap, ◌∙◌, subst, arith, length, get_or, ◌⊎◌, inl, inr}
-use Rattle.std.proofs.lemmas.List.{length-map}
+use Rattle.std.proofs.lemmas.List.{length-map, get_or_default}
 use Rattle.std.proofs.Math.ListN.{get_or-map}
 use Rattle.std.proofs.lemmas.Option.{get_or_from_slice_get}
 use Rattle.std.proofs.lemmas.Bool.Decides.{eqb_tells}
@@ -19,13 +19,13 @@ use Rattle.atomic_table.specs.Seated.{TableId}
 use Rattle.caller_seats.specs.Logs.{LogView}
 use Rattle.gate_seats.specs.Seated.{Seat}
 use Rattle.gate_seats.specs.Gates.{row_at, IsLeft}
-use Rattle.gate_seats.proofs.GateLaws.{get_any, element}
+use Rattle.gate_seats.proofs.GateLaws.{element}
 use Rattle.script_actor.specs.Lines.{Line, ArePlayable, declared, deeds_of, operations_in}
 use Rattle.cluster_runner.specs.Follows.{AreOperations}
 use Rattle.cluster_runner.proofs.ChoresMade.{chores_made}
 use Rattle.thread_runner.specs.Threads.{DoesLines, HasOperated, FollowsDeeds}
 use Rattle.thread_runner.specs.Gathered.{CallerLeaves, AreGathered, IsRunOf, last_in}
-use Rattle.thread_runner.proofs.LineLaws.{are_deeds}
+use Rattle.cluster_runner.proofs.PlayableDeeds.{playable_deeds}
 
 le_cases : (c d : ℕ) → c ≤ d → (c < d) ⊎ (c ≡ d)
 le_cases c d l = elim (eqb_tells c d) [ inl e ↦ inr e.1 | inr e ↦ inl (lt_of_le-ne l e.1) ]
@@ -71,7 +71,7 @@ module _ (named : Bool) (n operator c : ℕ) (lines : List Line) (tables : List 
 -- ## One node
 row_seat : (columns : List (List Seat)) (i c : ℕ) (d : Seat) → c < length columns → get_or (row_at i d columns) c d ≡ get_or (get_or columns c []) i d
 row_seat columns i c d l =
-    get_any (row_at i d columns) c d (get_or [] i d) (let n = length-map columns (λ (s : List Seat). get_or s i d) in omega (arith, l, n)) ∙ get_or-map (λ (s : List Seat). get_or s i d) columns c []
+    get_or_default (row_at i d columns) c d (get_or [] i d) (let n = length-map columns (λ (s : List Seat). get_or s i d) in omega (arith, l, n)) ∙ get_or-map (λ (s : List Seat). get_or s i d) columns c []
 
 node_same : (columns : List (List Seat)) (i c : ℕ) (d : Seat) (rs : List Record) (hs : List HistoryLine) → c < length columns → IsLeft (row_at i d columns) hs
     → AreSame (reached (i + 1) rs) (get_or (get_or columns c []) i d).own → AreSame (reached (i + 1) rs) (lines_of c hs)
@@ -128,7 +128,7 @@ module _ (named : Bool) (nodes : ℕ) (lines : List Line) (m : Mesh) (ends : Lis
       }
 
   made : (c : ℕ) → c < actors → IsOfChores nodes (record_of m c)
-  made c l = chores_made named nodes (deeds_of c lines) (record_of m c) (are_deeds named nodes 0 c lines playable) (actor c l (record { name = []; last = last_in ends c }) refl).led
+  made c l = chores_made named nodes (deeds_of c lines) (record_of m c) (playable_deeds named nodes 0 lines playable c) (actor c l (record { name = []; last = last_in ends c }) refl).led
 
   pub assembled : IsRunOf named nodes lines m ends
   assembled =

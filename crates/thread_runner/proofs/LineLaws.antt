@@ -1,12 +1,13 @@
 -- The lines of a script that can be played: each may come to its thread.
-use Rattle.std.proofs.Common.{◌≡◌, ◌≢◌, refl, ℕ, zero, suc, arith, ◌+◌, ◌==◌, List, [], ◌∷◌, map, Bool, true, false, cond}
+use Rattle.std.proofs.Common.{◌≡◌, ◌≢◌, refl, ℕ, zero, suc, arith, ◌+◌, List, [], ◌∷◌, map, Bool, true, false}
 use Rattle.std.specs.List.{All}
 use Rattle.script_text.specs.declared.script_line.ScriptLine.{ScriptLine}
 use Rattle.script_text.specs.declared.script_line.ScriptLine.TheVariants as line
 use Rattle.edit_ops.specs.Records.{EditView}
 use Rattle.writer_core.specs.declared.task.Task.TheVariants as task
-use Rattle.script_actor.specs.Lines.{Line, Deed, Does, Submits, Declares, Acts, Operates, line_of, deeds_of, ArePlayable, AreInRange, AreDeeds, IsDeed, WithNames}
+use Rattle.script_actor.specs.Lines.{Does, Submits, line_of, ArePlayable, AreInRange, IsDeed}
 use Rattle.script_actor.specs.Deeds.{MayCome}
+use Rattle.cluster_runner.proofs.PlayLaws.{names_may}
 
 no_lines : (named : Bool) (n : ℕ) → All (MayCome named n) []
 no_lines named n k d l = absurd (omega (arith, l))
@@ -28,10 +29,6 @@ some_edits : (named : Bool) (edits : List EditView) → IsDeed named (Submits ed
 some_edits true edits h = (refl, h.0)
 some_edits false edits h = absurd h
 
-with_names : (named : Bool) → WithNames named (Unit {0}) → named ≡ true
-with_names true h = refl
-with_names false h = absurd h
-
 pub may_come : (named : Bool) (n actors : ℕ) (items : List ScriptLine) → ArePlayable named n actors (map line_of items) → AreInRange n items → All (MayCome named n) items
 unfolding ArePlayable AreInRange
 may_come named n actors [] p r = no_lines named n
@@ -42,26 +39,13 @@ may_come named n actors (line.Close actor ∷ ls) p r = one_line named n _ ls tt
 may_come named n actors (line.Log actor bodies ∷ ls) p r = one_line named n _ ls (raw_log named bodies p.1) (may_come named n actors ls p.2 r.1)
 may_come named n actors (line.Edits actor edits ∷ ls) p r = one_line named n _ ls (some_edits named edits p.1) (may_come named n actors ls p.2 r.1)
 may_come named n actors (line.Purge actor min ∷ ls) p r = one_line named n _ ls (raw_purge named min p.1) (may_come named n actors ls p.2 r.1)
-may_come named n actors (line.Trim actor extra ∷ ls) p r = one_line named n _ ls (with_names named p.1) (may_come named n actors ls p.2 r.1)
-may_come named n actors (line.Tail actor ∷ ls) p r = one_line named n _ ls (with_names named p.1) (may_come named n actors ls p.2 r.1)
-may_come named n actors (line.Checkpoint actor ∷ ls) p r = one_line named n _ ls (with_names named p.1) (may_come named n actors ls p.2 r.1)
-may_come named n actors (line.Reload actor ∷ ls) p r = one_line named n _ ls (with_names named p.1) (may_come named n actors ls p.2 r.1)
+may_come named n actors (line.Trim actor extra ∷ ls) p r = one_line named n _ ls (names_may named p.1) (may_come named n actors ls p.2 r.1)
+may_come named n actors (line.Tail actor ∷ ls) p r = one_line named n _ ls (names_may named p.1) (may_come named n actors ls p.2 r.1)
+may_come named n actors (line.Checkpoint actor ∷ ls) p r = one_line named n _ ls (names_may named p.1) (may_come named n actors ls p.2 r.1)
+may_come named n actors (line.Reload actor ∷ ls) p r = one_line named n _ ls (names_may named p.1) (may_come named n actors ls p.2 r.1)
 may_come named n actors (line.Drop actor node call ∷ ls) p r = one_line named n _ ls (p.1, r.0.0, r.0.1, r.0.2) (may_come named n actors ls p.2 r.1)
 may_come named n actors (line.Mute actor node call ∷ ls) p r = one_line named n _ ls (p.1, r.0.0, r.0.1, r.0.2) (may_come named n actors ls p.2 r.1)
 may_come named n actors (line.Late actor node call ∷ ls) p r = one_line named n _ ls (p.1, r.0.0, r.0.1) (may_come named n actors ls p.2 r.1)
 may_come named n actors (line.Kill node ∷ ls) p r = one_line named n _ ls (p.0, p.1) (may_come named n actors ls p.3 r.1)
 may_come named n actors (line.Restart node ∷ ls) p r = one_line named n _ ls (p.0, p.1) (may_come named n actors ls p.3 r.1)
 may_come named n actors (line.Arm node calls stop ∷ ls) p r = one_line named n _ ls (p.0, p.1) (may_come named n actors ls p.3 r.1)
-
--- ## An actor's deeds can be done
-own_deeds : (named b : Bool) (d : Deed) (ds : List Deed) → IsDeed named d → AreDeeds named ds → AreDeeds named (cond b (d ∷ ds) ds)
-unfolding AreDeeds
-own_deeds named true d ds h g = (h, g)
-own_deeds named false d ds h g = g
-
-pub are_deeds : (named : Bool) (n actors c : ℕ) (ls : List Line) → ArePlayable named n actors ls → AreDeeds named (deeds_of c ls)
-unfolding ArePlayable AreDeeds deeds_of
-are_deeds named n actors c [] p = tt
-are_deeds named n actors c (Declares name ∷ ls) p = are_deeds named n (actors + 1) c ls p
-are_deeds named n actors c (Acts actor deed ∷ ls) p = own_deeds named (actor == c) deed (deeds_of c ls) p.1 (are_deeds named n actors c ls p.2)
-are_deeds named n actors c (Operates node ask ∷ ls) p = are_deeds named n actors c ls p.3

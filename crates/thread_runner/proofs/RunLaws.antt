@@ -2,7 +2,7 @@
 use Rattle.std.proofs.Common.{◌≡◌, ℕ, zero, suc, ◌+◌, ◌-◌, ◌<◌, ◌≤◌, Bool, List, [], ◌∷◌, Option, None, length, map, take, true, sym, refl, ap, ◌∙◌, subst, arith, get_or}
 use Rattle.std.specs.List.{All}
 use Rattle.std.specs.Prelude.{Result, Ok, IfOk}
-use Rattle.std.proofs.lemmas.List.{length-map, length-take-le, get_or-take}
+use Rattle.std.proofs.lemmas.List.{length-map, length-take-le, get_or-take, get_or_default}
 use Rattle.std.proofs.Math.ListN.{get_or-map}
 use Rattle.atomic_table.proofs.Lists.{at_index}
 use Rattle.atomic_table.specs.Seated.{TableId}
@@ -17,7 +17,7 @@ use Rattle.script_text.specs.declared.script_line.ScriptLine.{ScriptLine}
 use Rattle.caller_seats.specs.Logs.{new_log}
 use Rattle.gate_seats.specs.Seated.{Seat, AreSeated}
 use Rattle.gate_seats.specs.Gates.{fresh_seat, fresh_columns, row_at, AreOf, IsLeft}
-use Rattle.gate_seats.proofs.GateLaws.{element, get_any}
+use Rattle.gate_seats.proofs.GateLaws.{element}
 use Rattle.script_actor.specs.Deeds.{MayCome}
 use Rattle.script_actor.specs.Lines.{Line, declared, names_in}
 use Rattle.mesh.proofs.Lists.{same_test}
@@ -128,13 +128,13 @@ module _ {S E : Type 0} (named : Bool) (shown : S → List Seat) (n operator : �
         let k = seats_long in
         let j : length (map shown seats) ≡ length seats = length-map seats shown in
         let its_seats : get_or (map shown seats) c d ≡ shown (get_or oks c o).0 =
-        get_any (map shown seats) c d (shown o.0) (omega (arith, l, k, j)) ∙ get_or-map shown seats c o.0 ∙ ap (λ z. shown (get_or z c o.0)) seats_are ∙ ap shown (get_or-map (λ x. x.0) oks c o) in
+        get_or_default (map shown seats) c d (shown o.0) (omega (arith, l, k, j)) ∙ get_or-map shown seats c o.0 ∙ ap (λ z. shown (get_or z c o.0)) seats_are ∙ ap shown (get_or-map (λ x. x.0) oks c o) in
         let r = records_long in
-        let its_record : get_or records c [] ≡ (get_or oks c o).1 = get_any records c [] o.1 (omega (arith, l, r)) ∙ ap (λ z. get_or z c o.1) records_are ∙ get_or-map (λ x. x.1) oks c o in
+        let its_record : get_or records c [] ≡ (get_or oks c o).1 = get_or_default records c [] o.1 (omega (arith, l, r)) ∙ ap (λ z. get_or z c o.1) records_are ∙ get_or-map (λ x. x.1) oks c o in
         let p = plans_long in
-        let its_plan : get_or plans c [] ≡ (get_or oks c o).2 = get_any plans c [] o.2 (omega (arith, l, p)) ∙ ap (λ z. get_or z c o.2) plans_are ∙ get_or-map (λ x. x.2) oks c o in
+        let its_plan : get_or plans c [] ≡ (get_or oks c o).2 = get_or_default plans c [] o.2 (omega (arith, l, p)) ∙ ap (λ z. get_or z c o.2) plans_are ∙ get_or-map (λ x. x.2) oks c o in
         let q = lasts_long in
-        let its_last : get_or lasts c None ≡ (get_or oks c o).3 = get_any lasts c None o.3 (omega (arith, l, q)) ∙ ap (λ z. get_or z c o.3) lasts_are ∙ get_or-map (λ x. x.3) oks c o in
+        let its_last : get_or lasts c None ≡ (get_or oks c o).3 = get_or_default lasts c None o.3 (omega (arith, l, q)) ∙ ap (λ z. get_or z c o.3) lasts_are ∙ get_or-map (λ x. x.3) oks c o in
         subst (λ z. CallerLeaves named n operator c lines ts z (get_or records c []) (get_or plans c []) (get_or lasts c None)) (sym its_seats)
         (subst (λ z. CallerLeaves named n operator c lines ts (shown (get_or oks c o).0) z (get_or plans c []) (get_or lasts c None)) (sym its_record)
         (subst (λ z. CallerLeaves named n operator c lines ts (shown (get_or oks c o).0) (get_or oks c o).1 z (get_or lasts c None)) (sym its_plan)
@@ -173,5 +173,5 @@ module _ {S E : Type 0} (named : Bool) (shown : S → List Seat) (n operator : �
               (subst (λ z. CallerLeaves named n operator c lines ts (get_or (map shown seats) c []) (get_or records c []) (get_or plans c []) z) (sym (its_last c (omega (arith, l, op)))) (leaves_at c [] (omega (arith, l, op, many))))));
           operator = without_last (subst (λ j. CallerLeaves named n j j lines ts (get_or (map shown seats) j []) (get_or m.records j []) (get_or plans operator []) (get_or lasts operator None)) op
               (subst (λ z. CallerLeaves named n operator operator lines ts (get_or (map shown seats) operator []) z (get_or plans operator []) (get_or lasts operator None)) (ap (λ z. get_or z operator []) (sym recs)) (leaves_at operator [] (omega (arith, many)))));
-          at_nodes = λ i d l. left d i (get_or m.histories i []) (at_index m.histories i (get_or m.histories i []) (omega (arith, l, histories)) (get_any m.histories i [] (get_or m.histories i []) (omega (arith, l, histories))));
+          at_nodes = λ i d l. left d i (get_or m.histories i []) (at_index m.histories i (get_or m.histories i []) (omega (arith, l, histories)) (get_or_default m.histories i [] (get_or m.histories i []) (omega (arith, l, histories))));
         }

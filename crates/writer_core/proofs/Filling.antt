@@ -7,7 +7,7 @@ use Rattle.writer_core.specs.declared.slot.Slot.{Slot}
 use Rattle.writer_core.specs.declared.slot.Slot.TheVariants.{Waiting, LeftOut, Told}
 use Rattle.writer_core.specs.Answers.{is_waiting}
 use Rattle.writer_core.specs.Whole.{heard_of, filled}
-use Rattle.writer_core.proofs.Plain.{plain_heard, plain_slot}
+use Rattle.writer_core.proofs.Plain.{plain_heard, plain_slot, cons_same}
 
 abbrev pub fill : Option Reply → Slot → Slot
 fill o Waiting = Told (heard_of o)
@@ -100,9 +100,6 @@ unfolding filled
 filled_cons node heard Waiting ys = refl
 filled_cons node heard LeftOut ys = refl
 filled_cons node heard (Told h) ys = refl
-
-cons_same : {A : Type 0} (x y : A) (xs ys : List A) → x ≡ y → xs ≡ ys → ◌≡◌ {A = List A} (x ∷ xs) (y ∷ ys)
-cons_same x y xs ys e f = cc
 
 whole_one : (x : Slot) (o : Option Reply) (y : Slot) → is_waiting x ≡ false → FillsOne x o y → plain_slot x ≡ plain_slot (fill o y)
 whole_one Waiting o y w f = absurd (cc w)

@@ -11,6 +11,7 @@ use Rattle.journal_core.specs.declared.request.Request.{Request}
 use Rattle.journal_core.specs.declared.reply.Reply.TheVariants as reply
 use Rattle.journal_core.specs.declared.heard.Heard.{Heard}
 use Rattle.journal_core.specs.declared.heard.Heard.TheVariants.{Answer, Silent}
+use Rattle.journal_core.proofs.Stored.{some_body}
 use Rattle.writer_core.specs.declared.round.Round.{Round}
 use Rattle.writer_core.specs.declared.round.Round.TheVariants as round
 use Rattle.writer_core.specs.declared.phase.Phase.{Phase}
@@ -44,7 +45,7 @@ others_wait (true ∷ bs) = omega (arith, others_wait bs, count_cons is_waiting 
 others_wait (false ∷ bs) = omega (arith, others_wait bs, count_cons is_waiting Waiting (to_others bs))
 
 -- ## What is left after a round
-left_missed : (r : Round) (slots : List Slot) → length (missed r slots) ≡ length slots
+pub left_missed : (r : Round) (slots : List Slot) → length (missed r slots) ≡ length slots
 left_missed r slots = simp length-map
 
 done_left : (r : Round) (w : WriterView) → is_fetch r ≡ false → length w.left ≡ length w.slots
@@ -209,10 +210,6 @@ pieced_left node start end len c bodies w true t l m e k p =
 pieced_left node start end len c bodies w false t l m e k p =
     let n : start + length bodies ≤ end = grind (arith, nat_tests) in
     rw t (omega (arith, n, k))
-
-some_body : (bodies : List (List ℕ)) → any_body bodies ≡ true → 0 < length bodies
-some_body [] h = cc
-some_body (b ∷ bs) h = omega arith
 
 edits_left : (b : Bool) (node start end : ℕ) (bodies : List (List ℕ)) (batch : BatchView) (w : WriterView) → length w.left ≡ length w.slots
     → FetchGoesOn node start end bodies w.slots → (b ≡ true → any_body batch.bodies ≡ true)

@@ -3,6 +3,7 @@ use Rattle.std.proofs.Common.{ℕ, ◌≡◌, ◌<◌, ◌≤◌, ◌+◌, ◌-�
 use Rattle.std.specs.List.{list_any}
 use Rattle.std.proofs.lemmas.Bool.Decides.{nat_tests}
 use Rattle.std.proofs.lemmas.List.{length-map, length-set}
+use Rattle.std.proofs.lemmas.Bool.{and_parts}
 use Rattle.journal_core.specs.Views.{BatchView}
 use Rattle.journal_core.specs.Limits.{max_number}
 use Rattle.journal_core.specs.declared.request.Request.{Request}
@@ -32,6 +33,7 @@ use Rattle.writer_core.specs.Left.IsReached.{new, begun, heard, stopped as at_st
 use Rattle.writer_core.proofs.Waiting.{any_place}
 use Rattle.writer_core.proofs.RoundLaws.{count_cons, call_round}
 use Rattle.writer_core.proofs.BestLaws.{best_counted}
+use Rattle.writer_core.proofs.LeftLaws.{left_missed}
 
 any_all : (left : List Bool) → list_any not left ≡ true → list_any is_waiting (to_all left) ≡ true
 any_all [] h = cc
@@ -64,9 +66,6 @@ len_all left = sym (simp length-map)
 
 len_others : (left : List Bool) → length left ≡ length (to_others left)
 len_others left = sym (simp length-map)
-
-len_missed : (r : Round) (slots : List Slot) → length (missed r slots) ≡ length slots
-len_missed r slots = simp length-map
 
 call_in_round : (r : Round) (slots : List Slot) → is_fetch r ≡ false → list_any is_waiting slots ≡ true → HasCallIn r slots
 call_in_round round.State slots f h = h
@@ -120,11 +119,11 @@ live_done round.Start w f e s m =
 live_done round.Open w f e s m = opened w.aim
   where
     opened : (a : Aim) → IsLive (after_open a (record (next_serial w) { committed = w.start; next = w.start + 1; left = missed round.Open w.slots })).writer
-    opened aim.Roll = record { same = len_missed round.Open w.slots; some = any_missed round.Open w.slots m; call = tt }
-    opened aim.Takeover = record { same = len_missed round.Open w.slots; some = any_missed round.Open w.slots m; call = tt }
-    opened aim.Log = record { same = len_missed round.Open w.slots; some = any_missed round.Open w.slots m; call = tt }
-    opened aim.Close = record { same = len_missed round.Open w.slots; some = any_missed round.Open w.slots m; call = tt }
-    opened aim.Purge = record { same = len_missed round.Open w.slots; some = any_missed round.Open w.slots m; call = tt }
+    opened aim.Roll = record { same = left_missed round.Open w.slots; some = any_missed round.Open w.slots m; call = tt }
+    opened aim.Takeover = record { same = left_missed round.Open w.slots; some = any_missed round.Open w.slots m; call = tt }
+    opened aim.Log = record { same = left_missed round.Open w.slots; some = any_missed round.Open w.slots m; call = tt }
+    opened aim.Close = record { same = left_missed round.Open w.slots; some = any_missed round.Open w.slots m; call = tt }
+    opened aim.Purge = record { same = left_missed round.Open w.slots; some = any_missed round.Open w.slots m; call = tt }
 live_done (round.Write bodies) w f e s m = written w.aim
   where
     o : list_any not (missed (round.Write bodies) w.slots) ≡ true
@@ -133,9 +132,9 @@ live_done (round.Write bodies) w f e s m = written w.aim
     written : (a : Aim) → IsLive (after_write a w.next (w.next + length bodies - 1) (record (next_serial w) { committed = w.next + length bodies - 1; next = w.next + length bodies - 1 + 1; left = missed (round.Write bodies) w.slots })).writer
     written aim.Roll = record { same = len_others (missed (round.Write bodies) w.slots); some = o; call = any_others (missed (round.Write bodies) w.slots) o }
     written aim.Close = record { same = len_others (missed (round.Write bodies) w.slots); some = o; call = any_others (missed (round.Write bodies) w.slots) o }
-    written aim.Takeover = record { same = len_missed (round.Write bodies) w.slots; some = o; call = tt }
-    written aim.Log = record { same = len_missed (round.Write bodies) w.slots; some = o; call = tt }
-    written aim.Purge = record { same = len_missed (round.Write bodies) w.slots; some = o; call = tt }
+    written aim.Takeover = record { same = left_missed (round.Write bodies) w.slots; some = o; call = tt }
+    written aim.Log = record { same = left_missed (round.Write bodies) w.slots; some = o; call = tt }
+    written aim.Purge = record { same = left_missed (round.Write bodies) w.slots; some = o; call = tt }
 live_done (round.Purge min) w f e s m = record { same = e; some = s; call = tt }
 
 judged_live : (r : Round) (w : WriterView) (b : Bool) → is_fetch r ≡ false → length w.left ≡ length w.slots → list_any not w.left ≡ true
@@ -143,14 +142,9 @@ judged_live : (r : Round) (w : WriterView) (b : Bool) → is_fetch r ≡ false �
 judged_live r w true f e s m = live_done r (with_causes r w) f e s (m refl)
 judged_live r w false f e s m = record { same = e; some = s; call = tt }
 
-both : (a b : Bool) → (a && b) ≡ true → b ≡ true
-both true true h = refl
-both true false h = cc
-both false b h = cc
-
 whole_live : (r : Round) (w : WriterView) → is_fetch r ≡ false → length w.left ≡ length w.slots → list_any not w.left ≡ true → IsLive (judged r w).writer
 unfolding judged
-whole_live r w f e s = judged_live r w (numbers_fit w r && has_majority r w.slots) f e s (both (numbers_fit w r) (has_majority r w.slots))
+whole_live r w f e s = judged_live r w (numbers_fit w r && has_majority r w.slots) f e s (λ m. (and_parts (numbers_fit w r) (has_majority r w.slots) m).1)
 
 -- ## After an answer
 several_live : (r : Round) (w : WriterView) (node : ℕ) (h : Heard) (b : Bool) → is_fetch r ≡ false → w.phase ≡ phase.InRound r

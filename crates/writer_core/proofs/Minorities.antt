@@ -1,8 +1,9 @@
 -- A round is aborted where those that answered with the Ok kind are no majority.
-use Rattle.std.proofs.Common.{◌≡◌, ℕ, ◌+◌, ◌-◌, ◌*◌, ◌<◌, ◌≤◌, List, [], ◌∷◌, ◌++◌, length, Bool, true, false, cond, refl, sym, ap, ◌∙◌, arith, ◌&&◌, nat_lt, Option, Some, None, map, take, count_by}
+use Rattle.std.proofs.Common.{◌≡◌, ℕ, ◌+◌, ◌-◌, ◌*◌, ◌≤◌, List, [], ◌∷◌, length, Bool, true, false, cond, refl, sym, ap, ◌∙◌, arith, ◌&&◌, nat_lt, map, count_by}
 use Rattle.std.specs.List.{list_any}
 use Rattle.std.proofs.lemmas.Bool.Decides.{nat_tests}
 use Rattle.std.proofs.lemmas.List.{length-map}
+use Rattle.std.proofs.lemmas.Bool.{and_right}
 use Rattle.journal_core.specs.Views.{BatchView}
 use Rattle.journal_core.specs.Limits.{max_number}
 use Rattle.journal_core.specs.declared.reply.Reply.{Reply}
@@ -11,20 +12,17 @@ use Rattle.journal_core.specs.declared.heard.Heard.{Heard}
 use Rattle.journal_core.specs.declared.heard.Heard.TheVariants.{Answer, Silent}
 use Rattle.writer_core.specs.declared.round.Round.{Round}
 use Rattle.writer_core.specs.declared.round.Round.TheVariants as round
-use Rattle.writer_core.specs.declared.phase.Phase.{Phase}
 use Rattle.writer_core.specs.declared.phase.Phase.TheVariants as phase
 use Rattle.writer_core.specs.declared.phase.Aim.{Aim}
 use Rattle.writer_core.specs.declared.phase.Aim.TheVariants as aim
 use Rattle.writer_core.specs.declared.slot.Slot.{Slot}
 use Rattle.writer_core.specs.declared.slot.Slot.TheVariants.{Waiting, LeftOut, Told}
-use Rattle.writer_core.specs.declared.cause.Cause.{Cause}
 use Rattle.writer_core.specs.declared.turn.Turn.TheVariants as turn
 use Rattle.writer_core.specs.Views.{WriterView}
 use Rattle.writer_core.specs.Answers.{is_waiting, is_ok, has_majority, fits_edits, fits_round, cause_of, cause_unless_ok}
 use Rattle.writer_core.specs.Best.{greatest_promise}
-use Rattle.writer_core.specs.Rounds.{Judged, going, stopped, numbers_fit, request_in, proposing, after_state, after_finalize, after_open, after_write, done_in, with_causes, judged_by, judged, taken_out, edits_fetched, not_fetched, fetched, next_serial, missed}
-use Rattle.writer_core.specs.Current.{is_fetch}
-use Rattle.writer_core.specs.Writer.{with_answer, judged_when, heard_in, heard_at, writer_heard}
+use Rattle.writer_core.specs.Rounds.{Judged, going, stopped, numbers_fit, proposing, after_finalize, after_open, after_write, done_in, with_causes, judged_by, judged, taken_out, edits_fetched, not_fetched, fetched, next_serial, missed}
+use Rattle.writer_core.specs.Writer.{with_answer, judged_when, heard_in, writer_heard}
 use Rattle.writer_core.specs.Minorities.{is_ok_cause, IsMinority, AbortsAreMinorities, MinoritiesAbort}
 use Rattle.writer_core.proofs.RoundLaws.{count_cons}
 use Rattle.writer_core.proofs.Steps.{heard_round}
@@ -175,13 +173,9 @@ aborts_few w r node h p n e =
     rw is few
 
 -- ## A minority aborts its round
-and_no : (b c : Bool) → c ≡ false → (b && c) ≡ false
-and_no true c e = e
-and_no false c e = refl
-
 judged_no : (r : Round) (w : WriterView) → has_majority r w.slots ≡ false → (judged r w).turn ≡ turn.Aborted
 unfolding judged
-judged_no r w m = rw (and_no (numbers_fit w r) (has_majority r w.slots) m) refl
+judged_no r w m = rw (and_right (numbers_fit w r) (has_majority r w.slots) m) refl
 
 pub few_abort : MinoritiesAbort
 few_abort w r node h p f a m =

@@ -57,7 +57,7 @@ slot_twice (Told h) = ap Told (heard_twice h)
 slot_twice Waiting = refl
 slot_twice LeftOut = refl
 
-cons_same : {A : Type 0} (x y : A) (xs ys : List A) → x ≡ y → xs ≡ ys → ◌≡◌ {A = List A} (x ∷ xs) (y ∷ ys)
+pub cons_same : {A : Type 0} (x y : A) (xs ys : List A) → x ≡ y → xs ≡ ys → ◌≡◌ {A = List A} (x ∷ xs) (y ∷ ys)
 cons_same x y xs ys e f = cc
 
 pub slots_twice : (xs : List Slot) → map plain_slot (map plain_slot xs) ≡ map plain_slot xs

@@ -1,5 +1,6 @@
 -- The serial of the round under way is the number of the round.
-use Rattle.std.proofs.Common.{ℕ, ◌≡◌, ◌+◌, ◌-◌, ◌&&◌, ◌||◌, ◌++◌, List, [], ◌∷◌, length, Option, Some, None, Bool, true, false, refl, arith, suc, zero, take, nat_lt, subst}
+use Rattle.std.proofs.Common.{ℕ, ◌≡◌, ◌+◌, ◌-◌, ◌&&◌, ◌++◌, List, [], ◌∷◌, length, Option, Some, None, Bool, true, false, refl, arith, suc, zero, take, nat_lt, subst}
+use Rattle.std.proofs.lemmas.Bool.{or_parts}
 use Rattle.std.specs.List.{list_any}
 use Rattle.journal_core.specs.Views.{BatchView}
 use Rattle.journal_core.specs.declared.reply.Reply.{Reply}
@@ -166,10 +167,6 @@ underway_at phase.Idle w tasks number u f n e = cc
 underway_at phase.Writing w tasks number u f n e = cc
 underway_at phase.Stopped w tasks number u f n e = cc
 
-split_false : (a b : Bool) → (a || b) ≡ false → (a ≡ false) × (b ≡ false)
-split_false true b h = cc
-split_false false b h = (refl, h)
-
 begun_at : (b : Bool) (first rest : Option Underway) (number : ℕ) (u : Underway) → (b ≡ true → first ≡ Some u → IsAt u number) → (rest ≡ Some u → IsAt u number)
     → begun_or b first rest ≡ Some u → IsAt u number
 begun_at true first rest number u f r e = f refl e
@@ -179,7 +176,7 @@ next_at : (w : WriterView) (tasks : List Task) (u : Underway) → list_any is_ta
 unfolding next_task
 next_at w [] u n e = cc
 next_at w (t ∷ ts) u n e =
-    let s = split_false (is_takeover t) (list_any is_takeover ts) n in
+    let s = or_parts (is_takeover t) (list_any is_takeover ts) n in
     begun_at (is_going (writer_begun w t).begun) _ (next_task w ts) w.serial u
     (λ g h. underway_at (writer_begun w t).writer.phase (writer_begun w t).writer ts w.serial u (begun_follows w t s.0 g) s.1 h)
     (next_at w ts u s.1) e

@@ -6,16 +6,17 @@ use Rattle.journal_core.specs.Limits.{max_body, max_number}
 use Rattle.journal_core.specs.Segments.{find_segment}
 use Rattle.journal_core.specs.Effects.{appended}
 use Rattle.node_deeds.specs.Due.{batch_of}
+use Rattle.node_deeds.proofs.ApplyLaws.{last_within}
 use Rattle.recent_edits.specs.Recent.{IsRecent}
 use Rattle.recent_edits.proofs.Following.{appended_to}
-use Rattle.journal_node.proofs.Followed.{short_bodies, last_fits, none_appended}
+use Rattle.journal_node.proofs.Followed.{short_bodies, none_appended}
 use Rattle.journal_node.proofs.following.follow_append.Goals as goal
 
 pub append-requires-clause-short : goal.append-requires-clause-short
 append-requires-clause-short c = subst (λ (b : BatchView). list_any (λ body. nat_lt max_body (length body)) b.bodies ≡ false) (sym c.in-Some.ensures) (short_bodies c.args.request.now c.requires.limits)
 
 pub append-requires-clause-last : goal.append-requires-clause-last
-append-requires-clause-last c = subst (λ (b : BatchView). last_txid b ≤ max_number) (sym c.in-Some.ensures) (last_fits c.args.request.now c.requires.limits)
+append-requires-clause-last c = subst (λ (b : BatchView). last_txid b ≤ max_number) (sym c.in-Some.ensures) (last_within c.args.request.now c.requires.limits)
 
 pub returns-in-Some-clause-held : goal.returns-in-Some-clause-held
 returns-in-Some-clause-held c = λ gs rows at due held.

@@ -1,17 +1,14 @@
-use Rattle.std.proofs.Common.{◌≡◌, ◌∙◌, ℕ, arith, rules, ◌≤◌, ◌^◌}
+use Rattle.std.proofs.Common.{◌≡◌, ◌∙◌, arith, rules}
 use Rattle.std.specs.Prelude.{IsOk, IsErr}
 use Rattle.segment_file.specs.Names.{name_of, UnderWay, FreshRecord}
 use Rattle.segment_file.proofs.Frame.{kinds_apart}
-use Rattle.segment_file.proofs.FileBytes.{InRange}
+use Rattle.segment_file.proofs.FileBytes.{in_range}
 use Rattle.segment_file.proofs.GateLemmas.{passed_none, carried}
 use Rattle.segment_file.proofs.Counts.{passed_on, counted_on, counted_off, counted_put, counted_one, counted_as, on_ok}
 use Rattle.segment_file.proofs.AcceptLaws.{touches_then, stage_left, put_left, stage_touches, stage_fails, now_stands, put_touches, put_fails, put_all, put_quiet, settle_touches, settle_becomes, way_left}
 use Rattle.segment_file.proofs.AcceptFresh.{settle_fresh}
 use Rattle.segment_file.proofs.AcceptCuts.{cut_staging, cut_putting, cut_settling}
 use Rattle.segment_file.proofs.accepting.accept_by.Goals as goal
-
-in_range : (start epoch : ℕ) → (1 ≤ start) × (start ≤ 2 ^ 62) → (1 ≤ epoch) × (epoch ≤ 2 ^ 62) → InRange start epoch
-in_range start epoch a b = record { some_start = a.0; start_within = a.1; some_epoch = b.0; epoch_within = b.1 }
 
 pub put_record-requires-clause-absent : goal.put_record-requires-clause-absent
 put_record-requires-clause-absent g c = λ t1.

@@ -1,13 +1,10 @@
-use Rattle.std.proofs.Common.{ℕ, refl, ◌≤◌, ◌^◌}
-use Rattle.segment_file.proofs.FileBytes.{InRange}
+use Rattle.std.proofs.Common.{refl}
+use Rattle.segment_file.proofs.FileBytes.{in_range}
 use Rattle.segment_file.proofs.EffectLaws.{cut_before}
 use Rattle.segment_file.proofs.Counts.{counted_put}
 use Rattle.segment_file.proofs.PlacedLaws.{quiet}
 use Rattle.segment_file.proofs.PlacedAgain.{again_becomes, again_touches}
 use Rattle.segment_file.proofs.repeating.replace_again.Goals as goal
-
-in_range : (start epoch : ℕ) → (1 ≤ start) × (start ≤ 2 ^ 62) → (1 ≤ epoch) × (epoch ≤ 2 ^ 62) → InRange start epoch
-in_range start epoch a b = record { some_start = a.0; start_within = a.1; some_epoch = b.0; epoch_within = b.1 }
 
 pub returns-clause-effect : goal.returns-clause-effect
 returns-clause-effect g c = λ t gs s ready can.
