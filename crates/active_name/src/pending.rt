@@ -8,9 +8,9 @@ ghost use Rattle.writer_core.specs.Writer.{log_limit};
 ghost use Rattle.active_name.specs.Pendings.{none_pending, PendsFrom, PendsAt, IsPended, SameUnlessTaken, refused_as};
 
 use crate::submitted::Submitted;
-use edit_ops::{Edit, encode};
+use edit_ops::{Edit, encode_in};
 use journal_core::BodyList;
-use ns_replay::{AdmitRefusal, admit, apply};
+use ns_replay::{AdmitRefusal, admit, aim, apply};
 use ns_tree::Namespace;
 use qj_num::{Bytes, OutOfMemory};
 use std::alloc::Global;
@@ -25,11 +25,13 @@ const MAX_BATCH: usize = 256;
 const MAX_SEGMENT: u64 = 16384;
 
 /// Edits that were admitted one after the other and are to be logged together: the namespace that they lead
-/// to, which is what the next one is admitted against, and their bodies. Contracts see both.
+/// to, which is what the next one is admitted against, and their bodies. Contracts see both. Beside them stands the
+/// room in which each record is put together.
 #[derive(Drop)]
 pub struct Pending {
     ahead: Namespace,
     bodies: BodyList,
+    scratch: Vec<u8>,
 }
 
 impl Model for Pending {
@@ -58,6 +60,7 @@ impl Pending {
         Pending {
             ahead,
             bodies: BodyList::new(alloc),
+            scratch: Vec::new(alloc),
         }
     }
 
@@ -73,7 +76,7 @@ impl Pending {
         ensures ahead { result.0 ≡ self.ahead }
         ensures bodies { result.1 ≡ self.bodies }
     {
-        let Pending { ahead, bodies } = self;
+        let Pending { ahead, bodies, .. } = self;
         (ahead, bodies)
     }
 
@@ -95,10 +98,18 @@ impl Pending {
         ensures from { PendsFrom next self.new }
         ensures at { (w : WriterView) → PendsAt w room next self.old → PendsAt w room next self.new }
     {
+        self.look_at(edit);
         match admit(&self.ahead, edit) {
             Ok(()) => self.pend(alloc, room, next, edit),
             Err(refusal) => refused(refusal),
         }
+    }
+
+    /// Has the namespace look first where an edit is. Changes nothing.
+    fn look_at(&mut self, edit: &Edit)
+        ensures { self.new ≡ self.old }
+    {
+        aim(&mut self.ahead, edit);
     }
 
     /// An edit that is admitted pends, unless it would be too long.
@@ -110,7 +121,7 @@ impl Pending {
         ensures from { PendsFrom next self.new }
         ensures at { (w : WriterView) → PendsAt w room next self.old → PendsAt w room next self.new }
     {
-        let Ok(body) = encode(alloc, edit) else {
+        let Ok(body) = encode_in(alloc, &mut self.scratch, edit) else {
             return Submitted::OutOfMemory;
         };
         if let Some(number) = self.limit_with(room, &body) {

@@ -29,4 +29,4 @@ pub use op::Op;
 pub use reading_text::read_text;
 pub use said_text::ReadText;
 pub use text::edit_text;
-pub use writing::encode;
+pub use writing::{encode, encode_in};

@@ -12,6 +12,9 @@ use crate::op::Op;
 use qj_num::{Bytes, Name, OutOfMemory};
 use std::alloc::Global;
 
+/// The room of most records.
+const ROOM: usize = 128;
+
 // Appends fields and the numbers after them; an `Err` changes nothing.
 fn put_numbers(out: &mut Vec<u8>, form: Form, numbers: &[u64]) -> Result<(), OutOfMemory>
     requires { AllByRecursion IsGood (map Number_ numbers.now) }
@@ -240,23 +243,33 @@ pub(crate) fn put_op(out: &mut Vec<u8>, form: Form, op: &Op) -> Result<(), OutOf
     }
 }
 
-/// The record of the edit.
-pub fn encode(alloc: Global, edit: &Edit) -> Result<Bytes, OutOfMemory>
+/// The record of the edit. It is put together in `room`, whatever stood there before, so that records that are
+/// made one after the other can share one.
+pub fn encode_in(alloc: Global, room: &mut Vec<u8>, edit: &Edit) -> Result<Bytes, OutOfMemory>
     ensures { IfOk result (λ body. body ≡ record_of edit.now) }
 {
-    let mut out = Vec::new(alloc);
+    room.clear();
+    room.reserve(ROOM)?;
     let code = edit.op.kind().code();
     match &edit.call {
-        None => out.push(code)?,
+        None => room.push(code)?,
         Some(call) => {
-            out.push(code + 64)?;
+            room.push(code + 64)?;
             put_fields(
-                &mut out,
+                room,
                 Form::Record,
                 &[Field::Client(&call.client), Field::CallNumber(call.number)],
             )?;
         }
     }
-    put_op(&mut out, Form::Record, &edit.op)?;
-    Ok(Bytes::copy_of(alloc, out.as_slice())?.unwrap())
+    put_op(room, Form::Record, &edit.op)?;
+    Ok(Bytes::copy_of(alloc, room.as_slice())?.unwrap())
+}
+
+/// The record of the edit.
+pub fn encode(alloc: Global, edit: &Edit) -> Result<Bytes, OutOfMemory>
+    ensures { IfOk result (λ body. body ≡ record_of edit.now) }
+{
+    let mut room = Vec::new(alloc);
+    encode_in(alloc, &mut room, edit)
 }

@@ -4,8 +4,8 @@ use Rattle.std.specs.declared.cmp.Ordering.TheVariants.{Less}
 use Rattle.ns_tree.specs.declared.inode.Inode.{Inode}
 use Rattle.ns_tree.specs.declared.inode.Row.{Row}
 use Rattle.ns_tree.specs.Path.{same_text, walk_cmp}
-use Rattle.ns_tree.specs.Space.{pair, find, change_at, Each, IsInWalkOrder}
-use Rattle.ns_tree.specs.Places.{set_at}
+use Rattle.ns_tree.specs.Space.{Space, pair, find, change_at, Each, IsInWalkOrder}
+use Rattle.ns_tree.specs.Places.{set_at, IsTree}
 use Rattle.ns_tree.proofs.Order.{same_text_is, not_same_after}
 
 unchanged : (p : List ℕ) (f : Inode → Inode) (xs : List Row) → Each (λ x. walk_cmp p x.path ≡ Less) xs → change_at p f xs ≡ xs
@@ -32,3 +32,8 @@ change_found p f i (x ∷ xs) o e = by (same_text p x.path) refl e (λ g. change
       where
         at_path : x.path ≡ p → Each (λ y. walk_cmp p y.path ≡ Less) xs
         at_path same = subst (λ (q : List ℕ). Each (λ y. walk_cmp q y.path ≡ Less) xs) same o.0
+
+-- the inode that a change leaves at p is one that f makes
+pub changed_by : (p : List ℕ) (f : Inode → Inode) (i j : Inode) (s : Space) → IsTree s → find p s.pairs ≡ Some i → j ≡ f i → record s { pairs = set_at p j s.pairs } ≡ record s { pairs = change_at p f s.pairs }
+changed_by p f i j s h found made =
+    ap (λ (xs : List Row). record s { pairs = xs }) (ap (λ (k : Inode). set_at p k s.pairs) made ∙ sym (change_found p f i s.pairs h.ordered found))

@@ -95,9 +95,6 @@ pub closed_dir : (m a : ℕ) (ls : List ℕ) (i : Inode) → is_dir (with_blocks
 closed_dir m a ls (Dir m2 p u g q s) = refl
 closed_dir m a ls (File r m2 a2 b p u g ls2 c) = refl
 
-pub close_there : (path ls : List ℕ) (xs : List Row) → admit_close path ls xs ≡ None → finds path xs ≡ None
-close_there path ls xs e = (all_passed (bad_path path ∷ finds path xs ∷ refused_dir NotFile (find path xs) ∷ bad_blocks ls (find path xs) ∷ []) e).1.0
-
 pub closed_good : (path : List ℕ) (m a : ℕ) (ls : List ℕ) (xs : List Row) → AllByRecursion IsGood (fields_of (Close path m a ls)) → Each (IsPair xs) xs → admit_close path ls xs ≡ None → (i : Inode) → IsInode i → IsInode (with_blocks m a ls i)
 closed_good path m a ls xs f pairs e (Dir m2 p u g q s) h = h
 closed_good path m a ls xs f pairs e (File r m2 a2 b p u g ls2 c) h =
@@ -109,9 +106,6 @@ pub replicated_dir : (n : ℕ) (i : Inode) → is_dir (with_replication n i) ≡
 replicated_dir n (Dir m2 p u g q s) = refl
 replicated_dir n (File r2 m2 a2 b p u g ls2 c) = refl
 
-pub replication_there : (path : List ℕ) (n : ℕ) (xs : List Row) → admit_set_replication path n xs ≡ None → finds path xs ≡ None
-replication_there path n xs e = (all_passed (bad_path path ∷ bad_replication n ∷ finds path xs ∷ refused_dir NotFile (find path xs) ∷ []) e).1.1.0
-
 pub replicated_good : (path : List ℕ) (n : ℕ) (xs : List Row) → admit_set_replication path n xs ≡ None → (i : Inode) → IsInode i → IsInode (with_replication n i)
 replicated_good path n xs e (Dir m2 p u g q s) h = h
 replicated_good path n xs e (File r2 m2 a2 b p u g ls2 c) h =
@@ -120,9 +114,6 @@ replicated_good path n xs e (File r2 m2 a2 b p u g ls2 c) h =
 pub permitted_dir : (n : ℕ) (i : Inode) → is_dir (with_permission n i) ≡ is_dir i
 permitted_dir n (Dir m2 p u g q s2) = refl
 permitted_dir n (File r2 m2 a2 b p u g ls2 c) = refl
-
-pub permission_there : (path : List ℕ) (n : ℕ) (xs : List Row) → admit_set_permissions path n xs ≡ None → finds path xs ≡ None
-permission_there path n xs e = (all_passed (bad_path path ∷ bad_permission n ∷ finds path xs ∷ []) e).1.1.0
 
 pub permitted_good : (path : List ℕ) (n : ℕ) (xs : List Row) → admit_set_permissions path n xs ≡ None → (i : Inode) → IsInode i → IsInode (with_permission n i)
 permitted_good path n xs e i h = by i h (permission_fits n (all_passed (bad_path path ∷ bad_permission n ∷ finds path xs ∷ []) e).1.0)
@@ -134,9 +125,6 @@ permitted_good path n xs e i h = by i h (permission_fits n (all_passed (bad_path
 pub owned_dir : (u g : List ℕ) (i : Inode) → is_dir (with_owner u g i) ≡ is_dir i
 owned_dir u g (Dir m2 p u2 g2 q s2) = refl
 owned_dir u g (File r2 m2 a2 b p u2 g2 ls2 c) = refl
-
-pub owner_there : (path u g : List ℕ) (xs : List Row) → admit_set_owner path u g xs ≡ None → finds path xs ≡ None
-owner_there path u g xs e = (all_passed (bad_path path ∷ bad_new_owner u ∷ bad_new_owner g ∷ finds path xs ∷ []) e).1.1.1.0
 
 pub owned_good : (path u g : List ℕ) (xs : List Row) → admit_set_owner path u g xs ≡ None → (i : Inode) → IsInode i → IsInode (with_owner u g i)
 owned_good path u g xs e i h = let t = all_passed (bad_path path ∷ bad_new_owner u ∷ bad_new_owner g ∷ finds path xs ∷ []) e in by i h t.1.0 t.1.1.0

@@ -13,7 +13,7 @@ mod made;
 mod moved;
 mod settings;
 
-use edit_ops::{Edit, Op};
+use edit_ops::{Edit, NumberList, Op};
 use ns_tree::Namespace;
 use qj_num::OutOfMemory;
 use std::alloc::Global;
@@ -78,7 +78,11 @@ fn apply_op(alloc: Global, ns: &mut Namespace, op: &Op) -> Result<(), OutOfMemor
             mtime,
             atime,
             lengths,
-        } => settings::close(alloc, ns, path.as_slice(), *mtime, *atime, lengths),
+        } => {
+            let lengths = NumberList::of(Vec::from_slice(alloc, lengths.as_slice())?);
+            settings::close(ns, path.as_slice(), *mtime, *atime, lengths);
+            Ok(())
+        }
         Op::Delete { path, time } => {
             made::delete(ns, path.as_slice(), *time);
             Ok(())
@@ -93,19 +97,26 @@ fn apply_op(alloc: Global, ns: &mut Namespace, op: &Op) -> Result<(), OutOfMemor
             overwrite,
         } => moved::rename(alloc, ns, src.as_slice(), dst.as_slice(), *time, *overwrite),
         Op::SetReplication { path, replication } => {
-            settings::set_replication(alloc, ns, path.as_slice(), *replication)
+            settings::set_replication(ns, path.as_slice(), *replication);
+            Ok(())
         }
         Op::SetPermissions { path, permission } => {
-            settings::set_permissions(alloc, ns, path.as_slice(), *permission)
+            settings::set_permissions(ns, path.as_slice(), *permission);
+            Ok(())
         }
         Op::SetOwner { path, user, group } => {
-            settings::set_owner(alloc, ns, path.as_slice(), user, group)
+            let user = user.copy(alloc)?;
+            let group = group.copy(alloc)?;
+            settings::set_owner(ns, path.as_slice(), user, group);
+            Ok(())
         }
         Op::Times { path, mtime, atime } => {
-            settings::set_times(alloc, ns, path.as_slice(), *mtime, *atime)
+            settings::set_times(ns, path.as_slice(), *mtime, *atime);
+            Ok(())
         }
         Op::SetQuota { path, names, space } => {
-            settings::set_quota(alloc, ns, path.as_slice(), *names, *space)
+            settings::set_quota(ns, path.as_slice(), *names, *space);
+            Ok(())
         }
         Op::ConcatDelete {
             target,

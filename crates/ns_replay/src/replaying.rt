@@ -6,10 +6,11 @@ ghost use Rattle.ns_replay.specs.Decoded.{decoded};
 ghost use Rattle.ns_replay.specs.Replay.{edit_entered, entered, IsEntryError, IsReplayed};
 
 use crate::admitting::admit;
+use crate::aiming::aim;
 use crate::applying::apply;
 use crate::entry_error::EntryError;
 use crate::replayed::Replayed;
-use edit_ops::{Decoded, Edit, Op, decode};
+use edit_ops::{Decoded, Edit, decode};
 use journal_core::Batch;
 use ns_tree::Namespace;
 use qj_num::{Bytes, OutOfMemory};
@@ -58,35 +59,13 @@ fn enter_edit(alloc: Global, ns: &mut Namespace, edit: &Edit, txid: u64) -> Resu
     ensures why { IfErr result (λ e. IsEntryError e (edit_entered (Some edit.now) txid ns.old)) }
     ensures err { OnErr result (ns.new ≡ ns.old) }
 {
-    aim(ns, &edit.op);
+    aim(ns, edit);
     match admit(ns, edit) {
         Ok(()) => {
             apply(alloc, ns, edit, txid)?;
             Ok(())
         }
         Err(_) => Err(EntryError::Bad),
-    }
-}
-
-/// Has the namespace look first where an edit of one path is, which is admitted and applied there.
-fn aim(ns: &mut Namespace, op: &Op)
-    ensures { ns.new ≡ ns.old }
-{
-    match op {
-        Op::Add { path, .. }
-        | Op::Mkdir { path, .. }
-        | Op::Close { path, .. }
-        | Op::Delete { path, .. }
-        | Op::SetReplication { path, .. }
-        | Op::SetPermissions { path, .. }
-        | Op::SetOwner { path, .. }
-        | Op::Times { path, .. }
-        | Op::SetQuota { path, .. } => ns.aim(path.as_slice()),
-        Op::RenameOld { .. }
-        | Op::Rename { .. }
-        | Op::ConcatDelete { .. }
-        | Op::EndLogSegment
-        | Op::StartLogSegment => {}
     }
 }
 

@@ -1,10 +1,10 @@
 //! The rows one by one in the order of a walk, and one more at its end.
 ghost use Rattle.std.specs.Prelude.{◌≡◌, ◌++◌, ◌∷◌, [], ◌<◌, ◌≤◌, true, length, slice_index_or, OnOk, OnErr};
 ghost use Rattle.ns_tree.specs.Path.{is_path};
-ghost use Rattle.ns_tree.specs.Space.{IsInode, find, is_dir_there};
+ghost use Rattle.ns_tree.specs.Space.{IsInode};
 ghost use Rattle.ns_tree.specs.Last.{is_after_last, has_parent};
 
-use crate::inode::{Inode, Row};
+use crate::inode::Row;
 use crate::namespace::Namespace;
 use crate::path::{parent, walk_order};
 use qj_num::OutOfMemory;
@@ -47,15 +47,6 @@ impl Namespace {
             return true;
         }
         self.has_directory(above)
-    }
-
-    fn has_directory(&self, path: &[u8]) -> bool
-        ensures { result ≡ is_dir_there (find path.now self.now.pairs) }
-    {
-        match self.lookup(path) {
-            Some(Inode::Dir { .. }) => true,
-            _ => false,
-        }
     }
 
     /// Adds a row to which a walk comes after all others; an `Err` changes nothing.

@@ -5,6 +5,7 @@ mod appending;
 mod end;
 mod examples;
 mod grammar;
+mod hints;
 mod inode;
 mod invariant;
 mod laws;

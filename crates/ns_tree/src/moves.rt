@@ -41,15 +41,34 @@ impl RowTable {
     {
         let run = end - at;
         let rest = self.len() - run;
+        self.look_without(at, end);
         self.turn(at, run);
         self.give_paths(rest, paths);
         match self.search_first(rest, to) {
             Ok(place) => {
                 self.remove_run(place, place + 1);
                 self.turn(place, rest - 1 - place);
+                self.look_past(place, run);
             }
-            Err(place) => self.turn(place, rest - place),
+            Err(place) => {
+                self.turn(place, rest - place);
+                self.look_past(place, run);
+            }
         }
+    }
+
+    /// Has the next searches look as if the rows from `at` to `end` had gone. No row changes.
+    fn look_without(&mut self, at: usize, end: usize)
+        ensures { self.new ≡ self.old }
+    {
+        self.hints.rows_gone(at, end);
+    }
+
+    /// Has the next searches look as if so many rows had been put before the index. No row changes.
+    fn look_past(&mut self, i: usize, count: usize)
+        ensures { self.new ≡ self.old }
+    {
+        self.hints.rows_put(i, count);
     }
 
     /// The first rows of those from `from` on go after the others of them.

@@ -1,12 +1,14 @@
 //! Rows in a list, each in a box of its own, so that a change of the list moves eight bytes a row.
-ghost use Rattle.std.specs.Prelude.{◌≡◌, ℕ, ◌+◌, ◌-◌, ◌<◌, ◌≤◌, List, [], ◌++◌, ◌∷◌, length, map, take, drop, set, MatchResult, IfSome, OnOk, OnErr, slice_index_or};
+ghost use Rattle.std.specs.Prelude.{◌≡◌, ℕ, ◌+◌, ◌-◌, ◌<◌, ◌≤◌, List, true, [], ◌++◌, ◌∷◌, length, map, take, drop, set, MatchResult, IfOk, IfSome, OnOk, OnErr, slice_index_or};
 ghost use Rattle.std.specs.List.{insert};
+ghost use Rattle.std.specs.Fn.{FnOnceReturnsAtMut};
 ghost use Rattle.std.specs.declared.cmp.Ordering.TheVariants.{Less};
 ghost use Rattle.ns_tree.specs.declared.inode.Row.{Row};
 ghost use Rattle.ns_tree.specs.Path.{walk_cmp};
-ghost use Rattle.ns_tree.specs.Space.{pair, IsInWalkOrder, raised, longest_of};
+ghost use Rattle.ns_tree.specs.Space.{root_pair, pair, IsInWalkOrder, raised, longest_of};
 ghost use Rattle.ns_tree.specs.Places.{IsAt, IsGapFor, IsSubtreeEnd};
 
+use crate::hints::Hints;
 use crate::inode::{Inode, Row};
 use crate::path::{lies_under, walk_order};
 use qj_num::OutOfMemory;
@@ -22,10 +24,8 @@ const MOST_ROWS: usize = 4_294_967_295;
 #[derive(Drop)]
 pub struct RowTable {
     pub(crate) boxes: Vec<Box<Row>>,
-    /// Where a search looks first: the row that was put last. Any number does.
-    last: usize,
-    /// Where it looks then: the directory that was changed last. Any number does.
-    above: usize,
+    /// Where a search looks first.
+    pub(crate) hints: Hints,
 }
 
 impl Model for RowTable {
@@ -53,8 +53,7 @@ impl RowTable {
     {
         RowTable {
             boxes: Vec::new(alloc),
-            last: 0,
-            above: 0,
+            hints: Hints::new(),
         }
     }
 
@@ -64,6 +63,18 @@ impl RowTable {
         ensures most { result ≤ 4294967295 }
     {
         self.boxes.len()
+    }
+
+    /// The rows in order, out of their boxes.
+    pub fn into_rows(self, alloc: Global) -> Result<Vec<Row>, OutOfMemory>
+        ensures { IfOk result (λ rows. rows.items ≡ self) }
+    {
+        let RowTable { boxes, hints: _ } = self;
+        let mut rows = Vec::with_capacity(alloc, boxes.len())?;
+        for row in boxes {
+            rows.push(Box::into_inner(row))?;
+        }
+        Ok(rows)
     }
 
     /// The row at an index.
@@ -79,7 +90,15 @@ impl RowTable {
         requires { IsInWalkOrder self.now }
         ensures { MatchResult result (IsAt self.now path.now) (IsGapFor self.now path.now) }
     {
-        search_hinted(&self.boxes, self.last, self.above, path)
+        search_hinted(&self.boxes, self.hints.last, self.hints.other, path)
+    }
+
+    /// The same, of a path that may be one of the directories that were looked for last.
+    pub fn search_above(&self, path: &[u8]) -> Result<usize, usize>
+        requires { IsInWalkOrder self.now }
+        ensures { MatchResult result (IsAt self.now path.now) (IsGapFor self.now path.now) }
+    {
+        search_spots(&self.boxes, &self.hints, path)
     }
 
     /// Has the next searches look first where a path stands, or would stand. No row changes.
@@ -87,20 +106,32 @@ impl RowTable {
         requires { IsInWalkOrder self.old }
         ensures { self.new ≡ self.old }
     {
-        self.last = match self.search(path) {
-            Ok(at) => at,
-            Err(at) => at.saturating_sub(1),
-        };
+        let place = row_of(self.search(path));
+        self.hints.look(place);
     }
 
-    /// Has the next searches look where a directory stands, too. No row changes.
+    /// Has the next searches above look first where a directory stands. No row changes.
     pub fn aim_above(&mut self, path: &[u8])
         requires { IsInWalkOrder self.old }
         ensures { self.new ≡ self.old }
     {
-        if let Ok(at) = self.search(path) {
-            self.above = at;
+        if let Ok(at) = self.search_above(path) {
+            self.hints.look_above(at);
         }
+    }
+
+    /// Has the next searches look first where a path of the directory that was aimed at would stand. No row changes.
+    pub fn aim_in(&mut self, path: &[u8])
+        requires { IsInWalkOrder self.old }
+        ensures { self.new ≡ self.old }
+    {
+        let place = row_of(search_hinted(
+            &self.boxes,
+            self.hints.spots[0].child,
+            self.hints.last,
+            path,
+        ));
+        self.hints.look_in(place);
     }
 
     /// The same among the first rows.
@@ -109,7 +140,12 @@ impl RowTable {
         requires order { IsInWalkOrder (take count self.now) }
         ensures { MatchResult result (IsAt (take count self.now) path.now) (IsGapFor (take count self.now) path.now) }
     {
-        search_rows(&self.boxes[..count], path)
+        search_hinted(
+            &self.boxes[..count],
+            self.hints.last,
+            self.hints.other,
+            path,
+        )
     }
 
     /// Puts a row before the index; an `Err` changes nothing.
@@ -122,7 +158,7 @@ impl RowTable {
             return Err(AllocError);
         }
         self.boxes.insert(i, Box::new(alloc, row)?)?;
-        self.last = i;
+        self.hints.rows_put(i, 1);
         Ok(())
     }
 
@@ -134,13 +170,21 @@ impl RowTable {
         replace_inode(&mut self.boxes[i], inode);
     }
 
+    /// Changes the inode of a row where it stands.
+    pub fn change<F: FnOnce(&mut Inode)>(&mut self, i: usize, setting: F)
+        requires callable { F.IsAlwaysCallable setting }
+        requires in_range { i < length self.old }
+        ensures { (j : Inode) × FnOnceReturnsAtMut F.FnOnce setting (slice_index_or self.old i root_pair).inode tt j × (self.new ≡ set self.old i (pair (slice_index_or self.old i root_pair).path j)) }
+    {
+        change_row(&mut self.boxes[i], setting);
+    }
+
     /// Raises the mtime of a row's directory to the time; a file stays.
     pub fn raise(&mut self, i: usize, time: u64)
         requires { i < length self.old }
         ensures { (d : Row) → self.new ≡ set self.old i (pair (slice_index_or self.old i d).path (raised time (slice_index_or self.old i d).inode)) }
     {
         raise_row(&mut self.boxes[i], time);
-        self.above = i;
     }
 
     /// The index after the last row under a path that stands at `at`.
@@ -179,21 +223,51 @@ impl RowTable {
         ensures { self.new ≡ take at self.old ++ drop end self.old }
     {
         self.boxes.drain(at..end);
+        self.hints.rows_gone(at, end);
+    }
+}
+
+/// The row at a place, or before it where none is there.
+fn row_of(place: Result<usize, usize>) -> usize {
+    match place {
+        Ok(at) => at,
+        Err(at) => at.saturating_sub(1),
     }
 }
 
 /// Two places are tried before all rows are searched, since edits that follow one another are often at one place.
-fn search_hinted(rows: &[Box<Row>], last: usize, above: usize, path: &[u8]) -> Result<usize, usize>
+fn search_hinted(rows: &[Box<Row>], last: usize, other: usize, path: &[u8]) -> Result<usize, usize>
     requires { IsInWalkOrder (map (λ b. b.value) rows.now) }
     ensures { MatchResult result (IsAt (map (λ b. b.value) rows.now) path.now) (IsGapFor (map (λ b. b.value) rows.now) path.now) }
 {
     match near(rows, last, path) {
         Some(place) => place,
-        None => match near(rows, above, path) {
+        None => match near(rows, other, path) {
             Some(place) => place,
             None => search_rows(rows, path),
         },
     }
+}
+
+/// The directories that were looked for last are tried before all rows are searched.
+fn search_spots(rows: &[Box<Row>], hints: &Hints, path: &[u8]) -> Result<usize, usize>
+    requires { IsInWalkOrder (map (λ b. b.value) rows.now) }
+    ensures { MatchResult result (IsAt (map (λ b. b.value) rows.now) path.now) (IsGapFor (map (λ b. b.value) rows.now) path.now) }
+{
+    for spot in &hints.spots {
+        if stands_at(rows, spot.directory, path) {
+            return Ok(spot.directory);
+        }
+    }
+    search_hinted(rows, hints.last, hints.other, path)
+}
+
+/// Whether a path is the row's at an index.
+fn stands_at(rows: &[Box<Row>], at: usize, path: &[u8]) -> bool
+    requires { IsInWalkOrder (map (λ b. b.value) rows.now) }
+    ensures { result ≡ true → IsAt (map (λ b. b.value) rows.now) path.now at }
+{
+    at < rows.len() && rows[at].path.as_slice() == path
 }
 
 /// The place of a path, where that is at a row or right after it.
@@ -203,6 +277,9 @@ fn near(rows: &[Box<Row>], at: usize, path: &[u8]) -> Option<Result<usize, usize
 {
     if at >= rows.len() {
         return None;
+    }
+    if stands_at(rows, at, path) {
+        return Some(Ok(at));
     }
     match order_of(&rows[at], path) {
         Ordering::Equal => Some(Ok(at)),
@@ -244,6 +321,13 @@ fn replace_inode(row: &mut Box<Row>, inode: Inode)
     ensures { row.new.value ≡ record row.old.value { inode = inode } }
 {
     row.inode = inode;
+}
+
+fn change_row<F: FnOnce(&mut Inode)>(row: &mut Box<Row>, setting: F)
+    requires { F.IsAlwaysCallable setting }
+    ensures { (j : Inode) × FnOnceReturnsAtMut F.FnOnce setting row.old.value.inode tt j × (row.new.value ≡ record row.old.value { inode = j }) }
+{
+    setting(&mut row.inode);
 }
 
 fn raise_row(row: &mut Box<Row>, time: u64)

@@ -11,6 +11,7 @@ use crate::fault::Fault;
 use crate::plays::{play_soundly, run_soundly};
 use crate::status::Status;
 use crate::writing::write_due;
+use cluster_runner::Played;
 use gate_seats::Pass;
 use mesh::Mesh;
 use ns_tree::EndList;
@@ -18,6 +19,7 @@ use qj_outside::{Input, Sink, Source, read_all};
 use report_text::{Report, report_of};
 use script_text::{ReadScript, Script, read_script};
 use std::alloc::Global;
+use std::mem;
 use std::sync::Wait;
 use std::thread::Threads;
 
@@ -67,6 +69,25 @@ fn due_of_lists(alloc: Global, mesh: &Mesh, ends: &EndList) -> Result<Vec<u8>, F
     }
 }
 
+/// The report of what a script's play left. The nodes' disks are given back before it is made. The lists and the script never are: the
+/// process ends once the report is written, and to give back their small pieces one by one would take a tenth of the play's time.
+fn due_of_played<N: Drop>(
+    alloc: Global,
+    script: Script,
+    played: Played<N>,
+) -> Result<Vec<u8>, Fault>
+    ensures text { IfOk result (λ text. (text.items ≡ text_of played.mesh played.ends) × (length text.items ≤ longest_report)) }
+    ensures fault { IfErr result (IsReportFault (text_of played.mesh played.ends)) }
+{
+    let Played { mesh, ends, nodes } = played;
+    drop(nodes);
+    let due = due_of_lists(alloc, &mesh, &ends);
+    mem::forget(mesh);
+    mem::forget(ends);
+    mem::forget(script);
+    due
+}
+
 /// Reads the source and tells what is due of its script, played in order.
 fn due_in_order<S: Source>(alloc: Global, source: &mut S) -> Result<Vec<u8>, Fault>
     ensures text { IfOk result (λ text. GivesReport ComeOf (read_from S.left S.faults source.old source.new) Status.Ok text.items) }
@@ -76,7 +97,7 @@ fn due_in_order<S: Source>(alloc: Global, source: &mut S) -> Result<Vec<u8>, Fau
     let Ok(played) = play_soundly(alloc, &script) else {
         return Err(Fault::OutOfMemory);
     };
-    due_of_lists(alloc, &played.mesh, &played.ends)
+    due_of_played(alloc, script, played)
 }
 
 /// Reads the source and tells what is due of its script, played by threads.
@@ -93,7 +114,7 @@ fn due_by_threads<R: Threads + Wait + Sync, G: Pass + Sync, S: Source>(
     let Ok(played) = run_soundly(rt, alloc, &script, pass) else {
         return Err(Fault::OutOfMemory);
     };
-    due_of_lists(alloc, &played.mesh, &played.ends)
+    due_of_played(alloc, script, played)
 }
 
 /// Plays the script that the source gives, all lines in order, and writes its report, or why there is none.

@@ -4,12 +4,9 @@ ghost use Rattle.request_text.specs.Texts.{request_text};
 
 use journal_core::{OutOfMemory, Request, SharedRequest};
 use node_world::same;
-use request_text::print_request;
+use request_text::{count_request, print_request};
 use std::alloc::Global;
 use std::marker::Model;
-
-/// The room of the text of most requests.
-const ROOM: usize = 48;
 
 /// A request that was printed, and its text. Contracts see the request.
 #[derive(Drop)]
@@ -31,11 +28,12 @@ impl Model for Printed {
 }
 
 impl Printed {
-    /// Prints a request.
+    /// Prints a request, into as much memory as its text takes.
     pub(crate) fn of(alloc: Global, request: &SharedRequest) -> Result<Printed, OutOfMemory>
         ensures { IfOk result (λ printed. printed ≡ request.now) }
     {
-        let mut text = Vec::with_capacity(alloc, ROOM)?;
+        let room = count_request(0, request.get());
+        let mut text = Vec::with_capacity(alloc, room as usize)?;
         print_request(request.get(), &mut text)?;
         let request = request.share()?;
         Ok(Printed { request, text })

@@ -166,10 +166,8 @@ impl NameHolding {
     pub fn into_last(self, alloc: Global) -> Result<LastSpace, OutOfMemory>
         ensures { IfOk result (λ last. last ≡ record { position = self.position; rows = self.space.pairs }) }
     {
-        let rows = self.standby.namespace().walk(alloc)?;
-        Ok(LastSpace {
-            position: self.standby.position(),
-            rows: RowList::of(rows),
-        })
+        let (namespace, position) = self.standby.into_parts();
+        let rows = RowList::of(namespace.into_rows(alloc)?);
+        Ok(LastSpace { position, rows })
     }
 }

@@ -6,7 +6,9 @@ ghost use Rattle.script_actor.specs.ResultLists.{behind_text, tail_texts, entry_
 ghost use Rattle.script_actor.specs.Submitting.{due_of, dues_of, logged_text, next_txid, lost_text};
 
 use crate::edit_due::EditDue;
-use crate::results::{aborted, bytes_of, numbered, numbered_twice, once, push_causes};
+use crate::results::{
+    aborted, bytes_of, numbered, numbered_in, numbered_twice, once, push_causes, text_room,
+};
 use journal_core::{Bytes, OutOfMemory};
 use ns_replay::AdmitRefusal;
 use qj_num::put_decimal;
@@ -88,7 +90,7 @@ pub(crate) fn trim_results(
 
 /// What the refusal of an edit says.
 #[tactic(auto, unfolding(crate::specs::Results::refusal_text))]
-fn refused(alloc: Global, refusal: AdmitRefusal) -> Result<Bytes, OutOfMemory>
+fn refused(alloc: Global, room: &mut Vec<u8>, refusal: AdmitRefusal) -> Result<Bytes, OutOfMemory>
     ensures { IfOk result (λ text. text ≡ refusal_text refusal) }
 {
     match refusal {
@@ -103,19 +105,19 @@ fn refused(alloc: Global, refusal: AdmitRefusal) -> Result<Bytes, OutOfMemory>
         AdmitRefusal::IntoItself => bytes_of(alloc, b"refused 9 IntoItself"),
         AdmitRefusal::BadName => bytes_of(alloc, b"refused 10 BadName"),
         AdmitRefusal::BadNumber => bytes_of(alloc, b"refused 11 BadNumber"),
-        AdmitRefusal::RepeatedCall { txid } => numbered(alloc, b"repeated", txid),
+        AdmitRefusal::RepeatedCall { txid } => numbered_in(alloc, room, b"repeated", txid),
     }
 }
 
 /// The result of an edit, where those that were to be logged have the txids from this one on.
-fn logged(alloc: Global, txid: u64, due: EditDue) -> Result<Bytes, OutOfMemory>
+fn logged(alloc: Global, room: &mut Vec<u8>, txid: u64, due: EditDue) -> Result<Bytes, OutOfMemory>
     ensures { IfOk result (λ text. text ≡ logged_text txid (due_of due)) }
 {
     match due {
-        EditDue::Pends => numbered(alloc, b"acked", txid),
-        EditDue::Refused(refusal) => refused(alloc, refusal),
-        EditDue::Repeats { txid, .. } => numbered(alloc, b"repeated", txid),
-        EditDue::TooLong { number } => numbered(alloc, b"toolong", number),
+        EditDue::Pends => numbered_in(alloc, room, b"acked", txid),
+        EditDue::Refused(refusal) => refused(alloc, room, refusal),
+        EditDue::Repeats { txid, .. } => numbered_in(alloc, room, b"repeated", txid),
+        EditDue::TooLong { number } => numbered_in(alloc, room, b"toolong", number),
     }
 }
 
@@ -141,23 +143,24 @@ pub(crate) fn logged_results(
     ensures { IfOk result (λ texts. texts.items ≡ dues_logged first (dues_of dues.now)) }
 {
     let mut texts = Vec::with_capacity(alloc, dues.len())?;
+    let mut room = text_room(alloc)?;
     let mut txid = first;
     for due in dues {
-        texts.push(logged(alloc, txid, *due)?)?;
+        texts.push(logged(alloc, &mut room, txid, *due)?)?;
         txid = txid_after(txid, *due);
     }
     Ok(texts)
 }
 
 /// The result of an edit, where what was to be logged came to this.
-fn lost(alloc: Global, text: &Bytes, due: EditDue) -> Result<Bytes, OutOfMemory>
+fn lost(alloc: Global, room: &mut Vec<u8>, text: &Bytes, due: EditDue) -> Result<Bytes, OutOfMemory>
     ensures { IfOk result (λ lost. lost ≡ lost_text text.now (due_of due)) }
 {
     match due {
         EditDue::Pends | EditDue::Repeats { pends: true, .. } => text.share(),
-        EditDue::Refused(refusal) => refused(alloc, refusal),
-        EditDue::Repeats { txid, pends: false } => numbered(alloc, b"repeated", txid),
-        EditDue::TooLong { number } => numbered(alloc, b"toolong", number),
+        EditDue::Refused(refusal) => refused(alloc, room, refusal),
+        EditDue::Repeats { txid, pends: false } => numbered_in(alloc, room, b"repeated", txid),
+        EditDue::TooLong { number } => numbered_in(alloc, room, b"toolong", number),
     }
 }
 
@@ -171,8 +174,9 @@ pub(crate) fn lost_results(
     ensures { IfOk result (λ texts. texts.items ≡ dues_aborted text.now (dues_of dues.now)) }
 {
     let mut texts = Vec::with_capacity(alloc, dues.len())?;
+    let mut room = text_room(alloc)?;
     for due in dues {
-        texts.push(lost(alloc, text, *due)?)?;
+        texts.push(lost(alloc, &mut room, text, *due)?)?;
     }
     Ok(texts)
 }

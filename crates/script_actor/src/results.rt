@@ -24,16 +24,36 @@ pub(crate) fn bytes_of(alloc: Global, text: &[u8]) -> Result<Bytes, OutOfMemory>
     }
 }
 
-/// A word of one byte or more, and a number behind a space.
+/// Room for the text of a result; results that are made one after the other share it.
+pub(crate) fn text_room(alloc: Global) -> Result<Vec<u8>, OutOfMemory>
+    ensures { IfOk result (λ room. room.items ≡ []) }
+{
+    Vec::with_capacity(alloc, ROOM)
+}
+
+/// A word, and a number behind a space. The text is made in `room`, which any text may have used before.
 #[tactic(auto, using(crate::proofs::ResultLaws::some_word))]
+pub(crate) fn numbered_in(
+    alloc: Global,
+    room: &mut Vec<u8>,
+    name: &[u8],
+    number: u64,
+) -> Result<Bytes, OutOfMemory>
+    ensures { IfOk result (λ b. b ≡ word name.now number) }
+{
+    room.clear();
+    room.extend_from_slice(name)?;
+    room.push(b' ')?;
+    put_decimal(room, number)?;
+    bytes_of(alloc, room)
+}
+
+/// A word, and a number behind a space.
 pub(crate) fn numbered(alloc: Global, name: &[u8], number: u64) -> Result<Bytes, OutOfMemory>
     ensures { IfOk result (λ b. b ≡ word name.now number) }
 {
-    let mut text = Vec::with_capacity(alloc, ROOM)?;
-    text.extend_from_slice(name)?;
-    text.push(b' ')?;
-    put_decimal(&mut text, number)?;
-    bytes_of(alloc, &text)
+    let mut room = text_room(alloc)?;
+    numbered_in(alloc, &mut room, name, number)
 }
 
 /// One text, so many times; its bytes are shared.
@@ -55,8 +75,9 @@ fn acked(alloc: Global, first: u64, count: u64) -> Result<Vec<Bytes>, OutOfMemor
     ensures { IfOk result (λ texts. texts.items ≡ acked_texts first count) }
 {
     let mut texts = Vec::with_capacity(alloc, count as usize)?;
+    let mut room = text_room(alloc)?;
     for i in 0..count {
-        texts.push(numbered(alloc, b"acked", first + i)?)?;
+        texts.push(numbered_in(alloc, &mut room, b"acked", first + i)?)?;
     }
     Ok(texts)
 }

@@ -34,10 +34,10 @@ pub(crate) fn check_parent(namespace: &Namespace, path: &[u8]) -> Result<(), Adm
         return Err(AdmitRefusal::Root);
     }
     namespace.show_invariant();
-    match namespace.lookup(parent(path)) {
-        Some(Inode::Dir { .. }) => Ok(()),
-        Some(Inode::File { .. }) | None => walk_above(namespace, path, AdmitRefusal::NoParent),
+    if namespace.has_directory(parent(path)) {
+        return Ok(());
     }
+    walk_above(namespace, path, AdmitRefusal::NoParent)
 }
 
 /// Nothing is at a path.

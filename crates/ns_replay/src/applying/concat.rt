@@ -5,9 +5,9 @@ ghost use Rattle.edit_ops.specs.Fields.{IsGood};
 ghost use Rattle.edit_ops.specs.Records.{fields_of};
 ghost use Rattle.ns_tree.specs.Space.{find};
 ghost use Rattle.ns_replay.specs.Admit.{admit_concat, blocks_of, blocks_at};
-ghost use Rattle.ns_replay.specs.Apply.{AreSources, concat_of, without_sources};
+ghost use Rattle.ns_replay.specs.Apply.{with_all_blocks, AreSources, concat_of, without_sources};
 
-use crate::applying::inodes::{copy_at, joined};
+use crate::applying::inodes::put_all_blocks;
 use edit_ops::{NameList, NumberList, Op};
 use ns_tree::{Inode, Namespace, parent};
 use qj_num::{Name, OutOfMemory};
@@ -28,8 +28,14 @@ pub(crate) fn join(
     ensures err { OnErr result (ns.new ≡ ns.old) }
 {
     let all = all_blocks(alloc, ns, target, sources.as_slice())?;
-    let inode = copy_at(alloc, ns, target)?;
-    ns.set(target, joined(inode, time, NumberList::of(all)));
+    let all = NumberList::of(all);
+    ns.show_invariant();
+    ns.change(
+        target,
+        |inode: &mut Inode|
+            ensures { inode.new ≡ with_all_blocks time all inode.old }
+        { put_all_blocks(inode, time, all) },
+    );
     remove_sources(ns, sources.as_slice(), time);
     ns.raise_mtime(parent(target), time);
     Ok(())

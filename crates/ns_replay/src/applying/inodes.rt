@@ -1,116 +1,64 @@
-//! Inodes with something else set.
-ghost use Rattle.std.specs.Prelude.{◌≡◌, Some, IsSome, IfOk};
-ghost use Rattle.ns_tree.specs.Space.{find};
-ghost use Rattle.ns_tree.specs.Places.{IsTree};
+//! What is set of an inode.
+ghost use Rattle.std.specs.Prelude.{◌≡◌};
 ghost use Rattle.ns_replay.specs.Apply.{or_old, with_blocks, with_replication, with_permission, with_owner, with_times, with_quota, with_all_blocks};
 
 use edit_ops::NumberList;
-use ns_tree::{Inode, Namespace};
-use qj_num::{Name, OutOfMemory};
-use std::alloc::Global;
+use ns_tree::Inode;
+use qj_num::Name;
 
-/// The inode at a path, in memory of its own.
-pub(crate) fn copy_at(alloc: Global, ns: &Namespace, path: &[u8]) -> Result<Inode, OutOfMemory>
-    requires { IsSome (find path.now ns.now.pairs) }
-    ensures found { IfOk result (λ inode. find path.now ns.now.pairs ≡ Some inode) }
-    ensures sound { IsTree ns.now }
+/// Closes a file with these blocks.
+pub(crate) fn put_blocks(inode: &mut Inode, new_mtime: u64, new_atime: u64, blocks: NumberList)
+    ensures { inode.new ≡ with_blocks new_mtime new_atime blocks inode.old }
 {
-    ns.show_invariant();
-    match ns.lookup(path) {
-        Some(inode) => inode.copy(alloc),
-        None => unreachable!(),
+    if let Inode::File {
+        mtime,
+        atime,
+        lengths,
+        under_construction,
+        ..
+    } = inode
+    {
+        *mtime = new_mtime;
+        *atime = new_atime;
+        *lengths = blocks;
+        *under_construction = false;
     }
 }
 
-/// A closed file of these blocks.
-pub(crate) fn closed(inode: Inode, mtime: u64, atime: u64, lengths: NumberList) -> Inode
-    ensures { result ≡ with_blocks mtime atime lengths inode }
+/// Gives a file these blocks, changed at the time.
+pub(crate) fn put_all_blocks(inode: &mut Inode, time: u64, all: NumberList)
+    ensures { inode.new ≡ with_all_blocks time all inode.old }
 {
-    match inode {
-        Inode::File {
-            replication,
-            mtime: _,
-            atime: _,
-            block_size,
-            permission,
-            user,
-            group,
-            lengths: _,
-            under_construction: _,
-        } => Inode::File {
-            replication,
-            mtime,
-            atime,
-            block_size,
-            permission,
-            user,
-            group,
-            lengths,
-            under_construction: false,
-        },
-        dir => dir,
+    if let Inode::File { mtime, lengths, .. } = inode {
+        *mtime = time;
+        *lengths = all;
     }
 }
 
-/// A file with these blocks, changed at the time.
-pub(crate) fn joined(inode: Inode, time: u64, all: NumberList) -> Inode
-    ensures { result ≡ with_all_blocks time all inode }
+/// Sets how many replicas there are, where it is a file.
+pub(crate) fn put_replication(inode: &mut Inode, wanted: u16)
+    ensures { inode.new ≡ with_replication wanted inode.old }
 {
-    match inode {
-        Inode::File {
-            replication,
-            mtime: _,
-            atime,
-            block_size,
-            permission,
-            user,
-            group,
-            lengths: _,
-            under_construction,
-        } => Inode::File {
-            replication,
-            mtime: time,
-            atime,
-            block_size,
-            permission,
-            user,
-            group,
-            lengths: all,
-            under_construction,
-        },
-        dir => dir,
-    }
-}
-
-/// With so many replicas, where it is a file.
-pub(crate) fn replicated(inode: Inode, wanted: u16) -> Inode
-    ensures { result ≡ with_replication wanted inode }
-{
-    let mut inode = inode;
-    if let Inode::File { replication, .. } = &mut inode {
+    if let Inode::File { replication, .. } = inode {
         *replication = wanted;
     }
-    inode
 }
 
-/// With these permissions.
-pub(crate) fn permitted(inode: Inode, wanted: u16) -> Inode
-    ensures { result ≡ with_permission wanted inode }
+/// Sets permissions.
+pub(crate) fn put_permission(inode: &mut Inode, wanted: u16)
+    ensures { inode.new ≡ with_permission wanted inode.old }
 {
-    let mut inode = inode;
-    match &mut inode {
+    match inode {
         Inode::Dir { permission, .. } => *permission = wanted,
         Inode::File { permission, .. } => *permission = wanted,
     }
-    inode
 }
 
-/// With this user and this group; an empty one leaves the old one.
-pub(crate) fn owned(inode: Inode, new_user: Name, new_group: Name) -> Inode
-    ensures { result ≡ with_owner new_user new_group inode }
+/// Sets a user and a group; an empty one leaves the old one.
+pub(crate) fn put_owner(inode: &mut Inode, new_user: Name, new_group: Name)
+    ensures { inode.new ≡ with_owner new_user new_group inode.old }
 {
-    let mut inode = inode;
-    match &mut inode {
+    match inode {
         Inode::Dir { user, group, .. } => {
             give(user, new_user);
             give(group, new_group);
@@ -120,7 +68,6 @@ pub(crate) fn owned(inode: Inode, new_user: Name, new_group: Name) -> Inode
             give(group, new_group);
         }
     }
-    inode
 }
 
 /// Gives a name, where it isn't empty.
@@ -132,29 +79,25 @@ fn give(name: &mut Name, new: Name)
     }
 }
 
-/// With these times; a directory has only an mtime.
-pub(crate) fn timed(inode: Inode, new_mtime: u64, new_atime: u64) -> Inode
-    ensures { result ≡ with_times new_mtime new_atime inode }
+/// Sets times; a directory has only an mtime.
+pub(crate) fn put_times(inode: &mut Inode, new_mtime: u64, new_atime: u64)
+    ensures { inode.new ≡ with_times new_mtime new_atime inode.old }
 {
-    let mut inode = inode;
-    match &mut inode {
+    match inode {
         Inode::Dir { mtime, .. } => *mtime = new_mtime,
         Inode::File { mtime, atime, .. } => {
             *mtime = new_mtime;
             *atime = new_atime;
         }
     }
-    inode
 }
 
-/// With these quotas, where it is a directory; 0 is none.
-pub(crate) fn limited(inode: Inode, new_names: u64, new_space: u64) -> Inode
-    ensures { result ≡ with_quota new_names new_space inode }
+/// Sets quotas, where it is a directory; 0 is none.
+pub(crate) fn put_quota(inode: &mut Inode, new_names: u64, new_space: u64)
+    ensures { inode.new ≡ with_quota new_names new_space inode.old }
 {
-    let mut inode = inode;
-    if let Inode::Dir { names, space, .. } = &mut inode {
+    if let Inode::Dir { names, space, .. } = inode {
         *names = new_names;
         *space = new_space;
     }
-    inode
 }

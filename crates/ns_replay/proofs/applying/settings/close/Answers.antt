@@ -1,20 +1,16 @@
-use Rattle.std.proofs.Common.{ap, sym, ◌∙◌, subst, List}
-use Rattle.ns_tree.specs.declared.inode.Inode.{Inode}
-use Rattle.ns_tree.specs.declared.inode.Row.{Row}
-use Rattle.ns_tree.specs.Space.{IsInode}
-use Rattle.ns_tree.specs.Places.{set_at}
+use Rattle.std.proofs.Common.{ap, sym, ◌∙◌, subst}
 use Rattle.ns_replay.specs.Apply.{with_blocks}
-use Rattle.ns_replay.proofs.Inodes.{found_inode, close_there, closed_good}
-use Rattle.ns_replay.proofs.Changes.{change_found}
+use Rattle.ns_tree.specs.Space.{IsInode}
+use Rattle.ns_replay.proofs.Inodes.{closed_good}
+use Rattle.ns_replay.proofs.Changes.{changed_by}
 use Rattle.ns_replay.proofs.applying.settings.close.Goals as goal
 
-pub set-requires-clause-inode : goal.set-requires-clause-inode
-set-requires-clause-inode c =
-    subst IsInode (sym c.closed.ensures)
-    (rw (c.of-lengths.ensures, c.in_ok-items.ensures.items, c.as_slice.ensures) (closed_good c.args.path.now c.args.mtime c.args.atime c.args.lengths.now c.args.ns.now.pairs c.requires.good c.in_ok-inode.ensures.sound.pairs c.requires.admitted c.in_ok-inode.inode (found_inode c.args.path.now c.args.ns.now.pairs c.args.ns.now.pairs c.in_ok-inode.inode c.in_ok-inode.ensures.sound.pairs c.in_ok-inode.ensures.found)))
+pub change-requires-clause-inode : goal.change-requires-clause-inode
+change-requires-clause-inode c i j found good set =
+    subst IsInode (sym (sym set.leaves ∙ set.met ∙ ap (with_blocks c.args.mtime c.args.atime c.args.lengths) set.shows))
+    (closed_good c.args.path.now c.args.mtime c.args.atime c.args.lengths c.args.ns.now.pairs c.requires.good c.show_invariant.ensures.pairs c.requires.admitted i good)
 
-pub returns-clause-ok : goal.returns-clause-ok
-returns-clause-ok c =
-    c.set.ensures ∙ ap (λ (i : Inode). record c.args.ns.now { pairs = set_at c.args.path.now i c.args.ns.now.pairs })
-    (c.closed.ensures ∙ (λ k. with_blocks c.args.mtime c.args.atime ((c.of-lengths.ensures ∙ (c.in_ok-items.ensures.items ∙ c.as_slice.ensures)) k) c.in_ok-inode.inode))
-    ∙ ap (λ (xs : List Row). record c.args.ns.now { pairs = xs }) (sym (change_found c.args.path.now (with_blocks c.args.mtime c.args.atime c.args.lengths.now) c.in_ok-inode.inode c.args.ns.now.pairs c.in_ok-inode.ensures.sound.ordered c.in_ok-inode.ensures.found))
+pub returns : goal.returns
+returns c =
+    let set = c.change.ensures in
+    set.4 ∙ changed_by c.args.path.now (with_blocks c.args.mtime c.args.atime c.args.lengths) set.0 set.1 c.args.ns.now c.show_invariant.ensures set.2 (sym set.3.leaves ∙ set.3.met ∙ ap (with_blocks c.args.mtime c.args.atime c.args.lengths) set.3.shows)

@@ -1,19 +1,9 @@
-use Rattle.std.proofs.Common.{ap, sym, ◌∙◌, subst, List}
-use Rattle.ns_tree.specs.declared.inode.Inode.{Inode}
-use Rattle.ns_tree.specs.declared.inode.Row.{Row}
-use Rattle.ns_tree.specs.Space.{IsInode}
-use Rattle.ns_tree.specs.Places.{set_at}
+use Rattle.std.proofs.Common.{ap, sym, ◌∙◌}
 use Rattle.ns_replay.specs.Apply.{with_permission}
-use Rattle.ns_replay.proofs.Inodes.{found_inode, permission_there, permitted_good}
-use Rattle.ns_replay.proofs.Changes.{change_found}
+use Rattle.ns_replay.proofs.Changes.{changed_by}
 use Rattle.ns_replay.proofs.applying.settings.set_permissions.Goals as goal
 
-pub set-requires-clause-inode : goal.set-requires-clause-inode
-set-requires-clause-inode c =
-    subst IsInode (sym c.permitted.ensures)
-    (permitted_good c.args.path.now c.args.permission c.args.ns.now.pairs c.requires.admitted c.in_ok-inode.inode (found_inode c.args.path.now c.args.ns.now.pairs c.args.ns.now.pairs c.in_ok-inode.inode c.in_ok-inode.ensures.sound.pairs c.in_ok-inode.ensures.found))
-
-pub returns-clause-ok : goal.returns-clause-ok
-returns-clause-ok c =
-    c.set.ensures ∙ ap (λ (i : Inode). record c.args.ns.now { pairs = set_at c.args.path.now i c.args.ns.now.pairs }) c.permitted.ensures
-    ∙ ap (λ (xs : List Row). record c.args.ns.now { pairs = xs }) (sym (change_found c.args.path.now (with_permission c.args.permission) c.in_ok-inode.inode c.args.ns.now.pairs c.in_ok-inode.ensures.sound.ordered c.in_ok-inode.ensures.found))
+pub returns : goal.returns
+returns c =
+    let set = c.change.ensures in
+    set.4 ∙ changed_by c.args.path.now (with_permission c.args.permission) set.0 set.1 c.args.ns.now c.show_invariant.ensures set.2 (sym set.3.leaves ∙ set.3.met ∙ ap (with_permission c.args.permission) set.3.shows)
