@@ -6,6 +6,7 @@ use crate::written_file::WrittenFile;
 use std::alloc::AllocError;
 use std::fs::{File, Files, OpenFile, OpenOptions, TryLockError};
 use std::io::{ErrorKind, Read, Seek, SeekFrom};
+use std::os::unix::fs::FileExt;
 use std::path::{Path, PathBuf};
 use std::{fs, io};
 
@@ -60,7 +61,10 @@ fn fill<F: Read>(file: &mut F, into: &mut [u8]) -> io::Result<usize>
     Ok(at)
 }
 
-impl<R: Files + AllocGlobal + Clone + Drop> Folder<R> {
+impl<R: Files + AllocGlobal + Clone + Drop> Folder<R>
+where
+    R::File: FileExt,
+{
     pub fn new(rt: R, path: &str) -> Result<Folder<R>, AllocError> {
         let path = String::from_str(rt.alloc(), path)?;
         Ok(Folder {
@@ -112,11 +116,11 @@ impl<R: Files + AllocGlobal + Clone + Drop> Folder<R> {
         }
     }
 
-    /// The file has as many bytes; an absent one has none. Answers whether it is there.
-    fn expect_length(&self, name: &str, least: u64) -> io::Result<bool> {
+    /// The file has as many bytes; an absent one has none. Answers its length, where it is there.
+    fn expect_length(&self, name: &str, least: u64) -> io::Result<Option<u64>> {
         match self.length(name)? {
-            Some(length) if least <= length => Ok(true),
-            None if least == 0 => Ok(false),
+            Some(length) if least <= length => Ok(Some(length)),
+            None if least == 0 => Ok(None),
             _ => Err(io::Error::from(ErrorKind::InvalidInput)),
         }
     }
@@ -143,7 +147,8 @@ impl<R: Files + AllocGlobal + Clone + Drop> Folder<R> {
 
     /// Opens a file that has at least so many bytes for writing, and makes it where it is absent and none are wanted.
     fn open_to_write(&mut self, name: &str, least: u64) -> io::Result<WrittenFile<R::File>> {
-        if !self.expect_length(name, least)? {
+        let length = self.expect_length(name, least)?;
+        if length.is_none() {
             self.are_names_synced = false;
         }
         self.make_subfolder(name)?;
@@ -152,7 +157,8 @@ impl<R: Files + AllocGlobal + Clone + Drop> Folder<R> {
             .write(true)
             .create(true)
             .open(&self.rt, path.as_path())?;
-        Ok(WrittenFile::new(String::from_str(self.rt.alloc(), name)?, file))
+        let name = String::from_str(self.rt.alloc(), name)?;
+        Ok(WrittenFile::new(name, file, length.unwrap_or(0)))
     }
 
     pub fn write_at(&mut self, name: &str, at: u64, bytes: &[u8]) -> io::Result<()> {

@@ -11,6 +11,7 @@ use std::fs::Files;
 use std::io;
 use std::io::ErrorKind;
 use std::marker::Model;
+use std::os::unix::fs::FileExt;
 
 /// The files of a folder and of its subfolder `paxos`, as `paxos/NAME`. The subfolder is made where a name in it is
 /// written or renamed to. It tells nothing of what the files hold, since other programs may change them: contracts see its
@@ -37,7 +38,10 @@ impl<R: Files + Drop> Model for FolderDisk<R> {
     ghost view = { λ d. record { faults = d.faults; reads = d.reads } };
 }
 
-impl<R: Files + AllocGlobal + Clone + Drop> FolderDisk<R> {
+impl<R: Files + AllocGlobal + Clone + Drop> FolderDisk<R>
+where
+    R::File: FileExt,
+{
     /// The files of this folder, which may be absent: then nothing is read, and each call that writes fails.
     pub fn new(rt: R, folder: &str) -> Result<FolderDisk<R>, OutOfMemory>
         ensures { IfOk result (λ d. (d.faults ≡ 0) × (d.reads ≡ 0)) }
@@ -63,7 +67,7 @@ pub enum LockFail {
 
 impl<R: Files + AllocGlobal + Clone + Drop> FolderDisk<R>
 where
-    R::File: LockFile,
+    R::File: LockFile + FileExt,
 {
     /// Takes the exclusive lock on the folder itself, so that no other takes it while this value lives. It goes with its process, however
     /// that ends, and no file stands for it. A program that doesn't ask for the lock isn't held up by it.
@@ -99,7 +103,10 @@ fn counted<T: Drop>(faults: &mut u64, answer: io::Result<T>) -> Result<T, DiskFa
     }
 }
 
-impl<R: Files + AllocGlobal + Clone + Drop> Disk for FolderDisk<R> {
+impl<R: Files + AllocGlobal + Clone + Drop> Disk for FolderDisk<R>
+where
+    R::File: FileExt,
+{
     ghost use Rattle.std.specs.Prelude.{None, false};
     ghost use Rattle.qj_outside.specs.Folder.{untold};
 
