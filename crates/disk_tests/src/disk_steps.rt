@@ -22,6 +22,8 @@ pub enum DiskStep<'a> {
 pub enum DiskWant<'a> {
     /// The file's length, `None` where it is absent.
     Length(&'a str, Option<u64>),
+    /// The disk fails where it is asked for the file's length.
+    NoLength(&'a str),
     /// Whether the file is there.
     IsThere(&'a str, bool),
     /// The file's bytes, of which there are at most 63.
@@ -105,20 +107,51 @@ fn lists<D: Disk>(rt: &impl Abort, disk: &mut D, want: &[&str]) -> Result<(), Di
     Ok(())
 }
 
+fn is_long<D: Disk>(
+    rt: &impl Abort,
+    disk: &mut D,
+    name: &str,
+    want: Option<u64>,
+) -> Result<(), DiskFail>
+    ensures { (D.tells disk.old → ⊥) → D.tells disk.new → ⊥ }
+{
+    assert_eq!(rt; disk.length(name)?, want, "of {name}");
+    Ok(())
+}
+
+fn has_no_length<D: Disk>(rt: &impl Abort, disk: &mut D, name: &str) -> Result<(), DiskFail>
+    ensures { (D.tells disk.old → ⊥) → D.tells disk.new → ⊥ }
+{
+    assert_eq!(rt; disk.length(name), Err(DiskFail::Failed));
+    Ok(())
+}
+
+fn is_there<D: Disk>(rt: &impl Abort, disk: &mut D, name: &str, want: bool) -> Result<(), DiskFail>
+    ensures { (D.tells disk.old → ⊥) → D.tells disk.new → ⊥ }
+{
+    assert_eq!(rt; disk.length(name)?.is_some(), want, "of {name}");
+    Ok(())
+}
+
+fn counts<D: Disk>(rt: &impl Abort, disk: &mut D, want: usize) -> Result<(), DiskFail>
+    ensures { (D.tells disk.old → ⊥) → D.tells disk.new → ⊥ }
+{
+    assert_eq!(rt; disk.list()?.len(), want);
+    Ok(())
+}
+
 /// The disk tells that.
 pub fn tells<D: Disk>(rt: &impl Abort, disk: &mut D, want: &DiskWant) -> Result<(), DiskFail>
     ensures { (D.tells disk.old → ⊥) → D.tells disk.new → ⊥ }
 {
     match want {
-        DiskWant::Length(name, length) => assert_eq!(rt; disk.length(name)?, *length, "of {name}"),
-        DiskWant::IsThere(name, there) => {
-            assert_eq!(rt; disk.length(name)?.is_some(), *there, "of {name}");
-        }
-        DiskWant::Bytes(name, bytes) => reads_as(rt, disk, name, 0, 64, bytes)?,
-        DiskWant::Part(name, at, room, bytes) => reads_as(rt, disk, name, *at, *room, bytes)?,
-        DiskWant::IsNot(name, at, byte) => is_not(rt, disk, name, *at, *byte)?,
-        DiskWant::Names(names) => lists(rt, disk, names)?,
-        DiskWant::Count(count) => assert_eq!(rt; disk.list()?.len(), *count),
+        DiskWant::Length(name, length) => is_long(rt, disk, name, *length),
+        DiskWant::NoLength(name) => has_no_length(rt, disk, name),
+        DiskWant::IsThere(name, there) => is_there(rt, disk, name, *there),
+        DiskWant::Bytes(name, bytes) => reads_as(rt, disk, name, 0, 64, bytes),
+        DiskWant::Part(name, at, room, bytes) => reads_as(rt, disk, name, *at, *room, bytes),
+        DiskWant::IsNot(name, at, byte) => is_not(rt, disk, name, *at, *byte),
+        DiskWant::Names(names) => lists(rt, disk, names),
+        DiskWant::Count(count) => counts(rt, disk, *count),
     }
-    Ok(())
 }

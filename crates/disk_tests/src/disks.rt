@@ -1,12 +1,11 @@
 //! Disks, batches and rows of tests, and what is read of a disk.
-ghost use Rattle.std.specs.Prelude.{◌≡◌, ◌≤◌, IfOk};
+ghost use Rattle.std.specs.Prelude.{◌≡◌, IfOk};
 ghost use Rattle.journal_core.specs.Views.{last_txid};
 
 use journal_core::{Batch, BodyList, SegmentInfo, SegmentLine};
 use qj_disk::{Choice, MemDisk, UntoldDisk};
 use qj_num::Bytes;
-use segment_file::{Given, SegmentRow, read_from};
-use small_files::{Got, NumberFile};
+use segment_file::SegmentRow;
 use std::alloc::{AllocError, Global};
 use std::process::Abort;
 
@@ -14,14 +13,12 @@ use std::process::Abort;
 pub const PROGRESS: &str = "edits_inprogress_0000000000000000001";
 
 /// What a crash may leave.
-pub fn choices() -> [Choice; 4] {
-    [
-        Choice::Old,
-        Choice::New,
-        Choice::Fill(0xa5),
-        Choice::Fill(b'?'),
-    ]
-}
+pub const CHOICES: &[Choice] = &[
+    Choice::Old,
+    Choice::New,
+    Choice::Fill(0xa5),
+    Choice::Fill(b'?'),
+];
 
 /// A disk of no files.
 pub fn new_disk(alloc: Global) -> UntoldDisk {
@@ -54,11 +51,23 @@ pub fn line(last: u64, is_final: bool) -> SegmentLine
     }
 }
 
-/// The row of a segment in progress.
-pub fn row(start: u64, end: u64, epoch: u64, whole_length: u64) -> SegmentRow
-    ensures start { result.info.start ≡ start }
-    ensures end { result.info.end ≡ end }
-{
+/// The bytes are these.
+pub fn are_bytes(rt: &impl Abort, bytes: &[u8], want: &[u8]) {
+    assert_eq!(rt; bytes, want);
+}
+
+/// A row of a table: its start, its end, its epoch, and how many bytes of its file are whole.
+#[derive(Clone, Copy)]
+pub enum Row {
+    /// Of a segment in progress.
+    Open(u64, u64, u64, u64),
+    /// Of a final segment.
+    Final(u64, u64, u64, u64),
+    /// Of an accepted segment.
+    Accepted(u64, u64, u64, u64),
+}
+
+fn open_row(start: u64, end: u64, epoch: u64, whole_length: u64) -> SegmentRow {
     SegmentRow {
         info: SegmentInfo {
             start,
@@ -71,50 +80,27 @@ pub fn row(start: u64, end: u64, epoch: u64, whole_length: u64) -> SegmentRow
     }
 }
 
-/// The row of a final segment.
-pub fn final_row(start: u64, end: u64, epoch: u64, whole_length: u64) -> SegmentRow {
-    let mut row = row(start, end, epoch, whole_length);
-    row.info.is_final = true;
-    row
-}
-
-/// The row of an accepted segment.
-pub fn accepted_row(start: u64, end: u64, epoch: u64, whole_length: u64) -> SegmentRow {
-    let mut row = row(start, end, epoch, whole_length);
-    row.info.accepted = true;
-    row
-}
-
-/// The file holds this number.
-pub fn expect_number(rt: &impl Abort, alloc: Global, disk: &mut UntoldDisk, name: &str, want: u64) {
-    match NumberFile::get(alloc, disk, name) {
-        Got::Value(value) => assert_eq!(rt; value, want),
-        _ => panic!(rt; "the file holds a number"),
+/// The row itself.
+pub fn row_of(row: Row) -> SegmentRow {
+    match row {
+        Row::Open(start, end, epoch, whole) => open_row(start, end, epoch, whole),
+        Row::Final(start, end, epoch, whole) => {
+            let mut row = open_row(start, end, epoch, whole);
+            row.info.is_final = true;
+            row
+        }
+        Row::Accepted(start, end, epoch, whole) => {
+            let mut row = open_row(start, end, epoch, whole);
+            row.info.accepted = true;
+            row
+        }
     }
 }
 
-/// The edits of the segment that are read from the txid `from` on begin with this one.
-pub fn expect_edit(
-    rt: &impl Abort,
-    alloc: Global,
-    disk: &mut UntoldDisk,
-    segment: &SegmentLine,
-    from: u64,
-    want: &[u8],
-)
-    requires start { segment.now.start ≡ 1 }
-    requires end { segment.now.end ≤ 2 }
-    requires low { 1 ≤ from }
-    requires high { from ≤ segment.now.end }
-{
-    match read_from(alloc, disk, segment, from) {
-        Given::Edits(batch) => {
-            assert_eq!(rt; batch.first(), from);
-            match batch.bodies().as_slice().first() {
-                Some(body) => assert_eq!(rt; body.as_slice(), want),
-                None => panic!(rt; "a batch has a body"),
-            }
-        }
-        _ => panic!(rt; "the edits are read"),
+/// The rows are these.
+pub fn are_rows(rt: &impl Abort, rows: &[SegmentRow], want: &[Row]) {
+    assert_eq!(rt; rows.len(), want.len());
+    for (row, want) in rows.iter().zip(want.iter()) {
+        assert_eq!(rt; *row, row_of(*want));
     }
 }

@@ -1,5 +1,6 @@
 //! Sources and sinks in memory with and without faults, the two loops over them, and the standard ends used once.
 use crate::broken::Broken;
+use crate::disks::are_bytes;
 use crate::recorder::Recorder;
 use crate::unready::Unready;
 use qj_outside::{
@@ -27,42 +28,48 @@ fn read_with(alloc: Global, failing: &[u64], limit: usize) -> Result<Input, Allo
     Ok(read_all(alloc, &mut source, limit))
 }
 
+/// Calls that fail, the most bytes, how the reading of `journal` ends, and the bytes that are read.
+const READINGS: &[(&[u64], usize, &str, &[u8])] = &[
+    (&[], 100, "all", b"journal"),
+    (&[], 7, "all", b"journal"),
+    (&[], 6, "too long", b""),
+    (&[], 0, "too long", b""),
+    (&[0], 100, "fault", b""),
+    (&[1], 100, "fault", b""),
+    (&[2], 100, "all", b"journal"),
+];
+
+// The reading ends so, with these bytes.
+fn ends_so(rt: &impl Abort, input: &Input, how: &str, bytes: &[u8]) {
+    let (ended, read) = outcome(input);
+    assert_eq!(rt; ended, how);
+    are_bytes(rt, read, bytes);
+}
+
 #[test]
 fn whole_sources_are_read(rt: HostRuntime) -> Result<(), Fail> {
-    let cases: [(&[u64], usize, &str, &[u8]); 7] = [
-        (&[], 100, "all", b"journal"),
-        (&[], 7, "all", b"journal"),
-        (&[], 6, "too long", b""),
-        (&[], 0, "too long", b""),
-        (&[0], 100, "fault", b""),
-        (&[1], 100, "fault", b""),
-        (&[2], 100, "all", b"journal"),
-    ];
-    for (failing, limit, ended, bytes) in cases {
-        let input = read_with(rt.alloc(), failing, limit)?;
-        let (how, read) = outcome(&input);
-        assert_eq!(rt; how, ended, "at limit {limit}");
-        assert_eq!(rt; read, bytes, "at limit {limit}");
+    for (failing, limit, how, bytes) in READINGS {
+        ends_so(&rt, &read_with(rt.alloc(), failing, *limit)?, how, bytes);
     }
     Ok(())
 }
 
-// How a reading of 200,000 bytes ends, where these calls fail.
-fn long_ending(alloc: Global, failing: &[u64]) -> Result<(Input, Vec<u8>), AllocError> {
+// The reading of 200,000 bytes, where these calls fail, ends so; where all are read they are the same.
+fn ends_long(rt: &impl Abort, alloc: Global, failing: &[u64], want: &str) -> Result<(), Fail> {
     let bytes = vec![in alloc; 7u8; 200_000]?;
     let mut source = MemSource::new(bytes.clone()?, failing.to_vec(alloc)?);
-    Ok((read_all(alloc, &mut source, 200_000), bytes))
+    let input = read_all(alloc, &mut source, 200_000);
+    let (how, read) = outcome(&input);
+    assert_eq!(rt; how, want);
+    assert!(rt; how != "all" || read == bytes.as_slice());
+    Ok(())
 }
 
 #[test]
 fn long_sources_are_read_in_pieces(rt: HostRuntime) -> Result<(), Fail> {
-    let (input, bytes) = long_ending(rt.alloc(), &[])?;
-    let (how, read) = outcome(&input);
-    assert_eq!(rt; how, "all");
-    assert_eq!(rt; read, bytes.as_slice());
-    let (third, _) = long_ending(rt.alloc(), &[2])?;
-    assert_eq!(rt; outcome(&third).0, "fault", "the third piece fails");
-    Ok(())
+    ends_long(&rt, rt.alloc(), &[], "all")?;
+    // The third piece fails.
+    ends_long(&rt, rt.alloc(), &[2], "fault")
 }
 
 // A read into two bytes gives these, or fails.
@@ -84,52 +91,69 @@ fn a_source_without_faults_is_read(rt: HostRuntime) -> Result<(), Fail> {
     Ok(())
 }
 
+const READS: &[Option<&[u8]>] = &[Some(b"ab"), None, Some(b"c")];
+
 #[test]
 fn failed_reads_lose_nothing(rt: HostRuntime) -> Result<(), Fail> {
     let mut source = MemSource::new(b"abc".to_vec(rt.alloc())?, [1].to_vec(rt.alloc())?);
-    for want in [Some(b"ab".as_slice()), None, Some(b"c")] {
-        gives(&rt, &mut source, want);
+    for want in READS {
+        gives(&rt, &mut source, *want);
     }
     Ok(())
+}
+
+/// Calls that fail, the room, a text, whether it is written, and what was taken.
+const WRITINGS: &[(&[u64], usize, &[u8], bool, &[u8])] = &[
+    (&[], 7, b"journal", true, b"journal"),
+    (&[], 9, b"journal", true, b"journal"),
+    (&[], 3, b"journal", false, b"jou"),
+    (&[], 0, b"journal", false, b""),
+    (&[0], 7, b"journal", false, b""),
+    (&[1], 7, b"journal", false, b"journal"),
+    (&[1], 7, b"", true, b""),
+    (&[0], 7, b"", false, b""),
+];
+
+// A sink of that room, of which these calls fail.
+fn sink_of(alloc: Global, room: usize, failing: &[u64]) -> Result<MemSink, AllocError> {
+    Ok(MemSink::new(alloc, room, failing.to_vec(alloc)?)?)
+}
+
+fn takes_text(rt: &impl Abort, sink: &mut MemSink, text: &[u8], is_written: bool, taken: &[u8]) {
+    assert!(rt; write_all(sink, text).is_ok() == is_written);
+    are_bytes(rt, sink.bytes(), taken);
 }
 
 #[test]
 fn texts_are_written_until_a_call_fails(rt: HostRuntime) -> Result<(), Fail> {
-    let cases: [(&[u64], usize, &[u8], bool, &[u8]); 8] = [
-        (&[], 7, b"journal", true, b"journal"),
-        (&[], 9, b"journal", true, b"journal"),
-        (&[], 3, b"journal", false, b"jou"),
-        (&[], 0, b"journal", false, b""),
-        (&[0], 7, b"journal", false, b""),
-        (&[1], 7, b"journal", false, b"journal"),
-        (&[1], 7, b"", true, b""),
-        (&[0], 7, b"", false, b""),
-    ];
-    for (failing, room, text, is_written, taken) in cases {
-        let mut sink = MemSink::new(rt.alloc(), room, failing.to_vec(rt.alloc())?)?;
-        let written = write_all(&mut sink, text);
-        assert_eq!(rt; written.is_ok(), is_written, "with room {room}");
-        assert_eq!(rt; sink.bytes(), taken, "with room {room}");
+    for (failing, room, text, is_written, taken) in WRITINGS {
+        let mut sink = sink_of(rt.alloc(), *room, failing)?;
+        takes_text(&rt, &mut sink, text, *is_written, taken);
     }
     Ok(())
 }
 
+/// Writes, and what is answered to each: as much as there is room for, and a failure where no room is left.
+const WRITES: &[(&[u8], Result<usize, Failed>)] = &[
+    (b"ab", Ok(2)),
+    (b"cd", Err(Failed)),
+    (b"efgh", Ok(3)),
+    (b"i", Err(Failed)),
+];
+
+fn answers_all(rt: &impl Abort, sink: &mut MemSink, writes: &[(&[u8], Result<usize, Failed>)]) {
+    for (bytes, taken) in writes {
+        assert!(rt; bytes.len() > 0);
+        assert_eq!(rt; sink.write(bytes), *taken);
+    }
+}
+
 #[test]
 fn a_sink_fails_in_the_middle_and_goes_on(rt: HostRuntime) -> Result<(), Fail> {
-    let mut sink = MemSink::new(rt.alloc(), 5, [1].to_vec(rt.alloc())?)?;
-    let writes: [(&[u8], Result<usize, Failed>); 4] = [
-        (b"ab", Ok(2)),
-        (b"cd", Err(Failed)),
-        // As much as there is room for.
-        (b"efgh", Ok(3)),
-        // No room is left.
-        (b"i", Err(Failed)),
-    ];
-    for (bytes, taken) in writes {
-        assert_eq!(rt; sink.write(bytes), taken);
-    }
+    let mut sink = sink_of(rt.alloc(), 5, &[1])?;
+    answers_all(&rt, &mut sink, WRITES);
     assert_eq!(rt; sink.flush(), Ok(()));
-    assert_eq!(rt; sink.bytes(), b"abefg".as_slice());
+    are_bytes(&rt, sink.bytes(), b"abefg");
     Ok(())
 }
 
@@ -173,7 +197,7 @@ fn short_writes_go_on(rt: HostRuntime) {
     assert_eq!(rt; write_all(&mut sink, b"a journal"), Ok(()));
     assert_eq!(rt; write_all(&mut sink, b" node"), Ok(()));
     let bytes = recorder.into_bytes();
-    assert_eq!(rt; bytes.as_slice(), b"a journal node".as_slice());
+    are_bytes(&rt, bytes.as_slice(), b"a journal node");
 }
 
 #[test]

@@ -1,139 +1,151 @@
 //! Opening of a node's files, over a disk that doesn't tell its bytes.
 use crate::disk_steps::DiskStep::{Remove, Rename, Write};
 use crate::disk_steps::DiskWant::{Count, IsThere};
-use crate::disks::{PROGRESS, accepted_row, choices, final_row, new_disk, row};
+use crate::disks::PROGRESS;
+use crate::disks::Row::{Accepted, Final, Open};
 use crate::effects::{BEGUN, FINAL};
 use crate::file_steps::FileStep;
 use crate::node_steps::NodeStep::{Accept, Append, Begin, Finalize, Number};
-use crate::steps::Fault::{Crash, FailAt};
-use crate::steps::Step::{self, Disk, Fault, File, Node, Sees, Tells};
-use crate::steps::{Stops, stop_at_each, take_all, take_anew};
+use crate::steps::Stage::{self, Crashed, Done, Lost};
+use crate::steps::Step::{self, Disk, File, Node, Sees, Tells};
+use crate::steps::{Stopping, at_each_call, at_each_choice, play, stop_at_each, take_anew};
 use crate::wants::Want::{BadFile, OpeningFails, Opens};
 use node_files::NodeNumber::{Committed, Promised};
-use std::alloc::Global;
-use std::process::Abort;
 use std::test::Fail;
 
 const RECORD: &str = "paxos/0000000000000000001";
 
 const LONGER: &str = "edits_0000000000000000001-0000000000000000003";
 
-// Takes lines after the node's first effects.
-fn take_after(rt: &impl Abort, alloc: Global, steps: &[Step]) -> Result<(), Fail> {
-    let mut disk = new_disk(alloc);
-    take_all(rt, alloc, &mut disk, &BEGUN)?;
-    take_all(rt, alloc, &mut disk, steps)
-}
+const FRESH: &[Step<'static>] = &[Sees(Opens([0, 0, 0], &[])), Tells(Count(0))];
 
 #[test]
 fn an_empty_disk_opens_as_a_fresh_node(rt: HostRuntime) -> Result<(), Fail> {
-    take_anew(
-        &rt,
-        rt.alloc(),
-        &[Sees(Opens([0, 0, 0], &[])), Tells(Count(0))],
-    )
+    take_anew(&rt, rt.alloc(), FRESH)
 }
+
+const SESSION: &[Stage<'static>] = &[
+    Done(BEGUN),
+    Done(&[
+        Node(Append(44, 2, b"\x0a")),
+        Node(Finalize(2, false)),
+        Node(Number(Promised, 5)),
+        Node(Begin(3, 4)),
+        Node(Number(Committed, 2)),
+    ]),
+    Crashed,
+    Done(&[Sees(Opens([5, 1, 2], &[Final(1, 2, 1, 64), Open(3, 2, 4, 24)]))]),
+];
 
 #[test]
 fn a_session_opens_as_it_ended(rt: HostRuntime) -> Result<(), Fail> {
-    let rows = [final_row(1, 2, 1, 64), row(3, 2, 4, 24)];
-    for choice in choices() {
-        let steps = [
-            Node(Append(44, 2, b"\x0a")),
-            Node(Finalize(2, false)),
-            Node(Number(Promised, 5)),
-            Node(Begin(3, 4)),
-            Node(Number(Committed, 2)),
-            Fault(Crash(choice)),
-            Sees(Opens([5, 1, 2], &rows)),
-        ];
-        take_after(&rt, rt.alloc(), &steps)?;
+    at_each_choice(&rt, rt.alloc(), SESSION)
+}
+
+const ACCEPTANCE: &Stopping<'static> = &Stopping {
+    before: &[Done(BEGUN)],
+    line: Node(Accept(2, b"\x07", false)),
+    calls: 6,
+    decided: 5,
+    by_choice: false,
+    stands: &[
+        Sees(Opens([1, 1, 0], &[Accepted(1, 1, 2, 44)])),
+        Tells(IsThere(RECORD, true)),
+        Tells(Count(4)),
+        Sees(Opens([1, 1, 0], &[Accepted(1, 1, 2, 44)])),
+    ],
+    falls: &[
+        Sees(Opens([1, 1, 0], &[Open(1, 1, 1, 44)])),
+        Tells(IsThere(RECORD, false)),
+        Tells(Count(3)),
+        Sees(Opens([1, 1, 0], &[Open(1, 1, 1, 44)])),
+    ],
+};
+
+#[test]
+fn an_acceptance_that_was_stopped_opens_whole(rt: HostRuntime) -> Result<(), Fail> {
+    stop_at_each(&rt, rt.alloc(), ACCEPTANCE)
+}
+
+const PROMISE: &str = "last-promised-epoch";
+
+const WRITER: &str = "last-writer-epoch";
+
+// A damaged number file, with the rest of the files.
+const DAMAGED: &[&[Stage<'static>]] = &[
+    &[
+        Done(BEGUN),
+        Done(&[
+            Disk(Write(PROMISE, 4, b"x")),
+            Disk(Write(RECORD, 0, b"?")),
+            Sees(BadFile(PROMISE)),
+        ]),
+    ],
+    &[
+        Done(BEGUN),
+        Done(&[
+            Disk(Write(WRITER, 4, b"x")),
+            Disk(Write(RECORD, 0, b"?")),
+            Sees(BadFile(WRITER)),
+        ]),
+    ],
+    &[
+        Done(BEGUN),
+        Done(&[
+            Disk(Write(WRITER, 20, b"\n")),
+            Disk(Write("committed-txid", 0, b"7\n")),
+            Sees(BadFile("committed-txid")),
+        ]),
+    ],
+];
+
+#[test]
+fn a_damaged_number_file_is_told(rt: HostRuntime) -> Result<(), Fail> {
+    for stages in DAMAGED {
+        play(&rt, rt.alloc(), stages)?;
     }
     Ok(())
 }
 
-#[test]
-fn an_acceptance_that_was_stopped_opens_whole(rt: HostRuntime) -> Result<(), Fail> {
-    let accepted = [accepted_row(1, 1, 2, 44)];
-    let open = [row(1, 1, 1, 44)];
-    stop_at_each(
-        &rt,
-        rt.alloc(),
-        &BEGUN,
-        &Node(Accept(2, b"\x07", false)),
-        Stops {
-            calls: 6,
-            decided: 5,
-            by_choice: false,
-        },
-        &[
-            Sees(Opens([1, 1, 0], &accepted)),
-            Tells(IsThere(RECORD, true)),
-            Tells(Count(4)),
-            Sees(Opens([1, 1, 0], &accepted)),
-        ],
-        &[
-            Sees(Opens([1, 1, 0], &open)),
-            Tells(IsThere(RECORD, false)),
-            Tells(Count(3)),
-            Sees(Opens([1, 1, 0], &open)),
-        ],
-    )
-}
-
-#[test]
-fn a_damaged_number_file_is_told(rt: HostRuntime) -> Result<(), Fail> {
-    for name in ["last-promised-epoch", "last-writer-epoch"] {
-        let steps = [
-            Disk(Write(name, 4, b"x")),
-            Disk(Write(RECORD, 0, b"?")),
-            Sees(BadFile(name)),
-        ];
-        take_after(&rt, rt.alloc(), &steps)?;
-    }
-    let steps = [
-        Disk(Write("last-writer-epoch", 20, b"\n")),
-        Disk(Write("committed-txid", 0, b"7\n")),
-        Sees(BadFile("committed-txid")),
-    ];
-    take_after(&rt, rt.alloc(), &steps)
-}
-
-#[test]
-fn records_come_before_the_files_of_segments(rt: HostRuntime) -> Result<(), Fail> {
-    let rows = [final_row(1, 1, 1, 44)];
-    let steps = [
+const RECORDS: &[Stage<'static>] = &[
+    Done(BEGUN),
+    Done(&[
         Disk(Rename(PROGRESS, LONGER)),
         Disk(Write(RECORD, 0, b"?")),
         Sees(BadFile(RECORD)),
         Disk(Remove(RECORD)),
         Sees(BadFile(LONGER)),
         Disk(Rename(LONGER, FINAL)),
-        Sees(Opens([1, 1, 0], &rows)),
-    ];
-    take_after(&rt, rt.alloc(), &steps)
+        Sees(Opens([1, 1, 0], &[Final(1, 1, 1, 44)])),
+    ]),
+];
+
+#[test]
+fn records_come_before_the_files_of_segments(rt: HostRuntime) -> Result<(), Fail> {
+    play(&rt, rt.alloc(), RECORDS)
 }
+
+const NO_EDIT: &[Step<'static>] = &[
+    Node(Begin(1, 2)),
+    File(FileStep::Record(1, 2, 1)),
+    Sees(BadFile(PROGRESS)),
+];
 
 #[test]
 fn an_accepted_segment_without_an_edit_is_told(rt: HostRuntime) -> Result<(), Fail> {
-    let steps = [
-        Node(Begin(1, 2)),
-        File(FileStep::Record(1, 2, 1)),
-        Sees(BadFile(PROGRESS)),
-    ];
-    take_anew(&rt, rt.alloc(), &steps)
+    take_anew(&rt, rt.alloc(), NO_EDIT)
 }
+
+const FAILING: &[Stage<'static>] = &[
+    Done(BEGUN),
+    Lost,
+    Done(&[
+        Sees(OpeningFails),
+        Sees(Opens([1, 1, 0], &[Open(1, 1, 1, 44)])),
+    ]),
+];
 
 #[test]
 fn a_failing_disk_does_not_open(rt: HostRuntime) -> Result<(), Fail> {
-    let rows = [row(1, 1, 1, 44)];
-    for failing in 0..8 {
-        let steps = [
-            Fault(FailAt(&[failing])),
-            Sees(OpeningFails),
-            Sees(Opens([1, 1, 0], &rows)),
-        ];
-        take_after(&rt, rt.alloc(), &steps)?;
-    }
-    Ok(())
+    at_each_call(&rt, rt.alloc(), 8, FAILING)
 }

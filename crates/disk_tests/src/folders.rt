@@ -51,7 +51,7 @@ fn take<D: Disk>(rt: &impl Abort, disk: &mut D, line: &Line) -> Result<(), DiskF
 
 const FOLDER: &str = "folder_disk_test";
 
-const KEPT: [Line<'static>; 4] = [
+const KEPT: &[Line<'static>] = &[
     Line {
         done: true,
         steps: &[
@@ -92,59 +92,83 @@ const KEPT: [Line<'static>; 4] = [
     },
 ];
 
-const REMOVED: Line<'static> = Line {
+const REMOVED: &Line<'static> = &Line {
     done: true,
     steps: &[Remove("paxos/7")],
     wants: &[Names(&["a", "paxos/6"])],
 };
+
+fn take_all<D: Disk>(rt: &impl Abort, disk: &mut D, lines: &[Line]) -> Result<(), DiskFail>
+    requires { D.tells disk.old → ⊥ }
+    ensures { D.tells disk.new → ⊥ }
+{
+    for line in lines {
+        take(rt, disk, line)?;
+    }
+    Ok(())
+}
 
 #[test]
 fn files_of_a_folder_are_kept(rt: HostRuntime) -> Result<(), Fail> {
     let _ = fs::remove_dir_all(&rt, FOLDER);
     fs::create_dir(&rt, FOLDER)?;
     let mut disk = FolderDisk::new(rt.clone()?, FOLDER)?;
-    for line in &KEPT {
-        take(&rt, &mut disk, line)?;
-    }
+    take_all(&rt, &mut disk, KEPT)?;
     let mut again = FolderDisk::new(rt.clone()?, FOLDER)?;
-    take(&rt, &mut again, &REMOVED)?;
+    take(&rt, &mut again, REMOVED)?;
     tell_all(&rt, &mut disk, REMOVED.wants)?;
     fs::remove_dir_all(&rt, FOLDER)?;
+    Ok(())
+}
+
+const NO_FILES: &[&str] = &["", "no such file", "no such folder/file", "..", "/"];
+
+// There is no file of that name.
+fn is_absent<D: Disk>(rt: &impl Abort, disk: &mut D, name: &str) -> Result<(), DiskFail>
+    requires { D.tells disk.old → ⊥ }
+    ensures { D.tells disk.new → ⊥ }
+{
+    tell_all(rt, disk, &[Length(name, None), Bytes(name, b"")])
+}
+
+fn are_absent<D: Disk>(rt: &impl Abort, disk: &mut D, names: &[&str]) -> Result<(), DiskFail>
+    requires { D.tells disk.old → ⊥ }
+    ensures { D.tells disk.new → ⊥ }
+{
+    for name in names {
+        is_absent(rt, disk, name)?;
+    }
     Ok(())
 }
 
 #[test]
 fn what_is_no_file_is_absent(rt: HostRuntime) -> Result<(), Fail> {
     let mut here = FolderDisk::new(rt.clone()?, ".")?;
+    are_absent(&rt, &mut here, NO_FILES)?;
     let long = "n".repeat(rt.alloc(), 300)?;
-    for name in [
-        "",
-        "no such file",
-        "no such folder/file",
-        "..",
-        "/",
-        long.as_str(),
-    ] {
-        tell_all(&rt, &mut here, &[Length(name, None), Bytes(name, b"")])?;
-    }
+    is_absent(&rt, &mut here, long.as_str())?;
     Ok(())
 }
 
 const ABSENT: &str = "folder_disk_absent";
 
-#[test]
-fn an_absent_folder_takes_nothing(rt: HostRuntime) -> Result<(), Fail> {
-    let mut absent = FolderDisk::new(rt.clone()?, ABSENT)?;
-    let steps = [
+const REFUSED: &[Line<'static>] = &[Line {
+    done: false,
+    steps: &[
         Write("a", 0, b"1"),
         Write("paxos/1", 0, b"1"),
         Rename("a", "b"),
         Remove("a"),
         Cut("a", 0),
         Sync("a"),
-    ];
-    call_all(&rt, &mut absent, &steps, false)?;
-    tell_all(&rt, &mut absent, &[Length("a", None)])?;
+    ],
+    wants: &[Length("a", None)],
+}];
+
+#[test]
+fn an_absent_folder_takes_nothing(rt: HostRuntime) -> Result<(), Fail> {
+    let mut absent = FolderDisk::new(rt.clone()?, ABSENT)?;
+    take_all(&rt, &mut absent, REFUSED)?;
     assert!(rt; absent.list().is_err());
     Ok(())
 }

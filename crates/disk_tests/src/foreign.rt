@@ -1,21 +1,24 @@
 //! Opening with names beside a node's own: it syncs and reads its own files alone, and leaves the others as they are.
 use crate::disk_steps::DiskStep::Write;
 use crate::disk_steps::DiskWant::{Bytes, IsThere};
-use crate::disks::{PROGRESS, new_disk, row};
+use crate::disks::PROGRESS;
+use crate::disks::Row::Open;
 use crate::steps::Fault::Crash;
-use crate::steps::Step::{Disk, Fault, Sees, Tells};
-use crate::steps::{take_all, take_anew};
+use crate::steps::Step::{self, Disk, Fault, Sees, Tells};
+use crate::steps::take_anew;
 use crate::wants::Want::Opens;
 use node_files::{OpenedFiles, open_files};
 use qj_disk::Choice;
 use qj_outside::FolderDisk;
+use std::alloc::Global;
 use std::fs;
 use std::fs::Permissions;
 use std::os::unix::fs::{PermissionsExt, symlink};
+use std::process::Abort;
 use std::test::Fail;
 
 /// Names that are no node's: near ones, and any others.
-const FOREIGN: [&str; 9] = [
+const FOREIGN: &[&str] = &[
     "notes",
     "in_use.lock",
     "notes.new",
@@ -27,18 +30,22 @@ const FOREIGN: [&str; 9] = [
     "paxos/notes",
 ];
 
+// A file of that name stays, and what was never synced is lost.
+fn is_left(rt: &impl Abort, alloc: Global, name: &str) -> Result<(), Fail> {
+    let steps = [
+        Disk(Write(name, 0, b"x")),
+        Sees(Opens([0, 0, 0], &[])),
+        Tells(Bytes(name, b"x")),
+        Fault(Crash(Choice::Old)),
+        Tells(IsThere(name, false)),
+    ];
+    take_anew(rt, alloc, &steps)
+}
+
 #[test]
 fn foreign_files_stay_and_are_not_synced(rt: HostRuntime) -> Result<(), Fail> {
     for name in FOREIGN {
-        let steps = [
-            Disk(Write(name, 0, b"x")),
-            Sees(Opens([0, 0, 0], &[])),
-            Tells(Bytes(name, b"x")),
-            // What was never synced is lost.
-            Fault(Crash(Choice::Old)),
-            Tells(IsThere(name, false)),
-        ];
-        take_anew(&rt, rt.alloc(), &steps)?;
+        is_left(&rt, rt.alloc(), name)?;
     }
     Ok(())
 }
@@ -47,21 +54,19 @@ fn foreign_files_stay_and_are_not_synced(rt: HostRuntime) -> Result<(), Fail> {
 const HEADER: &[u8] =
     b"QJSG\x00\x00\x00\x01\x00\x00\x00\x00\x00\x00\x00\x01\x00\x00\x00\x00\x00\x00\x00\x01\x00";
 
+const OWN: &[Step<'static>] = &[
+    Disk(Write("last-promised-epoch", 0, b"0000000000000000003\n")),
+    Disk(Write("last-writer-epoch", 0, b"0000000000000000001\n")),
+    Disk(Write("committed-txid", 0, b"0000000000000000007\n")),
+    Disk(Write(PROGRESS, 0, HEADER)),
+    Sees(Opens([3, 1, 7], &[Open(1, 0, 1, 24)])),
+    Fault(Crash(Choice::Old)),
+    Sees(Opens([3, 1, 7], &[Open(1, 0, 1, 24)])),
+];
+
 #[test]
 fn own_files_are_synced(rt: HostRuntime) -> Result<(), Fail> {
-    let mut disk = new_disk(rt.alloc());
-    let rows = [row(1, 0, 1, 24)];
-    let steps = [
-        Disk(Write("last-promised-epoch", 0, b"0000000000000000003\n")),
-        Disk(Write("last-writer-epoch", 0, b"0000000000000000001\n")),
-        Disk(Write("committed-txid", 0, b"0000000000000000007\n")),
-        Disk(Write(PROGRESS, 0, HEADER)),
-        Sees(Opens([3, 1, 7], &rows)),
-        Fault(Crash(Choice::Old)),
-        Sees(Opens([3, 1, 7], &rows)),
-    ];
-    take_all(&rt, rt.alloc(), &mut disk, &steps)?;
-    Ok(())
+    take_anew(&rt, rt.alloc(), OWN)
 }
 
 const FOLDER: &str = "foreign_files_test";
@@ -78,19 +83,21 @@ fn make_foreign(rt: &HostRuntime) -> Result<(), Fail> {
     Ok(())
 }
 
+fn opens_empty(rt: &impl Abort, alloc: Global, disk: &mut FolderDisk<HostRuntime>) {
+    match open_files(alloc, disk) {
+        OpenedFiles::Files(files) => assert_eq!(rt; files.table.as_slice().len(), 0),
+        _ => panic!(rt; "the folder isn't opened"),
+    }
+}
+
 #[test]
 fn a_folder_with_foreign_files_opens(rt: HostRuntime) -> Result<(), Fail> {
     let _ = fs::remove_dir_all(&rt, FOLDER);
     make_foreign(&rt)?;
     let mut disk = FolderDisk::new(rt.clone()?, FOLDER)?;
-    match open_files(rt.alloc(), &mut disk) {
-        OpenedFiles::Files(files) => assert_eq!(rt; files.table.as_slice().len(), 0),
-        _ => panic!(rt; "the folder isn't opened"),
-    }
-    assert_eq!(rt;
-        fs::read_link(&rt, "foreign_files_test/circle")?.as_str(),
-        "circle"
-    );
+    opens_empty(&rt, rt.alloc(), &mut disk);
+    let circle = fs::read_link(&rt, "foreign_files_test/circle")?;
+    assert_eq!(rt; circle.as_str(), "circle");
     assert!(rt; fs::symlink_metadata(&rt, "foreign_files_test/notes")?.is_file());
     fs::remove_dir_all(&rt, FOLDER)?;
     Ok(())

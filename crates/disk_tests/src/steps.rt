@@ -1,6 +1,6 @@
 //! What is done to a disk of a test and what is seen of it, line by line; and calls that are stopped at each place.
 use crate::disk_steps::{DiskStep, DiskWant, call, tells};
-use crate::disks::{choices, new_disk};
+use crate::disks::{CHOICES, new_disk};
 use crate::file_steps::{FileStep, SegmentStep, change_segment, put_file};
 use crate::node_steps::{NodeStep, make_effect};
 use crate::wants::{Want, sees};
@@ -72,12 +72,7 @@ fn is_seen(
 }
 
 /// Takes the line. False where the disk failed.
-pub fn take(
-    rt: &impl Abort,
-    alloc: Global,
-    disk: &mut UntoldDisk,
-    step: &Step,
-) -> Result<bool, Fail> {
+fn take(rt: &impl Abort, alloc: Global, disk: &mut UntoldDisk, step: &Step) -> Result<bool, Fail> {
     match step {
         Step::Disk(step) => call_disk(disk, step),
         Step::Fault(fault) => befall(alloc, disk, fault),
@@ -103,7 +98,7 @@ pub fn take_all(
 }
 
 /// Takes lines at which the disk fails.
-pub fn fail_all(
+fn fail_all(
     rt: &impl Abort,
     alloc: Global,
     disk: &mut UntoldDisk,
@@ -115,88 +110,207 @@ pub fn fail_all(
     Ok(())
 }
 
-/// Takes lines over a disk of no files.
+/// Lines of a test, and what befalls the disk in its case.
+#[derive(Clone, Copy)]
+pub enum Stage<'a> {
+    /// These lines are done.
+    Done(&'a [Step<'a>]),
+    /// The disk fails at each of these lines.
+    Fails(&'a [Step<'a>]),
+    /// The disk call of the case's number fails, counted from here.
+    Lost,
+    /// The disk crashes by the case's choice.
+    Crashed,
+}
+
+/// A case of a test: the number of a disk call, from 0 on, and what a crash leaves.
+#[derive(Clone, Copy)]
+struct Case {
+    call: u64,
+    choice: Choice,
+}
+
+fn lose_call(alloc: Global, disk: &mut UntoldDisk, call: u64) -> Result<(), Fail> {
+    disk.disk.fail_at(vec![in alloc; call]?);
+    Ok(())
+}
+
+fn crash(disk: &mut UntoldDisk, choice: Choice) -> Result<(), Fail> {
+    disk.disk.crash(choice);
+    Ok(())
+}
+
+fn take_stage(
+    rt: &impl Abort,
+    alloc: Global,
+    disk: &mut UntoldDisk,
+    case: Case,
+    stage: &Stage,
+) -> Result<(), Fail> {
+    match stage {
+        Stage::Done(steps) => take_all(rt, alloc, disk, steps),
+        Stage::Fails(steps) => fail_all(rt, alloc, disk, steps),
+        Stage::Lost => lose_call(alloc, disk, case.call),
+        Stage::Crashed => crash(disk, case.choice),
+    }
+}
+
+fn take_stages(
+    rt: &impl Abort,
+    alloc: Global,
+    disk: &mut UntoldDisk,
+    case: Case,
+    stages: &[Stage],
+) -> Result<(), Fail> {
+    for stage in stages {
+        take_stage(rt, alloc, disk, case, stage)?;
+    }
+    Ok(())
+}
+
+// Over a disk of no files.
+fn play_case(rt: &impl Abort, alloc: Global, case: Case, stages: &[Stage]) -> Result<(), Fail> {
+    let mut disk = new_disk(alloc);
+    take_stages(rt, alloc, &mut disk, case, stages)
+}
+
+/// Takes stages over a disk of no files.
+pub fn play(rt: &impl Abort, alloc: Global, stages: &[Stage]) -> Result<(), Fail> {
+    let choice = Choice::Old;
+    play_case(rt, alloc, Case { call: 0, choice }, stages)
+}
+
+/// Takes lines that are done over a disk of no files.
 pub fn take_anew(rt: &impl Abort, alloc: Global, steps: &[Step]) -> Result<(), Fail> {
     let mut disk = new_disk(alloc);
     take_all(rt, alloc, &mut disk, steps)
 }
 
-/// How a line is stopped.
+/// Takes the stages for each number of a disk call below `calls`.
+pub fn at_each_call(
+    rt: &impl Abort,
+    alloc: Global,
+    calls: u64,
+    stages: &[Stage],
+) -> Result<(), Fail> {
+    let choice = Choice::Old;
+    for call in 0..calls {
+        play_case(rt, alloc, Case { call, choice }, stages)?;
+    }
+    Ok(())
+}
+
+/// Takes the stages for each choice of a crash.
+pub fn at_each_choice(rt: &impl Abort, alloc: Global, stages: &[Stage]) -> Result<(), Fail> {
+    for choice in CHOICES {
+        let choice = *choice;
+        play_case(rt, alloc, Case { call: 0, choice }, stages)?;
+    }
+    Ok(())
+}
+
+/// A line that is stopped.
 #[derive(Clone, Copy)]
-pub struct Stops {
+pub struct Stopping<'a> {
+    /// What comes before it.
+    pub before: &'a [Stage<'a>],
+    pub line: Step<'a>,
     /// How many disk calls it takes.
     pub calls: u64,
     /// After how many of them it stands.
     pub decided: u64,
     /// Whether it stands one call earlier, where the crash leaves what was written, or opens the gate.
     pub by_choice: bool,
+    /// What is done where it stands.
+    pub stands: &'a [Step<'a>],
+    /// What is done where it doesn't.
+    pub falls: &'a [Step<'a>],
 }
 
-/// It takes so many calls, and stands after the last.
-pub fn whole_at(calls: u64) -> Stops {
-    Stops {
-        calls,
-        decided: calls,
-        by_choice: false,
+fn stands_after(stopping: &Stopping, case: Case) -> bool {
+    let opens = matches!(case.choice, Choice::New | Choice::Fill(0xa5));
+    let early = stopping.by_choice && opens && case.call.saturating_add(1) == stopping.decided;
+    case.call >= stopping.decided || early
+}
+
+// The line is done where all of its calls are.
+fn stop_line(
+    rt: &impl Abort,
+    alloc: Global,
+    disk: &mut UntoldDisk,
+    stopping: &Stopping,
+    calls: u64,
+) -> Result<(), Fail> {
+    disk.disk.stop_after(calls);
+    let done = take(rt, alloc, disk, &stopping.line)?;
+    assert_eq!(rt; done, calls == stopping.calls, "after {calls}");
+    Ok(())
+}
+
+// The line is stopped after so many calls as the case says, before a crash.
+fn stop_on(
+    rt: &impl Abort,
+    alloc: Global,
+    disk: &mut UntoldDisk,
+    stopping: &Stopping,
+    case: Case,
+) -> Result<(), Fail> {
+    stop_line(rt, alloc, disk, stopping, case.call)?;
+    crash(disk, case.choice)?;
+    if stands_after(stopping, case) {
+        take_all(rt, alloc, disk, stopping.stands)
+    } else {
+        take_all(rt, alloc, disk, stopping.falls)
     }
 }
 
-fn stands_after(stops: Stops, calls: u64, choice: Choice) -> bool {
-    let opens = matches!(choice, Choice::New | Choice::Fill(0xa5));
-    calls >= stops.decided || stops.by_choice && opens && calls.saturating_add(1) == stops.decided
-}
-
-/// A disk on which a line was stopped after so many calls, before a crash. The line is done where that is all.
-fn stopped_disk(
+fn stop_case(
     rt: &impl Abort,
     alloc: Global,
-    before: &[Step],
-    step: &Step,
-    calls: u64,
-    is_done: bool,
-) -> Result<UntoldDisk, Fail> {
+    first: Case,
+    stopping: &Stopping,
+    case: Case,
+) -> Result<(), Fail> {
     let mut disk = new_disk(alloc);
-    take_all(rt, alloc, &mut disk, before)?;
-    disk.disk.stop_after(calls);
-    assert_eq!(rt; take(rt, alloc, &mut disk, step)?, is_done, "after {calls}");
-    Ok(disk)
+    take_stages(rt, alloc, &mut disk, first, stopping.before)?;
+    stop_on(rt, alloc, &mut disk, stopping, case)
 }
 
 fn stop_by_choice(
     rt: &impl Abort,
     alloc: Global,
-    before: &[Step],
-    step: &Step,
-    calls: u64,
-    stops: Stops,
-    stands: &[Step],
-    falls: &[Step],
+    first: Case,
+    stopping: &Stopping,
+    call: u64,
 ) -> Result<(), Fail> {
-    for choice in choices() {
-        let mut disk = stopped_disk(rt, alloc, before, step, calls, calls == stops.calls)?;
-        disk.disk.crash(choice);
-        if stands_after(stops, calls, choice) {
-            take_all(rt, alloc, &mut disk, stands)?;
-        } else {
-            take_all(rt, alloc, &mut disk, falls)?;
-        }
+    for choice in CHOICES {
+        let choice = *choice;
+        stop_case(rt, alloc, first, stopping, Case { call, choice })?;
     }
     Ok(())
 }
 
-/// Stops the line after each number of its calls, by each choice of the crash. Then the first lines are taken where it
-/// stands, and the second ones where it doesn't.
-pub fn stop_at_each(
+fn stop_from(
     rt: &impl Abort,
     alloc: Global,
-    before: &[Step],
-    step: &Step,
-    stops: Stops,
-    stands: &[Step],
-    falls: &[Step],
+    choice: Choice,
+    stopping: &Stopping,
 ) -> Result<(), Fail> {
-    for calls in 0..=stops.calls {
-        stop_by_choice(rt, alloc, before, step, calls, stops, stands, falls)?;
+    for calls in 0..=stopping.calls {
+        stop_by_choice(rt, alloc, Case { call: 0, choice }, stopping, calls)?;
+    }
+    Ok(())
+}
+
+/// Stops the line after each number of its calls, by each choice of the crash after it.
+pub fn stop_at_each(rt: &impl Abort, alloc: Global, stopping: &Stopping) -> Result<(), Fail> {
+    stop_from(rt, alloc, Choice::Old, stopping)
+}
+
+/// The same for each choice of a crash before it.
+pub fn stop_after_each(rt: &impl Abort, alloc: Global, stopping: &Stopping) -> Result<(), Fail> {
+    for choice in CHOICES {
+        stop_from(rt, alloc, *choice, stopping)?;
     }
     Ok(())
 }

@@ -7,7 +7,7 @@ use std::process::Abort;
 use std::test::Fail;
 
 // It is started and rolled.
-const ROLLED: [&str; 7] = [
+const ROLLED: &[&str] = &[
     "new 1",
     "start 1 1 0 1",
     "journal 1 2 0 1 1 0a 0b",
@@ -18,7 +18,7 @@ const ROLLED: [&str; 7] = [
 ];
 
 // Other edits are accepted in its place, and another one is started.
-const ACCEPTED: [&str; 7] = [
+const ACCEPTED: &[&str] = &[
     "new 2",
     "fetch 2 1 3 4 5",
     "accept 2 2 3 4 1d 1e 1f",
@@ -29,7 +29,7 @@ const ACCEPTED: [&str; 7] = [
 ];
 
 // It is purged, as a later one is accepted; and another one is started.
-const PURGED: [&str; 8] = [
+const PURGED: &[&str] = &[
     "new 3",
     "accept 3 1 8 9 2c",
     "fetch 3 2 8 7 8",
@@ -41,7 +41,7 @@ const PURGED: [&str; 8] = [
 ];
 
 // After a restart it is fetched and accepted, and another one is started.
-const RESTARTED: [&str; 7] = [
+const RESTARTED: &[&str] = &[
     "fetch 3 8 10 10 11",
     "new 4",
     "accept 4 1 11 10 3a 3b",
@@ -60,15 +60,23 @@ const LAST: u64 = 13;
 // Reads from each txid, and from the one after the last, are answered alike.
 fn read_all(rt: &impl Abort, alloc: Global, nodes: &mut Nodes, line: &str) -> Result<(), Fail> {
     for from in 1..=LAST + 1 {
+        let request = Request::Read { from };
         assert!(rt;
-            nodes.answer_alike(alloc, &Request::Read { from })?,
+            nodes.answer_alike(alloc, &request)?,
             "read {from} after {line}"
         );
     }
     Ok(())
 }
 
-// The lines are answered alike, and after each of them the reads.
+// The line is answered alike, and after it the reads.
+fn answer(rt: &impl Abort, alloc: Global, nodes: &mut Nodes, line: &str) -> Result<(), Fail> {
+    let request = request(alloc, line)?;
+    assert!(rt; nodes.answer_alike(alloc, &request)?, "{line}");
+    read_all(rt, alloc, nodes, line)
+}
+
+// The same of each line.
 fn answer_all(
     rt: &impl Abort,
     alloc: Global,
@@ -76,25 +84,36 @@ fn answer_all(
     lines: &[&str],
 ) -> Result<(), Fail> {
     for line in lines {
-        assert!(rt;
-            nodes.answer_alike(alloc, &request(alloc, *line)?)?,
-            "{line}"
-        );
-        read_all(rt, alloc, nodes, *line)?;
+        answer(rt, alloc, nodes, line)?;
     }
     Ok(())
 }
 
+// The same of parts, one after another.
+fn answer_parts(
+    rt: &impl Abort,
+    alloc: Global,
+    nodes: &mut Nodes,
+    parts: &[&[&str]],
+) -> Result<(), Fail> {
+    for part in parts {
+        answer_all(rt, alloc, nodes, part)?;
+    }
+    Ok(())
+}
+
+// The nodes come up again, and the reads are answered alike.
+fn restart(rt: &impl Abort, alloc: Global, nodes: &mut Nodes) -> Result<(), Fail> {
+    nodes.restart(alloc)?;
+    read_all(rt, alloc, nodes, "the restart")
+}
+
 #[test]
 fn the_cached_segment_is_read_alike(rt: HostRuntime) -> Result<(), Fail> {
-    let alloc = rt.alloc();
-    let mut nodes = Nodes::new(alloc)?;
-    answer_all(&rt, alloc, &mut nodes, &ROLLED)?;
-    answer_all(&rt, alloc, &mut nodes, &ACCEPTED)?;
-    answer_all(&rt, alloc, &mut nodes, &PURGED)?;
-    nodes.restart(alloc)?;
-    read_all(&rt, alloc, &mut nodes, "the restart")?;
-    answer_all(&rt, alloc, &mut nodes, &RESTARTED)?;
+    let mut nodes = Nodes::new(rt.alloc())?;
+    answer_parts(&rt, rt.alloc(), &mut nodes, &[ROLLED, ACCEPTED, PURGED])?;
+    restart(&rt, rt.alloc(), &mut nodes)?;
+    answer_all(&rt, rt.alloc(), &mut nodes, RESTARTED)?;
     assert_eq!(rt; nodes.answered().ok, DONE);
     Ok(())
 }

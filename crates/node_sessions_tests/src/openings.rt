@@ -1,7 +1,6 @@
 //! A first opening, which renames one file and removes others, is stopped at each of its calls, and the disk opened again.
 use crate::lines::{request, text_of};
 use crate::nodes::open;
-use journal_core::Node;
 use journal_node::{JournalNode, OpenFail};
 use qj_disk::{Choice, Disk, MemDisk};
 use std::alloc::Global;
@@ -9,24 +8,41 @@ use std::process::Abort;
 use std::test::Fail;
 
 /// What leads to the open segment 1 with one edit, after the promise of epoch 2.
-const PROMISED: [&str; 4] = ["new 1", "start 1 1 0 1", "journal 1 2 0 1 1 18", "new 2"];
+const PROMISED: &[&str] = &["new 1", "start 1 1 0 1", "journal 1 2 0 1 1 18", "new 2"];
 
 /// More calls than an opening makes.
 const MOST_CALLS: u64 = 40;
 
-// A disk with an acceptance of which the content isn't renamed yet, and two temporary files.
-fn left_half_done(alloc: Global) -> Result<MemDisk, Fail> {
-    let mut node = open(alloc, MemDisk::new(alloc))?;
-    for line in &PROMISED {
-        let _reply = node.act(alloc, &request(alloc, line)?);
+// The text of the reply to a line.
+fn ask(alloc: Global, node: &mut JournalNode<MemDisk>, line: &str) -> Result<Vec<u8>, Fail> {
+    let request = request(alloc, line)?;
+    text_of(alloc, &node.act(alloc, &request))
+}
+
+// The disk stops after five calls of an acceptance.
+fn stop_accepting(alloc: Global, node: &mut JournalNode<MemDisk>) -> Result<(), Fail> {
+    for line in PROMISED {
+        let _reply = ask(alloc, node, line)?;
     }
-    let accept = request(alloc, "accept 2 1 0 1 18 0a")?;
     node.stop_after(5);
-    let _fault = node.act(alloc, &accept);
-    let mut disk = node.into_disk();
+    let _fault = ask(alloc, node, "accept 2 1 0 1 18 0a")?;
+    Ok(())
+}
+
+// The disk crashes, and has two temporary files.
+fn leave_temporary(disk: &mut MemDisk) -> Result<(), Fail> {
     disk.crash(Choice::New);
     disk.write_at("last-promised-epoch.tmp", 0, b"7")?;
     disk.write_at("edits_inprogress_0000000000000000001.new", 0, b"7")?;
+    Ok(())
+}
+
+// A disk with an acceptance of which the content isn't renamed yet, and two temporary files.
+fn left_half_done(alloc: Global) -> Result<MemDisk, Fail> {
+    let mut node = open(alloc, MemDisk::new(alloc))?;
+    stop_accepting(alloc, &mut node)?;
+    let mut disk = node.into_disk();
+    leave_temporary(&mut disk)?;
     Ok(disk)
 }
 
@@ -42,32 +58,39 @@ fn opened_once(alloc: Global, calls: u64) -> Result<(MemDisk, bool), Fail> {
     }
 }
 
+const TOLD: &[u8] = b"prepared 1 0 1 inprogress 2 yes 2";
+
 // The node has the accepted segment, and its disk no file that counts for nothing.
 fn is_whole(rt: &impl Abort, alloc: Global, disk: MemDisk) -> Result<(), Fail> {
     let mut node = open(alloc, disk)?;
-    let told = node.act(alloc, &request(alloc, "prepare 2 2 0 1")?);
-    assert_eq!(rt;
-        text_of(alloc, &told)?.as_slice(),
-        b"prepared 1 0 1 inprogress 2 yes 2".as_slice()
-    );
-    let mut disk = node.into_disk();
-    let names = disk.list()?;
-    assert_eq!(rt; names.len(), 4);
+    assert_eq!(rt; ask(alloc, &mut node, "prepare 2 2 0 1")?.as_slice(), TOLD);
+    assert_eq!(rt; node.into_disk().list()?.len(), 4);
     Ok(())
 }
 
+// An opening is stopped after so many calls, the disk crashes, and is opened again.
+fn is_stopped(rt: &impl Abort, alloc: Global, calls: u64, choice: Choice) -> Result<(), Fail> {
+    let (mut disk, _is_open) = opened_once(alloc, calls)?;
+    disk.crash(choice);
+    is_whole(rt, alloc, disk)
+}
+
+fn is_stopped_anywhere(rt: &impl Abort, alloc: Global, choice: Choice) -> Result<(), Fail> {
+    for calls in 0..MOST_CALLS {
+        is_stopped(rt, alloc, calls, choice)?;
+    }
+    Ok(())
+}
+
+const CHOICES: &[Choice] = &[Choice::Old, Choice::New, Choice::Fill(0xa5)];
+
 #[test]
 fn a_first_opening_is_stopped_anywhere(rt: HostRuntime) -> Result<(), Fail> {
-    let alloc = rt.alloc();
-    for choice in [Choice::Old, Choice::New, Choice::Fill(0xa5)] {
-        for calls in 0..MOST_CALLS {
-            let (mut disk, _is_open) = opened_once(alloc, calls)?;
-            disk.crash(choice);
-            is_whole(&rt, alloc, disk)?;
-        }
+    for choice in CHOICES {
+        is_stopped_anywhere(&rt, rt.alloc(), *choice)?;
     }
-    let (_disk, first) = opened_once(alloc, 0)?;
-    let (_disk, last) = opened_once(alloc, MOST_CALLS)?;
+    let (_disk, first) = opened_once(rt.alloc(), 0)?;
+    let (_disk, last) = opened_once(rt.alloc(), MOST_CALLS)?;
     assert!(rt; !first && last);
     Ok(())
 }

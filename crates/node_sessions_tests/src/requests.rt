@@ -20,7 +20,7 @@ enum Kind {
 }
 
 // Each kind as often as it comes in forty requests.
-const KINDS: [Kind; 40] = [
+const KINDS: &[Kind] = &[
     Kind::Journal,
     Kind::Journal,
     Kind::Journal,
@@ -100,30 +100,46 @@ fn draw_head(draws: &mut Draws, state: &NodeState) -> Result<Head, Fail> {
 }
 
 // One to forty bytes, or now and then the most that a body may have, or one more.
-fn draw_body(alloc: Global, draws: &mut Draws) -> Result<Bytes, Fail> {
-    let length = if draws.is_one_in(400) {
+fn draw_length(draws: &mut Draws) -> u64 {
+    if draws.is_one_in(400) {
         4096 + draws.below(2)
     } else {
         1 + draws.below(40)
-    };
+    }
+}
+
+fn draw_bytes(alloc: Global, draws: &mut Draws) -> Result<Vec<u8>, Fail> {
     let mut bytes = Vec::new(alloc);
-    for _ in 0..length {
+    for _ in 0..draw_length(draws) {
         bytes.push(draws.below(256) as u8)?;
     }
+    Ok(bytes)
+}
+
+fn draw_body(alloc: Global, draws: &mut Draws) -> Result<Bytes, Fail> {
+    let bytes = draw_bytes(alloc, draws)?;
     Ok(Bytes::copy_of(alloc, &bytes)?.ok_or("no byte")?)
 }
 
 // A few bodies, or up to the most of a batch, or one more.
-fn draw_batch(alloc: Global, draws: &mut Draws, first: u64) -> Result<Batch, Fail> {
-    let count = if draws.is_one_in(8) {
+fn draw_count(draws: &mut Draws) -> u64 {
+    if draws.is_one_in(8) {
         1 + draws.below(257)
     } else {
         1 + draws.below(5)
-    };
+    }
+}
+
+fn draw_bodies(alloc: Global, draws: &mut Draws) -> Result<BodyList, Fail> {
     let mut bodies = BodyList::new(alloc);
-    for _ in 0..count {
+    for _ in 0..draw_count(draws) {
         bodies.push(draw_body(alloc, draws)?)?;
     }
+    Ok(bodies)
+}
+
+fn draw_batch(alloc: Global, draws: &mut Draws, first: u64) -> Result<Batch, Fail> {
+    let bodies = draw_bodies(alloc, draws)?;
     if bodies.is_empty() {
         return Err("no body".into());
     }
@@ -131,6 +147,7 @@ fn draw_batch(alloc: Global, draws: &mut Draws, first: u64) -> Result<Batch, Fai
 }
 
 // A segment of the node, and a txid in it or right after it.
+#[derive(Clone, Copy)]
 struct Place {
     start: u64,
     end: u64,
@@ -169,35 +186,75 @@ fn draw_kind(draws: &mut Draws, state: &NodeState) -> Kind {
     }
 }
 
-/// A random request.
-pub fn draw_request(alloc: Global, draws: &mut Draws, state: &NodeState) -> Result<Request, Fail> {
-    let kind = draw_kind(draws, state);
+// The numbers of a request.
+#[derive(Clone, Copy)]
+struct Numbers {
+    head: Head,
+    opened: u64,
+    place: Place,
+    first: u64,
+}
+
+fn draw_numbers(draws: &mut Draws, state: &NodeState) -> Result<Numbers, Fail> {
     let head = draw_head(draws, state)?;
     let next = next_txid(state);
     let opened = near(draws, state.opened.unwrap_or(next));
-    let Place { start, end, from } = draw_place(draws, state);
+    let place = draw_place(draws, state);
     let first = near(draws, next);
-    let request = match kind {
-        Kind::State => Request::State,
-        Kind::NewEpoch => Request::NewEpoch {
-            epoch: near(draws, state.promised.saturating_add(1)),
-        },
-        Kind::Start => Request::Start { head, start: first },
-        Kind::Journal => Request::Journal {
+    Ok(Numbers {
+        head,
+        opened,
+        place,
+        first,
+    })
+}
+
+fn draw_journal(alloc: Global, draws: &mut Draws, numbers: &Numbers) -> Result<Request, Fail> {
+    let batch = draw_batch(alloc, draws, numbers.first)?;
+    Ok(Request::Journal {
+        head: numbers.head,
+        start: numbers.opened,
+        batch,
+    })
+}
+
+fn draw_accept(alloc: Global, draws: &mut Draws, numbers: &Numbers) -> Result<Request, Fail> {
+    let batch = draw_batch(alloc, draws, numbers.place.start)?;
+    Ok(Request::Accept {
+        head: numbers.head,
+        batch,
+    })
+}
+
+// A request without a batch, but for one of a new epoch.
+fn plain_request(kind: Kind, numbers: &Numbers) -> Request {
+    let head = numbers.head;
+    let Place { start, end, from } = numbers.place;
+    match kind {
+        Kind::Start => Request::Start {
             head,
-            start: opened,
-            batch: draw_batch(alloc, draws, first)?,
+            start: numbers.first,
         },
         Kind::Finalize => Request::Finalize { head, start, end },
         Kind::Prepare => Request::Prepare { head, start },
         Kind::Fetch => Request::Fetch { head, start, from },
-        Kind::Accept => Request::Accept {
-            head,
-            batch: draw_batch(alloc, draws, start)?,
-        },
         Kind::Purge => Request::Purge { head, min: from },
         Kind::Read => Request::Read { from },
         Kind::Manifest => Request::Manifest,
-    };
-    Ok(request)
+        _ => Request::State,
+    }
+}
+
+/// A random request.
+pub fn draw_request(alloc: Global, draws: &mut Draws, state: &NodeState) -> Result<Request, Fail> {
+    let kind = draw_kind(draws, state);
+    let numbers = draw_numbers(draws, state)?;
+    match kind {
+        Kind::NewEpoch => Ok(Request::NewEpoch {
+            epoch: near(draws, state.promised.saturating_add(1)),
+        }),
+        Kind::Journal => draw_journal(alloc, draws, &numbers),
+        Kind::Accept => draw_accept(alloc, draws, &numbers),
+        _ => Ok(plain_request(kind, &numbers)),
+    }
 }

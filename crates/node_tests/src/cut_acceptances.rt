@@ -11,7 +11,7 @@ use std::test::Fail;
 const UNDER_WAY: &str = "edits_inprogress_0000000000000000001.epoch=2";
 
 // The edit 18 in segment 1 of epoch 1, under the promise of epoch 2.
-const PROMISED: [&str; 4] = ["new 1", "start 1 1 0 1", "journal 1 2 0 1 1 18", "new 2"];
+const PROMISED: &[&str] = &["new 1", "start 1 1 0 1", "journal 1 2 0 1 1 18", "new 2"];
 
 // Segment 1 with two edits, as epoch 2 recovered it.
 const RECOVERED: &str = "accept 2 1 0 1 18 0a";
@@ -48,23 +48,36 @@ fn tells(rt: &impl Abort, alloc: Global, disk: MemDisk, is_accepted: bool) -> Re
     answer(rt, alloc, &mut open(alloc, disk)?, "prepare 2 2 0 1", told)
 }
 
+// A node that did the acceptance, and came up again.
+fn accepted(rt: &impl Abort, alloc: Global) -> Result<JournalNode<MemDisk>, Fail> {
+    let mut node = disk_node(alloc, PROMISED)?;
+    answer(rt, alloc, &mut node, RECOVERED, "ok")?;
+    assert!(rt; kill(&mut node));
+    assert!(rt; restart(alloc, &mut node)?);
+    Ok(node)
+}
+
 #[test]
 fn a_repeated_acceptance_is_torn(rt: HostRuntime) -> Result<(), Fail> {
-    let mut node = disk_node(rt.alloc(), &PROMISED)?;
-    answer(&rt, rt.alloc(), &mut node, RECOVERED, "ok")?;
-    assert!(rt; kill(&mut node));
-    assert!(rt; restart(rt.alloc(), &mut node)?);
+    let node = accepted(&rt, rt.alloc())?;
     let torn = crash_in(rt.alloc(), node, 1, Choice::Fill(0xa5))?;
     assert!(rt; !torn.is_done);
     tells(&rt, rt.alloc(), torn.disk, true)
 }
 
-// An acceptance that is stopped after so many of its calls.
-fn is_accepted_by(rt: &impl Abort, alloc: Global, calls: u64) -> Result<(), Fail> {
-    for choice in [Choice::Old, Choice::New, Choice::Fill(0xa5)] {
-        let stopped = crash_in(alloc, disk_node(alloc, &PROMISED)?, calls, choice)?;
-        assert_eq!(rt; stopped.is_done, calls == 6);
-        tells(rt, alloc, stopped.disk, calls >= 5)?;
+const CHOICES: &[Choice] = &[Choice::Old, Choice::New, Choice::Fill(0xa5)];
+
+// An acceptance that is stopped after so many of its calls, before a crash.
+fn is_accepted_by(rt: &impl Abort, alloc: Global, calls: u64, choice: Choice) -> Result<(), Fail> {
+    let stopped = crash_in(alloc, disk_node(alloc, PROMISED)?, calls, choice)?;
+    assert_eq!(rt; stopped.is_done, calls == 6);
+    tells(rt, alloc, stopped.disk, calls >= 5)
+}
+
+// The same by each choice.
+fn is_accepted_behind(rt: &impl Abort, alloc: Global, calls: u64) -> Result<(), Fail> {
+    for choice in CHOICES {
+        is_accepted_by(rt, alloc, calls, *choice)?;
     }
     Ok(())
 }
@@ -72,14 +85,14 @@ fn is_accepted_by(rt: &impl Abort, alloc: Global, calls: u64) -> Result<(), Fail
 #[test]
 fn an_acceptance_stands_behind_five_calls(rt: HostRuntime) -> Result<(), Fail> {
     for calls in 0..7 {
-        is_accepted_by(&rt, rt.alloc(), calls)?;
+        is_accepted_behind(&rt, rt.alloc(), calls)?;
     }
     Ok(())
 }
 
 #[test]
 fn a_cut_acceptance_leaves_its_file(rt: HostRuntime) -> Result<(), Fail> {
-    let (node, effects) = cut_node(rt.alloc(), &PROMISED, RECOVERED, 2, Cut::A5)?;
+    let (node, effects) = cut_node(rt.alloc(), PROMISED, RECOVERED, 2, Cut::A5)?;
     assert_eq!(rt; effects, 0);
     let names = node.into_disk().list()?;
     assert!(rt; names.iter().any(|name| name.as_str() == UNDER_WAY));

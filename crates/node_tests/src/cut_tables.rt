@@ -13,7 +13,7 @@ use std::process::Abort;
 use std::test::Fail;
 
 // The last request removes a segment without an edit.
-const AT_EMPTY: [(u64, &str); 7] = [
+const AT_EMPTY: &[(u64, &str)] = &[
     (3, "new 2"),
     (3, "start 1 2 0 1"),
     (9, "start 2 1 0 1"),
@@ -24,7 +24,7 @@ const AT_EMPTY: [(u64, &str); 7] = [
 ];
 
 // A request of epoch 2 with three calls is refused after its promise, or has no other effect.
-const AT_OPEN: [(u64, &str); 13] = [
+const AT_OPEN: &[(u64, &str)] = &[
     (3, "new 2"),
     (0, "start 1 3 1 1"),
     (3, "start 2 1 1 1"),
@@ -41,7 +41,7 @@ const AT_OPEN: [(u64, &str); 13] = [
 ];
 
 // A final segment, and an open one after it.
-const AT_FINAL: [(u64, &str); 7] = [
+const AT_FINAL: &[(u64, &str)] = &[
     (4, "journal 1 6 2 3 4 0d"),
     (3, "accept 2 1 2 1 18 0a"),
     (3, "accept 2 1 2 1 18"),
@@ -52,7 +52,7 @@ const AT_FINAL: [(u64, &str); 7] = [
 ];
 
 // The first request is the same acceptance once more.
-const AT_ACCEPTED: [(u64, &str); 5] = [
+const AT_ACCEPTED: &[(u64, &str)] = &[
     (3, "accept 2 2 3 1 18 0a 0e"),
     (9, "accept 3 1 3 1 18 0a"),
     (6, "accept 2 2 3 5 18"),
@@ -60,17 +60,35 @@ const AT_ACCEPTED: [(u64, &str); 5] = [
     (6, "start 2 2 3 4"),
 ];
 
-const AT_OLD_RECORD: [(u64, &str); 2] = [(6, "accept 3 1 3 1 18 0a"), (6, "start 3 1 3 4")];
+const AT_OLD_RECORD: &[(u64, &str)] = &[(6, "accept 3 1 3 1 18 0a"), (6, "start 3 1 3 4")];
 
 // The accepted segment is purged with its record.
-const AT_PASSED: [(u64, &str); 4] = [
+const AT_PASSED: &[(u64, &str)] = &[
     (3, "accept 2 4 3 1 18 0a"),
     (4, "journal 2 4 4 4 5 0e"),
     (2, "purge 2 4 3 4"),
     (5, "purge 3 1 3 4"),
 ];
 
-// A cut after so many calls, by each choice, leaves what it leaves of a node in memory.
+const CUTS: &[Cut] = &[Cut::Old, Cut::New, Cut::A5];
+
+// A cut after so many calls leaves what it leaves of a node in memory.
+fn is_cut_so(
+    rt: &impl Abort,
+    alloc: Global,
+    state: &[&str],
+    line: &str,
+    calls: u64,
+    cut: Cut,
+) -> Result<(), Fail> {
+    let seen = cut_over_disk(alloc, state, line, calls, cut)?;
+    let due = cut_in_memory(alloc, state, line, calls, cut)?;
+    assert_eq!(rt; seen.effects, due.effects);
+    assert_eq!(rt; seen.answers.as_slice(), due.answers.as_slice());
+    Ok(())
+}
+
+// The same by each choice.
 fn is_cut_behind(
     rt: &impl Abort,
     alloc: Global,
@@ -78,11 +96,8 @@ fn is_cut_behind(
     line: &str,
     calls: u64,
 ) -> Result<(), Fail> {
-    for cut in [Cut::Old, Cut::New, Cut::A5] {
-        let seen = cut_over_disk(alloc, state, line, calls, cut)?;
-        let due = cut_in_memory(alloc, state, line, calls, cut)?;
-        assert_eq!(rt; seen.effects, due.effects);
-        assert_eq!(rt; seen.answers.as_slice(), due.answers.as_slice());
+    for cut in CUTS {
+        is_cut_so(rt, alloc, state, line, calls, *cut)?;
     }
     Ok(())
 }
@@ -141,7 +156,23 @@ fn failed_node(
     Ok(node)
 }
 
-// The node that failed answers so once its disk crashed and was opened again.
+const CHOICES: &[Choice] = &[Choice::Old, Choice::New, Choice::Fill(0xa5)];
+
+// What the node that failed answers once its disk crashed and was opened again.
+fn lasting(
+    rt: &impl Abort,
+    alloc: Global,
+    state: &[&str],
+    line: &str,
+    call: u64,
+    choice: Choice,
+) -> Result<Vec<u8>, Fail> {
+    let mut disk = failed_node(rt, alloc, state, line, call)?.into_disk();
+    disk.crash(choice);
+    answers(alloc, &mut open(alloc, disk)?)
+}
+
+// It answers so, by each choice of the crash.
 fn is_lasting(
     rt: &impl Abort,
     alloc: Global,
@@ -150,10 +181,8 @@ fn is_lasting(
     call: u64,
     seen: &[u8],
 ) -> Result<(), Fail> {
-    for choice in [Choice::Old, Choice::New, Choice::Fill(0xa5)] {
-        let mut disk = failed_node(rt, alloc, state, line, call)?.into_disk();
-        disk.crash(choice);
-        let told = answers(alloc, &mut open(alloc, disk)?)?;
+    for choice in CHOICES {
+        let told = lasting(rt, alloc, state, line, call, *choice)?;
         assert_eq!(rt; told.as_slice(), seen);
     }
     Ok(())
@@ -216,30 +245,46 @@ fn are_failed(
     Ok(())
 }
 
+// The requests at a state, with their disk calls.
+type AtState = (&'static [&'static str], &'static [(u64, &'static str)]);
+
+const PLAIN: &[AtState] = &[(EMPTY, AT_EMPTY), (OPEN, AT_OPEN), (FINAL, AT_FINAL)];
+
+// Beside the record of an acceptance.
+const RECORDED: &[AtState] = &[
+    (ACCEPTED, AT_ACCEPTED),
+    (OLD_RECORD, AT_OLD_RECORD),
+    (PASSED, AT_PASSED),
+];
+
 #[test]
 fn a_cut_leaves_the_told_effects(rt: HostRuntime) -> Result<(), Fail> {
-    are_cut(&rt, rt.alloc(), &EMPTY, &AT_EMPTY)?;
-    are_cut(&rt, rt.alloc(), &OPEN, &AT_OPEN)?;
-    are_cut(&rt, rt.alloc(), &FINAL, &AT_FINAL)
+    for (state, requests) in PLAIN {
+        are_cut(&rt, rt.alloc(), state, requests)?;
+    }
+    Ok(())
 }
 
 #[test]
 fn a_cut_beside_a_record_leaves_the_told_effects(rt: HostRuntime) -> Result<(), Fail> {
-    are_cut(&rt, rt.alloc(), &ACCEPTED, &AT_ACCEPTED)?;
-    are_cut(&rt, rt.alloc(), &OLD_RECORD, &AT_OLD_RECORD)?;
-    are_cut(&rt, rt.alloc(), &PASSED, &AT_PASSED)
+    for (state, requests) in RECORDED {
+        are_cut(&rt, rt.alloc(), state, requests)?;
+    }
+    Ok(())
 }
 
 #[test]
 fn a_failed_call_leaves_some_effects(rt: HostRuntime) -> Result<(), Fail> {
-    are_failed(&rt, rt.alloc(), &EMPTY, &AT_EMPTY)?;
-    are_failed(&rt, rt.alloc(), &OPEN, &AT_OPEN)?;
-    are_failed(&rt, rt.alloc(), &FINAL, &AT_FINAL)
+    for (state, requests) in PLAIN {
+        are_failed(&rt, rt.alloc(), state, requests)?;
+    }
+    Ok(())
 }
 
 #[test]
 fn a_failed_call_beside_a_record_leaves_some_effects(rt: HostRuntime) -> Result<(), Fail> {
-    are_failed(&rt, rt.alloc(), &ACCEPTED, &AT_ACCEPTED)?;
-    are_failed(&rt, rt.alloc(), &OLD_RECORD, &AT_OLD_RECORD)?;
-    are_failed(&rt, rt.alloc(), &PASSED, &AT_PASSED)
+    for (state, requests) in RECORDED {
+        are_failed(&rt, rt.alloc(), state, requests)?;
+    }
+    Ok(())
 }

@@ -1,13 +1,11 @@
 //! Requests over a table of three segments: what is refused, the deeds, what they leave, and the replies.
-ghost use Rattle.std.specs.Prelude.{◌≡◌, ◌≤◌, IfOk};
+ghost use Rattle.std.specs.Prelude.{◌≤◌, IsTrue};
 ghost use Rattle.journal_core.specs.Limits.{limit_of, max_number};
 ghost use Rattle.segment_file.specs.Rows.{IsRowWithin};
 ghost use Rattle.node_deeds.specs.Due.{IsInRange};
 
-use crate::bodies::bodies;
-use journal_core::{
-    Batch, Head, NodeState, Refusal, Reply, Request, SegmentInfo, SegmentLine, SegmentList,
-};
+use crate::texts::request;
+use journal_core::{NodeState, Refusal, Reply, Request, SegmentInfo, SegmentLine, SegmentList};
 use node_deeds::{
     Deed, apply, behind_front, deeds_of, follow, line_at, not_served, note, plain_reply,
     row_refusal, serving_row,
@@ -18,32 +16,6 @@ use std::alloc::Global;
 use std::process::Abort;
 use std::test::Fail;
 
-// The head of the writer's epoch, the serial under it, and the committed txid that it knows.
-fn head_of(numbers: [u64; 3]) -> Result<Head, Fail> {
-    let [epoch, serial, committed] = numbers;
-    Ok(Head::new(epoch, serial, committed).ok_or("no head")?)
-}
-
-// A batch of one edit.
-fn batch(alloc: Global, first: u64, edit: &[u8]) -> Result<Batch, Fail>
-    ensures { IfOk result (λ batch. batch.first ≡ first) }
-{
-    Ok(Batch::new(first, bodies(alloc, 1, edit)?))
-}
-
-fn info(start: u64, end: u64, is_final: bool) -> SegmentInfo
-    ensures start { result.start ≡ start }
-    ensures end { result.end ≡ end }
-{
-    SegmentInfo {
-        start,
-        end,
-        epoch: 1,
-        is_final,
-        accepted: false,
-    }
-}
-
 /// A segment with an edit, of epoch 1.
 fn row(start: u64, end: u64, is_final: bool, whole_length: u64) -> SegmentRow
     requires first { 1 ≤ start }
@@ -52,7 +24,13 @@ fn row(start: u64, end: u64, is_final: bool, whole_length: u64) -> SegmentRow
     ensures { IsRowWithin result }
 {
     SegmentRow {
-        info: info(start, end, is_final),
+        info: SegmentInfo {
+            start,
+            end,
+            epoch: 1,
+            is_final,
+            accepted: false,
+        },
         whole_length,
     }
 }
@@ -82,279 +60,362 @@ fn memory(alloc: Global) -> NodeState
     }
 }
 
-/// The deeds of the request are these.
-fn has_deeds(
-    rt: &impl Abort,
-    alloc: Global,
-    memory: &NodeState,
-    request: &Request,
-    expected: &[Deed],
-) -> Result<(), Fail>
+/// The deeds of the request.
+fn deeds(alloc: Global, memory: &NodeState, request: &Request) -> Result<Vec<Deed>, Fail>
     requires { memory.now.known ≤ max_number }
 {
     match memory.refused_at_once(request) {
         Some(_) => Err("it is refused at once".into()),
-        None => {
-            let deeds = deeds_of(alloc, memory, &table(alloc)?, request)?;
-            assert_eq!(rt; deeds.as_slice(), expected);
-            Ok(())
-        }
+        None => Ok(deeds_of(alloc, memory, &table(alloc)?, request)?),
     }
 }
 
-/// Behind its front the request is refused so.
-fn is_refused(
-    rt: &impl Abort,
-    alloc: Global,
-    request: &Request,
-    expected: Option<Refusal>,
-) -> Result<(), Fail> {
+/// The deeds of the request of that text are these.
+fn has_deeds(rt: &impl Abort, alloc: Global, line: &str, want: &[Deed]) -> Result<(), Fail> {
+    let deeds = deeds(alloc, &memory(alloc), &request(alloc, line)?)?;
+    assert_eq!(rt; deeds.as_slice(), want);
+    Ok(())
+}
+
+/// How the request is refused behind its front.
+fn refusal(alloc: Global, request: &Request) -> Result<Option<Refusal>, Fail> {
     match request.limit() {
         Some(_) => Err("it passes a limit".into()),
         None => {
             let behind = behind_front(alloc, &memory(alloc), request);
-            assert_eq!(rt; row_refusal(&behind, &table(alloc)?, request), expected);
-            Ok(())
+            Ok(row_refusal(&behind, &table(alloc)?, request))
         }
     }
 }
 
-/// The deed leaves this row.
-fn leaves(
+/// Behind its front the request of that text is refused so.
+fn is_refused(
     rt: &impl Abort,
     alloc: Global,
-    request: &Request,
-    deed: Deed,
-    expected: SegmentRow,
-) -> Result<(), Fail>
-    requires { IsInRange request.now deed }
+    line: &str,
+    want: Option<Refusal>,
+) -> Result<(), Fail> {
+    assert_eq!(rt; refusal(alloc, &request(alloc, line)?)?, want);
+    Ok(())
+}
+
+/// Whether the numbers of the deed are such as a deed of the request has.
+fn is_in_range(request: &Request, deed: Deed) -> bool
+    ensures { IsTrue result → IsInRange request.now deed }
 {
+    match (deed, request) {
+        (Deed::Begin { start, .. }, _) => start >= 1 && start <= 100,
+        (Deed::Append { start, .. }, Request::Journal { batch, .. }) => start <= batch.first(),
+        (Deed::Accept { .. }, Request::Accept { batch, .. }) => {
+            batch.first() >= 1 && batch.first() <= 100
+        }
+        (Deed::Append { .. }, _) => false,
+        (Deed::Accept { .. }, _) => false,
+        _ => true,
+    }
+}
+
+fn do_deed(table: &mut SegmentTable, request: &Request, deed: Deed) -> Result<(), Fail> {
     match request.limit() {
         Some(_) => Err("it passes a limit".into()),
         None => {
-            let mut table = table(alloc)?;
-            apply(&mut table, request, deed, 84)?;
-            let row = table.find(expected.info.start).ok_or("no row")?;
-            assert_eq!(rt; *row, expected);
+            if !is_in_range(request, deed) {
+                return Err("it is out of range".into());
+            }
+            apply(table, request, deed, 84)?;
             Ok(())
         }
     }
 }
 
+/// The row of that start behind the deed.
+fn row_behind(
+    alloc: Global,
+    request: &Request,
+    deed: Deed,
+    start: u64,
+) -> Result<SegmentRow, Fail> {
+    let mut table = table(alloc)?;
+    do_deed(&mut table, request, deed)?;
+    Ok(*table.find(start).ok_or("no row")?)
+}
+
+/// A request, its deeds, and a row that the last one, or the one before it, leaves.
+#[derive(Clone, Copy)]
+struct Due<'a> {
+    line: &'a str,
+    deeds: &'a [Deed],
+    deed: Deed,
+    row: SegmentRow,
+}
+
+/// The request has the deeds, and the deed leaves the row.
+fn is_due(rt: &impl Abort, alloc: Global, due: &Due) -> Result<(), Fail> {
+    has_deeds(rt, alloc, due.line, due.deeds)?;
+    let request = request(alloc, due.line)?;
+    let row = row_behind(alloc, &request, due.deed, due.row.info.start)?;
+    assert_eq!(rt; row, due.row);
+    Ok(())
+}
+
+const APPENDED: &Due<'static> = &Due {
+    line: "journal 1 2 8 7 9 18",
+    deeds: &[Deed::Append { start: 7, at: 64 }],
+    deed: Deed::Append { start: 7, at: 64 },
+    row: SegmentRow {
+        info: SegmentInfo {
+            start: 7,
+            end: 9,
+            epoch: 1,
+            is_final: false,
+            accepted: false,
+        },
+        whole_length: 84,
+    },
+};
+
 #[test]
 fn a_batch_is_appended(rt: HostRuntime) -> Result<(), Fail> {
-    let alloc = rt.alloc();
-    let request = Request::Journal {
-        head: head_of([1, 2, 8])?,
-        start: 7,
-        batch: batch(alloc, 9, b"\x18")?,
-    };
-    let deed = Deed::Append { start: 7, at: 64 };
-    is_refused(&rt, alloc, &request, None)?;
-    has_deeds(&rt, alloc, &memory(alloc), &request, &[deed])?;
-    leaves(&rt, alloc, &request, deed, row(7, 9, false, 84))
+    is_refused(&rt, rt.alloc(), APPENDED.line, None)?;
+    is_due(&rt, rt.alloc(), APPENDED)
 }
+
+const ACCEPTED: &Due<'static> = &Due {
+    line: "accept 2 2 8 7 18",
+    deeds: &[
+        Deed::Number {
+            number: NodeNumber::Promised,
+            value: 2,
+        },
+        Deed::Accept {
+            epoch: 2,
+            again: false,
+        },
+    ],
+    deed: Deed::Accept {
+        epoch: 2,
+        again: false,
+    },
+    row: SegmentRow {
+        info: SegmentInfo {
+            start: 7,
+            end: 7,
+            epoch: 2,
+            is_final: false,
+            accepted: true,
+        },
+        whole_length: 44,
+    },
+};
 
 #[test]
 fn a_recovery_is_accepted(rt: HostRuntime) -> Result<(), Fail> {
-    let alloc = rt.alloc();
-    let request = Request::Accept {
-        head: head_of([2, 2, 8])?,
-        batch: batch(alloc, 7, b"\x18")?,
-    };
-    let deed = Deed::Accept {
-        epoch: 2,
-        again: false,
-    };
-    let promise = Deed::Number {
-        number: NodeNumber::Promised,
-        value: 2,
-    };
-    has_deeds(&rt, alloc, &memory(alloc), &request, &[promise, deed])?;
-    let accepted = SegmentInfo {
-        epoch: 2,
-        accepted: true,
-        ..info(7, 7, false)
-    };
-    let row = SegmentRow {
-        info: accepted,
-        whole_length: 44,
-    };
-    leaves(&rt, alloc, &request, deed, row)
+    is_due(&rt, rt.alloc(), ACCEPTED)
 }
 
-#[test]
-fn a_segment_is_finalized(rt: HostRuntime) -> Result<(), Fail> {
-    let alloc = rt.alloc();
-    let request = Request::Finalize {
-        head: head_of([1, 2, 8])?,
-        start: 7,
-        end: 8,
-    };
-    let deed = Deed::Finalize {
+const FINALIZED: &Due<'static> = &Due {
+    line: "finalize 1 2 8 7 8",
+    deeds: &[
+        Deed::Finalize {
+            start: 7,
+            end: 8,
+            accepted: false,
+        },
+        Deed::Number {
+            number: NodeNumber::Committed,
+            value: 8,
+        },
+    ],
+    deed: Deed::Finalize {
         start: 7,
         end: 8,
         accepted: false,
-    };
-    let commit = Deed::Number {
-        number: NodeNumber::Committed,
-        value: 8,
-    };
-    has_deeds(&rt, alloc, &memory(alloc), &request, &[deed, commit])?;
-    leaves(&rt, alloc, &request, deed, row(7, 8, true, 64))?;
-    let longer = Request::Finalize {
-        head: head_of([1, 2, 8])?,
-        start: 7,
-        end: 9,
-    };
-    is_refused(&rt, alloc, &longer, Some(Refusal::LengthDiffers { end: 8 }))?;
-    let later = Request::Finalize {
-        head: head_of([2, 2, 8])?,
-        start: 7,
-        end: 8,
-    };
-    is_refused(&rt, alloc, &later, Some(Refusal::OtherEpoch { epoch: 1 }))
+    },
+    row: SegmentRow {
+        info: SegmentInfo {
+            start: 7,
+            end: 8,
+            epoch: 1,
+            is_final: true,
+            accepted: false,
+        },
+        whole_length: 64,
+    },
+};
+
+/// Requests that are refused behind their front: a longer end, and a later epoch.
+const REFUSED: &[(&str, Refusal)] = &[
+    ("finalize 1 2 8 7 9", Refusal::LengthDiffers { end: 8 }),
+    ("finalize 2 2 8 7 8", Refusal::OtherEpoch { epoch: 1 }),
+];
+
+#[test]
+fn a_segment_is_finalized(rt: HostRuntime) -> Result<(), Fail> {
+    is_due(&rt, rt.alloc(), FINALIZED)?;
+    for (line, refusal) in REFUSED {
+        is_refused(&rt, rt.alloc(), line, Some(*refusal))?;
+    }
+    Ok(())
 }
+
+const BEGUN: &Due<'static> = &Due {
+    line: "start 2 2 8 9",
+    deeds: &[
+        Deed::Number {
+            number: NodeNumber::Promised,
+            value: 2,
+        },
+        Deed::Number {
+            number: NodeNumber::Writer,
+            value: 2,
+        },
+        Deed::Begin { start: 9, epoch: 2 },
+    ],
+    deed: Deed::Begin { start: 9, epoch: 2 },
+    row: SegmentRow {
+        info: SegmentInfo {
+            start: 9,
+            end: 8,
+            epoch: 2,
+            is_final: false,
+            accepted: false,
+        },
+        whole_length: 24,
+    },
+};
 
 #[test]
 fn a_segment_begins(rt: HostRuntime) -> Result<(), Fail> {
-    let alloc = rt.alloc();
-    let request = Request::Start {
-        head: head_of([2, 2, 8])?,
-        start: 9,
-    };
-    let promise = Deed::Number {
-        number: NodeNumber::Promised,
-        value: 2,
-    };
-    let writer = Deed::Number {
-        number: NodeNumber::Writer,
-        value: 2,
-    };
-    let deed = Deed::Begin { start: 9, epoch: 2 };
-    has_deeds(
-        &rt,
-        alloc,
-        &memory(alloc),
-        &request,
-        &[promise, writer, deed],
-    )?;
-    let begun = SegmentInfo {
-        epoch: 2,
-        ..info(9, 8, false)
-    };
-    let row = SegmentRow {
-        info: begun,
-        whole_length: 24,
-    };
-    leaves(&rt, alloc, &request, deed, row)
+    is_due(&rt, rt.alloc(), BEGUN)
 }
+
+/// The first segment.
+const FIRST: SegmentInfo = SegmentInfo {
+    start: 1,
+    end: 3,
+    epoch: 1,
+    is_final: true,
+    accepted: false,
+};
+
+const PURGED: &Due<'static> = &Due {
+    line: "purge 1 2 5 9",
+    deeds: &[Deed::Remove { info: FIRST }],
+    deed: Deed::Remove { info: FIRST },
+    row: SegmentRow {
+        info: SegmentInfo {
+            start: 4,
+            end: 6,
+            epoch: 1,
+            is_final: true,
+            accepted: false,
+        },
+        whole_length: 84,
+    },
+};
 
 #[test]
 fn old_segments_are_removed(rt: HostRuntime) -> Result<(), Fail> {
-    let alloc = rt.alloc();
-    let request = Request::Purge {
-        head: head_of([1, 2, 5])?,
-        min: 9,
-    };
-    let deed = Deed::Remove {
-        info: info(1, 3, true),
-    };
-    has_deeds(&rt, alloc, &memory(alloc), &request, &[deed])?;
-    leaves(&rt, alloc, &request, deed, row(4, 6, true, 84))
+    is_due(&rt, rt.alloc(), PURGED)
+}
+
+/// The reply to the request, which is found without a file.
+fn reply_to(alloc: Global, line: &str) -> Result<Option<Reply>, Fail> {
+    let request = request(alloc, line)?;
+    let reply = plain_reply(alloc, &memory(alloc), &table(alloc)?, &request)?;
+    Ok(reply)
+}
+
+const PROMISED: &[Deed] = &[Deed::Number {
+    number: NodeNumber::Promised,
+    value: 3,
+}];
+
+// The memory behind the deeds, and what follows them.
+fn memory_behind(alloc: Global, line: &str, deeds: &[Deed]) -> Result<NodeState, Fail> {
+    let mut memory = memory(alloc);
+    for deed in deeds {
+        note(&mut memory, *deed);
+    }
+    follow(&mut memory, &request(alloc, line)?);
+    Ok(memory)
 }
 
 #[test]
 fn a_new_epoch_is_noted(rt: HostRuntime) -> Result<(), Fail> {
-    let alloc = rt.alloc();
-    let mut memory = memory(alloc);
-    let request = Request::NewEpoch { epoch: 3 };
-    let deed = Deed::Number {
-        number: NodeNumber::Promised,
-        value: 3,
-    };
-    has_deeds(&rt, alloc, &memory, &request, &[deed])?;
-    match plain_reply(alloc, &memory, &table(alloc)?, &request)? {
-        Some(Reply::NewEpoch { newest }) => assert_eq!(rt; newest, Some(7)),
-        _ => return Err("another reply".into()),
-    }
-    note(&mut memory, deed);
-    follow(&mut memory, &request);
+    has_deeds(&rt, rt.alloc(), "new 3", PROMISED)?;
+    let reply = reply_to(rt.alloc(), "new 3")?;
+    assert!(rt; matches!(reply, Some(Reply::NewEpoch { newest: Some(7) })));
+    let memory = memory_behind(rt.alloc(), "new 3", PROMISED)?;
     assert_eq!(rt; memory.promised, 3);
     assert_eq!(rt; memory.opened, None);
     assert_eq!(rt; memory.serial, 0);
     Ok(())
 }
 
-#[test]
-fn segments_are_told(rt: HostRuntime) -> Result<(), Fail> {
-    let alloc = rt.alloc();
-    let memory = memory(alloc);
-    let table = table(alloc)?;
-    let request = Request::Prepare {
-        head: head_of([1, 2, 8])?,
-        start: 7,
-    };
-    match plain_reply(alloc, &memory, &table, &request)? {
-        Some(Reply::Prepared { segment, .. }) => {
-            assert_eq!(rt; segment.get(), Some(info(7, 8, false)));
-        }
-        _ => return Err("another reply".into()),
+/// The segment in progress.
+const LAST: SegmentInfo = SegmentInfo {
+    start: 7,
+    end: 8,
+    epoch: 1,
+    is_final: false,
+    accepted: false,
+};
+
+// The segment that is told before a recovery.
+fn prepared(alloc: Global) -> Result<Option<SegmentInfo>, Fail> {
+    match reply_to(alloc, "prepare 1 2 8 7")? {
+        Some(Reply::Prepared { segment, .. }) => Ok(segment.get()),
+        _ => Err("another reply".into()),
     }
-    match plain_reply(alloc, &memory, &table, &Request::Manifest)? {
-        Some(Reply::Segments(lines)) => assert_eq!(rt; lines.as_slice().len(), 3),
-        _ => return Err("another reply".into()),
-    }
-    Ok(())
 }
 
-/// The reply to the request, which is found without a file.
-fn reply_to(alloc: Global, request: &Request) -> Result<Option<Reply>, Fail> {
-    let reply = plain_reply(alloc, &memory(alloc), &table(alloc)?, request)?;
-    Ok(reply)
+// How many segments are listed.
+fn listed(alloc: Global) -> Result<usize, Fail> {
+    match reply_to(alloc, "manifest")? {
+        Some(Reply::Segments(lines)) => Ok(lines.as_slice().len()),
+        _ => Err("another reply".into()),
+    }
+}
+
+#[test]
+fn segments_are_told(rt: HostRuntime) -> Result<(), Fail> {
+    assert_eq!(rt; prepared(rt.alloc())?, Some(LAST));
+    assert_eq!(rt; listed(rt.alloc())?, 3);
+    Ok(())
 }
 
 #[test]
 fn edits_need_a_file(rt: HostRuntime) -> Result<(), Fail> {
-    let alloc = rt.alloc();
-    let fetch = Request::Fetch {
-        head: head_of([1, 2, 8])?,
-        start: 7,
-        from: 8,
-    };
-    assert!(rt; reply_to(alloc, &fetch)?.is_none());
-    assert!(rt; reply_to(alloc, &Request::Read { from: 7 })?.is_none());
-    let state = reply_to(alloc, &Request::State)?;
+    for line in ["fetch 1 2 8 7 8", "read 7"] {
+        assert!(rt; reply_to(rt.alloc(), line)?.is_none());
+    }
+    let state = reply_to(rt.alloc(), "state")?;
     assert!(rt; matches!(state, Some(Reply::State { promised: 1 })));
-    let purge = Request::Purge {
-        head: head_of([1, 2, 5])?,
-        min: 9,
-    };
-    assert!(rt; matches!(reply_to(alloc, &purge)?, Some(Reply::Ok)));
+    let purged = reply_to(rt.alloc(), "purge 1 2 5 9")?;
+    assert!(rt; matches!(purged, Some(Reply::Ok)));
     Ok(())
+}
+
+const LAST_LINE: SegmentLine = SegmentLine {
+    start: 7,
+    end: 8,
+    is_final: false,
+    epoch: 1,
+};
+
+// Which row serves the edits from a txid on, or why none does.
+fn are_served(rt: &impl Abort, memory: &NodeState, table: &SegmentTable) {
+    assert_eq!(rt; serving_row(memory, table, 7), Some((LAST_LINE, 1)));
+    assert_eq!(rt; serving_row(memory, table, 8), None);
+    assert_eq!(rt; not_served(memory, table, 8), Refusal::NotHere { last: 7 });
+    assert_eq!(rt; not_served(memory, table, 0), Refusal::Purged { first: 1 });
 }
 
 #[test]
 fn served_edits_are_found(rt: HostRuntime) -> Result<(), Fail> {
-    let alloc = rt.alloc();
-    let memory = memory(alloc);
-    let table = table(alloc)?;
-    let line = SegmentLine {
-        start: 7,
-        end: 8,
-        is_final: false,
-        epoch: 1,
-    };
-    assert_eq!(rt; line_at(&table, 7), Some(line));
-    assert_eq!(rt; serving_row(&memory, &table, 7), Some((line, 1)));
-    assert_eq!(rt; serving_row(&memory, &table, 8), None);
-    assert_eq!(rt;
-        not_served(&memory, &table, 8),
-        Refusal::NotHere { last: 7 }
-    );
-    assert_eq!(rt;
-        not_served(&memory, &table, 0),
-        Refusal::Purged { first: 1 }
-    );
+    let table = table(rt.alloc())?;
+    assert_eq!(rt; line_at(&table, 7), Some(LAST_LINE));
+    are_served(&rt, &memory(rt.alloc()), &table);
     Ok(())
 }

@@ -123,7 +123,22 @@ fn do_stages(
     Ok(())
 }
 
-const FINAL_STAGES: [Stage<'static>; 2] = [
+/// What a node holds after stages over a disk of no files.
+#[derive(Drop)]
+struct Held {
+    memory: NodeState,
+    table: SegmentTable,
+}
+
+fn held_after(rt: &impl Abort, alloc: Global, stages: &[Stage]) -> Result<Held, Fail> {
+    let mut disk = UntoldDisk::new(MemDisk::new(alloc));
+    let mut memory = new_memory(alloc);
+    let mut table = new_table(alloc);
+    do_stages(rt, alloc, &mut disk, &mut memory, &mut table, stages)?;
+    Ok(Held { memory, table })
+}
+
+const FINAL_STAGES: &[Stage<'static>] = &[
     Stage {
         lines: &["new 1", "start 1 1 0 1", "journal 1 2 0 1 1 18"],
         name: PROGRESS,
@@ -138,25 +153,15 @@ const FINAL_STAGES: [Stage<'static>; 2] = [
 
 #[test]
 fn a_segment_is_written_and_final(rt: HostRuntime) -> Result<(), Fail> {
-    let mut disk = UntoldDisk::new(MemDisk::new(rt.alloc()));
-    let mut memory = new_memory(rt.alloc());
-    let mut table = new_table(rt.alloc());
-    do_stages(
-        &rt,
-        rt.alloc(),
-        &mut disk,
-        &mut memory,
-        &mut table,
-        &FINAL_STAGES,
-    )?;
-    assert_eq!(rt; memory.writer, 1);
-    let row = table.find(1).ok_or("no row")?;
+    let held = held_after(&rt, rt.alloc(), FINAL_STAGES)?;
+    assert_eq!(rt; held.memory.writer, 1);
+    let row = held.table.find(1).ok_or("no row")?;
     assert!(rt; row.info.is_final && row.info.end == 1);
     Ok(())
 }
 
 // After segment 1 another one begins, and segment 1 is purged.
-const PURGED_STAGES: [Stage<'static>; 3] = [
+const PURGED_STAGES: &[Stage<'static>] = &[
     Stage {
         lines: &["accept 1 1 1 1 18"],
         name: RECORD,
@@ -176,19 +181,30 @@ const PURGED_STAGES: [Stage<'static>; 3] = [
 
 #[test]
 fn an_accepted_segment_is_purged(rt: HostRuntime) -> Result<(), Fail> {
-    let mut disk = UntoldDisk::new(MemDisk::new(rt.alloc()));
-    let mut memory = new_memory(rt.alloc());
-    let mut table = new_table(rt.alloc());
-    do_stages(
-        &rt,
-        rt.alloc(),
-        &mut disk,
-        &mut memory,
-        &mut table,
-        &PURGED_STAGES,
-    )?;
-    assert!(rt; table.find(1).is_none());
+    let held = held_after(&rt, rt.alloc(), PURGED_STAGES)?;
+    assert!(rt; held.table.find(1).is_none());
     Ok(())
+}
+
+// Whether segment 1 begins over a disk that does so many calls more.
+fn begins(
+    alloc: Global,
+    disk: &mut UntoldDisk,
+    memory: &mut NodeState,
+    table: &mut SegmentTable,
+    calls: u64,
+) -> Result<bool, Fail>
+    requires told { (gs : List Segment) × Tells gs table.old }
+    requires known { memory.old.known ≤ max_number }
+{
+    disk.disk.stop_after(calls);
+    ask(
+        alloc,
+        disk,
+        memory,
+        table,
+        &request(alloc, "start 1 1 0 1")?,
+    )
 }
 
 /// Begins segment 1 over a disk that does so many calls more.
@@ -201,21 +217,25 @@ fn stop_after(
     let mut memory = new_memory(alloc);
     let mut table = new_table(alloc);
     do_all(alloc, disk, &mut memory, &mut table, &["new 1"])?;
-    disk.disk.stop_after(calls);
-    let start = request(alloc, "start 1 1 0 1")?;
-    let done = ask(alloc, disk, &mut memory, &mut table, &start)?;
+    let done = begins(alloc, disk, &mut memory, &mut table, calls)?;
     assert_eq!(rt; done, calls == 6);
     assert_eq!(rt; memory.writer == 1, calls >= 3);
     assert_eq!(rt; table.find(1).is_some(), calls >= 3);
     Ok(())
 }
 
+// The same over a disk of no files, which then crashes.
+fn stopped_after(rt: &impl Abort, alloc: Global, calls: u64) -> Result<UntoldDisk, Fail> {
+    let mut disk = UntoldDisk::new(MemDisk::new(alloc));
+    stop_after(rt, alloc, &mut disk, calls)?;
+    disk.disk.crash(Choice::Old);
+    Ok(disk)
+}
+
 #[test]
 fn a_stop_leaves_the_first_deeds(rt: HostRuntime) -> Result<(), Fail> {
     for calls in 0..7 {
-        let mut disk = UntoldDisk::new(MemDisk::new(rt.alloc()));
-        stop_after(&rt, rt.alloc(), &mut disk, calls)?;
-        disk.disk.crash(Choice::Old);
+        let mut disk = stopped_after(&rt, rt.alloc(), calls)?;
         is_there(&rt, &mut disk, "last-writer-epoch", calls >= 3)?;
         is_there(&rt, &mut disk, PROGRESS, calls == 6)?;
     }

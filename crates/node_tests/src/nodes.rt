@@ -11,13 +11,13 @@ use std::alloc::Global;
 use std::test::Fail;
 
 /// Epoch 1, and the open segment 1 without an edit.
-pub const EMPTY: [&str; 2] = ["new 1", "start 1 1 0 1"];
+pub const EMPTY: &[&str] = &["new 1", "start 1 1 0 1"];
 
 /// The same with the edits 18 and 0a.
-pub const OPEN: [&str; 3] = ["new 1", "start 1 1 0 1", "journal 1 2 0 1 1 18 0a"];
+pub const OPEN: &[&str] = &["new 1", "start 1 1 0 1", "journal 1 2 0 1 1 18 0a"];
 
 /// Then segment 1 is final and segment 3 open, with the edit 0c. The txid 2 is committed.
-pub const FINAL: [&str; 6] = [
+pub const FINAL: &[&str] = &[
     "new 1",
     "start 1 1 0 1",
     "journal 1 2 0 1 1 18 0a",
@@ -27,7 +27,7 @@ pub const FINAL: [&str; 6] = [
 ];
 
 /// Segment 1 is accepted under the promised epoch 2, with the edits 18, 0a and 0b.
-pub const ACCEPTED: [&str; 5] = [
+pub const ACCEPTED: &[&str] = &[
     "new 1",
     "start 1 1 0 1",
     "journal 1 2 0 1 1 18 0a",
@@ -36,7 +36,7 @@ pub const ACCEPTED: [&str; 5] = [
 ];
 
 /// The same under the promised epoch 3: the record of the acceptance is of a lower epoch.
-pub const OLD_RECORD: [&str; 6] = [
+pub const OLD_RECORD: &[&str] = &[
     "new 1",
     "start 1 1 0 1",
     "journal 1 2 0 1 1 18 0a",
@@ -46,7 +46,7 @@ pub const OLD_RECORD: [&str; 6] = [
 ];
 
 /// Segment 1 is accepted under epoch 2, and segment 4 open, with the edit 0d.
-pub const PASSED: [&str; 7] = [
+pub const PASSED: &[&str] = &[
     "new 1",
     "start 1 1 0 1",
     "journal 1 2 0 1 1 18 0a",
@@ -122,7 +122,7 @@ pub fn plain_node(alloc: Global, state: &[&str]) -> Result<PlainNode, Fail> {
 }
 
 // All that is asked. The state is told before an epoch is proposed, and what is served before a segment is recovered.
-const QUESTIONS: [&str; 13] = [
+const QUESTIONS: &[&str] = &[
     "state",
     "manifest",
     "read 1",
@@ -142,7 +142,7 @@ const QUESTIONS: [&str; 13] = [
 /// segment with its edits. After them the node has promised epoch 9.
 pub fn answers<N: Node>(alloc: Global, node: &mut N) -> Result<Vec<u8>, Fail> {
     let mut replies = Vec::new(alloc);
-    for question in &QUESTIONS {
+    for question in QUESTIONS {
         replies.extend_from_slice(&ask(alloc, node, question)?)?;
         replies.push(b'\n')?;
     }

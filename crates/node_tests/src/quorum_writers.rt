@@ -1,9 +1,9 @@
 //! What no clause says of a writer that makes its calls: that the calls succeed, and which requests they make, over plain nodes.
-ghost use Rattle.std.specs.Prelude.{◌≡◌, length};
+ghost use Rattle.std.specs.Prelude.{◌≡◌, ◌≢◌, [], length};
 ghost use Rattle.quorum_writer.specs.Led.{nodes_of};
 
 use crate::bodies::bodies;
-use journal_core::{Node, Peers, PlainNode, Refusal, Request, permitted_nodes};
+use journal_core::{BodyList, Node, Peers, PlainNode, Refusal, Request, permitted_nodes};
 use quorum_writer::{Closed, Logged, PlainPeers, Purging, QuorumWriter, Rolled, Taken};
 use request_text::print_request;
 use std::alloc::Global;
@@ -36,13 +36,21 @@ impl Session {
         Session::of(alloc, PlainPeers::new(alloc, nodes)?.into_nodes())
     }
 
+    /// Logs the bodies at the nodes.
+    fn log(&mut self, alloc: Global, list: BodyList) -> Result<Told, Fail>
+        requires { list ≢ [] }
+    {
+        Ok(told_by_log(self.writer.log(alloc, &mut self.peers, list)))
+    }
+
     /// Does the task at the nodes.
     fn take(&mut self, alloc: Global, task: &Task) -> Result<Told, Fail> {
         match task {
             Task::Takeover => Ok(told_by_takeover(self.writer.takeover(alloc, &mut self.peers))),
-            Task::Log(count, bytes) => {
-                let list = bodies(alloc, *count, bytes)?;
-                Ok(told_by_log(self.writer.log(alloc, &mut self.peers, list)))
+            Task::Log(count, bytes) => self.log(alloc, bodies(alloc, *count, bytes)?),
+            Task::LogLong(count, length) => {
+                let bytes = vec![in alloc; 0u8; *length]?;
+                self.log(alloc, bodies(alloc, *count, &bytes)?)
             }
             Task::Roll => Ok(told_by_roll(self.writer.roll(alloc, &mut self.peers))),
             Task::Purge(min) => {
@@ -124,6 +132,8 @@ enum Task<'a> {
     Takeover,
     /// So many bodies of these bytes are logged.
     Log(usize, &'a [u8]),
+    /// So many bodies of that many bytes, each 0.
+    LogLong(usize, usize),
     Roll,
     Purge(u64),
     Close,
@@ -206,108 +216,184 @@ fn told_by_close(closed: Closed) -> Told {
     }
 }
 
-#[test]
-fn a_roll_a_purge_and_a_close(rt: HostRuntime) -> Result<(), Fail> {
-    let mut session = Session::new(rt.alloc(), 1)?;
-    session.take_all(&rt, rt.alloc(), &[(Task::Roll, Told::NotActive)])?;
-    assert_eq!(rt; session.room(), 0);
-    session.take_all(&rt, rt.alloc(), &[(Task::Takeover, Told::Taken(1, 1))])?;
-    assert_eq!(rt; session.room(), 16382);
-    let tasks = [
+/// What is done in a session, or seen of it.
+#[derive(Clone, Copy)]
+enum Line<'a> {
+    /// Tasks, of which this is told.
+    Tasks(&'a [(Task<'a>, Told)]),
+    /// The room that is left.
+    Room(u64),
+    /// How many calls were made.
+    Calls(usize),
+    /// The requests to a node behind so many calls.
+    Asked(usize, usize, &'a [u8]),
+}
+
+fn take_line(
+    rt: &impl Abort,
+    alloc: Global,
+    session: &mut Session,
+    line: &Line,
+) -> Result<(), Fail> {
+    match line {
+        Line::Tasks(tasks) => session.take_all(rt, alloc, tasks)?,
+        Line::Room(room) => assert_eq!(rt; session.room(), *room),
+        Line::Calls(calls) => assert_eq!(rt; session.calls(), *calls),
+        Line::Asked(node, skip, text) => {
+            assert_eq!(rt; session.asked(alloc, *node, *skip)?.as_slice(), *text);
+        }
+    }
+    Ok(())
+}
+
+fn take_lines(
+    rt: &impl Abort,
+    alloc: Global,
+    session: &mut Session,
+    lines: &[Line],
+) -> Result<(), Fail> {
+    for line in lines {
+        take_line(rt, alloc, session, line)?;
+    }
+    Ok(())
+}
+
+/// The lines at that many fresh nodes.
+fn play(rt: &impl Abort, alloc: Global, nodes: usize, lines: &[Line]) -> Result<(), Fail> {
+    let mut session = Session::new(alloc, nodes)?;
+    take_lines(rt, alloc, &mut session, lines)
+}
+
+const CLOSED: &[Line<'static>] = &[
+    Line::Tasks(&[(Task::Roll, Told::NotActive)]),
+    Line::Room(0),
+    Line::Tasks(&[(Task::Takeover, Told::Taken(1, 1))]),
+    Line::Room(16382),
+    Line::Tasks(&[
         (Task::Roll, Told::Rolled(3)),
         (Task::Purge(3), Told::Purged),
         (Task::Close, Told::Closed(4)),
         (Task::Purge(3), Told::NotActive),
         (Task::Close, Told::NotActive),
-    ];
-    session.take_all(&rt, rt.alloc(), &tasks)?;
-    assert_eq!(rt; session.calls(), 11);
-    assert_eq!(rt;
-        session.asked(rt.alloc(), 1, 0)?.as_slice(),
+    ]),
+    Line::Calls(11),
+    Line::Asked(
+        1,
+        0,
         b"state\nnew 1\nstart 1 1 0 1\njournal 1 2 0 1 1 18\n\
         journal 1 3 1 1 2 17\nfinalize 1 4 2 1 2\nstart 1 5 2 3\njournal 1 6 2 3 3 18\n\
         purge 1 7 3 3\n\
-        journal 1 8 3 3 4 17\nfinalize 1 9 4 3 4\n"
-            .as_slice()
-    );
-    Ok(())
-}
+        journal 1 8 3 3 4 17\nfinalize 1 9 4 3 4\n",
+    ),
+];
 
 #[test]
-fn a_log_may_be_too_long(rt: HostRuntime) -> Result<(), Fail> {
-    let mut session = Session::new(rt.alloc(), 1)?;
-    let refused = [
+fn a_roll_a_purge_and_a_close(rt: HostRuntime) -> Result<(), Fail> {
+    play(&rt, rt.alloc(), 1, CLOSED)
+}
+
+const TOO_LONG: &[Line<'static>] = &[
+    Line::Tasks(&[
         (Task::Log(1, b"a"), Told::NotActive),
         (Task::Takeover, Told::Taken(1, 1)),
         (Task::Log(257, b"a"), Told::TooLong(256)),
-        (Task::Log(257, &[0; 4097]), Told::TooLong(4096)),
-    ];
-    session.take_all(&rt, rt.alloc(), &refused)?;
-    assert_eq!(rt; session.calls(), 4);
-    let longest = [(Task::Log(1, &[0; 4096]), Told::Acked(2, 2))];
-    session.take_all(&rt, rt.alloc(), &longest)
+        (Task::LogLong(257, 4097), Told::TooLong(4096)),
+    ]),
+    Line::Calls(4),
+    Line::Tasks(&[(Task::LogLong(1, 4096), Told::Acked(2, 2))]),
+];
+
+#[test]
+fn a_log_may_be_too_long(rt: HostRuntime) -> Result<(), Fail> {
+    play(&rt, rt.alloc(), 1, TOO_LONG)
 }
+
+const TAKEN: &[Line<'static>] = &[Line::Tasks(&[(Task::Takeover, Told::Taken(1, 1))])];
+
+// Batches of 256 edits fill the segment but for 254.
+fn fill(rt: &impl Abort, alloc: Global, session: &mut Session) -> Result<(), Fail> {
+    for round in 0..63u64 {
+        let first = round * 256 + 2;
+        let logged = session.take(alloc, &Task::Log(256, b"a"))?;
+        assert_eq!(rt; logged, Told::Acked(first, first + 255));
+    }
+    Ok(())
+}
+
+const FILLED: &[Line<'static>] = &[
+    Line::Room(254),
+    Line::Tasks(&[
+        (Task::Log(255, b"a"), Told::TooLong(16384)),
+        (Task::Log(254, b"a"), Told::Acked(16130, 16383)),
+    ]),
+    Line::Room(0),
+    Line::Tasks(&[(Task::Roll, Told::Rolled(16385))]),
+];
 
 #[test]
 fn a_segment_is_filled(rt: HostRuntime) -> Result<(), Fail> {
     let mut session = Session::new(rt.alloc(), 1)?;
-    session.take_all(&rt, rt.alloc(), &[(Task::Takeover, Told::Taken(1, 1))])?;
-    for round in 0..63u64 {
-        let first = round * 256 + 2;
-        let logged = session.take(rt.alloc(), &Task::Log(256, b"a"))?;
-        assert_eq!(rt; logged, Told::Acked(first, first + 255));
-    }
-    assert_eq!(rt; session.room(), 254);
-    let last = [
-        (Task::Log(255, b"a"), Told::TooLong(16384)),
-        (Task::Log(254, b"a"), Told::Acked(16130, 16383)),
-    ];
-    session.take_all(&rt, rt.alloc(), &last)?;
-    assert_eq!(rt; session.room(), 0);
-    session.take_all(&rt, rt.alloc(), &[(Task::Roll, Told::Rolled(16385))])
+    take_lines(&rt, rt.alloc(), &mut session, TAKEN)?;
+    fill(&rt, rt.alloc(), &mut session)?;
+    take_lines(&rt, rt.alloc(), &mut session, FILLED)
 }
+
+// The session at three nodes, of which one takes an edit and the others are down.
+fn session_of_one(rt: &impl Abort, alloc: Global) -> Result<Session, Fail> {
+    let mut first = Session::new(alloc, 3)?;
+    take_lines(rt, alloc, &mut first, TAKEN)?;
+    first.with_one_up(alloc)
+}
+
+const ONE_UP: &[Line<'static>] = &[Line::Tasks(&[
+    (Task::Log(1, b"\x0a"), Told::OneUp),
+    (Task::Close, Told::NotActive),
+])];
+
+// A second writer recovers the edit.
+const RECOVERED: &[Line<'static>] = &[
+    Line::Tasks(&[(Task::Takeover, Told::Taken(2, 3))]),
+    Line::Calls(22),
+    Line::Asked(
+        2,
+        0,
+        b"state\nnew 2\nprepare 2 1 0 1\naccept 2 3 0 1 18 0a\nfinalize 2 4 2 1 2\n\
+        start 2 5 2 3\njournal 2 6 2 3 3 18\n",
+    ),
+    Line::Asked(
+        1,
+        9,
+        b"fetch 2 2 0 1 1\naccept 2 3 0 1 18 0a\nfinalize 2 4 2 1 2\n\
+        start 2 5 2 3\njournal 2 6 2 3 3 18\n",
+    ),
+];
 
 #[test]
 fn an_edit_that_one_node_holds_is_recovered(rt: HostRuntime) -> Result<(), Fail> {
-    let mut first = Session::new(rt.alloc(), 3)?;
-    first.take_all(&rt, rt.alloc(), &[(Task::Takeover, Told::Taken(1, 1))])?;
-    let mut first = first.with_one_up(rt.alloc())?;
-    let tasks = [
-        (Task::Log(1, b"\x0a"), Told::OneUp),
-        (Task::Close, Told::NotActive),
-    ];
-    first.take_all(&rt, rt.alloc(), &tasks)?;
-    is_recovered(&rt, rt.alloc(), first.with_all_up(rt.alloc())?)
+    let mut first = session_of_one(&rt, rt.alloc())?;
+    take_lines(&rt, rt.alloc(), &mut first, ONE_UP)?;
+    let mut second = first.with_all_up(rt.alloc())?;
+    take_lines(&rt, rt.alloc(), &mut second, RECOVERED)
 }
 
-/// A second writer recovers the edit.
-fn is_recovered(rt: &impl Abort, alloc: Global, session: Session) -> Result<(), Fail> {
-    let mut second = session;
-    second.take_all(rt, alloc, &[(Task::Takeover, Told::Taken(2, 3))])?;
-    assert_eq!(rt; second.calls(), 22);
-    assert_eq!(rt;
-        second.asked(alloc, 2, 0)?.as_slice(),
-        b"state\nnew 2\nprepare 2 1 0 1\naccept 2 3 0 1 18 0a\nfinalize 2 4 2 1 2\n\
-        start 2 5 2 3\njournal 2 6 2 3 3 18\n"
-            .as_slice()
-    );
-    assert_eq!(rt;
-        second.asked(alloc, 1, 9)?.as_slice(),
-        b"fetch 2 2 0 1 1\naccept 2 3 0 1 18 0a\nfinalize 2 4 2 1 2\n\
-        start 2 5 2 3\njournal 2 6 2 3 3 18\n"
-            .as_slice()
-    );
-    Ok(())
+/// The greatest number.
+const GREATEST: u64 = 4611686018427387904;
+
+// A session at one node that promised the greatest number.
+fn at_the_limit(alloc: Global) -> Result<Session, Fail> {
+    let mut node = PlainNode::new(alloc);
+    let _reply = node.act(alloc, &Request::NewEpoch { epoch: GREATEST });
+    Session::of(alloc, vec![in alloc; node]?)
 }
+
+const LIMITED: &[Line<'static>] = &[
+    Line::Tasks(&[(Task::Takeover, Told::EpochLimit(GREATEST))]),
+    Line::Calls(1),
+    Line::Tasks(&[(Task::Log(1, b"a"), Told::NotActive)]),
+];
 
 #[test]
 fn no_epoch_stands_above_the_greatest_number(rt: HostRuntime) -> Result<(), Fail> {
-    let mut node = PlainNode::new(rt.alloc());
-    let told = 4611686018427387904;
-    let _reply = node.act(rt.alloc(), &Request::NewEpoch { epoch: told });
-    let mut session = Session::of(rt.alloc(), vec![in rt.alloc(); node]?)?;
-    let taken = [(Task::Takeover, Told::EpochLimit(told))];
-    session.take_all(&rt, rt.alloc(), &taken)?;
-    assert_eq!(rt; session.calls(), 1);
-    session.take_all(&rt, rt.alloc(), &[(Task::Log(1, b"a"), Told::NotActive)])
+    let mut session = at_the_limit(rt.alloc())?;
+    take_lines(&rt, rt.alloc(), &mut session, LIMITED)
 }

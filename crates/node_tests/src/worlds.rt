@@ -73,18 +73,20 @@ fn fresh(alloc: Global) -> NodeCell<PlainNode> {
     NodeCell::new(alloc, PlainNode::new(alloc))
 }
 
+const ARMED: &[(u64, Answered)] = &[
+    (1, Answered::Promised),
+    (2, Answered::Stopped(0)),
+    (2, Answered::Down),
+];
+
 #[test]
 fn an_arming_stops_a_request(rt: HostRuntime) -> Result<(), Fail> {
     let mut cell = fresh(rt.alloc());
     let stop = Stop::Effects { keep: 0 };
     let arming = NodeAsk::Arm { calls: 2, stop };
     takes(&rt, rt.alloc(), &mut cell, arming, Answered::Done)?;
-    for (epoch, want) in [
-        (1, Answered::Promised),
-        (2, Answered::Stopped(0)),
-        (2, Answered::Down),
-    ] {
-        promises(&rt, rt.alloc(), &mut cell, epoch, want)?;
+    for (epoch, want) in ARMED {
+        promises(&rt, rt.alloc(), &mut cell, *epoch, *want)?;
     }
     Ok(())
 }
@@ -97,16 +99,21 @@ fn a_node_is_killed_and_restarted(rt: HostRuntime) -> Result<(), Fail> {
     takes(&rt, rt.alloc(), &mut cell, NodeAsk::Restart, Answered::Done)
 }
 
-#[test]
-fn a_cut_leaves_the_effects_that_stand(rt: HostRuntime) -> Result<(), Fail> {
-    let mut cell = fresh(rt.alloc());
+// A node that is cut in a promise.
+fn is_cut(rt: &impl Abort, alloc: Global, cell: &mut NodeCell<PlainNode>) -> Result<(), Fail> {
     let stop = Stop::DiskCalls {
         calls: 3,
         cut: Cut::New,
     };
     let arming = NodeAsk::Arm { calls: 1, stop };
-    takes(&rt, rt.alloc(), &mut cell, arming, Answered::Done)?;
-    promises(&rt, rt.alloc(), &mut cell, 2, Answered::Stopped(1))?;
+    takes(rt, alloc, cell, arming, Answered::Done)?;
+    promises(rt, alloc, cell, 2, Answered::Stopped(1))
+}
+
+#[test]
+fn a_cut_leaves_the_effects_that_stand(rt: HostRuntime) -> Result<(), Fail> {
+    let mut cell = fresh(rt.alloc());
+    is_cut(&rt, rt.alloc(), &mut cell)?;
     assert!(rt; cell.history().as_slice().len() == 2);
     let (node, history) = cell.into_parts();
     assert!(rt; node.state().promised == 2);
@@ -302,32 +309,35 @@ fn world_agrees(
     Ok(())
 }
 
+const ONE_EPOCH: &[(u32, Work, Losses)] = &[
+    (0, Work::Takeover, Losses::Promises),
+    (1, Work::Takeover, Losses::FirstQuestion),
+    (0, Work::Takeover, Losses::Nothing),
+];
+
 #[test]
 fn two_writers_propose_one_epoch(rt: HostRuntime) -> Result<(), Fail> {
-    let script = [
-        (0, Work::Takeover, Losses::Promises),
-        (1, Work::Takeover, Losses::FirstQuestion),
-        (0, Work::Takeover, Losses::Nothing),
-    ];
-    world_agrees(&rt, rt.alloc(), &script)
+    world_agrees(&rt, rt.alloc(), ONE_EPOCH)
 }
+
+const ONE_EDIT: &[(u32, Work, Losses)] = &[
+    (0, Work::Takeover, Losses::Nothing),
+    (0, Work::Log, Losses::Batches),
+    (1, Work::Takeover, Losses::Nothing),
+];
 
 #[test]
 fn an_edit_of_one_node_is_recovered(rt: HostRuntime) -> Result<(), Fail> {
-    let script = [
-        (0, Work::Takeover, Losses::Nothing),
-        (0, Work::Log, Losses::Batches),
-        (1, Work::Takeover, Losses::Nothing),
-    ];
-    world_agrees(&rt, rt.alloc(), &script)
+    world_agrees(&rt, rt.alloc(), ONE_EDIT)
 }
+
+const ONE_STOP: &[(u32, Work, Losses)] = &[
+    (0, Work::Takeover, Losses::Nothing),
+    (0, Work::Log, Losses::Nothing),
+    (1, Work::Takeover, Losses::Prepare),
+];
 
 #[test]
 fn a_node_is_stopped_inside_a_prepare(rt: HostRuntime) -> Result<(), Fail> {
-    let script = [
-        (0, Work::Takeover, Losses::Nothing),
-        (0, Work::Log, Losses::Nothing),
-        (1, Work::Takeover, Losses::Prepare),
-    ];
-    world_agrees(&rt, rt.alloc(), &script)
+    world_agrees(&rt, rt.alloc(), ONE_STOP)
 }
