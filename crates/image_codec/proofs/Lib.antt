@@ -3,6 +3,8 @@ pub mod Items
 pub mod InodeLaws
 pub mod RowLaws
 pub mod Trees
+pub mod LastRow
+pub mod Stepping
 pub mod CallLaws
 pub mod Whole
 pub mod Writes

@@ -10,6 +10,7 @@ use Rattle.ns_tree.proofs.Order.{same_text_is}
 use Rattle.image_codec.specs.declared.image_cause.ImageCause.TheVariants.{Order, NoParent}
 use Rattle.image_codec.specs.Layouts.{text_bytes, inode_bytes, row_bytes}
 use Rattle.image_codec.specs.Reading.{root_at, next_path_at, row_at}
+use Rattle.image_codec.specs.Rows.{MayStand}
 use Rattle.image_codec.specs.Laws.{IsBytes}
 use Rattle.image_codec.proofs.FieldLaws.{bind_ok, ok_is, wanted_ok, Takes, Takes-then, byte_takes, byte_again, path_takes, path_again}
 use Rattle.image_codec.proofs.Items.{AreNext, OneTaken}
@@ -53,14 +54,6 @@ root_again (Dir m p u g n s) rest good dir =
     ) (dir_again m p u g n s rest good)
 
 -- ## One row more
--- a row that may stand after others
-pub record MayStand (rows : List Row) (row : Row) : Type 0 where
-  pub path : is_path row.path ≡ true
-  pub short : length row.path ≤ 1000
-  pub inode : IsInode row.inode
-  pub last : is_after_last row.path rows ≡ true
-  pub parent : has_parent row.path rows ≡ true
-
 record PathTaken (rows : List Row) (bytes : List ℕ) (x : List ℕ × List ℕ) : Type 0 where
   taken : Takes bytes (text_bytes x.0) x.1
   path : is_path x.0 ≡ true

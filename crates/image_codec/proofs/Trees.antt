@@ -20,15 +20,16 @@ use Rattle.ns_tree.proofs.Place.{each_right, order_right}
 use Rattle.ns_tree.proofs.Last.{sound_append}
 use Rattle.ns_tree.proofs.Pairs.{Below, below_root, slash_behind}
 use Rattle.ns_tree.proofs.Tails.{begins_split}
-use Rattle.image_codec.proofs.RowLaws.{root_row, MayStand, MayGoOn}
+use Rattle.image_codec.specs.Rows.{MayStand}
+use Rattle.image_codec.proofs.RowLaws.{root_row, MayGoOn}
 
 -- ## A path that is found
-record Found (q : List ℕ) (P : Row → Type 0) : Type 0 where
-  row : Row
-  here : row.path ≡ q
-  holds : P row
+pub record Found (q : List ℕ) (P : Row → Type 0) : Type 0 where
+  pub row : Row
+  pub here : row.path ≡ q
+  pub holds : P row
 
-found_in : (q : List ℕ) (P : Row → Type 0) (xs : List Row) → is_dir_there (find q xs) ≡ true → Each P xs → Found q P
+pub found_in : (q : List ℕ) (P : Row → Type 0) (xs : List Row) → is_dir_there (find q xs) ≡ true → Each P xs → Found q P
 found_in q P [] e h = absurd (cc e)
 found_in q P (x ∷ xs) e h = by (same_text q x.path) refl e (λ f. found_in q P xs f h.1)
   where
@@ -44,7 +45,7 @@ off_root b c bs good less =
     let other : walk_cmp (47 ∷ c ∷ bs) (47 ∷ []) ≡ Less = subst (λ (n : ℕ). walk_cmp (n ∷ c ∷ bs) (47 ∷ []) ≡ Less) slash less in
     cc other
 
-only_root : (p : List ℕ) → is_path p ≡ true → (walk_cmp p (47 ∷ []) ≡ Less → ⊥)
+pub only_root : (p : List ℕ) → is_path p ≡ true → (walk_cmp p (47 ∷ []) ≡ Less → ⊥)
 only_root [] good less = cc good
 only_root (b ∷ []) good less =
     let one : (b == 47) ≡ true = good in

@@ -16,9 +16,10 @@ use Rattle.image_codec.specs.declared.answer.ReadImage.{ReadImage}
 use Rattle.image_codec.specs.declared.answer.ReadImage.TheVariants.{Image}
 use Rattle.image_codec.specs.Layouts.{magic, row_bytes, calls_bytes, image_bytes}
 use Rattle.image_codec.specs.Reading.{row_at, tree_at, calls_at, head_at, Told, told, answer, reading_of}
+use Rattle.image_codec.specs.Rows.{MayStand}
 use Rattle.image_codec.specs.Laws.{IsBytes, IsImage, IsWithin}
 use Rattle.image_codec.proofs.FieldLaws.{bind_ok, ok_is, wanted_ok, Takes, Takes-then, wide32, wide64, number_takes, number_again}
-use Rattle.image_codec.proofs.RowLaws.{root_row, root_takes, root_again, MayStand, row_takes, row_again}
+use Rattle.image_codec.proofs.RowLaws.{root_row, root_takes, root_again, row_takes, row_again}
 use Rattle.image_codec.proofs.Items.{many_take, many_again}
 use Rattle.image_codec.proofs.Trees.{shape_of, grown, root_alone}
 use Rattle.image_codec.proofs.CallLaws.{HasLayout, calls_take, calls_again, all_next, all_read}

@@ -11,3 +11,12 @@ pub enum ReadImage {
     /// The field that begins at the place is wrong; for Trailing the place is the end of the image.
     BadImage { place: usize, cause: ImageCause },
 }
+
+/// Why the rows of an image could not be read.
+#[derive(Clone, Copy, Debug, PartialEq, Eq)]
+pub enum Unread {
+    /// The field that begins at the place is wrong; for Trailing the place is the end of the image.
+    BadBytes { place: usize, cause: ImageCause },
+    /// Memory was wanted and not there.
+    OutOfMemory,
+}

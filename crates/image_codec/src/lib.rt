@@ -10,13 +10,15 @@ mod inodes;
 mod laws;
 mod reading;
 mod rows;
+mod sink;
 mod worked;
 mod writing;
 
-pub use answer::ReadImage;
+pub use answer::{ReadImage, Unread};
 pub use image_cause::ImageCause;
 pub use laws::{images_are_read_back, images_have_one_spelling};
-pub use reading::read_image;
+pub use reading::{read_image, read_rows};
+pub use sink::RowSink;
 pub use worked::{
     empty_images_are_known, known_images_are_read, longer_images_are_refused,
     other_images_are_refused,

@@ -1,14 +1,18 @@
 //! Images from bytes.
-ghost use Rattle.std.specs.Prelude.{◌≡◌, ◌^◌, ◌≤◌, IfOk};
-ghost use Rattle.image_codec.specs.Reading.{Gives, Told, head_at, told, reading_of};
+ghost use Rattle.std.specs.Prelude.{◌≡◌, ◌-◌, ◌^◌, ◌≤◌, ◌==◌, true, false, length, IfOk, IfErr, OnOk, OnErr};
+ghost use Rattle.image_codec.specs.declared.image_cause.ImageCause.TheVariants as causes;
+ghost use Rattle.image_codec.specs.declared.fault.ReadError.TheVariants as errors;
+ghost use Rattle.image_codec.specs.Reading.{Gives, Told, fault_at, head_at, told, reading_of};
+ghost use Rattle.image_codec.specs.Rows.{GivesSome, HasRead};
 ghost use Rattle.image_codec.specs.Laws.{IsWithin};
 
-use crate::answer::ReadImage;
+use crate::answer::{ReadImage, Unread};
 use crate::calls::calls_of;
-use crate::fault::{ReadError, wrong_at};
+use crate::fault::{Fault, ReadError, wrong_at};
 use crate::fields::{amount_of, word_of};
 use crate::image_cause::ImageCause;
-use crate::rows::tree_of;
+use crate::rows::{rows_of, tree_of};
+use crate::sink::RowSink;
 use ns_tree::Namespace;
 use qj_num::OutOfMemory;
 use std::alloc::{AllocError, Global};
@@ -35,6 +39,18 @@ fn head_of(bytes: &[u8]) -> Result<((u32, u64), &[u8]), ReadError>
     Ok(((layout, txid), rest))
 }
 
+// Nothing is left.
+fn end_of(rest: &[u8]) -> Result<(), ReadError>
+    ensures ok { OnOk result ((length rest.now == 0) ≡ true) }
+    ensures more { OnErr result ((length rest.now == 0) ≡ false) }
+    ensures err { IfErr result (λ e. e ≡ errors.Fault (fault_at causes.Trailing rest.now)) }
+{
+    if !rest.is_empty() {
+        return Err(wrong_at(ImageCause::Trailing, rest));
+    }
+    Ok(())
+}
+
 #[tactic(auto, unfolding(crate::specs::Reading::told))]
 fn parts_of(alloc: Global, bytes: &[u8]) -> Result<Parts, ReadError>
     ensures { Gives (λ x. record { layout = x.layout; space = x.namespace; txid = x.txid }) result (told bytes.now) }
@@ -42,14 +58,32 @@ fn parts_of(alloc: Global, bytes: &[u8]) -> Result<Parts, ReadError>
     let ((layout, txid), rest) = head_of(bytes)?;
     let (mut namespace, rest) = tree_of(alloc, rest)?;
     let rest = calls_of(&mut namespace, layout, txid, rest)?;
-    if !rest.is_empty() {
-        return Err(wrong_at(ImageCause::Trailing, rest));
-    }
+    end_of(rest)?;
     Ok(Parts {
         layout,
         namespace,
         txid,
     })
+}
+
+// What has taken the rows of an image; the calls behind them are read and not kept.
+#[tactic(auto, unfolding(crate::specs::Reading::told))]
+fn sink_of<S: RowSink>(alloc: Global, bytes: &[u8]) -> Result<S, ReadError>
+    ensures { GivesSome (λ sink image. S.has_taken sink image.space.pairs) result (told bytes.now) }
+{
+    let ((layout, txid), rest) = head_of(bytes)?;
+    let (sink, rest) = rows_of::<S>(alloc, rest)?;
+    let mut calls = Namespace::new(alloc)?;
+    let rest = calls_of(&mut calls, layout, txid, rest)?;
+    end_of(rest)?;
+    Ok(sink)
+}
+
+// The first byte of a field that is wrong.
+fn place_of(bytes: &[u8], fault: Fault) -> usize
+    ensures { result ≡ length bytes.now - fault.left }
+{
+    bytes.len().saturating_sub(fault.left)
 }
 
 fn reading_in(alloc: Global, bytes: &[u8]) -> Result<ReadImage, OutOfMemory>
@@ -64,7 +98,7 @@ fn reading_in(alloc: Global, bytes: &[u8]) -> Result<ReadImage, OutOfMemory>
             },
         ) => Ok(ReadImage::Image { namespace, txid }),
         Err(ReadError::Fault(fault)) => Ok(ReadImage::BadImage {
-            place: bytes.len().saturating_sub(fault.left),
+            place: place_of(bytes, fault),
             cause: fault.cause,
         }),
         Err(ReadError::Memory) => Err(AllocError),
@@ -78,4 +112,19 @@ pub fn read_image(alloc: Global, bytes: &[u8]) -> Result<ReadImage, OutOfMemory>
     ensures within { IfOk result (λ read. IsWithin read) }
 {
     reading_in(alloc, bytes)
+}
+
+/// What has taken the rows of the image that all of the bytes are, one by one: no more of them is kept. Of other
+/// bytes it is the first fault from the left, as `read_image` tells it.
+pub fn read_rows<S: RowSink>(alloc: Global, bytes: &[u8]) -> Result<S, Unread>
+    ensures { HasRead S.has_taken (reading_of bytes.now) result }
+{
+    match sink_of::<S>(alloc, bytes) {
+        Ok(sink) => Ok(sink),
+        Err(ReadError::Fault(fault)) => Err(Unread::BadBytes {
+            place: place_of(bytes, fault),
+            cause: fault.cause,
+        }),
+        Err(ReadError::Memory) => Err(Unread::OutOfMemory),
+    }
 }

@@ -1,15 +1,17 @@
-//! Rows from bytes, one after the other, into a namespace.
-ghost use Rattle.std.specs.Prelude.{◌≡◌, ◌∷◌, [], ◌≤◌, true, length, IfOk};
+//! Rows from bytes, one after the other, each by the one before it.
+ghost use Rattle.std.specs.Prelude.{◌≡◌, ◌+◌, ◌∷◌, [], ◌≤◌, true, List, length, IfOk};
+ghost use Rattle.ns_tree.specs.declared.inode.Row.{Row};
 ghost use Rattle.ns_tree.specs.Path.{is_path};
-ghost use Rattle.ns_tree.specs.Space.{IsInode, is_dir, empty_space};
-ghost use Rattle.ns_tree.specs.Last.{is_after_last, has_parent};
-ghost use Rattle.image_codec.specs.Reading.{Gives, root_at, next_path_at, row_at, repeated, tree_at};
+ghost use Rattle.ns_tree.specs.Space.{IsInode, is_dir};
+ghost use Rattle.image_codec.specs.Reading.{Gives, root_at, row_at, repeated, tree_at};
+ghost use Rattle.image_codec.specs.Rows.{EndsAt, HasTaken, IsNext, GivesSome, is_above_last, path_after, row_after};
 
 use crate::fault::{ReadError, wrong_at};
 use crate::fields::{byte_of, path_of, word_of};
 use crate::image_cause::ImageCause;
 use crate::inodes::{dir_of, inode_of};
-use ns_tree::{Inode, Namespace, Row, is_root_path};
+use crate::sink::RowSink;
+use ns_tree::{Inode, Namespace, Row, is_root_path, lies_under, parent, walk_order};
 use qj_num::Name;
 use std::alloc::Global;
 
@@ -31,70 +33,123 @@ fn root_of(alloc: Global, bytes: &[u8]) -> Result<(Inode, &[u8]), ReadError>
     dir_of(alloc, rest)
 }
 
-// A path that may stand next.
-#[tactic(auto, unfolding(crate::specs::Reading::next_path_at))]
+// Whether the directory that a path after the last row stands in is there: all directories above the last row are.
+fn is_above(above: &[u8], last: &[u8], directory: bool) -> bool
+    ensures { result ≡ is_above_last above.now last.now directory }
+{
+    if above == last {
+        directory
+    } else {
+        lies_under(above, last)
+    }
+}
+
+// A path that may stand after the last row, which is a directory or not.
+#[tactic(auto, unfolding(crate::specs::Rows::path_after))]
 fn next_path_of<'a>(
-    namespace: &Namespace,
+    last: &[u8],
+    directory: bool,
     bytes: &'a [u8],
 ) -> Result<(&'a [u8], &'a [u8]), ReadError>
-    ensures read { Gives (λ x. (x.0.now, x.1.now)) result (next_path_at namespace.now.pairs bytes.now) }
+    ensures read { Gives (λ x. (x.0.now, x.1.now)) result (path_after last.now directory bytes.now) }
     ensures good { IfOk result (λ x. (is_path x.0.now ≡ true) × (length x.0.now ≤ 1000)) }
-    ensures placed { IfOk result (λ x. (is_after_last x.0.now namespace.now.pairs ≡ true) × (has_parent x.0.now namespace.now.pairs ≡ true)) }
 {
     let (path, rest) = path_of(bytes)?;
-    if !namespace.is_after_last(path) {
+    if !walk_order(last, path).is_lt() {
         return Err(wrong_at(ImageCause::Order, bytes));
     }
-    if !namespace.has_parent(path) {
+    if !is_above(parent(path), last, directory) {
         return Err(wrong_at(ImageCause::NoParent, bytes));
     }
     Ok((path, rest))
 }
 
-// One row more.
-#[tactic(auto, unfolding(crate::specs::Reading::row_at))]
-fn add_row<'a>(
+// A row that may stand after the last one, and its path where it stands in the bytes.
+#[tactic(auto, unfolding(crate::specs::Rows::row_after))]
+fn next_row_of<'a>(
     alloc: Global,
-    namespace: &mut Namespace,
+    last: &[u8],
+    directory: bool,
     bytes: &'a [u8],
-) -> Result<&'a [u8], ReadError>
-    ensures rows { Gives (λ rest. (namespace.new.pairs, rest.now)) result (row_at namespace.old.pairs bytes.now) }
-    ensures calls { namespace.new.calls ≡ namespace.old.calls }
+) -> Result<(Row, &'a [u8], &'a [u8]), ReadError>
+    ensures read { Gives (λ x. (x.0, x.2.now)) result (row_after last.now directory bytes.now) }
+    ensures path { IfOk result (λ x. x.0.path ≡ x.1.now) }
+    ensures good { IfOk result (λ x. (is_path x.0.path ≡ true) × (length x.0.path ≤ 1000) × IsInode x.0.inode) }
 {
-    let (path, rest) = next_path_of(namespace, bytes)?;
+    let (path, rest) = next_path_of(last, directory, bytes)?;
     let (inode, rest) = inode_of(alloc, rest)?;
-    let path = Name::from_slice(alloc, path)?;
-    namespace.append(alloc, Row { path, inode })?;
-    Ok(rest)
+    let name = Name::from_slice(alloc, path)?;
+    Ok((Row { path: name, inode }, path, rest))
+}
+
+fn is_directory(inode: &Inode) -> bool
+    ensures { result ≡ is_dir inode.now }
+{
+    match inode {
+        Inode::Dir { .. } => true,
+        Inode::File { .. } => false,
+    }
+}
+
+// One row more: its path, whether it is a directory, and what is left.
+fn add_row<'a, S: RowSink>(
+    alloc: Global,
+    sink: &mut S,
+    last: &[u8],
+    directory: bool,
+    bytes: &'a [u8],
+) -> Result<(&'a [u8], bool, &'a [u8]), ReadError>
+    requires { HasTaken S.has_taken sink.old last.now directory 1 }
+    ensures { (rows : List Row) → S.has_taken sink.old rows → EndsAt rows last.now directory
+        → GivesSome (λ x y. IsNext S.has_taken sink.new x.0.now x.1 x.2.now (length rows + 1) y) result (row_at rows bytes.now) }
+{
+    let (row, path, rest) = next_row_of(alloc, last, directory, bytes)?;
+    let directory = is_directory(&row.inode);
+    sink.take_row(alloc, row)?;
+    Ok((path, directory, rest))
 }
 
 // So many rows more.
-fn add_rows<'a>(
+fn add_rows<'a, S: RowSink>(
     alloc: Global,
-    namespace: &mut Namespace,
+    sink: &mut S,
     count: u32,
+    root: &'a [u8],
     bytes: &'a [u8],
 ) -> Result<&'a [u8], ReadError>
-    ensures rows { Gives (λ rest. (namespace.new.pairs, rest.now)) result (repeated row_at count namespace.old.pairs bytes.now) }
-    ensures calls { namespace.new.calls ≡ namespace.old.calls }
+    requires { HasTaken S.has_taken sink.old root.now true count }
+    ensures { (rows : List Row) → S.has_taken sink.old rows → EndsAt rows root.now true
+        → GivesSome (λ x y. (y.1 ≡ x.now) × S.has_taken sink.new y.0) result (repeated row_at count rows bytes.now) }
 {
+    let mut last = root;
+    let mut directory = true;
     let mut rest = bytes;
     for _ in 0..count {
-        rest = add_row(alloc, namespace, rest)?;
+        let (path, kind, left) = add_row(alloc, sink, last, directory, rest)?;
+        last = path;
+        directory = kind;
+        rest = left;
     }
     Ok(rest)
 }
 
 // All rows after their count.
 #[tactic(auto, unfolding(crate::specs::Reading::tree_at))]
+pub(crate) fn rows_of<S: RowSink>(alloc: Global, bytes: &[u8]) -> Result<(S, &[u8]), ReadError>
+    ensures { GivesSome (λ x y. (y.1 ≡ x.1.now) × S.has_taken x.0 y.0) result (tree_at bytes.now) }
+{
+    let (count, rest) = word_of(bytes, 1, MOST_INODES, ImageCause::Field)?;
+    let (root, rest) = root_of(alloc, rest)?;
+    let mut sink = S::begin(alloc, root)?;
+    let rest = add_rows(alloc, &mut sink, count - 1, b"/", rest)?;
+    Ok((sink, rest))
+}
+
+// A namespace of all rows after their count.
 pub(crate) fn tree_of(alloc: Global, bytes: &[u8]) -> Result<(Namespace, &[u8]), ReadError>
     ensures rows { Gives (λ x. (x.0.pairs, x.1.now)) result (tree_at bytes.now) }
     ensures calls { IfOk result (λ x. x.0.calls ≡ []) }
 {
-    let (count, rest) = word_of(bytes, 1, MOST_INODES, ImageCause::Field)?;
-    let (root, rest) = root_of(alloc, rest)?;
-    let mut namespace = Namespace::new(alloc)?;
-    namespace.set(b"/", root);
-    let rest = add_rows(alloc, &mut namespace, count - 1, rest)?;
+    let (namespace, rest) = rows_of::<Namespace>(alloc, bytes)?;
     Ok((namespace, rest))
 }

@@ -1,5 +1,5 @@
 -- Counts, as one row more comes, and that they have room.
-use Rattle.std.proofs.Common.{◌≡◌, ◌≢◌, ℕ, zero, suc, ◌+◌, ◌*◌, ◌^◌, ◌<◌, ◌≤◌, Bool, true, false, cond, not, List, [], ◌∷◌, ◌++◌, length, get_or, set, take, sum, sum_by, count_by, refl, sym, ap, ◌∙◌, subst, arith}
+use Rattle.std.proofs.Common.{◌≡◌, ℕ, suc, ◌+◌, ◌*◌, ◌<◌, ◌≤◌, Bool, true, false, cond, not, List, [], ◌∷◌, ◌++◌, length, get_or, set, sum, sum_by, count_by, refl, sym, ap, ◌∙◌, subst, arith}
 use Rattle.std.specs.Prelude.{◌==◌}
 use Rattle.std.specs.List.{flat_map}
 use Rattle.std.proofs.lemmas.Bool.{eqb-true, eqb-false}
@@ -8,10 +8,10 @@ use Rattle.std.proofs.lemmas.List.Sums.{sum_by-cons, sum_by_push, count_by-le-le
 use Rattle.ns_tree.specs.declared.inode.Inode.{Inode}
 use Rattle.ns_tree.specs.declared.inode.Inode.TheVariants.{Dir, File}
 use Rattle.ns_tree.specs.declared.inode.Row.{Row}
-use Rattle.ns_tree.specs.Space.{is_dir, Each, AreLengths, IsInode, IsPair}
-use Rattle.ns_tree.proofs.Place.{each_at, each_take, each_map}
+use Rattle.ns_tree.specs.Space.{is_dir, Each, AreLengths, IsInode}
+use Rattle.ns_tree.proofs.Place.{each_map}
 use Rattle.oiv_tool.specs.declared.tally.Tally.{Tally}
-use Rattle.oiv_tool.specs.Sizes.{class_of, is_in, block_count, byte_count, one_if, count_in, size_lines, line, lines_of, sizes, AreSizes, CountsDirectory, CountsFile, HasRoom}
+use Rattle.oiv_tool.specs.Sizes.{is_in, block_count, byte_count, one_if, count_in, size_lines, line, lines_of, sizes, AreSizes, CountsDirectory, CountsFile, HasRoom}
 
 -- ---- one more
 
@@ -112,10 +112,6 @@ has_room s rows good few a =
       blocks = omega (arith, a.blocks, blocks, few);
       bytes = omega (arith, a.bytes, bytes, few);
     }
-
--- the first rows of a namespace have inodes within their limits
-pub first_inodes : (all xs : List Row) (i : ℕ) → Each (IsPair all) xs → i ≤ length xs → Each (λ r. IsInode r.inode) (take i xs)
-first_inodes all xs i h le = each_take (λ r. IsInode r.inode) i xs le (λ k d lt. (each_at (IsPair all) xs h k d (omega (arith, lt, le))).inode)
 
 -- ---- lines
 

@@ -1,16 +1,15 @@
 -- The columns of a row of a namespace fit JSON as it is written.
-use Rattle.std.proofs.Common.{◌≡◌, ℕ, zero, suc, ◌+◌, ◌*◌, ◌^◌, ◌<◌, ◌≤◌, Bool, true, false, List, [], ◌∷◌, ◌++◌, length, get_or, take, map, sum, Option, Some, None, IsAscii, append_assoc, refl, sym, ap, ◌∙◌, subst, arith, lit<}
+use Rattle.std.proofs.Common.{◌≡◌, ℕ, ◌<◌, Bool, true, false, List, [], ◌∷◌, ◌++◌, length, map, Option, Some, None, IsAscii, append_assoc, refl, sym, ap, ◌∙◌, subst, arith, lit<}
 use Rattle.std.specs.Prelude.{◌&&◌, ◌||◌, ◌==◌, not, nat_le, nat_lt, if◌then◌else◌}
 use Rattle.std.specs.List.{flat_map, AllByRecursion}
-use Rattle.std.proofs.lemmas.List.{append-nil, take_more}
+use Rattle.std.proofs.lemmas.List.{append-nil}
 use Rattle.std.proofs.lemmas.Bool.{and_parts, eqb-true}
 use Rattle.std.proofs.lemmas.Bool.Decides.{nat_tests}
 use Rattle.ns_tree.specs.declared.inode.Inode.{Inode}
 use Rattle.ns_tree.specs.declared.inode.Inode.TheVariants.{Dir, File}
 use Rattle.ns_tree.specs.declared.inode.Row.{Row}
 use Rattle.ns_tree.specs.Path.{is_path, is_owner, is_letter, is_owner_byte, all_owner_bytes, is_component_byte, all_component_bytes, is_dot_name, is_component, are_components}
-use Rattle.ns_tree.specs.Space.{IsInode, IsPair, Each}
-use Rattle.ns_tree.proofs.Place.{each_at}
+use Rattle.ns_tree.specs.Space.{IsInode}
 use Rattle.json_text.proofs.Ascii.{AreSmall, ascii_of}
 use Rattle.inode_text.specs.Permissions.{has_bit, letter, kind_letter, letters}
 use Rattle.inode_text.specs.Columns.{ColumnsView, columns, columns_of}
@@ -145,22 +144,9 @@ members_ascii c h = (tt, (tt, (limit_ascii c.space, (tt, (h.group, (tt, (limit_a
 pub row_fits : (row : Row) → is_path row.path ≡ true → IsInode row.inode → (c : ColumnsView) → c ≡ columns_of row → FitsJson c
 row_fits row p h c e = subst FitsJson (sym e) (inode_fits row.path row.inode p h)
 
--- a row of a namespace
-pub good_row : (all xs : List Row) → Each (IsPair all) xs → (i : ℕ) (d : Row) → i < length xs → (is_path (get_or xs i d).path ≡ true) × IsInode (get_or xs i d).inode
-good_row all xs h i d lt = let p = each_at (IsPair all) xs h i d lt in (p.path, p.inode)
-
 -- ---- rows one after the other
 
-spread : (xs : List Row) (x : Row) → flat_map json_tokens (map row_json (xs ++ x ∷ [])) ≡ flat_map json_tokens (map row_json xs) ++ json_tokens (row_json x)
+pub spread : (xs : List Row) (x : Row) → flat_map json_tokens (map row_json (xs ++ x ∷ [])) ≡ flat_map json_tokens (map row_json xs) ++ json_tokens (row_json x)
 spread [] x = append-nil (json_tokens (row_json x))
 spread (y ∷ ys) x =
     ap (λ (z : List Token). json_tokens (row_json y) ++ z) (spread ys x) ∙ sym (append_assoc (json_tokens (row_json y)) (flat_map json_tokens (map row_json ys)) (json_tokens (row_json x)))
-
-pub rows_on : (rows : List Row) (i : ℕ) (row : Row) (old so_far new : List Token) → i < length rows → row ≡ get_or rows i row → so_far ≡ old ++ flat_map json_tokens (map row_json (take i rows))
-    → new ≡ so_far ++ json_tokens (row_json row) → new ≡ old ++ flat_map json_tokens (map row_json (take (i + 1) rows))
-rows_on rows i row old so_far new lt is before e =
-    let more : flat_map json_tokens (map row_json (take (i + 1) rows)) ≡ flat_map json_tokens (map row_json (take i rows)) ++ json_tokens (row_json (get_or rows i row)) =
-    ap (λ (z : List Row). flat_map json_tokens (map row_json z)) (take_more rows i row lt) ∙ spread (take i rows) (get_or rows i row) in
-    let here : json_tokens (row_json row) ≡ json_tokens (row_json (get_or rows i row)) = ap (λ (r : Row). json_tokens (row_json r)) is in
-    let all : new ≡ (old ++ flat_map json_tokens (map row_json (take i rows))) ++ json_tokens (row_json (get_or rows i row)) = cc in
-    all ∙ (append_assoc old (flat_map json_tokens (map row_json (take i rows))) (json_tokens (row_json (get_or rows i row))) ∙ ap (λ (z : List Token). old ++ z) (sym more))

@@ -2,3 +2,4 @@ pub mod NoDigest
 pub mod Counting
 pub mod Fitting
 pub mod OneAnswer
+pub mod Taking

@@ -1,13 +1,13 @@
 -- No bytes of an image have a wrong digest: reading them never ends with that cause.
-use Rattle.std.proofs.Common.{◌≡◌, ◌≢◌, ℕ, zero, suc, ◌+◌, ◌-◌, ◌^◌, Bool, true, false, List, [], ◌∷◌, ◌++◌, length, Result, Ok, Err, refl, sym, ap, ◌∙◌}
-use Rattle.std.specs.Prelude.{◌==◌, ◌&&◌, nat_le, if◌then◌else◌}
+use Rattle.std.proofs.Common.{◌≡◌, ◌≢◌, ℕ, zero, suc, ◌-◌, ◌^◌, Bool, true, false, List, [], ◌∷◌, length, Result, Ok, Err, ◌∙◌}
+use Rattle.std.specs.Prelude.{◌==◌, nat_le, if◌then◌else◌}
 use Rattle.std.specs.Int.{Width, w16, w32, w64}
 use Rattle.ns_tree.specs.declared.inode.Noted.{Noted}
 use Rattle.ns_tree.specs.declared.inode.Row.{Row}
 use Rattle.ns_tree.specs.Last.{is_after_last, has_parent}
 use Rattle.image_codec.specs.declared.image_cause.ImageCause.{ImageCause}
 use Rattle.image_codec.specs.declared.image_cause.ImageCause.TheVariants.{Short, Magic, Layout, Field, Order, NoParent, Trailing, Digest}
-use Rattle.image_codec.specs.declared.answer.ReadImage.TheVariants.{Image, BadImage}
+use Rattle.image_codec.specs.declared.answer.ReadImage.TheVariants.{BadImage}
 use Rattle.image_codec.specs.Reading.{◌>>=◌, wanted, byte_at, whole_at, number_at, text_at, path_at, owner_at, amount_at, size_at, permission_at, repeated, length_at, blocks_at, dir_at, file_after, file_at, inode_at, root_at, next_path_at, row_at, tree_at, client_at, new_call_at, call_at, calls_at, head_at, Told, told, answer, reading_of}
 
 -- what a reading ends with, where it fails

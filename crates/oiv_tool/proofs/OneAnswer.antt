@@ -1,11 +1,13 @@
 -- The right answer, by what the bytes are read as.
-use Rattle.std.proofs.Common.{◌≡◌, ◌≢◌, ℕ, List, Result, Ok, Err, refl, sym, ap, ◌∙◌, subst}
+use Rattle.std.proofs.Common.{◌≡◌, ℕ, List, Ok, Err, subst}
 use Rattle.ns_tree.specs.declared.inode.Row.{Row}
 use Rattle.ns_tree.specs.Space.{Space}
 use Rattle.image_codec.specs.declared.image_cause.ImageCause.{ImageCause}
 use Rattle.image_codec.specs.declared.answer.ReadImage.{ReadImage}
 use Rattle.image_codec.specs.declared.answer.ReadImage.TheVariants.{Image, BadImage}
+use Rattle.image_codec.specs.declared.answer.Unread.TheVariants.{BadBytes as Wrong}
 use Rattle.image_codec.specs.Reading.{reading_of}
+use Rattle.image_codec.specs.Rows.{HasRead}
 use Rattle.oiv_tool.specs.declared.listing.Listing.{Listing}
 use Rattle.oiv_tool.specs.declared.listing.Listing.TheVariants.{Text, BadBytes, OutOfMemory}
 use Rattle.oiv_tool.specs.Listed.{IsAnswer, IsListed, GivesText, GivesFault}
@@ -38,3 +40,17 @@ out_of_memory tell (BadImage place cause) = tt
 
 pub no_memory : (tell : List Row → List ℕ) (bytes : List ℕ) → IsListed tell bytes OutOfMemory
 no_memory tell bytes = out_of_memory tell (reading_of bytes)
+
+-- ## What has taken the rows
+module _ {S : Type 0} (has_taken : S → List Row → Type 0) where
+  pub some_taken : (read : ReadImage) (sink : S) → HasRead has_taken read (Ok sink) → (rows : List Row) × has_taken sink rows
+  some_taken (Image space txid) sink h = (space.pairs, h)
+  some_taken (BadImage place cause) sink h = absurd h
+
+  pub rows_told : (tell : List Row → List ℕ) (read : ReadImage) (sink : S) (given : Listing) → HasRead has_taken read (Ok sink) → ((space : Space) (txid : ℕ) → has_taken sink space.pairs → IsAnswer tell (Image space txid) given) → IsAnswer tell read given
+  rows_told tell (Image space txid) sink given h f = f space txid h
+  rows_told tell (BadImage place cause) sink given h f = absurd h
+
+  pub fault_is : (read : ReadImage) (place : ℕ) (cause : ImageCause) → HasRead has_taken read (Err (Wrong place cause)) → BadImage place cause ≡ read
+  fault_is (Image space txid) place cause h = absurd h
+  fault_is (BadImage at of) place cause h = λ i. BadImage (h.0 i) (h.1 i)

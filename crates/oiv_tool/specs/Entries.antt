@@ -1,6 +1,10 @@
 -- The inodes of an image as JSON: for each row an object, its keys in the order of their bytes.
-use Rattle.std.specs.Prelude.{ℕ, ◌^◌, ◌<◌, List, [], ◌∷◌, map, codes, IsAscii}
+use Rattle.std.specs.Prelude.{◌≡◌, ℕ, ◌^◌, ◌<◌, List, [], ◌∷◌, map, codes, IsAscii}
+use Rattle.std.specs.List.{flat_map}
 use Rattle.json.specs.Json.{Json, string}
+use Rattle.json.specs.Token.{Token}
+use Rattle.json.specs.Tree.{json_tokens}
+use Rattle.json.specs.Written.{Written}
 use Rattle.ns_tree.specs.declared.inode.Row.{Row}
 use Rattle.inode_text.specs.Columns.{ColumnsView, columns_of}
 use Rattle.json_text.specs.Values.{number_of, limit_of, array_of, object_of, json_line}
@@ -33,3 +37,8 @@ pub record FitsJson (c : ColumnsView) : Type 0 where
   pub user : IsAscii c.user
   pub group : IsAscii c.group
   pub size : c.size < 2 ^ 64
+
+-- an array was begun, and these rows have their objects in it
+pub record HasEntries (w : Written) (rows : List Row) : Type 0 where
+  pub before : w.before ≡ []
+  pub tokens : w.tokens ≡ Token.begin_array ∷ flat_map json_tokens (map row_json rows)

@@ -10,11 +10,6 @@ use Rattle.oiv_tool.specs.declared.listing.ByteCause.{ByteCause}
 use Rattle.oiv_tool.specs.declared.listing.ByteCause.TheVariants as causes
 use Rattle.oiv_tool.specs.declared.listing.Listing.{Listing}
 use Rattle.oiv_tool.specs.declared.listing.Listing.TheVariants.{Text, BadBytes, OutOfMemory}
-use Rattle.oiv_tool.specs.declared.tools.Question.{Question}
-use Rattle.oiv_tool.specs.declared.tools.Question.TheVariants as question
-use Rattle.oiv_tool.specs.Delimited.{delimited}
-use Rattle.oiv_tool.specs.Sizes.{sizes}
-use Rattle.oiv_tool.specs.Entries.{rows_json}
 
 -- the cause of a fault of an image; no bytes have a wrong digest
 abbrev pub cause_of : ImageCause → Option ByteCause
@@ -51,8 +46,3 @@ abbrev pub GivesFault : ℕ → ImageCause → Listing → Type 0
 GivesFault place cause (Text given) = ⊥
 GivesFault place cause (BadBytes at of) = (at ≡ place) × (cause_of cause ≡ Some of)
 GivesFault place cause OutOfMemory = Unit {0}
-
-abbrev pub told_by : Question → List Row → List ℕ
-told_by question.Delimited = delimited
-told_by question.Sizes = sizes
-told_by question.Json = rows_json

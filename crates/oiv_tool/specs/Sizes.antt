@@ -4,7 +4,7 @@ use Rattle.std.specs.List.{flat_map}
 use Rattle.ns_tree.specs.declared.inode.Inode.{Inode}
 use Rattle.ns_tree.specs.declared.inode.Inode.TheVariants.{Dir, File}
 use Rattle.ns_tree.specs.declared.inode.Row.{Row}
-use Rattle.ns_tree.specs.Space.{is_dir}
+use Rattle.ns_tree.specs.Space.{is_dir, Each, IsInode}
 use Rattle.oiv_tool.specs.declared.tally.Tally.{Tally}
 
 -- the first class whose limit the size doesn't exceed: 0, 1024, 1024^2, 1024^3 or 1024^4 bytes, or more
@@ -66,6 +66,11 @@ pub record AreSizes (s : Tally) (rows : List Row) : Type 0 where
   pub directories : s.directories ≡ directory_count rows
   pub blocks : s.blocks ≡ blocks_in_all rows
   pub bytes : s.bytes ≡ bytes_in_all rows
+
+-- these inodes, each within its limits, are counted
+pub record AreCounted (s : Tally) (rows : List Row) : Type 0 where
+  pub sizes : AreSizes s rows
+  pub inodes : Each (λ row. IsInode row.inode) rows
 
 -- the same lines by what was counted
 abbrev pub lines_of : Tally → List (List ℕ × ℕ)

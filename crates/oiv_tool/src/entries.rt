@@ -1,20 +1,27 @@
-//! A namespace's rows as JSON.
-ghost use Rattle.std.specs.Prelude.{◌≡◌, true, map, IfOk};
-ghost use Rattle.std.specs.List.{flat_map};
+//! An image's rows as JSON.
+ghost use Rattle.std.specs.Prelude.{◌≡◌, true};
 ghost use Rattle.json.specs.Tree.{json_tokens};
 ghost use Rattle.json_text.specs.Written.{Adds};
 ghost use Rattle.ns_tree.specs.Path.{is_path};
 ghost use Rattle.ns_tree.specs.Space.{IsInode};
 ghost use Rattle.inode_text.specs.Columns.{columns_of, shown};
 ghost use Rattle.ns_tree.specs.declared.inode.Row.{Row};
-ghost use Rattle.oiv_tool.specs.Entries.{row_json, rows_json, FitsJson};
+ghost use Rattle.oiv_tool.specs.Entries.{row_json, FitsJson};
 
+use crate::row_text::{RowText, root_row};
+use image_codec::RowSink;
 use inode_text::{Columns, columns_of};
 use json::Writer;
 use json_text::{Member, array_text, begun_array, put_object};
-use ns_tree::{Namespace, Row};
+use ns_tree::{Inode, Row};
 use qj_num::OutOfMemory;
 use std::alloc::Global;
+
+/// An array that was begun, with an object for each row.
+#[derive(Drop)]
+pub(crate) struct Entries {
+    pub writer: Writer,
+}
 
 // Adds the columns of a row as an object.
 fn put_columns(writer: &mut Writer, columns: &Columns<'_>) -> Result<(), OutOfMemory>
@@ -50,22 +57,29 @@ fn put_row(writer: &mut Writer, row: &Row) -> Result<(), OutOfMemory>
     put_columns(writer, &columns)
 }
 
-// Adds each row as an object.
-fn put_rows(writer: &mut Writer, namespace: &Namespace) -> Result<(), OutOfMemory>
-    ensures { Adds result writer.old writer.new (flat_map json_tokens (map row_json namespace.now.pairs)) }
-{
-    namespace.show_invariant();
-    for i in 0..namespace.row_count() {
-        put_row(writer, namespace.row(i))?;
+impl RowSink for Entries {
+    ghost use Rattle.oiv_tool.specs.Entries.{HasEntries};
+
+    ghost has_taken = { λ entries rows. HasEntries entries.writer rows };
+
+    fn begin(alloc: Global, root: Inode) -> Result<Entries, OutOfMemory> {
+        let root = root_row(alloc, root)?;
+        let mut writer = begun_array(alloc)?;
+        put_row(&mut writer, &root)?;
+        Ok(Entries { writer })
     }
-    Ok(())
+
+    fn take_row(&mut self, _alloc: Global, row: Row) -> Result<(), OutOfMemory> {
+        put_row(&mut self.writer, &row)
+    }
 }
 
-/// An array with an object for each row.
-pub(crate) fn json_text(alloc: Global, namespace: &Namespace) -> Result<Vec<u8>, OutOfMemory>
-    ensures { IfOk result (λ text. text.items ≡ rows_json namespace.now.pairs) }
-{
-    let mut writer = begun_array(alloc)?;
-    put_rows(&mut writer, namespace)?;
-    array_text(writer)
+impl RowText for Entries {
+    ghost use Rattle.oiv_tool.specs.Entries.{rows_json};
+
+    ghost tell = { rows_json };
+
+    fn text(self, _alloc: Global) -> Result<Vec<u8>, OutOfMemory> {
+        array_text(self.writer)
+    }
 }

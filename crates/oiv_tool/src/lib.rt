@@ -5,6 +5,7 @@ mod causes;
 mod entries;
 mod lines;
 mod listing;
+mod row_text;
 mod tally;
 mod tools;
 mod worked;

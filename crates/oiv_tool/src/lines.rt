@@ -1,12 +1,20 @@
-//! The lines of a namespace's rows.
-ghost use Rattle.std.specs.Prelude.{◌≡◌, ◌++◌, IfOk, OnOk};
-ghost use Rattle.std.specs.List.{flat_map};
-ghost use Rattle.oiv_tool.specs.Delimited.{row_line, delimited};
+//! The lines of an image's rows.
+ghost use Rattle.std.specs.Prelude.{◌≡◌, ◌++◌, ◌∷◌, [], OnOk};
+ghost use Rattle.inode_text.specs.Texts.{header};
+ghost use Rattle.oiv_tool.specs.Delimited.{row_line};
 
+use crate::row_text::{RowText, root_row};
+use image_codec::RowSink;
 use inode_text::{put_header, put_row};
-use ns_tree::{Namespace, Row};
+use ns_tree::{Inode, Row};
 use qj_num::OutOfMemory;
 use std::alloc::Global;
+
+/// The names of the columns, and a line for each row.
+#[derive(Drop)]
+pub(crate) struct Lines {
+    text: Vec<u8>,
+}
 
 fn put_line(out: &mut Vec<u8>, row: &Row) -> Result<(), OutOfMemory>
     ensures { OnOk result (out.new.items ≡ out.old.items ++ row_line row.now) }
@@ -16,23 +24,40 @@ fn put_line(out: &mut Vec<u8>, row: &Row) -> Result<(), OutOfMemory>
     Ok(())
 }
 
-// Appends a line for each row.
-fn put_lines(out: &mut Vec<u8>, namespace: &Namespace) -> Result<(), OutOfMemory>
-    ensures { OnOk result (out.new.items ≡ out.old.items ++ flat_map row_line namespace.now.pairs) }
+// Appends the names of the columns as a line.
+fn put_names(out: &mut Vec<u8>) -> Result<(), OutOfMemory>
+    ensures { OnOk result (out.new.items ≡ out.old.items ++ (header ++ 10 ∷ [])) }
 {
-    for i in 0..namespace.row_count() {
-        put_line(out, namespace.row(i))?;
-    }
+    put_header(out)?;
+    out.push(b'\n')?;
     Ok(())
 }
 
-/// The names of the columns, and a line for each row.
-pub(crate) fn delimited_text(alloc: Global, namespace: &Namespace) -> Result<Vec<u8>, OutOfMemory>
-    ensures { IfOk result (λ text. text.items ≡ delimited namespace.now.pairs) }
-{
-    let mut out = Vec::new(alloc);
-    put_header(&mut out)?;
-    out.push(b'\n')?;
-    put_lines(&mut out, namespace)?;
-    Ok(out)
+impl RowSink for Lines {
+    ghost use Rattle.std.specs.Prelude.{◌≡◌};
+    ghost use Rattle.oiv_tool.specs.Delimited.{delimited};
+
+    ghost has_taken = { λ lines rows. lines.text.items ≡ delimited rows };
+
+    fn begin(alloc: Global, root: Inode) -> Result<Lines, OutOfMemory> {
+        let root = root_row(alloc, root)?;
+        let mut text = Vec::new(alloc);
+        put_names(&mut text)?;
+        put_line(&mut text, &root)?;
+        Ok(Lines { text })
+    }
+
+    fn take_row(&mut self, _alloc: Global, row: Row) -> Result<(), OutOfMemory> {
+        put_line(&mut self.text, &row)
+    }
+}
+
+impl RowText for Lines {
+    ghost use Rattle.oiv_tool.specs.Delimited.{delimited};
+
+    ghost tell = { delimited };
+
+    fn text(self, _alloc: Global) -> Result<Vec<u8>, OutOfMemory> {
+        Ok(self.text)
+    }
 }

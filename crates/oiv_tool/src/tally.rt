@@ -1,12 +1,14 @@
 //! How many files there are of each size.
-ghost use Rattle.std.specs.Prelude.{◌≡◌, ◌++◌, ◌∷◌, [], ◌+◌, ◌<◌, ◌≤◌, ◌==◌, ℕ, List, length, map, get_or, IfOk, OnOk};
+ghost use Rattle.std.specs.Prelude.{◌≡◌, ◌++◌, ◌∷◌, [], ◌+◌, ◌<◌, ◌≤◌, ◌==◌, ℕ, List, length, map, get_or, OnOk};
 ghost use Rattle.std.specs.List.{flat_map};
 ghost use Rattle.ns_tree.specs.declared.inode.Row.{Row};
 ghost use Rattle.ns_tree.specs.Space.{IsInode, AreLengths};
-ghost use Rattle.oiv_tool.specs.Sizes.{class_of, one_if, line, lines_of, sizes, AreSizes, CountsDirectory, CountsFile, HasRoom};
+ghost use Rattle.oiv_tool.specs.Sizes.{class_of, one_if, line, lines_of, AreSizes, CountsDirectory, CountsFile, HasRoom};
 
+use crate::row_text::{RowText, root_row};
+use image_codec::RowSink;
 use inode_text::{put_wide, size_of};
-use ns_tree::{Inode, Namespace, Row};
+use ns_tree::{Inode, Row};
 use qj_num::OutOfMemory;
 use std::alloc::Global;
 
@@ -99,18 +101,6 @@ impl Tally {
     }
 }
 
-// Counts all rows.
-fn counted(namespace: &Namespace) -> Tally
-    ensures { AreSizes result namespace.now.pairs }
-{
-    namespace.show_invariant();
-    let mut tally = Tally::new();
-    for i in 0..namespace.row_count() {
-        tally.count(namespace.row(i));
-    }
-    tally
-}
-
 // Appends a word and a number as a line.
 fn put_line(out: &mut Vec<u8>, word: &str, number: u128) -> Result<(), OutOfMemory>
     ensures { OnOk result (out.new.items ≡ out.old.items ++ line (word.now, number)) }
@@ -153,12 +143,32 @@ fn put_tally(out: &mut Vec<u8>, tally: &Tally) -> Result<(), OutOfMemory>
     )
 }
 
-/// How many files there are of each size, and what there is in all.
-pub(crate) fn sizes_text(alloc: Global, namespace: &Namespace) -> Result<Vec<u8>, OutOfMemory>
-    ensures { IfOk result (λ text. text.items ≡ sizes namespace.now.pairs) }
-{
-    let tally = counted(namespace);
-    let mut out = Vec::new(alloc);
-    put_tally(&mut out, &tally)?;
-    Ok(out)
+impl RowSink for Tally {
+    ghost use Rattle.oiv_tool.specs.Sizes.{AreCounted};
+
+    ghost has_taken = { AreCounted };
+
+    fn begin(alloc: Global, root: Inode) -> Result<Tally, OutOfMemory> {
+        let root = root_row(alloc, root)?;
+        let mut tally = Tally::new();
+        tally.count(&root);
+        Ok(tally)
+    }
+
+    fn take_row(&mut self, _alloc: Global, row: Row) -> Result<(), OutOfMemory> {
+        self.count(&row);
+        Ok(())
+    }
+}
+
+impl RowText for Tally {
+    ghost use Rattle.oiv_tool.specs.Sizes.{sizes};
+
+    ghost tell = { sizes };
+
+    fn text(self, alloc: Global) -> Result<Vec<u8>, OutOfMemory> {
+        let mut out = Vec::new(alloc);
+        put_tally(&mut out, &self)?;
+        Ok(out)
+    }
 }

@@ -1,59 +1,29 @@
 //! The listings of an image.
-ghost use Rattle.std.specs.Prelude.{◌≡◌, ◌≢◌, ℕ, IfOk};
+ghost use Rattle.std.specs.Prelude.{◌≡◌, ◌≢◌, ℕ, List};
+ghost use Rattle.ns_tree.specs.declared.inode.Row.{Row};
 ghost use Rattle.ns_tree.specs.Space.{Space};
 ghost use Rattle.image_codec.specs.declared.image_cause.ImageCause.{ImageCause};
 ghost use Rattle.image_codec.specs.declared.image_cause.ImageCause.TheVariants as image;
 ghost use Rattle.image_codec.specs.declared.answer.ReadImage.TheVariants as readings;
 ghost use Rattle.image_codec.specs.Reading.{reading_of};
-ghost use Rattle.oiv_tool.specs.declared.tools.Question.{Question};
 ghost use Rattle.oiv_tool.specs.Delimited.{delimited};
 ghost use Rattle.oiv_tool.specs.Sizes.{sizes};
 ghost use Rattle.oiv_tool.specs.Entries.{rows_json};
-ghost use Rattle.oiv_tool.specs.Listed.{IsListed, IsAnswer, GivesText, GivesFault, told_by};
+ghost use Rattle.oiv_tool.specs.Listed.{IsListed, IsAnswer, GivesText, GivesFault};
 
 use crate::causes::cause_of;
-use crate::entries::json_text;
-use crate::lines::delimited_text;
+use crate::entries::Entries;
+use crate::lines::Lines;
 use crate::listing::Listing;
-use crate::tally::sizes_text;
-use image_codec::{ImageCause, ReadImage, read_image};
-use ns_tree::Namespace;
-use qj_num::OutOfMemory;
+use crate::row_text::RowText;
+use crate::tally::Tally;
+use image_codec::{ImageCause, Unread, read_rows};
 use std::alloc::Global;
-
-/// What is asked of an image.
-#[derive(Clone, Copy)]
-pub enum Question {
-    Delimited,
-    Sizes,
-    Json,
-}
-
-// What is told of a namespace.
-fn text_of(alloc: Global, namespace: &Namespace, question: Question) -> Result<Vec<u8>, OutOfMemory>
-    ensures { IfOk result (λ text. text.items ≡ told_by question namespace.now.pairs) }
-{
-    match question {
-        Question::Delimited => delimited_text(alloc, namespace),
-        Question::Sizes => sizes_text(alloc, namespace),
-        Question::Json => json_text(alloc, namespace),
-    }
-}
-
-// The answer for the namespace of an image.
-fn image_answer(alloc: Global, namespace: &Namespace, question: Question) -> Listing
-    ensures { (txid : ℕ) → IsAnswer (told_by question) (readings.Image namespace.now txid) result }
-{
-    match text_of(alloc, namespace, question) {
-        Ok(text) => Listing::Text(text),
-        Err(_) => Listing::OutOfMemory,
-    }
-}
 
 // The answer for bytes that aren't an image.
 fn fault_answer(place: usize, cause: ImageCause) -> Listing
     requires { cause ≢ image.Digest }
-    ensures { (question : Question) → IsAnswer (told_by question) (readings.BadImage place cause) result }
+    ensures { (tell : List Row → List ℕ) → IsAnswer tell (readings.BadImage place cause) result }
 {
     Listing::BadBytes {
         place: place as u64,
@@ -61,14 +31,25 @@ fn fault_answer(place: usize, cause: ImageCause) -> Listing
     }
 }
 
-// The answer to a question on the bytes of an image.
-fn answer(alloc: Global, bytes: &[u8], question: Question) -> Listing
-    ensures { IsListed (told_by question) bytes.now result }
+// The answer for the rows of an image.
+fn text_answer<T: RowText>(alloc: Global, rows: T) -> Listing
+    requires { (taken : List Row) × T.has_taken rows taken }
+    ensures { (space : Space) (txid : ℕ) → T.has_taken rows space.pairs → IsAnswer T.tell (readings.Image space txid) result }
 {
-    match read_image(alloc, bytes) {
-        Ok(ReadImage::Image { namespace, .. }) => image_answer(alloc, &namespace, question),
-        Ok(ReadImage::BadImage { place, cause }) => fault_answer(place, cause),
+    match rows.text(alloc) {
+        Ok(text) => Listing::Text(text),
         Err(_) => Listing::OutOfMemory,
+    }
+}
+
+// What is told of the rows of an image. Where a fault comes later, what was made so far is let go.
+fn answer<T: RowText>(alloc: Global, bytes: &[u8]) -> Listing
+    ensures { IsListed T.tell bytes.now result }
+{
+    match read_rows::<T>(alloc, bytes) {
+        Ok(rows) => text_answer(alloc, rows),
+        Err(Unread::BadBytes { place, cause }) => fault_answer(place, cause),
+        Err(Unread::OutOfMemory) => Listing::OutOfMemory,
     }
 }
 
@@ -83,7 +64,7 @@ pub fn delimited(alloc: Global, bytes: &[u8]) -> Listing
     // Other bytes are told by their first fault.
     ensures fault { (place : ℕ) (cause : ImageCause) → reading_of bytes.now ≡ readings.BadImage place cause → GivesFault place cause result }
 {
-    answer(alloc, bytes, Question::Delimited)
+    answer::<Lines>(alloc, bytes)
 }
 
 /// How many files of an image there are of each size: of 0 bytes, of up to 1024, 1024^2, 1024^3 and 1024^4, and of
@@ -97,7 +78,7 @@ pub fn sizes(alloc: Global, bytes: &[u8]) -> Listing
     // Other bytes are told by their first fault.
     ensures fault { (place : ℕ) (cause : ImageCause) → reading_of bytes.now ≡ readings.BadImage place cause → GivesFault place cause result }
 {
-    answer(alloc, bytes, Question::Sizes)
+    answer::<Tally>(alloc, bytes)
 }
 
 /// The inodes of an image as one array of JSON on a line, an object each in the order of a walk. The keys are the
@@ -111,5 +92,5 @@ pub fn json(alloc: Global, bytes: &[u8]) -> Listing
     // Other bytes are told by their first fault.
     ensures fault { (place : ℕ) (cause : ImageCause) → reading_of bytes.now ≡ readings.BadImage place cause → GivesFault place cause result }
 {
-    answer(alloc, bytes, Question::Json)
+    answer::<Entries>(alloc, bytes)
 }

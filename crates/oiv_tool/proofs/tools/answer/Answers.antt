@@ -1,20 +1,33 @@
-use Rattle.std.proofs.Common.{rules}
-use Rattle.image_codec.specs.declared.answer.ReadImage.TheVariants.{Image, BadImage}
-use Rattle.oiv_tool.specs.Listed.{told_by}
+use Rattle.std.proofs.Common.{subst, sym, ◌∙◌, Err}
+use Rattle.image_codec.specs.declared.answer.ReadImage.{ReadImage}
+use Rattle.image_codec.specs.declared.answer.ReadImage.TheVariants.{BadImage}
+use Rattle.image_codec.specs.declared.answer.Unread.{Unread}
+use Rattle.image_codec.specs.Reading.{reading_of}
+use Rattle.image_codec.specs.Rows.{HasRead}
+use Rattle.oiv_tool.specs.Listed.{IsAnswer}
 use Rattle.oiv_tool.proofs.NoDigest.{no_digest}
-use Rattle.oiv_tool.proofs.OneAnswer.{listed, no_memory}
+use Rattle.oiv_tool.proofs.OneAnswer.{listed, no_memory, some_taken, rows_told, fault_is}
 use Rattle.oiv_tool.proofs.tools.answer.Goals as goal
 
+pub text_answer-requires : goal.text_answer-requires
+text_answer-requires g c = some_taken g.T.RowSink.has_taken (reading_of c.args.bytes.now) c.in-Ok.rows c.in-Ok.ensures
+
 pub fault_answer-requires : goal.fault_answer-requires
-fault_answer-requires c = no_digest c.args.bytes.now c.in-Ok-BadImage.place c.in-Ok-BadImage.cause (search rules)
+fault_answer-requires g c digest =
+    no_digest c.args.bytes.now c.in-Err-BadBytes.place c.in-Err-BadBytes.cause
+    (fault_is g.T.RowSink.has_taken (reading_of c.args.bytes.now) c.in-Err-BadBytes.place c.in-Err-BadBytes.cause
+    (subst (λ (u : Unread). HasRead g.T.RowSink.has_taken (reading_of c.args.bytes.now) (Err u)) c.in-Err-BadBytes.field-0-is c.in-Err-BadBytes.ensures))
+    (sym c.in-Err-BadBytes.cause-is ∙ digest)
 
-pub returns-in-Ok-Image : goal.returns-in-Ok-Image
-returns-in-Ok-Image c =
-    listed (told_by c.args.question) c.args.bytes.now (Image c.in-Ok-Image.namespace c.in-Ok-Image.field-0-1) c.image_answer.result (search rules) (c.image_answer.ensures c.in-Ok-Image.field-0-1)
+pub returns-in-Ok : goal.returns-in-Ok
+returns-in-Ok g c = rows_told g.T.RowSink.has_taken g.T.RowText.tell (reading_of c.args.bytes.now) c.in-Ok.rows c.text_answer.result c.in-Ok.ensures c.text_answer.ensures
 
-pub returns-in-Ok-BadImage : goal.returns-in-Ok-BadImage
-returns-in-Ok-BadImage c =
-    listed (told_by c.args.question) c.args.bytes.now (BadImage c.in-Ok-BadImage.place c.in-Ok-BadImage.cause) c.fault_answer.result (search rules) (c.fault_answer.ensures c.args.question)
+pub returns-in-Err-BadBytes : goal.returns-in-Err-BadBytes
+returns-in-Err-BadBytes g c =
+    listed g.T.RowText.tell c.args.bytes.now (BadImage c.in-Err-BadBytes.place c.in-Err-BadBytes.cause) c.fault_answer.result
+    (fault_is g.T.RowSink.has_taken (reading_of c.args.bytes.now) c.in-Err-BadBytes.place c.in-Err-BadBytes.cause
+    (subst (λ (u : Unread). HasRead g.T.RowSink.has_taken (reading_of c.args.bytes.now) (Err u)) c.in-Err-BadBytes.field-0-is c.in-Err-BadBytes.ensures))
+    (subst (λ (r : ReadImage). IsAnswer g.T.RowText.tell r c.fault_answer.result) (λ i. BadImage (c.in-Err-BadBytes.place-is i) (c.in-Err-BadBytes.cause-is i)) (c.fault_answer.ensures g.T.RowText.tell))
 
-pub returns-in-Err : goal.returns-in-Err
-returns-in-Err c = no_memory (told_by c.args.question) c.args.bytes.now
+pub returns-in-Err-OutOfMemory : goal.returns-in-Err-OutOfMemory
+returns-in-Err-OutOfMemory g c = no_memory g.T.RowText.tell c.args.bytes.now
