@@ -1,5 +1,5 @@
 //! Calls of small files and of segments' files as values. Numbers of segments are from 1 to 2^62.
-ghost use Rattle.std.specs.Prelude.{◌≤◌, ◌<◌, ◌^◌};
+ghost use Rattle.std.specs.Prelude.{◌≡◌, ◌≤◌, ◌<◌, ◌^◌, length};
 
 use crate::disks::{line, one};
 use qj_disk::UntoldDisk;
@@ -66,6 +66,15 @@ pub fn offset(rt: &impl Abort, at: u64) -> u64
     at
 }
 
+// A name of a test, which has at most 60 bytes.
+fn short<'a>(rt: &impl Abort, name: &'a str) -> &'a str
+    ensures name { result.now ≡ name.now }
+    ensures short { length result.now ≤ 60 }
+{
+    assert!(rt; name.len() <= 60);
+    name
+}
+
 /// Whether a put is done; memory is ample.
 pub fn is_put(rt: &impl Abort, put: Put) -> bool {
     match put {
@@ -89,30 +98,25 @@ pub fn is_appended(rt: &impl Abort, appended: Appended, at: u64, count: usize) -
 }
 
 /// Makes the call. False where the disk failed.
-pub fn put_file(rt: &impl Abort, alloc: Global, disk: &mut UntoldDisk, step: &FileStep) -> bool {
+pub fn put_file(rt: &impl Abort, disk: &mut UntoldDisk, step: &FileStep) -> bool {
     let put = match step {
-        FileStep::Number(name, value) => { NumberFile::put(alloc, disk, name, number(rt, *value)) }
+        FileStep::Number(name, value) => {
+            NumberFile::put(disk, short(rt, name), number(rt, *value))
+        }
         FileStep::Record(start, epoch, end) => PaxosFile::put(
-            alloc,
             disk,
             number(rt, *start),
             number(rt, *epoch),
             number(rt, *end),
         ),
-        FileStep::NoRecord(start) => PaxosFile::remove(alloc, disk, number(rt, *start)),
-        FileStep::Bytes(name, bytes) => put_bytes(alloc, disk, name, bytes),
+        FileStep::NoRecord(start) => PaxosFile::remove(disk, number(rt, *start)),
+        FileStep::Bytes(name, bytes) => put_bytes(disk, short(rt, name), bytes),
     };
     is_put(rt, put)
 }
 
-fn discard_line(
-    rt: &impl Abort,
-    alloc: Global,
-    disk: &mut UntoldDisk,
-    end: u64,
-    is_final: bool,
-) -> bool {
-    is_put(rt, discard(alloc, disk, &line(number(rt, end), is_final)))
+fn discard_line(rt: &impl Abort, disk: &mut UntoldDisk, end: u64, is_final: bool) -> bool {
+    is_put(rt, discard(disk, &line(number(rt, end), is_final)))
 }
 
 fn is_completed(rt: &impl Abort, alloc: Global, disk: &mut UntoldDisk) -> bool {
@@ -133,10 +137,7 @@ pub fn change_segment(
 ) -> Result<bool, Fail> {
     let done = match step {
         SegmentStep::Create(start, epoch) => {
-            is_put(
-                rt,
-                create(alloc, disk, number(rt, *start), number(rt, *epoch)),
-            )
+            is_put(rt, create(disk, number(rt, *start), number(rt, *epoch)))
         }
         SegmentStep::Append(start, at, first, body) => {
             let batch = one(rt, alloc, number(rt, *first), body)?;
@@ -147,12 +148,9 @@ pub fn change_segment(
             append_behind_gate(disk, name, offset(rt, *at), bytes).is_ok()
         }
         SegmentStep::Finalize(start, end) => {
-            is_put(
-                rt,
-                finalize(alloc, disk, number(rt, *start), number(rt, *end)),
-            )
+            is_put(rt, finalize(disk, number(rt, *start), number(rt, *end)))
         }
-        SegmentStep::Discard(end, is_final) => discard_line(rt, alloc, disk, *end, *is_final),
+        SegmentStep::Discard(end, is_final) => discard_line(rt, disk, *end, *is_final),
         SegmentStep::Replace(epoch, first, body) => {
             let batch = one(rt, alloc, number(rt, *first), body)?;
             is_put(rt, replace(alloc, disk, number(rt, *epoch), &batch))

@@ -35,13 +35,11 @@ pub fn make_effect(
     step: &NodeStep,
 ) -> Result<bool, Fail> {
     let done = match step {
-        NodeStep::Number(name, value) => {
-            is_put(rt, put_number(alloc, disk, *name, number(rt, *value)))
-        }
+        NodeStep::Number(name, value) => { is_put(rt, put_number(disk, *name, number(rt, *value))) }
         NodeStep::Begin(start, epoch) => {
             is_put(
                 rt,
-                begin_segment(alloc, disk, number(rt, *start), number(rt, *epoch)),
+                begin_segment(disk, number(rt, *start), number(rt, *epoch)),
             )
         }
         NodeStep::Append(at, first, body) => {
@@ -57,14 +55,11 @@ pub fn make_effect(
             )
         }
         NodeStep::Finalize(end, accepted) => {
-            is_put(
-                rt,
-                finalize_segment(alloc, disk, 1, number(rt, *end), *accepted),
-            )
+            is_put(rt, finalize_segment(disk, 1, number(rt, *end), *accepted))
         }
         NodeStep::Remove(end, is_final, accepted) => {
             let line = line(number(rt, *end), *is_final);
-            is_put(rt, remove_segment(alloc, disk, &line, *accepted))
+            is_put(rt, remove_segment(disk, &line, *accepted))
         }
     };
     Ok(done)

@@ -76,7 +76,7 @@ fn take(rt: &impl Abort, alloc: Global, disk: &mut UntoldDisk, step: &Step) -> R
     match step {
         Step::Disk(step) => call_disk(disk, step),
         Step::Fault(fault) => befall(alloc, disk, fault),
-        Step::File(step) => Ok(put_file(rt, alloc, disk, step)),
+        Step::File(step) => Ok(put_file(rt, disk, step)),
         Step::Segment(step) => change_segment(rt, alloc, disk, step),
         Step::Node(step) => make_effect(rt, alloc, disk, step),
         Step::Tells(want) => is_told(rt, disk, want),

@@ -45,7 +45,7 @@ fn check_file<D: Disk>(
             Ok(judge_final(read, start, last, before))
         }
         FileRole::Image { txid } => check_image(alloc, disk, txid),
-        FileRole::Digest { txid } => check_digest(alloc, disk, txid),
+        FileRole::Digest { txid } => check_digest(disk, txid),
         FileRole::Passing => Ok(None),
         FileRole::Unknown => Ok(Some(Finding {
             rule: Rule::KnownName,

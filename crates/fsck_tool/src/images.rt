@@ -71,11 +71,7 @@ pub fn check_image<D: Disk>(
 }
 
 /// What is told of the file of the digest of the image of a txid of at most 2^62.
-pub fn check_digest<D: Disk>(
-    alloc: Global,
-    disk: &mut D,
-    txid: u64,
-) -> Result<Option<Finding>, DiskFail>
+pub fn check_digest<D: Disk>(disk: &mut D, txid: u64) -> Result<Option<Finding>, DiskFail>
     requires { txid ≤ 2 ^ 62 }
 
     ensures tells { D.tells disk.old ↔ D.tells disk.new }
@@ -83,7 +79,7 @@ pub fn check_digest<D: Disk>(
     ensures disk { D.tells disk.old → Rests (D.view disk.old) (D.view disk.new) }
     ensures cause { HasCause (D.faults disk.old) (D.faults disk.new) (D.steady disk.old) (D.steady disk.new) result }
 {
-    let names = ImageNames::new(alloc, txid)?;
+    let names = ImageNames::new(txid);
     match disk.length(names.itself())? {
         Some(_) => Ok(None),
         None => Ok(unpaired()),

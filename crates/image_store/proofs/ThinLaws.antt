@@ -22,6 +22,7 @@ use Rattle.image_store.specs.Lists.{AllSmall, older_than}
 use Rattle.image_store.specs.Saves.{KeepsImage, Removes, Thins, IsRemoved, AreRemoved, Retains}
 use Rattle.image_store.proofs.NameLaws.{parts_apart, same_txid}
 use Rattle.image_store.proofs.Runs.{quiet_then, keeps_then}
+use Rattle.qj_disk.proofs.Rises.{rose_since}
 
 -- ## One list
 less_lt : (x y : ℕ) → nat_cmp x y ≡ Less → x < y
@@ -132,9 +133,6 @@ pub record IsThinning (told tells : Type 0) (v0 v : View) (txids done : List ℕ
   pub later : f0 ≤ f
   pub steady : was_steady → is_steady
   pub same : was_steady → f ≡ f0
-
-rose_since : (a b c : ℕ) → a ≤ b → Rose b c → Rose a c
-rose_since a b c le rose = omega (arith, le, rose)
 
 module _ (told : Type 0) (v0 : View) (sound0 : told → IsSound v0) (txids : List ℕ) (small : AllSmall txids) (f0 : ℕ) (was_steady : Type 0) where
   pub begun : IsThinning told told v0 v0 txids [] f0 f0 was_steady was_steady

@@ -84,7 +84,7 @@ pub fn load_bytes<D: Disk>(alloc: Global, disk: &mut D, txid: u64) -> Result<Loa
     if txid > MAX {
         return Ok(LoadedBytes::NoImage);
     }
-    let names = ImageNames::new(alloc, txid)?;
+    let names = ImageNames::new(txid);
     load_named(alloc, disk, &names)
 }
 

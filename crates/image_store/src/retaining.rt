@@ -25,7 +25,7 @@ fn remove_named<D: Disk>(disk: &mut D, names: &ImageNames) -> Result<(), DiskFai
 }
 
 // Removes the files of the image of this txid.
-fn remove_image<D: Disk>(alloc: Global, disk: &mut D, txid: u64) -> Result<(), DiskFail>
+fn remove_image<D: Disk>(disk: &mut D, txid: u64) -> Result<(), DiskFail>
     requires { txid ≤ 2 ^ 62 }
 
     ensures tells { D.tells disk.old ↔ D.tells disk.new }
@@ -33,12 +33,12 @@ fn remove_image<D: Disk>(alloc: Global, disk: &mut D, txid: u64) -> Result<(), D
     ensures removed { D.tells disk.old → OnOk result (IsRemoved txid (D.view disk.new).seen) }
     ensures cause { HasCause (D.faults disk.old) (D.faults disk.new) (D.steady disk.old) (D.steady disk.new) result }
 {
-    let names = ImageNames::new(alloc, txid)?;
+    let names = ImageNames::new(txid);
     remove_named(disk, &names)
 }
 
 // Removes the images of these txids.
-fn remove_all<D: Disk>(alloc: Global, disk: &mut D, txids: &[u64]) -> Result<(), DiskFail>
+fn remove_all<D: Disk>(disk: &mut D, txids: &[u64]) -> Result<(), DiskFail>
     requires { AllSmall txids.now }
 
     ensures tells { D.tells disk.old ↔ D.tells disk.new }
@@ -47,7 +47,7 @@ fn remove_all<D: Disk>(alloc: Global, disk: &mut D, txids: &[u64]) -> Result<(),
     ensures cause { HasCause (D.faults disk.old) (D.faults disk.new) (D.steady disk.old) (D.steady disk.new) result }
 {
     for txid in txids {
-        remove_image(alloc, disk, *txid)?;
+        remove_image(disk, *txid)?;
     }
     Ok(())
 }
@@ -67,7 +67,7 @@ fn retain_by<D: Disk>(alloc: Global, disk: &mut D, count: u64) -> Result<(), Dis
     ensures cause { HasCause (D.faults disk.old) (D.faults disk.new) (D.steady disk.old) (D.steady disk.new) result }
 {
     let txids = counting(alloc, disk)?;
-    remove_all(alloc, disk, older(&txids, count))
+    remove_all(disk, older(&txids, count))
 }
 
 /// Removes all but the `count` newest of the images that count, the oldest first, and of each its own

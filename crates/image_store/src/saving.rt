@@ -28,7 +28,7 @@ fn names_and_line(
     requires { txid ≤ 2 ^ 62 }
     ensures { IfOk result (λ both. (both.0 ≡ txid) × (string_bytes both.1 ≡ digest_line txid (md5 bytes.now))) }
 {
-    let names = ImageNames::new(alloc, txid)?;
+    let names = ImageNames::new(txid);
     let line = line_of(alloc, &names, &digest_of(bytes))?;
     Ok((names, line))
 }

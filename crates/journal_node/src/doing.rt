@@ -68,7 +68,6 @@ fn note_row(
 }
 
 fn do_number<D: Disk>(
-    alloc: Global,
     disk: &mut D,
     table: &mut SegmentTable,
     request: &Request,
@@ -90,11 +89,10 @@ fn do_number<D: Disk>(
     ensures cause { HasCause (D.faults disk.old) (D.faults disk.new) (D.steady disk.old) (D.steady disk.new) result }
 {
     let (_, _) = (table, request);
-    outcome(put_number(alloc, disk, number, value))
+    outcome(put_number(disk, number, value))
 }
 
 fn do_begin<D: Disk>(
-    alloc: Global,
     disk: &mut D,
     table: &mut SegmentTable,
     request: &Request,
@@ -115,7 +113,7 @@ fn do_begin<D: Disk>(
     ensures cause { HasCause (D.faults disk.old) (D.faults disk.new) (D.steady disk.old) (D.steady disk.new) result }
 {
     note_row(table, request, Deed::Begin { start, epoch }, 0)?;
-    outcome(begin_segment(alloc, disk, start, epoch))
+    outcome(begin_segment(disk, start, epoch))
 }
 
 // The batch is that of the request.
@@ -240,7 +238,6 @@ fn do_accept<D: Disk>(
 }
 
 fn do_finalize<D: Disk>(
-    alloc: Global,
     disk: &mut D,
     table: &mut SegmentTable,
     request: &Request,
@@ -267,14 +264,13 @@ fn do_finalize<D: Disk>(
         end,
         accepted,
     };
-    match finalize_segment(alloc, disk, start, end, accepted) {
+    match finalize_segment(disk, start, end, accepted) {
         Put::Done => note_row(table, request, deed, 0),
         failed => outcome(failed),
     }
 }
 
 fn do_remove<D: Disk>(
-    alloc: Global,
     disk: &mut D,
     table: &mut SegmentTable,
     request: &Request,
@@ -301,7 +297,7 @@ fn do_remove<D: Disk>(
         is_final: info.is_final,
         epoch: info.epoch,
     };
-    match remove_segment(alloc, disk, &line, info.accepted) {
+    match remove_segment(disk, &line, info.accepted) {
         Put::Done => note_row(table, request, Deed::Remove { info }, 0),
         failed => outcome(failed),
     }
@@ -330,16 +326,16 @@ fn do_calls<D: Disk>(
     ensures cause { HasCause (D.faults disk.old) (D.faults disk.new) (D.steady disk.old) (D.steady disk.new) result }
 {
     match deed {
-        Deed::Number { number, value } => do_number(alloc, disk, table, request, number, value),
-        Deed::Begin { start, epoch } => do_begin(alloc, disk, table, request, start, epoch),
+        Deed::Number { number, value } => do_number(disk, table, request, number, value),
+        Deed::Begin { start, epoch } => do_begin(disk, table, request, start, epoch),
         Deed::Append { start, at } => do_append(alloc, disk, table, request, start, at),
         Deed::Accept { epoch, again } => do_accept(alloc, disk, table, request, epoch, again),
         Deed::Finalize {
             start,
             end,
             accepted,
-        } => do_finalize(alloc, disk, table, request, start, end, accepted),
-        Deed::Remove { info } => do_remove(alloc, disk, table, request, info),
+        } => do_finalize(disk, table, request, start, end, accepted),
+        Deed::Remove { info } => do_remove(disk, table, request, info),
     }
 }
 

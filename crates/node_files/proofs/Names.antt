@@ -36,6 +36,11 @@ numbers_apart Writer Committed ne = λ same. let p : 17 ≡ 14 = ap long same in
 numbers_apart Committed Promised ne = λ same. let p : 14 ≡ 19 = ap long same in omega (arith, p)
 numbers_apart Committed Writer ne = λ same. let p : 14 ≡ 17 = ap long same in omega (arith, p)
 
+pub number_short : (n : NodeNumber) → length (number_name n) ≤ 60
+number_short Promised = omega arith
+number_short Writer = omega arith
+number_short Committed = omega arith
+
 pub temporaries_apart : (n m : NodeNumber) → n ≢ m → temporary (number_name n) ≢ temporary (number_name m)
 temporaries_apart Promised Promised ne = absurd (ne refl)
 temporaries_apart Writer Writer ne = absurd (ne refl)

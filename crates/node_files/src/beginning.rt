@@ -12,14 +12,13 @@ ghost use Rattle.node_files.specs.Deeds.{CanBegin, Does, IsCutAt, KeepsOthers};
 use qj_disk::Disk;
 use segment_file::create;
 use small_files::Put;
-use std::alloc::Global;
 
 /// Begins the segment with this start under this epoch, both from 1 to 2^62, where no final segment has
 /// this start and none in progress that holds an edit: three disk calls, of which the last decides. A
 /// crash at any moment leaves files that stand for the state without the new segment or with it, and once
 /// this answered Done only with it. Frames can then be appended to it at 24, and to other segments as
 /// before. `DiskFault` and `OutOfMemory` leave either.
-pub fn begin_segment<D: Disk>(alloc: Global, disk: &mut D, start: u64, epoch: u64) -> Put
+pub fn begin_segment<D: Disk>(disk: &mut D, start: u64, epoch: u64) -> Put
     requires start { (1 ≤ start) × (start ≤ 2 ^ 62) }
     requires epoch { (1 ≤ epoch) × (epoch ≤ 2 ^ 62) }
 
@@ -34,5 +33,5 @@ pub fn begin_segment<D: Disk>(alloc: Global, disk: &mut D, start: u64, epoch: u6
     ensures reads { D.reads disk.new ≡ D.reads disk.old }
     ensures cause { HasCause (D.faults disk.old) (D.faults disk.new) (D.steady disk.old) (D.steady disk.new) (put_result result) }
 {
-    create(alloc, disk, start, epoch)
+    create(disk, start, epoch)
 }

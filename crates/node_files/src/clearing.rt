@@ -8,11 +8,10 @@ ghost use Rattle.node_files.specs.Deeds.{Clears, clear_calls};
 
 use qj_disk::Disk;
 use small_files::{PaxosFile, Put};
-use std::alloc::Global;
 
 /// Removes the record of the segment with this start, a txid of at most 2^62, in one disk call, where the
 /// segment was `accepted` and the record so is there. Else it does nothing.
-pub fn clear_record<D: Disk>(alloc: Global, disk: &mut D, start: u64, accepted: bool) -> Put
+pub fn clear_record<D: Disk>(disk: &mut D, start: u64, accepted: bool) -> Put
     requires start { start ≤ 2 ^ 62 }
     requires there { D.tells disk.old → accepted ≡ true → IsSome ((D.view disk.old).seen (name_of start Record)) }
 
@@ -25,5 +24,5 @@ pub fn clear_record<D: Disk>(alloc: Global, disk: &mut D, start: u64, accepted: 
     if !accepted {
         return Put::Done;
     }
-    PaxosFile::remove(alloc, disk, start)
+    PaxosFile::remove(disk, start)
 }

@@ -16,20 +16,13 @@ use crate::clearing::clear_record;
 use qj_disk::Disk;
 use segment_file::finalize;
 use small_files::Put;
-use std::alloc::Global;
 
 /// Makes the segment in progress with this start final, with this last txid, both from 1 to 2^62: one disk
 /// call renames its file, which is there, and decides. Where the segment was `accepted`, its record, which
 /// is there, no longer counts, and a second call removes it. A crash at any moment leaves files that stand
 /// for the state with the segment in progress or final, and once this answered Done only final. `DiskFault`
 /// and `OutOfMemory` leave either.
-pub fn finalize_segment<D: Disk>(
-    alloc: Global,
-    disk: &mut D,
-    start: u64,
-    end: u64,
-    accepted: bool,
-) -> Put
+pub fn finalize_segment<D: Disk>(disk: &mut D, start: u64, end: u64, accepted: bool) -> Put
     requires start { (1 ≤ start) × (start ≤ 2 ^ 62) }
     requires end { end ≤ 2 ^ 62 }
     requires there { D.tells disk.old → IsSome ((D.view disk.old).seen (name_of start InProgress)) }
@@ -45,8 +38,8 @@ pub fn finalize_segment<D: Disk>(
     ensures reads { D.reads disk.new ≡ D.reads disk.old }
     ensures cause { HasCause (D.faults disk.old) (D.faults disk.new) (D.steady disk.old) (D.steady disk.new) (put_result result) }
 {
-    match finalize(alloc, disk, start, end) {
-        Put::Done => clear_record(alloc, disk, start, accepted),
+    match finalize(disk, start, end) {
+        Put::Done => clear_record(disk, start, accepted),
         failed => failed,
     }
 }

@@ -14,13 +14,12 @@ ghost use Rattle.node_files.specs.Deeds.{number_effect, Does, IsCutAt};
 use crate::node_number::NodeNumber;
 use qj_disk::Disk;
 use small_files::{NumberFile, Put};
-use std::alloc::Global;
 
 /// Puts this number, of at most 2^62, into its file, whose temporary file isn't there: three disk calls,
 /// of which the last decides. A crash at any moment leaves files that stand for the state with the old
 /// number or with the new one, and once this answered Done only with the new one. Other files
 /// stay as they are. `DiskFault` and `OutOfMemory` leave either.
-pub fn put_number<D: Disk>(alloc: Global, disk: &mut D, number: NodeNumber, value: u64) -> Put
+pub fn put_number<D: Disk>(disk: &mut D, number: NodeNumber, value: u64) -> Put
     requires value { value ≤ 2 ^ 62 }
     requires absent { D.tells disk.old → (D.view disk.old).seen (temporary (number_name number)) ≡ None }
 
@@ -35,5 +34,5 @@ pub fn put_number<D: Disk>(alloc: Global, disk: &mut D, number: NodeNumber, valu
     ensures reads { D.reads disk.new ≡ D.reads disk.old }
     ensures cause { HasCause (D.faults disk.old) (D.faults disk.new) (D.steady disk.old) (D.steady disk.new) (put_result result) }
 {
-    NumberFile::put(alloc, disk, number.name(), value)
+    NumberFile::put(disk, number.name(), value)
 }

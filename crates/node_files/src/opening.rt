@@ -87,11 +87,9 @@ fn bad_progress(alloc: Global, start: u64) -> OpenedFiles
     requires { start ≤ 2 ^ 62 }
     ensures { IsBadAt (name_of start InProgress) result }
 {
-    match progress_name(alloc, start) {
-        Ok(name) => match Name::from_slice(alloc, name.as_bytes()) {
-            Ok(name) => OpenedFiles::BadFile { name },
-            Err(_) => OpenedFiles::OutOfMemory,
-        },
+    let name = progress_name(start);
+    match Name::from_slice(alloc, name.as_str().as_bytes()) {
+        Ok(name) => OpenedFiles::BadFile { name },
         Err(_) => OpenedFiles::OutOfMemory,
     }
 }

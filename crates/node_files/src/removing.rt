@@ -17,19 +17,13 @@ use journal_core::SegmentLine;
 use qj_disk::Disk;
 use segment_file::discard;
 use small_files::Put;
-use std::alloc::Global;
 
 /// Removes this segment, whose file is there: one disk call removes the file, and decides. Where the
 /// segment was `accepted`, its record, which is there, no longer counts, and a second call removes it. A
 /// crash at any moment leaves files that stand for the state with the segment or without it, and once this
 /// answered Done only without it. Its start is from 1 to 2^62 and its end at most 2^62; the end counts for
 /// a final one only. `DiskFault` and `OutOfMemory` leave either.
-pub fn remove_segment<D: Disk>(
-    alloc: Global,
-    disk: &mut D,
-    segment: &SegmentLine,
-    accepted: bool,
-) -> Put
+pub fn remove_segment<D: Disk>(disk: &mut D, segment: &SegmentLine, accepted: bool) -> Put
     requires start { (1 ≤ segment.now.start) × (segment.now.start ≤ 2 ^ 62) }
     requires end { segment.now.end ≤ 2 ^ 62 }
     requires there { D.tells disk.old → IsSome ((D.view disk.old).seen (name_of segment.now.start (kind_of segment.now.end segment.now.is_final))) }
@@ -47,8 +41,8 @@ pub fn remove_segment<D: Disk>(
     ensures reads { D.reads disk.new ≡ D.reads disk.old }
     ensures cause { HasCause (D.faults disk.old) (D.faults disk.new) (D.steady disk.old) (D.steady disk.new) (put_result result) }
 {
-    match discard(alloc, disk, segment) {
-        Put::Done => clear_record(alloc, disk, segment.start, accepted),
+    match discard(disk, segment) {
+        Put::Done => clear_record(disk, segment.start, accepted),
         failed => failed,
     }
 }

@@ -14,6 +14,7 @@ use Rattle.segment_file.proofs.RepairLemmas.{names_cases}
 use Rattle.segment_file.proofs.MendLemmas.{mends_keeps, mends_then, one_kind}
 use Rattle.segment_file.proofs.TemporaryLemmas.{not_temporary, tmp_temporary}
 use Rattle.segment_file.proofs.TurnLemmas.{Turn, not_done, is_listed}
+use Rattle.qj_disk.proofs.Rises.{rose_since}
 
 -- the final files that are there stay
 pub finals_stay : (starts : List ℕ) (d c : Files) → ((name : List ℕ) (start : ℕ) → IsFinalFile name start → c name ≡ d name) → AreFinals starts d → AreFinals starts c
@@ -85,9 +86,6 @@ module _ (P Free : List ℕ → Type 0) (apart : (name : List ℕ) → P name �
       by : (name : List ℕ) → P name → (file : Option (List ℕ)) → a name ≡ file → c name ≡ None
       by name p None is = ⊎_elim (λ same. same ∙ is) (λ gone. gone.1) (cleared.only name (apart name p))
       by name p (Some bytes) is = cleared.gone name (lists.all name (subst IsSome (sym is) refl)) p
-
-  rose_since : (a b c : ℕ) → a ≤ b → Rose b c → Rose a c
-  rose_since a b c le rose = omega (arith, le, rose)
 
   module _ (told : Type 0) (v0 : View) (sound : told → IsSound v0) (names : List (List ℕ)) (f0 : ℕ) (was_steady : Type 0) where
     pub begun : {T : Type 0} (tells : Type 0) (v : View) (f : ℕ) (is_steady : Type 0) (r : Result T DiskFail) → told ↔ tells → (told → Rests v0 v) → (told → Lists names v0.seen) → HasCause f0 f was_steady is_steady r

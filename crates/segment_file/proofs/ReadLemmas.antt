@@ -12,10 +12,7 @@ use Rattle.segment_file.specs.declared.given.Given.{Given}
 use Rattle.segment_file.specs.declared.given.Given.TheVariants as given
 use Rattle.segment_file.specs.Scans.{IsFileScan, ScansFile}
 use Rattle.segment_file.specs.Reads.{Serves, IsFound, IsGiven, IsBad}
-
-some_length : (xs : List (List ℕ)) → xs ≢ [] → 0 < length xs
-some_length [] some = absurd (some refl)
-some_length (x ∷ xs) some = omega arith
+use Rattle.qj_num.proofs.Lists.{some_length}
 
 module _ (start end : ℕ) (is_final : Bool) (from : ℕ) (bytes : List ℕ) (f : FileScan) (is : IsFileScan start bytes (from - start) 256 f) where
   one : (bodies : List (List ℕ)) → Serves start end is_final from (Some bytes) bodies → bodies ≡ is.bodies

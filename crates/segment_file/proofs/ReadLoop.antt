@@ -13,8 +13,8 @@ use Rattle.segment_file.specs.declared.segment_row.SegmentRow.{SegmentRow}
 use Rattle.segment_file.specs.declared.opened.Opened.{Opened}
 use Rattle.segment_file.specs.declared.opened.Opened.TheVariants as opened
 use Rattle.segment_file.specs.OpenSteps.{IsNoSegment, IsNewRow, IsAdded, IsStep, AreRead, IsReadWhole}
-use Rattle.segment_file.proofs.SyncLemmas.{rose_since}
 use Rattle.segment_file.proofs.OpenReads.{IsReadTo, begun as read_nothing, skipped, added, refused, all_read}
+use Rattle.qj_disk.proofs.Rises.{rose_since}
 
 -- nothing changes while nothing changes
 pub rests_same : (v : View) → Rests v v

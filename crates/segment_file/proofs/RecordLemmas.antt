@@ -19,7 +19,7 @@ use Rattle.segment_file.specs.Opening.{IsBadRecordFile, IsFirst}
 use Rattle.segment_file.proofs.AcceptLemmas.{record_name}
 use Rattle.segment_file.proofs.TurnLemmas.{Turn, less_is_done}
 use Rattle.segment_file.proofs.OpenFiles.{one_epoch}
-use Rattle.segment_file.proofs.SyncLemmas.{rose_since}
+use Rattle.qj_disk.proofs.Rises.{rose_since}
 
 module _ (start : ℕ) (files : Files) where
   pub found_epoch : (epoch end : ℕ) → (bytes : List ℕ) × (files (paxos_name start) ≡ Some bytes) × IsRecord bytes (record { epoch = epoch; end = end }) → HasEpoch (files (name_of start Record)) epoch

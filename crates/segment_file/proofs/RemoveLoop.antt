@@ -10,8 +10,8 @@ use Rattle.segment_file.specs.Opening.{SegmentsStable, Repairs, IsRepaired}
 use Rattle.segment_file.specs.Opened.{AreOpened}
 use Rattle.segment_file.specs.declared.segment_row.SegmentRow.{SegmentRow}
 use Rattle.segment_file.specs.OpenSteps.{RemovesIdle, AreRead}
-use Rattle.segment_file.proofs.SyncLemmas.{rose_since}
 use Rattle.segment_file.proofs.OpenRemoves.{IsLess, less_repaired, IsRemovedTo, nothing_removed, removed_more, next_there, all_opened, step_less, step_stable, step_quiet, repairs_nothing}
+use Rattle.qj_disk.proofs.Rises.{rose_since}
 
 pub record IsRemoving (told tells : Type 0) (v0 v : View) (rows : List SegmentRow) (names : List (List ℕ)) (i : ℕ) (f0 f : ℕ) (was_steady is_steady : Type 0) : Type 0 where
   pub tells_on : told ↔ tells

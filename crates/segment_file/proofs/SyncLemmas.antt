@@ -9,6 +9,7 @@ use Rattle.qj_disk.specs.Runs.{Quiet, quiet_start, quiet_keeps}
 use Rattle.qj_disk.specs.declared.disk.DiskFail.{DiskFail}
 use Rattle.qj_disk.specs.declared.disk.DiskFail.TheVariants.{Failed}
 use Rattle.segment_file.specs.Opening.{IsLastingFile, Settled, SegmentsStable, SyncsOnly}
+use Rattle.qj_disk.proofs.Rises.{rose_since}
 
 abbrev pub AllSettled : View → List (List ℕ) → Type 0
 AllSettled v [] = Unit {0}
@@ -25,9 +26,6 @@ stays v w name keeps stable c left = stable c (keeps.crash c left) ∙ sym (ap (
 pub settled_stays : (v w : View) (names : List (List ℕ)) → Keeps v w → AllSettled v names → AllSettled w names
 settled_stays v w [] keeps all = tt
 settled_stays v w (name ∷ names) keeps all = (λ own. stays v w name keeps (all.0 own), settled_stays v w names keeps all.1)
-
-pub rose_since : (a b c : ℕ) → a ≤ b → Rose b c → Rose a c
-rose_since a b c le rose = omega (arith, le, rose)
 
 pub same_quiet : (v : View) → IsSound v → Quiet IsSame v v
 same_quiet v sound = quiet_start IsSame v sound (λ c now. record { files = λ name. refl })

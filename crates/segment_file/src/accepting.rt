@@ -1,5 +1,5 @@
 //! A recovery is accepted.
-ghost use Rattle.std.specs.Prelude.{◌≡◌, ◌≢◌, ◌↔◌, ◌≤◌, ◌^◌, List, ◌∷◌, [], None, IsSome, IfOk, OnOk, string_bytes, false};
+ghost use Rattle.std.specs.Prelude.{◌≡◌, ◌≢◌, ◌↔◌, ◌≤◌, ◌^◌, List, ◌∷◌, [], None, IsSome, IfOk, OnOk, false};
 ghost use Rattle.qj_disk.specs.Files.{Moves};
 ghost use Rattle.qj_disk.specs.Calls.{Atomic, Effect, HasCause};
 ghost use Rattle.qj_disk.specs.Runs.{Quiet};
@@ -36,18 +36,14 @@ fn stage_by<D: Disk>(disk: &mut D, way: &str, bytes: &[u8]) -> Result<(), DiskFa
     disk.sync(way)
 }
 
-// The name and the bytes of the content of an acceptance.
-fn content(alloc: Global, epoch: u64, batch: &Batch) -> Result<(String, Vec<u8>), AllocError>
-    requires start { batch.now.first ≤ 2 ^ 62 }
-    requires last { last_txid batch.now ≤ 2 ^ 62 }
-    ensures name { IfOk result (λ both. string_bytes both.0 ≡ name_of batch.now.first (UnderWay epoch)) }
-    ensures bytes { IfOk result (λ both. both.1.items ≡ content_of batch.now.first epoch (frame_bytes batch.now)) }
+// The bytes of the content of an acceptance.
+fn content(alloc: Global, epoch: u64, batch: &Batch) -> Result<Vec<u8>, AllocError>
+    requires { last_txid batch.now ≤ 2 ^ 62 }
+    ensures bytes { IfOk result (λ v. v.items ≡ content_of batch.now.first epoch (frame_bytes batch.now)) }
     ensures good { OnOk result (broken_rule batch.now.first batch.now ≡ None) }
 {
-    let way = under_way_name(alloc, batch.first(), epoch)?;
     let frame = good_frame(alloc, batch)?;
-    let bytes = content_bytes(alloc, batch.first(), epoch, &frame)?;
-    Ok((way, bytes))
+    content_bytes(alloc, batch.first(), epoch, &frame)
 }
 
 // Writes the content of an acceptance beside the file in progress.
@@ -63,19 +59,15 @@ fn stage<D: Disk>(alloc: Global, disk: &mut D, epoch: u64, batch: &Batch) -> Res
     ensures reads { D.reads disk.new ≡ D.reads disk.old }
     ensures cause { HasCause (D.faults disk.old) (D.faults disk.new) (D.steady disk.old) (D.steady disk.new) result }
 {
+    let way = under_way_name(batch.first(), epoch);
     match content(alloc, epoch, batch) {
-        Ok((way, bytes)) => stage_by(disk, way.as_str(), &bytes),
+        Ok(bytes) => stage_by(disk, way.as_str(), &bytes),
         Err(_) => Err(DiskFail::OutOfMemory),
     }
 }
 
 // Puts the record of an acceptance.
-fn put_record<D: Disk>(
-    alloc: Global,
-    disk: &mut D,
-    epoch: u64,
-    batch: &Batch,
-) -> Result<(), DiskFail>
+fn put_record<D: Disk>(disk: &mut D, epoch: u64, batch: &Batch) -> Result<(), DiskFail>
     requires start { batch.now.first ≤ 2 ^ 62 }
     requires epoch { epoch ≤ 2 ^ 62 }
     requires last { last_txid batch.now ≤ 2 ^ 62 }
@@ -87,7 +79,7 @@ fn put_record<D: Disk>(
     ensures reads { D.reads disk.new ≡ D.reads disk.old }
     ensures cause { HasCause (D.faults disk.old) (D.faults disk.new) (D.steady disk.old) (D.steady disk.new) result }
 {
-    as_result(PaxosFile::put(alloc, disk, batch.first(), epoch, batch.last()))
+    as_result(PaxosFile::put(disk, batch.first(), epoch, batch.last()))
 }
 
 fn as_result(put: Put) -> Result<(), DiskFail>
@@ -100,18 +92,8 @@ fn as_result(put: Put) -> Result<(), DiskFail>
     }
 }
 
-// The names of the content of an acceptance and of the file in progress.
-fn both_names(alloc: Global, epoch: u64, batch: &Batch) -> Result<(String, String), AllocError>
-    requires { batch.now.first ≤ 2 ^ 62 }
-    ensures { IfOk result (λ names. (string_bytes names.0 ≡ name_of batch.now.first (UnderWay epoch)) × (string_bytes names.1 ≡ name_of batch.now.first InProgress)) }
-{
-    let from = under_way_name(alloc, batch.first(), epoch)?;
-    let to = progress_name(alloc, batch.first())?;
-    Ok((from, to))
-}
-
 // Puts the content of an acceptance in the place of the file in progress.
-fn settle<D: Disk>(alloc: Global, disk: &mut D, epoch: u64, batch: &Batch) -> Result<(), DiskFail>
+fn settle<D: Disk>(disk: &mut D, epoch: u64, batch: &Batch) -> Result<(), DiskFail>
     requires start { batch.now.first ≤ 2 ^ 62 }
     requires there { D.tells disk.old → IsSome ((D.view disk.old).seen (name_of batch.now.first (UnderWay epoch))) }
 
@@ -121,10 +103,9 @@ fn settle<D: Disk>(alloc: Global, disk: &mut D, epoch: u64, batch: &Batch) -> Re
     ensures reads { D.reads disk.new ≡ D.reads disk.old }
     ensures cause { HasCause (D.faults disk.old) (D.faults disk.new) (D.steady disk.old) (D.steady disk.new) result }
 {
-    match both_names(alloc, epoch, batch) {
-        Ok((from, to)) => disk.rename(from.as_str(), to.as_str()),
-        Err(_) => Err(DiskFail::OutOfMemory),
-    }
+    let from = under_way_name(batch.first(), epoch);
+    let to = progress_name(batch.first());
+    disk.rename(from.as_str(), to.as_str())
 }
 
 fn accept_by<D: Disk>(
@@ -150,8 +131,8 @@ fn accept_by<D: Disk>(
     ensures cause { HasCause (D.faults disk.old) (D.faults disk.new) (D.steady disk.old) (D.steady disk.new) result }
 {
     stage(alloc, disk, epoch, batch)?;
-    put_record(alloc, disk, epoch, batch)?;
-    settle(alloc, disk, epoch, batch)
+    put_record(disk, epoch, batch)?;
+    settle(disk, epoch, batch)
 }
 
 /// Accepts the edits of the batch under this epoch as the segment in progress with its start, in the

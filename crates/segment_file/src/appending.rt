@@ -37,7 +37,7 @@ fn closed_frame(alloc: Global, batch: &Batch) -> Result<Vec<u8>, AllocError>
 }
 
 // Appends behind the gate of the file in progress.
-fn append_to<D: Disk>(alloc: Global, disk: &mut D, start: u64, at: u64, behind: &[u8]) -> Put
+fn append_to<D: Disk>(disk: &mut D, start: u64, at: u64, behind: &[u8]) -> Put
     requires start { start ≤ 2 ^ 62 }
     requires small { at < 2 ^ 62 }
     requires shut { D.tells disk.old → IsShut at ((D.view disk.old).seen (name_of start InProgress)) }
@@ -51,10 +51,8 @@ fn append_to<D: Disk>(alloc: Global, disk: &mut D, start: u64, at: u64, behind: 
     ensures reads { D.reads disk.new ≡ D.reads disk.old }
     ensures cause { HasCause (D.faults disk.old) (D.faults disk.new) (D.steady disk.old) (D.steady disk.new) (put_result result) }
 {
-    match progress_name(alloc, start) {
-        Ok(name) => Put::from(append_behind_gate(disk, name.as_str(), at, behind)),
-        Err(_) => Put::OutOfMemory,
-    }
+    let name = progress_name(start);
+    Put::from(append_behind_gate(disk, name.as_str(), at, behind))
 }
 
 // Where the next frame goes, once an append is done.
@@ -96,7 +94,7 @@ fn append_frame<D: Disk>(
     match closed_frame(alloc, batch) {
         Ok(bytes) => {
             let next = at + (bytes.len() - 1) as u64;
-            told(append_to(alloc, disk, start, at, &bytes[1..]), next)
+            told(append_to(disk, start, at, &bytes[1..]), next)
         }
         Err(_) => Appended::OutOfMemory,
     }

@@ -17,7 +17,7 @@ use qj_disk::Disk;
 use small_files::Put;
 use std::alloc::{AllocError, Global};
 
-/// A header, a frame or none, and a closed gate.
+/// A header, a frame and a closed gate.
 #[tactic(auto, unfolding(crate::specs::Calls::content_of))]
 pub fn content_bytes(
     alloc: Global,
@@ -34,6 +34,16 @@ pub fn content_bytes(
     Ok(bytes)
 }
 
+/// A header and a closed gate.
+#[tactic(auto, unfolding(crate::specs::Calls::content_of))]
+pub fn empty_content(start: u64, epoch: u64) -> [u8; 25]
+    ensures { result ≡ content_of start epoch [] }
+{
+    let mut bytes = [0; 25];
+    bytes[..24].copy_from_slice(&header_of(start, epoch));
+    bytes
+}
+
 /// The frame of a batch. One that passes a limit is answered as want of memory.
 pub fn good_frame(alloc: Global, batch: &Batch) -> Result<Vec<u8>, AllocError>
     requires { last_txid batch.now ≤ 2 ^ 62 }
@@ -47,7 +57,7 @@ pub fn good_frame(alloc: Global, batch: &Batch) -> Result<Vec<u8>, AllocError>
     }
 }
 
-/// Puts a header, a frame or none, and a closed gate in the place of the segment's file in progress, as
+/// Puts a header, a frame and a closed gate in the place of the segment's file in progress, as
 /// `place_content` does.
 pub fn place_segment<D: Disk>(
     alloc: Global,
@@ -66,7 +76,7 @@ pub fn place_segment<D: Disk>(
     ensures cause { HasCause (D.faults disk.old) (D.faults disk.new) (D.steady disk.old) (D.steady disk.new) (put_result result) }
 {
     match content_bytes(alloc, start, epoch, frame) {
-        Ok(bytes) => place_content(alloc, disk, start, &bytes),
+        Ok(bytes) => place_content(disk, start, &bytes),
         Err(_) => Put::OutOfMemory,
     }
 }

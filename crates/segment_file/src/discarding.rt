@@ -1,5 +1,5 @@
 //! A segment is removed.
-ghost use Rattle.std.specs.Prelude.{◌≡◌, ◌↔◌, ◌≤◌, ◌^◌, List, ◌∷◌, [], IsSome, IfOk, string_bytes, false};
+ghost use Rattle.std.specs.Prelude.{◌≡◌, ◌↔◌, ◌≤◌, ◌^◌, List, ◌∷◌, [], IsSome, false};
 ghost use Rattle.qj_disk.specs.Files.{ChangesOnly, IsGone};
 ghost use Rattle.qj_disk.specs.Calls.{Atomic, HasCause};
 ghost use Rattle.small_files.specs.Puts.{OneCut};
@@ -15,10 +15,9 @@ use crate::names::kind_name;
 use journal_core::SegmentLine;
 use qj_disk::Disk;
 use small_files::Put;
-use std::alloc::Global;
 
 // Removes the file of a segment.
-fn remove_file<D: Disk>(alloc: Global, disk: &mut D, segment: &SegmentLine) -> Put
+fn remove_file<D: Disk>(disk: &mut D, segment: &SegmentLine) -> Put
     requires start { segment.now.start ≤ 2 ^ 62 }
     requires end { segment.now.end ≤ 2 ^ 62 }
     requires there { D.tells disk.old → IsSome ((D.view disk.old).seen (name_of segment.now.start (kind_of segment.now.end segment.now.is_final))) }
@@ -29,17 +28,15 @@ fn remove_file<D: Disk>(alloc: Global, disk: &mut D, segment: &SegmentLine) -> P
     ensures reads { D.reads disk.new ≡ D.reads disk.old }
     ensures cause { HasCause (D.faults disk.old) (D.faults disk.new) (D.steady disk.old) (D.steady disk.new) (put_result result) }
 {
-    match kind_name(alloc, segment.start, segment.end, segment.is_final) {
-        Ok(name) => Put::from(disk.remove(name.as_str())),
-        Err(_) => Put::OutOfMemory,
-    }
+    let name = kind_name(segment.start, segment.end, segment.is_final);
+    Put::from(disk.remove(name.as_str()))
 }
 
 /// Removes the file of this segment, which is there, in one disk call. A crash at any moment leaves files
 /// that stand for the segments with it or without it. Its start is from 1 to 2^62 and its end at most
 /// 2^62; the end counts for a final one only. Its paxos record, if there is one, is left for
 /// `PaxosFile::remove`.
-pub fn discard<D: Disk>(alloc: Global, disk: &mut D, segment: &SegmentLine) -> Put
+pub fn discard<D: Disk>(disk: &mut D, segment: &SegmentLine) -> Put
     requires start { (1 ≤ segment.now.start) × (segment.now.start ≤ 2 ^ 62) }
     requires end { segment.now.end ≤ 2 ^ 62 }
     requires there { D.tells disk.old → IsSome ((D.view disk.old).seen (name_of segment.now.start (kind_of segment.now.end segment.now.is_final))) }
@@ -54,5 +51,5 @@ pub fn discard<D: Disk>(alloc: Global, disk: &mut D, segment: &SegmentLine) -> P
     ensures reads { D.reads disk.new ≡ D.reads disk.old }
     ensures cause { HasCause (D.faults disk.old) (D.faults disk.new) (D.steady disk.old) (D.steady disk.new) (put_result result) }
 {
-    remove_file(alloc, disk, segment)
+    remove_file(disk, segment)
 }

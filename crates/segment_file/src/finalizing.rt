@@ -1,5 +1,5 @@
 //! A segment becomes final.
-ghost use Rattle.std.specs.Prelude.{◌≡◌, ◌↔◌, ◌≤◌, ◌^◌, List, ◌∷◌, [], IsSome, IfOk, string_bytes, false};
+ghost use Rattle.std.specs.Prelude.{◌≡◌, ◌↔◌, ◌≤◌, ◌^◌, List, ◌∷◌, [], IsSome, false};
 ghost use Rattle.qj_disk.specs.Files.{Moves};
 ghost use Rattle.qj_disk.specs.Calls.{Atomic, HasCause};
 ghost use Rattle.small_files.specs.Puts.{OneCut};
@@ -14,21 +14,9 @@ ghost use Rattle.segment_file.specs.Calls.{CanFinalize};
 use crate::names::{final_name, progress_name};
 use qj_disk::Disk;
 use small_files::Put;
-use std::alloc::{AllocError, Global};
-
-// The names of a segment's file in progress and of its final one.
-fn both_names(alloc: Global, start: u64, end: u64) -> Result<(String, String), AllocError>
-    requires start { start ≤ 2 ^ 62 }
-    requires end { end ≤ 2 ^ 62 }
-    ensures { IfOk result (λ names. (string_bytes names.0 ≡ name_of start InProgress) × (string_bytes names.1 ≡ name_of start (Final end))) }
-{
-    let from = progress_name(alloc, start)?;
-    let to = final_name(alloc, start, end)?;
-    Ok((from, to))
-}
 
 // Renames the file in progress.
-fn rename_to_final<D: Disk>(alloc: Global, disk: &mut D, start: u64, end: u64) -> Put
+fn rename_to_final<D: Disk>(disk: &mut D, start: u64, end: u64) -> Put
     requires start { start ≤ 2 ^ 62 }
     requires end { end ≤ 2 ^ 62 }
     requires there { D.tells disk.old → IsSome ((D.view disk.old).seen (name_of start InProgress)) }
@@ -39,17 +27,16 @@ fn rename_to_final<D: Disk>(alloc: Global, disk: &mut D, start: u64, end: u64) -
     ensures reads { D.reads disk.new ≡ D.reads disk.old }
     ensures cause { HasCause (D.faults disk.old) (D.faults disk.new) (D.steady disk.old) (D.steady disk.new) (put_result result) }
 {
-    match both_names(alloc, start, end) {
-        Ok((from, to)) => Put::from(disk.rename(from.as_str(), to.as_str())),
-        Err(_) => Put::OutOfMemory,
-    }
+    let from = progress_name(start);
+    let to = final_name(start, end);
+    Put::from(disk.rename(from.as_str(), to.as_str()))
 }
 
 /// Makes the segment with this start final, with this last txid, both from 1 to 2^62: its file in
 /// progress, which is there, is renamed in one disk call. A segment in progress that holds an edit and
 /// has that end so becomes final at once: a crash at any moment leaves files that stand for it in
 /// progress or final. Its paxos record, if there is one, is left for `PaxosFile::remove`.
-pub fn finalize<D: Disk>(alloc: Global, disk: &mut D, start: u64, end: u64) -> Put
+pub fn finalize<D: Disk>(disk: &mut D, start: u64, end: u64) -> Put
     requires start { (1 ≤ start) × (start ≤ 2 ^ 62) }
     requires end { end ≤ 2 ^ 62 }
     requires there { D.tells disk.old → IsSome ((D.view disk.old).seen (name_of start InProgress)) }
@@ -64,5 +51,5 @@ pub fn finalize<D: Disk>(alloc: Global, disk: &mut D, start: u64, end: u64) -> P
     ensures reads { D.reads disk.new ≡ D.reads disk.old }
     ensures cause { HasCause (D.faults disk.old) (D.faults disk.new) (D.steady disk.old) (D.steady disk.new) (put_result result) }
 {
-    rename_to_final(alloc, disk, start, end)
+    rename_to_final(disk, start, end)
 }

@@ -1,5 +1,5 @@
 //! A new content is put in the place of a segment's file in progress.
-ghost use Rattle.std.specs.Prelude.{◌≡◌, ◌≢◌, ◌↔◌, ◌≤◌, ◌^◌, OnOk, IfOk, string_bytes};
+ghost use Rattle.std.specs.Prelude.{◌≡◌, ◌≢◌, ◌↔◌, ◌≤◌, ◌^◌, OnOk};
 ghost use Rattle.qj_disk.specs.View.{IsStable};
 ghost use Rattle.qj_disk.specs.Calls.{Effect, HasCause};
 ghost use Rattle.small_files.specs.Puts.{Disturbs, PutCut};
@@ -10,7 +10,6 @@ ghost use Rattle.segment_file.specs.Names.{name_of, InProgress, Fresh};
 use crate::names::{fresh_name, progress_name};
 use qj_disk::{Disk, DiskFail};
 use small_files::Put;
-use std::alloc::{AllocError, Global};
 
 // Writes the bytes to the front of the file `tmp`, which may be there, syncs it and renames it.
 fn place_by<D: Disk>(disk: &mut D, tmp: &str, name: &str, bytes: &[u8]) -> Result<(), DiskFail>
@@ -28,19 +27,9 @@ fn place_by<D: Disk>(disk: &mut D, tmp: &str, name: &str, bytes: &[u8]) -> Resul
     disk.rename(tmp, name)
 }
 
-// The names of a segment's file in progress and of the temporary one.
-fn both_names(alloc: Global, start: u64) -> Result<(String, String), AllocError>
-    requires { start ≤ 2 ^ 62 }
-    ensures { IfOk result (λ names. (string_bytes names.0 ≡ name_of start InProgress) × (string_bytes names.1 ≡ name_of start Fresh)) }
-{
-    let name = progress_name(alloc, start)?;
-    let fresh = fresh_name(alloc, start)?;
-    Ok((name, fresh))
-}
-
 /// Puts these bytes, with whatever may stand behind them, in the place of the segment's file in
 /// progress, by way of its `.new` file, which may be there. Three calls, of which the last decides.
-pub fn place_content<D: Disk>(alloc: Global, disk: &mut D, start: u64, bytes: &[u8]) -> Put
+pub fn place_content<D: Disk>(disk: &mut D, start: u64, bytes: &[u8]) -> Put
     requires { start ≤ 2 ^ 62 }
 
     ensures tells { D.tells disk.old ↔ D.tells disk.new }
@@ -50,8 +39,7 @@ pub fn place_content<D: Disk>(alloc: Global, disk: &mut D, start: u64, bytes: &[
     ensures reads { D.reads disk.new ≡ D.reads disk.old }
     ensures cause { HasCause (D.faults disk.old) (D.faults disk.new) (D.steady disk.old) (D.steady disk.new) (put_result result) }
 {
-    match both_names(alloc, start) {
-        Ok((name, fresh)) => Put::from(place_by(disk, fresh.as_str(), name.as_str(), bytes)),
-        Err(_) => Put::OutOfMemory,
-    }
+    let name = progress_name(start);
+    let fresh = fresh_name(start);
+    Put::from(place_by(disk, fresh.as_str(), name.as_str(), bytes))
 }

@@ -91,8 +91,6 @@ pub fn read_from<D: Disk>(alloc: Global, disk: &mut D, segment: &SegmentLine, fr
     ensures disk { D.tells disk.old → Rests (D.view disk.old) (D.view disk.new) }
     ensures cause { HasCause (D.faults disk.old) (D.faults disk.new) (D.steady disk.old) (D.steady disk.new) (given_result result) }
 {
-    match kind_name(alloc, segment.start, segment.end, segment.is_final) {
-        Ok(name) => read_by(alloc, disk, name.as_str(), segment, from),
-        Err(_) => Given::OutOfMemory,
-    }
+    let name = kind_name(segment.start, segment.end, segment.is_final);
+    read_by(alloc, disk, name.as_str(), segment, from)
 }

@@ -74,7 +74,7 @@ fn is_segment<D: Disk>(
 }
 
 // Puts the content of an acceptance in the place of the file in progress.
-fn put_in_place<D: Disk>(alloc: Global, disk: &mut D, way: &str, start: u64) -> Result<(), DiskFail>
+fn put_in_place<D: Disk>(disk: &mut D, way: &str, start: u64) -> Result<(), DiskFail>
     requires start { start ≤ 2 ^ 62 }
     requires there { D.tells disk.old → IsSome ((D.view disk.old).seen way.now) }
 
@@ -82,10 +82,8 @@ fn put_in_place<D: Disk>(alloc: Global, disk: &mut D, way: &str, start: u64) -> 
     ensures moves { D.tells disk.old → Atomic (Moves way.now (name_of start InProgress)) result (D.view disk.old) (D.view disk.new) }
     ensures cause { HasCause (D.faults disk.old) (D.faults disk.new) (D.steady disk.old) (D.steady disk.new) result }
 {
-    match progress_name(alloc, start) {
-        Ok(name) => disk.rename(way, name.as_str()),
-        Err(_) => Err(DiskFail::OutOfMemory),
-    }
+    let name = progress_name(start);
+    disk.rename(way, name.as_str())
 }
 
 // Puts the content of an acceptance in place where it is the segment, and else removes it.
@@ -107,7 +105,7 @@ fn settle_way<D: Disk>(
     ensures cause { HasCause (D.faults disk.old) (D.faults disk.new) (D.steady disk.old) (D.steady disk.new) result }
 {
     if is_segment(alloc, disk, finals, start, epoch)? {
-        put_in_place(alloc, disk, way, start)
+        put_in_place(disk, way, start)
     } else {
         disk.remove(way)
     }

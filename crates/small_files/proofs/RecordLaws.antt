@@ -1,7 +1,7 @@
 -- The parts of the bytes of small files.
-use Rattle.std.proofs.Common.{◌≡◌, ◌≢◌, ◌∙◌, ◌⊎◌, ⊎_elim, ℕ, zero, suc, ◌+◌, ◌/◌, ◌%◌, ◌<◌, List, [], ◌∷◌, ◌++◌, ap, sym, subst, arith, take, drop, length, get_or, set, append_assoc, length-append}
+use Rattle.std.proofs.Common.{◌≡◌, ◌≢◌, ◌∙◌, ℕ, List, [], ◌∷◌, ◌++◌, ap, sym, subst, arith, take, drop, length, get_or, set, append_assoc, length-append}
 use Rattle.std.specs.Prelude.{Option, Some, None, IfNone}
-use Rattle.std.proofs.lemmas.List.{take_at, drop_at, drop_all, drop_more, drop-drop, get_or_at, get_or_append_left, set_at, take-append-drop}
+use Rattle.std.proofs.lemmas.List.{take_at, drop_at, drop_all, drop_more, drop-drop, get_or_at, set_at, take-append-drop}
 use borrow.Rule.Slice.PartMut.{put_mid}
 use Rattle.qj_num.specs.Padded.{padded}
 use Rattle.qj_num.proofs.PaddedLaws.{length-padded}
@@ -68,17 +68,6 @@ filled_in x y p q is_p is_q long =
     ∙ ap (λ (l : List ℕ). (p ++ 32 ∷ []) ++ (y ++ drop 19 l)) (drop_at (p ++ 32 ∷ []) tens 20 front)
     ∙ ap (λ (l : List ℕ). (p ++ 32 ∷ []) ++ (l ++ 10 ∷ [])) is_q
     ∙ append_assoc p (32 ∷ []) (q ++ 10 ∷ [])
-
--- the digits are of one byte each in UTF-8
-pub padded_below : (k n i : ℕ) → i < k → get_or (padded k n) i 0 < 128
-unfolding padded
-padded_below zero n i lt = absurd (omega arith)
-padded_below (suc k) n i lt = ⊎_elim (λ front. subst (λ (x : ℕ). x < 128) (sym (get_or_append_left (padded k (n / 10)) ((48 + n % 10) ∷ []) 0 i (omega (arith, length-padded k (n / 10))))) (padded_below k (n / 10) i front))
-    (λ last. subst (λ (x : ℕ). x < 128) (sym (get_or_at (padded k (n / 10)) (48 + n % 10) [] 0 i (length-padded k (n / 10) ∙ sym last))) (omega arith))
-    (either i k lt)
-  where
-    either : (i k : ℕ) → i < suc k → (i < k) ⊎ (i ≡ k)
-    either i k lt = grind arith
 
 length-number : (n : ℕ) → length (number_bytes n) ≡ 20
 length-number n = omega (arith, length-append (padded 19 n) (10 ∷ []), length-padded 19 n)

@@ -11,7 +11,7 @@ mod whole;
 pub mod worked;
 
 pub use answers::{Got, GotRecord, Put};
-pub use names::{paxos_name, push_padded};
+pub use names::{FileName, paxos_name, push_padded};
 pub use number_file::NumberFile;
 pub use paxos_file::PaxosFile;
 pub use put::{put_bytes, put_through};

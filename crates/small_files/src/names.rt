@@ -1,30 +1,38 @@
-//! The names of small files.
-ghost use Rattle.std.specs.Prelude.{◌≡◌, ◌≤◌, ◌^◌, ◌++◌, IfOk, OnOk, string_bytes};
+//! The names of small files, and their parts.
+ghost use Rattle.std.specs.Prelude.{◌≡◌, ◌≤◌, ◌+◌, ◌^◌, ◌++◌};
+ghost use Rattle.arrayvec.specs.ArrayString.{array_string_len};
 ghost use Rattle.qj_num.specs.Padded.{padded};
 ghost use Rattle.small_files.specs.Records.{paxos_name as name_of};
 
+use arrayvec::ArrayString;
 use qj_num::print19;
-use std::alloc::{AllocError, Global};
 
-/// Adds a number of at most 2^62 to a name, as 19 digits.
-pub fn push_padded(name: &mut String, value: u64) -> Result<(), AllocError>
-    requires { value ≤ 2 ^ 62 }
-    ensures { OnOk result (string_bytes name.new ≡ string_bytes name.old ++ padded 19 value) }
+/// The name of a file, of at most 64 bytes, in no memory of the heap.
+pub type FileName = ArrayString<64>;
+
+/// Adds a number of at most 2^62 to a name that has room for it, as 19 digits.
+pub fn push_padded(name: &mut FileName, value: u64)
+    requires value { value ≤ 2 ^ 62 }
+    requires room { array_string_len name.old + 19 ≤ 64 }
+    ensures bytes { name.new.bytes ≡ name.old.bytes ++ padded 19 value }
+    ensures len { array_string_len name.new ≡ array_string_len name.old + 19 }
 {
     let mut digits = [0; 19];
     print19(value, &mut digits);
-    for digit in digits {
-        name.push(char::from(digit))?;
+    match str::from_utf8(&digits) {
+        Ok(text) => name.push_str(text),
+        Err(_) => unreachable!(),
     }
-    Ok(())
 }
 
 /// The name of the paxos record of the segment with this start, a txid of at most 2^62.
-pub fn paxos_name(alloc: Global, start: u64) -> Result<String, AllocError>
+pub fn paxos_name(start: u64) -> FileName
     requires { start ≤ 2 ^ 62 }
-    ensures { IfOk result (λ name. string_bytes name ≡ name_of start) }
+    ensures name { result.bytes ≡ name_of start }
+    ensures len { array_string_len result ≡ 25 }
 {
-    let mut name = String::from_str(alloc, "paxos/")?;
-    push_padded(&mut name, start)?;
-    Ok(name)
+    let mut name = FileName::new();
+    name.push_str("paxos/");
+    push_padded(&mut name, start);
+    name
 }

@@ -1,5 +1,5 @@
 //! Files that hold one number.
-ghost use Rattle.std.specs.Prelude.{◌≡◌, ◌↔◌, ◌≤◌, ◌^◌, None};
+ghost use Rattle.std.specs.Prelude.{◌≡◌, ◌↔◌, ◌≤◌, ◌^◌, None, length};
 ghost use Rattle.qj_disk.specs.Calls.{Effect, HasCause, Rests};
 ghost use Rattle.small_files.specs.Puts.{temporary, Disturbs, Puts, PutCut};
 ghost use Rattle.small_files.specs.Records.{number_bytes};
@@ -40,7 +40,8 @@ impl NumberFile {
     }
 
     /// Puts a number of at most 2^62 into the file of this name, all or nothing, as `put_bytes` does.
-    pub fn put<D: Disk>(alloc: Global, disk: &mut D, name: &str, value: u64) -> Put
+    pub fn put<D: Disk>(disk: &mut D, name: &str, value: u64) -> Put
+        requires short { length name.now ≤ 60 }
         requires value { value ≤ 2 ^ 62 }
         requires absent { D.tells disk.old → (D.view disk.old).seen (temporary name.now) ≡ None }
 
@@ -50,7 +51,7 @@ impl NumberFile {
         ensures reads { D.reads disk.new ≡ D.reads disk.old }
         ensures cause { HasCause (D.faults disk.old) (D.faults disk.new) (D.steady disk.old) (D.steady disk.new) (put_result result) }
     {
-        put_bytes(alloc, disk, name, &print_number(value))
+        put_bytes(disk, name, &print_number(value))
     }
 }
 

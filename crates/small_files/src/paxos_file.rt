@@ -30,14 +30,12 @@ impl PaxosFile {
         ensures disk { D.tells disk.old → Rests (D.view disk.old) (D.view disk.new) }
         ensures cause { HasCause (D.faults disk.old) (D.faults disk.new) (D.steady disk.old) (D.steady disk.new) (found_result result) }
     {
-        match paxos_name(alloc, start) {
-            Ok(name) => get_by(alloc, disk, name.as_str()),
-            Err(_) => GotRecord::OutOfMemory,
-        }
+        let name = paxos_name(start);
+        get_by(alloc, disk, name.as_str())
     }
 
     /// Puts the record of the segment with this start, all or nothing, as `put_bytes` does.
-    pub fn put<D: Disk>(alloc: Global, disk: &mut D, start: u64, epoch: u64, end: u64) -> Put
+    pub fn put<D: Disk>(disk: &mut D, start: u64, epoch: u64, end: u64) -> Put
         requires start { start ≤ 2 ^ 62 }
         requires epoch { epoch ≤ 2 ^ 62 }
         requires end { end ≤ 2 ^ 62 }
@@ -49,14 +47,12 @@ impl PaxosFile {
         ensures reads { D.reads disk.new ≡ D.reads disk.old }
         ensures cause { HasCause (D.faults disk.old) (D.faults disk.new) (D.steady disk.old) (D.steady disk.new) (put_result result) }
     {
-        match paxos_name(alloc, start) {
-            Ok(name) => put_bytes(alloc, disk, name.as_str(), &print_record(epoch, end)),
-            Err(_) => Put::OutOfMemory,
-        }
+        let name = paxos_name(start);
+        put_bytes(disk, name.as_str(), &print_record(epoch, end))
     }
 
     /// Removes the record of the segment with this start, which is there, in one call.
-    pub fn remove<D: Disk>(alloc: Global, disk: &mut D, start: u64) -> Put
+    pub fn remove<D: Disk>(disk: &mut D, start: u64) -> Put
         requires start { start ≤ 2 ^ 62 }
         requires there { D.tells disk.old → IsSome ((D.view disk.old).seen (name_of start)) }
 
@@ -66,10 +62,8 @@ impl PaxosFile {
         ensures reads { D.reads disk.new ≡ D.reads disk.old }
         ensures cause { HasCause (D.faults disk.old) (D.faults disk.new) (D.steady disk.old) (D.steady disk.new) (put_result result) }
     {
-        match paxos_name(alloc, start) {
-            Ok(name) => Put::from(disk.remove(name.as_str())),
-            Err(_) => Put::OutOfMemory,
-        }
+        let name = paxos_name(start);
+        Put::from(disk.remove(name.as_str()))
     }
 }
 

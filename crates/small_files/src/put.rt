@@ -1,18 +1,20 @@
 //! A file is put in the place of another, all or nothing.
-ghost use Rattle.std.specs.Prelude.{◌≡◌, ◌≢◌, ◌↔◌, ◌++◌, None, IfOk, string_bytes};
+ghost use Rattle.std.specs.Prelude.{◌≡◌, ◌≢◌, ◌↔◌, ◌≤◌, ◌++◌, None, length};
 ghost use Rattle.qj_disk.specs.Calls.{Effect, HasCause};
 ghost use Rattle.small_files.specs.Puts.{temporary, Disturbs, Puts, PutCut};
 ghost use Rattle.small_files.specs.Answers.{put_result};
 
 use crate::answers::Put;
+use crate::names::FileName;
 use qj_disk::{Disk, DiskFail};
-use std::alloc::{AllocError, Global};
 
 /// Puts a file of these bytes in the place of the one of this name, by way of a temporary file whose
-/// name has `.tmp` behind it and that isn't there yet: it is written, synced and renamed. A crash at
-/// any moment leaves the file as it was or as put, and once this answered Done only as put.
-pub fn put_bytes<D: Disk>(alloc: Global, disk: &mut D, name: &str, bytes: &[u8]) -> Put
-    requires { D.tells disk.old → (D.view disk.old).seen (temporary name.now) ≡ None }
+/// name, the given one of at most 60 bytes with `.tmp` behind it, and that isn't there yet: it is written, synced and renamed. A crash at
+/// any moment leaves the file as it was or as put, and once this answered Done only as put. It takes no
+/// memory but what the disk takes.
+pub fn put_bytes<D: Disk>(disk: &mut D, name: &str, bytes: &[u8]) -> Put
+    requires short { length name.now ≤ 60 }
+    requires absent { D.tells disk.old → (D.view disk.old).seen (temporary name.now) ≡ None }
 
     ensures tells { D.tells disk.old ↔ D.tells disk.new }
     ensures put { D.tells disk.old → Effect (Disturbs (temporary name.now)) (Puts name.now (temporary name.now) bytes.now) (put_result result) (D.view disk.old) (D.view disk.new) }
@@ -20,18 +22,18 @@ pub fn put_bytes<D: Disk>(alloc: Global, disk: &mut D, name: &str, bytes: &[u8])
     ensures reads { D.reads disk.new ≡ D.reads disk.old }
     ensures cause { HasCause (D.faults disk.old) (D.faults disk.new) (D.steady disk.old) (D.steady disk.new) (put_result result) }
 {
-    match temporary_name(alloc, name) {
-        Ok(tmp) => put_through(disk, tmp.as_str(), name, bytes),
-        Err(_) => Put::OutOfMemory,
-    }
+    let tmp = temporary_name(name);
+    put_through(disk, tmp.as_str(), name, bytes)
 }
 
-fn temporary_name(alloc: Global, name: &str) -> Result<String, AllocError>
-    ensures { IfOk result (λ tmp. string_bytes tmp ≡ temporary name.now) }
+fn temporary_name(name: &str) -> FileName
+    requires { length name.now ≤ 60 }
+    ensures { result.bytes ≡ temporary name.now }
 {
-    let mut tmp = String::from_str(alloc, name)?;
-    tmp.push_str(".tmp")?;
-    Ok(tmp)
+    let mut tmp = FileName::new();
+    tmp.push_str(name);
+    tmp.push_str(".tmp");
+    tmp
 }
 
 /// Puts a file of these bytes in the place of the one of this name, by way of the file `tmp`, another

@@ -1,9 +1,13 @@
-use Rattle.std.proofs.Common.{◌≡◌, sym, subst, List, ℕ}
+use Rattle.std.proofs.Common.{◌≡◌, ◌≤◌, sym, subst, List, ℕ, length}
 use Rattle.std.specs.Prelude.{None}
 use Rattle.small_files.specs.Puts.{temporary}
 use Rattle.node_files.proofs.NumberLaws.{number_does, number_cut, number_appends, number_files, named_effect, named_cut}
 use Rattle.segment_file.proofs.Counts.{counted_put}
+use Rattle.node_files.proofs.Names.{number_short}
 use Rattle.node_files.proofs.numbers.put_number.Goals as goal
+
+pub put-requires-clause-short : goal.put-requires-clause-short
+put-requires-clause-short g c = subst (λ (l : List ℕ). length l ≤ 60) (sym c.name.ensures) (number_short c.args.number)
 
 pub put-requires-clause-absent : goal.put-requires-clause-absent
 put-requires-clause-absent g c = λ t. subst (λ (l : List ℕ). (g.D.Disk.view c.args.disk.now).seen (temporary l) ≡ None) (sym c.name.ensures) (c.requires.absent t)

@@ -2,5 +2,5 @@ use Rattle.std.proofs.Common.{refl}
 use Rattle.small_files.proofs.PutsLemmas.{one_cut}
 use Rattle.segment_file.proofs.accepting.settle.Goals as goal
 
-pub returns-in-Ok-clause-cut : goal.returns-in-Ok-clause-cut
-returns-in-Ok-clause-cut g c = one_cut _ _ _ _ (g.D.Disk.view c.args.disk.now) (g.D.Disk.view c.rename.new.self) c.rename.result refl c.rename.ensures.budget
+pub returns-clause-cut : goal.returns-clause-cut
+returns-clause-cut g c = one_cut _ _ _ _ (g.D.Disk.view c.args.disk.now) (g.D.Disk.view c.rename.new.self) c.rename.result refl c.rename.ensures.budget
