@@ -6,8 +6,6 @@ mod edits;
 #[cfg(test)]
 mod entries;
 #[cfg(test)]
-mod first_script;
-#[cfg(test)]
 mod frames;
 #[cfg(test)]
 mod generated;
@@ -23,6 +21,8 @@ mod plain_nodes;
 mod reports;
 #[cfg(test)]
 mod requests;
+#[cfg(test)]
+mod rows;
 #[cfg(test)]
 mod scripts;
 #[cfg(test)]

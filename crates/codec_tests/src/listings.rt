@@ -1,91 +1,140 @@
-//! Listings of known files, and of files with one byte changed.
+//! Listings of known files, of files with one byte changed, and of frames of edits.
 use crate::edits::MKDIR;
-use oev_tool::{ByteCause, Listing, list, stats};
-use std::process::Abort;
+use crate::rows::is_so;
+use oev_tool::{ByteCause, Listing, json, list, stats};
+use qj_num::OutOfMemory;
+use std::alloc::Global;
 use std::test::Fail;
 
 /// A segment of one edit, which begins it.
-pub const FILE: [u8; 45] = [
+const FILE: [u8; 45] = [
     0x51, 0x4a, 0x53, 0x47, 0, 0, 0, 1, 0, 0, 0, 0, 0, 0, 0, 1, 0, 0, 0, 0, 0, 0, 0, 1, 0xa5, 0, 0,
     0, 0x0f, 0, 0, 0, 0, 0, 0, 0, 1, 0, 0, 0, 1, 0, 1, 0x18, 0,
 ];
 
-/// The text is this one.
-pub fn tells(rt: &impl Abort, listing: Listing, expected: &[u8]) {
+/// How bytes are listed.
+#[derive(Clone, Copy)]
+pub enum Tool {
+    List,
+    Stats,
+    Json,
+}
+
+/// What a listing comes to.
+#[derive(Clone, Copy)]
+pub enum Want {
+    /// The text.
+    Text(&'static [u8]),
+    /// The place and the cause of the first damage.
+    Damage(u64, ByteCause),
+}
+
+fn is_text(listing: &Listing, expected: &[u8]) -> bool {
     match listing {
-        Listing::Text(text) => assert_eq!(rt; text.as_slice(), expected),
-        Listing::BadBytes { .. } => assert!(rt; false, "the bytes are a segment's"),
-        Listing::OutOfMemory => assert!(rt; false, "memory is ample"),
+        Listing::Text(text) => text.as_slice() == expected,
+        Listing::BadBytes { .. } | Listing::OutOfMemory => false,
     }
 }
 
-/// The first damage is this one.
-pub fn is_damaged(rt: &impl Abort, listing: Listing, at: u64, of: ByteCause) {
+fn is_damaged(listing: &Listing, at: u64, of: ByteCause) -> bool {
     match listing {
-        Listing::Text(_) => assert!(rt; false, "the bytes are damaged"),
-        Listing::BadBytes { place, cause } => {
-            assert_eq!(rt; place, at);
-            assert_eq!(rt; cause, of);
-        }
-        Listing::OutOfMemory => assert!(rt; false, "memory is ample"),
+        Listing::BadBytes { place, cause } => *place == at && *cause == of,
+        Listing::Text(_) | Listing::OutOfMemory => false,
     }
 }
 
-#[test]
-fn a_known_file(rt: HostRuntime) {
-    tells(&rt, list(rt.alloc(), &FILE), b"1 START_LOG_SEGMENT\n");
-    tells(
-        &rt,
-        stats(rt.alloc(), &FILE),
-        b"OP_START_LOG_SEGMENT 24 1\ntotal 1\n",
-    );
-    // The tail is none of the file's.
-    tells(&rt, list(rt.alloc(), &FILE[..44]), b"1 START_LOG_SEGMENT\n");
-    tells(&rt, list(rt.alloc(), &FILE[..24]), b"");
+fn listing_of(alloc: Global, tool: Tool, bytes: &[u8]) -> Listing {
+    match tool {
+        Tool::List => list(alloc, bytes),
+        Tool::Stats => stats(alloc, bytes),
+        Tool::Json => json(alloc, bytes),
+    }
 }
 
-#[test]
-fn files_cut_short(rt: HostRuntime) {
-    is_damaged(&rt, list(rt.alloc(), &FILE[..43]), 24, ByteCause::Short);
-    is_damaged(&rt, stats(rt.alloc(), &FILE[..43]), 24, ByteCause::Short);
-    is_damaged(&rt, list(rt.alloc(), &FILE[..25]), 24, ByteCause::Short);
-    is_damaged(&rt, list(rt.alloc(), &FILE[..20]), 0, ByteCause::Header);
-    is_damaged(&rt, list(rt.alloc(), &[]), 0, ByteCause::Header);
+/// Whether the listing of the bytes comes to that.
+pub fn tells(alloc: Global, tool: Tool, bytes: &[u8], want: Want) -> bool {
+    let listing = listing_of(alloc, tool, bytes);
+    match want {
+        Want::Text(text) => is_text(&listing, text),
+        Want::Damage(place, cause) => is_damaged(&listing, place, cause),
+    }
 }
 
-// The listing of the file with one byte changed.
-fn changed(rt: &(impl Abort + AllocGlobal), place: usize, byte: u8) -> Listing {
+/// How many bytes of the known file are listed, and what that comes to.
+pub type Prefix = (usize, Tool, Want);
+
+/// Whether so many bytes of the known file are listed so.
+pub fn tells_prefix(alloc: Global, case: &Prefix) -> bool {
+    let (length, tool, want) = *case;
+    tells(alloc, tool, &FILE[..length.min(45)], want)
+}
+
+/// A byte of the known file, what it is changed to, and what a listing comes to.
+pub type Change = (usize, u8, Tool, Want);
+
+/// Whether the known file with that byte is listed so.
+pub fn tells_change(alloc: Global, case: &Change) -> bool {
+    let (place, byte, tool, want) = *case;
     let mut file = FILE;
-    assert!(rt; place < 45);
-    file[place] = byte;
-    list(rt.alloc(), &file)
+    file[place.min(44)] = byte;
+    tells(alloc, tool, &file, want)
 }
 
-#[test]
-fn one_byte_changed(rt: HostRuntime) {
-    is_damaged(&rt, changed(&rt, 7, 3), 0, ByteCause::Header);
-    is_damaged(&rt, changed(&rt, 28, 0xff), 24, ByteCause::Short);
-    is_damaged(&rt, changed(&rt, 36, 2), 24, ByteCause::Order);
-    is_damaged(&rt, changed(&rt, 40, 0), 24, ByteCause::Length);
-    is_damaged(&rt, changed(&rt, 42, 2), 24, ByteCause::Length);
-    is_damaged(&rt, changed(&rt, 43, 0x63), 43, ByteCause::Opcode);
-}
+// The last byte is none of the file's.
+const PREFIXES: &[Prefix] = &[
+    (45, Tool::List, Want::Text(b"1 START_LOG_SEGMENT\n")),
+    (
+        45,
+        Tool::Stats,
+        Want::Text(b"OP_START_LOG_SEGMENT 24 1\ntotal 1\n"),
+    ),
+    (44, Tool::List, Want::Text(b"1 START_LOG_SEGMENT\n")),
+    (24, Tool::List, Want::Text(b"")),
+    (43, Tool::List, Want::Damage(24, ByteCause::Short)),
+    (43, Tool::Stats, Want::Damage(24, ByteCause::Short)),
+    (25, Tool::List, Want::Damage(24, ByteCause::Short)),
+    (20, Tool::List, Want::Damage(0, ByteCause::Header)),
+    (0, Tool::List, Want::Damage(0, ByteCause::Header)),
+];
 
 #[test]
-fn a_closed_gate(rt: HostRuntime) {
-    tells(&rt, changed(&rt, 24, 0xa4), b"");
-    let mut file = FILE;
-    file[24] = 0xa4;
-    tells(&rt, stats(rt.alloc(), &file), b"total 0\n");
+fn prefixes_are_listed(rt: HostRuntime) {
+    for (row, case) in PREFIXES.iter().enumerate() {
+        is_so(&rt, row, tells_prefix(rt.alloc(), case));
+    }
+}
+
+const CHANGES: &[Change] = &[
+    (7, 3, Tool::List, Want::Damage(0, ByteCause::Header)),
+    (28, 0xff, Tool::List, Want::Damage(24, ByteCause::Short)),
+    (36, 2, Tool::List, Want::Damage(24, ByteCause::Order)),
+    (40, 0, Tool::List, Want::Damage(24, ByteCause::Length)),
+    (42, 2, Tool::List, Want::Damage(24, ByteCause::Length)),
+    (43, 0x63, Tool::List, Want::Damage(43, ByteCause::Opcode)),
+    // A closed gate.
+    (24, 0xa4, Tool::List, Want::Text(b"")),
+    (24, 0xa4, Tool::Stats, Want::Text(b"total 0\n")),
+];
+
+#[test]
+fn changes_are_listed(rt: HostRuntime) {
+    for (row, case) in CHANGES.iter().enumerate() {
+        is_so(&rt, row, tells_change(rt.alloc(), case));
+    }
 }
 
 /// A frame of one entry of at most a hundred bytes.
-pub fn put_frame(file: &mut Vec<u8>, txid: u8, body: &[u8]) -> Result<(), Fail> {
+pub fn put_frame(file: &mut Vec<u8>, txid: u8, body: &[u8]) -> Result<(), OutOfMemory> {
     let len = body.len().min(100) as u8;
     file.extend_from_slice(&[0xa5, 0, 0, 0, 14 + len])?;
     file.extend_from_slice(&[0, 0, 0, 0, 0, 0, 0, txid, 0, 0, 0, 1, 0, len])?;
     file.extend_from_slice(body)?;
     Ok(())
+}
+
+/// The known file, up to where further frames stand.
+pub fn front(alloc: Global) -> Result<Vec<u8>, OutOfMemory> {
+    Vec::from_slice(alloc, &FILE[..44])
 }
 
 const CALL: [u8; 41] = [
@@ -96,41 +145,65 @@ const CALL: [u8; 41] = [
 // Empty texts and texts outside the grammar of names are told as they stand.
 const RENAME: [u8; 15] = [1, 0, 0, 0, 2, 0x3b, 0x21, 0, 0, 0, 0, 0, 0, 0, 9];
 
-#[test]
-fn frames_of_edits(rt: HostRuntime) -> Result<(), Fail> {
-    let mut file = Vec::from_slice(rt.alloc(), &FILE[..44])?;
-    put_frame(&mut file, 2, &MKDIR)?;
-    put_frame(&mut file, 3, &CALL)?;
-    put_frame(&mut file, 4, &MKDIR)?;
-    put_frame(&mut file, 5, &RENAME)?;
-    tells(
-        &rt,
-        list(rt.alloc(), &file),
-        b"1 START_LOG_SEGMENT\n2 MKDIR /u 10 755 hdfs hdfs\n3 call 000000000000000000000000000000aa 7 MKDIR /u 10 755 u g\n4 MKDIR /u 10 755 hdfs hdfs\n5 RENAME_OLD - ;! 9\n",
-    );
-    tells(
-        &rt,
-        stats(rt.alloc(), &file),
-        b"OP_RENAME_OLD 1 1\nOP_MKDIR 3 2\nOP_START_LOG_SEGMENT 24 1\nOP_MKDIR 67 1\ntotal 5\n",
-    );
-    Ok(())
-}
+// That record of a directory without its last byte.
+const CUT: [u8; 26] = [
+    3, 0, 2, 47, 117, 0, 0, 0, 0, 0, 0, 0, 10, 1, 237, 0, 4, 104, 100, 102, 115, 0, 4, 104, 100,
+    102,
+];
+
+/// Frames behind the known file's, each with its txid and its entry.
+type Frames = &'static [(u8, &'static [u8])];
+
+const EDITS: Frames = &[(2, &MKDIR), (3, &CALL), (4, &MKDIR), (5, &RENAME)];
 
 // The first damage of the file counts, be it an edit's or a frame's.
+const FRAMED: &[(Frames, Tool, Want)] = &[
+    (
+        EDITS,
+        Tool::List,
+        Want::Text(
+            b"1 START_LOG_SEGMENT\n2 MKDIR /u 10 755 hdfs hdfs\n3 call 000000000000000000000000000000aa 7 MKDIR /u 10 755 u g\n4 MKDIR /u 10 755 hdfs hdfs\n5 RENAME_OLD - ;! 9\n",
+        ),
+    ),
+    (
+        EDITS,
+        Tool::Stats,
+        Want::Text(
+            b"OP_RENAME_OLD 1 1\nOP_MKDIR 3 2\nOP_START_LOG_SEGMENT 24 1\nOP_MKDIR 67 1\ntotal 5\n",
+        ),
+    ),
+    (
+        &[(2, &CUT), (9, &MKDIR)],
+        Tool::List,
+        Want::Damage(63, ByteCause::Short),
+    ),
+    (&[(9, &CUT)], Tool::List, Want::Damage(44, ByteCause::Order)),
+    (
+        &[(2, &[23, 0])],
+        Tool::List,
+        Want::Damage(63, ByteCause::Trailing),
+    ),
+    (
+        &[(2, &[2, 0, 1, 0x20, 0, 0, 0, 0, 0, 0, 0, 1])],
+        Tool::Stats,
+        Want::Damage(63, ByteCause::Field),
+    ),
+];
+
+// The known file with these frames behind it.
+fn with_frames(alloc: Global, frames: &[(u8, &[u8])]) -> Result<Vec<u8>, OutOfMemory> {
+    let mut file = front(alloc)?;
+    for (txid, body) in frames {
+        put_frame(&mut file, *txid, *body)?;
+    }
+    Ok(file)
+}
+
 #[test]
-fn the_first_damage(rt: HostRuntime) -> Result<(), Fail> {
-    let mut file = Vec::from_slice(rt.alloc(), &FILE[..44])?;
-    put_frame(&mut file, 2, &MKDIR[..26])?;
-    put_frame(&mut file, 9, &MKDIR)?;
-    is_damaged(&rt, list(rt.alloc(), &file), 63, ByteCause::Short);
-    let mut file = Vec::from_slice(rt.alloc(), &FILE[..44])?;
-    put_frame(&mut file, 9, &MKDIR[..26])?;
-    is_damaged(&rt, list(rt.alloc(), &file), 44, ByteCause::Order);
-    let mut file = Vec::from_slice(rt.alloc(), &FILE[..44])?;
-    put_frame(&mut file, 2, &[23, 0])?;
-    is_damaged(&rt, list(rt.alloc(), &file), 63, ByteCause::Trailing);
-    let mut file = Vec::from_slice(rt.alloc(), &FILE[..44])?;
-    put_frame(&mut file, 2, &[2, 0, 1, 0x20, 0, 0, 0, 0, 0, 0, 0, 1])?;
-    is_damaged(&rt, stats(rt.alloc(), &file), 63, ByteCause::Field);
+fn frames_of_edits_are_listed(rt: HostRuntime) -> Result<(), Fail> {
+    for (row, (frames, tool, want)) in FRAMED.iter().enumerate() {
+        let file = with_frames(rt.alloc(), *frames)?;
+        is_so(&rt, row, tells(rt.alloc(), *tool, &file, *want));
+    }
     Ok(())
 }

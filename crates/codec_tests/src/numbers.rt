@@ -1,8 +1,10 @@
 //! Numbers, names and bytes as the formats write them: each public call once, and texts from outside.
+use crate::rows::is_so;
 use qj_num::{
-    Bytes, MAX, Name, get_u16, get_u32, get_u64, print19, put_decimal, put_digits, put_u16,
-    put_u32, put_u64, read_digits, read_number, read19,
+    Bytes, MAX, Name, OutOfMemory, get_u16, get_u32, get_u64, print19, put_decimal, put_digits,
+    put_u16, put_u32, put_u64, read_digits, read_number, read19,
 };
+use std::alloc::Global;
 use std::test::Fail;
 
 // The numbers 1234, 01020304 and 1122334455667788 in hexadecimal, one after the other, and a byte.
@@ -19,20 +21,37 @@ fn fields_are_written(rt: HostRuntime) {
     assert_eq!(rt; out.as_slice(), FIELDS.as_slice());
 }
 
+/// Places, and the field of two bytes there.
+const SHORT_FIELDS: &[(usize, Option<u16>)] = &[(0, Some(0x1234)), (14, None)];
+
+/// The same of four bytes.
+const FIELDS_OF_FOUR: &[(usize, Option<u32>)] = &[(2, Some(0x0102_0304)), (12, None)];
+
+/// The same of eight bytes.
+const LONG_FIELDS: &[(usize, Option<u64>)] = &[
+    (6, Some(0x1122_3344_5566_7788)),
+    (8, None),
+    (usize::MAX, None),
+];
+
 #[test]
-fn fields_are_read(rt: HostRuntime) {
-    for (place, number) in [(0, Some(0x1234)), (14, None)] {
-        assert_eq!(rt; get_u16(&FIELDS, place), number);
+fn short_fields_are_read(rt: HostRuntime) {
+    for (row, (place, number)) in SHORT_FIELDS.iter().enumerate() {
+        is_so(&rt, row, get_u16(&FIELDS, *place) == *number);
     }
-    for (place, number) in [(2, Some(0x0102_0304)), (12, None)] {
-        assert_eq!(rt; get_u32(&FIELDS, place), number);
+}
+
+#[test]
+fn fields_of_four_bytes_are_read(rt: HostRuntime) {
+    for (row, (place, number)) in FIELDS_OF_FOUR.iter().enumerate() {
+        is_so(&rt, row, get_u32(&FIELDS, *place) == *number);
     }
-    for (place, number) in [
-        (6, Some(0x1122_3344_5566_7788)),
-        (8, None),
-        (usize::MAX, None),
-    ] {
-        assert_eq!(rt; get_u64(&FIELDS, place), number);
+}
+
+#[test]
+fn long_fields_are_read(rt: HostRuntime) {
+    for (row, (place, number)) in LONG_FIELDS.iter().enumerate() {
+        is_so(&rt, row, get_u64(&FIELDS, *place) == *number);
     }
 }
 
@@ -45,71 +64,96 @@ fn numbers_of_nineteen_digits(rt: HostRuntime) {
     assert_eq!(rt; text.as_slice(), b"0000000000000000042".as_slice());
 }
 
+/// Texts, and the numbers of nineteen digits that they are.
+const NINETEEN: &[(&[u8], Option<u64>)] = &[
+    (b"4611686018427387904", Some(MAX)),
+    (b"0000000000000000042", Some(42)),
+    (b"4611686018427387905", None),
+    (b"9999999999999999999", None),
+    (b"000000000000000042", None),
+    (b"00000000000000000042", None),
+    (b"000000000000000004x", None),
+    (b"+000000000000000042", None),
+];
+
 #[test]
 fn nineteen_digits_are_read(rt: HostRuntime) {
-    let cases: [(&[u8], Option<u64>); 8] = [
-        (b"4611686018427387904", Some(MAX)),
-        (b"0000000000000000042", Some(42)),
-        (b"4611686018427387905", None),
-        (b"9999999999999999999", None),
-        (b"000000000000000042", None),
-        (b"00000000000000000042", None),
-        (b"000000000000000004x", None),
-        (b"+000000000000000042", None),
-    ];
-    for (text, number) in cases {
-        assert_eq!(rt; read19(text), number);
+    for (row, (text, number)) in NINETEEN.iter().enumerate() {
+        is_so(&rt, row, read19(*text) == *number);
     }
 }
+
+/// Texts, and the decimal numbers that they are.
+const DECIMAL: &[(&[u8], Option<u64>)] = &[
+    (b"0", Some(0)),
+    (b"1048576", Some(1_048_576)),
+    (b"18446744073709551615", Some(u64::MAX)),
+    (b"18446744073709551616", None),
+    (b"99999999999999999999999999", None),
+    (b"", None),
+    (b"007", None),
+    (b"+7", None),
+    (b"7 ", None),
+];
 
 #[test]
 fn decimal_numbers_are_read(rt: HostRuntime) {
-    let cases: [(&[u8], Option<u64>); 9] = [
-        (b"0", Some(0)),
-        (b"1048576", Some(1_048_576)),
-        (b"18446744073709551615", Some(u64::MAX)),
-        (b"18446744073709551616", None),
-        (b"99999999999999999999999999", None),
-        (b"", None),
-        (b"007", None),
-        (b"+7", None),
-        (b"7 ", None),
-    ];
-    for (text, number) in cases {
-        assert_eq!(rt; read_number(text), number);
+    for (row, (text, number)) in DECIMAL.iter().enumerate() {
+        is_so(&rt, row, read_number(*text) == *number);
     }
-    assert_eq!(rt; read_digits(b"755", 8), Some(493));
-    assert_eq!(rt; read_digits(b"758", 8), None);
 }
 
+/// Texts, and the octal numbers that they are.
+const OCTAL: &[(&[u8], Option<u64>)] = &[(b"755", Some(493)), (b"758", None)];
+
 #[test]
-fn numbers_are_printed(rt: HostRuntime) -> Result<(), Fail> {
-    let mut out = Vec::from_slice(rt.alloc(), b"txid ")?;
+fn octal_numbers_are_read(rt: HostRuntime) {
+    for (row, (text, number)) in OCTAL.iter().enumerate() {
+        is_so(&rt, row, read_digits(*text, 8) == *number);
+    }
+}
+
+// Numbers in a row, decimal and octal, behind a word.
+fn printed(alloc: Global) -> Result<Vec<u8>, OutOfMemory> {
+    let mut out = Vec::from_slice(alloc, b"txid ")?;
     put_decimal(&mut out, u64::MAX)?;
     put_digits(&mut out, 493, 8)?;
     put_digits(&mut out, 0, 8)?;
     put_digits(&mut out, u64::MAX, 10)?;
-    assert_eq!(rt;
-        out.as_slice(),
-        b"txid 18446744073709551615755018446744073709551615".as_slice()
-    );
+    Ok(out)
+}
+
+#[test]
+fn numbers_are_printed(rt: HostRuntime) -> Result<(), Fail> {
+    let wanted = b"txid 18446744073709551615755018446744073709551615";
+    assert!(rt; printed(rt.alloc())?.as_slice() == wanted.as_slice());
     Ok(())
+}
+
+// Whether the text is the same where its name is copied, and where it is moved.
+fn is_name(alloc: Global, text: &[u8]) -> Result<bool, OutOfMemory> {
+    let name = Name::from_slice(alloc, text)?;
+    let moved = Name::of(Vec::from_slice(alloc, text)?);
+    Ok(name.copy(alloc)?.as_slice() == text && moved.as_slice() == text)
 }
 
 #[test]
 fn names_are_copied(rt: HostRuntime) -> Result<(), Fail> {
-    let name = Name::from_slice(rt.alloc(), b"/u/d")?;
-    assert_eq!(rt; name.copy(rt.alloc())?.as_slice(), b"/u/d".as_slice());
-    let moved = Name::of(Vec::from_slice(rt.alloc(), b"hdfs")?);
-    assert_eq!(rt; moved.as_slice(), b"hdfs".as_slice());
+    assert!(rt; is_name(rt.alloc(), b"/u/d")?);
+    assert!(rt; is_name(rt.alloc(), b"hdfs")?);
     Ok(())
 }
 
 #[test]
 fn bytes_are_shared(rt: HostRuntime) -> Result<(), Fail> {
     let bytes = Bytes::copy_of(rt.alloc(), &[24])?.ok_or("one byte")?;
-    assert_eq!(rt; bytes.len(), 1);
-    assert_eq!(rt; bytes.share()?.as_slice(), [24u8].as_slice());
+    assert!(rt; bytes.len() == 1);
+    assert!(rt; bytes.share()?.as_slice() == [24u8].as_slice());
+    Ok(())
+}
+
+#[test]
+fn no_bytes_are_none(rt: HostRuntime) -> Result<(), Fail> {
     assert!(rt; Bytes::copy_of(rt.alloc(), &[])?.is_none());
     Ok(())
 }

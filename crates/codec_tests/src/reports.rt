@@ -3,13 +3,13 @@ use journal_core::{Batch, BodyList, Bytes, Head, Refusal, Reply, Request, Shared
 use mesh::{HistoryTable, Mesh, RecordTable};
 use node_world::{HistoryLine, HistoryList, NodeAnswer, NodeAsk, Plan, Record, RecordList, Told};
 use ns_tree::{End, EndList, LastSpace, Namespace, RowList};
-use qj_num::Name;
+use qj_num::{Name, OutOfMemory};
 use report_text::{Report, report_of, text_size};
 use std::alloc::Global;
 use std::test::Fail;
 
 /// A node was asked its state by the first caller, and killed by the second.
-fn histories(alloc: Global, request: &SharedRequest) -> Result<HistoryTable, Fail> {
+fn histories(alloc: Global, request: &SharedRequest) -> Result<HistoryTable, OutOfMemory> {
     let mut history = HistoryList::new(alloc);
     history.push(HistoryLine {
         caller: 0,
@@ -30,7 +30,7 @@ fn histories(alloc: Global, request: &SharedRequest) -> Result<HistoryTable, Fai
 }
 
 /// A table of one record of each of these lines.
-fn records(alloc: Global, lines: Vec<Record>) -> Result<RecordTable, Fail> {
+fn records(alloc: Global, lines: Vec<Record>) -> Result<RecordTable, OutOfMemory> {
     let mut records = RecordTable::new(alloc);
     for line in lines {
         let mut list = RecordList::new(alloc);
@@ -41,25 +41,30 @@ fn records(alloc: Global, lines: Vec<Record>) -> Result<RecordTable, Fail> {
 }
 
 /// What one actor, `a`, ends with.
-fn ends(alloc: Global, last: Option<LastSpace>) -> Result<EndList, Fail> {
+fn ends(alloc: Global, last: Option<LastSpace>) -> Result<EndList, OutOfMemory> {
     let name = Name::from_slice(alloc, b"a")?;
     let mut ends = EndList::new(alloc);
     ends.push(End { name, last })?;
     Ok(ends)
 }
 
-/// The text of the report.
-fn text_of(alloc: Global, mesh: &Mesh, ends: &EndList) -> Result<Vec<u8>, Fail> {
+/// Whether that is the report, and its size is told.
+fn is_reported(
+    alloc: Global,
+    mesh: &Mesh,
+    ends: &EndList,
+    wanted: &[u8],
+) -> Result<bool, OutOfMemory> {
     match report_of(alloc, mesh, ends)? {
-        Report::Text(report) => Ok(report),
-        _ => Err("too long".into()),
+        Report::Text(report) => {
+            Ok(report.as_slice() == wanted && text_size(mesh, ends) == wanted.len() as u64)
+        }
+        _ => Ok(false),
     }
 }
 
-#[test]
-fn a_report_is_printed(rt: HostRuntime) -> Result<(), Fail> {
-    let request = SharedRequest::new(rt.alloc(), Request::State)?;
-    let histories = histories(rt.alloc(), &request)?;
+/// A call of the first actor that was refused, and an order.
+fn call_and_order(alloc: Global, request: SharedRequest) -> Result<RecordTable, OutOfMemory> {
     let call = Record::Call {
         node: 1,
         request,
@@ -70,67 +75,93 @@ fn a_report_is_printed(rt: HostRuntime) -> Result<(), Fail> {
         ask: NodeAsk::Kill,
         done: true,
     };
-    let mesh = Mesh {
+    records(alloc, vec![in alloc; call, order]?)
+}
+
+/// A mesh of those histories and records.
+fn small_mesh(alloc: Global) -> Result<Mesh, OutOfMemory> {
+    let request = SharedRequest::new(alloc, Request::State)?;
+    Ok(Mesh {
         nodes: 1,
-        histories,
-        records: records(rt.alloc(), vec![in rt.alloc(); call, order]?)?,
-        plan: Plan::new(rt.alloc()),
-    };
-    let wanted =
-        b"nodes 1\nnode 1\na state -> state 12\nops kill -> done\nactor a\n1 state -> refused 1 Down\nactor ops\n1 kill -> done\nend\n";
+        histories: histories(alloc, &request)?,
+        records: call_and_order(alloc, request)?,
+        plan: Plan::new(alloc),
+    })
+}
+
+const SMALL: &[u8] =
+    b"nodes 1\nnode 1\na state -> state 12\nops kill -> done\nactor a\n1 state -> refused 1 Down\nactor ops\n1 kill -> done\nend\n";
+
+#[test]
+fn a_report_is_printed(rt: HostRuntime) -> Result<(), Fail> {
+    let mesh = small_mesh(rt.alloc())?;
     let ends = ends(rt.alloc(), None)?;
-    assert_eq!(rt;
-        text_of(rt.alloc(), &mesh, &ends)?.as_slice(),
-        wanted.as_slice()
-    );
-    assert_eq!(rt; text_size(&mesh, &ends), wanted.len() as u64);
+    assert!(rt; is_reported(rt.alloc(), &mesh, &ends, SMALL)?);
     Ok(())
 }
 
 /// The root alone, at this position.
-fn root_at(alloc: Global, position: u64) -> Result<LastSpace, Fail> {
+fn root_at(alloc: Global, position: u64) -> Result<LastSpace, OutOfMemory> {
     let root = Namespace::new(alloc)?.row(0).copy(alloc)?;
     let rows = RowList::of(vec![in alloc; root]?);
     Ok(LastSpace { position, rows })
 }
 
+/// A mesh of no nodes with these records.
+fn mesh_of(alloc: Global, records: RecordTable) -> Mesh {
+    Mesh {
+        nodes: 0,
+        histories: HistoryTable::new(alloc),
+        records,
+        plan: Plan::new(alloc),
+    }
+}
+
+/// The record of a reload.
+fn reloaded(alloc: Global) -> Result<RecordTable, OutOfMemory> {
+    match Bytes::copy_of(alloc, b"reload 0")? {
+        Some(text) => records(alloc, vec![in alloc; Record::Outcome { text }]?),
+        None => Ok(RecordTable::new(alloc)),
+    }
+}
+
+const RELOADED: &[u8] =
+    b"nodes 0\nactor a\n= reload 0\nposition 17\n. /\t0\t0\t0\t0\t0\t0\t-1\t-1\tdrwxr-xr-x\thdfs\tsupergroup\nend\n";
+
 #[test]
 fn a_position_and_rows_are_printed(rt: HostRuntime) -> Result<(), Fail> {
-    let text = Bytes::copy_of(rt.alloc(), b"reload 0")?.ok_or("no byte")?;
-    let mesh = Mesh {
-        nodes: 0,
-        histories: HistoryTable::new(rt.alloc()),
-        records: records(rt.alloc(), vec![in rt.alloc(); Record::Outcome { text }]?)?,
-        plan: Plan::new(rt.alloc()),
-    };
-    let wanted =
-        b"nodes 0\nactor a\n= reload 0\nposition 17\n. /\t0\t0\t0\t0\t0\t0\t-1\t-1\tdrwxr-xr-x\thdfs\tsupergroup\nend\n";
+    let mesh = mesh_of(rt.alloc(), reloaded(rt.alloc())?);
     let ends = ends(rt.alloc(), Some(root_at(rt.alloc(), 17)?))?;
-    assert_eq!(rt;
-        text_of(rt.alloc(), &mesh, &ends)?.as_slice(),
-        wanted.as_slice()
-    );
-    assert_eq!(rt; text_size(&mesh, &ends), wanted.len() as u64);
+    assert!(rt; is_reported(rt.alloc(), &mesh, &ends, RELOADED)?);
     Ok(())
 }
 
-/// A request with 16,384 times the same body of 4,096 bytes, whose text has 134,234,138 bytes.
-fn long_request(alloc: Global) -> Result<SharedRequest, Fail> {
-    let body = Bytes::copy_of(alloc, &[7; 4096])?.ok_or("no byte")?;
+/// 16,384 times the same body of 4,096 bytes.
+fn long_bodies(alloc: Global) -> Result<BodyList, OutOfMemory> {
     let mut bodies = BodyList::new(alloc);
-    for _ in 0..16_384 {
-        bodies.push(body.share()?)?;
+    if let Some(body) = Bytes::copy_of(alloc, &[7; 4096])? {
+        for _ in 0..16_384 {
+            bodies.push(body.share()?)?;
+        }
     }
+    Ok(bodies)
+}
+
+/// A request with those bodies, whose text has 134,234,138 bytes.
+fn long_request(alloc: Global) -> Result<Option<SharedRequest>, OutOfMemory> {
+    let bodies = long_bodies(alloc)?;
     if bodies.is_empty() {
-        return Err("no body".into());
+        return Ok(None);
     }
-    let head = Head::new(1, 1, 0).ok_or("no head")?;
+    let Some(head) = Head::new(1, 1, 0) else {
+        return Ok(None);
+    };
     let batch = Batch::new(1, bodies);
-    Ok(SharedRequest::new(alloc, Request::Accept { head, batch })?)
+    Ok(Some(SharedRequest::new(alloc, Request::Accept { head, batch })?))
 }
 
 /// One record of two calls of that request.
-fn two_calls(alloc: Global, request: &SharedRequest) -> Result<RecordTable, Fail> {
+fn two_calls(alloc: Global, request: &SharedRequest) -> Result<RecordTable, OutOfMemory> {
     let mut calls = RecordList::new(alloc);
     for node in 1..3 {
         calls.push(Record::Call {
@@ -146,16 +177,11 @@ fn two_calls(alloc: Global, request: &SharedRequest) -> Result<RecordTable, Fail
 
 #[test]
 fn a_longer_report_is_too_long(rt: HostRuntime) -> Result<(), Fail> {
-    let alloc = rt.alloc();
-    let mesh = Mesh {
-        nodes: 0,
-        histories: HistoryTable::new(alloc),
-        records: two_calls(alloc, &long_request(alloc)?)?,
-        plan: Plan::new(alloc),
-    };
-    let ends = ends(alloc, None)?;
-    let report = report_of(alloc, &mesh, &ends)?;
+    let request = long_request(rt.alloc())?.ok_or("no request")?;
+    let mesh = mesh_of(rt.alloc(), two_calls(rt.alloc(), &request)?);
+    let ends = ends(rt.alloc(), None)?;
+    let report = report_of(rt.alloc(), &mesh, &ends)?;
     assert!(rt; matches!(&report, Report::TooLong));
-    assert_eq!(rt; text_size(&mesh, &ends), 268_435_457);
+    assert!(rt; text_size(&mesh, &ends) == 268_435_457);
     Ok(())
 }

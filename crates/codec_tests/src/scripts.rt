@@ -1,5 +1,9 @@
 //! The reader and the printer of scripts on their happy paths, and texts that break a rule.
+use crate::names_scripts;
+use crate::rows::is_so;
+use qj_num::OutOfMemory;
 use script_text::{ReadScript, ScriptLine, print_script, read_script};
+use std::alloc::{AllocError, Global};
 use std::test::Fail;
 
 /// A line of each kind, with comments and an empty line.
@@ -8,31 +12,68 @@ const EVERY_KIND: &[u8] =
 stop 2 1 0\ntakeover a\n# two bodies\nlog a 0a ff00\nroll a\npurge a 4611686018427387904\nkill 3\nrestart 3\n\
 late a 1 10\ncut 15 2 0 a5\nclose a\n";
 
+/// Texts of scripts, and the texts that are printed of them.
+const PRINTED: &[(&[u8], &[u8])] = &[
+    (
+        EVERY_KIND,
+        b"raw 15\nwriter a\nwriter b1\ndrop b1 2 3\nmute a 15 1\nstop 2 1 0\ntakeover a\nlog a 0a ff00\nroll a\n\
+purge a 4611686018427387904\nkill 3\nrestart 3\nlate a 1 10\ncut 15 2 0 a5\nclose a\n",
+    ),
+    // The first script, behind a comment.
+    (
+        b"# Three nodes and one writer.\nraw 3\nwriter a\ntakeover a\nlog a 0a\nlog a 0b\nlog a 0c\n",
+        b"raw 3\nwriter a\ntakeover a\nlog a 0a\nlog a 0b\nlog a 0c\n",
+    ),
+    // Eight writers are legal.
+    (
+        b"raw 1\nwriter a\nwriter b\nwriter c\nwriter d\nwriter e\nwriter f\nwriter g\nwriter h\ntakeover h\n",
+        b"raw 1\nwriter a\nwriter b\nwriter c\nwriter d\nwriter e\nwriter f\nwriter g\nwriter h\ntakeover h\n",
+    ),
+    (names_scripts::EVERY_KIND, names_scripts::EVERY_KIND),
+];
+
+/// Whether the text is a script's, and printed so.
+fn is_printed(alloc: Global, text: &[u8], printed: &[u8]) -> Result<bool, OutOfMemory> {
+    match read_script(alloc, text) {
+        ReadScript::Script(script) => Ok(print_script(alloc, &script)?.as_slice() == printed),
+        ReadScript::BadScript { .. } => Ok(false),
+        ReadScript::OutOfMemory => Err(AllocError),
+    }
+}
+
 #[test]
-fn a_script_is_read_and_printed(rt: HostRuntime) -> Result<(), Fail> {
+fn scripts_are_printed(rt: HostRuntime) -> Result<(), Fail> {
+    for (row, (text, printed)) in PRINTED.iter().enumerate() {
+        is_so(&rt, row, is_printed(rt.alloc(), *text, *printed)?);
+    }
+    Ok(())
+}
+
+/// Whether a line logs these bodies for the first actor.
+fn is_log(line: &ScriptLine) -> bool {
+    match line {
+        ScriptLine::Log { actor, bodies } => {
+            *actor == 0
+                && bodies.len() == 2
+                && bodies.as_slice()[1].as_slice() == [255, 0].as_slice()
+        }
+        _ => false,
+    }
+}
+
+#[test]
+fn a_script_is_read(rt: HostRuntime) -> Result<(), Fail> {
     let ReadScript::Script(script) = read_script(rt.alloc(), EVERY_KIND) else {
         return Err(Fail::from("no script"));
     };
-    assert_eq!(rt; script.nodes(), 15);
-    assert_eq!(rt; script.lines().len(), 14);
-    let printed = print_script(rt.alloc(), &script)?;
-    assert_eq!(rt;
-        printed.as_slice(),
-        b"raw 15\nwriter a\nwriter b1\ndrop b1 2 3\nmute a 15 1\nstop 2 1 0\ntakeover a\nlog a 0a ff00\nroll a\n\
-purge a 4611686018427387904\nkill 3\nrestart 3\nlate a 1 10\ncut 15 2 0 a5\nclose a\n"
-            .as_slice()
-    );
-    let ScriptLine::Log { actor, bodies } = &script.lines()[6] else {
-        return Err(Fail::from("no log line"));
-    };
-    assert_eq!(rt; *actor, 0);
-    assert_eq!(rt; bodies.len(), 2);
-    assert_eq!(rt; bodies.as_slice()[1].as_slice(), [255, 0].as_slice());
+    assert!(rt; script.nodes() == 15);
+    assert!(rt; script.lines().len() == 14);
+    assert!(rt; is_log(&script.lines()[6]));
     Ok(())
 }
 
 /// A text, the first line of it that breaks a rule, and the rule.
-const BROKEN: [(&[u8], u64, u32); 24] = [
+const BROKEN: &[(&[u8], u64, u32)] = &[
     (b"", 1, 1),
     (b"names 16\n", 1, 1),
     (b"raw 16\n", 1, 1),
@@ -67,30 +108,20 @@ const BROKEN: [(&[u8], u64, u32); 24] = [
     ),
 ];
 
-#[test]
-fn the_first_broken_rule_is_told(rt: HostRuntime) -> Result<(), Fail> {
-    for (text, line, rule) in BROKEN {
-        let ReadScript::BadScript {
+/// Whether this is the first broken rule, and its line.
+pub fn is_broken(alloc: Global, text: &[u8], line: u64, rule: u32) -> bool {
+    match read_script(alloc, text) {
+        ReadScript::BadScript {
             line: at,
             rule: broken,
-        } = read_script(rt.alloc(), text)
-        else {
-            return Err(Fail::from("a script"));
-        };
-        assert_eq!(rt; at, line);
-        assert_eq!(rt; broken, rule);
+        } => at == line && broken == rule,
+        ReadScript::Script(_) | ReadScript::OutOfMemory => false,
     }
-    Ok(())
 }
 
 #[test]
-fn eight_writers_are_legal(rt: HostRuntime) -> Result<(), Fail> {
-    let text =
-        b"raw 1\nwriter a\nwriter b\nwriter c\nwriter d\nwriter e\nwriter f\nwriter g\nwriter h\ntakeover h\n";
-    let ReadScript::Script(script) = read_script(rt.alloc(), text) else {
-        return Err(Fail::from("no script"));
-    };
-    let printed = print_script(rt.alloc(), &script)?;
-    assert_eq!(rt; printed.as_slice(), text.as_slice());
-    Ok(())
+fn the_first_broken_rule_is_told(rt: HostRuntime) {
+    for (row, (text, line, rule)) in BROKEN.iter().enumerate() {
+        is_so(&rt, row, is_broken(rt.alloc(), *text, *line, *rule));
+    }
 }

@@ -3,26 +3,56 @@ use journal_core::{Batch, BodyList, Bytes, Head, Reply, Request, SharedRequest};
 use mesh::{HistoryTable, Mesh, RecordTable};
 use node_world::{Plan, Record, RecordList, Told};
 use ns_tree::{End, EndList, LastSpace, RowList};
-use qj_num::Name;
+use qj_num::{Name, OutOfMemory};
 use report_text::summary_of;
 use std::alloc::Global;
 use std::test::Fail;
 
-/// A journal of two bodies from this txid on.
-fn journal(alloc: Global, serial: u64, first: u64) -> Result<SharedRequest, Fail> {
+/// Two bodies.
+fn two_bodies(alloc: Global) -> Result<BodyList, OutOfMemory> {
     let mut bodies = BodyList::new(alloc);
-    bodies.push(Bytes::copy_of(alloc, b"x")?.ok_or("no byte")?)?;
-    bodies.push(Bytes::copy_of(alloc, b"y")?.ok_or("no byte")?)?;
-    if bodies.is_empty() {
-        return Err("no body".into());
+    for text in [b"x", b"y"] {
+        if let Some(body) = Bytes::copy_of(alloc, text)? {
+            bodies.push(body)?;
+        }
     }
-    let request = Request::Journal {
-        head: Head::new(1, serial, 0).ok_or("no head")?,
-        start: 1,
-        batch: Batch::new(first, bodies),
-    };
-    Ok(SharedRequest::new(alloc, request)?)
+    Ok(bodies)
 }
+
+/// A journal of two bodies from this txid on.
+fn journal(alloc: Global, serial: u64, first: u64) -> Result<Option<SharedRequest>, OutOfMemory> {
+    let bodies = two_bodies(alloc)?;
+    if bodies.is_empty() {
+        return Ok(None);
+    }
+    let Some(head) = Head::new(1, serial, 0) else {
+        return Ok(None);
+    };
+    let batch = Batch::new(first, bodies);
+    let request = Request::Journal {
+        head,
+        start: 1,
+        batch,
+    };
+    Ok(Some(SharedRequest::new(alloc, request)?))
+}
+
+/// The call of a request at a node, which answers with Ok or isn't heard.
+fn call(request: &SharedRequest, node: usize, is_heard: bool) -> Result<Record, OutOfMemory> {
+    let told = if is_heard {
+        Told::Reply(Reply::Ok)
+    } else {
+        Told::Muted
+    };
+    Ok(Record::Call {
+        node,
+        request: request.share()?,
+        told,
+    })
+}
+
+/// The serial and the first txid of a journal, and how many of three nodes answer with Ok.
+const ROUNDS: &[(u64, u64, usize)] = &[(2, 5, 3), (3, 7, 2), (4, 9, 1)];
 
 /// Calls of one journal at three nodes, of which the first so many answer with Ok.
 fn add_round(
@@ -31,25 +61,17 @@ fn add_round(
     serial: u64,
     first: u64,
     oks: usize,
-) -> Result<(), Fail> {
-    let request = journal(alloc, serial, first)?;
-    for node in 1..4 {
-        let told = if node <= oks {
-            Told::Reply(Reply::Ok)
-        } else {
-            Told::Muted
-        };
-        lines.push(Record::Call {
-            node,
-            request: request.share()?,
-            told,
-        })?;
+) -> Result<(), OutOfMemory> {
+    if let Some(request) = journal(alloc, serial, first)? {
+        for node in 1..4 {
+            lines.push(call(&request, node, node <= oks)?)?;
+        }
     }
     Ok(())
 }
 
 /// Results of every kind, and of takeovers that took no epoch.
-const RESULTS: [&[u8]; 14] = [
+const RESULTS: &[&[u8]] = &[
     b"takeover 1 1",
     b"takeover limit 7",
     b"takeover aborted ok Down Down",
@@ -66,30 +88,34 @@ const RESULTS: [&[u8]; 14] = [
     b"tail 9",
 ];
 
-/// The record of one actor.
-fn record(alloc: Global) -> Result<RecordList, Fail> {
-    let mut lines = RecordList::new(alloc);
-    add_round(alloc, &mut lines, 2, 5, 3)?;
-    add_round(alloc, &mut lines, 3, 7, 2)?;
-    add_round(alloc, &mut lines, 4, 9, 1)?;
-    for text in RESULTS {
-        let text = Bytes::copy_of(alloc, text)?.ok_or("no byte")?;
-        lines.push(Record::Outcome { text })?;
+fn add_rounds(alloc: Global, lines: &mut RecordList) -> Result<(), OutOfMemory> {
+    for (serial, first, oks) in ROUNDS {
+        add_round(alloc, lines, *serial, *first, *oks)?;
     }
-    Ok(lines)
+    Ok(())
 }
 
-#[test]
-fn a_summary_counts_results(rt: HostRuntime) -> Result<(), Fail> {
-    let alloc = rt.alloc();
+fn add_results(alloc: Global, lines: &mut RecordList) -> Result<(), OutOfMemory> {
+    for text in RESULTS {
+        if let Some(text) = Bytes::copy_of(alloc, *text)? {
+            lines.push(Record::Outcome { text })?;
+        }
+    }
+    Ok(())
+}
+
+/// The record of one actor.
+fn records(alloc: Global) -> Result<RecordTable, OutOfMemory> {
+    let mut lines = RecordList::new(alloc);
+    add_rounds(alloc, &mut lines)?;
+    add_results(alloc, &mut lines)?;
     let mut records = RecordTable::new(alloc);
-    records.push(record(alloc)?)?;
-    let mesh = Mesh {
-        nodes: 3,
-        histories: HistoryTable::new(alloc),
-        records,
-        plan: Plan::new(alloc),
-    };
+    records.push(lines)?;
+    Ok(records)
+}
+
+/// What a standby ends with.
+fn ends(alloc: Global) -> Result<EndList, OutOfMemory> {
     let mut ends = EndList::new(alloc);
     ends.push(End {
         name: Name::from_slice(alloc, b"s")?,
@@ -98,11 +124,21 @@ fn a_summary_counts_results(rt: HostRuntime) -> Result<(), Fail> {
             rows: RowList::of(Vec::new(alloc)),
         }),
     })?;
-    let wanted =
-        b"nodes 3\nedits 7\nacked 2\nrefused 1\naborted 1\ninactive 1\ntoolong 1\ntakeovers 1\nlast 8\nstandby 6\n";
-    assert_eq!(rt;
-        summary_of(alloc, &mesh, &ends)?.as_slice(),
-        wanted.as_slice()
-    );
+    Ok(ends)
+}
+
+const SUMMARY: &[u8] =
+    b"nodes 3\nedits 7\nacked 2\nrefused 1\naborted 1\ninactive 1\ntoolong 1\ntakeovers 1\nlast 8\nstandby 6\n";
+
+#[test]
+fn a_summary_counts_results(rt: HostRuntime) -> Result<(), Fail> {
+    let mesh = Mesh {
+        nodes: 3,
+        histories: HistoryTable::new(rt.alloc()),
+        records: records(rt.alloc())?,
+        plan: Plan::new(rt.alloc()),
+    };
+    let ends = ends(rt.alloc())?;
+    assert!(rt; summary_of(rt.alloc(), &mesh, &ends)?.as_slice() == SUMMARY);
     Ok(())
 }

@@ -1,12 +1,15 @@
 //! The bytes of known images, what is read from them, and each fault at its place.
-ghost use Rattle.std.specs.Prelude.{◌≡◌, ◌∷◌, [], IfOk, OnOk};
+ghost use Rattle.std.specs.Prelude.{◌≡◌, ◌∷◌, [], true, IfOk, OnOk};
 ghost use Rattle.ns_tree.specs.Space.{IsInode, find, is_dir_there};
+ghost use Rattle.ns_tree.specs.Path.{is_owner};
 
+use crate::rows::is_so;
 use edit_ops::{Call, NumberList};
 use image_codec::{ImageCause, ReadImage, image_of, read_image};
-use ns_tree::{Inode, Namespace, is_good_path, parent};
+use ns_tree::{Inode, Namespace, is_good_owner, is_good_path, parent};
 use qj_num::{Name, OutOfMemory};
-use std::alloc::Global;
+use std::alloc::{AllocError, Global};
+use std::process::Abort;
 use std::test::Fail;
 
 /// The image of the empty namespace at txid 0, in layout 2. The first 68 bytes with 1 as the eighth are that
@@ -20,8 +23,11 @@ pub const EMPTY: [u8; 72] = [
 /// Where the fields of that image begin.
 pub const FIELDS: [usize; 13] = [0, 4, 8, 16, 20, 23, 24, 32, 34, 40, 52, 60, 68];
 
-/// One byte of the empty image, what it is changed to, and the fault that is told with its place.
-pub const EMPTY_CHANGES: [(usize, u8, usize, ImageCause); 22] = [
+/// One byte of an image, what it is changed to, and the fault that is told with its place.
+pub type Change = (usize, u8, usize, ImageCause);
+
+/// Changes of the empty image.
+pub const EMPTY_CHANGES: [Change; 22] = [
     (0, 0, 0, ImageCause::Magic),
     (3, 0, 0, ImageCause::Magic),
     (7, 0, 4, ImageCause::Layout),
@@ -59,8 +65,8 @@ pub const KNOWN: [u8; 233] = [
     170, 170, 170, 170, 170, 170, 170, 170, 170, 0, 0, 0, 2, 0, 0, 0, 0, 0, 0, 0, 7,
 ];
 
-/// The same of that image: `/u` begins at 68, `/u/f` at 109, the calls at 173, the second of them at 205.
-pub const KNOWN_CHANGES: [(usize, u8, usize, ImageCause); 17] = [
+/// Changes of that image: `/u` begins at 68, `/u/f` at 109, the calls at 173, the second of them at 205.
+pub const KNOWN_CHANGES: [Change; 17] = [
     (71, 0x2f, 68, ImageCause::Field),
     (112, 0x61, 109, ImageCause::Order),
     (112, 0x76, 109, ImageCause::NoParent),
@@ -80,39 +86,28 @@ pub const KNOWN_CHANGES: [(usize, u8, usize, ImageCause); 17] = [
     (232, 10, 225, ImageCause::Field),
 ];
 
-// What is wrong with the bytes.
-fn fault_of(alloc: Global, bytes: &[u8]) -> Result<Option<(usize, ImageCause)>, OutOfMemory> {
+/// What is wrong with bytes.
+#[derive(Clone, Copy, PartialEq, Eq)]
+enum Seen {
+    Image,
+    /// The place and the cause of the first fault.
+    Bad(usize, ImageCause),
+}
+
+fn seen_of(alloc: Global, bytes: &[u8]) -> Result<Seen, OutOfMemory> {
     match read_image(alloc, bytes)? {
-        ReadImage::Image { .. } => Ok(None),
-        ReadImage::BadImage { place, cause } => Ok(Some((place, cause))),
+        ReadImage::Image { .. } => Ok(Seen::Image),
+        ReadImage::BadImage { place, cause } => Ok(Seen::Bad(place, cause)),
     }
 }
 
-// Whether this fault is told at the place.
-fn has_fault(
-    alloc: Global,
-    bytes: &[u8],
-    place: usize,
-    cause: ImageCause,
-) -> Result<bool, OutOfMemory> {
-    match fault_of(alloc, bytes)? {
-        Some((at, told)) => Ok(at == place && told == cause),
-        None => Ok(false),
-    }
-}
-
-// Whether the bytes with one other byte have this fault.
-fn has_changed_fault(
-    alloc: Global,
-    bytes: &[u8],
-    change: (usize, u8, usize, ImageCause),
-) -> Result<bool, OutOfMemory> {
-    let (at, byte, place, cause) = change;
+/// The bytes with one other byte.
+pub fn changed(alloc: Global, bytes: &[u8], at: usize, byte: u8) -> Result<Vec<u8>, OutOfMemory> {
     let mut changed = Vec::from_slice(alloc, bytes)?;
     if at < changed.len() {
         changed[at] = byte;
     }
-    has_fault(alloc, changed.as_slice(), place, cause)
+    Ok(changed)
 }
 
 /// The last of the numbers that isn't above a limit.
@@ -140,40 +135,85 @@ pub fn call(number: u32) -> Call
 fn the_empty_image_is_known(rt: HostRuntime) -> Result<(), Fail> {
     let space = Namespace::new(rt.alloc())?;
     let image = image_of(rt.alloc(), &space, 0)?;
-    assert_eq!(rt; image.as_slice(), EMPTY.as_slice());
+    assert!(rt; image.as_slice() == EMPTY.as_slice());
     Ok(())
+}
+
+/// The layout of the empty image, how many of its bytes are read, and how many zeros behind them.
+const EMPTY_READ: &[(u8, usize, usize, Seen)] = &[
+    (2, 72, 0, Seen::Image),
+    (2, 72, 1, Seen::Bad(72, ImageCause::Trailing)),
+    (2, 68, 0, Seen::Bad(68, ImageCause::Short)),
+    (1, 68, 0, Seen::Image),
+    (1, 68, 1, Seen::Bad(68, ImageCause::Trailing)),
+];
+
+/// The empty image in that layout, cut and with zeros behind it.
+pub fn empty_image(
+    alloc: Global,
+    layout: u8,
+    length: usize,
+    zeros: usize,
+) -> Result<Vec<u8>, OutOfMemory> {
+    let mut bytes = changed(alloc, &EMPTY, 7, layout)?;
+    bytes.truncate(length);
+    for _ in 0..zeros {
+        bytes.push(0)?;
+    }
+    Ok(bytes)
 }
 
 #[test]
 fn empty_images_are_read(rt: HostRuntime) -> Result<(), Fail> {
-    let mut one = Vec::from_slice(rt.alloc(), &EMPTY)?;
-    assert!(rt; fault_of(rt.alloc(), one.as_slice())?.is_none());
-    one.push(0)?;
-    assert!(rt; has_fault(rt.alloc(), one.as_slice(), 72, ImageCause::Trailing)?);
-    one.truncate(68);
-    assert!(rt; has_fault(rt.alloc(), one.as_slice(), 68, ImageCause::Short)?);
-    one[7] = 1;
-    assert!(rt; fault_of(rt.alloc(), one.as_slice())?.is_none());
-    one.push(0)?;
-    assert!(rt; has_fault(rt.alloc(), one.as_slice(), 68, ImageCause::Trailing)?);
+    for (row, (layout, length, zeros, seen)) in EMPTY_READ.iter().enumerate() {
+        let bytes = empty_image(rt.alloc(), *layout, *length, *zeros)?;
+        is_so(&rt, row, seen_of(rt.alloc(), &bytes)? == *seen);
+    }
+    Ok(())
+}
+
+// Each change of the bytes is told.
+fn changes_are_told(
+    rt: &impl Abort,
+    alloc: Global,
+    bytes: &[u8],
+    changes: &[Change],
+) -> Result<(), OutOfMemory> {
+    for (row, (at, byte, place, cause)) in changes.iter().enumerate() {
+        let other = changed(alloc, bytes, *at, *byte)?;
+        is_so(
+            rt,
+            row,
+            seen_of(alloc, &other)? == Seen::Bad(*place, *cause),
+        );
+    }
     Ok(())
 }
 
 #[test]
 fn changes_of_the_empty_image_are_told(rt: HostRuntime) -> Result<(), Fail> {
-    for change in &EMPTY_CHANGES {
-        assert!(rt; has_changed_fault(rt.alloc(), &EMPTY, *change)?);
-    }
+    changes_are_told(&rt, rt.alloc(), &EMPTY, &EMPTY_CHANGES)?;
     Ok(())
 }
 
 #[test]
 fn prefixes_of_the_empty_image_are_short(rt: HostRuntime) -> Result<(), Fail> {
     for length in 0..72 {
-        let place = last_up_to(&FIELDS, length);
-        assert!(rt; has_fault(rt.alloc(), &EMPTY[..length], place, ImageCause::Short)?);
+        let short = Seen::Bad(last_up_to(&FIELDS, length), ImageCause::Short);
+        is_so(&rt, length, seen_of(rt.alloc(), &EMPTY[..length])? == short);
     }
     Ok(())
+}
+
+/// A user or a group; a text that is neither is refused.
+pub fn owner(alloc: Global, text: &[u8]) -> Result<Name, OutOfMemory>
+    ensures { IfOk result (λ name. is_owner name ≡ true) }
+{
+    if is_good_owner(text) {
+        Name::from_slice(alloc, text)
+    } else {
+        Err(AllocError)
+    }
 }
 
 // A directory or a file of ann's.
@@ -183,8 +223,8 @@ fn directory(alloc: Global) -> Result<Inode, OutOfMemory>
     Ok(Inode::Dir {
         mtime: 10,
         permission: 0o755,
-        user: Name::from_slice(alloc, b"ann")?,
-        group: Name::from_slice(alloc, b"ops")?,
+        user: owner(alloc, b"ann")?,
+        group: owner(alloc, b"ops")?,
         names: 0,
         space: 0,
     })
@@ -208,8 +248,8 @@ fn file(alloc: Global) -> Result<Inode, OutOfMemory>
         atime: 1,
         block_size: 10,
         permission: 0o644,
-        user: Name::from_slice(alloc, b"ann")?,
-        group: Name::from_slice(alloc, b"ops")?,
+        user: owner(alloc, b"ann")?,
+        group: owner(alloc, b"ops")?,
         lengths: two_ones(alloc)?,
         under_construction: true,
     })
@@ -275,7 +315,7 @@ fn known_with_call(alloc: Global) -> Result<Vec<u8>, OutOfMemory> {
 fn a_tree_with_a_call_has_its_image(rt: HostRuntime) -> Result<(), Fail> {
     let image = image_with_call(rt.alloc())?;
     let known = known_with_call(rt.alloc())?;
-    assert_eq!(rt; image.as_slice(), known.as_slice());
+    assert!(rt; image.as_slice() == known.as_slice());
     Ok(())
 }
 
@@ -293,34 +333,39 @@ pub fn is_known(space: &Namespace) -> bool {
     space.row_count() == 3 && dir && file
 }
 
+/// Numbers of calls, and the txids of their edits in the known image.
+const CALLS: &[(u32, Option<u64>)] = &[(1, Some(3)), (2, Some(7)), (3, None)];
+
+fn has_known_calls(rt: &impl Abort, namespace: &Namespace) {
+    for (row, (number, txid)) in CALLS.iter().enumerate() {
+        is_so(rt, row, namespace.repeated(&call(*number)) == *txid);
+    }
+}
+
 #[test]
 fn the_known_image_is_read(rt: HostRuntime) -> Result<(), Fail> {
     match read_image(rt.alloc(), &KNOWN)? {
         ReadImage::Image { namespace, txid } => {
-            assert_eq!(rt; txid, 9);
+            assert!(rt; txid == 9);
             assert!(rt; is_known(&namespace));
-            assert_eq!(rt; namespace.repeated(&call(1)), Some(3));
-            assert_eq!(rt; namespace.repeated(&call(2)), Some(7));
-            assert_eq!(rt; namespace.repeated(&call(3)), None);
+            has_known_calls(&rt, &namespace);
+            Ok(())
         }
-        ReadImage::BadImage { .. } => assert!(rt; false),
+        ReadImage::BadImage { .. } => Err("it is an image".into()),
     }
-    Ok(())
 }
 
 #[test]
 fn changes_of_the_known_image_are_told(rt: HostRuntime) -> Result<(), Fail> {
-    for change in &KNOWN_CHANGES {
-        assert!(rt; has_changed_fault(rt.alloc(), &KNOWN, *change)?);
-    }
+    changes_are_told(&rt, rt.alloc(), &KNOWN, &KNOWN_CHANGES)?;
     Ok(())
 }
 
 #[test]
 fn prefixes_of_the_known_image_are_short(rt: HostRuntime) -> Result<(), Fail> {
     for length in 0..233 {
-        let fault = fault_of(rt.alloc(), &KNOWN[..length])?;
-        assert!(rt; matches!(fault, Some((_, ImageCause::Short))));
+        let seen = seen_of(rt.alloc(), &KNOWN[..length])?;
+        is_so(&rt, length, matches!(seen, Seen::Bad(_, ImageCause::Short)));
     }
     Ok(())
 }

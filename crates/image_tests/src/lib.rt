@@ -8,6 +8,8 @@ mod listings;
 #[cfg(test)]
 mod loads;
 #[cfg(test)]
+mod rows;
+#[cfg(test)]
 mod store;
 #[cfg(test)]
 mod store_disk;

@@ -3,9 +3,10 @@ ghost use Rattle.std.specs.Prelude.{◌≡◌, IfOk};
 ghost use Rattle.ns_tree.specs.Space.{AreRising};
 
 use crate::codec::{EMPTY, call, is_known, tree};
-use crate::store_disk::{choices, file_count, new_disk, write};
+use crate::rows::is_so;
+use crate::store_disk::{CHOICES, file_count, new_disk, save as save_image, writes};
 use image_codec::ImageCause;
-use image_store::{Loaded, load, save, save_bytes};
+use image_store::{Loaded, load, save};
 use ns_tree::Namespace;
 use qj_disk::{Choice, DiskFail, UntoldDisk};
 use qj_num::OutOfMemory;
@@ -18,6 +19,43 @@ const IMAGE: &str = "fsimage_0000000000000000004";
 
 const DIGEST: &str = "fsimage_0000000000000000004.md5";
 
+/// What is loaded.
+#[derive(Clone, Copy, PartialEq, Eq)]
+enum Seen {
+    /// The known tree with a call of the edit 3, at that txid.
+    Tree(u64),
+    /// Another namespace.
+    Other(u64),
+    NoImage,
+    /// The stored digest, and the one of the bytes.
+    Differs([u8; 16], [u8; 16]),
+    /// The place and the cause of the first fault.
+    Bad(usize, ImageCause),
+    /// The disk fails.
+    Fails,
+    Memory,
+}
+
+fn namespace_seen(namespace: &Namespace, txid: u64) -> Seen {
+    if is_known(namespace) && namespace.repeated(&call(1)) == Some(3) {
+        Seen::Tree(txid)
+    } else {
+        Seen::Other(txid)
+    }
+}
+
+// What is loaded of the image at a txid.
+fn seen_at(alloc: Global, disk: &mut UntoldDisk, txid: u64) -> Seen {
+    match load(alloc, disk, txid) {
+        Ok(Loaded::Image { namespace, txid }) => namespace_seen(&namespace, txid),
+        Ok(Loaded::NoImage) => Seen::NoImage,
+        Ok(Loaded::DigestDiffers { stored, computed }) => Seen::Differs(stored, computed),
+        Ok(Loaded::BadImage { place, cause }) => Seen::Bad(place, cause),
+        Err(DiskFail::Failed) => Seen::Fails,
+        Err(_) => Seen::Memory,
+    }
+}
+
 // That tree with a call of the edit 3.
 fn tree_with_call(alloc: Global) -> Result<Namespace, OutOfMemory>
     ensures { IfOk result (λ space. AreRising 0 9 space.calls) }
@@ -27,151 +65,119 @@ fn tree_with_call(alloc: Global) -> Result<Namespace, OutOfMemory>
     Ok(space)
 }
 
-// Whether that tree at txid 9 was loaded.
-fn is_tree(answer: Result<Loaded, DiskFail>) -> bool {
-    match answer {
-        Ok(Loaded::Image { namespace, txid }) => {
-            namespace.row_count() == 3 && txid == 9 && namespace.repeated(&call(1)) == Some(3)
-        }
-        _ => false,
-    }
+fn save_tree(alloc: Global, disk: &mut UntoldDisk) -> Result<Put, OutOfMemory> {
+    let space = tree_with_call(alloc)?;
+    Ok(save(alloc, disk, &space, 9))
 }
 
 #[test]
 fn a_saved_namespace_is_loaded(rt: HostRuntime) -> Result<(), Fail> {
-    let alloc = rt.alloc();
-    let mut disk = new_disk(alloc);
-    let space = tree_with_call(alloc)?;
-    assert_eq!(rt; save(alloc, &mut disk, &space, 9), Put::Done);
-    assert_eq!(rt; file_count(&rt, &mut disk), 2);
-    match load(alloc, &mut disk, 9)? {
-        Loaded::Image { namespace, txid } => {
-            assert_eq!(rt; txid, 9);
-            assert!(rt; is_known(&namespace));
-            assert_eq!(rt; namespace.repeated(&call(1)), Some(3));
-        }
-        _ => panic!(&rt; "the image is loaded"),
-    }
+    let mut disk = new_disk(rt.alloc());
+    assert!(rt; save_tree(rt.alloc(), &mut disk)? == Put::Done);
+    assert!(rt; file_count(&mut disk) == Some(2));
+    assert!(rt; seen_at(rt.alloc(), &mut disk, 9) == Seen::Tree(9));
     Ok(())
 }
 
-// The fault of the image, if that is the answer.
-fn fault_of(answer: Loaded) -> Option<(usize, ImageCause)> {
-    match answer {
-        Loaded::BadImage { place, cause } => Some((place, cause)),
-        _ => None,
-    }
-}
+/// Bytes, how many of them are saved as an image, after how many further calls the disk fails, and what is loaded.
+const SAVED: &[(&[u8], usize, u64, Seen)] = &[
+    (b"", 0, 1000, Seen::Bad(0, ImageCause::Short)),
+    (b"QJIX", 4, 1000, Seen::Bad(0, ImageCause::Magic)),
+    (b"QJIM\0\0\0\x03", 8, 1000, Seen::Bad(4, ImageCause::Layout)),
+    (&EMPTY, 68, 1000, Seen::Bad(68, ImageCause::Short)),
+    // The txid of the bytes is told.
+    (&EMPTY, 72, 1000, Seen::Other(0)),
+    (&EMPTY, 72, 3, Seen::Fails),
+];
 
-// An image of these bytes with the digest of them is loaded with this fault.
-fn expect_bad(
-    rt: &impl Abort,
-    alloc: Global,
-    bytes: &[u8],
-    place: usize,
-    cause: ImageCause,
-) -> Result<(), DiskFail> {
+fn seen_saved(rt: &impl Abort, alloc: Global, bytes: &[u8], calls: u64) -> Seen {
     let mut disk = new_disk(alloc);
-    assert_eq!(rt; save_bytes(alloc, &mut disk, 4, bytes), Put::Done);
-    assert_eq!(rt; fault_of(load(alloc, &mut disk, 4)?), Some((place, cause)));
-    Ok(())
+    assert!(rt; save_image(rt, alloc, &mut disk, 4, bytes) == Put::Done);
+    disk.disk.stop_after(calls);
+    seen_at(alloc, &mut disk, 4)
 }
 
 #[test]
-fn bytes_that_are_no_image_are_told(rt: HostRuntime) -> Result<(), Fail> {
-    let alloc = rt.alloc();
-    expect_bad(&rt, alloc, b"", 0, ImageCause::Short)?;
-    expect_bad(&rt, alloc, b"QJIX", 0, ImageCause::Magic)?;
-    expect_bad(&rt, alloc, b"QJIM\0\0\0\x03", 4, ImageCause::Layout)?;
-    expect_bad(&rt, alloc, &EMPTY[..68], 68, ImageCause::Short)?;
-    Ok(())
-}
-
-// What is loaded of the empty file where its digest's file has this text.
-fn with_digest(rt: &impl Abort, alloc: Global, text: &[u8], txid: u64) -> Result<Loaded, DiskFail> {
-    let mut disk = new_disk(alloc);
-    write(rt, &mut disk, IMAGE, b"");
-    write(rt, &mut disk, DIGEST, text);
-    load(alloc, &mut disk, txid)
-}
-
-#[test]
-fn the_digest_is_judged_before_the_bytes(rt: HostRuntime) -> Result<(), Fail> {
-    let alloc = rt.alloc();
-    match with_digest(&rt, alloc, b"00000000000000000000000000000000", 4)? {
-        Loaded::DigestDiffers { stored, computed } => {
-            assert_eq!(rt; stored, [0; 16]);
-            assert_eq!(rt;
-                hex::encode(alloc, &computed)?.as_str(),
-                "d41d8cd98f00b204e9800998ecf8427e"
-            );
-        }
-        _ => panic!(&rt; "the digest differs"),
+fn bytes_are_told(rt: HostRuntime) {
+    for (row, (bytes, length, calls, seen)) in SAVED.iter().enumerate() {
+        let length = (*length).min(bytes.len());
+        is_so(
+            &rt,
+            row,
+            seen_saved(&rt, rt.alloc(), &bytes[..length], *calls) == *seen,
+        );
     }
-    let right = b"d41d8cd98f00b204e9800998ecf8427e".as_slice();
-    assert_eq!(rt;
-        fault_of(with_digest(&rt, alloc, right, 4)?),
-        Some((0, ImageCause::Short))
-    );
-    assert_eq!(rt;
-        fault_of(with_digest(&rt, alloc, b"", 4)?),
-        Some((0, ImageCause::Digest))
-    );
-    Ok(())
 }
 
-#[test]
-fn no_image_is_told(rt: HostRuntime) -> Result<(), Fail> {
-    let alloc = rt.alloc();
-    for txid in [0, 5, 4611686018427387904, 18446744073709551615] {
-        let answer = with_digest(&rt, alloc, b"", txid)?;
-        assert!(rt; matches!(answer, Loaded::NoImage));
-    }
-    Ok(())
-}
+/// The digest of the empty file.
+const OF_NOTHING: [u8; 16] = [
+    0xd4, 0x1d, 0x8c, 0xd9, 0x8f, 0, 0xb2, 4, 0xe9, 0x80, 9, 0x98, 0xec, 0xf8, 0x42, 0x7e,
+];
 
-#[test]
-fn the_txid_of_the_bytes_is_told(rt: HostRuntime) -> Result<(), Fail> {
-    let alloc = rt.alloc();
+/// The text of the empty image's digest, and what is loaded at a txid: the digest is judged before the bytes.
+const DIGESTS: &[(&[u8], u64, Seen)] = &[
+    (
+        b"00000000000000000000000000000000",
+        4,
+        Seen::Differs([0; 16], OF_NOTHING),
+    ),
+    (
+        b"d41d8cd98f00b204e9800998ecf8427e",
+        4,
+        Seen::Bad(0, ImageCause::Short),
+    ),
+    (b"", 4, Seen::Bad(0, ImageCause::Digest)),
+    (b"", 0, Seen::NoImage),
+    (b"", 5, Seen::NoImage),
+    (b"", 4611686018427387904, Seen::NoImage),
+    (b"", 18446744073709551615, Seen::NoImage),
+];
+
+// None where a file isn't written.
+fn seen_with(alloc: Global, text: &[u8], txid: u64) -> Option<Seen> {
     let mut disk = new_disk(alloc);
-    assert_eq!(rt; save_bytes(alloc, &mut disk, 4, &EMPTY), Put::Done);
-    let answer = load(alloc, &mut disk, 4)?;
-    assert!(rt; matches!(answer, Loaded::Image { txid: 0, .. }));
-    Ok(())
+    if writes(&mut disk, IMAGE, b"") && writes(&mut disk, DIGEST, text) {
+        Some(seen_at(alloc, &mut disk, txid))
+    } else {
+        None
+    }
 }
 
-// A save of the tree is stopped after so many calls, and the disk crashes.
-fn stopped_disk(alloc: Global, space: &Namespace, calls: u64, choice: Choice) -> (UntoldDisk, Put)
-    requires { AreRising 0 9 space.now.calls }
-{
+#[test]
+fn the_digest_is_judged_before_the_bytes(rt: HostRuntime) {
+    for (row, (text, txid, seen)) in DIGESTS.iter().enumerate() {
+        is_so(&rt, row, seen_with(rt.alloc(), *text, *txid) == Some(*seen));
+    }
+}
+
+// What becomes of a save of the tree that is stopped after so many calls, and what is loaded behind a crash.
+fn stop_save(alloc: Global, calls: u64, choice: Choice) -> Result<(Put, Seen), OutOfMemory> {
     let mut disk = new_disk(alloc);
     disk.disk.stop_after(calls);
-    let put = save(alloc, &mut disk, space, 9);
+    let put = save_tree(alloc, &mut disk)?;
     disk.disk.crash(choice);
-    (disk, put)
+    Ok((put, seen_at(alloc, &mut disk, 9)))
+}
+
+// The image is whole behind the last call, and there is none before it, for each choice of the crash.
+fn stop_by_choice(rt: &impl Abort, alloc: Global, calls: u64) -> Result<(), OutOfMemory> {
+    let is_whole = calls > 9;
+    let wanted = if is_whole {
+        Seen::Tree(9)
+    } else {
+        Seen::NoImage
+    };
+    for (row, choice) in CHOICES.iter().enumerate() {
+        let (put, seen) = stop_save(alloc, calls, *choice)?;
+        is_so(rt, row, (put == Put::Done) == is_whole && seen == wanted);
+    }
+    Ok(())
 }
 
 #[test]
 fn a_save_that_is_stopped_is_loaded_whole_or_not(rt: HostRuntime) -> Result<(), Fail> {
-    let alloc = rt.alloc();
-    let space = tree_with_call(alloc)?;
     for calls in 0..12 {
-        for choice in choices() {
-            let (mut disk, put) = stopped_disk(alloc, &space, calls, choice);
-            let answer = load(alloc, &mut disk, 9);
-            assert_eq!(rt; put == Put::Done, calls > 9);
-            assert_eq!(rt; is_tree(answer), calls > 9);
-        }
+        stop_by_choice(&rt, rt.alloc(), calls)?;
     }
-    Ok(())
-}
-
-#[test]
-fn a_disk_that_fails_a_load_is_told(rt: HostRuntime) -> Result<(), Fail> {
-    let alloc = rt.alloc();
-    let mut disk = new_disk(alloc);
-    assert_eq!(rt; save_bytes(alloc, &mut disk, 4, &EMPTY), Put::Done);
-    disk.disk.stop_after(3);
-    assert!(rt; matches!(load(alloc, &mut disk, 4), Err(DiskFail::Failed)));
     Ok(())
 }

@@ -1,7 +1,10 @@
 //! Images are saved over a disk that fails, is stopped and crashes, and read.
-use crate::store_disk::{choices, file_count, loads, new_disk, save, write};
-use image_store::{LoadedBytes, load_bytes, save_bytes};
-use qj_disk::{Choice, Disk};
+use crate::rows::is_so;
+use crate::store_disk::{
+    CHOICES, Found, Step, found_of, new_disk, play_each, save, take_all, writes,
+};
+use qj_disk::Choice;
+use qj_num::OutOfMemory;
 use small_files::Put;
 use std::alloc::Global;
 use std::process::Abort;
@@ -11,176 +14,218 @@ const IMAGE: &str = "fsimage_0000000000000000004";
 
 const DIGEST: &str = "fsimage_0000000000000000004.md5";
 
-#[test]
-fn the_digest_of_the_empty_file_is_known(rt: HostRuntime) -> Result<(), Fail> {
-    let alloc = rt.alloc();
-    let mut disk = new_disk(alloc);
-    write(&rt, &mut disk, IMAGE, b"");
-    write(&rt, &mut disk, DIGEST, b"00000000000000000000000000000000");
-    match load_bytes(alloc, &mut disk, 4)? {
-        LoadedBytes::DigestDiffers { stored, computed } => {
-            assert_eq!(rt; stored, [0; 16]);
-            assert_eq!(rt;
-                hex::encode(alloc, &computed)?.as_str(),
-                "d41d8cd98f00b204e9800998ecf8427e"
-            );
-        }
-        _ => panic!(&rt; "the digest differs"),
-    }
-    write(&rt, &mut disk, DIGEST, b"d41d8cd98f00b204e9800998ecf8427e");
-    assert_eq!(rt; loads(alloc, &mut disk, 4, b""), 1);
-    assert_eq!(rt; loads(alloc, &mut disk, 5, b""), 0);
-    Ok(())
-}
+/// The digest of the empty file is known.
+const EMPTY_FILE: &[Step] = &[
+    Step::Write(IMAGE, b""),
+    Step::Write(DIGEST, b"00000000000000000000000000000000"),
+    Step::Differs(4, [0; 16], "d41d8cd98f00b204e9800998ecf8427e"),
+    Step::Write(DIGEST, b"d41d8cd98f00b204e9800998ecf8427e"),
+    Step::Loads(4, b"", Found::These),
+    Step::Loads(5, b"", Found::NoImage),
+];
 
-#[test]
-fn the_file_of_a_digest_is_written_as_a_line(rt: HostRuntime) -> Result<(), Fail> {
-    let alloc = rt.alloc();
-    let mut disk = new_disk(alloc);
-    save(&rt, alloc, &mut disk, 4, b"");
-    let mut line = [0; 63];
-    assert_eq!(rt; disk.read(DIGEST, 0, &mut line)?, 62);
-    let text = b"d41d8cd98f00b204e9800998ecf8427e *fsimage_0000000000000000004\n".as_slice();
-    assert_eq!(rt; line[..62].to_vec(alloc)?.as_slice(), text);
-    assert_eq!(rt; file_count(&rt, &mut disk), 2);
-    Ok(())
-}
-
-// The image of the empty file is read so where its digest's file has this text.
-fn expect_digest(rt: &impl Abort, alloc: Global, text: &[u8], want: u8) {
-    let mut disk = new_disk(alloc);
-    write(rt, &mut disk, IMAGE, b"");
-    write(rt, &mut disk, DIGEST, text);
-    assert_eq!(rt; loads(alloc, &mut disk, 4, b""), want);
-}
-
-#[test]
-fn a_digest_has_two_spellings(rt: HostRuntime) -> Result<(), Fail> {
-    let alloc = rt.alloc();
-    expect_digest(&rt, alloc, b"d41d8cd98f00b204e9800998ecf8427e", 1);
-    expect_digest(
-        &rt,
-        alloc,
+/// The file of a digest is written as a line.
+const DIGEST_LINE: &[Step] = &[
+    Step::Save(4, b"", Put::Done),
+    Step::Holds(
+        DIGEST,
         b"d41d8cd98f00b204e9800998ecf8427e *fsimage_0000000000000000004\n",
-        1,
-    );
-    expect_digest(&rt, alloc, b"d41d8cd98f00b204e9800998ecf8427f", 3);
-    for text in [
-        b"".as_slice(),
-        b"d41d8cd98f00b204e9800998ecf8427",
-        b"D41D8CD98F00B204E9800998ECF8427E",
-        b"d41d8cd98f00b204e9800998ecf8427x",
-        b"d41d8cd98f00b204e9800998ecf8427e\n",
-        b"d41d8cd98f00b204e9800998ecf8427e  fsimage_0000000000000000004\n",
-        b"d41d8cd98f00b204e9800998ecf8427e *fsimage_0000000000000000005\n",
-        b"d41d8cd98f00b204e9800998ecf8427e *fsimage_0000000000000000004",
-        b"d41d8cd98f00b204e9800998ecf8427e *fsimage_0000000000000000004\n\n",
-    ] {
-        expect_digest(&rt, alloc, text, 4);
-    }
+    ),
+    Step::Files(2),
+];
+
+/// What an earlier save left is removed.
+const LEFT_OVER: &[Step] = &[
+    Step::Write("fsimage.ckpt_0000000000000000004", b"longer than the image"),
+    Step::Write("fsimage_0000000000000000004.md5.tmp", b"left over"),
+    Step::Write("fsimage_0000000000000000004", b"without a digest"),
+    Step::Loads(4, b"four", Found::NoImage),
+    Step::Save(4, b"four", Put::Done),
+    Step::Loads(4, b"four", Found::These),
+    Step::Files(2),
+];
+
+#[test]
+fn images_are_saved_and_read(rt: HostRuntime) -> Result<(), Fail> {
+    play_each(&rt, rt.alloc(), &[EMPTY_FILE, DIGEST_LINE, LEFT_OVER])?;
     Ok(())
 }
 
-// What a crash by this choice leaves of image 2 while it is saved with these bytes, where so many calls are
-// made: the other image stays.
-fn stop_save(rt: &impl Abort, alloc: Global, old: &[u8], calls: u64, choice: Choice) -> u8 {
+/// The text of the empty file's digest, and how the file is read.
+const DIGESTS: &[(&[u8], Found)] = &[
+    (b"d41d8cd98f00b204e9800998ecf8427e", Found::These),
+    (
+        b"d41d8cd98f00b204e9800998ecf8427e *fsimage_0000000000000000004\n",
+        Found::These,
+    ),
+    (b"d41d8cd98f00b204e9800998ecf8427f", Found::Differs),
+    (b"", Found::BadDigest),
+    (b"d41d8cd98f00b204e9800998ecf8427", Found::BadDigest),
+    (b"D41D8CD98F00B204E9800998ECF8427E", Found::BadDigest),
+    (b"d41d8cd98f00b204e9800998ecf8427x", Found::BadDigest),
+    (b"d41d8cd98f00b204e9800998ecf8427e\n", Found::BadDigest),
+    (
+        b"d41d8cd98f00b204e9800998ecf8427e  fsimage_0000000000000000004\n",
+        Found::BadDigest,
+    ),
+    (
+        b"d41d8cd98f00b204e9800998ecf8427e *fsimage_0000000000000000005\n",
+        Found::BadDigest,
+    ),
+    (
+        b"d41d8cd98f00b204e9800998ecf8427e *fsimage_0000000000000000004",
+        Found::BadDigest,
+    ),
+    (
+        b"d41d8cd98f00b204e9800998ecf8427e *fsimage_0000000000000000004\n\n",
+        Found::BadDigest,
+    ),
+];
+
+// How the empty image is read with that text of its digest; none where a file isn't written.
+fn found_with(alloc: Global, text: &[u8]) -> Option<Found> {
     let mut disk = new_disk(alloc);
-    save(rt, alloc, &mut disk, 1, b"one");
+    if writes(&mut disk, IMAGE, b"") && writes(&mut disk, DIGEST, text) {
+        Some(found_of(alloc, &mut disk, 4, b""))
+    } else {
+        None
+    }
+}
+
+#[test]
+fn a_digest_has_two_spellings(rt: HostRuntime) {
+    for (row, (text, found)) in DIGESTS.iter().enumerate() {
+        is_so(&rt, row, found_with(rt.alloc(), *text) == Some(*found));
+    }
+}
+
+/// An image that is saved again, or the first time where the old one has no bytes, with the bytes `two`.
+#[derive(Clone, Copy)]
+struct Stop {
+    old: &'static [u8],
+    /// The save is stopped after so many calls, from the first number on and below the second.
+    from: u64,
+    below: u64,
+    /// How the image is read behind a crash.
+    found: Found,
+}
+
+const STOPS: &[Stop] = &[
+    // A save that is stopped leaves the image or none.
+    Stop {
+        old: b"",
+        from: 0,
+        below: 10,
+        found: Found::NoImage,
+    },
+    Stop {
+        old: b"",
+        from: 10,
+        below: 12,
+        found: Found::These,
+    },
+    // An image that is saved again stays.
+    Stop {
+        old: b"two",
+        from: 0,
+        below: 12,
+        found: Found::These,
+    },
+    // An image of other bytes counts never with the new digest.
+    Stop {
+        old: b"old",
+        from: 0,
+        below: 8,
+        found: Found::Others,
+    },
+    Stop {
+        old: b"old",
+        from: 8,
+        below: 12,
+        found: Found::NoImage,
+    },
+    Stop {
+        old: b"old",
+        from: 12,
+        below: 13,
+        found: Found::These,
+    },
+];
+
+/// Another image, which stays.
+const ONE: &[Step] = &[Step::Save(1, b"one", Put::Done)];
+
+const ONE_STAYS: &[Step] = &[Step::Loads(1, b"one", Found::These)];
+
+// What becomes of the save that is stopped after so many calls, and how the image is read behind a crash.
+fn stop_save(
+    rt: &impl Abort,
+    alloc: Global,
+    old: &[u8],
+    calls: u64,
+    choice: Choice,
+) -> Result<(Put, Found), OutOfMemory> {
+    let mut disk = new_disk(alloc);
+    take_all(rt, alloc, &mut disk, ONE)?;
     if !old.is_empty() {
-        save(rt, alloc, &mut disk, 2, old);
+        assert!(rt; save(rt, alloc, &mut disk, 2, old) == Put::Done);
     }
     disk.disk.stop_after(calls);
-    let put = save_bytes(alloc, &mut disk, 2, b"two");
+    let put = save(rt, alloc, &mut disk, 2, b"two");
     disk.disk.crash(choice);
-    assert_eq!(rt; loads(alloc, &mut disk, 1, b"one"), 1);
-    let found = loads(alloc, &mut disk, 2, b"two");
-    if put == Put::Done {
-        assert_eq!(rt; found, 1);
-    }
-    found
+    take_all(rt, alloc, &mut disk, ONE_STAYS)?;
+    Ok((put, found_of(alloc, &mut disk, 2, b"two")))
 }
 
-#[test]
-fn a_save_that_is_stopped_leaves_the_image_or_none(rt: HostRuntime) -> Result<(), Fail> {
-    let alloc = rt.alloc();
-    for calls in 0..12 {
-        for choice in choices() {
-            let found = stop_save(&rt, alloc, b"", calls, choice);
-            assert_eq!(rt; found, if calls < 10 { 0 } else { 1 });
-        }
+// The same for each choice of the crash; what was saved is read.
+fn stop_after(rt: &impl Abort, alloc: Global, stop: &Stop, calls: u64) -> Result<(), OutOfMemory> {
+    for (row, choice) in CHOICES.iter().enumerate() {
+        let (put, found) = stop_save(rt, alloc, stop.old, calls, *choice)?;
+        is_so(
+            rt,
+            row,
+            found == stop.found && (put != Put::Done || found == Found::These),
+        );
+    }
+    Ok(())
+}
+
+fn stop_each(rt: &impl Abort, alloc: Global, stop: &Stop) -> Result<(), OutOfMemory> {
+    for calls in stop.from..stop.below {
+        stop_after(rt, alloc, stop, calls)?;
     }
     Ok(())
 }
 
 #[test]
-fn an_image_that_is_saved_again_stays(rt: HostRuntime) -> Result<(), Fail> {
-    let alloc = rt.alloc();
-    for calls in 0..12 {
-        for choice in choices() {
-            assert_eq!(rt; stop_save(&rt, alloc, b"two", calls, choice), 1);
-        }
+fn a_save_that_is_stopped_leaves_an_image_or_none(rt: HostRuntime) -> Result<(), Fail> {
+    for stop in STOPS {
+        stop_each(&rt, rt.alloc(), stop)?;
     }
     Ok(())
 }
 
-#[test]
-fn an_image_of_other_bytes_counts_never_with_the_new_digest(rt: HostRuntime) -> Result<(), Fail> {
-    let alloc = rt.alloc();
-    for calls in 0..13 {
-        for choice in choices() {
-            let found = stop_save(&rt, alloc, b"old", calls, choice);
-            assert!(rt;
-                found == 2 && calls < 8
-                    || found == 0 && 7 < calls && calls < 12
-                    || found == 1 && 11 < calls
-            );
-        }
-    }
-    Ok(())
+/// One call of the first save here fails.
+const AFTER_A_FAILURE: &[Step] = &[
+    Step::Save(2, b"two", Put::DiskFault),
+    Step::Loads(1, b"one", Found::These),
+    Step::Loads(2, b"two", Found::NoImage),
+    Step::Save(2, b"two", Put::Done),
+    Step::Loads(2, b"two", Found::These),
+    Step::Files(4),
+];
+
+fn fail_save(rt: &impl Abort, alloc: Global, call: u64) -> Result<(), OutOfMemory> {
+    let mut disk = new_disk(alloc);
+    take_all(rt, alloc, &mut disk, ONE)?;
+    disk.disk.fail_at(vec![in alloc; call]?);
+    take_all(rt, alloc, &mut disk, AFTER_A_FAILURE)
 }
 
 #[test]
 fn one_call_that_fails_leaves_the_image_or_none(rt: HostRuntime) -> Result<(), Fail> {
-    let alloc = rt.alloc();
     for call in 0..10 {
-        let mut disk = new_disk(alloc);
-        save(&rt, alloc, &mut disk, 1, b"one");
-        disk.disk.fail_at(vec![in alloc; call]?);
-        assert_eq!(rt; save_bytes(alloc, &mut disk, 2, b"two"), Put::DiskFault);
-        assert_eq!(rt; loads(alloc, &mut disk, 1, b"one"), 1);
-        assert_eq!(rt; loads(alloc, &mut disk, 2, b"two"), 0);
-        save(&rt, alloc, &mut disk, 2, b"two");
-        assert_eq!(rt; loads(alloc, &mut disk, 2, b"two"), 1);
-        assert_eq!(rt; file_count(&rt, &mut disk), 4);
+        fail_save(&rt, rt.alloc(), call)?;
     }
-    Ok(())
-}
-
-#[test]
-fn what_an_earlier_save_left_is_removed(rt: HostRuntime) -> Result<(), Fail> {
-    let alloc = rt.alloc();
-    let mut disk = new_disk(alloc);
-    write(
-        &rt,
-        &mut disk,
-        "fsimage.ckpt_0000000000000000004",
-        b"longer than the image",
-    );
-    write(
-        &rt,
-        &mut disk,
-        "fsimage_0000000000000000004.md5.tmp",
-        b"left over",
-    );
-    write(
-        &rt,
-        &mut disk,
-        "fsimage_0000000000000000004",
-        b"without a digest",
-    );
-    assert_eq!(rt; loads(alloc, &mut disk, 4, b"four"), 0);
-    save(&rt, alloc, &mut disk, 4, b"four");
-    assert_eq!(rt; loads(alloc, &mut disk, 4, b"four"), 1);
-    assert_eq!(rt; file_count(&rt, &mut disk), 2);
     Ok(())
 }

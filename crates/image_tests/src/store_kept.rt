@@ -1,126 +1,212 @@
 //! Which images count, and which are kept.
-use crate::store_disk::{choices, file_count, loads, new_disk, save, write};
-use image_store::{MinToKeep, Newest, min_to_keep, newest, retain};
-use qj_disk::UntoldDisk;
+use crate::rows::is_so;
+use crate::store_disk::{
+    CHOICES, Found, Step, found_of, new_disk, play_each, retained, save, take_all,
+};
+use image_store::{MinToKeep, Newest};
+use qj_disk::{Choice, UntoldDisk};
+use qj_num::OutOfMemory;
 use small_files::Put;
 use std::alloc::Global;
 use std::process::Abort;
 use std::test::Fail;
 
-// A disk with images of these txids.
-fn with_images(rt: &impl Abort, alloc: Global, txids: &[u64]) -> UntoldDisk {
-    let mut disk = new_disk(alloc);
-    for txid in txids {
-        save(rt, alloc, &mut disk, *txid, b"image");
+// Images of these txids are saved.
+fn save_each(rt: &impl Abort, alloc: Global, disk: &mut UntoldDisk, txids: &[u64]) {
+    for (row, txid) in txids.iter().enumerate() {
+        is_so(rt, row, save(rt, alloc, disk, *txid, b"image") == Put::Done);
     }
-    disk
 }
 
-// The newest image, and the first txid that is kept with so many more.
-fn expect_kept(rt: &impl Abort, alloc: Global, txids: &[u64], extra: u64, last: u64, kept: u64) {
-    let mut disk = with_images(rt, alloc, txids);
-    assert_eq!(rt; newest(alloc, &mut disk), Newest::Image { txid: last });
-    assert_eq!(rt;
-        min_to_keep(alloc, &mut disk, extra),
-        MinToKeep::Min { txid: kept }
-    );
+/// The txids of images, and what is seen of the disk that has them.
+const KEPT: &[(&[u64], &[Step])] = &[
+    (
+        &[],
+        &[
+            Step::Newest(Newest::NoImage),
+            Step::Kept(0, MinToKeep::NoImage),
+        ],
+    ),
+    (
+        &[5],
+        &[
+            Step::Newest(Newest::Image { txid: 5 }),
+            Step::Kept(0, MinToKeep::Min { txid: 6 }),
+        ],
+    ),
+    (
+        &[0],
+        &[
+            Step::Newest(Newest::Image { txid: 0 }),
+            Step::Kept(0, MinToKeep::Min { txid: 1 }),
+        ],
+    ),
+    (
+        &[9, 5],
+        &[
+            Step::Newest(Newest::Image { txid: 9 }),
+            Step::Kept(0, MinToKeep::Min { txid: 6 }),
+        ],
+    ),
+    (
+        &[12, 5, 9],
+        &[
+            Step::Newest(Newest::Image { txid: 12 }),
+            Step::Kept(0, MinToKeep::Min { txid: 10 }),
+            Step::Kept(3, MinToKeep::Min { txid: 7 }),
+            Step::Kept(9, MinToKeep::Min { txid: 1 }),
+            Step::Kept(10, MinToKeep::Min { txid: 1 }),
+            Step::Kept(1000, MinToKeep::Min { txid: 1 }),
+        ],
+    ),
+];
+
+// A disk of these images is seen so.
+fn is_seen(
+    rt: &impl Abort,
+    alloc: Global,
+    txids: &[u64],
+    steps: &[Step],
+) -> Result<(), OutOfMemory> {
+    let mut disk = new_disk(alloc);
+    save_each(rt, alloc, &mut disk, txids);
+    take_all(rt, alloc, &mut disk, steps)
 }
 
 #[test]
 fn the_log_is_kept_from_the_older_of_two_images(rt: HostRuntime) -> Result<(), Fail> {
-    let alloc = rt.alloc();
-    let mut disk = new_disk(alloc);
-    assert_eq!(rt; newest(alloc, &mut disk), Newest::NoImage);
-    assert_eq!(rt; min_to_keep(alloc, &mut disk, 0), MinToKeep::NoImage);
-    expect_kept(&rt, alloc, &[5], 0, 5, 6);
-    expect_kept(&rt, alloc, &[0], 0, 0, 1);
-    expect_kept(&rt, alloc, &[9, 5], 0, 9, 6);
-    expect_kept(&rt, alloc, &[12, 5, 9], 0, 12, 10);
-    expect_kept(&rt, alloc, &[12, 5, 9], 3, 12, 7);
-    expect_kept(&rt, alloc, &[12, 5, 9], 9, 12, 1);
-    expect_kept(&rt, alloc, &[12, 5, 9], 10, 12, 1);
-    expect_kept(&rt, alloc, &[12, 5, 9], 1000, 12, 1);
+    for (txids, steps) in KEPT {
+        is_seen(&rt, rt.alloc(), *txids, *steps)?;
+    }
     Ok(())
 }
 
-// So many files are there once all but so many of these images are removed; the newest stays.
-fn expect_retained(rt: &impl Abort, alloc: Global, txids: &[u64], count: u64, files: usize) {
-    let mut disk = with_images(rt, alloc, txids);
-    assert_eq!(rt; retain(alloc, &mut disk, count), Put::Done);
-    assert_eq!(rt; file_count(rt, &mut disk), files);
-    if files > 0 {
-        assert_eq!(rt; newest(alloc, &mut disk), Newest::Image { txid: 12 });
-    }
-}
+/// The txids of images, and what is left where all but so many of the newest are removed: the newest stays.
+const RETAINED: &[(&[u64], &[Step])] = &[
+    (&[], &[Step::Retain(2, Put::Done), Step::Files(0)]),
+    (
+        &[12],
+        &[
+            Step::Retain(2, Put::Done),
+            Step::Files(2),
+            Step::Newest(Newest::Image { txid: 12 }),
+        ],
+    ),
+    (
+        &[9, 12],
+        &[
+            Step::Retain(2, Put::Done),
+            Step::Files(4),
+            Step::Newest(Newest::Image { txid: 12 }),
+        ],
+    ),
+    (
+        &[12, 5, 9],
+        &[
+            Step::Retain(2, Put::Done),
+            Step::Files(4),
+            Step::Newest(Newest::Image { txid: 12 }),
+        ],
+    ),
+    (
+        &[12, 5, 9],
+        &[
+            Step::Retain(1, Put::Done),
+            Step::Files(2),
+            Step::Newest(Newest::Image { txid: 12 }),
+        ],
+    ),
+    (&[12, 5, 9], &[Step::Retain(0, Put::Done), Step::Files(0)]),
+    (
+        &[12, 5, 9],
+        &[
+            Step::Retain(1000, Put::Done),
+            Step::Files(6),
+            Step::Newest(Newest::Image { txid: 12 }),
+        ],
+    ),
+];
 
 #[test]
 fn the_newest_images_are_retained(rt: HostRuntime) -> Result<(), Fail> {
-    let alloc = rt.alloc();
-    expect_retained(&rt, alloc, &[], 2, 0);
-    expect_retained(&rt, alloc, &[12], 2, 2);
-    expect_retained(&rt, alloc, &[9, 12], 2, 4);
-    expect_retained(&rt, alloc, &[12, 5, 9], 2, 4);
-    expect_retained(&rt, alloc, &[12, 5, 9], 1, 2);
-    expect_retained(&rt, alloc, &[12, 5, 9], 0, 0);
-    expect_retained(&rt, alloc, &[12, 5, 9], 1000, 6);
-    Ok(())
-}
-
-#[test]
-fn a_removal_that_is_stopped_leaves_the_newest(rt: HostRuntime) -> Result<(), Fail> {
-    let alloc = rt.alloc();
-    for calls in 0..10 {
-        for choice in choices() {
-            let mut disk = with_images(&rt, alloc, &[5, 9, 12]);
-            disk.disk.stop_after(calls);
-            let put = retain(alloc, &mut disk, 1);
-            disk.disk.crash(choice);
-            assert_eq!(rt; put == Put::Done, calls == 9);
-            assert_eq!(rt; loads(alloc, &mut disk, 12, b"image"), 1);
-            assert_eq!(rt;
-                loads(alloc, &mut disk, 5, b"image"),
-                if calls < 3 { 1 } else { 0 }
-            );
-        }
+    for (txids, steps) in RETAINED {
+        is_seen(&rt, rt.alloc(), *txids, *steps)?;
     }
     Ok(())
 }
 
-#[test]
-fn an_image_counts_with_both_of_its_files(rt: HostRuntime) -> Result<(), Fail> {
-    let alloc = rt.alloc();
-    let mut disk = with_images(&rt, alloc, &[5]);
-    write(&rt, &mut disk, "fsimage_0000000000000000007", b"");
-    write(&rt, &mut disk, "fsimage_0000000000000000008.md5", b"");
-    write(&rt, &mut disk, "fsimage.ckpt_0000000000000000009", b"");
-    write(&rt, &mut disk, "fsimage_9", b"");
-    write(&rt, &mut disk, "fsimage_9.md5", b"");
-    write(&rt, &mut disk, "fsimage_4611686018427387905", b"");
-    write(&rt, &mut disk, "fsimage_4611686018427387905.md5", b"");
-    assert_eq!(rt; newest(alloc, &mut disk), Newest::Image { txid: 5 });
-    assert_eq!(rt; loads(alloc, &mut disk, 7, b""), 0);
-    assert_eq!(rt; loads(alloc, &mut disk, 8, b""), 0);
-    assert_eq!(rt; loads(alloc, &mut disk, 4611686018427387905, b""), 0);
-    write(&rt, &mut disk, "fsimage_4611686018427387904", b"");
-    write(&rt, &mut disk, "fsimage_4611686018427387904.md5", b"");
-    assert_eq!(rt;
-        newest(alloc, &mut disk),
-        Newest::Image {
-            txid: 4611686018427387904
-        }
-    );
-    assert_eq!(rt; loads(alloc, &mut disk, 4611686018427387904, b""), 4);
-    Ok(())
+// What becomes of the removal of the images 5 and 9 beside 12 that is stopped after so many calls, and how the images 12 and 5
+// are read behind a crash.
+fn stop_removal(rt: &impl Abort, alloc: Global, calls: u64, choice: Choice) -> (Put, Found, Found) {
+    let mut disk = new_disk(alloc);
+    save_each(rt, alloc, &mut disk, &[5, 9, 12]);
+    disk.disk.stop_after(calls);
+    let put = retained(alloc, &mut disk, 1);
+    disk.disk.crash(choice);
+    let last = found_of(alloc, &mut disk, 12, b"image");
+    (put, last, found_of(alloc, &mut disk, 5, b"image"))
+}
+
+// The newest stays for each choice of the crash.
+fn stop_by_choice(rt: &impl Abort, alloc: Global, calls: u64) {
+    let wanted = if calls < 3 {
+        Found::These
+    } else {
+        Found::NoImage
+    };
+    for (row, choice) in CHOICES.iter().enumerate() {
+        let (put, last, first) = stop_removal(rt, alloc, calls, *choice);
+        let is_done = put == Put::Done;
+        is_so(
+            rt,
+            row,
+            is_done == (calls == 9) && last == Found::These && first == wanted,
+        );
+    }
 }
 
 #[test]
-fn a_disk_that_fails_is_told(rt: HostRuntime) -> Result<(), Fail> {
-    let alloc = rt.alloc();
-    let mut disk = with_images(&rt, alloc, &[5, 9]);
-    disk.disk.stop_after(0);
-    assert_eq!(rt; newest(alloc, &mut disk), Newest::DiskFault);
-    assert_eq!(rt; min_to_keep(alloc, &mut disk, 0), MinToKeep::DiskFault);
-    assert_eq!(rt; retain(alloc, &mut disk, 1), Put::DiskFault);
-    assert_eq!(rt; loads(alloc, &mut disk, 5, b"image"), 5);
+fn a_removal_that_is_stopped_leaves_the_newest(rt: HostRuntime) {
+    for calls in 0..10 {
+        stop_by_choice(&rt, rt.alloc(), calls);
+    }
+}
+
+/// An image counts with both of its files.
+const BOTH_FILES: &[Step] = &[
+    Step::Save(5, b"image", Put::Done),
+    Step::Write("fsimage_0000000000000000007", b""),
+    Step::Write("fsimage_0000000000000000008.md5", b""),
+    Step::Write("fsimage.ckpt_0000000000000000009", b""),
+    Step::Write("fsimage_9", b""),
+    Step::Write("fsimage_9.md5", b""),
+    Step::Write("fsimage_4611686018427387905", b""),
+    Step::Write("fsimage_4611686018427387905.md5", b""),
+    Step::Newest(Newest::Image { txid: 5 }),
+    Step::Loads(7, b"", Found::NoImage),
+    Step::Loads(8, b"", Found::NoImage),
+    Step::Loads(4611686018427387905, b"", Found::NoImage),
+    Step::Write("fsimage_4611686018427387904", b""),
+    Step::Write("fsimage_4611686018427387904.md5", b""),
+    Step::Newest(Newest::Image {
+        txid: 4611686018427387904,
+    }),
+    Step::Loads(4611686018427387904, b"", Found::BadDigest),
+];
+
+/// A disk that fails is told.
+const FAILING: &[Step] = &[
+    Step::Save(5, b"image", Put::Done),
+    Step::Save(9, b"image", Put::Done),
+    Step::StopAfter(0),
+    Step::Newest(Newest::DiskFault),
+    Step::Kept(0, MinToKeep::DiskFault),
+    Step::Retain(1, Put::DiskFault),
+    Step::Loads(5, b"image", Found::Fails),
+];
+
+#[test]
+fn an_image_counts_with_both_of_its_files(rt: HostRuntime) -> Result<(), Fail> {
+    play_each(&rt, rt.alloc(), &[BOTH_FILES, FAILING])?;
     Ok(())
 }

@@ -1,5 +1,6 @@
 //! Each refusal of each kind of edit once, and what is admitted right beside it.
 use crate::making::{component, plain_dir, plain_file, put};
+use crate::rows::is_so;
 use AdmitRefusal::{
     BadName, BadNumber, Exists, IntoItself, Missing, NoParent, NotDirectory, NotEmpty, NotFile,
     Root, UnderConstruction,
@@ -9,13 +10,14 @@ use ns_replay::{AdmitRefusal, admit};
 use ns_tree::Namespace;
 use qj_num::OutOfMemory;
 use std::alloc::{AllocError, Global};
+use std::process::Abort;
 use std::test::Fail;
 
 /// The text of an edit, and why it isn't admitted.
 type Refused = (&'static str, AdmitRefusal);
 
 /// Files that are made.
-const ADDS: [Refused; 15] = [
+const ADDS: &[Refused] = &[
     ("add /n/ 1 1 1 10 644 ann ops", BadName),
     ("add /n 1 1 1 10 644 9nn ops", BadName),
     ("add /n 1 1 1 10 644 ann o:s", BadName),
@@ -34,7 +36,7 @@ const ADDS: [Refused; 15] = [
 ];
 
 /// Directories that are made.
-const MKDIRS: [Refused; 7] = [
+const MKDIRS: &[Refused] = &[
     ("mkdir /n//m 1 755 ann ops", BadName),
     ("mkdir /n 1 755 ann 9ps", BadName),
     ("mkdir /n 1 2000 ann ops", BadNumber),
@@ -45,7 +47,7 @@ const MKDIRS: [Refused; 7] = [
 ];
 
 /// Files that are closed, and paths that go.
-const CUTTING: [Refused; 11] = [
+const CUTTING: &[Refused] = &[
     ("close /d/ 1 1 5", BadName),
     ("close /x/f 1 1 5", Missing),
     ("close /d/x 1 1 5", Missing),
@@ -60,7 +62,7 @@ const CUTTING: [Refused; 11] = [
 ];
 
 /// Renames of the older kind.
-const OLD_RENAMES: [Refused; 12] = [
+const OLD_RENAMES: &[Refused] = &[
     ("mv /d/ /n 1", BadName),
     ("mv /d /n/ 1", BadName),
     ("mv / /n 1", Root),
@@ -76,7 +78,7 @@ const OLD_RENAMES: [Refused; 12] = [
 ];
 
 /// Renames.
-const RENAMES: [Refused; 14] = [
+const RENAMES: &[Refused] = &[
     ("rename /d/ /n 1 no", BadName),
     ("rename /d /n/ 1 no", BadName),
     ("rename / /n 1 no", Root),
@@ -94,7 +96,7 @@ const RENAMES: [Refused; 14] = [
 ];
 
 /// What is set.
-const SETTINGS: [Refused; 21] = [
+const SETTINGS: &[Refused] = &[
     ("setrep /d/ 1", BadName),
     ("setrep /d/f 0", BadNumber),
     ("setrep /x 1", Missing),
@@ -119,7 +121,7 @@ const SETTINGS: [Refused; 21] = [
 ];
 
 /// Files that go after another one.
-const CONCATS: [Refused; 14] = [
+const CONCATS: &[Refused] = &[
     ("concat /d/f 1", BadNumber),
     ("concat /d/f/ 1 /d/g", BadName),
     ("concat /d/f 1 /d/g/", BadName),
@@ -137,7 +139,7 @@ const CONCATS: [Refused; 14] = [
 ];
 
 /// The texts of edits that are admitted, at the edges of what isn't.
-const ADMITTED: [&str; 20] = [
+const ADMITTED: &[&str] = &[
     "add /n 512 1 1 1099511627776 1777 ann ops",
     "add /d/n 1 1 1 1 0 _ _",
     "mkdir /e/n 1 1777 ann ops",
@@ -161,7 +163,7 @@ const ADMITTED: [&str; 20] = [
 ];
 
 /// What an edit's text is told.
-#[derive(Clone, Copy, Debug, PartialEq, Eq)]
+#[derive(Clone, Copy, PartialEq, Eq)]
 pub enum Told {
     Admitted,
     Refused(AdmitRefusal),
@@ -179,27 +181,38 @@ pub fn told_of(alloc: Global, tree: &Namespace, text: &str) -> Result<Told, OutO
     }
 }
 
-/// Directories `/d`, `/e` and `/l`, files in `/d`, and a file `/big` with as many blocks as a file may have.
+const DIRECTORIES: &[&str] = &["/d", "/e", "/l"];
+
+/// Files, how many blocks each has, and whether it is open; `/big` has as many blocks as a file may have.
+const FILES: &[(&str, u16, bool)] = &[
+    ("/big", 65535, false),
+    ("/d/empty", 0, false),
+    ("/d/f", 1, false),
+    ("/d/g", 1, false),
+    ("/d/h", 1, false),
+    ("/d/open", 0, true),
+];
+
+fn put_directories(alloc: Global, tree: &mut Namespace) -> Result<(), OutOfMemory> {
+    for path in DIRECTORIES {
+        put(alloc, tree, path.as_bytes(), plain_dir(alloc, 1)?)?;
+    }
+    Ok(())
+}
+
+fn put_files(alloc: Global, tree: &mut Namespace) -> Result<(), OutOfMemory> {
+    for (path, blocks, is_open) in FILES {
+        let file = plain_file(alloc, *blocks as usize, *is_open)?;
+        put(alloc, tree, path.as_bytes(), file)?;
+    }
+    Ok(())
+}
+
+/// Those directories and files, and what is deep.
 fn small_tree(alloc: Global) -> Result<Namespace, OutOfMemory> {
     let mut tree = Namespace::new(alloc)?;
-    for path in ["/d", "/e", "/l"] {
-        put(alloc, &mut tree, path.as_bytes(), plain_dir(alloc, 1)?)?;
-    }
-    for (path, blocks, is_open) in [
-        ("/big", 65535, false),
-        ("/d/empty", 0, false),
-        ("/d/f", 1, false),
-        ("/d/g", 1, false),
-        ("/d/h", 1, false),
-        ("/d/open", 0, true),
-    ] {
-        put(
-            alloc,
-            &mut tree,
-            path.as_bytes(),
-            plain_file(alloc, blocks, is_open)?,
-        )?;
-    }
+    put_directories(alloc, &mut tree)?;
+    put_files(alloc, &mut tree)?;
     put_deep(alloc, &mut tree)?;
     Ok(tree)
 }
@@ -214,57 +227,34 @@ fn put_deep(alloc: Global, tree: &mut Namespace) -> Result<(), OutOfMemory> {
     Ok(())
 }
 
-/// The first edit that isn't refused as it should be.
-fn first_wrong(alloc: Global, cases: &[Refused]) -> Result<Option<usize>, OutOfMemory> {
+/// Each edit of the table is refused so.
+fn refuses(rt: &impl Abort, alloc: Global, cases: &[Refused]) -> Result<(), OutOfMemory> {
     let tree = small_tree(alloc)?;
-    for i in 0..cases.len() {
-        let (text, refusal) = cases[i];
-        if told_of(alloc, &tree, text)? != Told::Refused(refusal) {
-            return Ok(Some(i));
-        }
+    for (row, (text, refusal)) in cases.iter().enumerate() {
+        is_so(
+            rt,
+            row,
+            told_of(alloc, &tree, *text)? == Told::Refused(*refusal),
+        );
     }
-    Ok(None)
-}
-
-#[test]
-fn files_are_made_where_they_may(rt: HostRuntime) -> Result<(), Fail> {
-    assert_eq!(rt; first_wrong(rt.alloc(), &ADDS)?, None);
     Ok(())
 }
 
-#[test]
-fn directories_are_made_where_they_may(rt: HostRuntime) -> Result<(), Fail> {
-    assert_eq!(rt; first_wrong(rt.alloc(), &MKDIRS)?, None);
-    Ok(())
-}
+const TABLES: &[&[Refused]] = &[
+    ADDS,
+    MKDIRS,
+    CUTTING,
+    OLD_RENAMES,
+    RENAMES,
+    SETTINGS,
+    CONCATS,
+];
 
 #[test]
-fn files_are_closed_and_paths_go_where_they_may(rt: HostRuntime) -> Result<(), Fail> {
-    assert_eq!(rt; first_wrong(rt.alloc(), &CUTTING)?, None);
-    Ok(())
-}
-
-#[test]
-fn renames_of_the_older_kind_are_judged(rt: HostRuntime) -> Result<(), Fail> {
-    assert_eq!(rt; first_wrong(rt.alloc(), &OLD_RENAMES)?, None);
-    Ok(())
-}
-
-#[test]
-fn renames_are_judged(rt: HostRuntime) -> Result<(), Fail> {
-    assert_eq!(rt; first_wrong(rt.alloc(), &RENAMES)?, None);
-    Ok(())
-}
-
-#[test]
-fn settings_are_judged(rt: HostRuntime) -> Result<(), Fail> {
-    assert_eq!(rt; first_wrong(rt.alloc(), &SETTINGS)?, None);
-    Ok(())
-}
-
-#[test]
-fn concats_are_judged(rt: HostRuntime) -> Result<(), Fail> {
-    assert_eq!(rt; first_wrong(rt.alloc(), &CONCATS)?, None);
+fn each_edit_is_judged(rt: HostRuntime) -> Result<(), Fail> {
+    for table in TABLES {
+        refuses(&rt, rt.alloc(), *table)?;
+    }
     Ok(())
 }
 
@@ -272,14 +262,34 @@ fn concats_are_judged(rt: HostRuntime) -> Result<(), Fail> {
 fn edits_at_the_edges_are_admitted(rt: HostRuntime) -> Result<(), Fail> {
     let tree = small_tree(rt.alloc())?;
     for text in ADMITTED {
-        assert_eq!(rt; told_of(rt.alloc(), &tree, text)?, Told::Admitted, "{text}");
+        assert!(rt;
+            told_of(rt.alloc(), &tree, *text)? == Told::Admitted,
+            "{text}"
+        );
     }
     Ok(())
 }
 
-#[test]
-fn a_repeated_call_is_told_first(rt: HostRuntime) -> Result<(), Fail> {
-    let mut tree = Namespace::new(rt.alloc())?;
+/// Edits where the call 3 of a client was noted at the txid 5.
+const CALLED: &[(&str, Told)] = &[
+    (
+        "call 07070707070707070707070707070707 3 delete / 1",
+        Told::Refused(AdmitRefusal::RepeatedCall { txid: 5 }),
+    ),
+    (
+        "call 07070707070707070707070707070707 4 delete / 1",
+        Told::Refused(Root),
+    ),
+    (
+        "call 07070707070707070707070707070708 3 delete / 1",
+        Told::Refused(Root),
+    ),
+    ("delete / 1", Told::Refused(Root)),
+];
+
+/// A new namespace that has noted that call.
+fn with_call(alloc: Global) -> Result<Namespace, OutOfMemory> {
+    let mut tree = Namespace::new(alloc)?;
     let call = Call {
         client: [7; 16],
         number: 3,
@@ -287,22 +297,14 @@ fn a_repeated_call_is_told_first(rt: HostRuntime) -> Result<(), Fail> {
     if tree.repeated(&call).is_none() {
         tree.note(call, 5);
     }
-    for (text, told) in [
-        (
-            "call 07070707070707070707070707070707 3 delete / 1",
-            Told::Refused(AdmitRefusal::RepeatedCall { txid: 5 }),
-        ),
-        (
-            "call 07070707070707070707070707070707 4 delete / 1",
-            Told::Refused(Root),
-        ),
-        (
-            "call 07070707070707070707070707070708 3 delete / 1",
-            Told::Refused(Root),
-        ),
-        ("delete / 1", Told::Refused(Root)),
-    ] {
-        assert_eq!(rt; told_of(rt.alloc(), &tree, text)?, told, "{text}");
+    Ok(tree)
+}
+
+#[test]
+fn a_repeated_call_is_told_first(rt: HostRuntime) -> Result<(), Fail> {
+    let tree = with_call(rt.alloc())?;
+    for (text, told) in CALLED {
+        assert!(rt; told_of(rt.alloc(), &tree, *text)? == *told, "{text}");
     }
     Ok(())
 }

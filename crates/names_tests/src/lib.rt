@@ -8,4 +8,6 @@ mod making;
 #[cfg(test)]
 mod replay;
 #[cfg(test)]
+mod rows;
+#[cfg(test)]
 mod tree;

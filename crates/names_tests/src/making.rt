@@ -1,11 +1,23 @@
 //! What tests make of a namespace: directories and files, where they may stand.
 ghost use Rattle.std.specs.Prelude.{◌≡◌, ◌≤◌, true, length, IfOk};
+ghost use Rattle.ns_tree.specs.Path.{is_owner};
 ghost use Rattle.ns_tree.specs.Space.{find, is_dir, is_dir_there, AreLengths, IsInode};
 
 use edit_ops::NumberList;
-use ns_tree::{Inode, Namespace, is_good_path, is_root_path, parent};
+use ns_tree::{Inode, Namespace, is_good_owner, is_good_path, is_root_path, parent};
 use qj_num::{Name, OutOfMemory};
-use std::alloc::Global;
+use std::alloc::{AllocError, Global};
+
+/// A user or a group; a text that is neither is refused.
+fn owner(alloc: Global, text: &[u8]) -> Result<Name, OutOfMemory>
+    ensures { IfOk result (λ name. is_owner name ≡ true) }
+{
+    if is_good_owner(text) {
+        Name::from_slice(alloc, text)
+    } else {
+        Err(AllocError)
+    }
+}
 
 pub fn plain_dir(alloc: Global, mtime: u64) -> Result<Inode, OutOfMemory>
     requires { mtime ≤ 1000 }
@@ -15,8 +27,8 @@ pub fn plain_dir(alloc: Global, mtime: u64) -> Result<Inode, OutOfMemory>
     Ok(Inode::Dir {
         mtime,
         permission: 0o755,
-        user: Name::from_slice(alloc, b"ann")?,
-        group: Name::from_slice(alloc, b"ops")?,
+        user: owner(alloc, b"ann")?,
+        group: owner(alloc, b"ops")?,
         names: 0,
         space: 0,
     })
@@ -50,8 +62,8 @@ pub fn plain_file(
         atime: 1,
         block_size: 10,
         permission: 0o644,
-        user: Name::from_slice(alloc, b"ann")?,
-        group: Name::from_slice(alloc, b"ops")?,
+        user: owner(alloc, b"ann")?,
+        group: owner(alloc, b"ops")?,
         lengths: ones(alloc, blocks)?,
         under_construction,
     })

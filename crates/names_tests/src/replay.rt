@@ -1,34 +1,44 @@
 //! Edits applied one by one, and logs replayed through the public calls.
 use crate::admission::{Told, told_of};
+use crate::rows::is_so;
 use Seen::{Dir, File, Nothing};
 use edit_ops::{Edit, ReadText, encode, read_text};
 use journal_core::{Batch, BodyList};
 use ns_replay::{AdmitRefusal, Replayed, admit, apply, replay};
 use ns_tree::{Inode, Namespace};
-use qj_num::{Bytes, MAX};
+use qj_num::{Bytes, MAX, OutOfMemory};
 use std::alloc::{AllocError, Global};
+use std::process::Abort;
 use std::test::Fail;
 
-/// The bodies that begin and end a segment, and one whose first byte is no code.
-const START: [u8; 1] = [24];
+/// A body of a log: the record of an edit's text, or bytes.
+#[derive(Clone, Copy)]
+enum Entry {
+    Edit(&'static str),
+    Bytes(&'static [u8]),
+}
 
-const END: [u8; 1] = [23];
+/// The body that begins a segment.
+const START: Entry = Entry::Bytes(&[24]);
 
-const NO_RECORD: [u8; 1] = [99];
+/// The body that ends a segment.
+const END: Entry = Entry::Bytes(&[23]);
 
 /// Directories, and a file that is made, closed, renamed and given away.
-const KNOWN: [&str; 7] = [
-    "mkdir /u 10 755 hdfs hdfs",
-    "mkdir /u/x 20 755 ann ops",
-    "add /u/x/f 3 30 30 134217728 644 ann ops",
-    "close /u/x/f 40 40 1000 2000",
-    "rename /u/x/f /u/g 50 no",
-    "setowner /u/g bob -",
-    "delete /u/x 60",
+const KNOWN: &[Entry] = &[
+    START,
+    Entry::Edit("mkdir /u 10 755 hdfs hdfs"),
+    Entry::Edit("mkdir /u/x 20 755 ann ops"),
+    Entry::Edit("add /u/x/f 3 30 30 134217728 644 ann ops"),
+    Entry::Edit("close /u/x/f 40 40 1000 2000"),
+    Entry::Edit("rename /u/x/f /u/g 50 no"),
+    Entry::Edit("setowner /u/g bob -"),
+    Entry::Edit("delete /u/x 60"),
+    END,
 ];
 
 /// What stands at a path, without its owners.
-#[derive(Clone, Copy, Debug, PartialEq, Eq)]
+#[derive(Clone, Copy, PartialEq, Eq)]
 enum Seen {
     Nothing,
     /// The mtime, the permission, and the quotas of names and space.
@@ -82,73 +92,181 @@ fn seen_of(inode: Option<&Inode>) -> Seen {
     }
 }
 
-fn body(alloc: Global, bytes: &[u8]) -> Result<Bytes, Fail> {
-    Ok(Bytes::copy_of(alloc, bytes)?.ok_or("no byte")?)
-}
-
-fn edit_of(alloc: Global, text: &str) -> Result<Edit, Fail> {
+/// The edit of a text; a text that is none is refused.
+fn edit_of(alloc: Global, text: &str) -> Result<Edit, OutOfMemory> {
     match read_text(alloc, text.as_bytes()) {
         ReadText::Edit(edit) => Ok(edit),
-        ReadText::BadText => Err("no edit".into()),
-        ReadText::OutOfMemory => Err(AllocError.into()),
+        ReadText::BadText | ReadText::OutOfMemory => Err(AllocError),
     }
 }
 
-fn record(alloc: Global, text: &str) -> Result<Bytes, Fail> {
-    let edit = edit_of(alloc, text)?;
-    Ok(encode(alloc, &edit)?)
+fn body_of(alloc: Global, entry: &Entry) -> Result<Option<Bytes>, OutOfMemory> {
+    match entry {
+        Entry::Edit(text) => Ok(Some(encode(alloc, &edit_of(alloc, *text)?)?)),
+        Entry::Bytes(bytes) => Bytes::copy_of(alloc, *bytes),
+    }
 }
 
-/// The log of one segment, with these edits at the txids from 2 on.
-fn log_of(alloc: Global, texts: &[&str]) -> Result<BodyList, Fail> {
+/// The bodies of a log, from txid 1 on.
+fn log_of(alloc: Global, entries: &[Entry]) -> Result<BodyList, OutOfMemory> {
     let mut bodies = BodyList::new(alloc);
-    bodies.push(body(alloc, &START)?)?;
-    for text in texts {
-        bodies.push(record(alloc, text)?)?;
+    for entry in entries {
+        if let Some(body) = body_of(alloc, entry)? {
+            bodies.push(body)?;
+        }
     }
-    bodies.push(body(alloc, &END)?)?;
     Ok(bodies)
 }
 
-/// What a log leaves of a new namespace, and what its replay comes to.
-fn replay_log(alloc: Global, bodies: BodyList) -> Result<(Namespace, Replayed), Fail> {
+/// What a log of at least one body leaves of a new namespace, and what its replay comes to.
+fn replay_log(alloc: Global, bodies: BodyList) -> Result<(Namespace, Replayed), OutOfMemory> {
     if bodies.is_empty() {
-        return Err("no body".into());
+        return Err(AllocError);
     }
     let batch = Batch::new(1, bodies);
     if batch.last_within(MAX).is_none() {
-        return Err("too long".into());
+        return Err(AllocError);
     }
     let mut namespace = Namespace::new(alloc)?;
     let replayed = replay(alloc, &mut namespace, &batch);
     Ok((namespace, replayed))
 }
 
-/// The same of the log of these texts, where no memory is wanted.
-fn replay_texts(alloc: Global, texts: &[&str]) -> Result<(Namespace, Replayed), Fail> {
-    replay_bodies(alloc, log_of(alloc, texts)?)
-}
-
-/// The same of a log, where no memory is wanted.
-fn replay_bodies(alloc: Global, bodies: BodyList) -> Result<(Namespace, Replayed), Fail> {
-    let (namespace, replayed) = replay_log(alloc, bodies)?;
+/// The same of these entries, where no memory is wanted.
+fn replayed_of(alloc: Global, entries: &[Entry]) -> Result<(Namespace, Replayed), OutOfMemory> {
+    let (namespace, replayed) = replay_log(alloc, log_of(alloc, entries)?)?;
     match replayed {
-        Replayed::OutOfMemory { .. } => Err(AllocError.into()),
+        Replayed::OutOfMemory { .. } => Err(AllocError),
         Replayed::Done | Replayed::BadEntry { .. } => Ok((namespace, replayed)),
     }
 }
 
+/// A log, and what its replay leaves.
+#[derive(Clone, Copy)]
+struct Log {
+    entries: &'static [Entry],
+    replayed: Replayed,
+    /// How many paths there are.
+    rows: usize,
+    /// The numbers of the calls that are noted, and their txids.
+    calls: &'static [(u32, u64)],
+    /// What stands at paths.
+    seen: &'static [(&'static str, Seen)],
+}
+
+const LOGS: &[Log] = &[
+    Log {
+        entries: KNOWN,
+        replayed: Replayed::Done,
+        rows: 3,
+        calls: &[],
+        seen: &[
+            ("/", Dir(10, 0o755, 0, 0)),
+            ("/u", Dir(60, 0o755, 0, 0)),
+            ("/u/g", File(3, 40, 40, 0o644, 3000, false)),
+        ],
+    },
+    // An entry that isn't admitted ends a replay.
+    Log {
+        entries: &[
+            START,
+            Entry::Edit("mkdir /a 1 755 u g"),
+            Entry::Edit("mkdir /a 2 755 u g"),
+            Entry::Edit("mkdir /b 3 755 u g"),
+            END,
+        ],
+        replayed: Replayed::BadEntry { txid: 3 },
+        rows: 2,
+        calls: &[],
+        seen: &[("/a", Dir(1, 0o755, 0, 0)), ("/b", Nothing)],
+    },
+    // A body that is no record ends a replay.
+    Log {
+        entries: &[
+            Entry::Edit("mkdir /a 1 755 u g"),
+            Entry::Bytes(&[99]),
+            Entry::Edit("mkdir /b 3 755 u g"),
+        ],
+        replayed: Replayed::BadEntry { txid: 2 },
+        rows: 2,
+        calls: &[],
+        seen: &[("/a", Dir(1, 0o755, 0, 0)), ("/b", Nothing)],
+    },
+    // A replay notes each call once.
+    Log {
+        entries: CALLED,
+        replayed: Replayed::Done,
+        rows: 4,
+        calls: &[(7, 2), (9, 4)],
+        seen: &[],
+    },
+    // A repeated call ends a replay.
+    Log {
+        entries: &[
+            START,
+            Entry::Edit("call 000000000000000000000000000000aa 7 mkdir /u 10 755 u g"),
+            Entry::Edit("call 000000000000000000000000000000aa 7 mkdir /v 11 755 u g"),
+            END,
+        ],
+        replayed: Replayed::BadEntry { txid: 3 },
+        rows: 2,
+        calls: &[(7, 2)],
+        seen: &[("/v", Nothing)],
+    },
+];
+
+/// Edits of one client and of none.
+const CALLED: &[Entry] = &[
+    START,
+    Entry::Edit("call 000000000000000000000000000000aa 7 mkdir /u 10 755 u g"),
+    Entry::Edit("mkdir /w 11 755 u g"),
+    Entry::Edit("call 000000000000000000000000000000aa 9 mkdir /v 12 755 u g"),
+    END,
+];
+
+fn shows(rt: &impl Abort, namespace: &Namespace, seen: &[(&str, Seen)]) {
+    for (row, (path, want)) in seen.iter().enumerate() {
+        is_so(rt, row, seen_at(namespace, *path) == *want);
+    }
+}
+
+fn has_noted(rt: &impl Abort, namespace: &Namespace, calls: &[(u32, u64)]) {
+    let noted = namespace.calls();
+    assert!(rt; noted.len() == calls.len());
+    for (row, (noted, (number, txid))) in noted.iter().zip(calls.iter()).enumerate() {
+        is_so(rt, row, noted.call.number == *number && noted.txid == *txid);
+    }
+}
+
+fn leaves(rt: &impl Abort, alloc: Global, log: &Log) -> Result<(), OutOfMemory> {
+    let (namespace, replayed) = replayed_of(alloc, log.entries)?;
+    assert!(rt; replayed == log.replayed);
+    assert!(rt; namespace.walk(alloc)?.len() == log.rows);
+    has_noted(rt, &namespace, log.calls);
+    shows(rt, &namespace, log.seen);
+    Ok(())
+}
+
 #[test]
-fn a_known_log_is_replayed(rt: HostRuntime) -> Result<(), Fail> {
-    let (namespace, replayed) = replay_texts(rt.alloc(), &KNOWN)?;
-    assert_eq!(rt; replayed, Replayed::Done);
-    assert_eq!(rt; namespace.walk(rt.alloc())?.len(), 3);
-    assert_eq!(rt; seen_at(&namespace, "/"), Dir(10, 0o755, 0, 0));
-    assert_eq!(rt; seen_at(&namespace, "/u"), Dir(60, 0o755, 0, 0));
-    assert_eq!(rt;
-        seen_at(&namespace, "/u/g"),
-        File(3, 40, 40, 0o644, 3000, false)
-    );
+fn logs_are_replayed(rt: HostRuntime) -> Result<(), Fail> {
+    for log in LOGS {
+        leaves(&rt, rt.alloc(), log)?;
+    }
+    Ok(())
+}
+
+#[test]
+fn a_noted_call_is_repeated(rt: HostRuntime) -> Result<(), Fail> {
+    let (namespace, _) = replayed_of(rt.alloc(), CALLED)?;
+    let text = "call 000000000000000000000000000000aa 7 mkdir /u 10 755 u g";
+    let repeated = Told::Refused(AdmitRefusal::RepeatedCall { txid: 2 });
+    assert!(rt; told_of(rt.alloc(), &namespace, text)? == repeated);
+    Ok(())
+}
+
+#[test]
+fn a_known_log_leaves_one_child(rt: HostRuntime) -> Result<(), Fail> {
+    let (namespace, _) = replayed_of(rt.alloc(), KNOWN)?;
     let names = namespace.children(rt.alloc(), b"/u")?;
     assert_eq!(rt; names.len(), 1);
     for name in &names {
@@ -159,7 +277,7 @@ fn a_known_log_is_replayed(rt: HostRuntime) -> Result<(), Fail> {
 
 #[test]
 fn a_known_log_gives_a_file_away(rt: HostRuntime) -> Result<(), Fail> {
-    let (namespace, _) = replay_texts(rt.alloc(), &KNOWN)?;
+    let (namespace, _) = replayed_of(rt.alloc(), KNOWN)?;
     match namespace.lookup(b"/u/g") {
         Some(
             Inode::File {
@@ -181,17 +299,20 @@ fn a_known_log_gives_a_file_away(rt: HostRuntime) -> Result<(), Fail> {
 }
 
 /// What the first bodies of the known log leave.
-fn known_front(alloc: Global, count: usize) -> Result<Namespace, Fail> {
-    let mut bodies = log_of(alloc, &KNOWN)?;
+fn known_front(alloc: Global, count: usize) -> Result<Namespace, OutOfMemory> {
+    let mut bodies = log_of(alloc, KNOWN)?;
     bodies.truncate(count);
     if bodies.is_empty() {
-        return Ok(Namespace::new(alloc)?);
+        return Namespace::new(alloc);
     }
-    Ok(replay_bodies(alloc, bodies)?.0)
+    match replay_log(alloc, bodies)? {
+        (_, Replayed::OutOfMemory { .. }) => Err(AllocError),
+        (namespace, _) => Ok(namespace),
+    }
 }
 
 /// Whether two namespaces have the same paths, with the same there.
-fn are_alike(alloc: Global, one: &Namespace, other: &Namespace) -> Result<bool, Fail> {
+fn are_alike(alloc: Global, one: &Namespace, other: &Namespace) -> Result<bool, OutOfMemory> {
     let rows = one.walk(alloc)?;
     if rows.len() != other.walk(alloc)?.len() {
         return Ok(false);
@@ -207,7 +328,7 @@ fn are_alike(alloc: Global, one: &Namespace, other: &Namespace) -> Result<bool, 
 
 #[test]
 fn where_memory_ends_the_rest_is_not_applied(rt: HostRuntime) -> Result<(), Fail> {
-    let log = log_of(rt.alloc(), &KNOWN)?;
+    let log = log_of(rt.alloc(), KNOWN)?;
     let (namespace, replayed) = replay_log(rt.alloc(), log)?;
     let applied = match replayed {
         Replayed::Done => 9,
@@ -219,72 +340,8 @@ fn where_memory_ends_the_rest_is_not_applied(rt: HostRuntime) -> Result<(), Fail
     Ok(())
 }
 
-#[test]
-fn an_entry_that_is_not_admitted_ends_a_replay(rt: HostRuntime) -> Result<(), Fail> {
-    let texts = [
-        "mkdir /a 1 755 u g",
-        "mkdir /a 2 755 u g",
-        "mkdir /b 3 755 u g",
-    ];
-    let (namespace, replayed) = replay_texts(rt.alloc(), &texts)?;
-    assert_eq!(rt; replayed, Replayed::BadEntry { txid: 3 });
-    assert_eq!(rt; seen_at(&namespace, "/a"), Dir(1, 0o755, 0, 0));
-    assert_eq!(rt; seen_at(&namespace, "/b"), Nothing);
-    Ok(())
-}
-
-#[test]
-fn a_body_that_is_no_record_ends_a_replay(rt: HostRuntime) -> Result<(), Fail> {
-    let alloc = rt.alloc();
-    let mut bodies = BodyList::new(alloc);
-    bodies.push(record(alloc, "mkdir /a 1 755 u g")?)?;
-    bodies.push(body(alloc, &NO_RECORD)?)?;
-    bodies.push(record(alloc, "mkdir /b 3 755 u g")?)?;
-    let (namespace, replayed) = replay_bodies(alloc, bodies)?;
-    assert_eq!(rt; replayed, Replayed::BadEntry { txid: 2 });
-    assert_eq!(rt; seen_at(&namespace, "/a"), Dir(1, 0o755, 0, 0));
-    assert_eq!(rt; seen_at(&namespace, "/b"), Nothing);
-    Ok(())
-}
-
-#[test]
-fn a_replay_notes_each_call_once(rt: HostRuntime) -> Result<(), Fail> {
-    let texts = [
-        "call 000000000000000000000000000000aa 7 mkdir /u 10 755 u g",
-        "mkdir /w 11 755 u g",
-        "call 000000000000000000000000000000aa 9 mkdir /v 12 755 u g",
-    ];
-    let (namespace, replayed) = replay_texts(rt.alloc(), &texts)?;
-    assert_eq!(rt; replayed, Replayed::Done);
-    let calls = namespace.calls();
-    assert_eq!(rt; calls.len(), 2);
-    for (noted, (number, txid)) in calls.iter().zip([(7, 2), (9, 4)]) {
-        assert_eq!(rt; noted.call.number, number);
-        assert_eq!(rt; noted.txid, txid);
-    }
-    let again = told_of(rt.alloc(), &namespace, texts[0])?;
-    assert_eq!(rt;
-        again,
-        Told::Refused(AdmitRefusal::RepeatedCall { txid: 2 })
-    );
-    Ok(())
-}
-
-#[test]
-fn a_repeated_call_ends_a_replay(rt: HostRuntime) -> Result<(), Fail> {
-    let texts = [
-        "call 000000000000000000000000000000aa 7 mkdir /u 10 755 u g",
-        "call 000000000000000000000000000000aa 7 mkdir /v 11 755 u g",
-    ];
-    let (namespace, replayed) = replay_texts(rt.alloc(), &texts)?;
-    assert_eq!(rt; replayed, Replayed::BadEntry { txid: 3 });
-    assert_eq!(rt; namespace.calls().len(), 1);
-    assert_eq!(rt; seen_at(&namespace, "/v"), Nothing);
-    Ok(())
-}
-
 /// Edits in order, each with a path and what stands there after it.
-const APPLIED: [(&str, &str, Seen); 13] = [
+const APPLIED: &[(&str, &str, Seen)] = &[
     ("mkdir /a 10 755 u g", "/a", Dir(10, 0o755, 0, 0)),
     (
         "add /a/f 3 20 21 1024 644 u g",
@@ -316,36 +373,39 @@ const APPLIED: [(&str, &str, Seen); 13] = [
     ("delete /a 75", "/a", Nothing),
 ];
 
-/// Applies an edit without a call; want of memory leaves what stands at the path.
-fn apply_text(
+/// Whether an edit without a call is admitted and applied; want of memory leaves what stands at the path.
+fn applies(
     alloc: Global,
     namespace: &mut Namespace,
     text: &str,
     path: &str,
-) -> Result<(), Fail> {
-    if !namespace.calls().is_empty() {
-        return Err("a call is noted".into());
-    }
+) -> Result<bool, OutOfMemory> {
     let edit = edit_of(alloc, text)?;
-    if admit(namespace, &edit).is_err() {
-        return Err("not admitted".into());
+    if !namespace.calls().is_empty() || admit(namespace, &edit).is_err() {
+        return Ok(false);
     }
     let before = seen_at(namespace, path);
-    if let Err(error) = apply(alloc, namespace, &edit, 1) {
-        if seen_at(namespace, path) != before {
-            return Err("changed".into());
+    match apply(alloc, namespace, &edit, 1) {
+        Ok(()) => Ok(true),
+        Err(error) => {
+            if seen_at(namespace, path) == before {
+                Err(error)
+            } else {
+                Ok(false)
+            }
         }
-        return Err(error.into());
     }
-    Ok(())
 }
 
 #[test]
 fn an_edit_of_each_kind_is_applied(rt: HostRuntime) -> Result<(), Fail> {
     let mut namespace = Namespace::new(rt.alloc())?;
     for (text, path, seen) in APPLIED {
-        apply_text(rt.alloc(), &mut namespace, text, path)?;
-        assert_eq!(rt; seen_at(&namespace, path), seen, "after {text}");
+        let is_applied = applies(rt.alloc(), &mut namespace, *text, *path)?;
+        assert!(rt;
+            is_applied && seen_at(&namespace, *path) == *seen,
+            "after {text}"
+        );
     }
     Ok(())
 }
@@ -353,7 +413,7 @@ fn an_edit_of_each_kind_is_applied(rt: HostRuntime) -> Result<(), Fail> {
 #[test]
 fn an_owner_is_set(rt: HostRuntime) -> Result<(), Fail> {
     let mut namespace = Namespace::new(rt.alloc())?;
-    apply_text(rt.alloc(), &mut namespace, "setowner / - ops", "/")?;
+    assert!(rt; applies(rt.alloc(), &mut namespace, "setowner / - ops", "/")?);
     match namespace.lookup(b"/") {
         Some(Inode::Dir { user, group, .. }) => {
             assert_eq!(rt; user.as_slice(), b"hdfs".as_slice());

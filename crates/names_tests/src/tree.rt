@@ -10,6 +10,7 @@ use ns_tree::{
 use qj_num::{Name, OutOfMemory};
 use std::alloc::Global;
 use std::cmp::Ordering;
+use std::process::Abort;
 use std::test::Fail;
 
 #[derive(Clone, Copy)]
@@ -20,7 +21,7 @@ enum Step {
 }
 
 /// A step at a path, the path that it moves to, whether it is taken, and the paths that it leaves.
-const STEPS: [(Step, &str, &str, bool, &str); 13] = [
+const STEPS: &[(Step, &str, &str, bool, &str)] = &[
     (Step::Make, "/u", "", true, "/ /u"),
     (Step::Make, "/u/x", "", true, "/ /u /u/x"),
     (Step::Make, "/u/x/f", "", true, "/ /u /u/x /u/x/f"),
@@ -98,28 +99,53 @@ fn each_step_leaves_its_paths(rt: HostRuntime) -> Result<(), Fail> {
     let alloc = rt.alloc();
     let mut tree = Namespace::new(alloc)?;
     for (step, path, to, taken, left) in STEPS {
-        let was_taken = take_step(alloc, &mut tree, step, path.as_bytes(), to.as_bytes())?;
-        assert_eq!(rt; was_taken, taken, "at {path}");
+        let was_taken = take_step(alloc, &mut tree, *step, path.as_bytes(), to.as_bytes())?;
+        assert_eq!(rt; was_taken, *taken, "at {path}");
         let paths = paths_of(alloc, &tree)?;
         assert_eq!(rt; paths.as_slice(), left.as_bytes(), "after {path}");
     }
     Ok(())
 }
 
+/// Directories that are made.
+const MADE: &[&str] = &["/u", "/u/x", "/u/x/f", "/u-", "/u0"];
+
+/// A path, and the names right below it.
+const CHILDREN: &[(&[u8], &[&[u8]])] = &[
+    (b"/", &[b"u", b"u-", b"u0"]),
+    (b"/u/x/f", &[]),
+    (b"/none", &[]),
+];
+
+fn put_each(rt: &impl Abort, alloc: Global, tree: &mut Namespace) -> Result<(), OutOfMemory> {
+    for path in MADE {
+        assert!(rt; put(alloc, tree, path.as_bytes(), plain_dir(alloc, 10)?)?);
+    }
+    Ok(())
+}
+
+fn are_below(
+    rt: &impl Abort,
+    alloc: Global,
+    tree: &Namespace,
+    path: &[u8],
+    want: &[&[u8]],
+) -> Result<(), OutOfMemory> {
+    let names = tree.children(alloc, path)?;
+    assert_eq!(rt; names.len(), want.len());
+    for (name, want) in names.iter().zip(want.iter()) {
+        assert_eq!(rt; name.as_slice(), *want);
+    }
+    Ok(())
+}
+
 #[test]
 fn children_are_the_names_right_below(rt: HostRuntime) -> Result<(), Fail> {
-    let alloc = rt.alloc();
-    let mut tree = Namespace::new(alloc)?;
-    for path in ["/u", "/u/x", "/u/x/f", "/u-", "/u0"] {
-        assert!(rt; put(alloc, &mut tree, path.as_bytes(), plain_dir(alloc, 10)?)?);
+    let mut tree = Namespace::new(rt.alloc())?;
+    put_each(&rt, rt.alloc(), &mut tree)?;
+    for (path, names) in CHILDREN {
+        are_below(&rt, rt.alloc(), &tree, *path, *names)?;
     }
-    let names = tree.children(alloc, b"/")?;
-    assert_eq!(rt; names.len(), 3);
-    for (name, want) in names.iter().zip(["u", "u-", "u0"]) {
-        assert_eq!(rt; name.as_slice(), want.as_bytes());
-    }
-    assert_eq!(rt; tree.children(alloc, b"/u/x/f")?.len(), 0);
-    assert_eq!(rt; tree.children(alloc, b"/none")?.len(), 0);
     Ok(())
 }
 
@@ -149,7 +175,7 @@ fn an_mtime_is_raised_and_an_inode_set(rt: HostRuntime) -> Result<(), Fail> {
 }
 
 /// Texts, and whether each is a path.
-const PATHS: [(&str, bool); 15] = [
+const PATHS: &[(&str, bool)] = &[
     ("/", true),
     ("/a", true),
     ("/a/b", true),
@@ -168,7 +194,7 @@ const PATHS: [(&str, bool); 15] = [
 ];
 
 /// Texts, and whether each is a user or a group; the last two have 32 bytes and 33.
-const OWNERS: [(&str, bool); 9] = [
+const OWNERS: &[(&str, bool)] = &[
     ("a", true),
     ("_9", true),
     ("Z.b-c_9", true),
@@ -181,38 +207,63 @@ const OWNERS: [(&str, bool); 9] = [
 ];
 
 #[test]
-fn names_are_in_their_grammars(rt: HostRuntime) -> Result<(), Fail> {
+fn paths_are_in_their_grammar(rt: HostRuntime) {
     for (text, good) in PATHS {
-        assert_eq!(rt; is_good_path(text.as_bytes()), good, "{text}");
+        assert!(rt; is_good_path(text.as_bytes()) == *good, "{text}");
     }
-    for (text, good) in OWNERS {
-        assert_eq!(rt; is_good_owner(text.as_bytes()), good, "{text}");
-    }
-    let alloc = rt.alloc();
-    assert!(rt; is_good_path(component(alloc, 255)?.as_slice()));
-    assert!(rt; !is_good_path(component(alloc, 256)?.as_slice()));
-    Ok(())
 }
 
 #[test]
+fn owners_are_in_their_grammar(rt: HostRuntime) {
+    for (text, good) in OWNERS {
+        assert!(rt; is_good_owner(text.as_bytes()) == *good, "{text}");
+    }
+}
+
+/// How many letters a component has, and whether it is a path.
+const COMPONENTS: &[(usize, bool)] = &[(255, true), (256, false)];
+
+#[test]
+fn a_component_has_a_limit(rt: HostRuntime) -> Result<(), Fail> {
+    for (count, good) in COMPONENTS {
+        let path = component(rt.alloc(), *count)?;
+        assert!(rt; is_good_path(path.as_slice()) == *good, "{count}");
+    }
+    Ok(())
+}
+
+/// Paths, each with its parent and its stem.
+const PARTS: &[(&[u8], &[u8], &[u8])] = &[
+    (b"/u/x", b"/u", b"/u/x"),
+    (b"/u", b"/", b"/u"),
+    (b"/", b"/", b""),
+];
+
+#[test]
 fn paths_are_taken_apart(rt: HostRuntime) {
-    for (path, above) in [("/u/x", "/u"), ("/u", "/"), ("/", "/")] {
-        assert_eq!(rt; parent(path.as_bytes()), above.as_bytes());
+    for (path, above, stem) in PARTS {
+        assert!(rt; parent(*path) == *above);
+        assert!(rt; stem_of(*path) == *stem);
+        assert!(rt; path_of(*stem) == *path);
     }
-    for (path, stem) in [("/", ""), ("/u", "/u")] {
-        assert_eq!(rt; stem_of(path.as_bytes()), stem.as_bytes());
-        assert_eq!(rt; path_of(stem.as_bytes()), path.as_bytes());
+}
+
+/// Two paths, whether the second lies under the first, and which of them a walk comes to first.
+const PAIRS: &[(&[u8], &[u8], bool, Ordering)] = &[
+    (b"/", b"/u", true, Ordering::Less),
+    (b"/u", b"/u/x", true, Ordering::Less),
+    (b"/u", b"/u-", false, Ordering::Less),
+    (b"/u/x", b"/u-", false, Ordering::Less),
+    (b"/u-", b"/u0", false, Ordering::Less),
+    (b"/u", b"/u", false, Ordering::Equal),
+];
+
+#[test]
+fn paths_are_compared(rt: HostRuntime) {
+    for (one, other, is_below, order) in PAIRS {
+        assert!(rt; lies_under(*one, *other) == *is_below);
+        assert!(rt; walk_order(*one, *other) == *order);
     }
-    for (above, path, is_below) in [
-        ("/", "/u", true),
-        ("/u", "/u/x", true),
-        ("/u", "/u-", false),
-    ] {
-        assert_eq!(rt; lies_under(above.as_bytes(), path.as_bytes()), is_below);
-    }
-    assert!(rt; walk_order(b"/u/x", b"/u-") == Ordering::Less);
-    assert!(rt; walk_order(b"/u-", b"/u0") == Ordering::Less);
-    assert!(rt; walk_order(b"/u", b"/u") == Ordering::Equal);
 }
 
 #[test]
@@ -260,17 +311,30 @@ fn note_calls(tree: &mut Namespace, count: u32) -> bool
     true
 }
 
+/// Numbers of calls, and the txids that are noted of them, behind 1,024 calls.
+const MOST: &[(u32, Option<u64>)] = &[(1, Some(1)), (1024, Some(1024)), (1025, None)];
+
+/// The same behind 1,025 calls.
+const MORE: &[(u32, Option<u64>)] = &[(1, None), (2, Some(2)), (1025, Some(1025)), (1026, None)];
+
+fn notes(
+    rt: &impl Abort,
+    alloc: Global,
+    count: u32,
+    noted: &[(u32, Option<u64>)],
+) -> Result<(), OutOfMemory> {
+    let mut tree = Namespace::new(alloc)?;
+    assert!(rt; note_calls(&mut tree, count));
+    assert!(rt; tree.calls().len() == 1024);
+    for (number, txid) in noted {
+        assert!(rt; tree.repeated(&call_of(*number)) == *txid, "{number}");
+    }
+    Ok(())
+}
+
 #[test]
 fn of_1025_calls_the_first_goes(rt: HostRuntime) -> Result<(), Fail> {
-    let mut tree = Namespace::new(rt.alloc())?;
-    assert!(rt; note_calls(&mut tree, 1024));
-    assert_eq!(rt; tree.repeated(&call_of(1)), Some(1));
-    assert_eq!(rt; tree.calls().len(), 1024);
-    let mut tree = Namespace::new(rt.alloc())?;
-    assert!(rt; note_calls(&mut tree, 1025));
-    assert_eq!(rt; tree.calls().len(), 1024);
-    for (number, txid) in [(1, None), (2, Some(2)), (1025, Some(1025)), (1026, None)] {
-        assert_eq!(rt; tree.repeated(&call_of(number)), txid);
-    }
+    notes(&rt, rt.alloc(), 1024, MOST)?;
+    notes(&rt, rt.alloc(), 1025, MORE)?;
     Ok(())
 }

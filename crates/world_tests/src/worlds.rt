@@ -1,116 +1,131 @@
 //! Three known scripts as events, and a writer that gives up.
-use crate::segments::has_segments;
-use crate::steps::{
-    Losses, What, arm, asked, begin, call_next, checkpoint, come_late, give_up, kill, lines,
-    one_edit, restart, run,
-};
-use journal_core::{PlainNode, Refusal, Reply};
-use node_world::{NodeAnswer, World};
+use crate::segments::{Wanted, has_segments};
+use crate::steps::{Act, Losses, What, play};
+use journal_core::{PlainNode, Refusal};
+use node_world::World;
 use std::alloc::Global;
+use std::process::Abort;
 use std::test::Fail;
-use writer_core::Task;
 
-/// The refusal in the last line of the node's history.
-fn last_refusal(world: &World<PlainNode>, node: usize) -> Result<Refusal, Fail> {
-    if node < 1 || node > world.nodes() {
-        return Err("no such node".into());
-    }
-    let line = world.history(node).last().ok_or("no line")?;
-    match &line.answer {
-        NodeAnswer::Replied(Reply::Refused(refusal)) => Ok(*refusal),
-        _ => Err("not refused".into()),
+/// A node as it is left: whether it is up, its promise, and its segments.
+type Left = (bool, u64, &'static [Wanted<'static>]);
+
+/// A world of so many nodes and actors, what is done there, and how its nodes are left.
+#[derive(Clone, Copy)]
+struct Case {
+    nodes: usize,
+    actors: u32,
+    acts: &'static [(Act, What)],
+    left: &'static [Left],
+}
+
+const RECOVERED: Left = (
+    true,
+    2,
+    &[(1, 2, true, &[b"\x18", b"\x0a"]), (3, 2, false, &[b"\x18"])],
+);
+
+const CASES: &[Case] = &[
+    // Node 1 alone stored the edit, and its reply was lost. The next writer recovers it.
+    Case {
+        nodes: 3,
+        actors: 2,
+        acts: &[
+            (Act::Takeover(0, Losses::Nothing), What::Done),
+            (Act::Log(0, b"\x0a", Losses::AllButOneEffect), What::Done),
+            (Act::Takeover(1, Losses::Nothing), What::Done),
+        ],
+        left: &[RECOVERED, RECOVERED, RECOVERED],
+    },
+    // Node 1 has the first batch alone, and is stopped inside the prepare of the next writer.
+    Case {
+        nodes: 3,
+        actors: 2,
+        acts: &[
+            (Act::Takeover(0, Losses::Batches), What::Done),
+            (Act::Arm(1), What::Done),
+            (Act::Takeover(1, Losses::Nothing), What::Done),
+            (Act::LastLine(1), What::Refused(Refusal::Down)),
+        ],
+        left: &[
+            (false, 2, &[(1, 1, false, &[b"\x18"])]),
+            (true, 2, &[(1, 2, false, &[b"\x18"])]),
+            (true, 2, &[(1, 2, false, &[b"\x18"])]),
+        ],
+    },
+    // A request that was never made doesn't come late; a checkpoint changes no node; who gives up makes no call.
+    Case {
+        nodes: 1,
+        actors: 2,
+        acts: &[
+            (Act::Begin(0), What::Done),
+            (Act::Call(0), What::Heard),
+            (Act::Checkpoint(0), What::Done),
+            (Act::GiveUp(0), What::Done),
+            (Act::Call(0), What::NoCall),
+            (Act::Late(1, 1, 0), What::NotNext),
+            (Act::Lines(1), What::Lines(1)),
+        ],
+        left: &[(true, 0, &[])],
+    },
+];
+
+fn is_left(node: &PlainNode, left: &Left) -> bool {
+    let (up, promised, segments) = *left;
+    let state = node.state();
+    state.up == up && state.promised == promised && has_segments(node, segments)
+}
+
+fn leaves(rt: &impl Abort, nodes: &[PlainNode], left: &[Left]) {
+    assert!(rt; nodes.len() == left.len());
+    for (row, (node, left)) in nodes.iter().zip(left.iter()).enumerate() {
+        assert!(rt; is_left(node, left), "node {row}");
     }
 }
 
-// Node 1 alone stored the edit, and its reply was lost. The next writer recovers it.
-#[test]
-fn an_edit_whose_reply_is_lost_is_recovered(rt: HostRuntime) -> Result<(), Fail> {
-    let alloc = rt.alloc();
-    let mut world = World::new(alloc, 3, 2)?;
-    assert!(rt; run(alloc, &mut world, 0, Task::Takeover, Losses::Nothing)?);
-    let edit = Task::Log(one_edit(alloc, b"\x0a")?);
-    assert!(rt; run(alloc, &mut world, 0, edit, Losses::AllButOneEffect)?);
-    assert!(rt; run(alloc, &mut world, 1, Task::Takeover, Losses::Nothing)?);
-    let nodes = world.into_nodes(alloc)?;
-    for node in &nodes {
-        assert!(rt;
-            has_segments(
-                node,
-                &[(1, 2, true, &[b"\x18", b"\x0a"]), (3, 2, false, &[b"\x18"])]
-            )
-        );
-    }
-    assert_eq!(rt; nodes.len(), 3);
+fn is_played(rt: &impl Abort, alloc: Global, case: &Case) -> Result<(), Fail> {
+    let mut world = World::new(alloc, case.nodes, case.actors)?;
+    play(rt, alloc, &mut world, case.acts)?;
+    leaves(rt, &world.into_nodes(alloc)?, case.left);
     Ok(())
 }
 
-/// A world of one node that was given, in which the one actor took over.
+#[test]
+fn known_scripts_are_played(rt: HostRuntime) -> Result<(), Fail> {
+    for case in CASES {
+        is_played(&rt, rt.alloc(), case)?;
+    }
+    Ok(())
+}
+
+/// The writer's start comes once more: under a serial that was seen, and after a restart, which forgets the serial.
+const COPIED: &[(Act, What)] = &[
+    (Act::Takeover(0, Losses::Nothing), What::Done),
+    (Act::Late(0, 1, 2), What::Done),
+    (
+        Act::LastLine(1),
+        What::Refused(Refusal::OldSerial { seen: 2 }),
+    ),
+    (Act::Kill(1), What::Done),
+    (Act::Kill(1), What::Idle),
+    (Act::Restart(1), What::Done),
+    (Act::Restart(1), What::Idle),
+    (Act::Late(0, 1, 2), What::Done),
+    (
+        Act::LastLine(1),
+        What::Refused(Refusal::SegmentHasEdits { end: 1 }),
+    ),
+];
+
+/// A world of one node that was given.
 fn world_of_one(alloc: Global) -> Result<World<PlainNode>, Fail> {
     let mut nodes = Vec::new(alloc);
     nodes.push(PlainNode::new(alloc))?;
-    let mut world = World::of(alloc, nodes, 1)?;
-    if run(alloc, &mut world, 0, Task::Takeover, Losses::Nothing)? {
-        Ok(world)
-    } else {
-        Err("no takeover".into())
-    }
+    Ok(World::of(alloc, nodes, 1)?)
 }
 
-// The writer's start comes once more: under a serial that was seen, and after a restart, which forgets the serial.
 #[test]
 fn a_copy_comes_after_a_restart(rt: HostRuntime) -> Result<(), Fail> {
-    let alloc = rt.alloc();
-    let mut world = world_of_one(alloc)?;
-    let start = asked(&world, 1, 2)?;
-    let again = start.share()?;
-    assert_eq!(rt; come_late(alloc, &mut world, 0, 1, start)?, What::Done);
-    assert_eq!(rt; last_refusal(&world, 1)?, Refusal::OldSerial { seen: 2 });
-    assert_eq!(rt; kill(alloc, &mut world, 1)?, What::Done);
-    assert_eq!(rt; kill(alloc, &mut world, 1)?, What::Idle);
-    assert_eq!(rt; restart(alloc, &mut world, 1)?, What::Done);
-    assert_eq!(rt; restart(alloc, &mut world, 1)?, What::Idle);
-    assert_eq!(rt; come_late(alloc, &mut world, 0, 1, again)?, What::Done);
-    assert_eq!(rt;
-        last_refusal(&world, 1)?,
-        Refusal::SegmentHasEdits { end: 1 }
-    );
-    Ok(())
-}
-
-// Node 1 has the first batch alone, and is stopped inside the prepare of the next writer.
-#[test]
-fn an_armed_node_is_stopped_inside_a_prepare(rt: HostRuntime) -> Result<(), Fail> {
-    let alloc = rt.alloc();
-    let mut world = World::new(alloc, 3, 2)?;
-    assert!(rt; run(alloc, &mut world, 0, Task::Takeover, Losses::Batches)?);
-    assert_eq!(rt; arm(alloc, &mut world, 1)?, What::Done);
-    assert!(rt; run(alloc, &mut world, 1, Task::Takeover, Losses::Nothing)?);
-    assert_eq!(rt; last_refusal(&world, 1)?, Refusal::Down);
-    let nodes = world.into_nodes(alloc)?;
-    let epochs: [u64; 3] = [1, 2, 2];
-    for (node, epoch) in nodes.iter().zip(&epochs) {
-        assert!(rt; has_segments(node, &[(1, *epoch, false, &[b"\x18"])]));
-        assert_eq!(rt; node.state().promised, 2);
-        assert_eq!(rt; node.state().up, *epoch == 2);
-    }
-    Ok(())
-}
-
-// A request that was never made doesn't come late; a checkpoint changes no node; who gives up makes no call.
-#[test]
-fn a_writer_gives_up(rt: HostRuntime) -> Result<(), Fail> {
-    let alloc = rt.alloc();
-    let mut world = World::new(alloc, 1, 2)?;
-    assert_eq!(rt; begin(alloc, &mut world, 0, Task::Takeover)?, What::Done);
-    assert!(rt; call_next(alloc, &mut world, 0, Losses::Nothing)?);
-    let question = asked(&world, 1, 0)?;
-    assert_eq!(rt; checkpoint(alloc, &mut world, 0)?, What::Done);
-    assert_eq!(rt; give_up(alloc, &mut world, 0)?, What::Done);
-    assert!(rt; !call_next(alloc, &mut world, 0, Losses::Nothing)?);
-    assert_eq!(rt;
-        come_late(alloc, &mut world, 1, 1, question)?,
-        What::NotNext
-    );
-    assert_eq!(rt; lines(&world, 1)?, 1);
-    Ok(())
+    let mut world = world_of_one(rt.alloc())?;
+    play(&rt, rt.alloc(), &mut world, COPIED)
 }
