@@ -1,5 +1,6 @@
 // What is due of a number, before any of it is written.
-ghost use Rattle.std.specs.Prelude.{IfOk, IfErr};
+ghost use Rattle.std.specs.Prelude.{◌≡◌, IfOk, IfErr};
+ghost use Rattle.report_text.specs.Summary.{summary_text};
 ghost use Rattle.script_maker.specs.Generated.{IsWithin};
 ghost use Rattle.qj_cli.specs.Uses.{written_to};
 ghost use Rattle.qj_cli.specs.Generates.{IsSummary, GivesSummary, IsSummaryFault, Generates};
@@ -8,11 +9,31 @@ use crate::fault::Fault;
 use crate::plays::play_soundly;
 use crate::status::Status;
 use crate::writing::write_due;
+use cluster_runner::Played;
 use journal_core::OutOfMemory;
 use qj_outside::Sink;
 use report_text::summary_of;
 use script_maker::generate;
+use script_text::Script;
 use std::alloc::Global;
+use std::mem;
+
+/// The summary of what a script's play left. Nothing of it is given back: the process ends once the summary is written.
+fn summary_of_played<N: Drop>(
+    alloc: Global,
+    script: Script,
+    played: Played<N>,
+) -> Result<Vec<u8>, OutOfMemory>
+    ensures { IfOk result (λ text. text.items ≡ summary_text played.mesh played.ends) }
+{
+    let Played { mesh, ends, nodes } = played;
+    let text = summary_of(alloc, &mesh, &ends);
+    mem::forget(nodes);
+    mem::forget(mesh);
+    mem::forget(ends);
+    mem::forget(script);
+    text
+}
 
 /// The summary of the script that a number gives, played over fresh nodes on disks in memory.
 fn summary(alloc: Global, number: u64, edits: u64, nodes: u64) -> Result<Vec<u8>, OutOfMemory>
@@ -21,7 +42,7 @@ fn summary(alloc: Global, number: u64, edits: u64, nodes: u64) -> Result<Vec<u8>
 {
     let script = generate(alloc, number, edits, nodes)?;
     let played = play_soundly(alloc, &script)?;
-    let text = summary_of(alloc, &played.mesh, &played.ends)?;
+    let text = summary_of_played(alloc, script, played)?;
     Ok(text)
 }
 
