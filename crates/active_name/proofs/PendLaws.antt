@@ -109,7 +109,7 @@ from_more next p e body h =
     record { some = some; within = h.within; calls = subst (λ (k : ℕ). AreRising 0 k (apply_of p.ahead e (next + length p.bodies)).calls) same rising }
 
 -- ## Edits that are submitted one after the other
-submitted_more : (w : WriterView) (es : List EditView) (e : EditView) (x : Submission) → submitted w (es ++ e ∷ []) x ≡ submitted_one w e (submitted w es x)
+pub submitted_more : (w : WriterView) (es : List EditView) (e : EditView) (x : Submission) → submitted w (es ++ e ∷ []) x ≡ submitted_one w e (submitted w es x)
 unfolding submitted
 submitted_more w [] e x = refl
 submitted_more w (d ∷ es) e x = submitted_more w es e (submitted_one w d x)

@@ -33,7 +33,7 @@ kept_active a w last now opens h next most le none = record {
   ended = λ o. none;
 }
 
-begun_open : (b : Bool) (x : Began) (w : WriterView) → (if_writing b x w).begun ≡ begun.Going → b ≡ true
+pub begun_open : (b : Bool) (x : Began) (w : WriterView) → (if_writing b x w).begun ≡ begun.Going → b ≡ true
 begun_open true x w e = refl
 begun_open false x w e = absurd (cc e)
 

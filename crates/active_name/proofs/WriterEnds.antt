@@ -27,6 +27,7 @@ use Rattle.writer_core.specs.declared.task.Task.TheVariants as task
 use Rattle.writer_core.specs.declared.task.Begun.TheVariants as begun
 use Rattle.writer_core.specs.Writer.{begins, writer_begun, if_writing, is_writing, log_begins, log_limit, next_call, with_answer, judged_when, heard_in, heard_at, writer_heard}
 use Rattle.quorum_writer.specs.Led.{IsLed, judged_along, Leads}
+use Rattle.std.proofs.lemmas.Bool.{and_parts}
 
 -- what an outcome tells of the writer
 abbrev pub IsOutcome : Outcome → WriterView → Type 0
@@ -47,11 +48,6 @@ StandsSo j = IsTurnAt j.turn j.writer
 
 fits_is : (n : ℕ) → fits n ≡ true → n ≤ max_number
 fits_is n e = grind (arith, nat_tests)
-
-both : (a b : Bool) → (a && b) ≡ true → (a ≡ true) × (b ≡ true)
-both true true e = (refl, refl)
-both true false e = absurd (cc e)
-both false b e = absurd (cc e)
 
 state_so : (b : Bool) (told : ℕ) (w : WriterView) → StandsSo (if b then going (proposing told w) else stopped (turn.EpochLimit told) w)
 state_so true told w = tt
@@ -85,14 +81,14 @@ done_so (round.Prepare start) w e = tt
 done_so (round.Fetch node start end bodies) w e = tt
 done_so (round.Accept batch) w e = tt
 done_so (round.Finalize start end) w e =
-    let rest = (both (fits start) _ e).1 in
-    finalize_so w.aim end (next_serial w) (fits_is end (both (fits end) _ rest).0)
+    let rest = (and_parts (fits start) _ e).1 in
+    finalize_so w.aim end (next_serial w) (fits_is end (and_parts (fits end) _ rest).0)
 done_so round.Start w e = tt
-done_so round.Open w e = open_so w.aim _ refl (fits_is w.start (both (fits w.start) _ e).0)
+done_so round.Open w e = open_so w.aim _ refl (fits_is w.start (and_parts (fits w.start) _ e).0)
 done_so (round.Write bodies) w e =
-    let rest = (both (fits w.start) _ e).1 in
-    let more = (both (fits w.next) _ rest).1 in
-    write_so w.aim w.next (w.next + length bodies - 1) _ refl (fits_is (w.next + length bodies - 1) (both (fits (w.next + length bodies - 1)) _ more).0)
+    let rest = (and_parts (fits w.start) _ e).1 in
+    let more = (and_parts (fits w.next) _ rest).1 in
+    write_so w.aim w.next (w.next + length bodies - 1) _ refl (fits_is (w.next + length bodies - 1) (and_parts (fits (w.next + length bodies - 1)) _ more).0)
 done_so (round.Purge min) w e = tt
 
 same_numbers : (r : Round) (w : WriterView) → numbers_fit w r ≡ numbers_fit (with_causes r w) r

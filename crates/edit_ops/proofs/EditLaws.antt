@@ -12,6 +12,7 @@ use Rattle.edit_ops.specs.Fields.{Kind, Field, path, text, number, Text_, Small_
 use Rattle.edit_ops.specs.Records.{EditView, kind_of, fields_of, layout, full_layout, call_fields, opcode, called, edit_fields}
 use Rattle.edit_ops.specs.Grammar.{IsEdit}
 use Rattle.edit_ops.specs.Decoding.{Matches}
+use Rattle.edit_ops.specs.FromFields.{text_in, number_in, op_from, edit_from}
 
 -- ---- fields match their layout
 
@@ -52,50 +53,6 @@ edit_matches e is = matches_by e.call e.op is.fields
 
 -- ---- the fields tell the edit
 
-abbrev text_in : Field → List ℕ
-text_in (Text_ t bytes) = bytes
-text_in (Client_ bytes) = bytes
-text_in (Small_ s n) = []
-text_in (Number_ n) = []
-text_in (Flag_ b) = []
-text_in (Call_ n) = []
-
-abbrev number_in : Field → ℕ
-number_in (Text_ t bytes) = 0
-number_in (Client_ bytes) = 0
-number_in (Small_ s n) = n
-number_in (Number_ n) = n
-number_in (Flag_ b) = 0
-number_in (Call_ n) = n
-
-abbrev flag_in : Field → Bool
-flag_in (Flag_ b) = b
-flag_in (Text_ t bytes) = false
-flag_in (Client_ bytes) = false
-flag_in (Small_ s n) = false
-flag_in (Number_ n) = false
-flag_in (Call_ n) = false
-
-abbrev at : ℕ → List Field → Field
-at i fields = get_or fields i (Number_ 0)
-
--- the edit of a kind with these fields
-op_from : OpKind → List Field → Op
-op_from kinds.Add f = Add (text_in (at 0 f)) (number_in (at 1 f)) (number_in (at 2 f)) (number_in (at 3 f)) (number_in (at 4 f)) (number_in (at 5 f)) (text_in (at 6 f)) (text_in (at 7 f))
-op_from kinds.RenameOld f = RenameOld (text_in (at 0 f)) (text_in (at 1 f)) (number_in (at 2 f))
-op_from kinds.Delete f = Delete (text_in (at 0 f)) (number_in (at 1 f))
-op_from kinds.Mkdir f = Mkdir (text_in (at 0 f)) (number_in (at 1 f)) (number_in (at 2 f)) (text_in (at 3 f)) (text_in (at 4 f))
-op_from kinds.SetReplication f = SetReplication (text_in (at 0 f)) (number_in (at 1 f))
-op_from kinds.SetPermissions f = SetPermissions (text_in (at 0 f)) (number_in (at 1 f))
-op_from kinds.SetOwner f = SetOwner (text_in (at 0 f)) (text_in (at 1 f)) (text_in (at 2 f))
-op_from kinds.Close f = Close (text_in (at 0 f)) (number_in (at 1 f)) (number_in (at 2 f)) (map number_in (drop 4 f))
-op_from kinds.Times f = Times (text_in (at 0 f)) (number_in (at 1 f)) (number_in (at 2 f))
-op_from kinds.SetQuota f = SetQuota (text_in (at 0 f)) (number_in (at 1 f)) (number_in (at 2 f))
-op_from kinds.Rename f = Rename (text_in (at 0 f)) (text_in (at 1 f)) (number_in (at 2 f)) (flag_in (at 3 f))
-op_from kinds.ConcatDelete f = ConcatDelete (text_in (at 0 f)) (number_in (at 1 f)) (map text_in (drop 3 f))
-op_from kinds.EndLogSegment f = EndLogSegment
-op_from kinds.StartLogSegment f = StartLogSegment
-
 numbers_again : (ns : List ℕ) → map number_in (map Number_ ns) ≡ ns
 numbers_again [] = refl
 numbers_again (n ∷ ns) = ap (λ (ms : List ℕ). n ∷ ms) (numbers_again ns)
@@ -124,12 +81,7 @@ op_again StartLogSegment = refl
 pub same_op : (a b : Op) → kind_of a ≡ kind_of b → fields_of a ≡ fields_of b → a ≡ b
 same_op a b kinds_same fields_same = sym (op_again a) ∙ (λ i. op_from (kinds_same i) (fields_same i)) ∙ op_again b
 
--- the edit with these fields, by whether it has a call
-edit_from : OpKind → Bool → List Field → EditView
-edit_from kind false f = record { op = op_from kind f; call = None }
-edit_from kind true f = record { op = op_from kind (drop 2 f); call = Some (record { client = text_in (at 0 f); number = number_in (at 1 f) }) }
-
-again_by : (call : Option Call) (op : Op) → edit_from (kind_of op) (is_some call) (call_fields call ++ fields_of op) ≡ record { op = op; call = call }
+pub again_by : (call : Option Call) (op : Op) → edit_from (kind_of op) (is_some call) (call_fields call ++ fields_of op) ≡ record { op = op; call = call }
 unfolding edit_from
 again_by None op = ap (λ (o : Op). record { op = o; call = None }) (op_again op)
 again_by (Some call) op = ap (λ (o : Op). record { op = o; call = Some call }) (op_again op)

@@ -4,7 +4,7 @@ use Rattle.std.specs.Prelude.{◌&&◌}
 use Rattle.std.specs.Str.{bytes_eq}
 use Rattle.std.specs.Fmt.{digits}
 use Rattle.std.specs.Str.Parse.{digits_value}
-use Rattle.std.proofs.lemmas.Bool.{lt-ltb, ltb-true, le-leb, leb-true}
+use Rattle.std.proofs.lemmas.Bool.{lt-ltb, ltb-true, le-leb, leb-true, and_parts}
 use Rattle.std.proofs.lemmas.Bool.Decides.{nat_tests}
 use Rattle.std.proofs.lemmas.Fmt.{digits_is_IsNumeral}
 use Rattle.std.proofs.Math.Nat.{pow-le-pow_left}
@@ -13,15 +13,8 @@ use Rattle.std.proofs.lemmas.Slice.Eq.{bytes_eq-Decides}
 use Rattle.qj_num.specs.Numbers.{IsNumber}
 use Rattle.edit_ops.specs.Saying.{is_number, number_said, at_most, hex_value, unhex}
 
-pub bytes_same : (a b : List ℕ) → a ≡ b → bytes_eq a b ≡ true
-bytes_same a b e = (bytes_eq-Decides a b).1 e
-
 pub same_bytes : (a b : List ℕ) → bytes_eq a b ≡ true → a ≡ b
 same_bytes a b e = (bytes_eq-Decides a b).0 e
-
-both : (a b : Bool) → a && b ≡ true → (a ≡ true) × (b ≡ true)
-both true b e = (refl, e)
-both false b e = absurd cc
 
 pub value_of_number : (base : ℕ) → 2 ≤ base → base ≤ 16 → (n : ℕ) → n < 2 ^ 64 → digits_value base (digits base false n) ≡ n
 value_of_number base low high n lt = (digits_is_IsNumeral base false low high n (omega (arith, lt, pow-le-pow_left low 64))).1
@@ -32,11 +25,11 @@ unfolding number_said
 number_is_said base low high word n is =
     let value : digits_value base word ≡ n = ap (digits_value base) is.1 ∙ value_of_number base low high n is.0 in
     let small : ltb n (2 ^ 64) ≡ true = lt-ltb _ _ is.0 in
-    let same : bytes_eq word (digits base false n) ≡ true = bytes_same word (digits base false n) is.1 in
+    let same : bytes_eq word (digits base false n) ≡ true = (bytes_eq-Decides word (digits base false n)).1 is.1 in
     rw (value, small, same) refl
 
 said_by : (test : Bool) (base : ℕ) (word : List ℕ) → is_number base word ≡ test → ((n : ℕ) → IsNumber base word n → ⊥) → cond test (Some (digits_value base word)) None ≡ None
-said_by true base word e none = let t = both (ltb (digits_value base word) (2 ^ 64)) (bytes_eq word (digits base false (digits_value base word))) e in absurd (none (digits_value base word) (ltb-true _ _ t.0, same_bytes word (digits base false (digits_value base word)) t.1))
+said_by true base word e none = let t = and_parts (ltb (digits_value base word) (2 ^ 64)) (bytes_eq word (digits base false (digits_value base word))) e in absurd (none (digits_value base word) (ltb-true _ _ t.0, same_bytes word (digits base false (digits_value base word)) t.1))
 said_by false base word e none = refl
 
 -- a word that is no number's says none
@@ -46,7 +39,7 @@ none_is_said base word none = said_by (is_number base word) base word refl none
 
 found_by : (test : Bool) (base : ℕ) (word : List ℕ) (n : ℕ) → is_number base word ≡ test → cond test (Some (digits_value base word)) None ≡ Some n → IsNumber base word n
 found_by true base word n e is =
-    let t = both (ltb (digits_value base word) (2 ^ 64)) (bytes_eq word (digits base false (digits_value base word))) e in
+    let t = and_parts (ltb (digits_value base word) (2 ^ 64)) (bytes_eq word (digits base false (digits_value base word))) e in
     let same : digits_value base word ≡ n = cc in
     subst (IsNumber base word) same (ltb-true _ _ t.0, same_bytes word (digits base false (digits_value base word)) t.1)
 found_by false base word n e is = absurd cc

@@ -6,7 +6,7 @@ use Rattle.std.specs.Char.{is_ascii_graphic, digit_value}
 use Rattle.std.specs.Str.{bytes_eq}
 use Rattle.std.specs.Str.Parse.{AllDigits}
 use Rattle.std.specs.Fmt.{digits, digit_glyph}
-use Rattle.std.proofs.lemmas.Bool.{eq-eqb, eqb-true, lt-ltb, ltb-true, le-leb, leb-true}
+use Rattle.std.proofs.lemmas.Bool.{eq-eqb, eqb-true, lt-ltb, ltb-true, le-leb, leb-true, and_parts}
 use Rattle.std.proofs.lemmas.Bool.Decides.{nat_tests}
 use Rattle.std.proofs.lemmas.List.{take-append-drop, take_at, drop_at}
 use Rattle.std.proofs.lemmas.Fmt.{digits_is_IsNumeral}
@@ -15,7 +15,8 @@ use Rattle.qj_num.specs.Numbers.{IsNumber}
 use Rattle.edit_ops.specs.Fields.{Kind, Field, Text, path, owner, new_owner, replication, permission, numbers, paths, text, small, number, flag, client, call_number, Text_, Small_, Number_, Flag_, Client_, Call_, kind_of_field, limit, IsGood}
 use Rattle.edit_ops.specs.Texts.{text_word, hex_byte, spaced, CanSay}
 use Rattle.edit_ops.specs.Saying.{◌>>=◌, Boundary, split_word, word_at, number_said, at_most, text_said, is_hex, hex_value, unhex, client_said, said, field_said}
-use Rattle.edit_ops.proofs.SayNumbers.{bytes_same, same_bytes, number_is_said, said_is_number, within, said_at_most}
+use Rattle.edit_ops.proofs.SayNumbers.{same_bytes, number_is_said, said_is_number, within, said_at_most}
+use Rattle.std.proofs.lemmas.Slice.Eq.{bytes_eq-Decides}
 
 -- ---- where a word ends
 
@@ -85,13 +86,9 @@ number_no_space base low high n lt = digits_no_space base (digits base false n) 
 graphic_no_space : (b : ℕ) → is_ascii_graphic b ≡ true → (b == 32) ≡ false
 graphic_no_space b g = grind (arith, nat_tests)
 
-both : (a b : Bool) → a && b ≡ true → (a ≡ true) × (b ≡ true)
-both true b e = (refl, e)
-both false b e = absurd cc
-
 text_no_space : (bytes : List ℕ) → list_all is_ascii_graphic bytes ≡ true → NoSpace bytes
 text_no_space [] g = tt
-text_no_space (b ∷ bytes) g = let p = both (is_ascii_graphic b) (list_all is_ascii_graphic bytes) g in (graphic_no_space b p.0, text_no_space bytes p.1)
+text_no_space (b ∷ bytes) g = let p = and_parts (is_ascii_graphic b) (list_all is_ascii_graphic bytes) g in (graphic_no_space b p.0, text_no_space bytes p.1)
 
 glyph_no_space : (d : ℕ) → d < 16 → (digit_glyph false d == 32) ≡ false
 glyph_no_space d lt = grind (arith, nat_tests)
@@ -136,8 +133,8 @@ hex_of_unhex (suc n) [] len h = absurd (omega (arith, len))
 hex_of_unhex n (a ∷ []) len h = absurd (omega (arith, len))
 hex_of_unhex zero (a ∷ b ∷ rest) len h = absurd (omega (arith, len))
 hex_of_unhex (suc n) (a ∷ b ∷ rest) len h =
-    let p = both (is_hex a) (list_all is_hex (b ∷ rest)) h in
-    let q = both (is_hex b) (list_all is_hex rest) p.1 in
+    let p = and_parts (is_hex a) (list_all is_hex (b ∷ rest)) h in
+    let q = and_parts (is_hex b) (list_all is_hex rest) p.1 in
     let x = hex_glyph a p.0 in
     let y = hex_glyph b q.0 in
     let v : ℕ = 16 * (hex_value a % 16) + hex_value b % 16 in
@@ -178,8 +175,8 @@ pub text_is_said : (t : Text) (word : List ℕ) (f : Field) → text_said t word
 unfolding text_said
 text_is_said t word f e =
     let p = picked (ltb 0 (length word) && (leb (length word) (limit t) && list_all is_ascii_graphic word)) (Text_ t word) f e in
-    let a = both (ltb 0 (length word)) (leb (length word) (limit t) && list_all is_ascii_graphic word) p.0 in
-    let b = both (leb (length word) (limit t)) (list_all is_ascii_graphic word) a.1 in
+    let a = and_parts (ltb 0 (length word)) (leb (length word) (limit t) && list_all is_ascii_graphic word) p.0 in
+    let b = and_parts (leb (length word) (limit t)) (list_all is_ascii_graphic word) a.1 in
     (sym p.1, ltb-true _ _ a.0, leb-true _ _ b.0, b.1)
 
 pub text_says : (t : Text) (word : List ℕ) → 0 < length word → length word ≤ limit t → list_all is_ascii_graphic word ≡ true → text_said t word ≡ Some (Text_ t word)
@@ -213,13 +210,13 @@ new_owner_by : (dash : Bool) (word : List ℕ) (f : Field) → bytes_eq word (45
 new_owner_by true word f is e = let same : Text_ new_owner [] ≡ f = cc in subst (SaidAs (text new_owner) word) same (record { kind_is = refl; has_word = tt; good = (omega arith, refl); can = λ z. absurd (cc); word_is = same_bytes word (45 ∷ []) is })
 new_owner_by false word f is e =
     let r = text_is_said new_owner word f e in
-    let no_dash : word ≢ 45 ∷ [] = λ z. let b = bytes_same word (45 ∷ []) z in absurd cc in
+    let no_dash : word ≢ 45 ∷ [] = λ z. let b = (bytes_eq-Decides word (45 ∷ [])).1 z in absurd cc in
     subst (SaidAs (text new_owner) word) (sym r.0) (record { kind_is = refl; has_word = tt; good = (r.2, r.3); can = no_dash; word_is = word_of_text new_owner word r.1 })
 
 client_by : (test : Bool) (word : List ℕ) (f : Field) → (length word == 32) && list_all is_hex word ≡ test → (cond test (Some (unhex word)) None >>= λ bytes. some_field (Client_ bytes)) ≡ Some f → SaidAs client word f
 client_by false word f is e = absurd cc
 client_by true word f is e =
-    let p = both (eqb (length word) 32) (list_all is_hex word) is in
+    let p = and_parts (eqb (length word) 32) (list_all is_hex word) is in
     let h = hex_of_unhex 16 word (eqb-true _ _ p.0) p.1 in
     let same : Client_ (unhex word) ≡ f = cc in
     subst (SaidAs client word) same (record { kind_is = refl; has_word = tt; good = (h.1, h.2); can = tt; word_is = sym h.0 })

@@ -3,7 +3,7 @@ use Rattle.std.proofs.Common.{◌≡◌, ℕ, zero, suc, Bool, true, false, cond
 use Rattle.std.specs.Prelude.{codes, ◌==◌, ◌&&◌}
 use Rattle.std.specs.Str.{bytes_eq}
 use Rattle.std.specs.List.{find, flat_map, AllByRecursion}
-use Rattle.std.proofs.lemmas.Bool.{eqb-true, false≢true}
+use Rattle.std.proofs.lemmas.Bool.{eqb-true, false≢true, and_parts}
 use Rattle.std.proofs.lemmas.List.{append-nil, nil_from_length}
 use Rattle.edit_ops.specs.declared.kind.OpKind.{OpKind}
 use Rattle.edit_ops.specs.declared.kind.OpKind.TheVariants as kinds
@@ -18,10 +18,11 @@ use Rattle.edit_ops.specs.Texts.{spaced, CanSay, IsText}
 use Rattle.edit_ops.specs.ReadTexts.{IsLine}
 use Rattle.edit_ops.specs.Saying.{◌>>=◌, Boundary, split_word, field_said, items_said, group_said, fields_said}
 use Rattle.edit_ops.specs.SaidTexts.{said_kinds, kind_said, says_all, says_fields, is_line_text, is_line_behind, is_called_text, is_edit_text}
-use Rattle.edit_ops.proofs.SayNumbers.{bytes_same, same_bytes}
+use Rattle.edit_ops.proofs.SayNumbers.{same_bytes}
 use Rattle.edit_ops.proofs.SayWords.{split_again, field_said_takes}
 use Rattle.edit_ops.proofs.SayLaws.{prefixed, fields_taken, some_read, some_is, no_call_verb}
 use Rattle.edit_ops.proofs.SayEdits.{line_says, line_word, line_rest, called_text, plain_text, call_plain, call_bound, call_says, called_edit, plain_edit, split_whole}
+use Rattle.std.proofs.lemmas.Slice.Eq.{bytes_eq-Decides}
 
 abbrev Read : Type 0
 Read = Option (List Field × List ℕ)
@@ -301,7 +302,7 @@ passes_by bytes (Some call) op is =
     let t = called_text bytes call op is in
     let words : List ℕ = flat (call_fields (Some call)) ++ 32 ∷ t.line in
     let bound = call_bound call t.line in
-    let first : bytes_eq (split_word bytes).0 (codes "call") ≡ true = bytes_same _ _ (ap (λ (w : List ℕ). (split_word w).0) t.parts ∙ first_word_of (flat (call_fields (Some call)) ++ 32 ∷ t.line) bound) in
+    let first : bytes_eq (split_word bytes).0 (codes "call") ≡ true = (bytes_eq-Decides _ _).1 (ap (λ (w : List ℕ). (split_word w).0) t.parts ∙ first_word_of (flat (call_fields (Some call)) ++ 32 ∷ t.line) bound) in
     ap (λ (b : Bool). cond b (is_called_text (fields_said (client ∷ call_number ∷ []) (split_word bytes).1)) (is_line_text bytes)) first
     ∙ ap (λ (w : List ℕ). is_called_text (fields_said (client ∷ call_number ∷ []) (split_word w).1)) t.parts
     ∙ ap (λ (w : List ℕ). is_called_text (fields_said (client ∷ call_number ∷ []) w)) (rest_of (flat (call_fields (Some call)) ++ 32 ∷ t.line) bound)
@@ -310,17 +311,13 @@ passes_by bytes (Some call) op is =
 pub passes : (bytes : List ℕ) (e : EditView) → IsText bytes e → is_edit_text bytes ≡ true
 passes bytes e is = passes_by bytes e.call e.op is
 
-both : (a b : Bool) → (a && b) ≡ true → (a ≡ true) × (b ≡ true)
-both true b e = (refl, e)
-both false b e = absurd (false≢true e)
-
 -- a space, and a line behind it
 abbrev Behind : List ℕ → Type 0
 Behind words = (line : List ℕ) × (words ≡ 32 ∷ line) × (is_line_text line ≡ true)
 
 behind_from : (words : List ℕ) → is_line_behind words ≡ true → Behind words
 behind_from [] e = absurd (false≢true e)
-behind_from (b ∷ words) e = let p = both (b == 32) (is_line_text words) e in (words, ap (λ (c : ℕ). c ∷ words) (eqb-true _ _ p.0), p.1)
+behind_from (b ∷ words) e = let p = and_parts (b == 32) (is_line_text words) e in (words, ap (λ (c : ℕ). c ∷ words) (eqb-true _ _ p.0), p.1)
 
 pub edit_from : (bytes : List ℕ) → is_edit_text bytes ≡ true → (e : EditView) × IsText bytes e
 unfolding is_edit_text

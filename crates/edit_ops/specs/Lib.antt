@@ -8,6 +8,7 @@ pub mod Texts
 pub mod Forms
 pub mod Decoding
 pub mod Reading
+pub mod FromFields
 pub mod Saying
 pub mod ReadTexts
 pub mod SaidTexts

@@ -15,6 +15,7 @@ use Rattle.gate_seats.proofs.SeatLaws.{not_acted}
 use Rattle.gate_seats.specs.Seated.{Seat, seat_of}
 use Rattle.std.proofs.Math.ListN.{get_or-map}
 use Rattle.gate_seats.specs.Gates.{zip_snoc, dealt, fresh_seat, fresh_row, fresh_columns, row_at, AreOf}
+use Rattle.node_world.proofs.WorldRuns.{get_replicate}
 
 pub zip_none : {A : Type 0} (cs : List (List A)) → zip_snoc cs [] ≡ cs
 zip_none [] = refl
@@ -183,16 +184,11 @@ pub map_dealt : {A B : Type 0} (f : A → B) (cs rows : List (List A)) → map (
 map_dealt f cs [] = refl
 map_dealt f cs (r ∷ rows) = map_dealt f (zip_snoc cs r) rows ∙ ap (λ l. dealt l (map (map f) rows)) (map_zip f cs r)
 
-same_at : {A : Type 0} (n i : ℕ) (x : A) → get_or (replicate n x) i x ≡ x
-same_at zero i x = refl
-same_at (suc n) zero x = refl
-same_at (suc n) (suc i) x = same_at n i x
-
 row_from : (rows columns : List (List Seat)) (m i : ℕ) (d : Seat) (none : List Seat) → none ≡ [] → rows ≡ dealt (replicate m none) columns → i < m → ((k : ℕ) (c : List Seat) → k < length columns → length (get_or columns k c) ≡ m)
     → get_or rows i none ≡ row_at i d columns
 row_from rows columns m i d none is e l long =
     let n : length (replicate m none) ≡ m = length-replicate m none in
-    ap (λ z. get_or z i none) e ∙ dealt_at (replicate m none) columns i none d (omega (arith, l, n)) (λ k c h. let q = long k c h in omega (arith, l, q)) ∙ ap (λ z. z ++ row_at i d columns) (same_at m i none ∙ is)
+    ap (λ z. get_or z i none) e ∙ dealt_at (replicate m none) columns i none d (omega (arith, l, n)) (λ k c h. let q = long k c h in omega (arith, l, q)) ∙ ap (λ z. z ++ row_at i d columns) (get_replicate m i none ∙ is)
 
 pub row_is : (rows columns : List (List Seat)) (m i : ℕ) (d : Seat) → rows ≡ dealt (replicate m []) columns → i < m → ((k : ℕ) (c : List Seat) → k < length columns → length (get_or columns k c) ≡ m) → get_or rows i [] ≡ row_at i d columns
 row_is rows columns m i d e l long = row_from rows columns m i d [] refl e l long

@@ -28,6 +28,7 @@ use Rattle.writer_core.specs.Best.{Best, best_of, best_from, better, told_by, se
 use Rattle.writer_core.specs.Rounds.{request_in, numbers_fit, going, done_in, with_causes, judged_by, judged, taken_out, fetched, after_propose, recovering, after_finalize, after_open, after_write, edits_fetched, not_fetched, next_serial, missed, none_left_out, to_all, to_others, proposing, stopped, asking_all, batch_from, end_record}
 use Rattle.writer_core.specs.Writer.{new_writer, Began, writer_begun, log_begins, log_limit, is_writing, if_writing, next_call, call_in, node_in, with_answer, judged_when, heard_in, heard_at, writer_heard}
 pub use Rattle.node_world.specs.Sized.{FetchesWithin, Sized}
+use Rattle.writer_core.proofs.LiveLaws.{of_call}
 
 -- ## The node that told the best answer
 told_within : (node : ℕ) (o : Option SegmentInfo) (b : Best) → told_by node o ≡ Some b → b.node ≡ node
@@ -225,17 +226,8 @@ node_within n k round.Open slots f e h = waits_within n k slots e h
 node_within n k (round.Write bodies) slots f e h = waits_within n k slots e h
 node_within n k (round.Purge min) slots f e h = waits_within n k slots e h
 
-first_of : Option (ℕ × Request) → Option ℕ
-first_of None = None
-first_of (Some c) = Some c.0
-
-in_within : (r : Request) (o : Option ℕ) (k : ℕ) (q : Request) → option_map {U = ℕ × Request} (λ (node : ℕ). (node, r)) o ≡ Some (k, q) → o ≡ Some k
-unfolding first_of
-in_within r None k q h = absurd (cc h)
-in_within r (Some i) k q h = ap first_of h
-
 at_within : (n : ℕ) (p : Phase) (w : WriterView) (k : ℕ) (q : Request) → FetchesWithin n p → Sized n w → call_in p w ≡ Some (k, q) → (1 ≤ k) × (k ≤ n)
-at_within n (phase.InRound r) w k q f h e = node_within n k r w.slots f h.slots (in_within (request_in w r) (node_in r w.slots) k q e)
+at_within n (phase.InRound r) w k q f h e = node_within n k r w.slots f h.slots (of_call (request_in w r) (node_in r w.slots) k q e)
 at_within n phase.Idle w k q f h e = absurd (cc e)
 at_within n phase.Writing w k q f h e = absurd (cc e)
 at_within n phase.Stopped w k q f h e = absurd (cc e)

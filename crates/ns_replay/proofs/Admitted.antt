@@ -16,6 +16,7 @@ use Rattle.ns_tree.proofs.Pairs.{Below, below_root}
 use Rattle.ns_replay.specs.declared.refusal.AdmitRefusal.{AdmitRefusal}
 use Rattle.ns_replay.specs.declared.refusal.AdmitRefusal.TheVariants.{NoParent, Exists, Missing, NotDirectory, NotFile, Root, BadName, BadNumber, RepeatedCall}
 use Rattle.ns_replay.specs.Admit.{Refusal, first, refused_if, bad_path, bad_owner, bad_permission, bad_replication, bad_block_size, ancestor, ancestors, finds, has_parent, refused_there, refused_dir, admit_op, repeated_at, repeated, refused_first, admit_of}
+use Rattle.std.proofs.lemmas.Bool.{or_parts}
 
 -- ## Tests that were passed
 pub none≢some : {B : Type 0} (r : AdmitRefusal) → ◌≡◌ {A = Refusal} None (Some r) → B
@@ -42,21 +43,17 @@ pub not_there : (r : AdmitRefusal) (o : Option Inode) → refused_there r o ≡ 
 not_there r None e = refl
 not_there r (Some i) e = none≢some r (sym e)
 
-pub neither : (a b : Bool) → (a || b) ≡ false → (a ≡ false) × (b ≡ false)
-neither true b e = absurd (cc e)
-neither false b e = (refl, e)
-
 pub permission_fits : (n : ℕ) → bad_permission n ≡ None → n ≤ 1023
 permission_fits n e = let t : nat_lt 1023 n ≡ false = not_refused (nat_lt 1023 n) BadNumber e in grind (arith, nat_tests, t)
 
 pub replication_fits : (n : ℕ) → bad_replication n ≡ None → (1 ≤ n) × (n ≤ 512)
 replication_fits n e =
-    let t : (nat_lt n 1 ≡ false) × (nat_lt 512 n ≡ false) = neither (nat_lt n 1) (nat_lt 512 n) (not_refused (nat_lt n 1 || nat_lt 512 n) BadNumber e) in
+    let t : (nat_lt n 1 ≡ false) × (nat_lt 512 n ≡ false) = or_parts (nat_lt n 1) (nat_lt 512 n) (not_refused (nat_lt n 1 || nat_lt 512 n) BadNumber e) in
     (let low : nat_lt n 1 ≡ false = t.0 in grind (arith, nat_tests, low), let high : nat_lt 512 n ≡ false = t.1 in grind (arith, nat_tests, high))
 
 pub block_fits : (n : ℕ) → bad_block_size n ≡ None → (1 ≤ n) × (n ≤ 1099511627776)
 block_fits n e =
-    let t : (nat_lt n 1 ≡ false) × (nat_lt 1099511627776 n ≡ false) = neither (nat_lt n 1) (nat_lt 1099511627776 n) (not_refused (nat_lt n 1 || nat_lt 1099511627776 n) BadNumber e) in
+    let t : (nat_lt n 1 ≡ false) × (nat_lt 1099511627776 n ≡ false) = or_parts (nat_lt n 1) (nat_lt 1099511627776 n) (not_refused (nat_lt n 1 || nat_lt 1099511627776 n) BadNumber e) in
     (let low : nat_lt n 1 ≡ false = t.0 in grind (arith, nat_tests, low), let high : nat_lt 1099511627776 n ≡ false = t.1 in grind (arith, nat_tests, high))
 
 -- a walk over the ancestors that met nothing: the parent is a directory

@@ -7,10 +7,7 @@ use Rattle.ns_tree.specs.Path.{same_text, walk_cmp}
 use Rattle.ns_tree.specs.Space.{Space, pair, find, change_at, Each, IsInWalkOrder}
 use Rattle.ns_tree.specs.Places.{set_at, IsTree}
 use Rattle.ns_tree.proofs.Order.{same_text_is, not_same_after}
-
-unchanged : (p : List ℕ) (f : Inode → Inode) (xs : List Row) → Each (λ x. walk_cmp p x.path ≡ Less) xs → change_at p f xs ≡ xs
-unchanged p f [] e = refl
-unchanged p f (x ∷ xs) e = rw (not_same_after p x.path e.0) (ap (λ (ys : List Row). x ∷ ys) (unchanged p f xs e.1))
+use Rattle.ns_tree.proofs.Place.{change_after}
 
 pub change_found : (p : List ℕ) (f : Inode → Inode) (i : Inode) (xs : List Row) → IsInWalkOrder xs → find p xs ≡ Some i → change_at p f xs ≡ set_at p (f i) xs
 change_found p f i [] o e = refl
@@ -28,7 +25,7 @@ change_found p f i (x ∷ xs) o e = by (same_text p x.path) refl e (λ g. change
     by false s e go = ap (λ (ys : List Row). x ∷ ys) (go e)
     by true s e go =
         let later : Each (λ y. walk_cmp p y.path ≡ Less) xs = at_path (sym (same_text_is p x.path s)) in
-        (λ k. pair x.path (f (the_inode x.inode i e k)) ∷ (unchanged p f xs later ∙ sym (unchanged p (λ _. f i) xs later)) k)
+        (λ k. pair x.path (f (the_inode x.inode i e k)) ∷ (change_after p f xs later ∙ sym (change_after p (λ _. f i) xs later)) k)
       where
         at_path : x.path ≡ p → Each (λ y. walk_cmp p y.path ≡ Less) xs
         at_path same = subst (λ (q : List ℕ). Each (λ y. walk_cmp q y.path ≡ Less) xs) same o.0

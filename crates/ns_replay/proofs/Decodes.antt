@@ -19,42 +19,12 @@ use Rattle.edit_ops.specs.declared.decoded.Decoded.TheVariants.{Edit, OutOfMemor
 use Rattle.edit_ops.specs.Decoding.{Matches, IsDecoded}
 use Rattle.edit_ops.specs.Grammar.{MayCall, IsEdit, IsRecord}
 use Rattle.edit_ops.proofs.DecodeLaws.{fields_good, fields_all_good, right_edit}
-use Rattle.edit_ops.proofs.EditLaws.{edit_matches}
+use Rattle.edit_ops.proofs.EditLaws.{edit_matches, again_by}
 use Rattle.edit_ops.proofs.WalkLaws.{runs}
 use Rattle.edit_ops.proofs.FieldLaws.{IsBytes}
 use Rattle.ns_replay.specs.Decoded.{text_in, number_in, flag_in, at, op_from, edit_from, Opcode, known, edit_kind, opcode_of, read_whole, decoded_as, decoded}
 use Rattle.ns_replay.specs.Keeps.{OnlyRecordsDecode, AreBytes}
 use Rattle.ns_replay.proofs.Splits.{some_is, none≢some}
-
-numbers_again : (ns : List ℕ) → map number_in (map Number_ ns) ≡ ns
-numbers_again [] = refl
-numbers_again (n ∷ ns) = ap (λ (ms : List ℕ). n ∷ ms) (numbers_again ns)
-
-paths_again : (ps : List (List ℕ)) → map text_in (map (Text_ path) ps) ≡ ps
-paths_again [] = refl
-paths_again (p ∷ ps) = ap (λ (qs : List (List ℕ)). p ∷ qs) (paths_again ps)
-
-op_again : (op : Op) → op_from (kind_of op) (fields_of op) ≡ op
-unfolding op_from
-op_again (Add p r m a b s u g) = refl
-op_again (RenameOld s d t) = refl
-op_again (Delete p t) = refl
-op_again (Mkdir p t s u g) = refl
-op_again (SetReplication p r) = refl
-op_again (SetPermissions p s) = refl
-op_again (SetOwner p u g) = refl
-op_again (Close p m a ls) = ap (Close p m a) (numbers_again ls)
-op_again (Times p m a) = refl
-op_again (SetQuota p n s) = refl
-op_again (Rename s d t o) = refl
-op_again (ConcatDelete p t ss) = ap (ConcatDelete p t) (paths_again ss)
-op_again EndLogSegment = refl
-op_again StartLogSegment = refl
-
-again_by : (call : Option Call) (op : Op) → edit_from (kind_of op) (is_some call) (call_fields call ++ fields_of op) ≡ record { op = op; call = call }
-unfolding edit_from
-again_by None op = ap (λ (o : Op). record { op = o; call = None }) (op_again op)
-again_by (Some call) op = ap (λ (o : Op). record { op = o; call = Some call }) (op_again op)
 
 -- the opcode tells the kind
 opcode_again : (kind : OpKind) (c : Bool) → MayCall kind c → opcode_of (opcode kind c) ≡ known c kind

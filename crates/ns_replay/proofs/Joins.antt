@@ -16,7 +16,10 @@ use Rattle.ns_replay.specs.declared.refusal.AdmitRefusal.{AdmitRefusal}
 use Rattle.ns_replay.specs.declared.refusal.AdmitRefusal.TheVariants.{Missing, NotFile, IntoItself, BadName, BadNumber}
 use Rattle.ns_replay.specs.Admit.{Refusal, first, refused_if, bad_path, ancestor, ancestors, finds, refused_dir, refused_open, is_one_of, bad_paths, admit_part, admit_sources, no_source, blocks_of, blocks_at, admit_concat}
 use Rattle.ns_replay.specs.Apply.{is_file_there, IsSource, AreSources}
-use Rattle.ns_replay.proofs.Admitted.{none≢some, AllPassed, all_passed, not_refused, is_so, neither, ancestor_is, is_there}
+use Rattle.ns_replay.proofs.Admitted.{none≢some, AllPassed, all_passed, not_refused, is_so, ancestor_is, is_there}
+use Rattle.std.proofs.lemmas.Bool.{or_parts}
+use Rattle.ns_tree.proofs.Sound.{raised_dir}
+use Rattle.ns_replay.proofs.Sources.{blocks_append}
 
 -- ## A walk that met nothing met a directory at each `/`
 dir_met : (r : AdmitRefusal) (xs : List Row) (so_far p rest : List ℕ) → ancestors r xs so_far (p ++ 47 ∷ rest) ≡ None → is_dir_there (find (path_of_stem (so_far ++ p)) xs) ≡ true
@@ -97,10 +100,6 @@ sources_without p [] xs apart h = tt
 sources_without p (q ∷ qs) xs apart h =
     (record { path = h.0.path; below = h.0.below; file = ap is_file_there (find_without p q xs apart.0) ∙ h.0.file }, h.1, sources_without p qs xs apart.1 h.2)
 
-raised_dir : (t : ℕ) (i : Inode) → is_dir (raised t i) ≡ is_dir i
-raised_dir t (Dir m p u g n s) = refl
-raised_dir t (File r m a b p u g ls c) = refl
-
 -- once the first of them went, and its parent's mtime was raised
 pub sources_left : (p : List ℕ) (t : ℕ) (ps : List (List ℕ)) (xs : List Row) → AreSources (p ∷ ps) xs → AreSources ps (raise (parent_of p) t (without p xs))
 sources_left p t ps xs h = sources_changed (parent_of p) (raised t) ps (without p xs) (raised_dir t) (sources_without p ps xs h.1 h.2)
@@ -144,7 +143,7 @@ module _ (p : List ℕ) (xs : List Row) (root : is_dir_there (find root_path xs)
       let found : finds q xs ≡ None = (all_passed (finds q xs ∷ refused_dir NotFile (find q xs) ∷ refused_open (find q xs) ∷ []) u.1.0).0 in
       let text : same_text p q ≡ false = other_text p q (listed q (not_refused (is_one_of q before) IntoItself u.0)) in
       let under : is_under p q ≡ false = file_apart p q xs (below_root p source.path source.below) (below_root q other.path other.below) source.file found in
-      (rw (text, under) refl, apart_from (q ∷ before) qs (λ r not_one. listed r (neither (same_text r q) (is_one_of r before) not_one).1) t.1.0 u.1.1.0)
+      (rw (text, under) refl, apart_from (q ∷ before) qs (λ r not_one. listed r (or_parts (same_text r q) (is_one_of r before) not_one).1) t.1.0 u.1.1.0)
 
 pub are_sources : (before ps : List (List ℕ)) (xs : List Row) → is_dir_there (find root_path xs) ≡ true → bad_paths ps ≡ None → admit_sources before ps xs ≡ None → AreSources ps xs
 are_sources before [] xs root a b = tt
@@ -152,7 +151,7 @@ are_sources before (p ∷ ps) xs root a b =
     let t = all_passed (bad_path p ∷ bad_paths ps ∷ []) a in
     let u = all_passed (refused_if (is_one_of p before) IntoItself ∷ admit_part p xs ∷ admit_sources (p ∷ before) ps xs ∷ []) b in
     let source : IsSource p xs = source_is p xs root t.0 u.1.0 in
-    (source, apart_from p xs root source (p ∷ before) ps (λ q not_one. (neither (same_text q p) (is_one_of q before) not_one).0) t.1.0 u.1.1.0, are_sources (p ∷ before) ps xs root t.1.0 u.1.1.0)
+    (source, apart_from p xs root source (p ∷ before) ps (λ q not_one. (or_parts (same_text q p) (is_one_of q before) not_one).0) t.1.0 u.1.1.0, are_sources (p ∷ before) ps xs root t.1.0 u.1.1.0)
 
 -- of a concat: the target is a path that is found, the sources can go
 pub record Joins (target : List ℕ) (ps : List (List ℕ)) (xs : List Row) : Type 0 where
@@ -170,10 +169,6 @@ concat_joins target ps xs root e =
 -- ## One source after the other
 pub next_source : (ps : List (List ℕ)) (i : ℕ) (p : List ℕ) → i < length ps → p ≡ get_or ps i p → drop i ps ≡ p ∷ drop (i + 1) ps
 next_source ps i p h is = rw add-one (drop-cons ps i p h ∙ ap (λ (q : List ℕ). q ∷ drop (suc i) ps) (sym is))
-
-blocks_append : (ps qs : List (List ℕ)) (xs : List Row) → blocks_at (ps ++ qs) xs ≡ blocks_at ps xs ++ blocks_at qs xs
-blocks_append [] qs xs = refl
-blocks_append (p ∷ ps) qs xs = ap (λ (ns : List ℕ). blocks_of (find p xs) ++ ns) (blocks_append ps qs xs) ∙ sym (append_assoc (blocks_of (find p xs)) (blocks_at ps xs) (blocks_at qs xs))
 
 pub blocks_next : (target : List ℕ) (ps : List (List ℕ)) (xs : List Row) (i : ℕ) (p : List ℕ) (all new : List ℕ) → i < length ps → p ≡ get_or ps i p → all ≡ blocks_at (target ∷ take i ps) xs → new ≡ all ++ blocks_of (find p xs)
     → new ≡ blocks_at (target ∷ take (i + 1) ps) xs

@@ -9,13 +9,14 @@ use Rattle.ns_tree.specs.Path.{same_text, stem, path_of_stem, is_under, is_at_or
 use Rattle.ns_tree.specs.Space.{Space, is_dir, is_dir_there, find, has_under, longest_under}
 use Rattle.ns_tree.specs.Places.{IsTree}
 use Rattle.ns_tree.proofs.Order.{same_text_is, same_text_self}
-use Rattle.ns_tree.proofs.Pairs.{Below, below_root, stem_same, and_both}
+use Rattle.ns_tree.proofs.Pairs.{Below, below_root, stem_same}
 use Rattle.ns_tree.proofs.Tails.{is_tail, Tail, tail_of, tail_under, parent_tail, tail_parent, path_split}
 use Rattle.ns_tree.proofs.Ancestors.{no_dir_empty}
 use Rattle.ns_replay.specs.declared.refusal.AdmitRefusal.{AdmitRefusal}
 use Rattle.ns_replay.specs.declared.refusal.AdmitRefusal.TheVariants.{Exists, NotDirectory, NotFile, NotEmpty, Root, IntoItself, BadName}
 use Rattle.ns_replay.specs.Admit.{Refusal, refused_if, bad_path, finds, has_parent, refused_there, bad_move, last_component, target_in, target_of, admit_move, admit_rename_old, over, admit_rename}
-use Rattle.ns_replay.proofs.Admitted.{none≢some, all_passed, not_refused, is_so, neither, not_there, has_parent_is, is_there}
+use Rattle.ns_replay.proofs.Admitted.{none≢some, all_passed, not_refused, is_so, not_there, has_parent_is, is_there}
+use Rattle.std.proofs.lemmas.Bool.{and_parts, or_parts}
 
 pub record CanMove (src dst : List ℕ) (xs : List Row) : Type 0 where
   pub source : is_path src ≡ true
@@ -46,7 +47,7 @@ rename_moves src dst overwrite s h e =
     let t = all_passed (bad_path src ∷ bad_path dst ∷ refused_if (is_root src || is_root dst) Root ∷ finds src s.pairs ∷ refused_if (is_at_or_under src dst) IntoItself ∷ has_parent dst s.pairs
     ∷ over overwrite (find src s.pairs) (find dst s.pairs) (has_under dst s.pairs) ∷ bad_move src dst s.pairs ∷ []) e in
     let path : is_path dst ≡ true = is_so (is_path dst) BadName t.1.0 in
-    let roots = neither (is_root src) (is_root dst) (not_refused (is_root src || is_root dst) Root t.1.1.0) in
+    let roots = or_parts (is_root src) (is_root dst) (not_refused (is_root src || is_root dst) Root t.1.1.0) in
     let p = has_parent_is dst s.pairs path t.1.1.1.1.1.0 in
     let there = is_there src s.pairs t.1.1.1.0 in
     record {
@@ -82,7 +83,7 @@ last_good c (b ∷ bs) e = by (b == 47) refl e (last_good [] bs) (last_good (c +
     none false = refl
 
     first : (z : Bool) → (is_component c && are_components [] bs) ≡ true → (are_components [] bs ≡ true → are_components (cond (has_slash bs) [] []) (last_component bs) ≡ true) → are_components [] (last_component bs) ≡ true
-    first z e go = ap (λ (d : List ℕ). are_components d (last_component bs)) (sym (none (has_slash bs))) ∙ go (and_both (is_component c) (are_components [] bs) e).1
+    first z e go = ap (λ (d : List ℕ). are_components d (last_component bs)) (sym (none (has_slash bs))) ∙ go (and_parts (is_component c) (are_components [] bs) e).1
 
     later : (z : Bool) → has_slash bs ≡ z → are_components c (b ∷ bs) ≡ true → (are_components (c ++ b ∷ []) bs ≡ true) → (are_components (c ++ b ∷ []) bs ≡ true → are_components (cond z [] (c ++ b ∷ [])) (last_component bs) ≡ true) → are_components (cond z [] c) (cond z (last_component bs) (b ∷ bs)) ≡ true
     later true s whole e go = go e
@@ -101,7 +102,7 @@ last_is src b e =
     ∙ (ap (λ (d : List ℕ). are_components d (last_component (b.second ∷ b.rest))) (sym (none (has_slash (b.second ∷ b.rest)))) ∙ last_good [] (b.second ∷ b.rest) parts.1))
   where
     parts : ((b.first == 47) ≡ true) × (are_components [] (b.second ∷ b.rest) ≡ true)
-    parts = and_both (b.first == 47) (are_components [] (b.second ∷ b.rest)) (sym (ap is_path b.is) ∙ e)
+    parts = and_parts (b.first == 47) (are_components [] (b.second ∷ b.rest)) (sym (ap is_path b.is) ∙ e)
 
     none : (z : Bool) → cond {A = List ℕ} z [] [] ≡ []
     none true = refl

@@ -77,7 +77,7 @@ passed_at a b c d e f g = e ∙ f ∙ ap (λ (z : Refusal). first (z ∷ d ∷ [
     last (Some r) = refl
 
 -- ## Blocks
-blocks_append : (ps qs : List (List ℕ)) (xs : List Row) → blocks_at (ps ++ qs) xs ≡ blocks_at ps xs ++ blocks_at qs xs
+pub blocks_append : (ps qs : List (List ℕ)) (xs : List Row) → blocks_at (ps ++ qs) xs ≡ blocks_at ps xs ++ blocks_at qs xs
 blocks_append [] qs xs = refl
 blocks_append (p ∷ ps) qs xs = ap (λ (ns : List ℕ). blocks_of (find p xs) ++ ns) (blocks_append ps qs xs) ∙ sym (append_assoc (blocks_of (find p xs)) (blocks_at ps xs) (blocks_at qs xs))
 

@@ -11,15 +11,11 @@ use Rattle.std.proofs.lemmas.List.Kept.{AllPairs-cons}
 use Rattle.ns_tree.specs.declared.inode.Row.{Row}
 use Rattle.ns_tree.specs.Path.{walk_cmp, rank_of, begins_with, stem, is_under, has_slash, part_under, is_right_under}
 use Rattle.ns_tree.specs.Space.{Each, IsInWalkOrder, names_under, AreInByteOrder}
-use Rattle.ns_tree.proofs.Pairs.{and_both}
 use Rattle.ns_tree.proofs.Subtree.{begins_short, prefix_cmp}
 use Rattle.ns_tree.proofs.Tails.{begins_split}
+use Rattle.std.proofs.lemmas.Bool.{and_parts, or_parts}
 
 -- ## Two names
-either_false : (a b : Bool) → (a || b) ≡ false → (a ≡ false) × (b ≡ false)
-either_false true b e = absurd (cc e)
-either_false false b e = (refl, e)
-
 rank_cmp : (x y : ℕ) → (x == 47) ≡ false → (y == 47) ≡ false → nat_cmp (rank_of x) (rank_of y) ≡ nat_cmp x y
 rank_cmp x y e f = rw (e, f) (grind (arith, nat_tests))
 
@@ -29,8 +25,8 @@ plain_cmp [] [] e f = refl
 plain_cmp [] (y ∷ ys) e f = refl
 plain_cmp (x ∷ xs) [] e f = refl
 plain_cmp (x ∷ xs) (y ∷ ys) e f =
-    let p : ((x == 47) ≡ false) × (has_slash xs ≡ false) = either_false (x == 47) (has_slash xs) e in
-    let q : ((y == 47) ≡ false) × (has_slash ys ≡ false) = either_false (y == 47) (has_slash ys) f in
+    let p : ((x == 47) ≡ false) × (has_slash xs ≡ false) = or_parts (x == 47) (has_slash xs) e in
+    let q : ((y == 47) ≡ false) × (has_slash ys ≡ false) = or_parts (y == 47) (has_slash ys) f in
     ap (λ (r : Ordering). ordering_then r (walk_cmp xs ys)) (rank_cmp x y p.0 q.0) ∙ ap (ordering_then (nat_cmp x y)) (plain_cmp xs ys p.1 q.1)
 
 whole_stem : (s q : List ℕ) → begins_with (s ++ 47 ∷ []) (stem q) ≡ true → begins_with (s ++ 47 ∷ []) q ≡ true
@@ -49,7 +45,7 @@ split_under p q h =
 
 no_slash_in : (p q : List ℕ) → is_right_under p q ≡ true → (is_under p q ≡ true) × (has_slash (part_under p q) ≡ false)
 no_slash_in p q h =
-    let parts : (is_under p q ≡ true) × (not (has_slash (part_under p q)) ≡ true) = and_both (is_under p q) (not (has_slash (part_under p q))) h in
+    let parts : (is_under p q ≡ true) × (not (has_slash (part_under p q)) ≡ true) = and_parts (is_under p q) (not (has_slash (part_under p q))) h in
     (parts.0, by (has_slash (part_under p q)) parts.1)
   where
     by : (z : Bool) → not z ≡ true → z ≡ false

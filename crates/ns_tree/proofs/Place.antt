@@ -211,7 +211,7 @@ change_before : (p : List ℕ) (f : Inode → Inode) (xs : List Row) → Each (�
 change_before p f [] e = refl
 change_before p f (x ∷ xs) e = rw (not_same_before p x.path e.0) (ap (λ ys. x ∷ ys) (change_before p f xs e.1))
 
-change_after : (p : List ℕ) (f : Inode → Inode) (xs : List Row) → Each (λ x. walk_cmp p x.path ≡ Less) xs → change_at p f xs ≡ xs
+pub change_after : (p : List ℕ) (f : Inode → Inode) (xs : List Row) → Each (λ x. walk_cmp p x.path ≡ Less) xs → change_at p f xs ≡ xs
 change_after p f [] e = refl
 change_after p f (x ∷ xs) e = rw (not_same_after p x.path e.0) (ap (λ ys. x ∷ ys) (change_after p f xs e.1))
 

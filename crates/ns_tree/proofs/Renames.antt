@@ -16,6 +16,7 @@ use Rattle.ns_tree.proofs.Pairs.{root_path, Below, root_apart}
 use Rattle.ns_tree.proofs.Subtree.{after_under, before_under, not_true}
 use Rattle.ns_tree.proofs.Sound.{sound_pairs, path_long}
 use Rattle.ns_tree.proofs.Tails.{is_tail, Tail, tail_of, tail_under, moved_tail, moved_by, moved_cmp, moved_under, same_prefix, parent_tail, tail_parent, parent_apart, own_parent_apart, path_tail}
+use Rattle.std.proofs.lemmas.Bool.{or_parts}
 
 each_both : (P Q : Row → Type 0) (xs : List Row) → Each P xs → Each Q xs → Each (λ x. P x × Q x) xs
 each_both P Q [] p q = tt
@@ -31,11 +32,7 @@ find_in_none q (x ∷ xs) h = rw h.0 (find_in_none q xs h.1)
 
 none_under : (p : List ℕ) (xs : List Row) → has_under p xs ≡ false → Each (λ x. is_under p x.path ≡ false) xs
 none_under p [] e = tt
-none_under p (x ∷ xs) e = let parts : (is_under p x.path ≡ false) × (has_under p xs ≡ false) = neither (is_under p x.path) (has_under p xs) e in (parts.0, none_under p xs parts.1)
-  where
-    neither : (a b : Bool) → (a || b) ≡ false → (a ≡ false) × (b ≡ false)
-    neither true b e = absurd (cc e)
-    neither false b e = (refl, e)
+none_under p (x ∷ xs) e = let parts : (is_under p x.path ≡ false) × (has_under p xs ≡ false) = or_parts (is_under p x.path) (has_under p xs) e in (parts.0, none_under p xs parts.1)
 
 longest_bound : (xs : List Row) → Each (λ x. length x.path ≤ longest_of xs) xs
 longest_bound [] = tt

@@ -62,7 +62,7 @@ pub sound_without : (s : Space) (p : List ℕ) → IsTree s → is_path p ≡ tr
 sound_without s p h path not_root =
     sound_pairs s (without p s.pairs) h (order_without p s.pairs h.ordered) (kept_without p s.pairs path not_root (pairs_of s h))
 
-raised_dir : (t : ℕ) (i : Inode) → is_dir (raised t i) ≡ is_dir i
+pub raised_dir : (t : ℕ) (i : Inode) → is_dir (raised t i) ≡ is_dir i
 raised_dir t (Dir m p u g n s) = refl
 raised_dir t (File r m a b p u g ls c) = refl
 

@@ -5,8 +5,9 @@ use Rattle.std.proofs.lemmas.Bool.Decides.{nat_tests}
 use Rattle.ns_tree.specs.Path.{same_text, walk_cmp, begins_with, stem, path_of_stem, is_under, is_at_or_under, has_slash, before_last_slash, parent_of, is_component, are_components, is_path, is_root}
 use Rattle.ns_tree.specs.Space.{moved_path}
 use Rattle.ns_tree.proofs.Order.{same_text_is, same_text_self}
-use Rattle.ns_tree.proofs.Pairs.{root_path, Below, below_root, stem_same, and_both, front_begins, shorter, root_apart, under_parent}
+use Rattle.ns_tree.proofs.Pairs.{root_path, Below, below_root, stem_same, front_begins, shorter, root_apart, under_parent}
 use Rattle.ns_tree.proofs.Subtree.{prefix_cmp}
+use Rattle.std.proofs.lemmas.Bool.{and_parts}
 
 abbrev pub is_tail : List ℕ → Bool
 is_tail [] = true
@@ -22,7 +23,7 @@ pub begins_split : (p q : List ℕ) → begins_with p q ≡ true → q ≡ p ++ 
 begins_split [] q h = refl
 begins_split (n ∷ ns) [] h = absurd (cc h)
 begins_split (n ∷ ns) (x ∷ xs) h =
-    let parts : ((n == x) ≡ true) × (begins_with ns xs ≡ true) = and_both (n == x) (begins_with ns xs) h in
+    let parts : ((n == x) ≡ true) × (begins_with ns xs ≡ true) = and_parts (n == x) (begins_with ns xs) h in
     let first : x ≡ n = (let e : (n == x) ≡ true = parts.0 in grind (arith, nat_tests, e)) in
     let rest : xs ≡ ns ++ drop (length ns) xs = begins_split ns xs parts.1 in
     (λ i. first i ∷ rest i)
@@ -175,5 +176,5 @@ path_tail src dst [] b d g path e = ap is_path (append-nil dst) ∙ path
 path_tail src dst (c ∷ u) b d g path e =
     let slash : c ≡ 47 = (let f : (c == 47) ≡ true = g in grind (arith, nat_tests, f)) in
     let old : is_path (src ++ 47 ∷ u) ≡ true = ap (λ (n : ℕ). is_path (src ++ n ∷ u)) (sym slash) ∙ e in
-    let parts : (is_path src ≡ true) × (are_components [] u ≡ true) = and_both (is_path src) (are_components [] u) (sym (path_split src u b) ∙ old) in
+    let parts : (is_path src ≡ true) × (are_components [] u ≡ true) = and_parts (is_path src) (are_components [] u) (sym (path_split src u b) ∙ old) in
     ap (λ (n : ℕ). is_path (dst ++ n ∷ u)) slash ∙ path_split dst u d ∙ rw (path, parts.1) refl

@@ -5,6 +5,7 @@ mod Images
 mod Maps
 mod CallPlanLemmas
 mod Retains
+pub mod Rises
 mod Timeline
 mod Names
 mod Choices

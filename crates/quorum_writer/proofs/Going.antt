@@ -21,7 +21,7 @@ use Rattle.writer_core.specs.Writer.{next_call, call_in, node_in, writer_heard, 
 use Rattle.writer_core.specs.Sound.{IsOkAt}
 use Rattle.writer_core.specs.Left.{IsLive, HasCall, HasCallIn}
 use Rattle.writer_core.specs.Turns.{SuitsIn, IsInRound, IsTurnOf}
-use Rattle.writer_core.proofs.LiveLaws.{heard_live, someone_called}
+use Rattle.writer_core.proofs.LiveLaws.{heard_live, someone_called, of_call}
 use Rattle.writer_core.proofs.TaskTurns.{Turned, heard_turn}
 use Rattle.quorum_writer.specs.Led.{nodes_of, IsLed, judged_along, Leads, IsCalled}
 use Rattle.quorum_writer.specs.Ready.{IsReady}
@@ -131,15 +131,6 @@ node_within round.Start slots k h e = waits_within k slots e
 node_within round.Open slots k h e = waits_within k slots e
 node_within (round.Write bodies) slots k h e = waits_within k slots e
 node_within (round.Purge min) slots k h e = waits_within k slots e
-
-first_of : Option (ℕ × Request) → Option ℕ
-first_of None = None
-first_of (Some c) = Some c.0
-
-of_call : (r : Request) (o : Option ℕ) (k : ℕ) (q : Request) → option_map {U = ℕ × Request} (λ (node : ℕ). (node, r)) o ≡ Some (k, q) → o ≡ Some k
-unfolding first_of
-of_call r None k q h = absurd (cc h)
-of_call r (Some i) k q h = ap first_of h
 
 at_within : (p : Phase) (w : WriterView) (k : ℕ) (q : Request) → HasCall p w.slots → call_in p w ≡ Some (k, q) → (1 ≤ k) × (k ≤ length w.slots)
 at_within (phase.InRound r) w k q h e = node_within r w.slots k h (of_call (request_in w r) (node_in r w.slots) k q e)

@@ -51,10 +51,6 @@ kept_next before now first i bodies body d within is held =
     ∙ kept_in_turn most_stored (before ++ numbered first (take i bodies)) e
     ∙ ap (kept most_stored) (append_assoc before (numbered first (take i bodies)) (e ∷ []) ∙ ap (λ (xs : List Edit). before ++ xs) (sym last))
 
-pub some_length : (bodies : List (List ℕ)) → bodies ≢ [] → 0 < length bodies
-some_length [] some = absurd (some refl)
-some_length (b ∷ bs) some = omega arith
-
 pub not_empty : (xs : List ℕ) → 0 < length xs → xs ≢ []
 not_empty xs some none = omega (arith, some, ap length none)
 

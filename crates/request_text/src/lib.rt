@@ -17,6 +17,7 @@ pub use counting::{count_bytes, count_number, count_numbers, count_request};
 pub use counting_replies::count_reply;
 pub use examples::{a_session_is_printed, a_session_is_read};
 pub use laws::texts_are_read;
+pub use printing::put_bodies;
 pub use reading::read_request;
 pub use replies::{print_cause, print_reply};
 pub use request_line::ReadRequest;

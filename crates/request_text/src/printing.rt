@@ -84,9 +84,9 @@ fn put_hex(out: &mut Vec<u8>, bytes: &[u8]) -> Result<(), OutOfMemory>
     Ok(())
 }
 
-/// Adds bodies in hexadecimal, each behind a space.
+/// Adds bodies in hexadecimal, each behind a space. An `Err` is want of memory; what stood there still stands at the front.
 #[tactic(auto, using(crate::proofs::PrintLaws::prints))]
-pub(crate) fn put_bodies(out: &mut Vec<u8>, bodies: &BodyList) -> Result<(), OutOfMemory>
+pub fn put_bodies(out: &mut Vec<u8>, bodies: &BodyList) -> Result<(), OutOfMemory>
     ensures ok { OnOk result (out.new.items ≡ out.old.items ++ bodies_text bodies.now) }
     ensures kept { Keeps out.old.items out.new.items }
 {

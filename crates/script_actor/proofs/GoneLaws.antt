@@ -20,19 +20,13 @@ use Rattle.script_actor.specs.Went.{HasGone}
 use Rattle.script_actor.specs.Deeds.{IsOneCall}
 use Rattle.script_actor.proofs.WriterTurn.{call_under}
 use Rattle.script_actor.proofs.TurnsFit.{heard_taken}
-use Rattle.script_actor.proofs.TurnsTell.{turn_opens}
+use Rattle.script_actor.proofs.TurnsTell.{turn_opens, none_open}
 
 in_round : (p : Phase) → is_under_way p ≡ true → IsInRound p
 in_round (phase.InRound r) e = tt
 in_round phase.Idle e = absurd (cc e)
 in_round phase.Writing e = absurd (cc e)
 in_round phase.Stopped e = absurd (cc e)
-
-none_open : (p : Phase) → is_under_way p ≡ true → is_writing p ≡ false
-none_open (phase.InRound r) e = refl
-none_open phase.Idle e = refl
-none_open phase.Writing e = absurd (cc e)
-none_open phase.Stopped e = refl
 
 pub gone_none : (w : WriterView) → is_under_way w.phase ≡ true → HasGone w w turn.Going
 gone_none w under = record {

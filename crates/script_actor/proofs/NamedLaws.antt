@@ -38,8 +38,9 @@ use Rattle.script_actor.specs.Named.{task_of, Stands, HasTaken, HasRolled, HasCl
 use Rattle.script_actor.specs.declared.segment_task.SegmentTask.{SegmentTask}
 use Rattle.script_actor.specs.declared.segment_task.SegmentTask.TheVariants as segment
 use Rattle.script_actor.proofs.LedLaws.{led_same, led_on}
-use Rattle.script_actor.proofs.WriterTurn.{rests_under}
 use Rattle.script_actor.proofs.Stretches.{IsSaid, task_went}
+use Rattle.active_name.proofs.RoundLaws.{begun_open}
+use Rattle.mesh.proofs.Chores as chores
 
 -- ## A writer at rest
 suits_rest : (a : Aim) (p : Phase) → is_under_way p ≡ false → SuitsIn a p
@@ -49,17 +50,13 @@ suits_rest a phase.Writing e = tt
 suits_rest a phase.Stopped e = tt
 
 pub apt_at_rest : (w : WriterView) → IsLive w → next_call w ≡ None → IsApt w
-apt_at_rest w live none = suits_rest w.aim w.phase (rests_under w live none)
+apt_at_rest w live none = suits_rest w.aim w.phase (chores.at_rest w live none)
 
 -- a task that is begun there is over with a turn of its own
 pub own_turn : (w x : WriterView) (t : Task) (u : Turn) → IsLive w → next_call w ≡ None → (writer_begun w t).begun ≡ begun.Going → HasGone (writer_begun w t).writer x u → IsTurnOf (aim_of t) x.phase u
 own_turn w x t u live none begins g =
     let b = begun_turn t w in
     subst (λ (a : Aim). IsTurnOf a x.phase u) (b.aim begins) (g.own (b.apt (apt_at_rest w live none)))
-
-begun_open : (b : Bool) (x : Began) (w : WriterView) → (if_writing b x w).begun ≡ begun.Going → b ≡ true
-begun_open true x w e = refl
-begun_open false x w e = absurd (cc e)
 
 roll_open : (w : WriterView) → (writer_begun w task.Roll).begun ≡ begun.Going → is_writing w.phase ≡ true
 unfolding writer_begun
@@ -116,7 +113,7 @@ module _ (w x : WriterView) (h : Holding) (active : Bool) (live : IsLive w) (non
       → GoesFar n (kept_of v (Some h) log) (kept_of x (Some h) new) u → next_call x ≡ None → HasGone v x u → EndsSegment x h.position u
   ends_segment n log new v st u begins is far over gone =
       let g : HasGone (writer_begun w (task_of st)).writer x u = subst (λ (y : WriterView). HasGone y x u) is gone in
-      ends_by st u begins (sym far.tells ∙ rests_under x far.ready.live over) g (own_turn w x (task_of st) u live none begins g)
+      ends_by st u begins (sym far.tells ∙ chores.at_rest x far.ready.live over) g (own_turn w x (task_of st) u live none begins g)
 
 -- ## What a round leaves
 round_shown : (st : SegmentTask) (u : Turn) (w : WriterView) (h : Holding) (log : LogView) → h.work ≡ Free → EndsSegment w h.position u → taken_of u ≡ None

@@ -30,10 +30,11 @@ use Rattle.script_actor.specs.Went.{refused_results}
 use Rattle.script_actor.specs.Deeds.{kept_of, LedTo, IsOneCall, IsNoTail, GoesFar, IsUnbroken, IsIdleActor, TakesDeed, mark_deed}
 use Rattle.script_actor.proofs.LedLaws.{led_same, led_on, led_one}
 use Rattle.script_actor.proofs.KeptActor.{idle_no_tail, wants_call, wants_said, goes_call, goes_said, raw_turn, handed_refused, handed_going, handed_drop, handed_mute, handed_none, handed_late, wants_copy, goes_copy, copying as with_copy}
-use Rattle.script_actor.proofs.WriterTurn.{call_under, rests_under, going_is, refused_writer, begun_under, not_going}
+use Rattle.script_actor.proofs.WriterTurn.{call_under, going_is, refused_writer, begun_under, not_going}
 use Rattle.script_actor.proofs.ResultLaws.{results_are, inactive_are, too_long_are, few_is}
 use Rattle.script_actor.proofs.TurnsFit.{heard_fits, begun_few}
 use Rattle.script_actor.proofs.TurnsTell.{turn_tells}
+use Rattle.mesh.proofs.Chores.{at_rest}
 
 -- ## A call
 call_led : (t : Task) (k : KeptActor) (node : ℕ) (r : Request) (told : Told) → IsNoTail k.holds → next_call k.writer ≡ Some (node, r)
@@ -148,7 +149,7 @@ pub takes_going : (n : ℕ) (w v x : WriterView) (old mid new : LogView) (t : Ta
     → (writer_begun w t).begun ≡ begun.Going → v ≡ (writer_begun w t).writer → GoesFar n (kept_of v None old) (kept_of x None mid) u → next_call x ≡ None
     → texts ≡ texts_of (name_of t) (edits_of t) u x.causes → IsSaid mid new texts → TakesDeed n (Does t) (kept_of w None old) (kept_of x None new)
 takes_going n w v x old mid new t u texts idle e is g none are said =
-    let over : doing_after t u ≡ None = not_going u (sym g.tells ∙ rests_under x g.ready.live none) t in
+    let over : doing_after t u ≡ None = not_going u (sym g.tells ∙ at_rest x g.ready.live none) t in
     let all : results_of t u x.causes ≡ texts = results_are t u x.causes ∙ sym are in
     let ends : turn_taken u (Some t) (shown (Some t) [] (kept_of x None mid)) ≡ shown None texts (kept_of x None mid) =
     raw_turn t x mid u ∙ ap (λ (d : Option Task). shown d (results_of t u x.causes) (kept_of x None mid)) over ∙ ap (λ (l : List (List ℕ)). shown None l (kept_of x None mid)) all in

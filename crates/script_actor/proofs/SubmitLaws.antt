@@ -43,17 +43,13 @@ use Rattle.script_actor.specs.Named.{Stands}
 use Rattle.script_actor.specs.declared.edit_due.EditDue.{EditDue}
 use Rattle.script_actor.specs.Submitting.{AreSubmitted, due_of, dues_of, log_texts, MayHold, log_held}
 use Rattle.script_actor.proofs.LedLaws.{led_same, led_on}
-use Rattle.script_actor.proofs.WriterTurn.{rests_under}
 use Rattle.script_actor.proofs.Stretches.{IsSaid}
 use Rattle.script_actor.proofs.NamedLaws.{own_turn, free_idle, at_rest, reloaded_free}
 use Rattle.script_actor.proofs.StandbyLaws.{free_rest, taken_from, taken_said}
+use Rattle.active_name.proofs.PendLaws.{submitted_more}
+use Rattle.mesh.proofs.Chores as chores
 
 -- ## One edit more
-submitted_more : (w : WriterView) (es : List EditView) (e : EditView) (x : Submission) → submitted w (es ++ e ∷ []) x ≡ submitted_one w e (submitted w es x)
-unfolding submitted
-submitted_more w [] e x = refl
-submitted_more w (f ∷ es) e x = submitted_more w es e (submitted_one w f x)
-
 one_due : (next : ℕ) (a : Submitted) (d e : Due) → IsDue next a d → IsDue next a e → d ≡ e
 one_due next answer.Taken d e x y = x ∙ sym y
 one_due next (answer.Refused r) d e x y = x ∙ sym y
@@ -288,7 +284,7 @@ module _ (n : ℕ) (w v x : WriterView) (bodies : List (List ℕ)) (ahead : Spac
   log_gone = subst (λ (y : WriterView). HasGone y x u) is gone
 
   log_over : is_going u ≡ false
-  log_over = sym (far None).tells ∙ rests_under x (far None).ready.live over
+  log_over = sym (far None).tells ∙ chores.at_rest x (far None).ready.live over
 
   log_own : IsTurnOf aim.Log x.phase u
   log_own = own_turn w x (task.Log bodies) u live none (log_going w bodies writing fits) log_gone
@@ -371,10 +367,6 @@ no_bodies [] b e t = refl
 no_bodies (x ∷ xs) b e t =
     let f : (length (x ∷ xs) == 0) ≡ false = grind (arith, nat_tests) in
     absurd (false_true (sym f ∙ (sym e ∙ t)))
-
-pub some_bodies : (xs : List (List ℕ)) (b : Bool) → b ≡ (length xs == 0) → b ≡ false → xs ≢ []
-some_bodies [] b e f n = cc (e, f)
-some_bodies (x ∷ xs) b e f n = cc n
 
 pub submitted_start : (room next : ℕ) (es : List EditView) (q p : PendingView) (s : StandbyView) (h : Holding) (space : Space) (dues : List Due) → q ≡ none_pending space → space ≡ s.space → s ≡ record { space = h.space; position = h.position }
     → AreSubmitted room next q es p dues → AreSubmitted room next (none_pending h.space) es p dues

@@ -24,10 +24,10 @@ use Rattle.script_actor.specs.Went.{HasGone, opens}
 use Rattle.script_actor.specs.Deeds.{kept_of, GoesFar, IsIdleActor, TakesDeed, ComesToRest}
 use Rattle.script_actor.specs.Named.{Stands, MayMove, held_after}
 use Rattle.script_actor.proofs.LedLaws.{led_same, led_on}
-use Rattle.script_actor.proofs.WriterTurn.{rests_under}
 use Rattle.script_actor.proofs.Stretches.{IsSaid}
 use Rattle.script_actor.proofs.NamedLaws.{own_turn, free_whole, free_idle, free_no_tail, after_free, at_rest}
 use Rattle.script_actor.proofs.StandbyLaws.{free_rest, taken_from, taken_said}
+use Rattle.mesh.proofs.Chores as chores
 
 trims_taken : (extra : ℕ) (w : WriterView) (h : Holding) (log : LogView)
     → deed_taken (Trims extra) (resting (kept_of w (Some h) log)) ≡ trim_at (is_writing w.phase) (min_to_keep extra h.images) (resting (kept_of w (Some h) log))
@@ -95,7 +95,7 @@ module _ (n min : ℕ) (w v x : WriterView) (h : Holding) (old mid : LogView) (u
   purge_gone = subst (λ (y : WriterView). HasGone y x u) is gone
 
   purge_over : is_going u ≡ false
-  purge_over = sym far.tells ∙ rests_under x far.ready.live over
+  purge_over = sym far.tells ∙ chores.at_rest x far.ready.live over
 
   purge_own : IsTurnOf aim.Purge x.phase u
   purge_own = own_turn w x (task.Purge min) u idle.ready.live idle.rests (purge_begins w min writing) purge_gone

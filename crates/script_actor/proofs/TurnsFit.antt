@@ -26,6 +26,7 @@ use Rattle.writer_core.specs.Rounds.{Judged, going, stopped, next_serial, propos
 use Rattle.writer_core.specs.Writer.{with_answer, judged_when, heard_in, heard_at, writer_heard, writer_begun, log_begins, log_limit, is_writing, if_writing}
 use Rattle.script_actor.specs.ResultLists.{TurnFits, IsFew}
 use Rattle.script_actor.specs.Went.{TellsTaken}
+use Rattle.writer_core.proofs.Judging.{numbers_anyhow}
 
 abbrev Fits : Judged → Type 0
 Fits j = TurnFits j.turn × TellsTaken j.turn j.writer
@@ -110,22 +111,10 @@ judged_fits true true r w e = done_fits r (with_causes r w) e
 judged_fits true false r w e = (tt, tt)
 judged_fits false b r w e = (tt, tt)
 
-numbers_alike : (r : Round) (w : WriterView) → numbers_fit (with_causes r w) r ≡ numbers_fit w r
-numbers_alike round.State w = refl
-numbers_alike round.Propose w = refl
-numbers_alike (round.Prepare start) w = refl
-numbers_alike (round.Fetch node start end bodies) w = refl
-numbers_alike (round.Accept batch) w = refl
-numbers_alike (round.Finalize start end) w = refl
-numbers_alike round.Start w = refl
-numbers_alike round.Open w = refl
-numbers_alike (round.Write bodies) w = refl
-numbers_alike (round.Purge min) w = refl
-
 when_fits : (b : Bool) (r : Round) (w : WriterView) → Fits (judged_when b r w)
 unfolding judged
 when_fits true r w = (tt, tt)
-when_fits false r w = judged_fits (numbers_fit w r) (has_majority r w.slots) r w (numbers_alike r w)
+when_fits false r w = judged_fits (numbers_fit w r) (has_majority r w.slots) r w (numbers_anyhow r w)
 
 answer_fits : (r : Round) (w : WriterView) (node : ℕ) (heard : Heard) → Fits (judged_when (list_any is_waiting (with_answer w node heard).slots) r (with_answer w node heard))
 answer_fits r w node heard = when_fits (list_any is_waiting (with_answer w node heard).slots) r (with_answer w node heard)

@@ -109,15 +109,15 @@ unfolding fetched
 fetched_tells node start end bodies (Answer answer) w = reply_tells node start end bodies answer w
 fetched_tells node start end bodies Silent w = out_tells node start Silent w
 
-not_writing : (p : Phase) → is_under_way p ≡ true → is_writing p ≡ false
-not_writing (phase.InRound r) u = refl
-not_writing phase.Idle u = refl
-not_writing phase.Writing u = absurd (cc u)
-not_writing phase.Stopped u = refl
+pub none_open : (p : Phase) → is_under_way p ≡ true → is_writing p ≡ false
+none_open (phase.InRound r) u = refl
+none_open phase.Idle u = refl
+none_open phase.Writing u = absurd (cc u)
+none_open phase.Stopped u = refl
 
 when_tells : (b : Bool) (r : Round) (w : WriterView) → is_under_way w.phase ≡ true → Tells (judged_when b r w)
 unfolding judged
-when_tells true r w u = (u, not_writing w.phase u)
+when_tells true r w u = (u, none_open w.phase u)
 when_tells false r w u = judged_tells (numbers_fit w r && has_majority r w.slots) r w
 
 answer_tells : (r : Round) (w : WriterView) (node : ℕ) (heard : Heard) → is_under_way w.phase ≡ true

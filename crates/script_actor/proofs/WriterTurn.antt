@@ -12,7 +12,6 @@ use Rattle.writer_core.specs.declared.turn.Turn.TheVariants as turn
 use Rattle.writer_core.specs.Views.{WriterView}
 use Rattle.writer_core.specs.Left.{IsLive}
 use Rattle.writer_core.specs.Writer.{next_call, call_in, is_under_way, writer_begun, if_writing, is_writing, begins, log_begins, log_limit}
-use Rattle.writer_core.proofs.LiveLaws.{someone_called}
 use Rattle.script_actor.specs.KeptActor.{doing_after}
 use Rattle.script_actor.specs.Ready.{is_going}
 use Rattle.script_actor.specs.Went.{refused_results}
@@ -27,21 +26,6 @@ some_under phase.Stopped w node r e = absurd (cc e)
 
 pub call_under : (w : WriterView) (node : ℕ) (r : Request) → next_call w ≡ Some (node, r) → is_under_way w.phase ≡ true
 call_under w node r e = some_under w.phase w node r e
-
--- no call is named only while none is
-none_under : (b : Bool) (w : WriterView) → IsLive w → next_call w ≡ None → is_under_way w.phase ≡ b → is_under_way w.phase ≡ false
-none_under true w l n e =
-    let s = someone_called w l e in
-    let some : is_some (next_call w) ≡ true = ap is_some s.2 in
-    let none : is_some (next_call w) ≡ false = ap is_some n in
-    absurd (no (sym none ∙ some))
-  where
-    no : false ≡ true → ⊥
-    no x = cc
-none_under false w l n e = e
-
-pub rests_under : (w : WriterView) → IsLive w → next_call w ≡ None → is_under_way w.phase ≡ false
-rests_under w l n = none_under (is_under_way w.phase) w l n refl
 
 pub going_is : (u : Turn) → is_going u ≡ true → u ≡ turn.Going
 going_is turn.Going e = refl

@@ -4,8 +4,7 @@ use Rattle.std.specs.List.{AllByRecursion}
 use Rattle.std.proofs.lemmas.List.{take_more, flat_map_more}
 use Rattle.edit_ops.specs.Records.{EditView}
 use Rattle.edit_ops.specs.Texts.{text_of}
-use Rattle.request_text.specs.Texts.{hex_digit, hex_text, bodies_text}
-use Rattle.request_text.proofs.PrintLaws.{hex_more, hex_none, bodies_more, bodies_none, grow}
+use Rattle.request_text.specs.Texts.{hex_text, bodies_text}
 use Rattle.script_text.specs.Words.{joined, words_of}
 use Rattle.script_text.specs.Edits.{others_text, edits_text, IsSayable}
 use Rattle.script_text.proofs.WordLaws.{words_some, words_joined}
@@ -31,21 +30,6 @@ pub log_more : (old out word name : List ℕ) (bodies : List (List ℕ)) → out
 log_more old out word name bodies o =
     ap (λ x. x ++ bodies_text bodies) o ∙ append_assoc old (word ++ 32 ∷ name) (bodies_text bodies)
     ∙ ap (λ t. old ++ t) (append_assoc word (32 ∷ name) (bodies_text bodies) ∙ ap (λ t. word ++ 32 ∷ t) (sym (joined_bodies name bodies)))
-
--- one more byte
-pub byte_more : (old out mid new bytes : List ℕ) (i d high low : ℕ) → i < length bytes → out ≡ old ++ hex_text (take i bytes) → high ≡ hex_digit (get_or bytes i d / 16) → low ≡ hex_digit (get_or bytes i d % 16)
-    → mid ≡ out ++ high ∷ [] → new ≡ mid ++ low ∷ [] → new ≡ old ++ hex_text (take (i + 1) bytes)
-byte_more old out mid new bytes i d high low l o h k m n =
-    let both_are : new ≡ out ++ high ∷ low ∷ [] = n ∙ ap (λ x. x ++ low ∷ []) m ∙ append_assoc out (high ∷ []) (low ∷ []) in
-    grow old out new (hex_text (take i bytes)) (high ∷ low ∷ []) (hex_text (take (i + 1) bytes)) o both_are
-    (hex_more bytes i d l ∙ ap (λ x. hex_text (take i bytes) ++ x ∷ hex_digit (get_or bytes i d % 16) ∷ []) (sym h) ∙ ap (λ x. hex_text (take i bytes) ++ high ∷ x ∷ []) (sym k))
-
--- one more body
-pub body_more : (old out mid new : List ℕ) (bodies : List (List ℕ)) (i : ℕ) (d body : List ℕ) → i < length bodies → out ≡ old ++ bodies_text (take i bodies) → body ≡ get_or bodies i d
-    → mid ≡ out ++ 32 ∷ [] → new ≡ mid ++ hex_text body → new ≡ old ++ bodies_text (take (i + 1) bodies)
-body_more old out mid new bodies i d body l o b m n =
-    grow old out new (bodies_text (take i bodies)) (32 ∷ hex_text body) (bodies_text (take (i + 1) bodies)) o (spaced out mid new (hex_text body) m n)
-    (bodies_more bodies i d l ∙ ap (λ x. bodies_text (take i bodies) ++ 32 ∷ hex_text x) (sym b))
 
 -- ## Edits
 pub others_none : (old : List ℕ) → old ≡ old ++ others_text []
@@ -83,4 +67,4 @@ text_more old named mid word name text k m =
     spaced named mid (mid ++ text) text m refl ∙ ap (λ x. x ++ 32 ∷ text) k ∙ append_assoc old (word ++ 32 ∷ name) (32 ∷ text)
     ∙ ap (λ x. old ++ x) (append_assoc word (32 ∷ name) (32 ∷ text) ∙ sym (joined_text word name text))
 
-pub ruleset pushes = (spaced, hex_none, bodies_none, others_none, edits_none)
+pub ruleset pushes = (spaced, others_none, edits_none)

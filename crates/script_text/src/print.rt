@@ -1,7 +1,7 @@
 // Scripts are printed.
 ghost use Rattle.std.specs.Prelude.{◌≡◌, ◌++◌, ◌∷◌, [], ◌<◌, ◌≤◌, OnOk, IfOk, codes, decimal, map, true};
 ghost use Rattle.std.specs.List.{AllByRecursion};
-ghost use Rattle.request_text.specs.Texts.{hex_digit, hex_text, bodies_text};
+ghost use Rattle.request_text.specs.Texts.{hex_text};
 ghost use Rattle.script_text.specs.Words.{joined, words_of, choice_word};
 ghost use Rattle.script_text.specs.Edits.{others_text, edits_text, IsSayable};
 ghost use Rattle.script_text.specs.Grammar.{beginning, declaration, first_line, line_text, script_text, HasSense, IsScript, IsScriptText};
@@ -14,37 +14,8 @@ use edit_ops::{Edit, EditList, edit_text};
 use journal_core::{BodyList, Cut, OutOfMemory};
 use node_world::Stop;
 use qj_num::put_decimal;
+use request_text::put_bodies;
 use std::alloc::Global;
-
-fn hex_digit(n: u8) -> u8
-    requires { n < 16 }
-    ensures { result ≡ hex_digit n }
-{
-    if n < 10 { b'0' + n } else { 87 + n }
-}
-
-#[tactic(auto, using(crate::proofs::PushLaws::pushes))]
-fn push_hex(out: &mut Vec<u8>, bytes: &[u8]) -> Result<(), OutOfMemory>
-    ensures { OnOk result (out.new.items ≡ out.old.items ++ hex_text bytes.now) }
-{
-    for b in bytes {
-        out.push(hex_digit(*b / 16))?;
-        out.push(hex_digit(*b % 16))?;
-    }
-    Ok(())
-}
-
-/// The bodies, each behind a space.
-#[tactic(auto, using(crate::proofs::PushLaws::pushes))]
-fn push_bodies(out: &mut Vec<u8>, bodies: &BodyList) -> Result<(), OutOfMemory>
-    ensures { OnOk result (out.new.items ≡ out.old.items ++ bodies_text bodies.now) }
-{
-    for body in bodies.as_slice() {
-        out.push(b' ')?;
-        push_hex(out, body.as_slice())?;
-    }
-    Ok(())
-}
 
 /// The word behind a space.
 #[tactic(auto, using(crate::proofs::PushLaws::pushes))]
@@ -77,7 +48,7 @@ fn push_log(out: &mut Vec<u8>, name: &[u8], bodies: &BodyList) -> Result<(), Out
     ensures { OnOk result (out.new.items ≡ out.old.items ++ joined (codes "log" ∷ name.now ∷ map hex_text bodies.now)) }
 {
     push_named(out, b"log", name)?;
-    push_bodies(out, bodies)
+    put_bodies(out, bodies)
 }
 
 /// The texts of edits, each behind ` ; `.

@@ -1,5 +1,5 @@
 -- While a round is under way some node is to be called.
-use Rattle.std.proofs.Common.{ℕ, ◌≡◌, ◌<◌, ◌≤◌, ◌+◌, ◌-◌, ◌*◌, ◌&&◌, ◌||◌, ◌++◌, List, [], ◌∷◌, length, Option, Some, None, IfSome, Bool, true, false, cond, not, refl, sym, arith, suc, zero, ◌∙◌, set, map, take, position, count_by, nat_lt, is_some, replicate}
+use Rattle.std.proofs.Common.{ℕ, ◌≡◌, ◌<◌, ◌≤◌, ◌+◌, ◌-◌, ◌*◌, ◌&&◌, ◌||◌, ◌++◌, List, [], ◌∷◌, length, Option, Some, None, IfSome, Bool, true, false, cond, not, refl, sym, arith, suc, zero, ◌∙◌, set, map, take, position, count_by, nat_lt, is_some, replicate, option_map, ap}
 use Rattle.std.specs.List.{list_any}
 use Rattle.std.proofs.lemmas.Bool.Decides.{nat_tests}
 use Rattle.std.proofs.lemmas.List.{length-map, length-set}
@@ -66,6 +66,16 @@ len_all left = sym (simp length-map)
 
 len_others : (left : List Bool) → length left ≡ length (to_others left)
 len_others left = sym (simp length-map)
+
+-- the node of a call
+first_of : Option (ℕ × Request) → Option ℕ
+first_of None = None
+first_of (Some c) = Some c.0
+
+pub of_call : (r : Request) (o : Option ℕ) (k : ℕ) (q : Request) → option_map {U = ℕ × Request} (λ (node : ℕ). (node, r)) o ≡ Some (k, q) → o ≡ Some k
+unfolding first_of
+of_call r None k q h = absurd (cc h)
+of_call r (Some i) k q h = ap first_of h
 
 call_in_round : (r : Round) (slots : List Slot) → is_fetch r ≡ false → list_any is_waiting slots ≡ true → HasCallIn r slots
 call_in_round round.State slots f h = h

@@ -7,10 +7,7 @@ use Rattle.edit_ops.specs.Decoding.{IsShort, EndsInside}
 use Rattle.edit_ops.specs.Reading.{Fails, fields_at}
 use Rattle.edit_ops.proofs.DecodeLaws.{right_edit, right_trailing, right_short, right_bad, few_left, few_missing}
 use Rattle.edit_ops.proofs.decoding.whole_of.Goals as goal
-
-there : (bytes : List ℕ) → eqb (length bytes) 0 ≡ false → 0 < length bytes
-there [] e = absurd cc
-there (b ∷ bytes) e = omega arith
+use Rattle.qj_num.proofs.Lists.{some_there}
 
 short_of_some : (body : List ℕ) (byte needed : ℕ) (bytes : List ℕ) → body ≡ byte ∷ bytes → EndsInside body needed → IsShort body needed
 short_of_some [] byte needed bytes e ends = absurd cc
@@ -40,7 +37,7 @@ returns-then-is_empty c =
 pub returns-else-is_empty : goal.returns-else-is_empty
 returns-else-is_empty c =
     let o = c.in-Some.ensures.found in
-    right_trailing c.in-Some.kind c.in-Some.has_call c.args.body.now c.args.bytes.now c.args.byte o.0 o.1 c.requires (λ i. omega (arith, c.type_inv.bytes i)) (edit_fields c.in-Ok.edit) c.in-Ok.rest.now c.in-Ok.ensures.read (there c.in-Ok.rest.now (sym c.is_empty.ensures ∙ c.if-is_empty.false))
+    right_trailing c.in-Some.kind c.in-Some.has_call c.args.body.now c.args.bytes.now c.args.byte o.0 o.1 c.requires (λ i. omega (arith, c.type_inv.bytes i)) (edit_fields c.in-Ok.edit) c.in-Ok.rest.now c.in-Ok.ensures.read (some_there c.in-Ok.rest.now (sym c.is_empty.ensures ∙ c.if-is_empty.false))
 
 pub returns-in-Err-Fault-Short : goal.returns-in-Err-Fault-Short
 returns-in-Err-Fault-Short c =

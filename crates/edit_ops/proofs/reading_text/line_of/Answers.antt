@@ -5,10 +5,7 @@ use Rattle.edit_ops.specs.Records.{kind_of, fields_of}
 use Rattle.edit_ops.specs.Saying.{Misses, op_said}
 use Rattle.edit_ops.proofs.SayEdits.{no_verb, line_misses, no_more, is_line, split_whole}
 use Rattle.edit_ops.proofs.reading_text.line_of.Goals as goal
-
-there : (words : List ℕ) → eqb (length words) 0 ≡ false → 0 < length words
-there [] e = absurd cc
-there (b ∷ words) e = omega arith
+use Rattle.qj_num.proofs.Lists.{some_there}
 
 pub returns-in-None : goal.returns-in-None
 returns-in-None c = no_verb c.args.words.now (λ k m e. c.in-None.ensures.none k m (e ∙ sym c.split_word.ensures.word))
@@ -23,7 +20,7 @@ pub returns-then-not-is_empty : goal.returns-then-not-is_empty
 returns-then-not-is_empty c =
     no_more c.args.words.now c.in-Some.kind (kind_of c.in_ok-op.op) (fields_of c.in_ok-op.op) c.in_ok-op.rest.now (c.in-Some.ensures.found.1 ∙ c.split_word.ensures.word)
     (subst (λ (w : List ℕ). op_said c.in-Some.kind w ≡ Some ((kind_of c.in_ok-op.op, fields_of c.in_ok-op.op), c.in_ok-op.rest.now)) c.split_word.ensures.rest c.in_ok-op.ensures)
-    (there c.in_ok-op.rest.now (sym c.is_empty.ensures ∙ c.if-not-is_empty.true))
+    (some_there c.in_ok-op.rest.now (sym c.is_empty.ensures ∙ c.if-not-is_empty.true))
 
 pub returns : goal.returns
 returns c =

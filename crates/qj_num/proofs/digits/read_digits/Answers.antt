@@ -5,16 +5,13 @@ use Rattle.std.specs.Str.Parse.{AllDigits, digits_value}
 use Rattle.qj_num.specs.Numbers.{IsNumber}
 use Rattle.qj_num.proofs.Bases.{number_is, digits_of_number, no_leading_zero}
 use Rattle.qj_num.proofs.digits.read_digits.Goals as goal
+use Rattle.qj_num.proofs.Lists.{some_there}
 
 pub returns-then-is_empty-clause-none : goal.returns-then-is_empty-clause-none
 returns-then-is_empty-clause-none c = λ n is. let none : length c.args.bytes.now ≡ 0 = eqb-true _ _ (sym c.is_empty.ensures ∙ c.if-is_empty.true) in omega (arith, none, (digits_of_number c.args.base c.requires.low c.requires.high c.args.bytes.now n is).2)
 
 pub returns-then-has_leading_zero-clause-none : goal.returns-then-has_leading_zero-clause-none
 returns-then-has_leading_zero-clause-none c = λ n is. no_leading_zero c.args.base c.requires.low c.requires.high c.args.bytes.now n (c.has_leading_zero.ensures.0 c.if-has_leading_zero.true).0 (c.has_leading_zero.ensures.0 c.if-has_leading_zero.true).1 is
-
-there : (bytes : List ℕ) → eqb (length bytes) 0 ≡ false → 0 < length bytes
-there [] e = absurd cc
-there (b ∷ bytes) e = omega arith
 
 -- what the digits' value says of the number
 found : (base : ℕ) (low : 2 ≤ base) (high : base ≤ 10) (bytes : List ℕ) (r : Option ℕ) → 0 < length bytes → (get_or bytes 0 0 ≡ 48 → length bytes ≤ 1) → IfSome r (λ n. n < 2 ^ 64)
@@ -28,7 +25,7 @@ missed base low high bytes None is = λ n of. let d = digits_of_number base low 
 missed base low high bytes (Some n) is = tt
 
 pub returns-clause-found : goal.returns-clause-found
-returns-clause-found c = found c.args.base c.requires.low c.requires.high c.args.bytes.now c.digits_value.result (there c.args.bytes.now (sym c.is_empty.ensures ∙ c.if-is_empty.false))
+returns-clause-found c = found c.args.base c.requires.low c.requires.high c.args.bytes.now c.digits_value.result (some_there c.args.bytes.now (sym c.is_empty.ensures ∙ c.if-is_empty.false))
     (λ zero_first. elim (cases_lt 1 (length c.args.bytes.now)) [ inl long ↦ absurd (let zero_leads = c.has_leading_zero.ensures.1 (long, zero_first) in let clear = c.if-has_leading_zero.false in cc) | inr short ↦ short ]) c.digits_value.ensures.fits c.digits_value.ensures.value
 
 pub returns-clause-none : goal.returns-clause-none

@@ -3,8 +3,9 @@ use Rattle.std.proofs.lemmas.Result.{IfOk-weaker}
 use Rattle.script_actor.specs.Deeds.{kept_of}
 use Rattle.script_actor.specs.Results.{dues_logged}
 use Rattle.script_actor.specs.Submitting.{dues_of}
-use Rattle.script_actor.proofs.SubmitLaws.{pends_at, submitted_start, some_from, log_same, some_bodies, no_bodies, none_calls, none_rests, none_held}
+use Rattle.script_actor.proofs.SubmitLaws.{pends_at, submitted_start, some_from, log_same, no_bodies, none_calls, none_rests, none_held}
 use Rattle.script_actor.proofs.submissions.log_edits.Goals as goal
+use Rattle.active_name.proofs.RoundLaws.{not_empty}
 
 pub returns-then-not-is_empty-clause-rests : goal.returns-then-not-is_empty-clause-rests
 returns-then-not-is_empty-clause-rests g c =
@@ -20,7 +21,7 @@ returns-then-not-is_empty-clause-rests g c =
     let bodies = c.into_parts-ahead.ensures.bodies in
     let at = pends_at w h room next c.requires.writing c.requires.free c.requires.stands c.room-room.ensures (ap (λ k. k + 1) c.position-next.ensures.position) in
     let are = submitted_start room next es c.new.result p c.into_parts-standby.result.0 h c.into_parts-namespace.result.0 dues c.new.ensures c.into_parts-namespace.ensures.parts.0 c.into_parts-standby.ensures.0 c.in_ok-pending.ensures in
-    let some : parts.1 ≢ [] = some_bodies parts.1 c.is_empty.result c.is_empty.ensures c.if-not-is_empty.true in
+    let some : parts.1 ≢ [] = not_empty parts.1 c.is_empty.result c.is_empty.ensures c.if-not-is_empty.true in
     IfOk-weaker c.log_bodies.result _ _
     (λ new rests.
     let k = kept_of c.log_bodies.new.writer.view (Some new.holding) (g.S.Seats.log c.log_bodies.new.seats) in
