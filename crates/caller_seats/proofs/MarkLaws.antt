@@ -5,16 +5,16 @@ use Rattle.std.proofs.lemmas.List.Elements.{Contains-append_left}
 use Rattle.std.proofs.lemmas.Bool.Decides.{eqb_tells}
 use Rattle.std.proofs.lemmas.Bool.{or_right}
 use Rattle.journal_core.specs.declared.request.Request.{Request}
-use Rattle.node_world.specs.declared.node_ask.NodeAnswer.{NodeAnswer}
-use Rattle.node_world.specs.declared.node_ask.NodeAnswer.TheVariants.{Replied, Stopped, Done, Idle, NotOpened}
-use Rattle.node_world.specs.declared.record.Record.{Record}
-use Rattle.node_world.specs.declared.record.Record.TheVariants.{Call, Late, Operator, Outcome}
-use Rattle.node_world.specs.declared.record.Told.{Told}
-use Rattle.node_world.specs.declared.record.Told.TheVariants as told
-use Rattle.node_world.specs.declared.mark.Mark.{Mark}
-use Rattle.node_world.specs.declared.mark.MarkKind.{MarkKind}
-use Rattle.node_world.specs.declared.mark.MarkKind.TheVariants as kind
-use Rattle.node_world.proofs.Values.{get_append_left}
+use Rattle.node_history.specs.declared.node_ask.NodeAnswer.{NodeAnswer}
+use Rattle.node_history.specs.declared.node_ask.NodeAnswer.TheVariants.{Replied, Stopped, Done, Idle, NotOpened}
+use Rattle.node_history.specs.declared.record.Record.{Record}
+use Rattle.node_history.specs.declared.record.Record.TheVariants.{Call, Late, Operator, Outcome}
+use Rattle.node_history.specs.declared.record.Told.{Told}
+use Rattle.node_history.specs.declared.record.Told.TheVariants as told
+use Rattle.node_history.specs.declared.mark.Mark.{Mark}
+use Rattle.node_history.specs.declared.mark.MarkKind.{MarkKind}
+use Rattle.node_history.specs.declared.mark.MarkKind.TheVariants as kind
+use Rattle.run_safety.proofs.Values.{get_append_left}
 use Rattle.mesh.specs.Marks.{mark, calls_to, next_number, Asked, IsAsMarked, IsCopy, IsMarked}
 use Rattle.caller_seats.specs.Deliveries.{Delivery, Delivered, ReplyLost, NotDelivered, same_kind, is_marked, delivery, told_of}
 use Rattle.mesh.proofs.Lists.{contains_cases, contains_head, contains_tail, contains_less, contains_none, append_none, same_test, cond_true}

@@ -1,13 +1,13 @@
 -- How a call goes, by its caller's marks, and what the caller is told of it.
 use Rattle.std.specs.Prelude.{ℕ, ◌==◌, ◌&&◌, Bool, true, false, List, if◌then◌else◌}
 use Rattle.std.specs.List.{list_any}
-use Rattle.node_world.specs.declared.node_ask.NodeAnswer.{NodeAnswer}
-use Rattle.node_world.specs.declared.node_ask.NodeAnswer.TheVariants.{Replied, Done}
-use Rattle.node_world.specs.declared.record.Told.{Told}
-use Rattle.node_world.specs.declared.record.Told.TheVariants as told
-use Rattle.node_world.specs.declared.mark.Mark.{Mark}
-use Rattle.node_world.specs.declared.mark.MarkKind.{MarkKind}
-use Rattle.node_world.specs.declared.mark.MarkKind.TheVariants as kind
+use Rattle.node_history.specs.declared.node_ask.NodeAnswer.{NodeAnswer}
+use Rattle.node_history.specs.declared.node_ask.NodeAnswer.TheVariants.{Replied, Done}
+use Rattle.node_history.specs.declared.record.Told.{Told}
+use Rattle.node_history.specs.declared.record.Told.TheVariants as told
+use Rattle.node_history.specs.declared.mark.Mark.{Mark}
+use Rattle.node_history.specs.declared.mark.MarkKind.{MarkKind}
+use Rattle.node_history.specs.declared.mark.MarkKind.TheVariants as kind
 pub use Rattle.caller_seats.specs.declared.delivery.Delivery.{Delivery}
 pub use Rattle.caller_seats.specs.declared.delivery.Delivery.TheVariants.{Delivered, ReplyLost, NotDelivered}
 

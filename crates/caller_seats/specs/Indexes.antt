@@ -3,10 +3,10 @@ use Rattle.std.specs.Prelude.{◌≡◌, ℕ, ◌+◌, ◌<◌, List, Option, So
 use Rattle.std.specs.BTreeSet.{contains}
 use Rattle.std.specs.Ordering.{nat_cmp}
 use Rattle.journal_core.specs.declared.request.Request.{Request}
-use Rattle.node_world.specs.declared.record.Record.{Record}
-use Rattle.node_world.specs.declared.record.Record.TheVariants.{Call, Late, Operator, Outcome}
-use Rattle.node_world.specs.declared.mark.Mark.{Mark}
-use Rattle.node_world.specs.declared.mark.MarkKind.TheVariants as kind
+use Rattle.node_history.specs.declared.record.Record.{Record}
+use Rattle.node_history.specs.declared.record.Record.TheVariants.{Call, Late, Operator, Outcome}
+use Rattle.node_history.specs.declared.mark.Mark.{Mark}
+use Rattle.node_history.specs.declared.mark.MarkKind.TheVariants as kind
 use Rattle.mesh.specs.Marks.{calls_to}
 use Rattle.caller_seats.specs.declared.calls_to.CallsTo.{CallsTo}
 use Rattle.caller_seats.specs.Deliveries.{is_marked}

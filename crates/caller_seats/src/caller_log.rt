@@ -1,8 +1,8 @@
 // A caller's record and its marks.
 ghost use Rattle.std.specs.Prelude.{◌≡◌, ◌≤◌, ◌<◌, ◌+◌, ◌++◌, [], ℕ, OnOk, OnErr, IfOk, Some, true, false, length, map, slice_index_or};
 ghost use Rattle.journal_core.specs.Limits.{max_number};
-ghost use Rattle.node_world.specs.declared.mark.MarkKind.TheVariants as kind;
-ghost use Rattle.node_world.specs.declared.record.Record.TheVariants.{Call, Operator, Outcome};
+ghost use Rattle.node_history.specs.declared.mark.MarkKind.TheVariants as kind;
+ghost use Rattle.node_history.specs.declared.record.Record.TheVariants.{Call, Operator, Outcome};
 ghost use Rattle.mesh.specs.Marks.{next_number, IsAsMarked, IsMarked, AreCopied};
 ghost use Rattle.mesh.specs.Matches.{AreWithin};
 ghost use Rattle.caller_seats.specs.declared.calls_to.CallsTo.{CallsTo};
@@ -13,7 +13,7 @@ ghost use Rattle.caller_seats.specs.Logs.{new_log, with_line, losing, copying, e
 use crate::calls_to::CallsTo;
 use crate::delivery::Delivery;
 use journal_core::{Bytes, OutOfMemory, SharedRequest};
-use node_world::{ActorPlan, Mark, MarkKind, NodeAsk, Record, RecordList, Told};
+use node_history::{ActorPlan, Mark, MarkKind, NodeAsk, Record, RecordList, Told};
 use std::alloc::{AllocError, Global};
 use std::marker::Model;
 

@@ -2,18 +2,18 @@
 ghost use Rattle.std.specs.Prelude.{◌≡◌, ◌+◌, ◌-◌, ◌++◌, ◌∷◌, [], ◌≤◌, ℕ, List, OnOk, IfOk, length, slice_get};
 ghost use Rattle.journal_core.specs.declared.request.Request.{Request};
 ghost use Rattle.journal_core.specs.Limits.{max_number};
-ghost use Rattle.node_world.specs.declared.record.Record.{Record};
-ghost use Rattle.node_world.specs.declared.record.Record.TheVariants.{Call};
-ghost use Rattle.node_world.specs.declared.record.Told.{Told};
-ghost use Rattle.node_world.specs.declared.mark.Mark.{Mark};
-ghost use Rattle.node_world.specs.declared.mark.MarkKind.TheVariants as kind;
+ghost use Rattle.node_history.specs.declared.record.Record.{Record};
+ghost use Rattle.node_history.specs.declared.record.Record.TheVariants.{Call};
+ghost use Rattle.node_history.specs.declared.record.Told.{Told};
+ghost use Rattle.node_history.specs.declared.mark.Mark.{Mark};
+ghost use Rattle.node_history.specs.declared.mark.MarkKind.TheVariants as kind;
 ghost use Rattle.mesh.specs.Marks.{calls_to, next_number, mark};
 ghost use Rattle.caller_seats.specs.Deliveries.{delivery};
 ghost use Rattle.caller_seats.specs.Indexes.{IsIndex, asked_at};
 
 use crate::delivery::Delivery;
 use journal_core::{OutOfMemory, SharedRequest};
-use node_world::Record;
+use node_history::Record;
 use std::alloc::Global;
 use std::collections::BTreeSet;
 

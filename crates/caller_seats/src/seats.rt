@@ -2,7 +2,7 @@
 ghost use Rattle.std.specs.Prelude.{◌≡◌, ◌≤◌, OnOk, IfOk};
 ghost use Rattle.journal_core.specs.Limits.{max_number};
 ghost use Rattle.journal_core.specs.Peers.{FitsHeard};
-ghost use Rattle.node_world.specs.declared.record.Record.TheVariants.{Outcome};
+ghost use Rattle.node_history.specs.declared.record.Record.TheVariants.{Outcome};
 ghost use Rattle.caller_seats.specs.Logs.{LogView, with_line, losing, earlier_call, mark_kind, IsCalled, IsCopied};
 
 use journal_core::{Bytes, Heard, OutOfMemory, SharedRequest};

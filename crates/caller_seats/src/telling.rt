@@ -5,7 +5,7 @@ ghost use Rattle.caller_seats.specs.Deliveries.{told_of, is_done};
 
 use crate::delivery::Delivery;
 use journal_core::{Heard, OutOfMemory};
-use node_world::{NodeAnswer, Told};
+use node_history::{NodeAnswer, Told};
 use std::alloc::Global;
 
 /// What is told of a call that a node answered so and whose answer is heard.

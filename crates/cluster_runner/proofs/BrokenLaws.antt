@@ -5,7 +5,7 @@ use Rattle.journal_core.specs.declared.request.Request.TheVariants as request
 use Rattle.journal_core.specs.declared.reply.Reply.TheVariants as reply
 use Rattle.writer_core.specs.declared.task.Task.TheVariants as task
 use Rattle.writer_core.specs.Views.{WriterView}
-use Rattle.node_world.specs.declared.record.Told.TheVariants as told
+use Rattle.node_history.specs.declared.record.Told.TheVariants as told
 use Rattle.journal_core.specs.Segments.{find_segment, put_segment, remove_segment, newest}
 use Rattle.journal_core.specs.Limits.{limit_of}
 use Rattle.journal_core.specs.Effects.{after_effects}
@@ -15,8 +15,8 @@ use Rattle.writer_core.specs.Best.{best_from, greatest_promise, greatest_newest}
 use Rattle.writer_core.specs.Rounds.{judged, fetched}
 use Rattle.writer_core.specs.Writer.{log_limit, writer_begun, writer_heard, new_writer}
 use Rattle.journal_core.specs.Cuts.{standing}
-use Rattle.node_world.specs.Cell.{cell_takes, cell_after, IsLocalRun}
-use Rattle.node_world.specs.Moving.{epoch_of, moves, move_of, entry_of, moving_of}
+use Rattle.node_history.specs.Cell.{cell_takes, cell_after, IsLocalRun}
+use Rattle.node_history.specs.Moving.{epoch_of, moves, move_of, entry_of, moving_of}
 use Rattle.mesh.specs.Marks.{calls_to, IsMarked}
 use Rattle.std.specs.Prelude.{None}
 use Rattle.mesh.specs.Makers.{Chore, Writes, Tails, maker_of, maker_hears, IsMade, IsOperators, heard_of, Maker}

@@ -27,10 +27,10 @@ use Rattle.writer_core.specs.Rounds.{Judged}
 use Rattle.writer_core.specs.Writer.{HasBody, new_writer, is_under_way, is_writing, call_in, writer_begun, next_call, writer_heard, writer_stopped}
 use Rattle.ns_tree.specs.Space.{Space}
 use Rattle.ns_replay.specs.Replay.{Applied, All, BadEntry, entered, applied_next, applied}
-use Rattle.node_world.specs.declared.record.Record.{Record}
-use Rattle.node_world.specs.declared.record.Record.TheVariants.{Call, Late, Operator, Outcome}
-use Rattle.node_world.specs.declared.record.Told.{Told}
-use Rattle.node_world.specs.declared.record.Told.TheVariants as told
+use Rattle.node_history.specs.declared.record.Record.{Record}
+use Rattle.node_history.specs.declared.record.Record.TheVariants.{Call, Late, Operator, Outcome}
+use Rattle.node_history.specs.declared.record.Told.{Told}
+use Rattle.node_history.specs.declared.record.Told.TheVariants as told
 use Rattle.mesh.specs.Makers.{Chore, Writes, Tails as ReadsOn, Reading, Maker, heard_of, maker_of, next_node, read_heard, maker_hears, HaveBodies, IsMade, IsOfChores}
 use Rattle.name_node.specs.Submissions.{Submission, submitted, nothing_submitted}
 use Rattle.name_node.specs.Holding.{Holding, Work, Free, Tails, Logs, Broken, emptied, working, saved, loaded, reloaded, min_to_keep, enters}

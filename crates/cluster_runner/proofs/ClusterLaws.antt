@@ -2,10 +2,10 @@
 use Rattle.std.proofs.Common.{◌≡◌, ℕ, ◌+◌, List, [], ◌∷◌, ◌++◌, length, map, Bool, refl, sym, ap, ◌∙◌, arith}
 pub use Rattle.std.proofs.lemmas.List.{replicate_more as replicated_more}
 use Rattle.std.proofs.lemmas.List.{map-append}
-use Rattle.node_world.specs.declared.history_line.HistoryLine.{HistoryLine}
-use Rattle.node_world.specs.declared.record.Record.{Record}
-use Rattle.node_world.specs.declared.mark.Mark.{Mark}
-use Rattle.node_world.specs.NodeCells.{CellView}
+use Rattle.node_history.specs.declared.history_line.HistoryLine.{HistoryLine}
+use Rattle.node_history.specs.declared.record.Record.{Record}
+use Rattle.node_history.specs.declared.mark.Mark.{Mark}
+use Rattle.node_history.specs.NodeCells.{CellView}
 use Rattle.mesh.specs.declared.whole.Mesh.{Mesh}
 use Rattle.cluster_runner.specs.declared.player.Player.{Player}
 use Rattle.script_actor.specs.KeptActor.{KeptActor, new_actor}

@@ -4,12 +4,12 @@ use Rattle.std.specs.Prelude.{Option, Some, None, ◌&&◌, is_none, slice_get, 
 use Rattle.std.proofs.lemmas.List.{get_or_append_left, length-append, length-map}
 use Rattle.std.proofs.Math.Seq.{get_or-append_seam}
 use Rattle.journal_core.specs.declared.request.Request.{Request}
-use Rattle.node_world.specs.declared.history_line.HistoryLine.{HistoryLine}
-use Rattle.node_world.specs.declared.record.Record.{Record}
-use Rattle.node_world.specs.declared.mark.Mark.{Mark}
-use Rattle.node_world.specs.Cell.{fresh_cell, IsLocalRun}
-use Rattle.node_world.specs.Moving.{Placed, moving_of}
-use Rattle.node_world.specs.Run.{IsRun}
+use Rattle.node_history.specs.declared.history_line.HistoryLine.{HistoryLine}
+use Rattle.node_history.specs.declared.record.Record.{Record}
+use Rattle.node_history.specs.declared.mark.Mark.{Mark}
+use Rattle.node_history.specs.Cell.{fresh_cell, IsLocalRun}
+use Rattle.node_history.specs.Moving.{Placed, moving_of}
+use Rattle.run_safety.specs.Run.{IsRun}
 use Rattle.ns_tree.specs.declared.end.End.{End}
 use Rattle.mesh.specs.Marks.{IsMarked, AreCopied}
 use Rattle.mesh.specs.Makers.{IsOfChores, IsOperators}

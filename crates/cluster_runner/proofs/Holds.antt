@@ -19,11 +19,11 @@ use Rattle.writer_core.specs.Views.{WriterView}
 use Rattle.writer_core.specs.Rounds.{Judged}
 use Rattle.writer_core.specs.Writer.{is_writing, writer_begun, writer_heard, writer_stopped}
 use Rattle.ns_replay.specs.Replay.{Image, Applied, All, BadEntry, applied}
-use Rattle.node_world.specs.declared.record.Record.{Record}
-use Rattle.node_world.specs.declared.record.Record.TheVariants.{Call, Late, Operator, Outcome}
-use Rattle.node_world.specs.declared.record.Told.{Told}
-use Rattle.node_world.specs.Sized.{Sized}
-use Rattle.node_world.proofs.WriterRange.{heard_sized, begun_sized}
+use Rattle.node_history.specs.declared.record.Record.{Record}
+use Rattle.node_history.specs.declared.record.Record.TheVariants.{Call, Late, Operator, Outcome}
+use Rattle.node_history.specs.declared.record.Told.{Told}
+use Rattle.run_safety.specs.Sized.{Sized}
+use Rattle.run_safety.proofs.WriterRange.{heard_sized, begun_sized}
 use Rattle.mesh.specs.Makers.{heard_of}
 use Rattle.name_node.specs.Submissions.{Submission, submitted, nothing_submitted}
 use Rattle.name_node.specs.Holding.{Holding, Work, Free, Tails, Logs, Broken, working, saved, loaded, reloaded, min_to_keep, enters}

@@ -3,11 +3,11 @@ use Rattle.std.proofs.Common.{◌≡◌, ℕ, zero, suc, ◌+◌, ◌<◌, List,
 use Rattle.std.specs.Prelude.{◌||◌, None, is_none}
 use Rattle.std.proofs.lemmas.List.{map-append, get_or_default, length-replicate}
 use Rattle.std.proofs.Math.ListN.{get_or-map}
-use Rattle.node_world.specs.declared.record.Record.{Record}
-use Rattle.node_world.specs.declared.history_line.HistoryLine.{HistoryLine}
-use Rattle.node_world.specs.declared.mark.Mark.{Mark}
-use Rattle.node_world.specs.Cell.{fresh_cell}
-use Rattle.node_world.specs.NodeCells.{CellView, new_cell}
+use Rattle.node_history.specs.declared.record.Record.{Record}
+use Rattle.node_history.specs.declared.history_line.HistoryLine.{HistoryLine}
+use Rattle.node_history.specs.declared.mark.Mark.{Mark}
+use Rattle.node_history.specs.Cell.{fresh_cell}
+use Rattle.node_history.specs.NodeCells.{CellView, new_cell}
 use Rattle.mesh.specs.declared.whole.Mesh.{Mesh}
 use Rattle.mesh.specs.Marks.{IsMarked}
 use Rattle.script_actor.specs.Lines.{Line, Deed, Declares, Acts, declared}

@@ -1,6 +1,6 @@
 -- Histories as projections of a trace, one line more; and lists with one element changed.
 use Rattle.std.proofs.Common.{◌≡◌, ℕ, zero, suc, ◌+◌, ◌<◌, List, [], ◌∷◌, ◌++◌, refl, ap, ◌∙◌, arith, set, get_or}
-use Rattle.node_world.specs.Moving.{Placed}
+use Rattle.node_history.specs.Moving.{Placed}
 use Rattle.mesh.proofs.Tied.{history_at, history_off}
 use Rattle.cluster_runner.specs.Plays.{history_of, histories_from}
 

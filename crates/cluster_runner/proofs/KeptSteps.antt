@@ -1,12 +1,12 @@
 -- The steps of a play, one kind each.
 use Rattle.std.proofs.Common.{◌≡◌, ℕ, ◌-◌, List, [], ◌∷◌, ◌++◌, Bool, true, false, ap, ◌∙◌, set, get_or, Some, None}
 use Rattle.journal_core.specs.declared.request.Request.{Request}
-use Rattle.node_world.specs.declared.node_ask.NodeAsk.{NodeAsk}
-use Rattle.node_world.specs.declared.node_ask.NodeAsk.TheVariants.{Act}
-use Rattle.node_world.specs.declared.record.Record.{Record}
-use Rattle.node_world.specs.declared.record.Record.TheVariants.{Call, Late, Operator, Outcome}
-use Rattle.node_world.specs.Cell.{Cell, fresh_cell, cell_takes}
-use Rattle.node_world.specs.Moving.{Placed}
+use Rattle.node_history.specs.declared.node_ask.NodeAsk.{NodeAsk}
+use Rattle.node_history.specs.declared.node_ask.NodeAsk.TheVariants.{Act}
+use Rattle.node_history.specs.declared.record.Record.{Record}
+use Rattle.node_history.specs.declared.record.Record.TheVariants.{Call, Late, Operator, Outcome}
+use Rattle.node_history.specs.Cell.{Cell, fresh_cell, cell_takes}
+use Rattle.node_history.specs.Moving.{Placed}
 use Rattle.mesh.specs.Marks.{next_number}
 use Rattle.script_actor.specs.Lines.{Line, Operates}
 use Rattle.script_actor.specs.Actor.{Actor, WantsCall, WantsCopy, Says, Rests, wants, goes_on, fresh_actor}

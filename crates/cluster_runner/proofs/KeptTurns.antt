@@ -4,15 +4,15 @@ use Rattle.std.proofs.lemmas.List.{map-set, length-set, length-map, get_or-set_s
 use Rattle.std.proofs.Math.ListN.{get_or-map}
 use Rattle.std.proofs.Math.Seq.{map-set_same}
 use Rattle.journal_core.specs.declared.request.Request.{Request}
-use Rattle.node_world.specs.declared.node_ask.NodeAsk.{NodeAsk}
-use Rattle.node_world.specs.declared.node_ask.NodeAsk.TheVariants.{Act}
-use Rattle.node_world.specs.declared.mark.Mark.{Mark}
-use Rattle.node_world.specs.declared.record.Record.{Record}
-use Rattle.node_world.specs.declared.record.Record.TheVariants.{Call, Late, Operator, Outcome}
-use Rattle.node_world.specs.declared.record.Told.{Told}
-use Rattle.node_world.specs.Cell.{Cell, fresh_cell}
-use Rattle.node_world.specs.NodeCells.{CellView, new_cell}
-use Rattle.node_world.specs.Moving.{Placed}
+use Rattle.node_history.specs.declared.node_ask.NodeAsk.{NodeAsk}
+use Rattle.node_history.specs.declared.node_ask.NodeAsk.TheVariants.{Act}
+use Rattle.node_history.specs.declared.mark.Mark.{Mark}
+use Rattle.node_history.specs.declared.record.Record.{Record}
+use Rattle.node_history.specs.declared.record.Record.TheVariants.{Call, Late, Operator, Outcome}
+use Rattle.node_history.specs.declared.record.Told.{Told}
+use Rattle.node_history.specs.Cell.{Cell, fresh_cell}
+use Rattle.node_history.specs.NodeCells.{CellView, new_cell}
+use Rattle.node_history.specs.Moving.{Placed}
 use Rattle.mesh.specs.Marks.{next_number, IsAsMarked, IsMarked}
 use Rattle.caller_seats.specs.declared.delivery.Delivery.{Delivery}
 use Rattle.caller_seats.specs.declared.delivery.Delivery.TheVariants.{Delivered, ReplyLost, NotDelivered}

@@ -3,8 +3,8 @@ use Rattle.std.proofs.Common.{◌≡◌, ℕ, zero, suc, ◌+◌, ◌<◌, ◌�
 use Rattle.std.specs.Prelude.{◌≢◌}
 use Rattle.std.proofs.lemmas.List.{get_or-set_same, get_or-set_other, length-set, length-append}
 use Rattle.std.proofs.lemmas.List.Elements.{Contains-push_cases}
-use Rattle.node_world.specs.declared.record.Record.{Record}
-use Rattle.node_world.specs.Moving.{Placed}
+use Rattle.node_history.specs.declared.record.Record.{Record}
+use Rattle.node_history.specs.Moving.{Placed}
 use Rattle.mesh.specs.Matches.{reaches}
 use Rattle.script_actor.specs.Actor.{Actor}
 use Rattle.mesh.proofs.Lists.{Alike, alike}

@@ -25,9 +25,9 @@ use Rattle.writer_core.specs.Rounds.{Judged}
 use Rattle.writer_core.specs.Writer.{is_writing, writer_begun, next_call, writer_heard, writer_stopped}
 use Rattle.ns_tree.specs.Space.{Space}
 use Rattle.ns_replay.specs.Replay.{Image, Applied, All, BadEntry, applied}
-use Rattle.node_world.specs.declared.record.Record.{Record}
-use Rattle.node_world.specs.declared.record.Record.TheVariants.{Call, Late, Operator, Outcome}
-use Rattle.node_world.specs.declared.record.Told.{Told}
+use Rattle.node_history.specs.declared.record.Record.{Record}
+use Rattle.node_history.specs.declared.record.Record.TheVariants.{Call, Late, Operator, Outcome}
+use Rattle.node_history.specs.declared.record.Told.{Told}
 use Rattle.mesh.specs.Makers.{heard_of}
 use Rattle.name_node.specs.Submissions.{Due, Submission, submitted, nothing_submitted}
 use Rattle.name_node.specs.Holding.{Holding, new_holding, Work, Free, Tails, Logs, Broken, working, at_position, saved, loaded, reloaded, min_to_keep, enters}

@@ -1,8 +1,8 @@
 -- The nodes at the end of a play: each is as its history leaves it.
 use Rattle.std.proofs.Common.{◌≡◌, ℕ, suc, ◌+◌, ◌<◌, List, [], ◌∷◌, length, map, Bool, Some, refl, sym, ap, ◌∙◌, subst, arith, get_or}
-use Rattle.node_world.specs.Cell.{Cell, fresh_cell, cell_after}
-use Rattle.node_world.specs.NodeCells.{CellView}
-use Rattle.node_world.specs.Moving.{Placed}
+use Rattle.node_history.specs.Cell.{Cell, fresh_cell, cell_after}
+use Rattle.node_history.specs.NodeCells.{CellView}
+use Rattle.node_history.specs.Moving.{Placed}
 use Rattle.script_text.specs.declared.script_line.ScriptLine.{ScriptLine}
 use Rattle.script_actor.specs.Lines.{Line, ArePlayable, HasNodes}
 use Rattle.cluster_runner.specs.Plays.{Play, play_begins, history_of, histories_from}

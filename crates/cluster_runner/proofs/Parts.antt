@@ -3,11 +3,11 @@ use Rattle.std.proofs.Common.{◌≡◌, ℕ, ◌+◌, ◌-◌, ◌<◌, ◌≤�
 use Rattle.std.specs.Prelude.{◌≢◌, ◌==◌}
 use Rattle.std.proofs.lemmas.List.{get_or-set_same, get_or-set_other, length-set, get_or_append_left, length-append}
 use Rattle.std.proofs.Math.Seq.{get_or-append_seam}
-use Rattle.node_world.specs.declared.history_line.HistoryLine.{HistoryLine}
-use Rattle.node_world.specs.declared.node_ask.NodeAsk.{NodeAsk}
-use Rattle.node_world.specs.declared.record.Record.{Record}
-use Rattle.node_world.specs.Cell.{Cell, fresh_cell, cell_takes, IsLocalRun, cell_after}
-use Rattle.node_world.specs.Moving.{Placed}
+use Rattle.node_history.specs.declared.history_line.HistoryLine.{HistoryLine}
+use Rattle.node_history.specs.declared.node_ask.NodeAsk.{NodeAsk}
+use Rattle.node_history.specs.declared.record.Record.{Record}
+use Rattle.node_history.specs.Cell.{Cell, fresh_cell, cell_takes, IsLocalRun, cell_after}
+use Rattle.node_history.specs.Moving.{Placed}
 use Rattle.mesh.specs.Matches.{IsWithin}
 use Rattle.script_actor.specs.Lines.{Deed, Line, Declares, Acts, Operates, deeds_of, IsDeed, AreDeeds, HasNodes}
 use Rattle.script_actor.specs.Actor.{Actor, fresh_actor, settled, handed, wants, goes_on, Fits, actor_after, IsLed}

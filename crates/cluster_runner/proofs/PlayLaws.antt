@@ -10,7 +10,7 @@ use Rattle.writer_core.specs.declared.task.Task.TheVariants as task
 use Rattle.writer_core.proofs.LiveLaws.{new_live}
 use Rattle.script_text.specs.declared.script_line.ScriptLine.{ScriptLine}
 use Rattle.script_text.specs.declared.script_line.ScriptLine.TheVariants as line
-use Rattle.node_world.specs.NodeCells.{new_cell}
+use Rattle.node_history.specs.NodeCells.{new_cell}
 use Rattle.script_text.specs.Views.{ScriptView}
 use Rattle.script_actor.specs.Lines.{Line, Declares, Acts, Operates, line_of, lines_of, declared, AreEdits, IsTask, WithNames, ArePlayable, AreInRange, IsPlayable, NumbersFit}
 use Rattle.script_actor.specs.Actor.{holding_if}
@@ -20,7 +20,7 @@ use Rattle.cluster_runner.specs.Plays.{Play, play_begins}
 use Rattle.cluster_runner.specs.Kept.{Kept, actor_of, with_actor, new_kept, mesh_kept, ends_kept, IsAtRest, IsPlayed, Leads}
 use Rattle.cluster_runner.specs.Ready.{IsIdleIn, IsIdle, TakesLine}
 use Rattle.cluster_runner.specs.Goal.{MayTake, actors_after, IsUnderWay}
-use Rattle.node_world.proofs.WriterRange.{new_sized}
+use Rattle.run_safety.proofs.WriterRange.{new_sized}
 use Rattle.cluster_runner.proofs.KeptLines.{declare_leads, begins_at_rest, is_played}
 use Rattle.cluster_runner.proofs.KeptTurns.{leads_same, leads_on}
 use Rattle.cluster_runner.proofs.LineTaken.{takes_operation}

@@ -7,7 +7,7 @@ use Rattle.edit_ops.specs.Records.{EditView}
 use Rattle.writer_core.specs.declared.task.Task.{Task}
 use Rattle.writer_core.specs.declared.task.Task.TheVariants as task
 use Rattle.writer_core.specs.Writer.{HasBody}
-use Rattle.node_world.specs.declared.stop.Stop.TheVariants as stop
+use Rattle.node_history.specs.declared.stop.Stop.TheVariants as stop
 use Rattle.script_text.specs.declared.script_line.ScriptLine.{ScriptLine}
 use Rattle.script_text.specs.declared.script_line.ScriptLine.TheVariants as line
 use Rattle.script_text.specs.Views.{ScriptView, SaidView}

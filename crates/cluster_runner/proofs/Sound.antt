@@ -7,8 +7,8 @@ use Rattle.writer_core.specs.declared.task.Begun.{Begun}
 use Rattle.writer_core.specs.declared.task.Begun.TheVariants as begun
 use Rattle.writer_core.specs.Views.{WriterView}
 use Rattle.writer_core.specs.Writer.{next_call, writer_begun}
-use Rattle.node_world.specs.declared.record.Record.{Record}
-use Rattle.node_world.specs.declared.record.Record.TheVariants.{Call, Late, Operator, Outcome}
+use Rattle.node_history.specs.declared.record.Record.{Record}
+use Rattle.node_history.specs.declared.record.Record.TheVariants.{Call, Late, Operator, Outcome}
 use Rattle.mesh.specs.Marks.{calls_to, IsCopy}
 use Rattle.mesh.specs.Makers.{heard_of}
 use Rattle.mesh.specs.Matches.{IsWithin, AreWithin}
@@ -21,7 +21,7 @@ use Rattle.cluster_runner.proofs.Led.{moved_keeps}
 use Rattle.cluster_runner.proofs.Holds.{AsksNode, AsksIn, HoldsWell, Well, taken_well, moved_well, raw_taken, raw_moved, raw_writer}
 use Rattle.mesh.proofs.Lists.{alike, Alike}
 use Rattle.cluster_runner.proofs.Wanting.{Calling, Resting, calling, copying, resting, call_by, raw_call}
-use Rattle.node_world.proofs.WriterRange.{Sized, heard_sized, begun_sized, new_sized, call_within}
+use Rattle.run_safety.proofs.WriterRange.{Sized, heard_sized, begun_sized, new_sized, call_within}
 use Rattle.cluster_runner.proofs.Goes.{GoesBy, fresh_goes, taken_goes, IsTold, moved_goes}
 
 pub deeds_snoc : (named : Bool) (ds : List Deed) (d : Deed) → AreDeeds named ds → IsDeed named d → AreDeeds named (ds ++ d ∷ [])

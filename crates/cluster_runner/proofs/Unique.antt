@@ -1,9 +1,9 @@
 -- A script has one play, and lines and answers have one record.
 use Rattle.std.proofs.Common.{◌≡◌, ℕ, zero, suc, ◌+◌, ◌-◌, ◌≤◌, List, [], ◌∷◌, Bool, true, refl, sym, ap, ◌∙◌, subst, arith, ◌⊎◌, inl, inr}
 use Rattle.std.specs.Prelude.{Option, None}
-use Rattle.node_world.specs.declared.record.Record.{Record}
-use Rattle.node_world.specs.declared.record.Record.TheVariants.{Call, Late, Operator, Outcome}
-use Rattle.node_world.specs.declared.record.Told.{Told}
+use Rattle.node_history.specs.declared.record.Record.{Record}
+use Rattle.node_history.specs.declared.record.Record.TheVariants.{Call, Late, Operator, Outcome}
+use Rattle.node_history.specs.declared.record.Told.{Told}
 use Rattle.script_actor.specs.Lines.{Line}
 use Rattle.script_actor.specs.Actor.{Actor, Want, WantsCall, WantsCopy, Says, Rests, wants, goes_on, Fits, actor_after, IsLed}
 use Rattle.cluster_runner.specs.Plays.{Play, next_line, turned, play_step, play_steps, play_begins, has_ended, IsPlay}

@@ -3,9 +3,9 @@ use Rattle.std.proofs.Common.{◌≡◌, ℕ, List, [], ◌∷◌, Bool, false, 
 use Rattle.std.specs.Prelude.{Option, Some, None}
 use Rattle.journal_core.specs.declared.request.Request.{Request}
 use Rattle.writer_core.specs.Writer.{next_call}
-use Rattle.node_world.specs.declared.node_ask.NodeAsk.{NodeAsk}
-use Rattle.node_world.specs.declared.record.Record.TheVariants.{Call, Late, Operator, Outcome}
-use Rattle.node_world.specs.declared.record.Told.{Told}
+use Rattle.node_history.specs.declared.node_ask.NodeAsk.{NodeAsk}
+use Rattle.node_history.specs.declared.record.Record.TheVariants.{Call, Late, Operator, Outcome}
+use Rattle.node_history.specs.declared.record.Told.{Told}
 use Rattle.name_node.specs.Holding.{Holding, Work, Free, Tails, Logs, Broken}
 use Rattle.script_actor.specs.Actor.{Actor, Want, WantsCall, WantsCopy, Says, Rests, wants, is_wanting, call_wanted, work_read, read_first, copy_first, says_first, Fits}
 

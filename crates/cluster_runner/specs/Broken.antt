@@ -2,8 +2,8 @@
 use Rattle.std.specs.Prelude.{List, [], ◌∷◌, None}
 use Rattle.journal_core.specs.declared.request.Request.TheVariants as request
 use Rattle.journal_core.specs.declared.reply.Reply.TheVariants as reply
-use Rattle.node_world.specs.declared.mark.MarkKind.TheVariants as kind
-use Rattle.node_world.specs.declared.record.Record.{Record}
+use Rattle.node_history.specs.declared.mark.MarkKind.TheVariants as kind
+use Rattle.node_history.specs.declared.record.Record.{Record}
 use Rattle.mesh.specs.declared.whole.Mesh.{Mesh}
 use Rattle.mesh.specs.Marks.{mark}
 use Rattle.cluster_runner.specs.FirstRun.{Exchange, exchange, asking, proposing, starting, opening, first_edit, second_edit, listed_by_node, called, first_history, first_mesh}

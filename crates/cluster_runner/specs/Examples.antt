@@ -10,11 +10,11 @@ use Rattle.journal_core.specs.declared.refusal.Refusal.TheVariants as refusal
 use Rattle.journal_core.specs.declared.reply.Reply.{Reply}
 use Rattle.journal_core.specs.declared.reply.Reply.TheVariants as reply
 use Rattle.writer_core.specs.declared.task.Task.TheVariants.{Takeover, Log, Roll, Close, Purge}
-use Rattle.node_world.specs.declared.stop.Stop.TheVariants.{Effects, DiskCalls}
-use Rattle.node_world.specs.declared.node_ask.NodeAsk.{NodeAsk}
-use Rattle.node_world.specs.declared.node_ask.NodeAsk.TheVariants.{Act, Kill, Restart, Arm}
-use Rattle.node_world.specs.declared.node_ask.NodeAnswer.TheVariants.{Replied, Stopped, Done}
-use Rattle.node_world.specs.declared.history_line.HistoryLine.{HistoryLine}
+use Rattle.node_history.specs.declared.stop.Stop.TheVariants.{Effects, DiskCalls}
+use Rattle.node_history.specs.declared.node_ask.NodeAsk.{NodeAsk}
+use Rattle.node_history.specs.declared.node_ask.NodeAsk.TheVariants.{Act, Kill, Restart, Arm}
+use Rattle.node_history.specs.declared.node_ask.NodeAnswer.TheVariants.{Replied, Stopped, Done}
+use Rattle.node_history.specs.declared.history_line.HistoryLine.{HistoryLine}
 use Rattle.script_actor.specs.Lines.{Line, Declares, Acts, Operates, Does, DoDrop, DoMute, DoLate}
 use Rattle.cluster_runner.specs.Told.{results_in}
 use Rattle.cluster_runner.specs.Plays.{Play, play_begins, play_steps, history_of, actor_at}

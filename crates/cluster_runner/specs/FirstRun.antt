@@ -4,11 +4,11 @@ use Rattle.journal_core.specs.declared.request.Request.{Request}
 use Rattle.journal_core.specs.declared.request.Request.TheVariants as request
 use Rattle.journal_core.specs.declared.reply.Reply.{Reply}
 use Rattle.journal_core.specs.declared.reply.Reply.TheVariants as reply
-use Rattle.node_world.specs.declared.history_line.HistoryLine.{HistoryLine}
-use Rattle.node_world.specs.declared.record.Record.{Record}
-use Rattle.node_world.specs.declared.record.Record.TheVariants as line
-use Rattle.node_world.specs.declared.record.Told.TheVariants as told
-use Rattle.node_world.specs.Entries.{Entry, Answer, Heard}
+use Rattle.node_history.specs.declared.history_line.HistoryLine.{HistoryLine}
+use Rattle.node_history.specs.declared.record.Record.{Record}
+use Rattle.node_history.specs.declared.record.Record.TheVariants as line
+use Rattle.node_history.specs.declared.record.Told.TheVariants as told
+use Rattle.node_history.specs.Entries.{Entry, Answer, Heard}
 use Rattle.mesh.specs.declared.whole.Mesh.{Mesh}
 use Rattle.ns_tree.specs.declared.end.End.{End}
 use Rattle.script_text.specs.Views.{ScriptView}

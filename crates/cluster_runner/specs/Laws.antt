@@ -1,9 +1,9 @@
 -- What holds of every play, of every actor that is led, and of their lists.
 use Rattle.std.specs.Prelude.{◌≡◌, ℕ, ◌+◌, ◌<◌, ◌≤◌, Bool, false, List, [], ◌∷◌, ◌++◌, true}
-use Rattle.node_world.specs.declared.record.Record.{Record}
-use Rattle.node_world.specs.Cell.{fresh_cell, IsLocalRun}
-use Rattle.node_world.specs.Moving.{moving_of}
-use Rattle.node_world.specs.Run.{IsRun}
+use Rattle.node_history.specs.declared.record.Record.{Record}
+use Rattle.node_history.specs.Cell.{fresh_cell, IsLocalRun}
+use Rattle.node_history.specs.Moving.{moving_of}
+use Rattle.run_safety.specs.Run.{IsRun}
 use Rattle.mesh.specs.Makers.{IsOfTasks, IsOfChores}
 use Rattle.mesh.specs.declared.whole.Mesh.{Mesh}
 use Rattle.ns_tree.specs.declared.end.End.{End}
@@ -14,9 +14,8 @@ use Rattle.script_actor.specs.Lines.{Deed, AreDeeds, Line, ArePlayable, HasNodes
 use Rattle.script_actor.specs.Actor.{Actor, Rests, wants, settled, handed, actor_after, IsLed}
 use Rattle.cluster_runner.specs.Plays.{Play, IsPlay, Plays, play_steps, play_begins, history_of, mesh_of, ends_of}
 use Rattle.cluster_runner.specs.Safe.{IsSafeWithEnds, HoldNothing}
-use Rattle.cluster_runner.specs.Follows.{actor_with, FollowsLines, FollowsScript}
-use Rattle.node_world.specs.declared.mark.Mark.{Mark}
-use Rattle.cluster_runner.specs.Follows.{Follows}
+use Rattle.cluster_runner.specs.Follows.{actor_with, FollowsLines, FollowsScript, Follows}
+use Rattle.node_history.specs.declared.mark.Mark.{Mark}
 use Rattle.cluster_runner.specs.Told.{told_in, results_in}
 use Rattle.cluster_runner.specs.EditResults.{AreResults, AreRaw, NeverBroken}
 

@@ -8,7 +8,7 @@ use Rattle.ns_tree.specs.declared.inode.Row.{Row}
 use Rattle.ns_tree.specs.Space.{pair}
 use Rattle.ns_replay.specs.Examples.{plain, called, mkdir_u}
 use Rattle.writer_core.specs.declared.task.Task.TheVariants as task
-use Rattle.node_world.specs.declared.node_ask.NodeAsk.TheVariants.{Kill, Restart}
+use Rattle.node_history.specs.declared.node_ask.NodeAsk.TheVariants.{Kill, Restart}
 use Rattle.script_actor.specs.Lines.{Line, Declares, Acts, Operates, Deed, Does, DoDrop, Submits, Trims, DoTail, Saves, Reloads}
 use Rattle.script_actor.specs.Actor.{last_of}
 use Rattle.cluster_runner.specs.Plays.{Play, play_begins, play_steps, actor_at}

@@ -5,9 +5,9 @@ use Rattle.journal_core.specs.declared.request.Request.TheVariants as request
 use Rattle.journal_core.specs.declared.reply.Reply.{Reply}
 use Rattle.journal_core.specs.declared.reply.Reply.TheVariants as reply
 use Rattle.writer_core.specs.declared.task.Task.TheVariants.{Takeover}
-use Rattle.node_world.specs.declared.node_ask.NodeAsk.TheVariants.{Kill, Restart}
-use Rattle.node_world.specs.Entries as entry
-use Rattle.node_world.specs.Entries.{Entry, Move}
+use Rattle.node_history.specs.declared.node_ask.NodeAsk.TheVariants.{Kill, Restart}
+use Rattle.node_history.specs.Entries as entry
+use Rattle.node_history.specs.Entries.{Entry, Move}
 use Rattle.script_actor.specs.Lines.{Line, Declares, Acts, Operates, Does, DoDrop, DoMute}
 use Rattle.cluster_runner.specs.Examples.{head, edit, batch}
 

@@ -1,11 +1,11 @@
 -- The seats of one caller in a play: the nodes as they are, and what the caller lists.
 use Rattle.std.specs.Prelude.{◌≡◌, ℕ, ◌-◌, ◌≤◌, true, List, [], ◌∷◌, ◌++◌, length, slice_index_or, slice_set}
 use Rattle.journal_core.specs.declared.request.Request.{Request}
-use Rattle.node_world.specs.declared.node_ask.NodeAsk.TheVariants.{Act}
-use Rattle.node_world.specs.declared.record.Record.{Record}
-use Rattle.node_world.specs.declared.record.Record.TheVariants.{Call, Late, Operator, Outcome}
-use Rattle.node_world.specs.declared.record.Told.{Told}
-use Rattle.node_world.specs.NodeCells.{CellView, new_cell}
+use Rattle.node_history.specs.declared.node_ask.NodeAsk.TheVariants.{Act}
+use Rattle.node_history.specs.declared.record.Record.{Record}
+use Rattle.node_history.specs.declared.record.Record.TheVariants.{Call, Late, Operator, Outcome}
+use Rattle.node_history.specs.declared.record.Told.{Told}
+use Rattle.node_history.specs.NodeCells.{CellView, new_cell}
 use Rattle.caller_seats.specs.declared.delivery.Delivery.{Delivery}
 use Rattle.caller_seats.specs.Logs.{LogView}
 use Rattle.cluster_runner.specs.Kept.{listed, reached_by, told_by}

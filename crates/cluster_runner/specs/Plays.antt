@@ -1,14 +1,14 @@
 -- A script played: its lines are taken in order, and the calls of each line are made one after the other.
 use Rattle.std.specs.Prelude.{◌≡◌, ℕ, zero, suc, ◌+◌, ◌-◌, ◌&&◌, Bool, true, false, List, [], ◌∷◌, ◌++◌, map, replicate, slice_index_or, slice_set, is_none, Option, Some, None}
 use Rattle.journal_core.specs.declared.request.Request.{Request}
-use Rattle.node_world.specs.declared.node_ask.NodeAsk.{NodeAsk}
-use Rattle.node_world.specs.declared.node_ask.NodeAsk.TheVariants.{Act}
-use Rattle.node_world.specs.declared.history_line.HistoryLine.{HistoryLine}
-use Rattle.node_world.specs.declared.record.Record.{Record}
-use Rattle.node_world.specs.declared.record.Record.TheVariants.{Call, Late, Operator, Outcome}
-use Rattle.node_world.specs.declared.record.Told.TheVariants as told
-use Rattle.node_world.specs.Cell.{Cell, fresh_cell, Taken, cell_takes}
-use Rattle.node_world.specs.Moving.{Placed}
+use Rattle.node_history.specs.declared.node_ask.NodeAsk.{NodeAsk}
+use Rattle.node_history.specs.declared.node_ask.NodeAsk.TheVariants.{Act}
+use Rattle.node_history.specs.declared.history_line.HistoryLine.{HistoryLine}
+use Rattle.node_history.specs.declared.record.Record.{Record}
+use Rattle.node_history.specs.declared.record.Record.TheVariants.{Call, Late, Operator, Outcome}
+use Rattle.node_history.specs.declared.record.Told.TheVariants as told
+use Rattle.node_history.specs.Cell.{Cell, fresh_cell, Taken, cell_takes}
+use Rattle.node_history.specs.Moving.{Placed}
 use Rattle.mesh.specs.declared.whole.Mesh.{Mesh}
 use Rattle.mesh.specs.Marks.{next_number}
 unfoldable pub use Rattle.mesh.specs.Traces.{history_of}

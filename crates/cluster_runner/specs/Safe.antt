@@ -3,8 +3,8 @@ use Rattle.std.specs.Prelude.{◌≡◌, ℕ, ◌+◌, List, [], ◌∷◌, leng
 use Rattle.ns_tree.specs.declared.end.End.{End}
 use Rattle.ns_tree.specs.declared.end.LastSpace.{LastSpace}
 use Rattle.ns_replay.specs.Replay.{IsReplay}
-use Rattle.node_world.specs.Entries.{Entry}
-use Rattle.node_world.specs.Safe.{IsOnLine, IsSafe}
+use Rattle.node_history.specs.Entries.{Entry}
+use Rattle.run_safety.specs.Safe.{IsOnLine, IsSafe}
 
 -- bodies that stand behind so many others
 abbrev pub AllOn : (ℕ → List ℕ → Type 0) → ℕ → List (List ℕ) → Type 0

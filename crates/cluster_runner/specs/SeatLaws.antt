@@ -1,7 +1,7 @@
 -- The seats of a caller in a play, some lines later.
 use Rattle.std.proofs.Common.{◌≡◌, ℕ, List, [], ◌∷◌, ◌++◌, refl, sym, ap, ◌∙◌, subst, append_assoc, append-nil}
-use Rattle.node_world.specs.declared.record.Record.{Record}
-use Rattle.node_world.specs.NodeCells.{CellView}
+use Rattle.node_history.specs.declared.record.Record.{Record}
+use Rattle.node_history.specs.NodeCells.{CellView}
 use Rattle.cluster_runner.specs.PlaySeats.{SeatsView, LineGoes, LinesGo, AreLater}
 
 lines_on : (c : ℕ) (xs ys : List Record) (old mid new : List CellView) → LinesGo c xs old mid → LinesGo c ys mid new → LinesGo c (xs ++ ys) old new

@@ -1,7 +1,7 @@
 -- What contracts see of the program's nodes and actors.
 use Rattle.std.specs.Prelude.{◌≡◌, ℕ, Bool, List, All, map}
-use Rattle.node_world.specs.declared.record.Record.{Record}
-use Rattle.node_world.specs.NodeCells.{CellView}
+use Rattle.node_history.specs.declared.record.Record.{Record}
+use Rattle.node_history.specs.NodeCells.{CellView}
 use Rattle.cluster_runner.specs.declared.player.Player.{Player}
 use Rattle.script_actor.specs.KeptActor.{KeptActor}
 use Rattle.cluster_runner.specs.Kept.{Kept}

@@ -2,7 +2,7 @@
 ghost use Rattle.std.specs.List.{All};
 ghost use Rattle.std.specs.Prelude.{◌≡◌, ◌≤◌, ◌<◌, OnOk, IfOk, Some, length, ℕ, map, replicate};
 ghost use Rattle.journal_core.specs.Step.{fresh_state};
-ghost use Rattle.node_world.specs.NodeCells.{new_cell};
+ghost use Rattle.node_history.specs.NodeCells.{new_cell};
 ghost use Rattle.script_actor.specs.Deeds.{MayCome};
 ghost use Rattle.cluster_runner.specs.Kept.{new_kept, with_actor, operates, mesh_kept, end_of, ends_kept, states_kept};
 ghost use Rattle.script_actor.specs.Lines.{Acts, Deed, line_of};
@@ -15,7 +15,7 @@ use crate::player::Player;
 use caller_seats::{CallerLog, is_done};
 use journal_core::{Bytes, CutNode, Name, OutOfMemory};
 use mesh::{HistoryTable, Mesh, RecordTable};
-use node_world::{NodeAsk, NodeCell, Plan, Record, RecordList, cells_of};
+use node_history::{NodeAsk, NodeCell, Plan, Record, RecordList, cells_of};
 use ns_tree::{End, EndList};
 use script_actor::ScriptActor;
 use script_text::ScriptLine;

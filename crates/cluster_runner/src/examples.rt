@@ -1,9 +1,8 @@
 // Worked plays, computed by the check.
 ghost use Rattle.std.specs.Prelude.{◌≡◌, ◌∷◌, [], codes, true, take};
-ghost use Rattle.cluster_runner.specs.Plays.{has_ended};
-ghost use Rattle.cluster_runner.specs.Plays.{mesh_of, ends_of};
+ghost use Rattle.cluster_runner.specs.Plays.{has_ended, mesh_of, ends_of};
 ghost use Rattle.cluster_runner.specs.FirstRun.{first_play, first_mesh, first_ends, first_entries};
-ghost use Rattle.node_world.specs.Moving.{moving_of};
+ghost use Rattle.node_history.specs.Moving.{moving_of};
 ghost use Rattle.mesh.specs.Order.{epoch_order};
 ghost use Rattle.mesh.specs.Agree.{Agrees};
 ghost use Rattle.cluster_runner.specs.Broken.{lost_line, doubled_line, swapped_lines, made_up, undropped, asking_operator, wrong_epoch};

@@ -2,12 +2,12 @@
 ghost use Rattle.std.specs.Prelude.{◌≡◌, true, OnOk, IfOk};
 ghost use Rattle.journal_core.specs.Peers.{FitsHeard};
 ghost use Rattle.mesh.specs.Makers.{heard_of};
-ghost use Rattle.node_world.specs.declared.node_ask.NodeAsk.TheVariants.{Act};
+ghost use Rattle.node_history.specs.declared.node_ask.NodeAsk.TheVariants.{Act};
 ghost use Rattle.cluster_runner.specs.Kept.{listed, reached_by, told_by};
 
 use caller_seats::{CallerLog, Delivery, Seats, heard_of, told_of};
 use journal_core::{Bytes, CutNode, Heard, OutOfMemory, SharedRequest};
-use node_world::{NodeAsk, NodeCell, Told};
+use node_history::{NodeAsk, NodeCell, Told};
 use std::alloc::Global;
 use std::marker::Model;
 

@@ -11,7 +11,7 @@ ghost use Rattle.cluster_runner.specs.Goal.{MayTake, actors_after, IsUnderWay};
 use crate::cluster::Cluster;
 use journal_core::{CutNode, OutOfMemory, PlainNode};
 use mesh::Mesh;
-use node_world::NodeAsk;
+use node_history::NodeAsk;
 use ns_tree::EndList;
 use script_text::{Script, ScriptLine};
 use std::alloc::Global;

@@ -1,7 +1,7 @@
 //! The report on its happy path, and one that is too long.
 use journal_core::{Batch, BodyList, Bytes, Head, Refusal, Reply, Request, SharedRequest};
 use mesh::{HistoryTable, Mesh, RecordTable};
-use node_world::{HistoryLine, HistoryList, NodeAnswer, NodeAsk, Plan, Record, RecordList, Told};
+use node_history::{HistoryLine, HistoryList, NodeAnswer, NodeAsk, Plan, Record, RecordList, Told};
 use ns_tree::{End, EndList, LastSpace, Namespace, RowList};
 use qj_num::{Name, OutOfMemory};
 use report_text::{Report, report_of, text_size};

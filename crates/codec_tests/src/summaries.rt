@@ -1,7 +1,7 @@
 //! The summary of a small mesh.
 use journal_core::{Batch, BodyList, Bytes, Head, Reply, Request, SharedRequest};
 use mesh::{HistoryTable, Mesh, RecordTable};
-use node_world::{Plan, Record, RecordList, Told};
+use node_history::{Plan, Record, RecordList, Told};
 use ns_tree::{End, EndList, LastSpace, RowList};
 use qj_num::{Name, OutOfMemory};
 use report_text::summary_of;

@@ -10,7 +10,7 @@ use Rattle.journal_core.specs.Segments.{AreSound}
 use Rattle.journal_core.specs.Step.{fresh_state, restarted}
 use Rattle.segment_file.specs.declared.segment_row.SegmentRow.{SegmentRow}
 use Rattle.segment_file.specs.Stands.{StandsFor}
-use Rattle.segment_file.specs.Opened.{AreStarts}
+use Rattle.segment_file.specs.RowsTell.{AreStarts}
 use Rattle.segment_file.proofs.HeldOnce.{found_once, one_list}
 use Rattle.node_files.specs.declared.node_number.NodeNumber.TheVariants.{Promised, Writer, Committed}
 use Rattle.node_files.specs.Durable.{StandsAs, number_name}

@@ -3,10 +3,8 @@ ghost use Rattle.std.specs.Prelude.{◌≡◌, ◌≤◌, ◌<◌, ◌^◌, leng
 
 use crate::disks::{line, one};
 use qj_disk::UntoldDisk;
-use segment_file::{
-    Appended, Completed, append, append_behind_gate, complete_half_done, create, discard, finalize,
-    replace, replace_again, sync_segments,
-};
+use segment_file::{Appended, append, append_behind_gate, create, discard, finalize, replace, replace_again};
+use segment_opening::{Completed, complete_half_done, sync_segments};
 use small_files::{NumberFile, PaxosFile, Put, put_bytes};
 use std::alloc::Global;
 use std::process::Abort;

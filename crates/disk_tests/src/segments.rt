@@ -11,7 +11,7 @@ use crate::steps::Step::{self, Disk, Fault, Sees, Segment, Tells};
 use crate::steps::{Stopping, at_each_call, play, stop_after_each, stop_at_each, take_anew};
 use crate::wants::Want::{Edit, NoEdit, PutInPlace, Record};
 use qj_disk::Choice;
-use segment_file::{FileKind, file_named};
+use segment_opening::{FileKind, file_named};
 use std::alloc::Global;
 use std::process::Abort;
 use std::test::Fail;

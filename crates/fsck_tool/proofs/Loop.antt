@@ -1,11 +1,12 @@
 -- The files of a folder are checked one after the other.
-use Rattle.std.proofs.Common.{◌≡◌, ◌↔◌, ℕ, zero, suc, ◌+◌, ◌≤◌, ◌<◌, List, [], ◌∷◌, ◌++◌, length, take, get_or, refl, sym, ap, subst, ◌∙◌, append_assoc, arith, inl, inr, ⊎_elim}
+use Rattle.std.proofs.Common.{◌≡◌, ◌↔◌, ℕ, zero, suc, ◌+◌, ◌≤◌, ◌<◌, List, [], ◌∷◌, ◌++◌, length, take, get_or, refl, sym, ap, subst, ◌∙◌, append_assoc, arith}
 use Rattle.std.specs.Prelude.{Option, Some, None, IsSome, map, slice_index_or, Result, codes, decimal}
 use Rattle.std.proofs.lemmas.List.{append-nil, map-append, length-map, take_more}
 use Rattle.qj_disk.specs.Files.{Files}
 use Rattle.qj_disk.specs.View.{View, IsSound}
-use Rattle.qj_disk.specs.Calls.{Keeps, Rests, Lists, HasCause}
+use Rattle.qj_disk.specs.Calls.{Rests, Lists, HasCause}
 use Rattle.qj_disk.specs.declared.disk.DiskFail.{DiskFail}
+use Rattle.qj_disk.proofs.Keeping.{rests_same, rests_then}
 use Rattle.fsck_tool.specs.declared.finding.Finding.{Finding}
 use Rattle.fsck_tool.specs.declared.file_role.FileRole.{FileRole}
 use Rattle.fsck_tool.specs.declared.report.SoFar.{SoFar}
@@ -45,28 +46,6 @@ one_more_file told files names name old new so_far adds = record {
     v = record { name = name; found = adds.found }
 
 -- ## The loop
-rests_same : (v : View) → Rests v v
-rests_same v = record {
-  keeps = record { seen = refl; crash = λ c left. left; time = record { later = omega arith; nothing_else = λ t c le left. inl left; keeps = λ t c le left. left } };
-  synced = refl;
-}
-
-keeps_then : (u v w : View) → IsSound u → Keeps u v → Keeps v w → Keeps u w
-keeps_then u v w sound first second = record {
-  seen = second.seen ∙ first.seen;
-  crash = λ c left. first.crash c (second.crash c left);
-  time = record {
-    later = omega (arith, first.time.later, second.time.later);
-    nothing_else = λ t c le left. ⊎_elim
-        (λ was. ⊎_elim (λ l. inl l) (λ now. inl (sound.counts_now t c le (first.crash c now))) (first.time.nothing_else t c le was))
-        (λ now. inr now) (second.time.nothing_else t c (omega (arith, le, first.time.later)) left);
-    keeps = λ t c le left. second.time.keeps t c (omega (arith, le, first.time.later)) (first.time.keeps t c le left);
-  };
-}
-
-rests_then : (u v w : View) → IsSound u → Rests u v → Rests v w → Rests u w
-rests_then u v w sound first second = record { keeps = keeps_then u v w sound first.keeps second.keeps; synced = second.synced ∙ first.synced }
-
 -- the files of these names are checked, and nothing changed
 pub record IsChecking (told tells : Type 0) (v0 v : View) (names : List (List ℕ)) (i : ℕ) (s : SoFar) (f0 f : ℕ) (was_steady is_steady : Type 0) : Type 0 where
   pub tells_on : told ↔ tells

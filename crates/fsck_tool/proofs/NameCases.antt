@@ -7,7 +7,7 @@ use Rattle.node_files.specs.Durable.{number_name}
 use Rattle.node_files.specs.declared.node_number.NodeNumber.{NodeNumber}
 use Rattle.node_files.specs.declared.node_number.NodeNumber.TheVariants.{Promised, Writer, Committed}
 use Rattle.segment_file.specs.Names.{Kind, InProgress, Final, Record, UnderWay, Fresh, name_of}
-use Rattle.segment_file.specs.Kinds.{IsNamed, IsTold}
+use Rattle.segment_opening.specs.Kinds.{IsNamed, IsTold}
 use Rattle.image_store.specs.Names as image
 use Rattle.fsck_tool.specs.declared.finding.Finding.{Finding}
 use Rattle.fsck_tool.specs.declared.rule.Rule.TheVariants as rule

@@ -7,8 +7,8 @@ use Rattle.node_files.specs.Durable.{number_name}
 use Rattle.node_files.specs.declared.node_number.NodeNumber.{NodeNumber}
 use Rattle.node_files.specs.declared.node_number.NodeNumber.TheVariants.{Promised, Writer, Committed}
 use Rattle.segment_file.specs.Names.{Kind, InProgress, Final, Record, UnderWay, Fresh, FreshRecord, name_of}
-use Rattle.segment_file.specs.Kinds.{IsNamed, IsTold}
-use Rattle.segment_file.proofs.MendLemmas.{one_start, one_kind}
+use Rattle.segment_opening.specs.Kinds.{IsNamed, IsTold}
+use Rattle.segment_opening.proofs.MendLemmas.{one_start, one_kind}
 use Rattle.image_store.specs.Names as image
 use Rattle.image_store.proofs.NameLaws.{parts_apart, same_txid}
 use Rattle.fsck_tool.specs.declared.file_role.FileRole.{FileRole}

@@ -6,7 +6,7 @@ use Rattle.small_files.specs.Records.{IsNumber}
 use Rattle.journal_core.specs.Views.{BatchView}
 use Rattle.batch_frame.specs.Frames.{frame_bytes, broken_rule}
 use Rattle.segment_file.specs.Names.{name_of, Final}
-use Rattle.segment_file.specs.Kinds.{IsNamed}
+use Rattle.segment_opening.specs.Kinds.{IsNamed}
 use Rattle.fsck_tool.specs.Segments.{TellsSegment}
 use Rattle.fsck_tool.specs.Examples.{two, segment_file, clean_name, other_name}
 

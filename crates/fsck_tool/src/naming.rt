@@ -3,7 +3,7 @@ ghost use Rattle.std.specs.Prelude.{◌≡◌, ◌≢◌, ◌≤◌, ◌^◌, �
 ghost use Rattle.qj_num.specs.Padded.{padded};
 ghost use Rattle.node_files.specs.Durable.{number_name};
 ghost use Rattle.node_files.specs.declared.node_number.NodeNumber.{NodeNumber};
-ghost use Rattle.segment_file.specs.Kinds.{IsNamed, IsTold, kind_told};
+ghost use Rattle.segment_opening.specs.Kinds.{IsNamed, IsTold, kind_told};
 ghost use Rattle.segment_file.specs.Names.{Kind};
 ghost use Rattle.image_store.specs.Lists.{IsNamed as IsImageName};
 ghost use Rattle.fsck_tool.specs.Roles.{HasRole, IsKnownAs};
@@ -13,7 +13,7 @@ use crate::file_role::FileRole;
 use image_store::txid_of;
 use node_files::NodeNumber;
 use qj_num::read19;
-use segment_file::{FileKind, file_named};
+use segment_opening::{FileKind, file_named};
 
 // Whether the name is that of the file of this number.
 fn is_of_number(name: &[u8], number: NodeNumber) -> bool

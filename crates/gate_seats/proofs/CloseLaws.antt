@@ -3,7 +3,7 @@ use Rattle.std.proofs.Common.{◌≡◌, ℕ, zero, suc, ◌+◌, ◌<◌, List,
 use Rattle.std.proofs.lemmas.List.{length-map, map-append, get_or_default}
 use Rattle.std.proofs.Math.ListN.{get_or-map}
 use Rattle.atomic_table.specs.Seated.{TableId}
-use Rattle.node_world.specs.declared.history_line.HistoryLine.{HistoryLine}
+use Rattle.node_history.specs.declared.history_line.HistoryLine.{HistoryLine}
 use Rattle.node_gate.specs.Board.{AllAt}
 use Rattle.node_gate.proofs.Histories.{all_push, at_less}
 use Rattle.gate_seats.specs.Seated.{Seat}

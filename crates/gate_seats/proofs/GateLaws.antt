@@ -1,11 +1,10 @@
 -- Rows dealt to columns; seats before the first call; a gate that is closed.
-use Rattle.std.proofs.Common.{◌≡◌, ℕ, zero, suc, ◌+◌, ◌<◌, ◌≤◌, List, [], ◌∷◌, ◌++◌, length, map, refl, sym, ap, ◌∙◌, set, get_or, arith, replicate}
-use Rattle.std.proofs.Common.{◌⊎◌, inl, inr, Bool, true, false, cond, filter, ◌==◌, append-nil, append_assoc}
+use Rattle.std.proofs.Common.{◌≡◌, ℕ, zero, suc, ◌+◌, ◌<◌, ◌≤◌, List, [], ◌∷◌, ◌++◌, length, map, refl, sym, ap, ◌∙◌, set, get_or, arith, replicate, ◌⊎◌, inl, inr, Bool, true, false, cond, filter, ◌==◌, append-nil, append_assoc}
 use Rattle.std.proofs.lemmas.List.{length-map, length-replicate, map-set, map-append, get_or_default}
 use mathlib.Core.Option.{some}
 use lib.ListN.{get_elem?}
 use Rattle.atomic_table.specs.Seated.{TableId}
-use Rattle.node_world.specs.declared.history_line.HistoryLine.{HistoryLine}
+use Rattle.node_history.specs.declared.history_line.HistoryLine.{HistoryLine}
 use Rattle.mesh.specs.Matches.{lines_of, CallersWithin}
 use Rattle.mesh.proofs.Lists.{cond_true, same_test}
 use Rattle.node_gate.specs.Board.{Begins, places_of}
@@ -15,7 +14,7 @@ use Rattle.gate_seats.proofs.SeatLaws.{not_acted}
 use Rattle.gate_seats.specs.Seated.{Seat, seat_of}
 use Rattle.std.proofs.Math.ListN.{get_or-map}
 use Rattle.gate_seats.specs.Gates.{zip_snoc, dealt, fresh_seat, fresh_row, fresh_columns, row_at, AreOf}
-use Rattle.node_world.proofs.WorldRuns.{get_replicate}
+use Rattle.run_safety.proofs.Slots.{get_replicate}
 
 pub zip_none : {A : Type 0} (cs : List (List A)) → zip_snoc cs [] ≡ cs
 zip_none [] = refl

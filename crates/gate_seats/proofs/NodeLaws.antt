@@ -2,13 +2,13 @@
 use Rattle.std.proofs.Common.{◌≡◌, ℕ, [], Bool, true, false, cond, refl, sym, ap, ◌∙◌, subst}
 use Rattle.std.specs.Prelude.{Option, Some, None, ◌-◌, nat_lt}
 use Rattle.journal_core.specs.declared.request.Request.{Request}
-use Rattle.node_world.specs.declared.node_ask.NodeAsk.{NodeAsk}
-use Rattle.node_world.specs.declared.node_ask.NodeAsk.TheVariants.{Act, Kill, Restart, Arm}
-use Rattle.node_world.specs.declared.node_ask.NodeAnswer.{NodeAnswer}
-use Rattle.node_world.specs.declared.history_line.HistoryLine.{HistoryLine}
-use Rattle.node_world.specs.declared.arming.Arming.{Arming}
-use Rattle.node_world.specs.Cell.{Cell, Taken, fresh_cell, cell_takes, requested, counted, replies, stops, kept_by, killed, started_again, armed, IsLocalRun, cell_after}
-use Rattle.node_world.specs.NodeCells.{CellView, IsTaken, AnswerFits}
+use Rattle.node_history.specs.declared.node_ask.NodeAsk.{NodeAsk}
+use Rattle.node_history.specs.declared.node_ask.NodeAsk.TheVariants.{Act, Kill, Restart, Arm}
+use Rattle.node_history.specs.declared.node_ask.NodeAnswer.{NodeAnswer}
+use Rattle.node_history.specs.declared.history_line.HistoryLine.{HistoryLine}
+use Rattle.node_history.specs.declared.arming.Arming.{Arming}
+use Rattle.node_history.specs.Cell.{Cell, Taken, fresh_cell, cell_takes, requested, counted, replies, stops, kept_by, killed, started_again, armed, IsLocalRun, cell_after}
+use Rattle.node_history.specs.NodeCells.{CellView, IsTaken, AnswerFits}
 use Rattle.mesh.proofs.Tied.{local_snoc, cell_snoc}
 use Rattle.gate_seats.specs.Entries.{IsReplyOrStop, IsDoneOrIdle, FitsAsk}
 

@@ -10,16 +10,16 @@ use Rattle.atomic_table.specs.Seated.{TableId}
 use Rattle.journal_core.specs.declared.request.Request.{Request}
 use Rattle.node_gate.specs.Board.{Begins, keep_if, places_from, places_of, Adds}
 use Rattle.node_gate.proofs.Histories.{own_place}
-use Rattle.node_world.specs.declared.node_ask.NodeAsk.{NodeAsk}
-use Rattle.node_world.specs.declared.node_ask.NodeAsk.TheVariants.{Act, Kill, Restart, Arm}
-use Rattle.node_world.specs.declared.node_ask.NodeAnswer.{NodeAnswer}
-use Rattle.node_world.specs.declared.node_ask.NodeAnswer.TheVariants.{Replied, Stopped, Done, Idle, NotOpened}
-use Rattle.node_world.specs.declared.history_line.HistoryLine.{HistoryLine}
-use Rattle.node_world.specs.declared.record.Record.{Record}
-use Rattle.node_world.specs.declared.record.Record.TheVariants.{Call, Late, Operator, Outcome}
-use Rattle.node_world.specs.declared.record.Told.{Told}
-use Rattle.node_world.specs.declared.record.Told.TheVariants as told
-use Rattle.node_world.specs.NodeCells.{AnswerFits}
+use Rattle.node_history.specs.declared.node_ask.NodeAsk.{NodeAsk}
+use Rattle.node_history.specs.declared.node_ask.NodeAsk.TheVariants.{Act, Kill, Restart, Arm}
+use Rattle.node_history.specs.declared.node_ask.NodeAnswer.{NodeAnswer}
+use Rattle.node_history.specs.declared.node_ask.NodeAnswer.TheVariants.{Replied, Stopped, Done, Idle, NotOpened}
+use Rattle.node_history.specs.declared.history_line.HistoryLine.{HistoryLine}
+use Rattle.node_history.specs.declared.record.Record.{Record}
+use Rattle.node_history.specs.declared.record.Record.TheVariants.{Call, Late, Operator, Outcome}
+use Rattle.node_history.specs.declared.record.Told.{Told}
+use Rattle.node_history.specs.declared.record.Told.TheVariants as told
+use Rattle.node_history.specs.NodeCells.{AnswerFits}
 use Rattle.mesh.specs.Makers.{IsOperation}
 use Rattle.mesh.specs.Matches.{reaches, reached, lines_of, IsSame, AreSame, StandsFor, done_or_idle}
 use Rattle.mesh.proofs.Lists.{cond_true, same_test, other_test}

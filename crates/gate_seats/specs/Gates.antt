@@ -1,8 +1,8 @@
 -- The gates of all nodes: the seats that they are opened with, and what they leave once all seats are given back.
 use Rattle.std.specs.Prelude.{◌≡◌, ℕ, ◌+◌, ◌<◌, zero, suc, List, [], ◌∷◌, ◌++◌, map, length, slice_index_or}
 use Rattle.atomic_table.specs.Seated.{TableId}
-use Rattle.node_world.specs.declared.history_line.HistoryLine.{HistoryLine}
-use Rattle.node_world.specs.Cell.{fresh_cell, IsLocalRun}
+use Rattle.node_history.specs.declared.history_line.HistoryLine.{HistoryLine}
+use Rattle.node_history.specs.Cell.{fresh_cell, IsLocalRun}
 use Rattle.mesh.specs.Matches.{lines_of, CallersWithin}
 use Rattle.gate_seats.specs.Seated.{Seat}
 

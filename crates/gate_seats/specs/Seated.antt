@@ -1,10 +1,10 @@
 -- A caller's seats, one for each node: what each has seen of its own caller is what the record says of that node.
 use Rattle.std.specs.Prelude.{◌≡◌, ℕ, ◌+◌, ◌<◌, true, List, [], ◌∷◌, ◌++◌, map, length, slice_index_or}
 use Rattle.atomic_table.specs.Seated.{TableId}
-use Rattle.node_world.specs.declared.node_ask.NodeAnswer.{NodeAnswer}
-use Rattle.node_world.specs.declared.history_line.HistoryLine.{HistoryLine}
-use Rattle.node_world.specs.declared.record.Record.{Record}
-use Rattle.node_world.specs.declared.record.Told.{Told}
+use Rattle.node_history.specs.declared.node_ask.NodeAnswer.{NodeAnswer}
+use Rattle.node_history.specs.declared.history_line.HistoryLine.{HistoryLine}
+use Rattle.node_history.specs.declared.record.Record.{Record}
+use Rattle.node_history.specs.declared.record.Told.{Told}
 use Rattle.mesh.specs.Matches.{reached, AreSame}
 use Rattle.caller_seats.specs.declared.delivery.Delivery.{Delivery}
 use Rattle.caller_seats.specs.Deliveries.{told_of}

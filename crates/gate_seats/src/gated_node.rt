@@ -1,14 +1,14 @@
 // A node behind a gate.
 ghost use Rattle.std.specs.Prelude.{◌≡◌, [], Some, IfOk};
 ghost use Rattle.journal_core.specs.Step.{fresh_state};
-ghost use Rattle.node_world.specs.Cell.{fresh_cell, IsLocalRun, cell_after};
-ghost use Rattle.node_world.specs.declared.node_ask.NodeAsk.{NodeAsk};
-ghost use Rattle.node_world.specs.declared.node_ask.NodeAnswer.{NodeAnswer};
+ghost use Rattle.node_history.specs.Cell.{fresh_cell, IsLocalRun, cell_after};
+ghost use Rattle.node_history.specs.declared.node_ask.NodeAsk.{NodeAsk};
+ghost use Rattle.node_history.specs.declared.node_ask.NodeAnswer.{NodeAnswer};
 ghost use Rattle.gate_seats.specs.Entries.{entries_of, FitsAsk};
 
 use journal_core::{CutNode, OutOfMemory};
 use node_gate::GateCell;
-use node_world::{HistoryList, NodeAnswer, NodeAsk, NodeCell};
+use node_history::{HistoryList, NodeAnswer, NodeAsk, NodeCell};
 use std::alloc::{AllocError, Global};
 use std::marker::Model;
 
@@ -29,8 +29,8 @@ pub struct GatedNode<N: CutNode> {
 
 impl<N: CutNode> Model for GatedNode<N> {
     ghost use Rattle.std.specs.Prelude.{◌≡◌, true, List};
-    ghost use Rattle.node_world.specs.declared.history_line.HistoryLine.{HistoryLine};
-    ghost use Rattle.node_world.specs.Cell.{fresh_cell, IsLocalRun, cell_after};
+    ghost use Rattle.node_history.specs.declared.history_line.HistoryLine.{HistoryLine};
+    ghost use Rattle.node_history.specs.Cell.{fresh_cell, IsLocalRun, cell_after};
 
     ghost Value = { List HistoryLine };
 

@@ -3,7 +3,7 @@ ghost use Rattle.std.specs.List.{All};
 ghost use Rattle.std.specs.Prelude.{◌≡◌, ◌<◌, ◌+◌, [], ℕ, List, Some, length, map, replicate, slice_index_or, OnOk, IfOk};
 ghost use Rattle.journal_core.specs.Step.{fresh_state};
 ghost use Rattle.node_gate.specs.Board.{AllAt};
-ghost use Rattle.node_world.specs.Cell.{fresh_cell, cell_after, IsLocalRun};
+ghost use Rattle.node_history.specs.Cell.{fresh_cell, cell_after, IsLocalRun};
 ghost use Rattle.mesh.specs.Matches.{lines_of, CallersWithin};
 ghost use Rattle.gate_seats.specs.Entries.{own_lines};
 ghost use Rattle.gate_seats.specs.Seated.{seat_of, Seat};
@@ -12,7 +12,7 @@ ghost use Rattle.gate_seats.specs.Gates.{zip_snoc, dealt, fresh_columns, row_at,
 use crate::gated_node::GatedNode;
 use journal_core::{CutNode, OutOfMemory};
 use node_gate::{Closed, Gate, GateSeat, Keeper};
-use node_world::HistoryList;
+use node_history::HistoryList;
 use std::alloc::Global;
 
 /// Deals a row out: each column gets one more.

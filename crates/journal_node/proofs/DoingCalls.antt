@@ -29,7 +29,7 @@ use Rattle.segment_file.specs.declared.appended.Appended.{Appended}
 use Rattle.segment_file.specs.declared.appended.Appended.TheVariants as appended
 use Rattle.segment_file.specs.Rows.{AreSoundRows}
 use Rattle.segment_file.specs.declared.segment_row.SegmentRow.{SegmentRow}
-use Rattle.segment_file.specs.Opened.{AreStarts}
+use Rattle.segment_file.specs.RowsTell.{AreStarts}
 use Rattle.node_files.specs.Durable.{StandsAs, HoldsState}
 use Rattle.node_files.specs.declared.node_number.NodeNumber.{NodeNumber}
 use Rattle.node_files.specs.declared.node_number.NodeNumber.TheVariants.{Promised, Writer, Committed}

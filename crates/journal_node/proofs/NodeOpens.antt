@@ -8,7 +8,7 @@ use Rattle.journal_core.specs.declared.node_state.NodeState.{NodeState}
 use Rattle.journal_core.specs.Limits.{max_number}
 use Rattle.journal_core.specs.Step.{restarted}
 use Rattle.segment_file.specs.declared.segment_row.SegmentRow.{SegmentRow}
-use Rattle.segment_file.specs.Opened.{AreInfos, AreRowsOf, TellSegments}
+use Rattle.segment_file.specs.RowsTell.{AreInfos, AreRowsOf, TellSegments}
 use Rattle.node_files.specs.declared.node_number.NodeNumber.TheVariants.{Promised, Writer, Committed}
 use Rattle.node_files.specs.declared.files.NodeFiles.{NodeFiles}
 use Rattle.node_files.specs.Durable.{HaveNumbers, HoldsState}

@@ -8,14 +8,12 @@ use Rattle.journal_core.specs.declared.segment.Segment.{Segment}
 use Rattle.journal_core.specs.declared.node_state.NodeState.{NodeState}
 use Rattle.journal_core.specs.Segments.{AreRising, AreAbove}
 use Rattle.segment_file.specs.Effects.{AppendsAt, IsTidy}
-use Rattle.segment_file.specs.Names.{name_of, InProgress}
+use Rattle.segment_file.specs.Names.{name_of, InProgress, FreshRecord}
 use Rattle.segment_file.specs.Rows.{RowsAbove, RowsRise}
 use Rattle.segment_file.specs.declared.segment_row.SegmentRow.{SegmentRow}
-use Rattle.node_files.specs.Durable.{HoldsState}
-use Rattle.segment_file.specs.Opened.{OnlyAccepted, AreStarts, AreInfos}
+use Rattle.node_files.specs.Durable.{HoldsState, number_name}
+use Rattle.segment_file.specs.RowsTell.{OnlyAccepted, AreStarts, AreInfos}
 use Rattle.small_files.specs.Puts.{temporary}
-use Rattle.node_files.specs.Durable.{number_name}
-use Rattle.segment_file.specs.Names.{FreshRecord}
 use Rattle.node_deeds.specs.Told.{Tells}
 use Rattle.journal_node.specs.FileState.{state_of, AreRowStarts}
 use Rattle.journal_node.specs.Held.{IsLeft, OpenedAt}

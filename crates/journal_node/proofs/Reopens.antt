@@ -9,7 +9,7 @@ use Rattle.journal_core.specs.Segments.{find_segment, has_edit, AreAbove, AreRis
 use Rattle.journal_core.specs.Step.{restarted}
 use Rattle.segment_file.specs.Rows.{find_row}
 use Rattle.segment_file.specs.declared.segment_row.SegmentRow.{SegmentRow}
-use Rattle.segment_file.specs.Opened.{AreStarts}
+use Rattle.segment_file.specs.RowsTell.{AreStarts}
 use Rattle.segment_file.specs.Stands.{StandsFor}
 use Rattle.segment_file.proofs.HeldOnce.{found_once, one_list}
 use Rattle.node_files.specs.declared.node_number.NodeNumber.{NodeNumber}

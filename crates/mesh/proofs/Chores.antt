@@ -10,8 +10,8 @@ use Rattle.writer_core.specs.Views.{WriterView}
 use Rattle.writer_core.specs.Writer.{HasBody, is_under_way, writer_begun, next_call, writer_heard}
 use Rattle.writer_core.specs.Left.{IsLive}
 use Rattle.writer_core.proofs.LiveLaws.{someone_called}
-use Rattle.node_world.specs.declared.record.Told.{Told}
-use Rattle.node_world.specs.declared.record.Told.TheVariants as told
+use Rattle.node_history.specs.declared.record.Told.{Told}
+use Rattle.node_history.specs.declared.record.Told.TheVariants as told
 use Rattle.mesh.proofs.Calls.{pair}
 use Rattle.mesh.specs.Makers.{heard_of, Chore, Writes, Tails, Reading, Maker, maker_of, asks, read_on, next_node, read_heard, chore_hears, maker_hears, HaveBodies}
 

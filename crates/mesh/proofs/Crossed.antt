@@ -12,12 +12,12 @@ use Rattle.writer_core.specs.declared.task.Task.TheVariants as task
 use Rattle.writer_core.specs.Best.{best_from, greatest_promise, greatest_newest}
 use Rattle.writer_core.specs.Rounds.{judged, fetched}
 use Rattle.writer_core.specs.Writer.{log_limit, writer_begun, writer_heard}
-use Rattle.node_world.specs.declared.history_line.HistoryLine.{HistoryLine}
-use Rattle.node_world.specs.declared.record.Record.{Record}
-use Rattle.node_world.specs.declared.record.Told.TheVariants as told
-use Rattle.node_world.specs.Cell.{cell_takes, fresh_cell, IsLocalRun}
-use Rattle.node_world.specs.Moving.{Placed, epoch_of, moves, move_of, entry_of, moving_of}
-use Rattle.node_world.proofs.Slots.{true≢false}
+use Rattle.node_history.specs.declared.history_line.HistoryLine.{HistoryLine}
+use Rattle.node_history.specs.declared.record.Record.{Record}
+use Rattle.node_history.specs.declared.record.Told.TheVariants as told
+use Rattle.node_history.specs.Cell.{cell_takes, fresh_cell, IsLocalRun}
+use Rattle.node_history.specs.Moving.{Placed, epoch_of, moves, move_of, entry_of, moving_of}
+use Rattle.run_safety.proofs.Slots.{true≢false}
 use Rattle.mesh.specs.Marks.{IsAsMarked, IsMarked, AreCopied}
 use Rattle.mesh.specs.Makers.{Writes, maker_of, maker_hears, HaveBodies, IsMade, IsOfChores, IsOperators}
 use Rattle.mesh.specs.Matches.{reaches, reached, lines_of, IsSame, AreSame, AreWithin, CallersWithin}

@@ -3,10 +3,10 @@ use Rattle.std.proofs.Common.{◌≡◌, ℕ, zero, suc, ◌+◌, ◌<◌, List,
 use Rattle.std.specs.Prelude.{Option, Some, None, ◌==◌, nat_lt, ◌||◌, ◌&&◌, ◌≢◌, filter_map}
 use Rattle.std.proofs.lemmas.Bool.{le-ltb}
 use Rattle.std.proofs.lemmas.List.Elements.{filter-append}
-use Rattle.node_world.specs.declared.history_line.HistoryLine.{HistoryLine}
-use Rattle.node_world.specs.Cell.{Cell, cell_takes, fresh_cell}
-use Rattle.node_world.specs.Entries.{Entry, Move}
-use Rattle.node_world.specs.Moving.{Placed, move_of, entry_at, entry_of, moving_of, falls}
+use Rattle.node_history.specs.declared.history_line.HistoryLine.{HistoryLine}
+use Rattle.node_history.specs.Cell.{Cell, cell_takes, fresh_cell}
+use Rattle.node_history.specs.Entries.{Entry, Move}
+use Rattle.node_history.specs.Moving.{Placed, move_of, entry_at, entry_of, moving_of, falls}
 use Rattle.mesh.specs.declared.whole.Mesh.{Mesh}
 use Rattle.mesh.specs.Agree.{Agrees, history_at}
 use Rattle.mesh.specs.Order.{Key, Block, Tagged, is_muted, line_of_caller, placed_from, placed_at, key_of, tag_first, tags_of, with_fall, block_of, blocks_cut, front_block, blocks_at, blocks_from, is_below, put_block, sorted, entries_in, epoch_order, entries_at}

@@ -10,25 +10,25 @@ use Rattle.writer_core.specs.declared.task.Task.{Task}
 use Rattle.writer_core.specs.Views.{WriterView}
 use Rattle.writer_core.specs.Writer.{new_writer, HasBody, writer_begun, next_call, writer_heard}
 use Rattle.writer_core.proofs.Plain.{plain_heard}
-use Rattle.node_world.specs.declared.node_ask.NodeAsk.{NodeAsk}
-use Rattle.node_world.specs.declared.node_ask.NodeAsk.TheVariants.{Act}
-use Rattle.node_world.specs.declared.node_ask.NodeAnswer.{NodeAnswer}
-use Rattle.node_world.specs.declared.node_ask.NodeAnswer.TheVariants.{Replied, Stopped, Done, Idle, NotOpened}
-use Rattle.node_world.specs.declared.history_line.HistoryLine.{HistoryLine}
-use Rattle.node_world.specs.declared.record.Record.{Record}
-use Rattle.node_world.specs.declared.record.Record.TheVariants.{Call, Late, Operator, Outcome}
-use Rattle.node_world.specs.declared.record.Told.{Told}
-use Rattle.node_world.specs.declared.record.Told.TheVariants as told
-use Rattle.node_world.specs.declared.mark.Mark.{Mark}
-use Rattle.node_world.specs.Cell.{Cell, fresh_cell, cell_takes, IsLocalRun}
-use Rattle.node_world.specs.Entries.{Heard, Muted, Late as LateWay, Move, Answer, Stop, Entry, Earlier}
-use Rattle.node_world.specs.Moving.{epoch_of, is_refused_at_once, moves, move_of, entry_at, entry_of, falls}
-use Rattle.node_world.proofs.Slots.{true≢false}
-use Rattle.node_world.proofs.Raised.{CellRaised, cell_raised}
-use Rattle.node_world.proofs.Tales.{Tale, place_below}
-use Rattle.node_world.proofs.WriterRange.{new_sized}
-use Rattle.node_world.proofs.Tracked.{free}
-use Rattle.node_world.proofs.CallLeft.{entry, HasEpoch}
+use Rattle.node_history.specs.declared.node_ask.NodeAsk.{NodeAsk}
+use Rattle.node_history.specs.declared.node_ask.NodeAsk.TheVariants.{Act}
+use Rattle.node_history.specs.declared.node_ask.NodeAnswer.{NodeAnswer}
+use Rattle.node_history.specs.declared.node_ask.NodeAnswer.TheVariants.{Replied, Stopped, Done, Idle, NotOpened}
+use Rattle.node_history.specs.declared.history_line.HistoryLine.{HistoryLine}
+use Rattle.node_history.specs.declared.record.Record.{Record}
+use Rattle.node_history.specs.declared.record.Record.TheVariants.{Call, Late, Operator, Outcome}
+use Rattle.node_history.specs.declared.record.Told.{Told}
+use Rattle.node_history.specs.declared.record.Told.TheVariants as told
+use Rattle.node_history.specs.declared.mark.Mark.{Mark}
+use Rattle.node_history.specs.Cell.{Cell, fresh_cell, cell_takes, IsLocalRun}
+use Rattle.node_history.specs.Entries.{Heard, Muted, Late as LateWay, Move, Answer, Stop, Entry, Earlier}
+use Rattle.node_history.specs.Moving.{epoch_of, is_refused_at_once, moves, move_of, entry_at, entry_of, falls}
+use Rattle.run_safety.proofs.Slots.{true≢false}
+use Rattle.node_history.proofs.Raised.{CellRaised, cell_raised}
+use Rattle.run_safety.proofs.Tales.{Tale, place_below}
+use Rattle.run_safety.proofs.WriterRange.{new_sized}
+use Rattle.run_safety.proofs.Tracked.{free}
+use Rattle.run_safety.proofs.CallLeft.{entry, HasEpoch, CallLeft, nothing, unheard, answered, enters_answer, enters_muted, enters_late, enters_stop, CopyLeft, no_entry, an_entry}
 use Rattle.mesh.specs.declared.whole.Mesh.{Mesh}
 use Rattle.mesh.specs.Marks.{calls_to, IsMarked}
 use Rattle.mesh.specs.Makers.{Maker, heard_of, maker_of, asks, maker_hears, IsMade}
@@ -38,10 +38,8 @@ use Rattle.mesh.specs.Order.{was_muted}
 use Rattle.mesh.proofs.Lists.{same_test}
 use Rattle.mesh.proofs.Shared.{In}
 use Rattle.mesh.proofs.OneOwner.{lines_out}
-use Rattle.node_world.proofs.Fair.{IsTold}
-use Rattle.node_world.proofs.CallLeft.{CallLeft, nothing, unheard, answered, enters_answer, enters_muted, enters_late, enters_stop}
+use Rattle.run_safety.proofs.Fair.{IsTold}
 use Rattle.mesh.proofs.Signs.{Sign, entries, sign_onto, entry_by, line_for, noted_at, diary, all_signs}
-use Rattle.node_world.proofs.WorldEntries.{CopyLeft, no_entry, an_entry}
 use Rattle.mesh.proofs.FairActs.{Standing, call_stands, read_stands, task_stands, other_stands, copy_stands}
 use Rattle.mesh.proofs.Chores.{Stands, maker_stands, hears_stands}
 

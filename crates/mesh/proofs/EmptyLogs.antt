@@ -7,14 +7,14 @@ use Rattle.journal_core.specs.Limits.{limit_of}
 use Rattle.journal_core.specs.Effects.{after_effects}
 use Rattle.journal_core.specs.Step.{node_step, effects_of}
 use Rattle.journal_core.specs.Cuts.{standing}
-use Rattle.node_world.specs.Cell.{cell_takes}
-use Rattle.node_world.specs.Entries.{Entry}
-use Rattle.node_world.specs.Moving.{epoch_of, moves, move_of, entry_of, moving_of}
-use Rattle.node_world.specs.Run.{Story, IsMade, IsRun, takeover_at}
-use Rattle.node_world.proofs.SeenLaws.{Round, Propose, Ask, Get, Recover, Seal, Open, Write, Clean, Other, Writer, seen, asked}
-use Rattle.node_world.proofs.Sent.{made_asks}
-use Rattle.node_world.proofs.Frames.{Framed, Sound}
-use Rattle.node_world.proofs.Table.{sound_at}
+use Rattle.node_history.specs.Cell.{cell_takes}
+use Rattle.node_history.specs.Entries.{Entry}
+use Rattle.node_history.specs.Moving.{epoch_of, moves, move_of, entry_of, moving_of}
+use Rattle.run_safety.specs.Run.{Story, IsMade, IsRun, takeover_at}
+use Rattle.run_safety.proofs.SeenLaws.{Round, Propose, Ask, Get, Recover, Seal, Open, Write, Clean, Other, Writer, seen, asked}
+use Rattle.run_safety.proofs.Sent.{made_asks}
+use Rattle.run_safety.proofs.Frames.{Framed, Sound}
+use Rattle.run_safety.proofs.Table.{sound_at}
 use Rattle.mesh.specs.Matches.{reaches, reached, lines_of}
 use Rattle.mesh.specs.Agree.{Agrees}
 use Rattle.mesh.specs.Owners.{wins, owns}

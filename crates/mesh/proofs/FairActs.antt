@@ -7,22 +7,21 @@ use Rattle.writer_core.specs.declared.task.Task.{Task}
 use Rattle.writer_core.specs.Views.{WriterView}
 use Rattle.writer_core.specs.Writer.{next_call, writer_heard, HasBody}
 use Rattle.writer_core.proofs.WholeRounds.{IsCalling, calling_in}
-use Rattle.node_world.specs.declared.record.Record.{Record}
-use Rattle.node_world.specs.declared.record.Record.TheVariants.{Call, Late, Operator, Outcome}
-use Rattle.node_world.specs.declared.record.Told.{Told}
-use Rattle.node_world.specs.Entries.{Entry}
-use Rattle.node_world.proofs.Tales.{Tale}
-use Rattle.node_world.proofs.TaleSteps.{Continues, made_later}
-use Rattle.node_world.proofs.WorldEntries.{CopyLeft}
-use Rattle.node_world.proofs.WorldActs.{IsMadeBy, call_own, heard_status, Stays, copy_stays, read_stays}
-use Rattle.node_world.proofs.WriterRange.{Sized, heard_sized, begun_sized}
-use Rattle.node_world.proofs.Tracked.{Status}
-use Rattle.node_world.proofs.CallLeft.{HasEpoch, CallLeft}
+use Rattle.node_history.specs.declared.record.Record.{Record}
+use Rattle.node_history.specs.declared.record.Record.TheVariants.{Call, Late, Operator, Outcome}
+use Rattle.node_history.specs.declared.record.Told.{Told}
+use Rattle.node_history.specs.Entries.{Entry}
+use Rattle.run_safety.proofs.Tales.{Tale}
+use Rattle.run_safety.proofs.TaleSteps.{Continues, made_later}
+use Rattle.run_safety.proofs.CallLeft.{CopyLeft, HasEpoch, CallLeft}
+use Rattle.run_safety.proofs.WorldActs.{IsMadeBy, call_own, heard_status, Stays, copy_stays, read_stays}
+use Rattle.run_safety.proofs.WriterRange.{Sized, heard_sized, begun_sized}
+use Rattle.run_safety.proofs.Tracked.{Status}
 use Rattle.mesh.specs.Marks.{calls_to}
 use Rattle.mesh.specs.Makers.{heard_of}
-use Rattle.node_world.proofs.Fair.{IsTold}
-use Rattle.node_world.proofs.RoundCalls.{Gives}
-use Rattle.node_world.proofs.TaskBegins.{its_begin, task_status}
+use Rattle.run_safety.proofs.Fair.{IsTold}
+use Rattle.run_safety.proofs.RoundCalls.{Gives}
+use Rattle.run_safety.proofs.TaskBegins.{its_begin, task_status}
 use Rattle.mesh.proofs.Lists.{Alike, alike, append_none}
 
 -- ## The calls that the caller made so far: each was made in a round of one of its takeovers

@@ -4,14 +4,14 @@ use Rattle.std.specs.Prelude.{Option, Some, None, ◌==◌, nat_lt, ◌&&◌, �
 use Rattle.std.proofs.lemmas.Bool.{le-ltb, cases_Bool}
 use Rattle.std.proofs.lemmas.List.Elements.{filter-append}
 use Rattle.journal_core.specs.declared.request.Request.{Request}
-use Rattle.node_world.specs.declared.node_ask.NodeAsk.TheVariants.{Act}
-use Rattle.node_world.specs.declared.history_line.HistoryLine.{HistoryLine}
-use Rattle.node_world.specs.declared.record.Record.{Record}
-use Rattle.node_world.specs.Cell.{Cell, cell_takes, fresh_cell, IsLocalRun}
-use Rattle.node_world.specs.Entries.{Move, Entry}
-use Rattle.node_world.specs.Moving.{is_proposal, move_of, entry_at, entry_of, falls}
-use Rattle.node_world.proofs.Raised.{Raised, CellRaised, cell_raised}
-use Rattle.node_world.proofs.CellLaws.{promise}
+use Rattle.node_history.specs.declared.node_ask.NodeAsk.TheVariants.{Act}
+use Rattle.node_history.specs.declared.history_line.HistoryLine.{HistoryLine}
+use Rattle.node_history.specs.declared.record.Record.{Record}
+use Rattle.node_history.specs.Cell.{Cell, cell_takes, fresh_cell, IsLocalRun}
+use Rattle.node_history.specs.Entries.{Move, Entry}
+use Rattle.node_history.specs.Moving.{is_proposal, move_of, entry_at, entry_of, falls}
+use Rattle.node_history.proofs.Raised.{Raised, CellRaised, cell_raised}
+use Rattle.node_history.proofs.CellLaws.{promise}
 use Rattle.mesh.specs.declared.whole.Mesh.{Mesh}
 use Rattle.mesh.specs.Matches.{reaches, reached, lines_of, AreSame, CallersWithin}
 use Rattle.mesh.specs.Agree.{Agrees, operator_of, history_at, record_of}

@@ -5,19 +5,19 @@ use Rattle.std.proofs.lemmas.Bool.{ltb-true}
 use Rattle.journal_core.specs.declared.request.Request.{Request}
 use Rattle.journal_core.specs.declared.request.Request.TheVariants as request
 use Rattle.journal_core.specs.declared.reply.Reply.TheVariants as reply
-use Rattle.node_world.specs.declared.node_ask.NodeAsk.TheVariants.{Act}
-use Rattle.node_world.specs.declared.node_ask.NodeAnswer.TheVariants.{Replied}
-use Rattle.node_world.specs.declared.history_line.HistoryLine.{HistoryLine}
-use Rattle.node_world.specs.declared.record.Record.{Record}
-use Rattle.node_world.specs.declared.record.Record.TheVariants.{Call, Late, Operator, Outcome}
-use Rattle.node_world.specs.declared.record.Told.{Told}
-use Rattle.node_world.specs.declared.record.Told.TheVariants as told
-use Rattle.node_world.specs.Cell.{Cell, cell_takes, fresh_cell, IsLocalRun}
-use Rattle.node_world.specs.Entries as entry
-use Rattle.node_world.specs.Entries.{Move}
-use Rattle.node_world.specs.Moving.{epoch_of, moves, move_of, falls, way_of}
-use Rattle.node_world.proofs.Raised.{Raised, CellRaised, cell_raised}
-use Rattle.node_world.proofs.CellLaws.{promise}
+use Rattle.node_history.specs.declared.node_ask.NodeAsk.TheVariants.{Act}
+use Rattle.node_history.specs.declared.node_ask.NodeAnswer.TheVariants.{Replied}
+use Rattle.node_history.specs.declared.history_line.HistoryLine.{HistoryLine}
+use Rattle.node_history.specs.declared.record.Record.{Record}
+use Rattle.node_history.specs.declared.record.Record.TheVariants.{Call, Late, Operator, Outcome}
+use Rattle.node_history.specs.declared.record.Told.{Told}
+use Rattle.node_history.specs.declared.record.Told.TheVariants as told
+use Rattle.node_history.specs.Cell.{Cell, cell_takes, fresh_cell, IsLocalRun}
+use Rattle.node_history.specs.Entries as entry
+use Rattle.node_history.specs.Entries.{Move}
+use Rattle.node_history.specs.Moving.{epoch_of, moves, move_of, falls, way_of}
+use Rattle.node_history.proofs.Raised.{Raised, CellRaised, cell_raised}
+use Rattle.node_history.proofs.CellLaws.{promise}
 use Rattle.mesh.specs.declared.whole.Mesh.{Mesh}
 use Rattle.mesh.specs.Makers.{IsOperators}
 use Rattle.mesh.specs.Matches.{reaches, reached, lines_of, IsSame, AreSame, AreWithin}

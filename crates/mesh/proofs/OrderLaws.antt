@@ -4,14 +4,14 @@ use Rattle.std.specs.Prelude.{nat_lt, ◌&&◌}
 use Rattle.std.proofs.lemmas.List.{reverse-append}
 use Rattle.std.proofs.lemmas.Bool.{lt-ltb, le-ltb, ltb-true, cases_Bool}
 use Rattle.journal_core.specs.declared.request.Request.{Request}
-use Rattle.node_world.specs.declared.node_ask.NodeAsk.{NodeAsk}
-use Rattle.node_world.specs.declared.node_ask.NodeAsk.TheVariants.{Act}
-use Rattle.node_world.specs.declared.history_line.HistoryLine.{HistoryLine}
-use Rattle.node_world.specs.Cell.{Cell, cell_takes, fresh_cell, IsLocalRun}
-use Rattle.node_world.specs.Entries.{Entry}
-use Rattle.node_world.specs.Moving.{epoch_of, is_proposal, move_of, falls}
-use Rattle.node_world.proofs.Raised.{CellRaised, cell_raised}
-use Rattle.node_world.proofs.CellLaws.{promise}
+use Rattle.node_history.specs.declared.node_ask.NodeAsk.{NodeAsk}
+use Rattle.node_history.specs.declared.node_ask.NodeAsk.TheVariants.{Act}
+use Rattle.node_history.specs.declared.history_line.HistoryLine.{HistoryLine}
+use Rattle.node_history.specs.Cell.{Cell, cell_takes, fresh_cell, IsLocalRun}
+use Rattle.node_history.specs.Entries.{Entry}
+use Rattle.node_history.specs.Moving.{epoch_of, is_proposal, move_of, falls}
+use Rattle.node_history.proofs.Raised.{CellRaised, cell_raised}
+use Rattle.node_history.proofs.CellLaws.{promise}
 use Rattle.mesh.specs.declared.whole.Mesh.{Mesh}
 use Rattle.mesh.specs.Matches.{reached, lines_of}
 use Rattle.mesh.specs.Agree.{Agrees, operator_of, history_at, record_of}

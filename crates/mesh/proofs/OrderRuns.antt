@@ -1,18 +1,18 @@
 -- The epoch order of a mesh that agrees is a run, and so a safe one; so is any order that keeps what stands in order.
 use Rattle.std.proofs.Common.{◌≡◌, ℕ, ◌+◌, ◌<◌, ◌≤◌, ◌⊎◌, inl, inr, List, [], ◌∷◌, false, reverse, refl, sym, ap, ◌∙◌, subst, arith}
-use Rattle.node_world.specs.Entries.{node_after}
-use Rattle.node_world.specs.Run.{Story, IsRun}
-use Rattle.node_world.specs.Safe.{IsSafe}
-use Rattle.node_world.specs.Moving.{moving_of, falls}
-use Rattle.node_world.proofs.Safety.{run_safe}
-use Rattle.node_world.proofs.Tales.{Tale}
+use Rattle.node_history.specs.Entries.{node_after}
+use Rattle.run_safety.specs.Run.{Story, IsRun}
+use Rattle.run_safety.specs.Safe.{IsSafe}
+use Rattle.node_history.specs.Moving.{moving_of, falls}
+use Rattle.run_safety.proofs.Safety.{run_safe}
+use Rattle.run_safety.proofs.Tales.{Tale}
 use Rattle.mesh.specs.declared.whole.Mesh.{Mesh}
 use Rattle.mesh.specs.Agree.{Agrees, operator_of}
 use Rattle.mesh.specs.Order.{placed_at, epoch_order, entries_at}
 use Rattle.mesh.proofs.Lists.{append_none}
 use Rattle.mesh.proofs.Shared.{In}
 use Rattle.mesh.proofs.Cutting.{order_at_nodes}
-use Rattle.node_world.proofs.Fair.{Fairs, IsTold, Sounds, follows_of}
+use Rattle.run_safety.proofs.Fair.{Fairs, IsTold, Sounds, follows_of}
 use Rattle.mesh.proofs.Signs.{Sign, entries, all_signs}
 use Rattle.mesh.proofs.Rearranged.{Keeps, rearranged, fairs_rearranged}
 use Rattle.mesh.proofs.Noting.{signs_fall}

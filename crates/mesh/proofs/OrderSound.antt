@@ -2,16 +2,16 @@
 use Rattle.std.proofs.Common.{◌≡◌, ◌≢◌, ℕ, ◌+◌, ◌-◌, ◌<◌, ◌≤◌, ◌==◌, inl, inr, List, [], ◌∷◌, ◌++◌, Bool, refl, sym, ap, ◌∙◌, subst, arith, Option, Some, None}
 use Rattle.std.specs.Prelude.{filter_map}
 use Rattle.journal_core.specs.declared.node_state.NodeState.{NodeState}
-use Rattle.node_world.specs.declared.history_line.HistoryLine.{HistoryLine}
-use Rattle.node_world.specs.Cell.{Cell, cell_takes, fresh_cell, IsLocalRun}
-use Rattle.node_world.specs.Entries.{Move, Entry, moved, node_after}
-use Rattle.node_world.specs.Moving.{Placed, move_of, entry_at, entry_of, moving_of}
-use Rattle.node_world.proofs.Entering.{Did, still, gone, line_did}
+use Rattle.node_history.specs.declared.history_line.HistoryLine.{HistoryLine}
+use Rattle.node_history.specs.Cell.{Cell, cell_takes, fresh_cell, IsLocalRun}
+use Rattle.node_history.specs.Entries.{Move, Entry, moved, node_after}
+use Rattle.node_history.specs.Moving.{Placed, move_of, entry_at, entry_of, moving_of}
+use Rattle.run_safety.proofs.Entering.{Did, still, gone, line_did}
 use Rattle.mesh.specs.declared.whole.Mesh.{Mesh}
 use Rattle.mesh.specs.Agree.{Agrees, history_at}
 use Rattle.mesh.specs.Order.{is_muted, line_of_caller, placed_from, placed_at, entries_at}
 use Rattle.mesh.proofs.Lists.{Alike, alike, same_test, cond_true, cond_false}
-use Rattle.node_world.proofs.Fair.{IsDue, IsSoundEntry, Sounds}
+use Rattle.run_safety.proofs.Fair.{IsDue, IsSoundEntry, Sounds}
 use Rattle.mesh.proofs.OrderLaws.{back_onto}
 
 -- ## One node: from this state on

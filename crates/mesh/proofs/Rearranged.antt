@@ -5,15 +5,15 @@ use Rattle.std.specs.List.{list_all}
 use Rattle.journal_core.specs.declared.request.Request.{Request}
 use Rattle.journal_core.specs.declared.reply.Reply.{Reply}
 use Rattle.writer_core.specs.Whole.{Takeover, writer_at}
-use Rattle.node_world.specs.Entries.{Way, Heard, Muted, Late, Move, Answer, Stop, Kill, Restart, Entry}
-use Rattle.node_world.specs.Run.{Story, takeover_at, WasHeard, may_follow, IsMade, IsInTurn, IsInOrder, IsHeardAs, IsCall}
-use Rattle.node_world.specs.Moving.{epoch_of, is_proposal, falls}
-use Rattle.node_world.proofs.SeenLaws.{Round, Propose, Ask, Get, Recover, Seal, Open, Write, Clean, Other, seen, asked}
-use Rattle.node_world.proofs.Sent.{made_at, made_asks}
-use Rattle.node_world.proofs.Before.{proposal_first}
+use Rattle.node_history.specs.Entries.{Way, Heard, Muted, Late, Move, Answer, Stop, Kill, Restart, Entry}
+use Rattle.run_safety.specs.Run.{Story, takeover_at, WasHeard, may_follow, IsMade, IsInTurn, IsInOrder, IsHeardAs, IsCall}
+use Rattle.node_history.specs.Moving.{epoch_of, is_proposal, falls}
+use Rattle.run_safety.proofs.SeenLaws.{Round, Propose, Ask, Get, Recover, Seal, Open, Write, Clean, Other, seen, asked}
+use Rattle.run_safety.proofs.Sent.{made_at, made_asks}
+use Rattle.run_safety.proofs.Before.{proposal_first}
 use Rattle.mesh.proofs.Lists.{same_test, other_test}
 use Rattle.mesh.proofs.Shared.{In}
-use Rattle.node_world.proofs.Fair.{IsFair, IsFairEntry, Fairs}
+use Rattle.run_safety.proofs.Fair.{IsFair, IsFairEntry, Fairs}
 use Rattle.mesh.proofs.Signs.{Sign, entries}
 use Rattle.mesh.proofs.SignLists.{Older, here, there, older_trans, older_in, in_older, in_earlier, older_tail, older_length, older_entries, SignOf, sign_of, apart, IsUnder, Falling, all_under_in, falling_at, rank, rank_at, requests, caller_of, Signed}
 

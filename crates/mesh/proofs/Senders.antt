@@ -20,14 +20,14 @@ use Rattle.writer_core.specs.Rounds.{request_in}
 use Rattle.writer_core.specs.Writer.{new_writer, Began, HasBody, writer_begun, log_begins, log_limit, is_writing, is_under_way, if_writing, next_call, node_in, writer_heard, with_answer}
 use Rattle.writer_core.specs.Left.{IsLive}
 use Rattle.writer_core.proofs.LiveLaws.{heard_live, begun_live, new_live}
-use Rattle.node_world.specs.declared.record.Record.{Record}
-use Rattle.node_world.specs.declared.record.Record.TheVariants.{Call, Late, Operator, Outcome}
-use Rattle.node_world.specs.declared.record.Told.{Told as TellsOf}
-use Rattle.node_world.specs.Moving.{epoch_of, is_proposal}
+use Rattle.node_history.specs.declared.record.Record.{Record}
+use Rattle.node_history.specs.declared.record.Record.TheVariants.{Call, Late, Operator, Outcome}
+use Rattle.node_history.specs.declared.record.Told.{Told as TellsOf}
+use Rattle.node_history.specs.Moving.{epoch_of, is_proposal}
 use Rattle.mesh.specs.Makers.{heard_of, Maker, maker_of, maker_hears, IsMade, IsOfChores}
 use Rattle.mesh.specs.Owners.{proposes, promised_to, wins}
 use Rattle.mesh.proofs.Lists.{same_test}
-use Rattle.node_world.proofs.WriterRange.{Sized, heard_sized, begun_sized, new_sized}
+use Rattle.run_safety.proofs.WriterRange.{Sized, heard_sized, begun_sized, new_sized}
 use Rattle.mesh.proofs.WriterNext.{IsLater, IsLaterRound, IsDone, Next, Stays, Proposes, Stops, Goes, next_of}
 use Rattle.mesh.proofs.Calls.{CallAt, call_at, Waiter, waiter, none_count, count_set}
 use Rattle.mesh.proofs.Chores.{Asked, Writing, Reads, asked_of, at_rest, Stands, maker_stands, hears_stands}

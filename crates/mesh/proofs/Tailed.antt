@@ -10,8 +10,8 @@ use Rattle.writer_core.specs.declared.task.Task.TheVariants as task
 use Rattle.writer_core.specs.Best.{best_from, greatest_promise, greatest_newest}
 use Rattle.writer_core.specs.Rounds.{judged, fetched}
 use Rattle.writer_core.specs.Writer.{log_limit, writer_begun, writer_heard}
-use Rattle.node_world.specs.Cell.{cell_takes, fresh_cell, IsLocalRun}
-use Rattle.node_world.specs.Moving.{epoch_of, moves, move_of, entry_of, moving_of}
+use Rattle.node_history.specs.Cell.{cell_takes, fresh_cell, IsLocalRun}
+use Rattle.node_history.specs.Moving.{epoch_of, moves, move_of, entry_of, moving_of}
 use Rattle.mesh.specs.Marks.{IsMarked, AreCopied}
 use Rattle.mesh.specs.Makers.{Writes, Tails, maker_of, maker_hears, HaveBodies, IsMade, IsOfChores, IsOperators}
 use Rattle.mesh.specs.Matches.{reaches, reached, lines_of, IsSame, AreSame, AreWithin, CallersWithin}

@@ -1,10 +1,10 @@
 -- A caller's record and a node's history, when either or both get one line more.
 use Rattle.std.proofs.Common.{◌≡◌, ℕ, ◌≤◌, List, [], ◌∷◌, ◌++◌, Bool, true, false, cond, filter, map, Contains, refl, sym, ap, ◌∙◌, subst, inl, inr}
 use Rattle.std.specs.Prelude.{◌≢◌, ◌==◌}
-use Rattle.node_world.specs.declared.history_line.HistoryLine.{HistoryLine}
-use Rattle.node_world.specs.declared.record.Record.{Record}
-use Rattle.node_world.specs.Cell.{Cell, cell_takes, IsLocalRun, cell_after}
-use Rattle.node_world.specs.Moving.{Placed}
+use Rattle.node_history.specs.declared.history_line.HistoryLine.{HistoryLine}
+use Rattle.node_history.specs.declared.record.Record.{Record}
+use Rattle.node_history.specs.Cell.{Cell, cell_takes, IsLocalRun, cell_after}
+use Rattle.node_history.specs.Moving.{Placed}
 use Rattle.mesh.specs.Matches.{reaches, reached, lines_of, IsSame, AreSame, CallersWithin}
 use Rattle.mesh.specs.Traces.{history_of}
 use Rattle.mesh.proofs.Lists.{filter_snoc, cond_true, cond_false, Alike, alike, same_test, other_test, contains_head, contains_tail}

@@ -1,11 +1,11 @@
 -- Where one order of all lines fits all lists of a mesh that agrees, its moving entries are a run.
 use Rattle.std.proofs.Common.{◌≡◌, ℕ, ◌+◌, ◌-◌, ◌<◌, ◌≤◌, ◌==◌, inl, inr, List, [], ◌∷◌, ◌++◌, Bool, true, false, cond, filter, map, Contains, length, refl, sym, ap, ◌∙◌, subst, arith, append_assoc, length-append, Option, Some, None}
 use Rattle.std.specs.Prelude.{filter_map, ◌≢◌}
-use Rattle.node_world.specs.declared.history_line.HistoryLine.{HistoryLine}
-use Rattle.node_world.specs.Entries.{Entry}
-use Rattle.node_world.specs.Moving.{Placed, entry_at, entry_of, move_of, moving_of, falls}
-use Rattle.node_world.specs.Run.{IsRun}
-use Rattle.node_world.proofs.Slots.{true≢false}
+use Rattle.node_history.specs.declared.history_line.HistoryLine.{HistoryLine}
+use Rattle.node_history.specs.Entries.{Entry}
+use Rattle.node_history.specs.Moving.{Placed, entry_at, entry_of, move_of, moving_of, falls}
+use Rattle.run_safety.specs.Run.{IsRun}
+use Rattle.run_safety.proofs.Slots.{true≢false}
 use Rattle.mesh.specs.declared.whole.Mesh.{Mesh}
 use Rattle.mesh.specs.Matches.{reached, lines_of}
 use Rattle.mesh.specs.Agree.{Agrees, operator_of, history_at, record_of}

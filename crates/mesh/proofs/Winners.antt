@@ -19,13 +19,13 @@ use Rattle.writer_core.specs.Rounds.{request_in}
 use Rattle.writer_core.specs.Writer.{new_writer, Began, HasBody, writer_begun, log_begins, log_limit, is_writing, is_under_way, if_writing, next_call, node_in, writer_heard, with_answer}
 use Rattle.writer_core.specs.Left.{IsLive}
 use Rattle.writer_core.proofs.LiveLaws.{heard_live, begun_live, new_live}
-use Rattle.node_world.specs.declared.record.Record.{Record}
-use Rattle.node_world.specs.declared.record.Record.TheVariants.{Call, Late, Operator, Outcome}
-use Rattle.node_world.specs.declared.record.Told.{Told as TellsOf}
+use Rattle.node_history.specs.declared.record.Record.{Record}
+use Rattle.node_history.specs.declared.record.Record.TheVariants.{Call, Late, Operator, Outcome}
+use Rattle.node_history.specs.declared.record.Told.{Told as TellsOf}
 use Rattle.mesh.specs.Makers.{heard_of, Maker, maker_of, asks, maker_hears, IsMade, IsOfChores}
 use Rattle.mesh.specs.Owners.{proposes, promised_to, wins}
 use Rattle.mesh.proofs.Lists.{Alike, alike}
-use Rattle.node_world.proofs.WriterRange.{Sized, heard_sized, begun_sized, new_sized}
+use Rattle.run_safety.proofs.WriterRange.{Sized, heard_sized, begun_sized, new_sized}
 use Rattle.mesh.proofs.WriterNext.{IsLater, Next, Stays, Proposes, Stops, Goes, next_of}
 use Rattle.mesh.proofs.Calls.{CallAt, call_at, Waiter, waiter}
 use Rattle.mesh.proofs.Chores.{Asked, Writing, Reads, asked_of, at_rest, Stands, maker_stands, hears_stands}

@@ -1,8 +1,8 @@
 -- What holds of every mesh that agrees.
 use Rattle.std.specs.Prelude.{◌≡◌, ℕ, ◌+◌, ◌<◌, List}
-use Rattle.node_world.specs.Moving.{Placed, moving_of}
-use Rattle.node_world.specs.Run.{IsRun}
-use Rattle.node_world.specs.Safe.{IsSafe}
+use Rattle.node_history.specs.Moving.{Placed, moving_of}
+use Rattle.run_safety.specs.Run.{IsRun}
+use Rattle.run_safety.specs.Safe.{IsSafe}
 use Rattle.mesh.specs.declared.whole.Mesh.{Mesh}
 use Rattle.mesh.specs.Agree.{Agrees}
 use Rattle.mesh.specs.Owners.{HasOwners}

@@ -2,14 +2,14 @@
 -- proposals of callers that don't own it, by node, and then the owner's entries in the order of its record. Kills, restarts and stops behind
 -- no effect stay behind the moving entry of their node before them, or at the front.
 use Rattle.std.specs.Prelude.{ℕ, zero, suc, ◌+◌, ◌==◌, ◌&&◌, ◌||◌, nat_lt, Bool, true, false, List, [], ◌∷◌, ◌++◌, length, filter, slice_get, Option, Some, None, if◌then◌else◌}
-use Rattle.node_world.specs.declared.history_line.HistoryLine.{HistoryLine}
-use Rattle.node_world.specs.declared.record.Record.{Record}
-use Rattle.node_world.specs.declared.record.Record.TheVariants.{Call}
-use Rattle.node_world.specs.declared.record.Told.{Told}
-use Rattle.node_world.specs.declared.record.Told.TheVariants as told
-use Rattle.node_world.specs.Cell.{Cell, fresh_cell, cell_takes}
-use Rattle.node_world.specs.Entries.{Entry}
-use Rattle.node_world.specs.Moving.{Placed, entry_of, falls}
+use Rattle.node_history.specs.declared.history_line.HistoryLine.{HistoryLine}
+use Rattle.node_history.specs.declared.record.Record.{Record}
+use Rattle.node_history.specs.declared.record.Record.TheVariants.{Call}
+use Rattle.node_history.specs.declared.record.Told.{Told}
+use Rattle.node_history.specs.declared.record.Told.TheVariants as told
+use Rattle.node_history.specs.Cell.{Cell, fresh_cell, cell_takes}
+use Rattle.node_history.specs.Entries.{Entry}
+use Rattle.node_history.specs.Moving.{Placed, entry_of, falls}
 use Rattle.mesh.specs.declared.whole.Mesh.{Mesh}
 use Rattle.mesh.specs.Agree.{record_of, history_at}
 use Rattle.mesh.specs.Matches.{reaches, reached, lines_of}

@@ -1,8 +1,8 @@
 -- One order of all lines of a mesh, where there is one: it fits all lists.
 use Rattle.std.specs.Prelude.{◌≡◌, ◌≢◌, ℕ, ◌+◌, ◌<◌, ◌≤◌, ◌==◌, false, List, [], ◌∷◌, ◌++◌, map, filter, Some, Contains}
-use Rattle.node_world.specs.declared.history_line.HistoryLine.{HistoryLine}
-use Rattle.node_world.specs.declared.record.Record.{Record}
-use Rattle.node_world.specs.Moving.{Placed}
+use Rattle.node_history.specs.declared.history_line.HistoryLine.{HistoryLine}
+use Rattle.node_history.specs.declared.record.Record.{Record}
+use Rattle.node_history.specs.Moving.{Placed}
 use Rattle.mesh.specs.declared.whole.Mesh.{Mesh}
 use Rattle.mesh.specs.Matches.{reaches, IsSame}
 use Rattle.mesh.specs.Agree.{operator_of, history_at, record_of}

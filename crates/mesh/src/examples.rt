@@ -1,7 +1,7 @@
 // Worked meshes, computed by the check.
 ghost use Rattle.std.specs.Prelude.{◌≡◌, List};
-ghost use Rattle.node_world.specs.Moving.{Placed};
-ghost use Rattle.node_world.specs.Run.{IsRun};
+ghost use Rattle.node_history.specs.Moving.{Placed};
+ghost use Rattle.run_safety.specs.Run.{IsRun};
 ghost use Rattle.mesh.specs.Agree.{Agrees};
 ghost use Rattle.mesh.specs.Order.{epoch_order};
 ghost use Rattle.mesh.specs.Traces.{IsTrace};

@@ -2,7 +2,7 @@
 ghost use Rattle.std.specs.Prelude.{◌≡◌, ◌++◌, [], ◌∷◌, List, OnOk, OnErr};
 
 use journal_core::OutOfMemory;
-use node_world::{HistoryList, RecordList};
+use node_history::{HistoryList, RecordList};
 use std::alloc::Global;
 use std::marker::Model;
 
@@ -14,7 +14,7 @@ pub struct HistoryTable {
 
 impl Model for HistoryTable {
     ghost use Rattle.std.specs.Prelude.{List};
-    ghost use Rattle.node_world.specs.declared.history_line.HistoryLine.{HistoryLine};
+    ghost use Rattle.node_history.specs.declared.history_line.HistoryLine.{HistoryLine};
 
     ghost Value = { List (List HistoryLine) };
 
@@ -63,7 +63,7 @@ pub struct RecordTable {
 
 impl Model for RecordTable {
     ghost use Rattle.std.specs.Prelude.{List};
-    ghost use Rattle.node_world.specs.declared.record.Record.{Record};
+    ghost use Rattle.node_history.specs.declared.record.Record.{Record};
 
     ghost Value = { List (List Record) };
 

@@ -13,10 +13,10 @@ use Rattle.writer_core.specs.Views.{WriterView}
 use Rattle.writer_core.specs.Rounds.{to_all, none_left_out}
 use Rattle.writer_core.specs.Writer.{Began, writer_begun, next_call, call_in, is_writing, if_writing}
 use Rattle.writer_core.specs.Alike.{AreStoppedAlike}
-use Rattle.node_world.specs.declared.record.Record.{Record}
-use Rattle.node_world.specs.declared.record.Record.TheVariants.{Call, Late, Operator, Outcome}
-use Rattle.node_world.specs.declared.record.Told.{Told}
-use Rattle.node_world.specs.declared.record.Told.TheVariants as told
+use Rattle.node_history.specs.declared.record.Record.{Record}
+use Rattle.node_history.specs.declared.record.Record.TheVariants.{Call, Late, Operator, Outcome}
+use Rattle.node_history.specs.declared.record.Told.{Told}
+use Rattle.node_history.specs.declared.record.Told.TheVariants as told
 use Rattle.mesh.specs.Makers.{Chore, Writes, Tails, Reading, Maker, maker_of, maker_hears, read_heard, IsMade}
 use Rattle.mesh_agreement.specs.Leading.{Stand, maker_in, CanMake, SomeMake, AllLive, AreAlike, EndAlike, MakeAlike}
 use Rattle.mesh_agreement.proofs.Chores.{call_there, waiting, tailing, passes, tails, begun}

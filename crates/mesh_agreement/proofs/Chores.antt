@@ -7,10 +7,10 @@ use Rattle.journal_core.specs.declared.reply.Reply.TheVariants as reply
 use Rattle.writer_core.specs.declared.task.Task.{Task}
 use Rattle.writer_core.specs.Views.{WriterView}
 use Rattle.writer_core.specs.Writer.{writer_begun, next_call, writer_heard, HasBody}
-use Rattle.node_world.specs.declared.record.Record.{Record}
-use Rattle.node_world.specs.declared.record.Record.TheVariants.{Call, Late, Operator, Outcome}
-use Rattle.node_world.specs.declared.record.Told.{Told}
-use Rattle.node_world.specs.declared.record.Told.TheVariants as told
+use Rattle.node_history.specs.declared.record.Record.{Record}
+use Rattle.node_history.specs.declared.record.Record.TheVariants.{Call, Late, Operator, Outcome}
+use Rattle.node_history.specs.declared.record.Told.{Told}
+use Rattle.node_history.specs.declared.record.Told.TheVariants as told
 use Rattle.mesh.specs.Makers.{Chore, Writes, Tails, Reading, Maker, heard_of, maker_of, maker_hears, read_heard, IsMade, HaveBodies}
 use Rattle.mesh_agreement.specs.declared.making.Pass.{Pass}
 use Rattle.mesh_agreement.specs.Leading.{between, in_pass, reading_of, maker_at, CanMake, passed}

@@ -16,7 +16,7 @@ use Rattle.std.proofs.lemmas.Map.Text.{is_eq-slice_cmp}
 use Rattle.journal_core.specs.Views.{HeadView, BatchView}
 use Rattle.journal_core.specs.declared.request.Request.{Request}
 use Rattle.journal_core.specs.declared.request.Request.TheVariants as request
-use Rattle.node_world.specs.Same.{same_request}
+use Rattle.node_history.specs.Same.{same_request}
 use Rattle.mesh_agreement.specs.declared.request_set.RequestSet.{RequestSet}
 use Rattle.mesh_agreement.specs.Keys.{body_key, bodies_key, request_key, ask_key, is_ask, has}
 use Rattle.mesh_agreement.proofs.LineLaws.{requests_decided}

@@ -11,12 +11,12 @@ use Rattle.writer_core.specs.Views.{WriterView}
 use Rattle.writer_core.specs.Writer.{Began, writer_begun, next_call, HasBody, is_writing, is_under_way, if_writing, log_limit, log_begins}
 use Rattle.writer_core.specs.Left.{IsLive}
 use Rattle.writer_core.proofs.LiveLaws.{begun_live, heard_live, someone_called}
-use Rattle.node_world.specs.Same.{same_request}
-use Rattle.node_world.proofs.SameLaws.{request_same, request_self}
-use Rattle.node_world.specs.declared.record.Record.{Record}
-use Rattle.node_world.specs.declared.record.Record.TheVariants.{Call}
-use Rattle.node_world.specs.declared.record.Told.{Told}
-use Rattle.node_world.specs.declared.record.Told.TheVariants as told
+use Rattle.node_history.specs.Same.{same_request}
+use Rattle.node_history.proofs.SameLaws.{request_same, request_self}
+use Rattle.node_history.specs.declared.record.Record.{Record}
+use Rattle.node_history.specs.declared.record.Record.TheVariants.{Call}
+use Rattle.node_history.specs.declared.record.Told.{Told}
+use Rattle.node_history.specs.declared.record.Told.TheVariants as told
 use Rattle.mesh.specs.Makers.{Chore, Writes, Tails, heard_of, maker_of, maker_hears, IsMade, HaveBodies}
 use Rattle.mesh_agreement.specs.declared.making.Pass.{Pass}
 use Rattle.mesh_agreement.specs.Leading.{Stand, between, in_pass, CanMake, SomeMake, AllLive, log_of, tasks_for, is_call, hears, hear_begun, is_read, passed, next_pass, reads, pass_from, begins, goes_on_in, goes_on, all_go_on}

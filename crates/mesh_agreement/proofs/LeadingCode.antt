@@ -5,7 +5,7 @@ use Rattle.writer_core.specs.declared.task.Task.{Task}
 use Rattle.writer_core.specs.declared.task.Task.TheVariants as task
 use Rattle.writer_core.specs.Views.{WriterView}
 use Rattle.writer_core.specs.Writer.{writer_begun}
-use Rattle.node_world.specs.declared.record.Told.{Told}
+use Rattle.node_history.specs.declared.record.Told.{Told}
 use Rattle.mesh_agreement.specs.Leading.{Stand, log_of, hears, hear_begun, goes_on, all_go_on}
 
 some_log : (bodies : List (List ℕ)) → bodies ≢ [] → log_of bodies ≡ task.Log bodies ∷ []

@@ -5,13 +5,13 @@ use Rattle.std.proofs.lemmas.Bool.{and_parts}
 use Rattle.journal_core.specs.Views.{HeadView, BatchView}
 use Rattle.journal_core.specs.declared.request.Request.{Request}
 use Rattle.journal_core.specs.declared.request.Request.TheVariants as request
-use Rattle.node_world.specs.Same.{same_request, same_batch, same_head}
-use Rattle.node_world.proofs.SameLaws.{request_same, request_self, batch_same}
-use Rattle.node_world.specs.declared.record.Record.{Record}
-use Rattle.node_world.specs.declared.record.Record.TheVariants.{Call, Late, Operator, Outcome}
-use Rattle.node_world.specs.declared.history_line.HistoryLine.{HistoryLine}
-use Rattle.node_world.specs.declared.node_ask.NodeAnswer.{NodeAnswer}
-use Rattle.node_world.specs.Cell.{Cell, fresh_cell, cell_takes, IsLocalRun}
+use Rattle.node_history.specs.Same.{same_request, same_batch, same_head}
+use Rattle.node_history.proofs.SameLaws.{request_same, request_self, batch_same}
+use Rattle.node_history.specs.declared.record.Record.{Record}
+use Rattle.node_history.specs.declared.record.Record.TheVariants.{Call, Late, Operator, Outcome}
+use Rattle.node_history.specs.declared.history_line.HistoryLine.{HistoryLine}
+use Rattle.node_history.specs.declared.node_ask.NodeAnswer.{NodeAnswer}
+use Rattle.node_history.specs.Cell.{Cell, fresh_cell, cell_takes, IsLocalRun}
 use Rattle.mesh.specs.Matches.{IsWithin, AreWithin, CallersWithin}
 use Rattle.mesh.specs.Makers.{IsOperators}
 use Rattle.mesh_agreement.proofs.Deciding.{ByLine, front}

@@ -3,8 +3,8 @@ use Rattle.std.proofs.Common.{◌≡◌, Decides, ℕ, zero, suc, ◌+◌, ◌-�
 use Rattle.std.specs.Prelude.{slice_get, MatchOption}
 use Rattle.std.proofs.lemmas.Option.{slice_get_read, slice_get_past}
 use Rattle.std.proofs.lemmas.List.{get_or_default, drop_all, get_or-set_same, get_or-set_other, length-set, length-replicate}
-use Rattle.node_world.specs.declared.history_line.HistoryLine.{HistoryLine}
-use Rattle.node_world.specs.declared.record.Record.{Record}
+use Rattle.node_history.specs.declared.history_line.HistoryLine.{HistoryLine}
+use Rattle.node_history.specs.declared.record.Record.{Record}
 use Rattle.mesh.specs.declared.whole.Mesh.{Mesh}
 use Rattle.mesh.specs.Agree.{operator_of, history_at, record_of}
 use Rattle.mesh.specs.Matches.{reaches, reached, lines_of, IsSame, AreSame, CallersWithin}

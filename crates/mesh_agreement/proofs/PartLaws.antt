@@ -2,9 +2,9 @@
 use Rattle.std.proofs.Common.{◌≡◌, ℕ, ◌<◌, List, [], Bool, false, Decides, length, get_or, ap, ◌∙◌, arith, Result, Ok, Err}
 use Rattle.std.specs.Prelude.{IfOk}
 use Rattle.std.proofs.lemmas.List.{get_or_default}
-use Rattle.node_world.specs.declared.history_line.HistoryLine.{HistoryLine}
-use Rattle.node_world.specs.declared.record.Record.{Record}
-use Rattle.node_world.specs.declared.mark.Mark.{Mark}
+use Rattle.node_history.specs.declared.history_line.HistoryLine.{HistoryLine}
+use Rattle.node_history.specs.declared.record.Record.{Record}
+use Rattle.node_history.specs.declared.mark.Mark.{Mark}
 use Rattle.mesh.specs.declared.whole.Mesh.{Mesh}
 use Rattle.mesh.specs.Agree.{Agrees, operator_of, history_at, record_of, plan_of}
 use Rattle.mesh.specs.Makers.{IsOperators}

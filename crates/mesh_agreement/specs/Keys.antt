@@ -6,7 +6,7 @@ use Rattle.std.specs.BTreeSet.{contains_by}
 use Rattle.journal_core.specs.Views.{HeadView}
 use Rattle.journal_core.specs.declared.request.Request.{Request}
 use Rattle.journal_core.specs.declared.request.Request.TheVariants as request
-use Rattle.node_world.specs.Same.{same_request}
+use Rattle.node_history.specs.Same.{same_request}
 use Rattle.mesh_agreement.specs.declared.request_set.RequestSet.{RequestSet}
 
 -- each byte as one more than it is, so that 0 ends a body

@@ -9,10 +9,10 @@ use Rattle.writer_core.specs.Views.{WriterView}
 use Rattle.writer_core.specs.Writer.{writer_begun, next_call, writer_heard}
 use Rattle.writer_core.specs.Left.{IsLive}
 use Rattle.writer_core.specs.Alike.{AreStoppedAlike}
-use Rattle.node_world.specs.Same.{same_request}
-use Rattle.node_world.specs.declared.record.Record.{Record}
-use Rattle.node_world.specs.declared.record.Told.{Told}
-use Rattle.node_world.specs.declared.record.Told.TheVariants as told
+use Rattle.node_history.specs.Same.{same_request}
+use Rattle.node_history.specs.declared.record.Record.{Record}
+use Rattle.node_history.specs.declared.record.Told.{Told}
+use Rattle.node_history.specs.declared.record.Told.TheVariants as told
 use Rattle.mesh.specs.Makers.{Chore, Reading, Maker, heard_of, maker_of, HaveBodies, IsMade}
 use Rattle.mesh_agreement.specs.declared.making.Pass.{Pass}
 use Rattle.mesh_agreement.specs.declared.making.Candidate.{Candidate}

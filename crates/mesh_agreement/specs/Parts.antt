@@ -1,6 +1,6 @@
 -- The parts of agreement, node by node and caller by caller.
 use Rattle.std.specs.Prelude.{◌≡◌, ℕ, ◌+◌, ◌<◌, ◌≤◌, [], length}
-use Rattle.node_world.specs.Cell.{fresh_cell, IsLocalRun}
+use Rattle.node_history.specs.Cell.{fresh_cell, IsLocalRun}
 use Rattle.mesh.specs.declared.whole.Mesh.{Mesh}
 use Rattle.mesh.specs.Agree.{operator_of, history_at, record_of, plan_of}
 use Rattle.mesh.specs.Marks.{IsMarked, AreCopied}

@@ -2,7 +2,7 @@
 ghost use Rattle.std.specs.Prelude.{◌≡◌, Decides};
 
 use journal_core::{Batch, NodeFail, Refusal, Reply, Request, SegmentInfo, SegmentLines};
-use node_world::{NodeAnswer, same, same_batch};
+use node_history::{NodeAnswer, same, same_batch};
 
 /// Both are the same request.
 pub(crate) fn same_request(a: &Request, b: &Request) -> bool

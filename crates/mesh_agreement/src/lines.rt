@@ -3,7 +3,7 @@ ghost use Rattle.std.specs.Prelude.{◌≡◌, Decides, [], ◌∷◌};
 ghost use Rattle.mesh.specs.Matches.{IsWithin, AreWithin, CallersWithin};
 ghost use Rattle.mesh.specs.Makers.{IsOperation, IsOperators};
 
-use node_world::{HistoryLine, NodeAsk, Record};
+use node_history::{HistoryLine, NodeAsk, Record};
 
 /// The line is of one of that many nodes, or of none.
 fn is_within(nodes: usize, line: &Record) -> bool

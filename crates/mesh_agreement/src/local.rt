@@ -1,10 +1,10 @@
 // Whether a history is what one node answers.
 ghost use Rattle.std.specs.Prelude.{Decides, IfOk};
-ghost use Rattle.node_world.specs.Cell.{fresh_cell, IsLocalRun};
+ghost use Rattle.node_history.specs.Cell.{fresh_cell, IsLocalRun};
 
 use crate::equality::same_answer;
 use journal_core::{OutOfMemory, PlainNode};
-use node_world::{HistoryLine, NodeCell};
+use node_history::{HistoryLine, NodeCell};
 use std::alloc::Global;
 
 /// One node answers so from its beginning on, with its armings.

@@ -6,7 +6,7 @@ ghost use Rattle.mesh.specs.Matches.{IsWithin, AreWithin};
 ghost use Rattle.mesh_agreement.specs.Leading.{is_call, hears, is_read, next_pass, passed, reads, pass_from, begins, goes_on, all_go_on, between, stand_of, stands_of, AllLive, AreAlike, EndAlike, MakeAlike, Follows};
 
 use journal_core::{Heard, OutOfMemory, Reply, Request};
-use node_world::{Record, Told, same};
+use node_history::{Record, Told, same};
 use std::alloc::Global;
 use writer_core::{Task, Writer};
 

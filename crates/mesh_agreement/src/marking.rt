@@ -3,9 +3,9 @@ ghost use Rattle.std.specs.Prelude.{◌≡◌, ◌<◌, ◌≤◌, ◌+◌, ◌^
 ghost use Rattle.std.specs.BTreeSet.{contains};
 ghost use Rattle.std.specs.Ordering.{nat_cmp};
 ghost use Rattle.journal_core.specs.declared.request.Request.{Request};
-ghost use Rattle.node_world.specs.declared.record.Record.{Record};
-ghost use Rattle.node_world.specs.declared.mark.Mark.{Mark};
-ghost use Rattle.node_world.specs.declared.mark.MarkKind.{MarkKind};
+ghost use Rattle.node_history.specs.declared.record.Record.{Record};
+ghost use Rattle.node_history.specs.declared.mark.Mark.{Mark};
+ghost use Rattle.node_history.specs.declared.mark.MarkKind.{MarkKind};
 ghost use Rattle.mesh.specs.Matches.{AreWithin, IsWithin};
 ghost use Rattle.mesh.specs.Marks.{IsMarked, AreCopied};
 ghost use Rattle.mesh_agreement.specs.Keys.{is_ask, has};
@@ -13,7 +13,7 @@ ghost use Rattle.mesh_agreement.specs.Marking.{as_marked, HasNodes, KnowsMarks, 
 
 use crate::request_set::RequestSet;
 use journal_core::{OutOfMemory, Request};
-use node_world::{Mark, MarkKind, Record, Told};
+use node_history::{Mark, MarkKind, Record, Told};
 use std::alloc::Global;
 use std::collections::BTreeSet;
 

@@ -1,6 +1,6 @@
 // Whether of each node and each caller both list the same.
 ghost use Rattle.std.specs.Prelude.{◌≡◌, ◌<◌, ◌≤◌, ◌+◌, ℕ, [], Decides, IfOk, length, slice_index_or, replicate};
-ghost use Rattle.node_world.specs.declared.node_ask.NodeAsk.TheVariants.{Act};
+ghost use Rattle.node_history.specs.declared.node_ask.NodeAsk.TheVariants.{Act};
 ghost use Rattle.mesh.specs.Agree.{operator_of, history_at};
 ghost use Rattle.mesh.specs.Matches.{StandsFor, done_or_idle, IsSame, reached, CallersWithin};
 ghost use Rattle.mesh_agreement.specs.Matching.{IsNext, KnowsPlaces, KnowsAllPlaces, AreSameAt};
@@ -10,7 +10,7 @@ use crate::equality::{same_reply, same_request};
 use journal_core::{OutOfMemory, Request};
 use mesh::Mesh;
 use mesh_judge::{ReachList, reached_by_node};
-use node_world::{HistoryLine, NodeAnswer, NodeAsk, Record, Told};
+use node_history::{HistoryLine, NodeAnswer, NodeAsk, Record, Told};
 use std::alloc::Global;
 
 /// The lines of a record that reached each node.

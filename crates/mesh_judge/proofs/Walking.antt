@@ -6,15 +6,15 @@ use Rattle.std.specs.Ordering.{nat_cmp}
 use Rattle.std.proofs.lemmas.Bool.{cases_Bool}
 use Rattle.std.proofs.lemmas.List.{map-append, get_or_default, take_more, drop_more, drop_all, take-append-drop, get_or-set_same, get_or-set_other, get_or-replicate, length-replicate, length-set, append-nil}
 use Rattle.journal_core.specs.declared.request.Request.{Request}
-use Rattle.node_world.specs.declared.node_ask.NodeAsk.TheVariants.{Act}
-use Rattle.node_world.specs.declared.node_ask.NodeAnswer.{NodeAnswer}
-use Rattle.node_world.specs.declared.node_ask.NodeAnswer.TheVariants.{Replied, Stopped, Done, Idle, NotOpened}
-use Rattle.node_world.specs.declared.event.Event.{Event}
-use Rattle.node_world.specs.declared.history_line.HistoryLine.{HistoryLine}
-use Rattle.node_world.specs.Cell.{Cell, fresh_cell, cell_takes, cell_after, IsLocalRun}
-use Rattle.node_world.specs.Entries.{Move, Answer, Stop, Kill, Restart, Entry}
-use Rattle.node_world.specs.Moving.{Placed, epoch_of, moves, way_of, move_of, falls, entry_of}
-use Rattle.node_world.proofs.Raised.{CellRaised, cell_raised}
+use Rattle.node_history.specs.declared.node_ask.NodeAsk.TheVariants.{Act}
+use Rattle.node_history.specs.declared.node_ask.NodeAnswer.{NodeAnswer}
+use Rattle.node_history.specs.declared.node_ask.NodeAnswer.TheVariants.{Replied, Stopped, Done, Idle, NotOpened}
+use Rattle.node_history.specs.declared.event.Event.{Event}
+use Rattle.node_history.specs.declared.history_line.HistoryLine.{HistoryLine}
+use Rattle.node_history.specs.Cell.{Cell, fresh_cell, cell_takes, cell_after, IsLocalRun}
+use Rattle.node_history.specs.Entries.{Move, Answer, Stop, Kill, Restart, Entry}
+use Rattle.node_history.specs.Moving.{Placed, epoch_of, moves, way_of, move_of, falls, entry_of}
+use Rattle.node_history.proofs.Raised.{CellRaised, cell_raised}
 use Rattle.mesh.specs.declared.whole.Mesh.{Mesh}
 use Rattle.mesh.specs.Matches.{reached, lines_of, CallersWithin}
 use Rattle.mesh.specs.Agree.{Agrees, operator_of, history_at, record_of}

@@ -2,7 +2,7 @@
 use Rattle.std.specs.Prelude.{ℕ, List, [], ◌∷◌, ◌++◌, map, Option, Some, None}
 use Rattle.std.specs.BTreeSet.{contains}
 use Rattle.std.specs.Ordering.{nat_cmp}
-use Rattle.node_world.specs.Entries.{Entry}
+use Rattle.node_history.specs.Entries.{Entry}
 use Rattle.mesh.specs.Order.{Key, Block, owners_place}
 use Rattle.mesh_judge.specs.declared.caller.Caller.{Caller}
 use Rattle.mesh_judge.specs.declared.ranking.Rank.{Rank}

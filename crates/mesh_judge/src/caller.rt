@@ -12,7 +12,7 @@ use crate::reached::{Reach, ReachList, reached_by_node};
 use crate::won::won_epochs;
 use journal_core::OutOfMemory;
 use mesh::Mesh;
-use node_world::Record;
+use node_history::Record;
 use std::alloc::Global;
 use std::collections::BTreeSet;
 

@@ -2,12 +2,12 @@
 ghost use Rattle.std.specs.Prelude.{◌≡◌, ◌<◌, ◌≤◌, ◌+◌, ◌*◌, ◌^◌, ◌∷◌, ◌||◌, ◌&&◌, ◌==◌, not, ℕ, List, nat_lt, IfOk, OnOk};
 ghost use Rattle.std.specs.BTreeSet.{contains};
 ghost use Rattle.std.specs.Ordering.{nat_cmp};
-ghost use Rattle.node_world.specs.declared.record.Record.{Record};
+ghost use Rattle.node_history.specs.declared.record.Record.{Record};
 ghost use Rattle.mesh.specs.Owners.{wins, promised_to};
 ghost use Rattle.mesh_judge.specs.Tallies.{promises_to, wins_on};
 
 use journal_core::{MAX_NUMBER, OutOfMemory, Reply, Request};
-use node_world::{Record, Told};
+use node_history::{Record, Told};
 use std::alloc::Global;
 use std::collections::BTreeSet;
 

@@ -4,7 +4,7 @@ use crate::plays::mesh_of;
 use journal_core::OutOfMemory;
 use mesh::Mesh;
 use mesh_agreement::agrees;
-use node_world::{ActorPlan, Mark, MarkKind, Plan};
+use node_history::{ActorPlan, Mark, MarkKind, Plan};
 use std::alloc::Global;
 use std::test::Fail;
 

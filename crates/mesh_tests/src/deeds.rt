@@ -1,6 +1,6 @@
 //! What an event, and what a line of a node's history, did.
 use journal_core::{Refusal, Reply, Request};
-use node_world::{Event, Fate, HistoryLine, NodeAnswer, NodeAsk};
+use node_history::{Event, Fate, HistoryLine, NodeAnswer, NodeAsk};
 
 /// What an event is.
 #[derive(Clone, Copy, Debug, PartialEq, Eq)]

@@ -4,7 +4,7 @@ use journal_core::{OutOfMemory, Refusal, Reply, Request, SegmentLines};
 use mesh::Mesh;
 use mesh_agreement::agrees;
 use mesh_judge::ordered;
-use node_world::{ActorPlan, Event, Mark, MarkKind, Plan, Told};
+use node_history::{ActorPlan, Event, Mark, MarkKind, Plan, Told};
 use std::alloc::Global;
 use std::test::Fail;
 

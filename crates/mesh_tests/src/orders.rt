@@ -2,7 +2,7 @@
 use crate::deeds::{Deed, Kind, deed_at, deed_of};
 use journal_core::OutOfMemory;
 use mesh::Mesh;
-use node_world::{Event, HistoryLine};
+use node_history::{Event, HistoryLine};
 use std::alloc::Global;
 
 /// What the lines of a node's history did to it, in order.

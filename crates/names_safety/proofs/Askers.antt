@@ -5,20 +5,20 @@ use Rattle.std.specs.List.{cons_option}
 use Rattle.std.proofs.lemmas.Bool.Decides.{nat_tests}
 use Rattle.std.proofs.lemmas.List.{reverse-append}
 use Rattle.journal_core.specs.declared.request.Request.{Request}
-use Rattle.node_world.specs.declared.node_ask.NodeAsk.{NodeAsk}
-use Rattle.node_world.specs.declared.node_ask.NodeAsk.TheVariants.{Act, Kill, Restart, Arm}
-use Rattle.node_world.specs.declared.node_ask.NodeAnswer.{NodeAnswer}
-use Rattle.node_world.specs.declared.node_ask.NodeAnswer.TheVariants as answer
-use Rattle.node_world.specs.declared.history_line.HistoryLine.{HistoryLine}
-use Rattle.node_world.specs.declared.mark.Mark.{Mark}
-use Rattle.node_world.specs.declared.record.Record.{Record}
-use Rattle.node_world.specs.declared.record.Record.TheVariants.{Call, Late, Operator, Outcome}
-use Rattle.node_world.specs.declared.record.Told.{Told}
-use Rattle.node_world.specs.Entries.{Entry, Move, Answer, Stop, Kill as KillMove, Restart as RestartMove, Earlier, now, before as earlier_one}
-use Rattle.node_world.specs.Moving.{Placed, moves, way_of, move_of, entry_of, moving_of}
-use Rattle.node_world.specs.Run.{IsNextEntry}
-use Rattle.node_world.specs.Safe.{IsOf}
-use Rattle.node_world.proofs.Places.{next_of}
+use Rattle.node_history.specs.declared.node_ask.NodeAsk.{NodeAsk}
+use Rattle.node_history.specs.declared.node_ask.NodeAsk.TheVariants.{Act, Kill, Restart, Arm}
+use Rattle.node_history.specs.declared.node_ask.NodeAnswer.{NodeAnswer}
+use Rattle.node_history.specs.declared.node_ask.NodeAnswer.TheVariants as answer
+use Rattle.node_history.specs.declared.history_line.HistoryLine.{HistoryLine}
+use Rattle.node_history.specs.declared.mark.Mark.{Mark}
+use Rattle.node_history.specs.declared.record.Record.{Record}
+use Rattle.node_history.specs.declared.record.Record.TheVariants.{Call, Late, Operator, Outcome}
+use Rattle.node_history.specs.declared.record.Told.{Told}
+use Rattle.node_history.specs.Entries.{Entry, Move, Answer, Stop, Kill as KillMove, Restart as RestartMove, Earlier, now, before as earlier_one}
+use Rattle.node_history.specs.Moving.{Placed, moves, way_of, move_of, entry_of, moving_of}
+use Rattle.run_safety.specs.Run.{IsNextEntry}
+use Rattle.run_safety.specs.Safe.{IsOf}
+use Rattle.run_safety.proofs.Places.{next_of}
 use Rattle.mesh.specs.declared.whole.Mesh.{Mesh}
 use Rattle.mesh.specs.Agree.{operator_of, record_of, history_at, plan_of, ListsAgree}
 use Rattle.mesh.specs.Marks.{calls_to, IsMarked}

@@ -20,8 +20,8 @@ use Rattle.writer_core.specs.declared.turn.Outcome.TheVariants as outcome
 use Rattle.writer_core.specs.Views.{WriterView}
 use Rattle.writer_core.specs.Rounds.{Judged}
 use Rattle.writer_core.specs.Writer.{heard_at, writer_heard}
-use Rattle.node_world.specs.declared.record.Record.{Record}
-use Rattle.node_world.specs.declared.record.Record.TheVariants.{Call, Late, Operator, Outcome}
+use Rattle.node_history.specs.declared.record.Record.{Record}
+use Rattle.node_history.specs.declared.record.Record.TheVariants.{Call, Late, Operator, Outcome}
 use Rattle.mesh.specs.Makers.{heard_of}
 use Rattle.script_actor.specs.Lines.{Deed, AreDeeds}
 use Rattle.name_node.specs.Submissions.{Due}

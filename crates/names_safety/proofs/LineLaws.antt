@@ -20,12 +20,12 @@ use Rattle.writer_core.specs.declared.task.Task.TheVariants as task
 use Rattle.writer_core.specs.Views.{WriterView}
 use Rattle.writer_core.specs.Rounds.{request_in, batch_from, start_record, end_record}
 use Rattle.writer_core.specs.Writer.{next_call}
-use Rattle.node_world.specs.declared.node_ask.NodeAsk.{NodeAsk}
-use Rattle.node_world.specs.declared.record.Record.{Record}
-use Rattle.node_world.specs.declared.record.Record.TheVariants.{Call, Late, Operator, Outcome}
-use Rattle.node_world.specs.declared.record.Told.{Told}
-use Rattle.node_world.specs.Entries.{Entry}
-use Rattle.node_world.proofs.Values.{get_within, get_there}
+use Rattle.node_history.specs.declared.node_ask.NodeAsk.{NodeAsk}
+use Rattle.node_history.specs.declared.record.Record.{Record}
+use Rattle.node_history.specs.declared.record.Record.TheVariants.{Call, Late, Operator, Outcome}
+use Rattle.node_history.specs.declared.record.Told.{Told}
+use Rattle.node_history.specs.Entries.{Entry}
+use Rattle.run_safety.proofs.Values.{get_within, get_there}
 use Rattle.mesh.specs.declared.whole.Mesh.{Mesh}
 use Rattle.mesh.specs.Agree.{operator_of, record_of, plan_of, ListsAgree}
 use Rattle.script_actor.specs.Lines.{Line, deeds_of}
@@ -44,8 +44,8 @@ use Rattle.names_safety.proofs.Keeps.{UnderTask, under_by}
 use Rattle.names_safety.proofs.Oks.{IsNext, next_is}
 use Rattle.names_safety.proofs.Walks.{read_fits, fits_call}
 use Rattle.names_safety.proofs.Replays.{Walked, walked}
-use Rattle.node_world.specs.Parts.{IsPutByJournal}
-use Rattle.node_world.proofs.Journals.{line_once, line_put}
+use Rattle.run_safety.specs.Parts.{IsPutByJournal}
+use Rattle.run_safety.proofs.Journals.{line_once, line_put}
 use Rattle.names_safety.proofs.Askers.{NoOperation, Asker, asker}
 
 -- ## Actors that follow their lines

@@ -2,8 +2,8 @@
 use Rattle.std.proofs.Common.{◌≡◌, ℕ, ◌<◌, ◌≤◌, List, true, sym, ap, ◌∙◌, subst, arith, length}
 use Rattle.std.proofs.lemmas.List.{length-map}
 use Rattle.ns_tree.specs.declared.end.End.{End}
-use Rattle.node_world.specs.Moving.{moving_of}
-use Rattle.node_world.specs.Run.{IsRun}
+use Rattle.node_history.specs.Moving.{moving_of}
+use Rattle.run_safety.specs.Run.{IsRun}
 use Rattle.mesh.specs.declared.whole.Mesh.{Mesh}
 use Rattle.mesh.specs.Agree.{Agrees}
 use Rattle.mesh.specs.Order.{epoch_order}

@@ -25,11 +25,11 @@ use Rattle.writer_core.specs.Answers.{is_waiting, has_majority, fits_edits}
 use Rattle.writer_core.specs.Best.{Best, best_of, greatest_promise, greatest_newest}
 use Rattle.writer_core.specs.Rounds.{request_in, numbers_fit, going, stopped, done_in, with_causes, judged_by, judged, fetched, proposing, after_propose, recovering, after_finalize, after_open, after_write, edits_fetched, not_fetched, taken_out, next_serial, missed, to_others, asking_all, asking_others, batch_from, end_record}
 use Rattle.writer_core.specs.Writer.{log_begins, log_limit, is_writing, if_writing, writer_begun, next_call, call_in, node_in, with_answer, judged_when, heard_in, heard_at, writer_heard}
-use Rattle.node_world.specs.declared.record.Record.{Record}
-use Rattle.node_world.specs.declared.record.Record.TheVariants.{Call}
-use Rattle.node_world.specs.declared.record.Told.{Told}
-use Rattle.node_world.specs.declared.record.Told.TheVariants as told
-use Rattle.node_world.proofs.Slots.{At, IsFresh, to_others_fresh, At-set}
+use Rattle.node_history.specs.declared.record.Record.{Record}
+use Rattle.node_history.specs.declared.record.Record.TheVariants.{Call}
+use Rattle.node_history.specs.declared.record.Told.{Told}
+use Rattle.node_history.specs.declared.record.Told.TheVariants as told
+use Rattle.run_safety.proofs.Slots.{At, IsFresh, to_others_fresh, At-set}
 use Rattle.mesh.specs.Makers.{heard_of}
 use Rattle.mesh.proofs.Shared.{In}
 use Rattle.mesh.proofs.OrderSigns.{in_left}

@@ -14,28 +14,28 @@ use Rattle.journal_core.specs.declared.request.Request.{Request}
 use Rattle.journal_core.specs.declared.request.Request.TheVariants.{Read}
 use Rattle.journal_core.specs.declared.reply.Reply.{Reply}
 use Rattle.journal_core.specs.declared.reply.Reply.TheVariants.{Edits}
-use Rattle.node_world.specs.declared.node_ask.NodeAsk.{NodeAsk}
-use Rattle.node_world.specs.declared.node_ask.NodeAsk.TheVariants.{Act}
-use Rattle.node_world.specs.declared.node_ask.NodeAnswer.{NodeAnswer}
-use Rattle.node_world.specs.declared.node_ask.NodeAnswer.TheVariants.{Replied}
-use Rattle.node_world.specs.declared.history_line.HistoryLine.{HistoryLine}
-use Rattle.node_world.specs.declared.record.Record.{Record}
-use Rattle.node_world.specs.declared.record.Record.TheVariants.{Call}
-use Rattle.node_world.specs.declared.record.Told.TheVariants as told
-use Rattle.node_world.specs.declared.arming.Arming.{Arming}
-use Rattle.node_world.specs.Cell.{Cell, fresh_cell, cell_takes, requested, counted, replies, stops, kept_by, IsLocalRun, cell_after}
-use Rattle.node_world.specs.Entries.{Entry, Move, moved, node_after, Earlier}
-use Rattle.node_world.specs.Moving.{Placed, move_of, entry_at, entry_of, moving_of}
-use Rattle.node_world.specs.CellLaws.{IsMoved}
-use Rattle.node_world.specs.Run.{Story, Follows}
-use Rattle.node_world.specs.Safe.{IsOnLine}
-use Rattle.node_world.proofs.CellLaws.{stays, moving}
-use Rattle.node_world.proofs.Along.{node_here}
+use Rattle.node_history.specs.declared.node_ask.NodeAsk.{NodeAsk}
+use Rattle.node_history.specs.declared.node_ask.NodeAsk.TheVariants.{Act}
+use Rattle.node_history.specs.declared.node_ask.NodeAnswer.{NodeAnswer}
+use Rattle.node_history.specs.declared.node_ask.NodeAnswer.TheVariants.{Replied}
+use Rattle.node_history.specs.declared.history_line.HistoryLine.{HistoryLine}
+use Rattle.node_history.specs.declared.record.Record.{Record}
+use Rattle.node_history.specs.declared.record.Record.TheVariants.{Call}
+use Rattle.node_history.specs.declared.record.Told.TheVariants as told
+use Rattle.node_history.specs.declared.arming.Arming.{Arming}
+use Rattle.node_history.specs.Cell.{Cell, fresh_cell, cell_takes, requested, counted, replies, stops, kept_by, IsLocalRun, cell_after}
+use Rattle.node_history.specs.Entries.{Entry, Move, moved, node_after, Earlier}
+use Rattle.node_history.specs.Moving.{Placed, move_of, entry_at, entry_of, moving_of}
+use Rattle.node_history.specs.CellLaws.{IsMoved}
+use Rattle.run_safety.specs.Run.{Story, Follows}
+use Rattle.run_safety.specs.Safe.{IsOnLine}
+use Rattle.node_history.proofs.CellLaws.{stays, moving}
+use Rattle.run_safety.proofs.Along.{node_here}
 use Rattle.journal_core.proofs.Changes.{In as InSegments, find-in}
-use Rattle.node_world.proofs.SoundNodes.{stored_after}
-use Rattle.node_world.proofs.Places.{Follows-earlier, Earlier-append}
-use Rattle.node_world.proofs.Safety.{line_later}
-use Rattle.node_world.proofs.Served.{served_on_line}
+use Rattle.run_safety.proofs.SoundNodes.{stored_after}
+use Rattle.run_safety.proofs.Places.{Follows-earlier, Earlier-append}
+use Rattle.run_safety.proofs.Safety.{line_later}
+use Rattle.run_safety.proofs.Served.{served_on_line}
 use Rattle.journal_core.proofs.Steps.{Acted, at_once, by_row, done, acted}
 use Rattle.mesh.specs.declared.whole.Mesh.{Mesh}
 use Rattle.mesh.specs.Agree.{record_of, history_at}

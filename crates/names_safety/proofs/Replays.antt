@@ -21,24 +21,23 @@ use Rattle.writer_core.specs.Views.{WriterView}
 use Rattle.writer_core.specs.Answers.{has_majority, is_ok, fits_round, is_done_reply}
 use Rattle.writer_core.specs.Rounds.{request_in, head_now, batch_from, start_record}
 use Rattle.writer_core.specs.Writer.{next_call, with_answer}
-use Rattle.node_world.specs.declared.record.Record.{Record}
-use Rattle.node_world.specs.declared.record.Record.TheVariants.{Call, Late, Operator, Outcome}
-use Rattle.node_world.specs.declared.record.Told.{Told}
-use Rattle.node_world.specs.declared.record.Told.TheVariants as told
-use Rattle.node_world.specs.Entries.{Entry}
-use Rattle.node_world.specs.Majority.{Member, IsMajority}
-use Rattle.node_world.specs.Safe.{IsAcknowledged, SaidOk}
-use Rattle.node_world.proofs.Safety.{acknowledged_survive}
-use Rattle.node_world.proofs.Slots.{At, ok_from, in_ok, ok_majority, ok_slot}
+use Rattle.node_history.specs.declared.record.Record.{Record}
+use Rattle.node_history.specs.declared.record.Record.TheVariants.{Call, Late, Operator, Outcome}
+use Rattle.node_history.specs.declared.record.Told.{Told}
+use Rattle.node_history.specs.declared.record.Told.TheVariants as told
+use Rattle.node_history.specs.Entries.{Entry}
+use Rattle.run_safety.specs.Majority.{Member, IsMajority}
+use Rattle.run_safety.specs.Safe.{IsAcknowledged, SaidOk}
+use Rattle.run_safety.proofs.Safety.{acknowledged_survive}
+use Rattle.run_safety.proofs.Slots.{At, ok_from, in_ok, ok_majority, ok_slot}
 use Rattle.mesh.specs.declared.whole.Mesh.{Mesh}
 use Rattle.mesh.specs.Agree.{operator_of, record_of, plan_of, ListsAgree}
 use Rattle.mesh.specs.Makers.{heard_of}
 use Rattle.mesh.proofs.Shared.{In}
-use Rattle.node_world.proofs.WriterRange.{new_sized, call_within}
+use Rattle.run_safety.proofs.WriterRange.{new_sized, call_within}
 use Rattle.script_actor.specs.Lines.{Deed, deeds_of}
 use Rattle.name_node.specs.Holding.{Holding, Work, Free, Tails, Logs, Broken}
-use Rattle.script_actor.specs.Actor.{Actor, fresh_actor, call_wanted, work_read, read_first, wants, settled, goes_on, Fits, IsLed, actor_after}
-use Rattle.script_actor.specs.Actor.{last_of}
+use Rattle.script_actor.specs.Actor.{Actor, fresh_actor, call_wanted, work_read, read_first, wants, settled, goes_on, Fits, IsLed, actor_after, last_of}
 use Rattle.cluster_runner.specs.Follows.{actor_with, Follows}
 use Rattle.names_safety.specs.Linear.{IsLinear, OnLine, IsActor, HoldsReplay, ImagesReplay, ActorsHoldReplays, EndsAreReplays}
 use Rattle.names_safety.proofs.ReadLaws.{all_on, reads_on_line}

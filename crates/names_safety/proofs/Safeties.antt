@@ -3,9 +3,9 @@ use Rattle.std.proofs.Common.{◌≡◌, ℕ, List, reverse, length, sym, ◌∙
 use Rattle.std.specs.Prelude.{Some}
 use Rattle.ns_replay.specs.Replay.{IsReplay}
 use Rattle.ns_replay.proofs.Splits.{some_is}
-use Rattle.node_world.specs.Entries.{Entry}
-use Rattle.node_world.specs.Safe.{IsOnLine}
-use Rattle.node_world.proofs.Safety.{run_safe}
+use Rattle.node_history.specs.Entries.{Entry}
+use Rattle.run_safety.specs.Safe.{IsOnLine}
+use Rattle.run_safety.proofs.Safety.{run_safe}
 use Rattle.mesh.specs.declared.whole.Mesh.{Mesh}
 use Rattle.mesh.specs.Order.{epoch_order}
 use Rattle.mesh.proofs.Cutting.{order_at_nodes}

@@ -8,15 +8,15 @@ use Rattle.journal_core.specs.Views.{HeadView, BatchView}
 use Rattle.journal_core.specs.declared.request.Request.{Request}
 use Rattle.journal_core.specs.declared.request.Request.TheVariants.{Journal}
 use Rattle.journal_core.specs.declared.reply.Reply.TheVariants as reply
-use Rattle.node_world.specs.declared.node_ask.NodeAsk.TheVariants.{Act}
-use Rattle.node_world.specs.declared.node_ask.NodeAnswer.TheVariants.{Replied}
-use Rattle.node_world.specs.declared.history_line.HistoryLine.{HistoryLine}
-use Rattle.node_world.specs.declared.record.Record.{Record}
-use Rattle.node_world.specs.declared.record.Record.TheVariants.{Call}
-use Rattle.node_world.specs.declared.record.Told.TheVariants as told
-use Rattle.node_world.specs.Entries.{Entry, Answer, Heard, Earlier, now, before as earlier_one}
-use Rattle.node_world.specs.Moving.{Placed, epoch_of, moves, move_of, entry_of, moving_of}
-use Rattle.node_world.specs.Safe.{SaidOk}
+use Rattle.node_history.specs.declared.node_ask.NodeAsk.TheVariants.{Act}
+use Rattle.node_history.specs.declared.node_ask.NodeAnswer.TheVariants.{Replied}
+use Rattle.node_history.specs.declared.history_line.HistoryLine.{HistoryLine}
+use Rattle.node_history.specs.declared.record.Record.{Record}
+use Rattle.node_history.specs.declared.record.Record.TheVariants.{Call}
+use Rattle.node_history.specs.declared.record.Told.TheVariants as told
+use Rattle.node_history.specs.Entries.{Entry, Answer, Heard, Earlier, now, before as earlier_one}
+use Rattle.node_history.specs.Moving.{Placed, epoch_of, moves, move_of, entry_of, moving_of}
+use Rattle.run_safety.specs.Safe.{SaidOk}
 use Rattle.mesh.specs.declared.whole.Mesh.{Mesh}
 use Rattle.mesh.specs.Agree.{operator_of, record_of, history_at, ListsAgree}
 use Rattle.mesh.specs.Matches.{reaches, reached, lines_of, IsSame, AreSame}

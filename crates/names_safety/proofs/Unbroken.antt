@@ -20,9 +20,9 @@ use Rattle.writer_core.specs.declared.turn.Outcome.TheVariants as outcome
 use Rattle.writer_core.specs.Views.{WriterView}
 use Rattle.writer_core.specs.Rounds.{Judged}
 use Rattle.writer_core.specs.Writer.{is_writing, writer_begun, writer_heard}
-use Rattle.node_world.specs.declared.record.Record.{Record}
-use Rattle.node_world.specs.declared.record.Record.TheVariants.{Call, Late, Operator, Outcome}
-use Rattle.node_world.specs.Entries.{Entry}
+use Rattle.node_history.specs.declared.record.Record.{Record}
+use Rattle.node_history.specs.declared.record.Record.TheVariants.{Call, Late, Operator, Outcome}
+use Rattle.node_history.specs.Entries.{Entry}
 use Rattle.mesh.specs.declared.whole.Mesh.{Mesh}
 use Rattle.mesh.specs.Agree.{operator_of, record_of, ListsAgree}
 use Rattle.mesh.specs.Makers.{heard_of}

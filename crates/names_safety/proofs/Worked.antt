@@ -15,16 +15,16 @@ use Rattle.ns_replay.specs.Decoded.{op_from, edit_from, opcode_of, decoded}
 use Rattle.ns_replay.specs.Admit.{admit_op, admit_of}
 use Rattle.ns_replay.specs.Apply.{apply_op, apply_of}
 use Rattle.ns_replay.specs.Replay.{entered, applied}
-use Rattle.node_world.specs.Cell.{cell_takes}
+use Rattle.node_history.specs.Cell.{cell_takes}
 use Rattle.mesh.specs.Marks.{calls_to}
 use Rattle.request_text.specs.Texts.{refusal_cause_text, refusal_name}
 use Rattle.name_node.specs.Submissions.{submitted}
 use Rattle.name_node.specs.Holding.{image_put, saved, reloaded, min_to_keep}
 use Rattle.name_node.specs.Tails.{pass_begun, least_purged, pass_end, tail_hears}
-use Rattle.script_actor.specs.Lines.{declared}
+use Rattle.script_actor.specs.Lines.{declared, ArePlayable}
 use Rattle.script_actor.specs.Results.{cause_word, cause_words, name_of, for_each, acked_from, acked, done_results, results_of, inactive_results, too_long_results, late_none, refusal_text, dues_logged, dues_aborted, abort_text}
 use Rattle.script_actor.specs.Actor.{fresh_actor, call_wanted, read_first, copy_first, says_first, wants, is_wanting, is_broken, tail_text, entry_text, tail_ended, tail_stepped, task_begun, copied, logged_when, trim_at, held_deed, deed_taken, settled, handed, logs_done, task_done, held_turn, turn_with, turn_taken, heard_by, moved_on, resettled, goes_on}
-use Rattle.cluster_runner.specs.Plays.{play_begins, actor_at, node_asked, noted, same_kind, is_marked, delivery, told_of, call_made, copy_made, wanted, is_done, line_taken, next_line, turned, play_step, play_steps, no_lines, has_ended}
+use Rattle.cluster_runner.specs.Plays.{play_begins, actor_at, node_asked, noted, same_kind, is_marked, delivery, told_of, call_made, copy_made, wanted, is_done, line_taken, next_line, turned, play_step, play_steps, no_lines, has_ended, IsPlay, ends_of}
 use Rattle.cluster_runner.specs.Told.{results_in}
 use Rattle.cluster_runner.specs.Examples.{results_at}
 use Rattle.cluster_runner.specs.NamesExamples.{played_named, last_at, left}
@@ -33,9 +33,7 @@ use Rattle.edit_ops.specs.declared.op.Op.TheVariants.{Mkdir}
 use Rattle.edit_ops.specs.Grammar.{IsEdit}
 use Rattle.ns_tree.specs.Space.{root_pair}
 use Rattle.ns_replay.specs.Examples.{plain}
-use Rattle.node_world.specs.Moving.{moving_of}
-use Rattle.script_actor.specs.Lines.{ArePlayable}
-use Rattle.cluster_runner.specs.Plays.{IsPlay, ends_of}
+use Rattle.node_history.specs.Moving.{moving_of}
 use Rattle.cluster_runner.specs.Safe.{IsSafeWithEnds}
 use Rattle.names_safety.specs.Examples.{tailed_lines}
 use Rattle.names_safety.proofs.NamedPlays.{plays_are_safe}

@@ -1,7 +1,7 @@
 -- Safety of a mesh that follows a script with names.
 use Rattle.std.specs.Prelude.{ℕ, ◌≤◌, Bool, true, List}
-use Rattle.node_world.specs.Entries.{Entry}
-use Rattle.node_world.specs.Moving.{moving_of}
+use Rattle.node_history.specs.Entries.{Entry}
+use Rattle.node_history.specs.Moving.{moving_of}
 use Rattle.mesh.specs.declared.whole.Mesh.{Mesh}
 use Rattle.mesh.specs.Agree.{ListsAgree, Agrees}
 use Rattle.mesh.specs.Order.{epoch_order}

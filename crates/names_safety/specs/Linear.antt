@@ -7,14 +7,14 @@ use Rattle.ns_tree.specs.Space.{Space}
 use Rattle.ns_replay.specs.Replay.{replay, replay_from, IsReplay, Image, IsImage}
 use Rattle.writer_core.specs.Rounds.{start_record, end_record}
 use Rattle.ns_replay.specs.Calls.{CallsApart}
-use Rattle.node_world.specs.declared.record.Record.{Record}
-use Rattle.node_world.specs.declared.record.Record.TheVariants.{Call}
-use Rattle.node_world.specs.declared.record.Told.{Told}
-use Rattle.node_world.specs.declared.record.Told.TheVariants as told
-use Rattle.node_world.specs.Entries.{Entry}
-use Rattle.node_world.specs.Moving.{moving_of}
-use Rattle.node_world.specs.Run.{IsRun}
-use Rattle.node_world.specs.Safe.{IsOnLine}
+use Rattle.node_history.specs.declared.record.Record.{Record}
+use Rattle.node_history.specs.declared.record.Record.TheVariants.{Call}
+use Rattle.node_history.specs.declared.record.Told.{Told}
+use Rattle.node_history.specs.declared.record.Told.TheVariants as told
+use Rattle.node_history.specs.Entries.{Entry}
+use Rattle.node_history.specs.Moving.{moving_of}
+use Rattle.run_safety.specs.Run.{IsRun}
+use Rattle.run_safety.specs.Safe.{IsOnLine}
 use Rattle.mesh.specs.declared.whole.Mesh.{Mesh}
 use Rattle.mesh.specs.Agree.{ListsAgree, operator_of, record_of}
 use Rattle.mesh.specs.Order.{placed_at, entries_at}

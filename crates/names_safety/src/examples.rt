@@ -1,6 +1,6 @@
 // A worked play with names, computed by the check.
 ghost use Rattle.std.specs.Prelude.{◌≡◌, ◌∷◌, [], true};
-ghost use Rattle.node_world.specs.Moving.{moving_of};
+ghost use Rattle.node_history.specs.Moving.{moving_of};
 ghost use Rattle.ns_tree.specs.Space.{root_pair};
 ghost use Rattle.script_actor.specs.Lines.{ArePlayable};
 ghost use Rattle.cluster_runner.specs.Plays.{IsPlay, ends_of};

@@ -16,7 +16,7 @@ use Rattle.batch_frame.specs.Frames.{entry_bytes}
 use Rattle.batch_frame.proofs.ReadLaws.{short_sized}
 use Rattle.segment_file.specs.declared.segment_row.SegmentRow.{SegmentRow}
 use Rattle.segment_file.specs.Rows.{find_row, put_row, remove_row, IsRowWithin}
-use Rattle.segment_file.specs.Opened.{AreInfos, AreStarts}
+use Rattle.segment_file.specs.RowsTell.{AreInfos, AreStarts}
 use Rattle.node_files.specs.declared.node_number.NodeNumber.{NodeNumber}
 use Rattle.node_files.specs.declared.node_number.NodeNumber.TheVariants.{Promised, Writer, Committed}
 use Rattle.node_files.specs.Deeds.{number_effect}

@@ -14,7 +14,7 @@ use Rattle.journal_core.specs.Places.{is_old}
 use Rattle.journal_core.specs.Step.{row_refused, row_effects, refused_at_once, fronted, effects_of, effects_behind, front_effects, is_final_one, finalize_refused}
 use Rattle.segment_file.specs.declared.segment_row.SegmentRow.{SegmentRow}
 use Rattle.segment_file.specs.Rows.{find_row}
-use Rattle.segment_file.specs.Opened.{AreInfos, AreStarts}
+use Rattle.segment_file.specs.RowsTell.{AreInfos, AreStarts}
 use Rattle.node_files.specs.declared.node_number.NodeNumber.TheVariants.{Promised, Writer, Committed}
 use Rattle.node_deeds.specs.declared.deed.Deed.{Deed}
 use Rattle.node_deeds.specs.declared.deed.Deed.TheVariants as deed

@@ -22,7 +22,7 @@ use Rattle.segment_file.specs.Calls.{NotFinal, HasNoEdit}
 use Rattle.node_files.specs.declared.node_number.NodeNumber.TheVariants.{Promised, Writer, Committed}
 use Rattle.node_deeds.specs.declared.deed.Deed.{Deed}
 use Rattle.node_deeds.specs.declared.deed.Deed.TheVariants as deed
-use Rattle.segment_file.specs.Opened.{AreInfos}
+use Rattle.segment_file.specs.RowsTell.{AreInfos}
 use Rattle.node_deeds.specs.Told.{Tells, state_with}
 use Rattle.node_deeds.specs.Table.{refusal_of, front_deeds, start_deeds, AreAppend, final_deeds, finalize_deeds, accept_deeds, purge_deeds, row_may_go, AreRowDeeds, AreDeedsBehind}
 use Rattle.node_deeds.specs.Due.{IsBeginDue, IsAppendDue, IsAcceptDue, IsFinalizeDue, IsRemoveDue, AreDue}

@@ -12,7 +12,7 @@ use Rattle.journal_core.specs.Answers.{last_of}
 use Rattle.journal_core.proofs.ServingLaws.{least_at, least_next, last_of_is}
 use Rattle.segment_file.specs.declared.segment_row.SegmentRow.{SegmentRow}
 use Rattle.segment_file.specs.Rows.{find_row, row_has_edit, RowsAbove, RowsRise, RowsWithin, AreSoundRows}
-use Rattle.segment_file.specs.Opened.{AreInfos, AreStarts}
+use Rattle.segment_file.specs.RowsTell.{AreInfos, AreStarts}
 use Rattle.node_deeds.specs.Told.{Tells, state_with, line_of}
 use Rattle.node_deeds.specs.Served.{open_count, row_count, or_row, serving_row, row_last, last_row, least_row, row_line, row_lines, row_told, IsServedBy, IsLineOf}
 use Rattle.node_deeds.proofs.ToldLaws.{IsTold, found, start_told, end_told, edit_told, rising_told}

@@ -7,7 +7,7 @@ use Rattle.journal_core.specs.Segments.{find_segment, newest, any_body, has_edit
 use Rattle.journal_core.specs.Step.{last_or_start}
 use Rattle.segment_file.specs.declared.segment_row.SegmentRow.{SegmentRow}
 use Rattle.segment_file.specs.Rows.{find_row, newest_row, row_has_edit, RowsAbove, RowsRise}
-use Rattle.segment_file.specs.Opened.{AreInfos, AreStarts}
+use Rattle.segment_file.specs.RowsTell.{AreInfos, AreStarts}
 use Rattle.node_deeds.specs.Told.{Tells}
 
 -- the row tells the segment, or there is none of either

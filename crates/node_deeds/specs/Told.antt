@@ -5,7 +5,7 @@ use Rattle.journal_core.specs.declared.segment_line.SegmentLine.{SegmentLine}
 use Rattle.journal_core.specs.declared.node_state.NodeState.{NodeState}
 use Rattle.journal_core.specs.Segments.{end_of}
 use Rattle.segment_file.specs.declared.segment_row.SegmentRow.{SegmentRow}
-use Rattle.segment_file.specs.Opened.{AreInfos, AreStarts}
+use Rattle.segment_file.specs.RowsTell.{AreInfos, AreStarts}
 
 -- The rows tell the segments. No start is 0, so that an end below the start says that there is no edit.
 pub record Tells (gs : List Segment) (rows : List SegmentRow) : Type 0 where

@@ -16,7 +16,7 @@ use Rattle.segment_file.specs.Names.{Kind, InProgress, Record, UnderWay, Fresh, 
 use Rattle.segment_file.specs.Stands.{HasEpoch}
 use Rattle.segment_file.specs.Effects.{Touches}
 use Rattle.segment_file.specs.Calls.{NotFinal, CanReplace, CanReplaceAgain}
-use Rattle.segment_file.proofs.OpenFiles.{one_epoch}
+use Rattle.segment_file.proofs.OneEpoch.{one_epoch}
 use Rattle.node_files.specs.Durable.{HoldsState}
 use Rattle.node_files.specs.Deeds.{CanAccept, IsCutAt}
 use Rattle.node_files.proofs.Names.{fronts_apart, outside_other}

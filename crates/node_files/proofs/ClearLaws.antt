@@ -11,7 +11,7 @@ use Rattle.small_files.specs.Records.{paxos_name}
 use Rattle.small_files.specs.Puts.{OneCut}
 use Rattle.segment_file.specs.Names.{Kind, record_, InProgress, Record, FreshRecord, front_of, name_of}
 use Rattle.segment_file.specs.Effects.{IsCounted}
-use Rattle.segment_file.specs.Opening.{IsOther}
+use Rattle.segment_opening.specs.Opening.{IsOther}
 use Rattle.segment_file.proofs.Frame.{apart, kinds_apart}
 use Rattle.segment_file.proofs.AcceptLemmas.{record_name}
 use Rattle.segment_file.proofs.Counts.{counted_one}

@@ -13,7 +13,7 @@ use Rattle.segment_file.specs.Names.{Kind, progress, final, record_, front_of, I
 use Rattle.segment_file.specs.Effects.{IsOutside, Touches}
 use Rattle.segment_file.specs.Calls.{CanFinalize, CanDiscard}
 use Rattle.segment_file.proofs.EffectLaws.{none_is_not}
-use Rattle.segment_file.proofs.OpenLemmas.{NotAccepted}
+use Rattle.segment_opening.proofs.OpenLemmas.{NotAccepted}
 use Rattle.node_files.specs.Durable.{HoldsState}
 use Rattle.node_files.specs.Deeds.{Clears}
 use Rattle.node_files.proofs.Names.{fronts_apart}

@@ -4,7 +4,7 @@ use Rattle.std.specs.Prelude.{Some}
 use Rattle.std.proofs.lemmas.Bool.{cond_both}
 use Rattle.journal_core.specs.declared.segment.Segment.{Segment}
 use Rattle.journal_core.specs.Segments.{find_segment, put_segment, remove_segment, has_edit, any_body}
-use Rattle.segment_file.specs.Opened.{AreStarts}
+use Rattle.segment_file.specs.RowsTell.{AreStarts}
 use Rattle.node_files.specs.Durable.{AreFilled}
 
 pub starts_put : (g : Segment) (gs : List Segment) → 1 ≤ g.start → g.start ≤ 2 ^ 62 → AreStarts gs → AreStarts (put_segment g gs)

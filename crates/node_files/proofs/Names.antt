@@ -3,10 +3,10 @@ use Rattle.std.proofs.Common.{◌≡◌, ◌≢◌, ℕ, List, [], ◌∷◌, ap
 use Rattle.small_files.specs.Puts.{temporary}
 use Rattle.segment_file.specs.Names.{Kind, front_of, name_of}
 use Rattle.segment_file.specs.Effects.{IsOutside}
-use Rattle.segment_file.specs.Opening.{IsOther}
+use Rattle.segment_opening.specs.Opening.{IsOther}
 use Rattle.segment_file.proofs.NamesLemmas.{front_in, front_is}
 use Rattle.segment_file.proofs.Frame.{apart}
-use Rattle.segment_file.proofs.OpenLemmas.{IsElsewhere, elsewhere}
+use Rattle.segment_opening.proofs.OpenLemmas.{IsElsewhere, elsewhere}
 use Rattle.node_files.specs.declared.node_number.NodeNumber.{NodeNumber}
 use Rattle.node_files.specs.declared.node_number.NodeNumber.TheVariants.{Promised, Writer, Committed}
 use Rattle.node_files.specs.Durable.{number_name}

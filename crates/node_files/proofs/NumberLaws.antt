@@ -19,10 +19,10 @@ use Rattle.segment_file.specs.Names.{Kind, InProgress, Final, Record, UnderWay, 
 use Rattle.segment_file.specs.Stands.{StandsFor}
 use Rattle.segment_file.specs.Effects.{IsTidy, IsReady, AppendsAt}
 use Rattle.segment_file.proofs.Frame.{stands_same}
-use Rattle.segment_file.proofs.OpenLemmas.{elsewhere}
+use Rattle.segment_opening.proofs.OpenLemmas.{elsewhere}
 use Rattle.node_files.specs.declared.node_number.NodeNumber.{NodeNumber}
 use Rattle.node_files.specs.declared.node_number.NodeNumber.TheVariants.{Promised, Writer, Committed}
-use Rattle.segment_file.specs.Opened.{OnlyAccepted, AreStarts}
+use Rattle.segment_file.specs.RowsTell.{OnlyAccepted, AreStarts}
 use Rattle.node_files.specs.Durable.{number_name, number_of, HaveNumbers, StandsAs, AreFilled, HoldsState}
 use Rattle.node_files.specs.Deeds.{number_effect, Does, IsCutAt}
 use Rattle.node_files.proofs.Names.{number_elsewhere, temporary_elsewhere, numbers_apart, temporaries_apart, number_no_temporary}

@@ -20,7 +20,7 @@ use Rattle.segment_file.specs.Effects.{OnlyOf, Touches, Becomes, IsReady, IsCut}
 use Rattle.segment_file.specs.Calls.{HasNoEdit, HasOtherEpoch}
 use Rattle.node_files.specs.declared.node_number.NodeNumber.{NodeNumber}
 use Rattle.node_files.specs.declared.node_number.NodeNumber.TheVariants.{Promised, Writer, Committed}
-use Rattle.segment_file.specs.Opened.{OnlyAccepted, AreStarts}
+use Rattle.segment_file.specs.RowsTell.{OnlyAccepted, AreStarts}
 use Rattle.segment_file.proofs.EffectLaws.{none_is_not}
 use Rattle.node_files.specs.Durable.{number_name, number_of, HaveNumbers, StandsAs, AreFilled, HoldsState}
 use Rattle.node_files.specs.Deeds.{Does, IsCutAt, KeepsOthers}

@@ -8,13 +8,13 @@ use Rattle.small_files.specs.Records.{IsNumber}
 use Rattle.journal_core.specs.declared.segment.Segment.{Segment}
 use Rattle.journal_core.specs.declared.node_state.NodeState.{NodeState}
 use Rattle.segment_file.specs.Names.{InProgress, FreshRecord, name_of}
-use Rattle.segment_file.specs.Opening.{Repairs, IsRepaired, IsFirst, IsBadRecordFile}
-use Rattle.segment_file.specs.Opened.{IsBadSegmentFile, AreOpened}
-use Rattle.segment_file.specs.Completing.{Spares}
+use Rattle.segment_opening.specs.Opening.{Repairs, IsRepaired, IsFirst, IsBadRecordFile}
+use Rattle.segment_opening.specs.Opened.{IsBadSegmentFile, AreOpened}
+use Rattle.segment_opening.specs.Completing.{Spares}
 use Rattle.segment_file.specs.Rows.{AreSoundRows}
 use Rattle.segment_file.specs.declared.segment_row.SegmentRow.{SegmentRow}
-use Rattle.segment_file.proofs.OpenBad.{bad_record_stands, bad_segment_stands}
-use Rattle.segment_file.proofs.CompletedBack.{completed_stood}
+use Rattle.segment_opening.proofs.OpenBad.{bad_record_stands, bad_segment_stands}
+use Rattle.segment_opening.proofs.CompletedBack.{completed_stood}
 use Rattle.segment_file.proofs.RowsTold.{tell_segments}
 use Rattle.node_files.specs.declared.node_number.NodeNumber.{NodeNumber}
 use Rattle.node_files.specs.declared.node_number.NodeNumber.TheVariants.{Promised, Writer, Committed}

@@ -7,7 +7,7 @@ use Rattle.std.specs.declared.cmp.Ordering.TheVariants.{Less, Equal, Greater}
 use Rattle.qj_disk.specs.Files.{Files}
 use Rattle.small_files.specs.Records.{IsNumber}
 use Rattle.journal_core.specs.declared.node_state.NodeState.{NodeState}
-use Rattle.segment_file.specs.Opening.{IsFirst}
+use Rattle.segment_opening.specs.Opening.{IsFirst}
 use Rattle.node_files.specs.declared.node_number.NodeNumber.{NodeNumber}
 use Rattle.node_files.specs.declared.node_number.NodeNumber.TheVariants.{Promised, Writer, Committed}
 use Rattle.node_files.specs.declared.node_numbers.NodeNumbers.{NodeNumbers}

@@ -7,10 +7,10 @@ use Rattle.qj_disk.specs.Calls.{Keeps}
 use Rattle.qj_disk.specs.Runs.{Quiet, joined, weaker}
 use Rattle.journal_core.specs.declared.node_state.NodeState.{NodeState}
 use Rattle.segment_file.specs.Names.{name_of}
-use Rattle.segment_file.specs.Opening.{IsTemporary, Repairs, SyncsOnly}
+use Rattle.segment_opening.specs.Opening.{IsTemporary, Repairs, SyncsOnly}
 use Rattle.segment_file.proofs.Frame.{stands_same}
-use Rattle.segment_file.proofs.StableLaws.{end_byte, end_behind}
-use Rattle.segment_file.proofs.SyncLemmas.{stays}
+use Rattle.segment_opening.proofs.StableLaws.{end_byte, end_behind}
+use Rattle.segment_opening.proofs.SyncLemmas.{stays}
 use Rattle.small_files.specs.Records.{IsNumber}
 use Rattle.node_files.specs.declared.node_number.NodeNumber.{NodeNumber}
 use Rattle.node_files.specs.declared.node_number.NodeNumber.TheVariants.{Promised, Writer, Committed}

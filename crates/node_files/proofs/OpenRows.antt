@@ -8,7 +8,7 @@ use Rattle.journal_core.specs.declared.segment_info.SegmentInfo.{SegmentInfo}
 use Rattle.journal_core.specs.Segments.{AreSound}
 use Rattle.segment_file.specs.Names.{InProgress, name_of}
 use Rattle.segment_file.specs.Stands.{StandsFor}
-use Rattle.segment_file.specs.Opened.{IsRowOf, AreRowsOf, AreStarts}
+use Rattle.segment_file.specs.RowsTell.{IsRowOf, AreRowsOf, AreStarts}
 use Rattle.segment_file.specs.Rows.{RowsWithin, AreSoundRows}
 use Rattle.segment_file.specs.declared.segment_row.SegmentRow.{SegmentRow}
 use Rattle.segment_file.proofs.RowsOf.{row_start, same_edit}

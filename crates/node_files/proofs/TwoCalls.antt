@@ -20,7 +20,7 @@ use Rattle.segment_file.specs.Stands.{StandsFor}
 use Rattle.segment_file.specs.Effects.{IsTidy, Touches, IsReady, IsCounted}
 use Rattle.segment_file.proofs.Single.{tidy_left}
 use Rattle.segment_file.proofs.RenamedLaws.{same_files_stand}
-use Rattle.segment_file.proofs.OpenLemmas.{NotAccepted, record_gone_stands}
+use Rattle.segment_opening.proofs.OpenLemmas.{NotAccepted, record_gone_stands}
 use Rattle.segment_file.proofs.GateLemmas.{passed_none}
 use Rattle.segment_file.proofs.Counts.{passed_on, counted_on, counted_off}
 use Rattle.node_files.specs.Durable.{number_name, HaveNumbers, StandsAs, HoldsState}

@@ -14,7 +14,7 @@ use Rattle.journal_core.specs.Effects.{Effect, Promise, WriterEpoch, Commit}
 use Rattle.segment_file.specs.Names.{Record, name_of}
 use Rattle.segment_file.specs.Calls.{NotFinal, HasNoEdit}
 use Rattle.segment_file.specs.Effects.{AppendsAt, choice_of, IsLeft}
-use Rattle.segment_file.specs.Opening.{IsOther}
+use Rattle.segment_opening.specs.Opening.{IsOther}
 use Rattle.node_files.specs.declared.node_number.NodeNumber.{NodeNumber}
 use Rattle.node_files.specs.declared.node_number.NodeNumber.TheVariants.{Promised, Writer, Committed}
 use Rattle.node_files.specs.Durable.{StandsAs, HoldsState}

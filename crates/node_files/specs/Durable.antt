@@ -10,7 +10,7 @@ use Rattle.journal_core.specs.Segments.{has_edit}
 use Rattle.segment_file.specs.Names.{FreshRecord, name_of}
 use Rattle.segment_file.specs.Stands.{StandsFor}
 use Rattle.segment_file.specs.Effects.{IsReady}
-use Rattle.segment_file.specs.Opened.{OnlyAccepted, AreStarts}
+use Rattle.segment_file.specs.RowsTell.{OnlyAccepted, AreStarts}
 use Rattle.node_files.specs.declared.node_number.NodeNumber.{NodeNumber}
 use Rattle.node_files.specs.declared.node_number.NodeNumber.TheVariants.{Promised, Writer, Committed}
 

@@ -5,8 +5,8 @@ use Rattle.qj_disk.specs.View.{View}
 use Rattle.qj_disk.specs.declared.disk.DiskFail.{DiskFail}
 use Rattle.small_files.specs.Records.{IsNumber}
 use Rattle.segment_file.specs.Names.{InProgress, name_of}
-use Rattle.segment_file.specs.Opening.{IsFirst}
-use Rattle.segment_file.specs.Opened.{IsBadSegmentFile}
+use Rattle.segment_opening.specs.Opening.{IsFirst}
+use Rattle.segment_opening.specs.Opened.{IsBadSegmentFile}
 use Rattle.segment_file.specs.Rows.{row_has_edit}
 use Rattle.segment_file.specs.declared.segment_row.SegmentRow.{SegmentRow}
 use Rattle.node_files.specs.declared.node_number.NodeNumber.{NodeNumber}

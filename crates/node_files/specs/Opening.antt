@@ -10,9 +10,10 @@ use Rattle.journal_core.specs.declared.node_state.NodeState.{NodeState}
 use Rattle.journal_core.specs.Segments.{has_edit, AreSound}
 use Rattle.segment_file.specs.Names.{InProgress, name_of}
 use Rattle.segment_file.specs.Stands.{StandsFor}
-use Rattle.segment_file.specs.Opening.{IsLastingFile, IsFirst, IsBadRecordFile}
-use Rattle.segment_file.specs.Opened.{IsBadSegmentFile, AreRowsOf, AreStarts, TellSegments}
-use Rattle.segment_file.specs.Completing.{Spares}
+use Rattle.segment_opening.specs.Opening.{IsLastingFile, IsFirst, IsBadRecordFile}
+use Rattle.segment_opening.specs.Opened.{IsBadSegmentFile}
+use Rattle.segment_file.specs.RowsTell.{AreRowsOf, AreStarts, TellSegments}
+use Rattle.segment_opening.specs.Completing.{Spares}
 use Rattle.node_files.specs.declared.node_number.NodeNumber.{NodeNumber}
 use Rattle.node_files.specs.declared.node_number.NodeNumber.TheVariants.{Promised, Writer, Committed}
 use Rattle.node_files.specs.declared.node_numbers.NodeNumbers.{NodeNumbers}

@@ -6,7 +6,7 @@ ghost use Rattle.qj_disk.specs.Calls.{HasCause, Rests};
 ghost use Rattle.qj_disk.specs.Runs.{Quiet};
 ghost use Rattle.journal_core.specs.declared.node_state.NodeState.{NodeState};
 ghost use Rattle.segment_file.specs.Names.{name_of, InProgress};
-ghost use Rattle.segment_file.specs.Opening.{SegmentsStable, IsRepaired, Repairs};
+ghost use Rattle.segment_opening.specs.Opening.{SegmentsStable, IsRepaired, Repairs};
 ghost use Rattle.node_files.specs.Durable.{StandsAs};
 ghost use Rattle.node_files.specs.Opening.{NumbersStable, HaveNodeNumbers, AreSmall, OpensAs, Refuses, IsWithinFiles, files_result};
 ghost use Rattle.node_files.specs.OpenSteps.{IsFilledRow, LacksEdit, AreFilledRows, IsUnfilledRow, IsNumberRead, AreNumbersRead, read_result, IsBadAt, IsMade, IsFoundRepaired};
@@ -18,9 +18,8 @@ use crate::opened::OpenedFiles;
 use crate::syncing::sync_files;
 use qj_disk::{Disk, DiskFail};
 use qj_num::Name;
-use segment_file::{
-    Completed, Opened, SegmentRow, SegmentTable, complete_half_done, open_all, progress_name,
-};
+use segment_file::{SegmentRow, SegmentTable, progress_name};
+use segment_opening::{Completed, Opened, complete_half_done, open_all};
 use small_files::{Got, NumberFile};
 use std::alloc::Global;
 

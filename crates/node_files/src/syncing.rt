@@ -4,13 +4,13 @@ ghost use Rattle.qj_disk.specs.Files.{IsSame};
 ghost use Rattle.qj_disk.specs.View.{IsStable};
 ghost use Rattle.qj_disk.specs.Calls.{HasCause, Keeps};
 ghost use Rattle.qj_disk.specs.Runs.{Quiet};
-ghost use Rattle.segment_file.specs.Opening.{SegmentsStable, SyncsOnly};
+ghost use Rattle.segment_opening.specs.Opening.{SegmentsStable, SyncsOnly};
 ghost use Rattle.node_files.specs.Durable.{number_name};
 ghost use Rattle.node_files.specs.Opening.{IsNumberFile, IsOwnFile, NumbersStable};
 
 use crate::node_number::NodeNumber;
 use qj_disk::{Disk, DiskFail};
-use segment_file::sync_segments;
+use segment_opening::sync_segments;
 
 // Syncs the file of a number, if it is there.
 fn sync_number<D: Disk>(disk: &mut D, number: NodeNumber) -> Result<(), DiskFail>

@@ -7,7 +7,8 @@ use crate::bodies::bodies;
 use journal_core::{
     Cut, Node, NodeState, PlainNode, Refusal, Reply, Request, Segment, SharedRequest,
 };
-use node_world::{Event, Fate, HistoryLine, NodeAnswer, NodeAsk, NodeCell, Seen, Stop, World};
+use node_history::{Event, Fate, HistoryLine, NodeAnswer, NodeAsk, NodeCell, Stop};
+use node_world::{Seen, World};
 use std::alloc::Global;
 use std::process::Abort;
 use std::test::Fail;

@@ -16,20 +16,20 @@ use Rattle.writer_core.specs.Views.{WriterView}
 use Rattle.writer_core.specs.Best.{Best, best_of, best_from}
 use Rattle.writer_core.proofs.Plain.{plain_slot, best_plain}
 use Rattle.writer_core.proofs.PlainRounds.{IsWhole}
-use Rattle.node_world.specs.Entries.{Entry, Heard, Earlier, now, node_after}
-use Rattle.node_world.specs.Run.{Story, Follows, WasHeard, IsNext}
-use Rattle.node_world.specs.Safe.{IsHeld}
-use Rattle.node_world.proofs.Places.{Earlier-trans, Earlier-tail, next_of}
+use Rattle.node_history.specs.Entries.{Entry, Heard, Earlier, now, node_after}
+use Rattle.run_safety.specs.Run.{Story, Follows, WasHeard, IsNext}
+use Rattle.run_safety.specs.Safe.{IsHeld}
+use Rattle.run_safety.proofs.Places.{Earlier-trans, Earlier-tail, next_of}
 use Rattle.journal_core.proofs.SegmentLists.{find-start}
-use Rattle.node_world.proofs.Slots.{none≢some, some_same}
-use Rattle.node_world.proofs.SeenLaws.{Round, Propose, Ask, Get, Recover, Seal, Open, Write, Clean, Other, asked}
-use Rattle.node_world.proofs.Frames.{Getting}
-use Rattle.node_world.proofs.Answers.{BestTold, best_heard}
-use Rattle.node_world.proofs.Oks.{Passed, passed, prepare_told}
-use Rattle.node_world.proofs.Sent.{OfRound, round_of, to}
-use Rattle.node_world.proofs.Safety.{finalised_agree}
-use Rattle.node_world.proofs.Tales.{Tale}
-use Rattle.node_world.proofs.Tracked.{Tracked, Stands, calling, fetching, writing}
+use Rattle.run_safety.proofs.Slots.{none≢some, some_same}
+use Rattle.run_safety.proofs.SeenLaws.{Round, Propose, Ask, Get, Recover, Seal, Open, Write, Clean, Other, asked}
+use Rattle.run_safety.proofs.Frames.{Getting}
+use Rattle.run_safety.proofs.Answers.{BestTold, best_heard}
+use Rattle.run_safety.proofs.Oks.{Passed, passed, prepare_told}
+use Rattle.run_safety.proofs.Sent.{OfRound, round_of, to}
+use Rattle.run_safety.proofs.Safety.{finalised_agree}
+use Rattle.run_safety.proofs.Tales.{Tale}
+use Rattle.run_safety.proofs.Tracked.{Tracked, Stands, calling, fetching, writing}
 use Rattle.node_world.proofs.Passing.{Fetching}
 use Rattle.node_world.proofs.Rivals.{Within, within}
 

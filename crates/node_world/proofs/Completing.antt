@@ -16,25 +16,26 @@ use Rattle.writer_core.specs.declared.task.Begun.TheVariants as begun
 use Rattle.writer_core.specs.Views.{WriterView}
 use Rattle.writer_core.specs.Writer.{next_call, is_under_way, writer_begun, writer_heard, writer_stopped}
 use Rattle.writer_core.proofs.WholeRounds.{calling_in}
-use Rattle.node_world.specs.declared.event.Fate.{Fate}
-use Rattle.node_world.specs.declared.event.Event.{Event}
-use Rattle.node_world.specs.declared.event.Event.TheVariants.{Begin, Call, Late, Kill, Restart, Arm, GiveUp, Checkpoint}
+use Rattle.node_history.specs.declared.event.Fate.{Fate}
+use Rattle.node_history.specs.declared.event.Event.{Event}
+use Rattle.node_history.specs.declared.event.Event.TheVariants.{Begin, Call, Late, Kill, Restart, Arm, GiveUp, Checkpoint}
 use Rattle.node_world.specs.declared.seen.Seen.TheVariants as seen
-use Rattle.node_world.specs.declared.stop.Stop.{Stop}
-use Rattle.node_world.specs.declared.node_ask.NodeAsk.{NodeAsk}
-use Rattle.node_world.specs.declared.node_ask.NodeAsk.TheVariants as ask
-use Rattle.node_world.specs.Cell.{Cell, cell_takes, killed, started_again, armed}
+use Rattle.node_history.specs.declared.stop.Stop.{Stop}
+use Rattle.node_history.specs.declared.node_ask.NodeAsk.{NodeAsk}
+use Rattle.node_history.specs.declared.node_ask.NodeAsk.TheVariants as ask
+use Rattle.node_history.specs.Cell.{Cell, cell_takes, killed, started_again, armed}
 use Rattle.node_world.specs.Complete.{IsAnswered, IsLow, IsServed, AreServed, HasBegun}
-use Rattle.node_world.specs.Majority.{Member, IsMajority}
-use Rattle.node_world.specs.Run.{Follows}
-use Rattle.node_world.specs.World.{Acting, fresh_acting, World, new_world, cell_at, acting_at, node_asked, with_acting, with_writer, with_call, task_begun, task_begins, call_heard, call_reached, called_by, is_reading, is_call, was_made, copied_when, operated, world_step, world_after, IsEvent, AreEvents}
-use Rattle.node_world.proofs.Slots.{true≢false}
+use Rattle.run_safety.specs.Majority.{Member, IsMajority}
+use Rattle.run_safety.specs.Run.{Follows}
+use Rattle.run_safety.specs.Actings.{Acting, fresh_acting, was_made}
+use Rattle.node_world.specs.World.{World, new_world, cell_at, acting_at, node_asked, with_acting, with_writer, with_call, task_begun, task_begins, call_heard, call_reached, called_by, is_reading, is_call, copied_when, operated, world_step, world_after, IsEvent, AreEvents}
+use Rattle.run_safety.proofs.Slots.{true≢false}
 use Rattle.node_world.proofs.Enough.{all_wait, none_in}
-use Rattle.node_world.proofs.CallLeft.{HasEpoch}
+use Rattle.run_safety.proofs.CallLeft.{HasEpoch}
 use Rattle.node_world.proofs.Passing.{goes, writes, wait_low}
 use Rattle.node_world.proofs.WorldNodes.{entries}
 use Rattle.node_world.proofs.WorldEntries.{state_at}
-use Rattle.node_world.proofs.WorldActs.{IsMadeBy, own_get, call_own}
+use Rattle.run_safety.proofs.WorldActs.{IsMadeBy, own_get, call_own}
 use Rattle.node_world.proofs.WorldRuns.{Runs, runs_follow, step_runs, steps_run, new_runs, Reached, reached, reading_no_epoch, call_is, asked_same}
 use Rattle.node_world.proofs.NodeFacts.{state, sane, Changed, asked_here, asked_other, request_changed, promise_kept, call_changed, call_other, call_promise}
 use Rattle.node_world.proofs.Serves.{Sane}

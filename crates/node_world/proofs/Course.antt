@@ -17,24 +17,25 @@ use Rattle.writer_core.specs.declared.phase.Aim.TheVariants as aim
 use Rattle.writer_core.specs.declared.slot.Slot.TheVariants.{Waiting, Told}
 use Rattle.writer_core.specs.Views.{WriterView}
 use Rattle.writer_core.specs.Answers.{fits_round}
-use Rattle.node_world.specs.Majority.{Member, IsMajority}
-use Rattle.node_world.specs.Moving.{epoch_of}
-use Rattle.node_world.specs.Same.{same_request}
-use Rattle.node_world.specs.Entries.{Entry, node_after}
-use Rattle.node_world.specs.World.{CallMade, Acting, World, acting_at, was_made}
-use Rattle.node_world.proofs.Slots.{none≢some, some_same, true≢false, At}
-use Rattle.node_world.proofs.SameLaws.{request_same}
-use Rattle.node_world.proofs.CallLeft.{HasEpoch}
+use Rattle.run_safety.specs.Majority.{Member, IsMajority}
+use Rattle.node_history.specs.Moving.{epoch_of}
+use Rattle.node_history.specs.Same.{same_request}
+use Rattle.node_history.specs.Entries.{Entry, node_after}
+use Rattle.run_safety.specs.Actings.{CallMade, Acting, was_made}
+use Rattle.node_world.specs.World.{World, acting_at}
+use Rattle.run_safety.proofs.Slots.{none≢some, some_same, true≢false, At}
+use Rattle.node_history.proofs.SameLaws.{request_same}
+use Rattle.run_safety.proofs.CallLeft.{HasEpoch}
 use Rattle.node_world.proofs.Touches.{touched}
-use Rattle.node_world.proofs.Tales.{Tale}
-use Rattle.node_world.proofs.Tracked.{Tracked, is_free, Status, free, asking, tracked}
+use Rattle.run_safety.proofs.Tales.{Tale}
+use Rattle.run_safety.proofs.Tracked.{Tracked, is_free, Status, free, asking, tracked}
 use Rattle.node_world.proofs.Duties.{Off, AreOld, Due, Ready, After, Part, waits, told, Voted, Voter, IsOutside}
 use Rattle.node_world.proofs.Duties as duties
 use Rattle.node_world.proofs.Passing.{AreIn, Facts, Way, goes, writes, AreLow}
 use Rattle.node_world.proofs.Rivals.{within, owned, voted, Rival, rival}
 use Rattle.node_world.proofs.WorldNodes.{entries}
 use Rattle.node_world.proofs.WorldEntries.{state_at}
-use Rattle.node_world.proofs.WorldActs.{IsMadeBy}
+use Rattle.run_safety.proofs.WorldActs.{IsMadeBy}
 use Rattle.node_world.proofs.WorldRuns.{Runs, runs_follow}
 use Rattle.node_world.proofs.NodeFacts.{state, Changed, still, by_request, fell}
 

@@ -15,8 +15,8 @@ use Rattle.writer_core.specs.declared.slot.Slot.TheVariants.{Waiting, Told}
 use Rattle.writer_core.specs.Views.{WriterView}
 use Rattle.writer_core.specs.Answers.{fits_round}
 use Rattle.writer_core.specs.Rounds.{numbers_fit}
-use Rattle.node_world.specs.World.{CallMade}
-use Rattle.node_world.proofs.Slots.{At}
+use Rattle.run_safety.specs.Actings.{CallMade}
+use Rattle.run_safety.proofs.Slots.{At}
 use Rattle.node_world.proofs.Heeding.{UpTo, Below, IsOpened, HoldsTo, MayAccept}
 
 -- ## Out of the count: a higher promise, or down

@@ -9,9 +9,9 @@ use Rattle.writer_core.specs.declared.slot.Slot.{Slot}
 use Rattle.writer_core.specs.declared.slot.Slot.TheVariants.{Waiting, LeftOut}
 use Rattle.writer_core.specs.Answers.{is_ok, is_waiting, has_majority}
 use Rattle.writer_core.specs.Rounds.{to_all, to_others, missed}
-use Rattle.node_world.specs.Majority.{Member, Distinct, IsMajority}
-use Rattle.node_world.proofs.Majorities.{without}
-use Rattle.node_world.proofs.Slots.{At, At-range, ok_from, ok_count}
+use Rattle.run_safety.specs.Majority.{Member, Distinct, IsMajority}
+use Rattle.run_safety.proofs.Majorities.{without}
+use Rattle.run_safety.proofs.Slots.{At, At-range, ok_from, ok_count}
 
 -- ## Distinct nodes of a list are no more than the list
 length-less : (x : ℕ) (ys : List ℕ) → Member x ys → suc (length (without x ys)) ≤ length ys

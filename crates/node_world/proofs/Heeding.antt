@@ -21,10 +21,10 @@ use Rattle.writer_core.specs.Answers.{fits}
 use Rattle.node_world.specs.Complete.{IsHeeded}
 use Rattle.journal_core.proofs.Steps.{Acted, at_once, by_row, done, acted, AllQuiet, quiet_first}
 use Rattle.journal_core.proofs.SegmentLists.{find-start, find-put_same}
-use Rattle.node_world.proofs.Slots.{none≢some, true≢false}
+use Rattle.run_safety.proofs.Slots.{none≢some, true≢false}
 use Rattle.journal_core.proofs.Changes.{Change, same, created, grown, made_final, replaced, removed, change_answered}
-use Rattle.node_world.proofs.Oks.{Passed, passed_segments}
-use Rattle.node_world.proofs.Requests.{Fronted, behind}
+use Rattle.run_safety.proofs.Oks.{Passed, passed_segments}
+use Rattle.node_history.proofs.Requests.{Fronted, behind}
 use Rattle.node_world.proofs.Ranges.{AllSmall, numbers_small}
 
 -- ## A request that is taken

@@ -6,24 +6,24 @@ use Rattle.journal_core.specs.declared.segment.Segment.{Segment}
 use Rattle.journal_core.specs.declared.node_state.NodeState.{NodeState}
 use Rattle.journal_core.specs.declared.request.Request.{Request}
 use Rattle.journal_core.specs.declared.heard.Heard.TheVariants as heard
-use Rattle.node_world.specs.declared.event.Fate.{Fate}
-use Rattle.node_world.specs.declared.event.Fate.TheVariants as fate
+use Rattle.node_history.specs.declared.event.Fate.{Fate}
+use Rattle.node_history.specs.declared.event.Fate.TheVariants as fate
 use Rattle.node_world.specs.declared.seen.Seen.TheVariants as seen
-use Rattle.node_world.specs.declared.node_ask.NodeAsk.{NodeAsk}
-use Rattle.node_world.specs.declared.node_ask.NodeAsk.TheVariants as ask
-use Rattle.node_world.specs.declared.node_ask.NodeAnswer.{NodeAnswer}
-use Rattle.node_world.specs.Cell.{Cell, fresh_cell}
+use Rattle.node_history.specs.declared.node_ask.NodeAsk.{NodeAsk}
+use Rattle.node_history.specs.declared.node_ask.NodeAsk.TheVariants as ask
+use Rattle.node_history.specs.declared.node_ask.NodeAnswer.{NodeAnswer}
+use Rattle.node_history.specs.Cell.{Cell, fresh_cell, stopping, heard_of}
 use Rattle.node_world.specs.Complete.{IsHeeded, IsAnswered}
-use Rattle.node_world.specs.Entries.{now, node_after}
-use Rattle.node_world.specs.Parts.{IsBehindFinalised}
-use Rattle.node_world.specs.World.{World, cell_at, stopping, taken_at, node_asked, heard_of, call_heard, call_reached}
-use Rattle.node_world.proofs.SoundNodes.{stored_after, led_after}
-use Rattle.node_world.proofs.Kept.{segments_chained}
+use Rattle.node_history.specs.Entries.{now, node_after}
+use Rattle.run_safety.specs.Parts.{IsBehindFinalised}
+use Rattle.node_world.specs.World.{World, cell_at, taken_at, node_asked, call_heard, call_reached}
+use Rattle.run_safety.proofs.SoundNodes.{stored_after, led_after}
+use Rattle.run_safety.proofs.Kept.{segments_chained}
 use Rattle.journal_core.proofs.SegmentLists.{find-start}
-use Rattle.node_world.proofs.Slots.{true≢false}
+use Rattle.run_safety.proofs.Slots.{true≢false}
 use Rattle.node_world.proofs.Ranges.{small_after, ends_after}
-use Rattle.node_world.proofs.CellLaws.{promise}
-use Rattle.node_world.proofs.Entering.{Asked, replied, cut_off, asked}
+use Rattle.node_history.proofs.CellLaws.{promise}
+use Rattle.run_safety.proofs.Entering.{Asked, replied, cut_off, asked}
 use Rattle.node_world.proofs.Serves.{Sane}
 use Rattle.node_world.proofs.WorldNodes.{entries, stopping_state}
 use Rattle.node_world.proofs.WorldEntries.{state_at}

@@ -27,28 +27,29 @@ use Rattle.writer_core.specs.Rounds.{request_in, failed}
 use Rattle.writer_core.specs.Writer.{next_call, node_in, with_answer, heard_in, heard_at, writer_heard}
 use Rattle.writer_core.proofs.PlainRounds.{IsWhole}
 use Rattle.writer_core.proofs.WholeRounds.{IsCalling, calling_in, whole_first}
-use Rattle.node_world.specs.declared.event.Fate.{Fate}
+use Rattle.node_history.specs.declared.event.Fate.{Fate}
 use Rattle.node_world.specs.declared.seen.Seen.TheVariants as seen
 use Rattle.node_world.specs.Complete.{IsHeeded, IsAnswered, IsLow}
-use Rattle.node_world.specs.Run.{Story, Follows}
-use Rattle.node_world.specs.Entries.{Entry, Earlier, now, before, node_after}
-use Rattle.node_world.specs.Majority.{Member, IsMajority}
-use Rattle.node_world.specs.World.{CallMade, World, acting_at, call_heard, call_reached}
-use Rattle.node_world.proofs.Slots.{none≢some, some_same, true≢false, At, best_told, TellsSegment}
-use Rattle.node_world.proofs.Answers.{segment_slot, fits_info}
+use Rattle.run_safety.specs.Run.{Story, Follows}
+use Rattle.node_history.specs.Entries.{Entry, Earlier, now, before, node_after}
+use Rattle.run_safety.specs.Majority.{Member, IsMajority}
+use Rattle.run_safety.specs.Actings.{CallMade}
+use Rattle.node_world.specs.World.{World, acting_at, call_heard, call_reached}
+use Rattle.run_safety.proofs.Slots.{none≢some, some_same, true≢false, At, best_told, TellsSegment}
+use Rattle.run_safety.proofs.Answers.{segment_slot, fits_info}
 use Rattle.node_world.proofs.Enough.{waits_any}
-use Rattle.node_world.proofs.CallLeft.{CallLeft, nothing, unheard, answered}
+use Rattle.run_safety.proofs.CallLeft.{CallLeft, nothing, unheard, answered}
 use Rattle.node_world.proofs.Heeding.{low_proposal}
 use Rattle.node_world.proofs.Duties.{AreOld, Voted, Voter}
 use Rattle.node_world.proofs.Duties as duties
 use Rattle.node_world.proofs.Serves.{Sane}
-use Rattle.node_world.proofs.WriterRange.{call_within}
-use Rattle.node_world.proofs.Tracked.{Tracked}
+use Rattle.run_safety.proofs.WriterRange.{call_within}
+use Rattle.run_safety.proofs.Tracked.{Tracked}
 use Rattle.node_world.proofs.Passing.{Facts, Fetching, goes, writes, Agreed, answer_low}
 use Rattle.node_world.proofs.Rivals.{Rival, rival, voted}
 use Rattle.node_world.proofs.WorldNodes.{entries}
 use Rattle.node_world.proofs.WorldEntries.{state_at}
-use Rattle.node_world.proofs.WorldActs.{IsMadeBy, AreOwn}
+use Rattle.run_safety.proofs.WorldActs.{IsMadeBy, AreOwn}
 use Rattle.node_world.proofs.WorldRuns.{Runs, runs_follow}
 use Rattle.node_world.proofs.NodeFacts.{state, sane, WasServed, was_served, call_other}
 use Rattle.node_world.proofs.Course.{Course, asks, proposes, on, its_takeover, head_epoch}

@@ -23,12 +23,12 @@ use Rattle.writer_core.specs.Views.{WriterView}
 use Rattle.writer_core.specs.Answers.{fits, fits_edits, fits_prepare}
 use Rattle.writer_core.specs.Best.{Best}
 use Rattle.writer_core.specs.Rounds.{head_now, numbers_fit, next_serial, taken_out, failed, edits_fetched, not_fetched, fetched}
-use Rattle.node_world.specs.Majority.{Member, IsMajority}
-use Rattle.node_world.specs.World.{CallMade}
-use Rattle.node_world.proofs.Majorities.{Member_or}
+use Rattle.run_safety.specs.Majority.{Member, IsMajority}
+use Rattle.run_safety.specs.Actings.{CallMade}
+use Rattle.run_safety.proofs.Majorities.{Member_or}
 use Rattle.journal_core.proofs.SegmentLists.{find-start}
-use Rattle.node_world.proofs.Slots.{none≢some, some_same, true≢false, At, best_told, TellsSegment}
-use Rattle.node_world.proofs.Answers.{segment_slot}
+use Rattle.run_safety.proofs.Slots.{none≢some, some_same, true≢false, At, best_told, TellsSegment}
+use Rattle.run_safety.proofs.Answers.{segment_slot}
 use Rattle.node_world.proofs.Enough.{At-one, At-other}
 use Rattle.node_world.proofs.Ranges.{EndSmall}
 use Rattle.node_world.proofs.Heeding.{Fresh, UpTo, not_heeded, heeded_fits, HasFetched, fetched as fetches}

@@ -23,9 +23,9 @@ use Rattle.writer_core.specs.Answers.{is_ok, is_waiting, fits_propose, fits_stat
 use Rattle.writer_core.specs.Best.{greatest_promise, promise_in}
 use Rattle.writer_core.specs.Rounds.{going, stopped, proposing, with_causes, judged_by, judged}
 use Rattle.writer_core.specs.Writer.{with_answer, judged_when, heard_in}
-use Rattle.node_world.specs.Majority.{Member, IsMajority}
-use Rattle.node_world.specs.World.{CallMade}
-use Rattle.node_world.proofs.Slots.{true≢false, At}
+use Rattle.run_safety.specs.Majority.{Member, IsMajority}
+use Rattle.run_safety.specs.Actings.{CallMade}
+use Rattle.run_safety.proofs.Slots.{true≢false, At}
 use Rattle.node_world.proofs.Enough.{waits_any, all_wait, enough}
 use Rattle.node_world.proofs.Heeding.{heeded_fits, Proposed, proposed as proposes_at, low_proposal, state_told}
 use Rattle.node_world.proofs.Duties.{Off, AreOld, Voted, Voter}

@@ -22,9 +22,9 @@ use Rattle.writer_core.specs.Writer.{with_answer, judged_when, heard_in}
 use Rattle.writer_core.proofs.PlainRounds.{IsWhole}
 use Rattle.writer_core.proofs.WholeRounds.{IsFirst, whole_heard}
 use Rattle.node_world.specs.Complete.{IsHeeded}
-use Rattle.node_world.specs.Majority.{Member, IsMajority}
-use Rattle.node_world.specs.World.{CallMade}
-use Rattle.node_world.proofs.Slots.{none≢some, some_same, true≢false, At, At-range}
+use Rattle.run_safety.specs.Majority.{Member, IsMajority}
+use Rattle.run_safety.specs.Actings.{CallMade}
+use Rattle.run_safety.proofs.Slots.{none≢some, some_same, true≢false, At, At-range}
 use Rattle.node_world.proofs.Enough.{At-one, At-other, At-here, waits_any}
 use Rattle.node_world.proofs.Heeding.{not_heeded, heeded_fits}
 use Rattle.node_world.proofs.Duties.{Off, Due, Had, After, Part, waits, told, NumbersFit}

@@ -24,11 +24,11 @@ use Rattle.writer_core.specs.Views.{WriterView}
 use Rattle.writer_core.specs.Answers.{fits_round, fits_prepare, fits_state, is_ok, has_majority}
 use Rattle.writer_core.specs.Best.{Best, best_of, segment_in, segment_told, newest_in, newest_told, greatest_newest, greatest_promise, promise_in, promise_told}
 use Rattle.writer_core.specs.Rounds.{numbers_fit, Judged, going, next_serial, judged_by, judged, with_causes, done_in, after_propose, recovering, starting, asking_all, pieced, to_all}
-use Rattle.node_world.specs.Majority.{Member, IsMajority}
-use Rattle.node_world.specs.World.{CallMade}
+use Rattle.run_safety.specs.Majority.{Member, IsMajority}
+use Rattle.run_safety.specs.Actings.{CallMade}
 use Rattle.journal_core.proofs.SegmentLists.{newest-above}
-use Rattle.node_world.proofs.Slots.{true≢false, At, best_told, TellsSegment, IsTop, RankLe, best_is_top, AtLeast, newest_told_least}
-use Rattle.node_world.proofs.Answers.{segment_slot, fits_info}
+use Rattle.run_safety.proofs.Slots.{true≢false, At, best_told, TellsSegment, IsTop, RankLe, best_is_top, AtLeast, newest_told_least}
+use Rattle.run_safety.proofs.Answers.{segment_slot, fits_info}
 use Rattle.node_world.proofs.Heeding.{UpTo, Below, MayAccept}
 use Rattle.node_world.proofs.Duties.{Off, AreOld, Tells, After, Part, waits, told, Voted}
 use Rattle.node_world.proofs.Enough.{At-one, enough, all_wait, IsIn, others_wait, missed_in}

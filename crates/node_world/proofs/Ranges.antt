@@ -1,7 +1,7 @@
 -- No number of a node passes 2 ^ 62: its promise, its committed txids, and the ends of its segments.
 use Rattle.std.proofs.Common.{◌≡◌, ℕ, zero, suc, ◌+◌, ◌≤◌, ◌⊎◌, inl, inr, max, List, [], ◌∷◌, ◌++◌, Bool, true, false, cond, ◌||◌, refl, sym, ap, subst, arith, length, take, length-append, Option, Some, None, nat_lt, map, filter}
 use Rattle.std.specs.List.{list_any}
-use Rattle.std.proofs.lemmas.Bool.{ltb-false}
+use Rattle.std.proofs.lemmas.Bool.{ltb-false, cases_eq}
 use Rattle.journal_core.specs.Views.{HeadView, last_txid}
 use Rattle.journal_core.specs.Limits.{head_of, numbers_of, max_number, limit_of}
 use Rattle.journal_core.specs.Segments.{find_segment, has_edit, end_of}
@@ -12,14 +12,13 @@ use Rattle.journal_core.specs.declared.node_state.NodeState.{NodeState}
 use Rattle.journal_core.specs.declared.request.Request.{Request}
 use Rattle.journal_core.specs.declared.request.Request.TheVariants as request
 use Rattle.journal_core.specs.declared.refusal.Refusal.TheVariants as refusal
-use Rattle.node_world.specs.Entries.{Move, Answer, Stop, Kill, Restart, Entry, moved, node_after}
+use Rattle.node_history.specs.Entries.{Move, Answer, Stop, Kill, Restart, Entry, moved, node_after}
 use Rattle.journal_core.proofs.Steps.{Acted, at_once, by_row, done, acted, test_passed}
 use Rattle.journal_core.proofs.SegmentLists.{find-start}
-use Rattle.node_world.proofs.Slots.{none≢some, some_same, true≢false}
+use Rattle.run_safety.proofs.Slots.{none≢some, some_same, true≢false}
 use Rattle.journal_core.proofs.Changes.{Change, same, created, grown, made_final, replaced, removed}
 use Rattle.journal_core.proofs.FrontLaws.{limit_passed as limits_none}
-use Rattle.node_world.proofs.Along.{Changes, entry_change, node_here, node_elsewhere}
-use Rattle.std.proofs.lemmas.Bool.{cases_eq}
+use Rattle.run_safety.proofs.Along.{Changes, entry_change, node_here, node_elsewhere}
 
 -- ## What is past the limits isn't taken
 pub limit_passed : (s : NodeState) (r : Request) → refused_at_once s r ≡ None → limit_of r ≡ None

@@ -17,19 +17,19 @@ use Rattle.writer_core.specs.Whole.{Underway, heard_of, writer_at, round_after}
 use Rattle.writer_core.proofs.Plain.{plain_heard}
 use Rattle.writer_core.proofs.Filling.{Fills, FillsOne}
 use Rattle.writer_core.proofs.WholeLaws.{reaches_now}
-use Rattle.node_world.specs.Majority.{Member, IsMajority}
-use Rattle.node_world.specs.Entries.{Entry, now, node_after}
-use Rattle.node_world.specs.Run.{Follows}
-use Rattle.node_world.proofs.Majorities.{majorities_share}
-use Rattle.node_world.proofs.Slots.{none≢some, At, IsFresh, all_fresh}
-use Rattle.node_world.proofs.SeenLaws.{Propose, Writer, seen, seen_at, seen_first, seen_here, asked, asked_seen}
-use Rattle.node_world.proofs.Frames.{Sound}
-use Rattle.node_world.proofs.Table.{sound_at}
-use Rattle.node_world.proofs.SoundNodes.{promise_earlier}
-use Rattle.node_world.proofs.Sent.{Sent, one_owner, answered_of, Vote, vote_of, Votes, votes_of, one_vote, order_of, to}
-use Rattle.node_world.proofs.Served.{head_round}
-use Rattle.node_world.proofs.Tales.{Tale, IsMadeAt}
-use Rattle.node_world.proofs.Tracked.{Tracked, Stands, calling, fetching, writing}
+use Rattle.run_safety.specs.Majority.{Member, IsMajority}
+use Rattle.node_history.specs.Entries.{Entry, now, node_after}
+use Rattle.run_safety.specs.Run.{Follows}
+use Rattle.run_safety.proofs.Majorities.{majorities_share}
+use Rattle.run_safety.proofs.Slots.{none≢some, At, IsFresh, all_fresh}
+use Rattle.run_safety.proofs.SeenLaws.{Propose, Writer, seen, seen_at, seen_first, seen_here, asked, asked_seen}
+use Rattle.run_safety.proofs.Frames.{Sound}
+use Rattle.run_safety.proofs.Table.{sound_at}
+use Rattle.run_safety.proofs.SoundNodes.{promise_earlier}
+use Rattle.run_safety.proofs.Sent.{Sent, one_owner, answered_of, Vote, vote_of, Votes, votes_of, one_vote, order_of, to}
+use Rattle.run_safety.proofs.Served.{head_round}
+use Rattle.run_safety.proofs.Tales.{Tale, IsMadeAt}
+use Rattle.run_safety.proofs.Tracked.{Tracked, Stands, calling, fetching, writing}
 
 module _ (n : ℕ) (a : Tale) (past : List Entry) (follows : Follows n a.story past) where
   -- ## A request that was made

@@ -19,11 +19,11 @@ use Rattle.writer_core.specs.Views.{WriterView}
 use Rattle.writer_core.specs.Answers.{fits, fits_newest, fits_told, fits_prepare, fits_round}
 use Rattle.writer_core.specs.Rounds.{request_in, head_now, batch_from, start_record}
 use Rattle.node_world.specs.Complete.{IsHeeded}
-use Rattle.node_world.specs.World.{CallMade}
+use Rattle.run_safety.specs.Actings.{CallMade}
 use Rattle.journal_core.proofs.SegmentLists.{find-start, newest-found}
 use Rattle.journal_core.proofs.Stored.{some_body}
-use Rattle.node_world.proofs.Slots.{some_same, true≢false}
-use Rattle.node_world.proofs.Oks.{AcceptHeld, accept_held}
+use Rattle.run_safety.proofs.Slots.{some_same, true≢false}
+use Rattle.run_safety.proofs.Oks.{AcceptHeld, accept_held}
 use Rattle.node_world.proofs.Ranges.{Small, EndSmall}
 use Rattle.node_world.proofs.Heeding.{Fresh, Left, up_to_kept, HasPrepared, prepared, accepts, HoldsTo, finalizes, HasStarted, starts, opens}
 use Rattle.node_world.proofs.Duties.{AreOld, Ready, After}

@@ -8,7 +8,7 @@ use Rattle.journal_core.specs.declared.request.Request.{Request}
 use Rattle.journal_core.specs.declared.request.Request.TheVariants.{NewEpoch}
 use Rattle.journal_core.specs.declared.refusal.Refusal.{Refusal}
 use Rattle.journal_core.specs.declared.refusal.Refusal.TheVariants.{EpochRefused}
-use Rattle.node_world.proofs.Requests.{Sort, Reads, Proposes, Heads, sort_of, Fronted, behind, front_passes}
+use Rattle.node_history.proofs.Requests.{Sort, Reads, Proposes, Heads, sort_of, Fronted, behind, front_passes}
 use Rattle.node_world.proofs.Duties.{Off, IsOutside}
 
 abbrev Touched : ℕ → NodeState → NodeState → Type 0

@@ -1,16 +1,15 @@
 -- What the world's code does is one step of the world.
 use Rattle.std.proofs.Common.{◌≡◌, ◌≢◌, ℕ, ◌-◌, ◌<◌, ◌≤◌, List, [], ◌∷◌, ◌++◌, Bool, true, false, length, map, refl, sym, ap, ◌∙◌, Option, Some, None, set, get_or, arith, ◌+◌}
 use Rattle.std.proofs.lemmas.Bool.{eqb-true, eqb-false, and_parts}
-use Rattle.std.specs.Prelude.{option_map}
-use Rattle.std.specs.Prelude.{filter, ◌==◌, if◌then◌else◌}
+use Rattle.std.specs.Prelude.{option_map, filter, ◌==◌, if◌then◌else◌}
 use Rattle.std.proofs.Math.ListN.{get_or-map as mapped_at}
 pub use Rattle.std.proofs.lemmas.List.{replicate_more as one_more_alike}
 use Rattle.std.proofs.lemmas.List.{get_or_read, length-set, get_or-set_other, map-set, append-nil, set-get_or}
-use Rattle.node_world.specs.declared.node_ask.NodeAsk.{NodeAsk}
-use Rattle.node_world.specs.declared.node_ask.NodeAnswer.{NodeAnswer}
-use Rattle.node_world.specs.Cell.{Taken, cell_takes}
-use Rattle.node_world.specs.Moving.{Placed}
-use Rattle.node_world.specs.NodeCells.{CellView, new_cell}
+use Rattle.node_history.specs.declared.node_ask.NodeAsk.{NodeAsk}
+use Rattle.node_history.specs.declared.node_ask.NodeAnswer.{NodeAnswer}
+use Rattle.node_history.specs.Cell.{Taken, cell_takes, stopping, heard_of}
+use Rattle.node_history.specs.Moving.{Placed}
+use Rattle.node_history.specs.NodeCells.{CellView, new_cell}
 use Rattle.journal_core.specs.declared.request.Request.{Request}
 use Rattle.journal_core.specs.declared.heard.Heard.{Heard}
 use Rattle.journal_core.specs.declared.heard.Heard.TheVariants.{Silent}
@@ -20,13 +19,14 @@ use Rattle.writer_core.specs.declared.task.Begun.{Begun}
 use Rattle.writer_core.specs.declared.task.Begun.TheVariants as begun
 use Rattle.writer_core.specs.Views.{WriterView}
 use Rattle.writer_core.specs.Writer.{Began, writer_begun, writer_heard, writer_stopped, is_writing, if_writing, log_begins, log_limit, is_under_way}
-use Rattle.node_world.specs.declared.event.Fate.{Fate}
-use Rattle.node_world.specs.declared.event.Fate.TheVariants as fate
+use Rattle.node_history.specs.declared.event.Fate.{Fate}
+use Rattle.node_history.specs.declared.event.Fate.TheVariants as fate
 use Rattle.node_world.specs.declared.seen.Seen.{Seen}
 use Rattle.node_world.specs.declared.seen.Seen.TheVariants as seen
-use Rattle.node_world.specs.declared.node_ask.NodeAsk.TheVariants.{Act}
-use Rattle.node_world.specs.Same.{same_request}
-use Rattle.node_world.specs.World.{World, Acting, stopping, cell_at, acting_at, taken_at, node_asked, history_in, operated, seen_of, heard_of, call_heard, call_reached, with_acting, with_writer, with_call, called_by, copied_when, is_call, task_begun, task_begins, done, not_next, fresh_acting, IsWithin}
+use Rattle.node_history.specs.declared.node_ask.NodeAsk.TheVariants.{Act}
+use Rattle.node_history.specs.Same.{same_request}
+use Rattle.node_world.specs.World.{World, cell_at, acting_at, taken_at, node_asked, history_in, operated, seen_of, call_heard, call_reached, with_acting, with_writer, with_call, called_by, copied_when, is_call, task_begun, task_begins, done, not_next, IsWithin}
+use Rattle.run_safety.specs.Actings.{Acting, fresh_acting}
 use Rattle.node_world.specs.WorldViews.{WorldView, bare, view_at, CellsGo, IsStepped, IsAsked, IsDelivered, HasReached, begun_seen, acting_begun}
 
 -- ## A node that was asked

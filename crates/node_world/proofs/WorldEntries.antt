@@ -8,18 +8,18 @@ use Rattle.journal_core.specs.declared.reply.Reply.TheVariants.{Refused}
 use Rattle.journal_core.specs.declared.heard.Heard.{Heard as HeardOf}
 use Rattle.journal_core.specs.declared.heard.Heard.TheVariants as told
 use Rattle.writer_core.proofs.Plain.{plain_heard}
-use Rattle.node_world.specs.declared.node_ask.NodeAsk.{NodeAsk}
-use Rattle.node_world.specs.declared.node_ask.NodeAsk.TheVariants as ask
-use Rattle.node_world.specs.declared.node_ask.NodeAnswer.{NodeAnswer}
-use Rattle.node_world.specs.declared.node_ask.NodeAnswer.TheVariants.{Replied, Stopped}
-use Rattle.node_world.specs.Cell.{Cell, cell_takes}
-use Rattle.node_world.specs.Entries.{Heard, Muted, Late, Move, Answer, Stop, Kill, Restart, Entry, moved, node_after}
-use Rattle.node_world.specs.Run.{Story, IsInTurn}
-use Rattle.node_world.specs.Moving.{move_of}
-use Rattle.node_world.proofs.Entering.{Entered, quiet, answered as entered_answer, cut, entered, Operated, nothing as no_move, killed, again, kills, restarts, arms, Did, still, gone, line_did}
-use Rattle.node_world.proofs.Fair.{IsFairEntry, IsDue, Sounds}
-use Rattle.node_world.specs.World.{World, cell_at, stopping, taken_at, node_asked, heard_of}
-use Rattle.node_world.proofs.CallLeft.{entry, CallLeft, nothing, unheard, answered, enters_answer, enters_muted, enters_late, enters_stop, Enters}
+use Rattle.node_history.specs.declared.node_ask.NodeAsk.{NodeAsk}
+use Rattle.node_history.specs.declared.node_ask.NodeAsk.TheVariants as ask
+use Rattle.node_history.specs.declared.node_ask.NodeAnswer.{NodeAnswer}
+use Rattle.node_history.specs.declared.node_ask.NodeAnswer.TheVariants.{Replied, Stopped}
+use Rattle.node_history.specs.Cell.{Cell, cell_takes, stopping, heard_of}
+use Rattle.node_history.specs.Entries.{Heard, Muted, Late, Move, Answer, Stop, Kill, Restart, Entry, moved, node_after}
+use Rattle.run_safety.specs.Run.{Story, IsInTurn}
+use Rattle.node_history.specs.Moving.{move_of}
+use Rattle.run_safety.proofs.Entering.{Entered, quiet, answered as entered_answer, cut, entered, Operated, nothing as no_move, killed, again, kills, restarts, arms, Did, still, gone, line_did}
+use Rattle.run_safety.proofs.Fair.{IsFairEntry, IsDue, Sounds}
+use Rattle.node_world.specs.World.{World, cell_at, taken_at, node_asked}
+use Rattle.run_safety.proofs.CallLeft.{entry, CallLeft, nothing, unheard, answered, enters_answer, enters_muted, enters_late, enters_stop, Enters, CopyLeft, no_entry, an_entry, OperationLeft, no_change, a_change}
 use Rattle.node_world.proofs.WorldNodes.{entries, Agree, asked_next, asked_still, asked_moved, stopping_state}
 
 -- the node's state is the one that the entries leave
@@ -130,10 +130,6 @@ reply_lost n node caller stop r w h low high = by (entered_at n node caller true
         (unheard (Stop caller false r keep) g.0 refl (λ turn. some turn.1) (enters_stop n (entries w.trace) caller node r false keep some), g.1)
 
 -- ## A late copy
-pub data CopyLeft (n : ℕ) (past : List Entry) (caller node : ℕ) (r : Request) (next : List Entry) : Type 0 where
-  no_entry : next ≡ past → CopyLeft n past caller node r next
-  an_entry : (move : Move) → next ≡ entry node move ∷ past → (IsInTurn move → ⊥) → Enters n past caller node r move → CopyLeft n past caller node r next
-
 no_turn : {A : Type 0} (keep : ℕ) → (true ≡ false) × (0 < keep) → A
 no_turn keep h = cc (h.0)
 
@@ -156,10 +152,6 @@ IsOperation (ask.Act late r) = ⊥
 IsOperation ask.Kill = Unit {0}
 IsOperation ask.Restart = Unit {0}
 IsOperation (ask.Arm calls stop) = Unit {0}
-
-pub data OperationLeft (n : ℕ) (past : List Entry) (node : ℕ) (next : List Entry) : Type 0 where
-  no_change : next ≡ past → OperationLeft n past node next
-  a_change : (move : Move) → next ≡ entry node move ∷ past → (IsInTurn move → ⊥) → ((story : Story) → IsFairEntry n story past (entry node move)) → OperationLeft n past node next
 
 operated_by : (n node caller : ℕ) (q : NodeAsk) (w : World) → Agree n w.cells (entries w.trace) → 1 ≤ node → node ≤ n
     → Operated (node_after node (entries w.trace)) (taken_at node None q w).cell.state (move_of caller false q (taken_at node None q w).answer)

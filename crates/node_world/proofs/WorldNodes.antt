@@ -5,14 +5,14 @@ use Rattle.std.proofs.lemmas.Bool.{cases_eq}
 use Rattle.std.proofs.lemmas.List.{reverse-append}
 use Rattle.std.proofs.lemmas.List.Elements.{filter_map-append}
 use Rattle.journal_core.specs.declared.node_state.NodeState.{NodeState}
-use Rattle.node_world.specs.declared.node_ask.NodeAsk.{NodeAsk}
-use Rattle.node_world.specs.Cell.{Cell, fresh_cell}
-use Rattle.node_world.specs.Entries.{Move, Entry, moved, node_after}
-use Rattle.node_world.specs.Moving.{Placed, move_of, entry_at, entry_of, moving_of}
-use Rattle.node_world.specs.World.{World, cell_at, is_due, stopping, taken_at, node_asked}
-use Rattle.node_world.specs.declared.stop.Stop.TheVariants.{Effects}
-use Rattle.node_world.proofs.CallLeft.{entry}
-use Rattle.node_world.proofs.Along.{node_here, node_elsewhere}
+use Rattle.node_history.specs.declared.node_ask.NodeAsk.{NodeAsk}
+use Rattle.node_history.specs.Cell.{Cell, fresh_cell, is_due, stopping}
+use Rattle.node_history.specs.Entries.{Move, Entry, moved, node_after}
+use Rattle.node_history.specs.Moving.{Placed, move_of, entry_at, entry_of, moving_of}
+use Rattle.node_world.specs.World.{World, cell_at, taken_at, node_asked}
+use Rattle.node_history.specs.declared.stop.Stop.TheVariants.{Effects}
+use Rattle.run_safety.proofs.CallLeft.{entry}
+use Rattle.run_safety.proofs.Along.{node_here, node_elsewhere}
 
 -- the entries of a trace, newest first
 abbrev pub entries : List Placed → List Entry

@@ -10,28 +10,29 @@ use Rattle.writer_core.specs.declared.task.Begun.{Begun}
 use Rattle.writer_core.specs.declared.task.Begun.TheVariants as begun
 use Rattle.writer_core.specs.Writer.{next_call, is_under_way, writer_begun, writer_heard, writer_stopped, HasBody}
 use Rattle.writer_core.specs.Whole.{Takeover}
-use Rattle.node_world.specs.declared.event.Fate.{Fate}
-use Rattle.node_world.specs.declared.event.Fate.TheVariants as fate
-use Rattle.node_world.specs.declared.event.Event.{Event}
-use Rattle.node_world.specs.declared.event.Event.TheVariants.{Begin, Call, Late, Kill, Restart, Arm, GiveUp, Checkpoint}
-use Rattle.node_world.specs.declared.node_ask.NodeAsk.{NodeAsk}
-use Rattle.node_world.specs.declared.node_ask.NodeAsk.TheVariants as ask
-use Rattle.node_world.specs.Cell.{Cell, fresh_cell}
-use Rattle.node_world.specs.Entries.{Entry, Earlier, node_after}
-use Rattle.node_world.specs.Run.{Follows, IsRun}
-use Rattle.node_world.specs.Moving.{epoch_of, moving_of}
-use Rattle.node_world.specs.World.{Acting, fresh_acting, World, new_world, acting_at, node_asked, with_acting, with_writer, with_call, task_begun, task_begins, call_heard, call_reached, called_by, is_reading, is_call, was_made, copied_when, operated, world_step, world_after, IsEvent, AreEvents}
-use Rattle.node_world.specs.Same.{same_request}
-use Rattle.node_world.proofs.Slots.{true≢false}
-use Rattle.node_world.proofs.SameLaws.{request_same}
-use Rattle.node_world.proofs.Tales.{Tale, place_below}
-use Rattle.node_world.proofs.Fair.{IsTold, Sounds, follows_of}
-use Rattle.node_world.proofs.TaleSteps.{put, put_here, put_there}
-use Rattle.node_world.proofs.CallLeft.{HasEpoch, CallLeft, nothing}
-use Rattle.node_world.proofs.TaskBegins.{its_begin}
+use Rattle.node_history.specs.declared.event.Fate.{Fate}
+use Rattle.node_history.specs.declared.event.Fate.TheVariants as fate
+use Rattle.node_history.specs.declared.event.Event.{Event}
+use Rattle.node_history.specs.declared.event.Event.TheVariants.{Begin, Call, Late, Kill, Restart, Arm, GiveUp, Checkpoint}
+use Rattle.node_history.specs.declared.node_ask.NodeAsk.{NodeAsk}
+use Rattle.node_history.specs.declared.node_ask.NodeAsk.TheVariants as ask
+use Rattle.node_history.specs.Cell.{Cell, fresh_cell}
+use Rattle.node_history.specs.Entries.{Entry, Earlier, node_after}
+use Rattle.run_safety.specs.Run.{Follows, IsRun}
+use Rattle.node_history.specs.Moving.{epoch_of, moving_of}
+use Rattle.run_safety.specs.Actings.{Acting, fresh_acting, was_made}
+use Rattle.node_world.specs.World.{World, new_world, acting_at, node_asked, with_acting, with_writer, with_call, task_begun, task_begins, call_heard, call_reached, called_by, is_reading, is_call, copied_when, operated, world_step, world_after, IsEvent, AreEvents}
+use Rattle.node_history.specs.Same.{same_request}
+use Rattle.run_safety.proofs.Slots.{true≢false, get_replicate}
+use Rattle.node_history.proofs.SameLaws.{request_same}
+use Rattle.run_safety.proofs.Tales.{Tale, place_below}
+use Rattle.run_safety.proofs.Fair.{IsTold, Sounds, follows_of}
+use Rattle.run_safety.proofs.TaleSteps.{put, put_here, put_there}
+use Rattle.run_safety.proofs.CallLeft.{HasEpoch, CallLeft, nothing}
+use Rattle.run_safety.proofs.TaskBegins.{its_begin}
 use Rattle.node_world.proofs.WorldNodes.{entries, Agree, asked_next}
 use Rattle.node_world.proofs.WorldEntries.{delivered, reply_lost, copied_late, sounds_asked, IsOperation, operates}
-use Rattle.node_world.proofs.WorldActs.{own_get, fresh_is, All, begins_all, gives_up_all, call_all, Stays, stays_all, copy_stays, operation_stays, read_all, IsActing}
+use Rattle.run_safety.proofs.WorldActs.{own_get, fresh_is, All, begins_all, gives_up_all, call_all, Stays, stays_all, copy_stays, operation_stays, read_all, IsActing}
 
 -- ## What holds of a world
 abbrev pub acts_of : World → ℕ → Acting
@@ -233,11 +234,6 @@ first_told n = record { fair = tt; labels = λ old e p. absurd (none old e p) }
   where
     none : (old : List Entry) (e : Entry) → Earlier (e ∷ old) [] → ⊥
     none old e p = omega (arith, place_below e p)
-
-pub get_replicate : {A : Type 0} (m i : ℕ) (x : A) → get_or (replicate m x) i x ≡ x
-get_replicate zero i x = refl
-get_replicate (suc m) zero x = refl
-get_replicate (suc m) (suc i) x = get_replicate m i x
 
 pub new_runs : (n actors : ℕ) → Runs n (new_world n actors)
 unfolding new_world moving_of node_after

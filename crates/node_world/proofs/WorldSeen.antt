@@ -7,21 +7,22 @@ use Rattle.writer_core.specs.declared.task.Begun.{Begun}
 use Rattle.writer_core.specs.declared.task.Begun.TheVariants as begun
 use Rattle.writer_core.specs.Views.{WriterView}
 use Rattle.writer_core.specs.Writer.{next_call, is_under_way, writer_begun}
-use Rattle.node_world.specs.declared.stop.Stop.{Stop}
-use Rattle.node_world.specs.declared.event.Fate.{Fate}
-use Rattle.node_world.specs.declared.event.Event.{Event}
-use Rattle.node_world.specs.declared.event.Event.TheVariants.{Begin, Call, Late, Kill, Restart, Arm, GiveUp, Checkpoint}
+use Rattle.node_history.specs.declared.stop.Stop.{Stop}
+use Rattle.node_history.specs.declared.event.Fate.{Fate}
+use Rattle.node_history.specs.declared.event.Event.{Event}
+use Rattle.node_history.specs.declared.event.Event.TheVariants.{Begin, Call, Late, Kill, Restart, Arm, GiveUp, Checkpoint}
 use Rattle.node_world.specs.declared.seen.Seen.TheVariants.{Idle, NotNext}
-use Rattle.node_world.specs.declared.node_ask.NodeAsk.{NodeAsk}
-use Rattle.node_world.specs.declared.node_ask.NodeAsk.TheVariants as ask
-use Rattle.node_world.specs.declared.node_ask.NodeAnswer.{NodeAnswer}
-use Rattle.node_world.specs.declared.node_ask.NodeAnswer.TheVariants as answer
-use Rattle.node_world.specs.Cell.{Cell, cell_takes, killed, started_again, armed}
-use Rattle.node_world.specs.Same.{same_request}
+use Rattle.node_history.specs.declared.node_ask.NodeAsk.{NodeAsk}
+use Rattle.node_history.specs.declared.node_ask.NodeAsk.TheVariants as ask
+use Rattle.node_history.specs.declared.node_ask.NodeAnswer.{NodeAnswer}
+use Rattle.node_history.specs.declared.node_ask.NodeAnswer.TheVariants as answer
+use Rattle.node_history.specs.Cell.{Cell, cell_takes, killed, started_again, armed}
+use Rattle.node_history.specs.Same.{same_request}
 use Rattle.node_world.specs.WorldLaws.{IsAmong, SeesExactly}
-use Rattle.node_world.specs.World.{CallMade, World, Stepped, cell_at, acting_at, taken_at, task_begun, task_begins, called_by, is_reading, is_call, was_made, copied_when, seen_of, operated, world_step}
-use Rattle.node_world.proofs.Slots.{true≢false}
-use Rattle.node_world.proofs.SameLaws.{request_same, request_self}
+use Rattle.run_safety.specs.Actings.{CallMade, was_made}
+use Rattle.node_world.specs.World.{World, Stepped, cell_at, acting_at, taken_at, task_begun, task_begins, called_by, is_reading, is_call, copied_when, seen_of, operated, world_step}
+use Rattle.run_safety.proofs.Slots.{true≢false}
+use Rattle.node_history.proofs.SameLaws.{request_same, request_self}
 use Rattle.node_world.proofs.WorldRuns.{call_is}
 
 -- it was not next, or the world is as it was

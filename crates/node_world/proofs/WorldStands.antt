@@ -8,17 +8,18 @@ use Rattle.writer_core.specs.declared.task.Begun.{Begun}
 use Rattle.writer_core.specs.declared.task.Begun.TheVariants as begun
 use Rattle.writer_core.specs.Views.{WriterView}
 use Rattle.writer_core.specs.Writer.{is_under_way, writer_begun, next_call, writer_stopped}
-use Rattle.node_world.specs.declared.event.Fate.{Fate}
-use Rattle.node_world.specs.declared.event.Fate.TheVariants as fate
-use Rattle.node_world.specs.declared.event.Event.{Event}
-use Rattle.node_world.specs.declared.event.Event.TheVariants.{Begin, Call, Late, Kill, Restart, Arm, GiveUp, Checkpoint}
+use Rattle.node_history.specs.declared.event.Fate.{Fate}
+use Rattle.node_history.specs.declared.event.Fate.TheVariants as fate
+use Rattle.node_history.specs.declared.event.Event.{Event}
+use Rattle.node_history.specs.declared.event.Event.TheVariants.{Begin, Call, Late, Kill, Restart, Arm, GiveUp, Checkpoint}
 use Rattle.node_world.specs.declared.seen.Seen.{Seen}
-use Rattle.node_world.specs.declared.node_ask.NodeAsk.{NodeAsk}
-use Rattle.node_world.specs.declared.node_ask.NodeAsk.TheVariants as ask
-use Rattle.node_world.specs.Moving.{Placed}
-use Rattle.node_world.specs.Cell.{fresh_cell}
-use Rattle.node_world.specs.NodeCells.{CellView, new_cell}
-use Rattle.node_world.specs.World.{World, Stepped, acting_at, node_asked, history_in, operated, call_reached, with_acting, with_writer, called_by, copied_when, is_call, is_reading, was_made, task_begun, task_begins, done, not_next, world_step, IsWithin, new_world, fresh_acting}
+use Rattle.node_history.specs.declared.node_ask.NodeAsk.{NodeAsk}
+use Rattle.node_history.specs.declared.node_ask.NodeAsk.TheVariants as ask
+use Rattle.node_history.specs.Moving.{Placed}
+use Rattle.node_history.specs.Cell.{fresh_cell}
+use Rattle.node_history.specs.NodeCells.{CellView, new_cell}
+use Rattle.node_world.specs.World.{World, Stepped, acting_at, node_asked, history_in, operated, call_reached, with_acting, with_writer, called_by, copied_when, is_call, is_reading, task_begun, task_begins, done, not_next, world_step, IsWithin, new_world}
+use Rattle.run_safety.specs.Actings.{was_made, fresh_acting}
 use Rattle.node_world.specs.WorldViews.{WorldView, new_view, bare, IsStepped, StandsFor, Steps}
 
 abbrev clear : World → World

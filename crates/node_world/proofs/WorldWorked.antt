@@ -9,9 +9,9 @@ use Rattle.writer_core.specs.Best.{best_from, greatest_newest, greatest_promise}
 use Rattle.writer_core.specs.Rounds.{judged, fetched}
 use Rattle.writer_core.specs.Writer.{new_writer, log_limit, writer_begun, writer_heard}
 use Rattle.node_world.specs.declared.seen.Seen.TheVariants.{NotNext}
-use Rattle.node_world.specs.Cell.{cell_takes}
+use Rattle.node_history.specs.Cell.{cell_takes}
 use Rattle.node_world.specs.Complete.{AreServed, HasBegun}
-use Rattle.node_world.specs.Majority.{Member}
+use Rattle.run_safety.specs.Majority.{Member}
 use Rattle.node_world.specs.World.{new_world, acting_at, node_asked, with_acting, call_reached, world_step, world_after}
 use Rattle.node_world.specs.WorldExamples.{begun_world, its_calls, out_of_turn, never_made}
 

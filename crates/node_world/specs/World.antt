@@ -10,31 +10,22 @@ use Rattle.writer_core.specs.declared.task.Begun.{Begun}
 use Rattle.writer_core.specs.declared.task.Begun.TheVariants as begun
 use Rattle.writer_core.specs.Views.{WriterView}
 use Rattle.writer_core.specs.Writer.{new_writer, writer_begun, is_under_way, next_call, writer_heard, writer_stopped, HasBody}
-use Rattle.node_world.specs.declared.event.Fate.{Fate}
-use Rattle.node_world.specs.declared.event.Fate.TheVariants as fate
-use Rattle.node_world.specs.declared.event.Event.{Event}
-use Rattle.node_world.specs.declared.event.Event.TheVariants.{Begin, Call, Late, Kill, Restart, Arm, GiveUp, Checkpoint}
+use Rattle.node_history.specs.declared.event.Fate.{Fate}
+use Rattle.node_history.specs.declared.event.Fate.TheVariants as fate
+use Rattle.node_history.specs.declared.event.Event.{Event}
+use Rattle.node_history.specs.declared.event.Event.TheVariants.{Begin, Call, Late, Kill, Restart, Arm, GiveUp, Checkpoint}
 use Rattle.node_world.specs.declared.seen.Seen.{Seen}
 use Rattle.node_world.specs.declared.seen.Seen.TheVariants as seen
-use Rattle.node_world.specs.declared.stop.Stop.TheVariants.{Effects}
-use Rattle.node_world.specs.declared.node_ask.NodeAsk.{NodeAsk}
-use Rattle.node_world.specs.declared.node_ask.NodeAsk.TheVariants as ask
-use Rattle.node_world.specs.declared.node_ask.NodeAnswer.{NodeAnswer}
-use Rattle.node_world.specs.declared.node_ask.NodeAnswer.TheVariants as answer
-use Rattle.node_world.specs.declared.history_line.HistoryLine.{HistoryLine}
-use Rattle.node_world.specs.Cell.{Arming, Cell, fresh_cell, Taken, cell_takes}
-use Rattle.node_world.specs.Moving.{Placed}
-use Rattle.node_world.specs.Same.{same_request}
-
--- a call that an actor made, whatever became of it
-pub record CallMade : Type 0 where
-  pub node : ℕ
-  pub request : Request
-
--- an actor: its writer, and the calls that it made
-pub record Acting : Type 0 where
-  pub writer : WriterView
-  pub calls : List CallMade
+use Rattle.node_history.specs.declared.stop.Stop.TheVariants.{Effects}
+use Rattle.node_history.specs.declared.node_ask.NodeAsk.{NodeAsk}
+use Rattle.node_history.specs.declared.node_ask.NodeAsk.TheVariants as ask
+use Rattle.node_history.specs.declared.node_ask.NodeAnswer.{NodeAnswer}
+use Rattle.node_history.specs.declared.node_ask.NodeAnswer.TheVariants as answer
+use Rattle.node_history.specs.declared.history_line.HistoryLine.{HistoryLine}
+use Rattle.node_history.specs.Cell.{Cell, fresh_cell, Taken, cell_takes, stopping, heard_of}
+use Rattle.run_safety.specs.Actings.{CallMade, Acting, fresh_acting, was_made}
+use Rattle.node_history.specs.Moving.{Placed}
+use Rattle.node_history.specs.Same.{same_request}
 
 pub record World : Type 0 where
   pub nodes : ℕ
@@ -44,9 +35,6 @@ pub record World : Type 0 where
   pub operator : ℕ
   -- all that reached the nodes, in order
   pub trace : List Placed
-
-abbrev pub fresh_acting : ℕ → Acting
-fresh_acting nodes = record { writer = new_writer nodes; calls = [] }
 
 unfoldable pub new_world : ℕ → ℕ → World
 new_world nodes actors = record { nodes = nodes; cells = replicate nodes fresh_cell; actors = replicate actors (fresh_acting nodes); operator = actors; trace = [] }
@@ -73,15 +61,6 @@ abbrev pub not_next : World → Stepped
 not_next w = record { seen = seen.NotNext; world = w }
 
 -- ## What reaches a node
-abbrev pub is_due : Option Arming → Bool
-is_due None = false
-is_due (Some a) = not (nat_lt 1 a.calls)
-
--- a stop that comes with a request: it is as an arming for it, unless the node's own arming is due, or the node is down
-abbrev pub stopping : Option ℕ → Cell → Cell
-stopping None c = c
-stopping (Some keep) c = if c.state.up && not (is_due c.arming) then record c { arming = Some (record { calls = 1; stop = Effects keep }) } else c
-
 abbrev pub taken_at : ℕ → Option ℕ → NodeAsk → World → Taken
 taken_at node stop ask w = cell_takes (stopping stop (cell_at node w)) ask
 
@@ -109,10 +88,6 @@ task_begins true actor task w = not_next w
 task_begins false actor task w = task_begun (writer_begun (acting_at actor w).writer task).begun actor (writer_begun (acting_at actor w).writer task).writer w
 
 -- ## A call
-abbrev pub heard_of : NodeAnswer → Heard
-heard_of (answer.Replied reply) = Answer reply
-heard_of _ = Silent
-
 -- what its caller hears
 abbrev pub call_heard : Fate → ℕ → Request → World → Heard
 call_heard fate.Heard node r w = heard_of (taken_at node None (ask.Act false r) w).answer
@@ -155,9 +130,6 @@ abbrev pub called : Fate → ℕ → ℕ → Request → World → Stepped
 called fate actor node r w = called_by (is_reading r) (is_call node r (next_call (acting_at actor w).writer)) fate actor node r w
 
 -- ## A late copy
-abbrev pub was_made : ℕ → Request → List CallMade → Bool
-was_made node r calls = list_any (λ x. (x.node == node) && same_request x.request r) calls
-
 abbrev pub copied_when : Bool → ℕ → ℕ → Request → Option ℕ → World → Stepped
 copied_when true actor node r stop w = done (node_asked node actor false stop (ask.Act true r) w)
 copied_when false actor node r stop w = not_next w

@@ -4,15 +4,16 @@ use Rattle.journal_core.specs.declared.request.Request.{Request}
 use Rattle.writer_core.specs.declared.task.Task.{Task}
 use Rattle.writer_core.specs.declared.task.Begun.TheVariants.{Going}
 use Rattle.writer_core.specs.Writer.{writer_begun, is_under_way, next_call}
-use Rattle.node_world.specs.declared.stop.Stop.{Stop}
-use Rattle.node_world.specs.declared.event.Fate.{Fate}
-use Rattle.node_world.specs.declared.event.Event.{Event}
-use Rattle.node_world.specs.declared.event.Event.TheVariants.{Begin, Call, Late, Kill, Restart, Arm}
+use Rattle.node_history.specs.declared.stop.Stop.{Stop}
+use Rattle.node_history.specs.declared.event.Fate.{Fate}
+use Rattle.node_history.specs.declared.event.Event.{Event}
+use Rattle.node_history.specs.declared.event.Event.TheVariants.{Begin, Call, Late, Kill, Restart, Arm}
 use Rattle.node_world.specs.declared.seen.Seen.TheVariants.{Idle, NotNext}
-use Rattle.node_world.specs.Moving.{moving_of}
-use Rattle.node_world.specs.Run.{IsRun}
-use Rattle.node_world.specs.Safe.{IsSafe}
-use Rattle.node_world.specs.World.{CallMade, World, new_world, cell_at, acting_at, is_reading, world_step, world_after, AreEvents}
+use Rattle.node_history.specs.Moving.{moving_of}
+use Rattle.run_safety.specs.Run.{IsRun}
+use Rattle.run_safety.specs.Safe.{IsSafe}
+use Rattle.run_safety.specs.Actings.{CallMade}
+use Rattle.node_world.specs.World.{World, new_world, cell_at, acting_at, is_reading, world_step, world_after, AreEvents}
 
 -- what reached the nodes, less what doesn't move, is a run
 abbrev pub WorldStepsAreARun : Type 0

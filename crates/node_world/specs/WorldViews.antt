@@ -5,15 +5,17 @@ use Rattle.journal_core.specs.declared.heard.Heard.{Heard}
 use Rattle.writer_core.specs.declared.task.Begun.{Begun}
 use Rattle.writer_core.specs.declared.task.Begun.TheVariants as begun
 use Rattle.writer_core.specs.Writer.{Began}
-use Rattle.node_world.specs.declared.event.Fate.{Fate}
-use Rattle.node_world.specs.declared.event.Event.{Event}
+use Rattle.node_history.specs.declared.event.Fate.{Fate}
+use Rattle.node_history.specs.declared.event.Event.{Event}
 use Rattle.node_world.specs.declared.seen.Seen.{Seen}
 use Rattle.node_world.specs.declared.seen.Seen.TheVariants as seen
-use Rattle.node_world.specs.declared.node_ask.NodeAsk.{NodeAsk}
-use Rattle.node_world.specs.declared.node_ask.NodeAsk.TheVariants.{Act}
-use Rattle.node_world.specs.declared.node_ask.NodeAnswer.{NodeAnswer}
-use Rattle.node_world.specs.NodeCells.{CellView, new_cell, IsTaken}
-use Rattle.node_world.specs.World.{World, Acting, fresh_acting, history_in, Stepped, world_step, stopping, taken_at, node_asked, heard_of, call_heard, call_reached, with_writer, IsWithin}
+use Rattle.node_history.specs.declared.node_ask.NodeAsk.{NodeAsk}
+use Rattle.node_history.specs.declared.node_ask.NodeAsk.TheVariants.{Act}
+use Rattle.node_history.specs.declared.node_ask.NodeAnswer.{NodeAnswer}
+use Rattle.node_history.specs.NodeCells.{CellView, new_cell, IsTaken, stopping_at}
+use Rattle.node_world.specs.World.{World, history_in, Stepped, world_step, taken_at, node_asked, call_heard, call_reached, with_writer, IsWithin}
+use Rattle.run_safety.specs.Actings.{Acting, fresh_acting}
+use Rattle.node_history.specs.Cell.{stopping, heard_of}
 
 pub record WorldView : Type 0 where
   pub cells : List CellView
@@ -58,10 +60,6 @@ pub record IsStepped (old : WorldView) (t : Stepped) (s : Seen) (new : WorldView
   pub cells : CellsGo old.cells t.world new.cells
   pub actors : new.actors ≡ t.world.actors
   pub operator : new.operator ≡ old.operator
-
--- what one node took
-abbrev pub stopping_at : Option ℕ → CellView → CellView
-stopping_at stop c = record c { cell = stopping stop c.cell }
 
 pub record IsAsked (old : List CellView) (node caller : ℕ) (stop : Option ℕ) (ask : NodeAsk) (answer : NodeAnswer) (new : List CellView) : Type 0 where
   pub taken : IsTaken (stopping_at stop (view_at node old)) caller ask answer (view_at node new)

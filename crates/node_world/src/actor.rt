@@ -2,12 +2,13 @@
 ghost use Rattle.std.specs.Prelude.{◌≡◌, Some, IfOk, OnOk, option_map};
 ghost use Rattle.journal_core.specs.declared.request.Request.{Request};
 ghost use Rattle.writer_core.specs.Writer.{writer_begun, is_under_way, next_call, writer_heard, writer_stopped, HasBody};
-ghost use Rattle.node_world.specs.World.{fresh_acting, with_writer, with_call, was_made, is_call};
+ghost use Rattle.run_safety.specs.Actings.{fresh_acting, was_made};
+ghost use Rattle.node_world.specs.World.{with_writer, with_call, is_call};
 ghost use Rattle.node_world.specs.WorldViews.{begun_seen, acting_begun};
 
-use crate::equality::same;
 use crate::seen::Seen;
 use journal_core::{Heard, OutOfMemory, Request, SharedRequest};
+use node_history::same;
 use std::alloc::Global;
 use std::marker::Model;
 use writer_core::{Begun, Task, Writer};
@@ -20,7 +21,7 @@ struct Made {
 }
 
 impl Model for Made {
-    ghost use Rattle.node_world.specs.World.{CallMade};
+    ghost use Rattle.run_safety.specs.Actings.{CallMade};
 
     ghost Value = { CallMade };
 
@@ -35,7 +36,7 @@ pub(crate) struct Actor {
 }
 
 impl Model for Actor {
-    ghost use Rattle.node_world.specs.World.{Acting};
+    ghost use Rattle.run_safety.specs.Actings.{Acting};
 
     ghost Value = { Acting };
 

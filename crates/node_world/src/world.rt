@@ -1,19 +1,18 @@
 // The journal world, event by event.
 ghost use Rattle.std.specs.Prelude.{◌≡◌, ◌<◌, IfOk, OnOk, length, true, false, Some, None, option_map, map, replicate};
-ghost use Rattle.node_world.specs.World.{IsWithin, IsEvent, operated, seen_of, heard_of, acting_at, is_call, is_reading, called_by, called, copied_when, was_made, task_begins, with_acting, with_writer, done, Stepped, world_step, fresh_acting, new_world};
+ghost use Rattle.node_world.specs.World.{IsWithin, IsEvent, operated, seen_of, acting_at, is_call, is_reading, called_by, called, copied_when, task_begins, with_acting, with_writer, done, Stepped, world_step, new_world};
+ghost use Rattle.node_history.specs.Cell.{heard_of};
+ghost use Rattle.run_safety.specs.Actings.{was_made, fresh_acting};
 ghost use Rattle.node_world.specs.WorldViews.{bare, new_view, StandsFor, view_at, IsAsked, IsDelivered, HasReached, IsStepped, IsSameSize, Steps};
 ghost use Rattle.std.specs.List.{All};
 ghost use Rattle.journal_core.specs.Step.{fresh_state};
-ghost use Rattle.node_world.specs.NodeCells.{new_cell};
+ghost use Rattle.node_history.specs.NodeCells.{new_cell};
 ghost use Rattle.writer_core.specs.Writer.{next_call, is_under_way, writer_stopped, HasBody};
 
 use crate::actor::Actor;
-use crate::event::{Event, Fate};
-use crate::history_line::HistoryLine;
-use crate::node_ask::{NodeAnswer, NodeAsk};
-use crate::node_cell::NodeCell;
 use crate::seen::Seen;
 use journal_core::{CutNode, Heard, OutOfMemory, PlainNode, Request, SharedRequest};
+use node_history::{Event, Fate, HistoryLine, NodeAnswer, NodeAsk, NodeCell, cells_of};
 use std::alloc::Global;
 use std::marker::Model;
 use writer_core::Task;
@@ -77,23 +76,6 @@ fn fresh_cells(alloc: Global, nodes: usize) -> Result<Vec<NodeCell<PlainNode>>, 
     let mut cells = Vec::with_capacity(alloc, nodes)?;
     for _ in 0..nodes {
         cells.push(NodeCell::new(alloc, PlainNode::new(alloc)))?;
-    }
-    Ok(cells)
-}
-
-/// Cells of these nodes, each fresh and steady.
-#[tactic(auto, using(crate::proofs::WorldCode::one_more_alike))]
-pub fn cells_of<N: CutNode + Drop>(
-    alloc: Global,
-    nodes: Vec<N>,
-) -> Result<Vec<NodeCell<N>>, OutOfMemory>
-    requires fresh { All (λ n. N.state n ≡ Some fresh_state) nodes.items }
-    requires steady { All (λ n. N.steady n) nodes.items }
-    ensures { IfOk result (λ cells. cells.items ≡ replicate (length nodes.items) new_cell) }
-{
-    let mut cells = Vec::with_capacity(alloc, nodes.len())?;
-    for node in nodes {
-        cells.push(NodeCell::new(alloc, node))?;
     }
     Ok(cells)
 }

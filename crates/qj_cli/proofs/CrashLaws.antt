@@ -25,7 +25,7 @@ use Rattle.journal_node.proofs.ActingDone.{up_of, has_up}
 use Rattle.journal_node.proofs.ActingAnswer.{up_stands}
 use Rattle.node_session.specs.Session.{Asks}
 use Rattle.node_session.specs.Asking.{AreAsked, IsAskedLast}
-use Rattle.node_world.proofs.CellCode.{step_up}
+use Rattle.node_history.proofs.CellCode.{step_up}
 use Rattle.qj_cli.specs.Crashes.{StandsInside, with_next, OutlastsCrashes, WasAsked}
 
 -- ## Files inside some lines

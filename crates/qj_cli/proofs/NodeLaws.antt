@@ -14,7 +14,7 @@ use Rattle.journal_node.proofs.NodeStands.{state_told, rows_start}
 use Rattle.node_session.specs.Session.{AreAnswered, EndsBy, IsSession, IsSessionOf}
 use Rattle.node_session.specs.declared.served.Served.{Served}
 use Rattle.node_session.specs.declared.served.Served.TheVariants as served
-use Rattle.node_world.proofs.CellCode.{step_up}
+use Rattle.node_history.proofs.CellCode.{step_up}
 use Rattle.qj_cli.specs.declared.status.Status.{Status}
 use Rattle.qj_cli.specs.Uses.{SourceUse, SinkUse, DiskUse}
 use Rattle.qj_cli.specs.Serving.{IsNodeSessionOf, ServesNode}

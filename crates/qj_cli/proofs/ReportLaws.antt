@@ -1,6 +1,6 @@
 -- What is known of a play, of its report and of its summary.
 use Rattle.std.proofs.Common.{◌≡◌, ◌≤◌, ℕ, Bool, true, false, List, sym, subst, ◌∙◌, ap}
-use Rattle.node_world.specs.Run.{IsRun}
+use Rattle.run_safety.specs.Run.{IsRun}
 use Rattle.mesh.specs.declared.whole.Mesh.{Mesh}
 use Rattle.ns_tree.specs.declared.end.End.{End}
 use Rattle.mesh.specs.Agree.{Agrees}

@@ -6,7 +6,7 @@ use Rattle.journal_core.specs.declared.request.Request.{Request}
 use Rattle.journal_core.specs.Segments.{AreSound}
 use Rattle.request_text.specs.Reading.{reading_of}
 use Rattle.request_text.specs.declared.request_line.ReadRequest.TheVariants.{Read}
-use Rattle.segment_file.specs.Opened.{AreStarts}
+use Rattle.segment_file.specs.RowsTell.{AreStarts}
 use Rattle.node_files.specs.Durable.{StandsAs, AreFilled}
 use Rattle.node_session.specs.Lines.{AreLines}
 use Rattle.node_session.specs.Session.{AreAll}

@@ -1,6 +1,6 @@
 -- What holds of the lists that a script leaves, in order or by threads.
 use Rattle.std.specs.Prelude.{◌≡◌, List}
-use Rattle.node_world.specs.Run.{IsRun}
+use Rattle.run_safety.specs.Run.{IsRun}
 use Rattle.mesh.specs.declared.whole.Mesh.{Mesh}
 use Rattle.mesh.specs.Agree.{Agrees}
 use Rattle.mesh.specs.Order.{epoch_order}

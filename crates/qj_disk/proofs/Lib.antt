@@ -9,3 +9,4 @@ pub mod Rises
 mod Timeline
 mod Names
 mod Choices
+pub mod Keeping

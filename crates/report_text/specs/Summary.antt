@@ -6,10 +6,10 @@ use Rattle.journal_core.specs.Views.{HeadView, BatchView, last_txid}
 use Rattle.journal_core.specs.declared.request.Request.{Request}
 use Rattle.journal_core.specs.declared.request.Request.TheVariants.{Journal}
 use Rattle.journal_core.specs.declared.reply.Reply.TheVariants.{Ok}
-use Rattle.node_world.specs.declared.record.Record.{Record}
-use Rattle.node_world.specs.declared.record.Record.TheVariants.{Call, Outcome}
-use Rattle.node_world.specs.declared.record.Told.{Told}
-use Rattle.node_world.specs.declared.record.Told.TheVariants.{Reply}
+use Rattle.node_history.specs.declared.record.Record.{Record}
+use Rattle.node_history.specs.declared.record.Record.TheVariants.{Call, Outcome}
+use Rattle.node_history.specs.declared.record.Told.{Told}
+use Rattle.node_history.specs.declared.record.Told.TheVariants.{Reply}
 use Rattle.ns_tree.specs.declared.end.LastSpace.{LastSpace}
 use Rattle.ns_tree.specs.declared.end.End.{End}
 use Rattle.mesh.specs.declared.whole.Mesh.{Mesh}

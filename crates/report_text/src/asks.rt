@@ -5,7 +5,7 @@ ghost use Rattle.report_text.specs.Text.{arrow, choice_text, stop_text, late_tex
 use crate::parts::{put_pair, put_spaced};
 use crate::printed_requests::PrintedRequests;
 use journal_core::{Cut, OutOfMemory, Reply};
-use node_world::{NodeAnswer, NodeAsk, Stop, Told};
+use node_history::{NodeAnswer, NodeAsk, Stop, Told};
 use request_text::print_reply;
 
 fn put_choice(out: &mut Vec<u8>, cut: Cut) -> Result<(), OutOfMemory>

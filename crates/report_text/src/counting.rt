@@ -7,7 +7,7 @@ ghost use Rattle.report_text.specs.Text.{caller_name, arrow, choice_text, stop_t
 
 use crate::parts::caller_name;
 use journal_core::{Cut, Request};
-use node_world::{HistoryLine, NodeAnswer, NodeAsk, Record, Stop, Told};
+use node_history::{HistoryLine, NodeAnswer, NodeAsk, Record, Stop, Told};
 use ns_tree::End;
 use request_text::{count_bytes, count_number, count_numbers, count_reply, count_request};
 

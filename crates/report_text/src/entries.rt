@@ -9,7 +9,7 @@ use crate::parts::{caller_name, put_number};
 use crate::printed_requests::PrintedRequests;
 use crate::unprinted::{Unprinted, within_limit};
 use journal_core::OutOfMemory;
-use node_world::{HistoryLine, Record};
+use node_history::{HistoryLine, Record};
 use ns_tree::End;
 
 /// A line of a node's history.

@@ -3,7 +3,7 @@ ghost use Rattle.std.specs.Prelude.{◌≡◌, IfOk, IfSome};
 ghost use Rattle.request_text.specs.Texts.{request_text};
 
 use journal_core::{OutOfMemory, Request, SharedRequest};
-use node_world::same;
+use node_history::same;
 use request_text::{count_request, print_request};
 use std::alloc::Global;
 use std::marker::Model;

@@ -12,7 +12,7 @@ use crate::printed_requests::PrintedRequests;
 use crate::unprinted::{Unprinted, within_limit};
 use journal_core::OutOfMemory;
 use mesh::Mesh;
-use node_world::{HistoryLine, HistoryList, Record, RecordList};
+use node_history::{HistoryLine, HistoryList, Record, RecordList};
 use ns_tree::{End, EndList};
 use std::alloc::{AllocError, Global};
 

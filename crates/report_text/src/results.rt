@@ -2,7 +2,7 @@
 ghost use Rattle.std.specs.Prelude.{◌≡◌, count_by};
 ghost use Rattle.report_text.specs.Summary.{is_of_edit, is_digit, is_taken, is_of, is_result, results_of, word_of};
 
-use node_world::{Record, RecordList};
+use node_history::{Record, RecordList};
 
 /// What a line of a summary counts.
 #[derive(Clone, Copy)]

@@ -10,7 +10,7 @@ use crate::counting::{count_history, count_record};
 use crate::counting_lasts::count_last;
 use crate::unprinted::LONGEST_REPORT;
 use mesh::Mesh;
-use node_world::{HistoryLine, HistoryList, Record, RecordList};
+use node_history::{HistoryLine, HistoryList, Record, RecordList};
 use ns_tree::{End, EndList};
 use request_text::{count_bytes, count_numbers};
 

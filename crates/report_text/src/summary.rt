@@ -8,7 +8,7 @@ use crate::tally::last_done;
 use inode_text::put_wide;
 use journal_core::OutOfMemory;
 use mesh::Mesh;
-use node_world::RecordList;
+use node_history::RecordList;
 use ns_tree::{End, EndList, LastSpace};
 use std::alloc::Global;
 

@@ -5,7 +5,7 @@ ghost use Rattle.report_text.specs.Summary.{no_tally, ok_heard, is_ok, request_h
 ghost use Rattle.journal_core.specs.Views.{last_txid};
 
 use journal_core::{Batch, Head, Reply, Request};
-use node_world::{Record, RecordList, Told};
+use node_history::{Record, RecordList, Told};
 
 /// The journal round under way in a record, how many nodes answered it with Ok, and the greatest last txid of the rounds that were done
 /// so far.

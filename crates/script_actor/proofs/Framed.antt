@@ -15,8 +15,8 @@ use Rattle.writer_core.specs.Rounds.{Judged}
 use Rattle.writer_core.specs.Writer.{is_writing, writer_begun, writer_heard}
 use Rattle.journal_core.specs.declared.heard.Heard.{Heard}
 use Rattle.edit_ops.specs.Records.{EditView}
-use Rattle.node_world.specs.declared.record.Record.{Record}
-use Rattle.node_world.specs.declared.mark.Mark.{Mark}
+use Rattle.node_history.specs.declared.record.Record.{Record}
+use Rattle.node_history.specs.declared.mark.Mark.{Mark}
 use Rattle.name_node.specs.Submissions.{Submission, submitted, nothing_submitted}
 use Rattle.name_node.specs.Holding.{Holding, Work, Free, Tails, Logs, Broken, min_to_keep, enters}
 use Rattle.name_node.specs.Tails.{TailEnd, Caught, Reached, PurgedFrom, BehindBy, TailStep, GoesOn, Ends, Breaks, pass_begun, tail_hears}

@@ -1,6 +1,6 @@
 -- Stretches of a record, one after the other.
 use Rattle.std.proofs.Common.{◌≡◌, List, [], ◌∷◌, ◌++◌, refl, sym, ap, ◌∙◌, subst}
-use Rattle.node_world.specs.declared.record.Record.{Record}
+use Rattle.node_history.specs.declared.record.Record.{Record}
 use Rattle.script_actor.specs.Actor.{Actor, Fits, wants, goes_on, IsLed, actor_after}
 use Rattle.script_actor.specs.Deeds.{LedTo}
 

@@ -1,7 +1,7 @@
 -- An actor over its seats: along its calls and its deeds it is led as its deeds say, whatever it hears.
 use Rattle.std.proofs.Common.{◌≡◌, ℕ, ◌<◌, List, [], ◌∷◌, ◌++◌, map, Bool, true, false, refl, sym, ap, ◌∙◌, subst, Option, Some, None, codes, append_assoc, append-nil}
 use Rattle.std.specs.Prelude.{Result, Ok, Err, OnOk}
-use Rattle.node_world.specs.declared.mark.Mark.{Mark}
+use Rattle.node_history.specs.declared.mark.Mark.{Mark}
 use Rattle.journal_core.specs.declared.request.Request.{Request}
 use Rattle.writer_core.specs.declared.task.Task.{Task}
 use Rattle.writer_core.specs.declared.task.Begun.{Begun}
@@ -13,11 +13,11 @@ use Rattle.writer_core.specs.Left.{calls_left}
 use Rattle.writer_core.specs.Writer.{next_call, writer_begun, writer_heard, is_under_way}
 use Rattle.writer_core.proofs.LiveLaws.{begun_live, heard_live}
 use Rattle.writer_core.proofs.LeftLaws.{live_run_out}
-use Rattle.node_world.specs.declared.record.Record.{Record}
-use Rattle.node_world.specs.declared.record.Record.TheVariants.{Call, Late, Outcome}
-use Rattle.node_world.specs.declared.record.Told.{Told}
+use Rattle.node_history.specs.declared.record.Record.{Record}
+use Rattle.node_history.specs.declared.record.Record.TheVariants.{Call, Late, Outcome}
+use Rattle.node_history.specs.declared.record.Told.{Told}
 use Rattle.mesh.specs.Makers.{heard_of}
-use Rattle.node_world.proofs.WriterRange.{heard_sized, begun_sized}
+use Rattle.run_safety.proofs.WriterRange.{heard_sized, begun_sized}
 use Rattle.name_node.specs.Holding.{Holding}
 use Rattle.caller_seats.specs.Logs.{LogView, with_line, losing, copying, earlier_call as earlier_in, mark_kind, IsCalled, IsCopied}
 use Rattle.script_actor.specs.Lines.{Does, DoDrop, DoMute, DoLate}

@@ -6,8 +6,8 @@ use Rattle.edit_ops.specs.Grammar.{IsEdit}
 use Rattle.writer_core.specs.declared.task.Task.{Task}
 use Rattle.writer_core.specs.declared.task.Task.TheVariants as task
 use Rattle.writer_core.specs.Writer.{HasBody}
-use Rattle.node_world.specs.declared.node_ask.NodeAsk.{NodeAsk}
-use Rattle.node_world.specs.declared.node_ask.NodeAsk.TheVariants.{Kill, Restart, Arm}
+use Rattle.node_history.specs.declared.node_ask.NodeAsk.{NodeAsk}
+use Rattle.node_history.specs.declared.node_ask.NodeAsk.TheVariants.{Kill, Restart, Arm}
 use Rattle.script_text.specs.Views.{ScriptView}
 use Rattle.script_text.specs.declared.script_line.ScriptLine.{ScriptLine}
 use Rattle.script_text.specs.declared.script_line.ScriptLine.TheVariants as line

@@ -4,7 +4,7 @@ use Rattle.writer_core.specs.declared.turn.Turn.{Turn}
 use Rattle.writer_core.specs.declared.turn.Turn.TheVariants as turn
 use Rattle.writer_core.specs.Views.{WriterView}
 use Rattle.writer_core.specs.Left.{IsLive}
-use Rattle.node_world.specs.Sized.{Sized}
+use Rattle.run_safety.specs.Sized.{Sized}
 
 pub record IsReady (nodes : ℕ) (w : WriterView) : Type 0 where
   pub live : IsLive w

@@ -3,8 +3,8 @@ ghost use Rattle.std.specs.Prelude.{◌≡◌, ◌≤◌, ◌++◌, map, true, O
 ghost use Rattle.journal_core.specs.Limits.{max_number};
 ghost use Rattle.writer_core.specs.Views.{WriterView};
 ghost use Rattle.writer_core.specs.Writer.{HasBody, writer_begun, next_call, is_under_way};
-ghost use Rattle.node_world.specs.declared.record.Record.TheVariants.{Outcome};
-ghost use Rattle.node_world.specs.Sized.{Sized};
+ghost use Rattle.node_history.specs.declared.record.Record.TheVariants.{Outcome};
+ghost use Rattle.run_safety.specs.Sized.{Sized};
 ghost use Rattle.name_node.specs.Holding.{Holding};
 ghost use Rattle.script_actor.specs.Lines.{Does, DoLate};
 ghost use Rattle.script_actor.specs.Results.{name_of};

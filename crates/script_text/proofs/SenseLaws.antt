@@ -5,7 +5,7 @@ use Rattle.std.proofs.lemmas.Bool.Decides.{nat_tests, leb_tells}
 use Rattle.request_text.specs.Texts.{hex_text}
 use Rattle.journal_core.specs.declared.cut.Cut.{Cut}
 use Rattle.journal_core.specs.declared.cut.Cut.TheVariants as choice
-use Rattle.node_world.specs.declared.stop.Stop.TheVariants as stop
+use Rattle.node_history.specs.declared.stop.Stop.TheVariants as stop
 use Rattle.script_text.specs.declared.task_word.TaskWord.TheVariants as task
 use Rattle.script_text.specs.declared.standby_word.StandbyWord.TheVariants as standby
 use Rattle.script_text.specs.declared.call_word.CallWord.TheVariants as call

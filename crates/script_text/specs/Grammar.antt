@@ -2,7 +2,7 @@
 use Rattle.std.specs.Prelude.{ℕ, ◌≡◌, ◌≢◌, ◌≤◌, ◌<◌, List, [], ◌∷◌, ◌++◌, Bool, true, false, not, None, ◌==◌, if◌then◌else◌, length, codes, map, decimal}
 use Rattle.std.specs.List.{list_all, AllByRecursion}
 use Rattle.request_text.specs.Texts.{hex_text}
-use Rattle.node_world.specs.declared.stop.Stop.TheVariants as stop
+use Rattle.node_history.specs.declared.stop.Stop.TheVariants as stop
 use Rattle.script_text.specs.declared.task_word.TaskWord.TheVariants as task
 use Rattle.script_text.specs.declared.standby_word.StandbyWord.TheVariants as standby
 use Rattle.script_text.specs.declared.call_word.CallWord.TheVariants as call

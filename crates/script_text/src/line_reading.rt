@@ -23,7 +23,7 @@ use crate::words::{
     two_words,
 };
 use journal_core::{Bytes, OutOfMemory};
-use node_world::Stop;
+use node_history::Stop;
 use qj_num::MAX;
 use std::alloc::Global;
 

@@ -12,7 +12,7 @@ use crate::script::Script;
 use crate::script_line::ScriptLine;
 use edit_ops::{Edit, EditList, edit_text};
 use journal_core::{BodyList, Cut, OutOfMemory};
-use node_world::Stop;
+use node_history::Stop;
 use qj_num::put_decimal;
 use request_text::put_bodies;
 use std::alloc::Global;

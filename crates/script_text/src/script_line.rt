@@ -1,7 +1,7 @@
 // The lines of a script.
 use edit_ops::EditList;
 use journal_core::{BodyList, Bytes};
-use node_world::Stop;
+use node_history::Stop;
 
 /// A line of a script that says something, behind the first. An actor is its number in order of
 /// declaration, from 0; a node is its number from 1.

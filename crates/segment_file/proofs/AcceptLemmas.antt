@@ -19,7 +19,7 @@ use Rattle.batch_frame.specs.Segments.{IsSegmentFile}
 use Rattle.segment_file.specs.Names.{Kind, InProgress, Final, Record, UnderWay, FreshRecord, name_of, IsKind, IsLasting}
 use Rattle.segment_file.specs.Stands.{Slot, slot_of, HasEpoch, IsRecordFile, IsAccepted, NoFinal, NoneUnderWay, CountsUnderWay, CountsPlain, Holds, SlotStands, StandsFor}
 use Rattle.segment_file.proofs.Frame.{stands_by, apart, kinds_apart, no_final_same, accepted_same, epoch_same, final_same}
-use Rattle.segment_file.proofs.OpenFiles.{one_epoch}
+use Rattle.segment_file.proofs.OneEpoch.{one_epoch}
 
 -- the content is written under the name of an epoch that the record hasn't
 module _ (start epoch : ℕ) (valid : IsKind start (UnderWay epoch)) where

@@ -11,8 +11,8 @@ use Rattle.batch_frame.specs.Segments.{IsSegmentFile}
 use Rattle.batch_frame.proofs.SegmentLaws.{one_segment}
 use Rattle.segment_file.specs.Names.{Final, Record, UnderWay}
 use Rattle.segment_file.specs.Stands.{Slot, slot_of, IsAccepted, HoldsEdits, CountsUnderWay, CountsPlain, IsFinalOf, IsProgressOf, IsNone, Holds, StandsFor}
-use Rattle.segment_file.specs.Opened.{AreStarts}
-use Rattle.segment_file.proofs.OpenFiles.{one_epoch}
+use Rattle.segment_file.specs.RowsTell.{AreStarts}
+use Rattle.segment_file.proofs.OneEpoch.{one_epoch}
 
 same_accepted : (file : Option (List ℕ)) (epoch : ℕ) (a b : Bool) → IsAccepted file epoch a → IsAccepted file epoch b → a ≡ b
 same_accepted file epoch true true is other = refl

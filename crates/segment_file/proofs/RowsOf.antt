@@ -10,7 +10,7 @@ use Rattle.journal_core.proofs.PlaceLaws.{put_here, put_before, put_more}
 use Rattle.segment_file.specs.Names.{name_of, kind_of}
 use Rattle.segment_file.specs.declared.segment_row.SegmentRow.{SegmentRow}
 use Rattle.segment_file.specs.Rows.{find_row, put_row, remove_row, newest_row, row_has_edit}
-use Rattle.segment_file.specs.Opened.{IsRowOf, AreRowsOf, AreStarts}
+use Rattle.segment_file.specs.RowsTell.{IsRowOf, AreRowsOf, AreStarts}
 use Rattle.segment_file.proofs.RowLaws.{put_here as row_here, put_before as row_before, put_more as row_behind}
 
 module _ (seen : Files) where

@@ -5,7 +5,7 @@ use Rattle.journal_core.specs.declared.segment.Segment.{Segment}
 use Rattle.journal_core.specs.Segments.{end_of, AreAbove, AreRising, AreWithin}
 use Rattle.segment_file.specs.declared.segment_row.SegmentRow.{SegmentRow}
 use Rattle.segment_file.specs.Rows.{RowsAbove, RowsRise, IsRowWithin, RowsWithin, AreSoundRows}
-use Rattle.segment_file.specs.Opened.{AreInfos, AreStarts, TellSegments}
+use Rattle.segment_file.specs.RowsTell.{AreInfos, AreStarts, TellSegments}
 
 abbrev empty_body : List ℕ
 empty_body = []

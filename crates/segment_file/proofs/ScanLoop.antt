@@ -10,7 +10,7 @@ use Rattle.qj_disk.specs.declared.disk.DiskFail.TheVariants.{Failed}
 use Rattle.batch_frame.specs.declared.scanned.Scan.{Scan}
 use Rattle.batch_frame.specs.Answers.{IsScan}
 use Rattle.batch_frame.proofs.PieceLaws.{scan_from}
-use Rattle.segment_file.proofs.ReadLoop.{rests_same, rests_then}
+use Rattle.qj_disk.proofs.Keeping.{rests_same, rests_then}
 use Rattle.qj_disk.proofs.Rises.{rose_since}
 
 -- how many windows may come, where so many bytes are left

@@ -7,9 +7,5 @@ pub mod Calls
 pub mod Answers
 pub mod Scans
 pub mod Reads
-pub mod Kinds
 pub mod Rows
-pub mod Opening
-pub mod Completing
-pub mod Opened
-pub mod OpenSteps
+pub mod RowsTell

@@ -5,7 +5,7 @@ use Rattle.std.proofs.lemmas.List.{map-append}
 use Rattle.script_text.specs.declared.script_line.ScriptLine.{ScriptLine}
 use Rattle.writer_core.specs.Writer.{new_writer, next_call}
 use Rattle.writer_core.proofs.LiveLaws.{new_live}
-use Rattle.node_world.proofs.WriterRange.{new_sized}
+use Rattle.run_safety.proofs.WriterRange.{new_sized}
 use Rattle.caller_seats.specs.Logs.{LogView, new_log}
 use Rattle.script_actor.specs.Lines.{Deed, Line, Declares, Acts, Operates, deeds_of, line_of}
 use Rattle.script_actor.specs.Actor.{Actor, wants, settled, handed, fresh_actor, holding_if, last_of}

@@ -5,9 +5,9 @@ use Rattle.std.proofs.Math.ListN.{get_or-map}
 use Rattle.std.proofs.lemmas.Option.{get_or_from_slice_get}
 use Rattle.std.proofs.lemmas.Bool.Decides.{eqb_tells}
 use Rattle.std.proofs.Math.Arith.{lt_of_le-ne}
-use Rattle.node_world.specs.declared.record.Record.{Record}
-use Rattle.node_world.specs.declared.mark.Mark.{Mark}
-use Rattle.node_world.specs.declared.history_line.HistoryLine.{HistoryLine}
+use Rattle.node_history.specs.declared.record.Record.{Record}
+use Rattle.node_history.specs.declared.mark.Mark.{Mark}
+use Rattle.node_history.specs.declared.history_line.HistoryLine.{HistoryLine}
 use Rattle.mesh.specs.declared.whole.Mesh.{Mesh}
 use Rattle.ns_tree.specs.declared.end.End.{End}
 use Rattle.ns_tree.specs.declared.end.LastSpace.{LastSpace}

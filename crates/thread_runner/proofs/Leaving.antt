@@ -1,8 +1,8 @@
 -- What a caller's thread leaves.
 use Rattle.std.proofs.Common.{◌≡◌, ℕ, ◌==◌, Bool, List, Option, [], true, sym, ap, ◌∙◌, subst}
 use Rattle.atomic_table.specs.Seated.{TableId}
-use Rattle.node_world.specs.declared.record.Record.{Record}
-use Rattle.node_world.specs.declared.mark.Mark.{Mark}
+use Rattle.node_history.specs.declared.record.Record.{Record}
+use Rattle.node_history.specs.declared.mark.Mark.{Mark}
 use Rattle.mesh.specs.Marks.{IsMarked, AreCopied}
 use Rattle.mesh.specs.Matches.{AreWithin}
 use Rattle.caller_seats.specs.Logs.{new_log}

@@ -1,8 +1,8 @@
 -- The operator in a thread.
 use Rattle.std.proofs.Common.{◌≡◌, ℕ, ◌+◌, ◌<◌, List, [], ◌∷◌, ◌++◌, length, map, take, sym, subst, append-nil, get_or, ◌∙◌}
 use Rattle.script_text.specs.declared.script_line.ScriptLine.{ScriptLine}
-use Rattle.node_world.specs.declared.record.Record.{Record}
-use Rattle.node_world.specs.declared.record.Record.TheVariants.{Operator}
+use Rattle.node_history.specs.declared.record.Record.{Record}
+use Rattle.node_history.specs.declared.record.Record.TheVariants.{Operator}
 use Rattle.mesh.specs.Makers.{IsOperators}
 use Rattle.gate_seats.specs.LaterLaws.{later_same, later_on}
 use Rattle.script_actor.specs.Lines.{Line, Declares, Acts, Operates, operations_in, line_of}

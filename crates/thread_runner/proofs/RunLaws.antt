@@ -6,8 +6,8 @@ use Rattle.std.proofs.lemmas.List.{length-map, length-take-le, get_or-take, get_
 use Rattle.std.proofs.Math.ListN.{get_or-map}
 use Rattle.atomic_table.proofs.Lists.{at_index}
 use Rattle.atomic_table.specs.Seated.{TableId}
-use Rattle.node_world.specs.declared.record.Record.{Record}
-use Rattle.node_world.specs.declared.mark.Mark.{Mark}
+use Rattle.node_history.specs.declared.record.Record.{Record}
+use Rattle.node_history.specs.declared.mark.Mark.{Mark}
 use Rattle.node_gate.specs.Board.{AllAt}
 use Rattle.mesh.specs.declared.whole.Mesh.{Mesh}
 use Rattle.ns_tree.specs.declared.end.End.{End}

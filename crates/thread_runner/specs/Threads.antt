@@ -1,8 +1,8 @@
 -- What a caller's thread does with the lines of a script, whatever it hears.
 use Rattle.std.specs.Prelude.{◌≡◌, ℕ, ◌==◌, Bool, true, false, List, [], ◌∷◌, ◌++◌, Option, Some, None}
-use Rattle.node_world.specs.declared.record.Record.{Record}
-use Rattle.node_world.specs.declared.record.Record.TheVariants.{Operator}
-use Rattle.node_world.specs.declared.mark.Mark.{Mark}
+use Rattle.node_history.specs.declared.record.Record.{Record}
+use Rattle.node_history.specs.declared.record.Record.TheVariants.{Operator}
+use Rattle.node_history.specs.declared.mark.Mark.{Mark}
 use Rattle.ns_tree.specs.declared.end.End.{End}
 use Rattle.ns_tree.specs.declared.end.LastSpace.{LastSpace}
 use Rattle.mesh.specs.Makers.{IsOperation, IsOperators}

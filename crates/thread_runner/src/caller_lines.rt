@@ -13,7 +13,7 @@ use crate::operator_lines::operate_alone;
 use gate_seats::{GateSeats, NodeGate, Pass};
 use journal_core::OutOfMemory;
 use node_gate::{Gate, GateSeat};
-use node_world::{ActorPlan, RecordList};
+use node_history::{ActorPlan, RecordList};
 use ns_tree::LastSpace;
 use script_text::ScriptLine;
 use std::alloc::{AllocError, Global};

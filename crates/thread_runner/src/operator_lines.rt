@@ -9,7 +9,7 @@ ghost use Rattle.thread_runner.specs.Threads.{OperatesOn, HasOperated};
 
 use gate_seats::{GateSeats, NodeGate, Pass};
 use journal_core::OutOfMemory;
-use node_world::NodeAsk;
+use node_history::NodeAsk;
 use script_text::ScriptLine;
 use std::sync::Wait;
 

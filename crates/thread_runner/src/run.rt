@@ -12,7 +12,7 @@ use cluster_runner::{Played, actors_in};
 use gate_seats::{Pass, close_gates, open_gates};
 use journal_core::{CutNode, OutOfMemory};
 use mesh::{HistoryTable, Mesh, RecordTable};
-use node_world::{ActorPlan, Plan};
+use node_history::{ActorPlan, Plan};
 use script_text::Script;
 use std::alloc::{AllocError, Global};
 use std::sync::Wait;

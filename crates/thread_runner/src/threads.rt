@@ -1,7 +1,7 @@
 // All callers' lines, by a thread for each caller.
 ghost use Rattle.std.specs.Prelude.{◌≡◌, ◌<◌, ◌+◌, ◌^◌, ℕ, List, map, length, slice_index_or, IfOk, Ok, Result, Option};
-ghost use Rattle.node_world.specs.declared.record.Record.{Record};
-ghost use Rattle.node_world.specs.declared.mark.Mark.{Mark};
+ghost use Rattle.node_history.specs.declared.record.Record.{Record};
+ghost use Rattle.node_history.specs.declared.mark.Mark.{Mark};
 ghost use Rattle.ns_tree.specs.declared.end.LastSpace.{LastSpace};
 ghost use Rattle.gate_seats.specs.Seated.{seat_of};
 ghost use Rattle.script_actor.specs.Lines.{line_of};
@@ -11,7 +11,7 @@ use crate::caller_lines::{Left, take_lines};
 use gate_seats::{GatedNode, Pass};
 use journal_core::{CutNode, OutOfMemory};
 use node_gate::{Gate, GateSeat};
-use node_world::{ActorPlan, RecordList};
+use node_history::{ActorPlan, RecordList};
 use ns_tree::LastSpace;
 use script_text::ScriptLine;
 use std::alloc::Global;

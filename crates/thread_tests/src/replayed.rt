@@ -1,6 +1,6 @@
 // The epoch order of a run, taken by fresh nodes.
 use journal_core::{Node, NodeState, PlainNode, Segment};
-use node_world::{Event, Fate};
+use node_history::{Event, Fate};
 use std::alloc::Global;
 
 /// The node of an event, from 1; 0 where it has none.

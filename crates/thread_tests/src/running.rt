@@ -6,7 +6,7 @@ use gate_seats::Pass;
 use journal_core::PlainNode;
 use mesh_agreement::agrees;
 use mesh_judge::ordered;
-use node_world::Event;
+use node_history::Event;
 use report_text::{Report, report_of};
 use script_text::{ReadScript, Script, read_script};
 use std::alloc::Global;

@@ -3,7 +3,8 @@ ghost use Rattle.std.specs.Prelude.{◌≢◌, [], IfOk};
 ghost use Rattle.writer_core.specs.Writer.{HasBody};
 
 use journal_core::{BodyList, Bytes, PlainNode, Refusal, Reply, Request, SharedRequest};
-use node_world::{Event, Fate, NodeAnswer, NodeAsk, Seen, Stop, World};
+use node_history::{Event, Fate, NodeAnswer, NodeAsk, Stop};
+use node_world::{Seen, World};
 use std::alloc::Global;
 use std::process::Abort;
 use std::test::Fail;

@@ -9,8 +9,8 @@ use Rattle.writer_core.specs.Best.{best_from, greatest_promise, greatest_newest}
 use Rattle.writer_core.specs.Rounds.{judged, fetched}
 use Rattle.writer_core.specs.Writer.{log_limit, writer_begun, writer_heard}
 use Rattle.journal_core.specs.Cuts.{standing}
-use Rattle.node_world.specs.Cell.{cell_takes, cell_after}
-use Rattle.node_world.specs.Moving.{epoch_of, moves, move_of, entry_of, moving_of}
+use Rattle.node_history.specs.Cell.{cell_takes, cell_after}
+use Rattle.node_history.specs.Moving.{epoch_of, moves, move_of, entry_of, moving_of}
 use Rattle.mesh.specs.Marks.{calls_to}
 use Rattle.mesh.specs.Makers.{maker_of, maker_hears}
 use Rattle.mesh.specs.Matches.{reaches, reached, lines_of}

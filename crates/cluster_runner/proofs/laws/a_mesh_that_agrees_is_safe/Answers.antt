@@ -1,5 +1,5 @@
 use Rattle.std.proofs.Common.{sym, ◌∙◌}
-use Rattle.node_world.proofs.Slots.{none≢some}
+use Rattle.run_safety.proofs.Slots.{none≢some}
 use Rattle.mesh.proofs.OrderRuns.{order_safe}
 use Rattle.cluster_runner.proofs.laws.a_mesh_that_agrees_is_safe.Goals as goal
 

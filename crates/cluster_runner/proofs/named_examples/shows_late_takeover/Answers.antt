@@ -14,7 +14,7 @@ use Rattle.ns_replay.specs.Decoded.{op_from, edit_from, opcode_of, decoded}
 use Rattle.ns_replay.specs.Admit.{admit_op, admit_of}
 use Rattle.ns_replay.specs.Apply.{apply_op, apply_of}
 use Rattle.ns_replay.specs.Replay.{entered, applied}
-use Rattle.node_world.specs.Cell.{cell_takes}
+use Rattle.node_history.specs.Cell.{cell_takes}
 use Rattle.mesh.specs.Marks.{calls_to}
 use Rattle.request_text.specs.Texts.{refusal_cause_text, refusal_name}
 use Rattle.name_node.specs.Submissions.{submitted}

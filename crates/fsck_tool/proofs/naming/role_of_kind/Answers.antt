@@ -1,6 +1,6 @@
 use Rattle.std.proofs.Common.{subst, ap}
 use Rattle.segment_file.specs.Names.{Kind}
-use Rattle.segment_file.specs.Kinds.{IsNamed, kind_told}
+use Rattle.segment_opening.specs.Kinds.{IsNamed, kind_told}
 use Rattle.fsck_tool.specs.Roles.{fresh, under_way}
 use Rattle.fsck_tool.proofs.naming.role_of_kind.Goals as goal
 

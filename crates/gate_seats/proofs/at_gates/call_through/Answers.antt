@@ -1,5 +1,5 @@
 use Rattle.std.proofs.Common.{sym, ap, subst, ◌∙◌}
-use Rattle.node_world.specs.declared.record.Record.TheVariants.{Call}
+use Rattle.node_history.specs.declared.record.Record.TheVariants.{Call}
 use Rattle.mesh.specs.Marks.{next_number, IsAsMarked}
 use Rattle.caller_seats.specs.Deliveries.{told_of}
 use Rattle.gate_seats.specs.Entries.{own_lines}

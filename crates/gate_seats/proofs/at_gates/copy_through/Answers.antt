@@ -1,5 +1,5 @@
 use Rattle.std.proofs.Common.{ap}
-use Rattle.node_world.specs.declared.record.Record.TheVariants.{Late}
+use Rattle.node_history.specs.declared.record.Record.TheVariants.{Late}
 use Rattle.gate_seats.specs.Entries.{own_lines}
 use Rattle.gate_seats.proofs.SeatLaws.{goes_line, tied_late, late_apart}
 use Rattle.gate_seats.proofs.at_gates.copy_through.Goals as goal

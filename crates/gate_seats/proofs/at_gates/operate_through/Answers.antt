@@ -1,5 +1,5 @@
 use Rattle.std.proofs.Common.{sym, subst}
-use Rattle.node_world.specs.declared.record.Record.TheVariants.{Operator}
+use Rattle.node_history.specs.declared.record.Record.TheVariants.{Operator}
 use Rattle.gate_seats.specs.Entries.{own_lines}
 use Rattle.gate_seats.specs.Seated.{Tied}
 use Rattle.gate_seats.proofs.SeatLaws.{goes_with, tied_operated, operator_apart}

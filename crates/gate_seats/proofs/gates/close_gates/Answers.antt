@@ -2,7 +2,7 @@ use Rattle.std.proofs.Common.{◌≡◌, ◌<◌, ◌+◌, ◌∷◌, [], ◌∙
 use Rattle.std.specs.List.{All}
 use Rattle.std.proofs.lemmas.List.{length-map}
 use Rattle.std.proofs.lemmas.List.Elements.{All-push}
-use Rattle.node_world.specs.Cell.{fresh_cell, cell_after}
+use Rattle.node_history.specs.Cell.{fresh_cell, cell_after}
 use Rattle.gate_seats.specs.Seated.{seat_of}
 use Rattle.node_gate.specs.Board.{AllAt}
 use Rattle.gate_seats.specs.Gates.{IsLeft}

@@ -2,7 +2,7 @@ use Rattle.std.proofs.Common.{◌≡◌, [], length, map, drop, get_or}
 use Rattle.std.specs.List.{All}
 use Rattle.std.specs.Prelude.{Some}
 use Rattle.node_gate.specs.Board.{AllAt}
-use Rattle.node_world.specs.Cell.{fresh_cell, cell_after}
+use Rattle.node_history.specs.Cell.{fresh_cell, cell_after}
 use Rattle.gate_seats.specs.Seated.{seat_of}
 use Rattle.gate_seats.specs.Gates.{IsLeft}
 use Rattle.gate_seats.proofs.gates.close_gates.Given as goal

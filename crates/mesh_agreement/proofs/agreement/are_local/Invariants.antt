@@ -1,5 +1,5 @@
 use Rattle.std.proofs.Common.{ℕ, ◌<◌}
-use Rattle.node_world.specs.Cell.{fresh_cell, IsLocalRun}
+use Rattle.node_history.specs.Cell.{fresh_cell, IsLocalRun}
 use Rattle.mesh.specs.Agree.{history_at}
 use Rattle.mesh_agreement.proofs.agreement.are_local.Given as goal
 

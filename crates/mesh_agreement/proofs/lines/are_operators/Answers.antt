@@ -1,5 +1,5 @@
 use Rattle.std.proofs.Common.{◌∷◌, []}
-use Rattle.node_world.specs.declared.record.Record.{Record}
+use Rattle.node_history.specs.declared.record.Record.{Record}
 use Rattle.mesh.specs.Makers.{IsOperators}
 use Rattle.mesh_agreement.proofs.Deciding.{from_begin, from_more, from_fails, from_ends, yes, no, holds, fails}
 use Rattle.mesh_agreement.proofs.LineLaws.{operators_by_line}

@@ -1,5 +1,5 @@
 use Rattle.std.proofs.Common.{◌≤◌, arith}
-use Rattle.node_world.specs.declared.history_line.HistoryLine.{HistoryLine}
+use Rattle.node_history.specs.declared.history_line.HistoryLine.{HistoryLine}
 use Rattle.mesh.specs.Matches.{CallersWithin}
 use Rattle.mesh_agreement.proofs.Deciding.{from_more, from_fails, from_ends, yes, no}
 use Rattle.mesh_agreement.proofs.LineLaws.{callers_by_line}

@@ -1,5 +1,5 @@
 use Rattle.std.proofs.Common.{◌≡◌, ap, sym, ◌∙◌}
-use Rattle.node_world.specs.Cell.{fresh_cell, cell_takes, IsLocalRun}
+use Rattle.node_history.specs.Cell.{fresh_cell, cell_takes, IsLocalRun}
 use Rattle.mesh_agreement.proofs.Deciding.{yes, no, holds, fails}
 use Rattle.mesh_agreement.proofs.LineLaws.{local_more, local_fails, local_ends}
 use Rattle.mesh_agreement.proofs.local.is_local_run.Goals as goal

@@ -1,8 +1,8 @@
 use Rattle.std.proofs.Common.{◌≡◌, List, Contains, length, sym, ap, ◌∙◌, subst, Decides}
 use Rattle.std.proofs.lemmas.Result.{IfOk-weaker}
-use Rattle.node_world.specs.declared.record.Record.{Record}
-use Rattle.node_world.specs.declared.record.Record.TheVariants.{Late}
-use Rattle.node_world.specs.declared.mark.Mark.{Mark}
+use Rattle.node_history.specs.declared.record.Record.{Record}
+use Rattle.node_history.specs.declared.record.Record.TheVariants.{Late}
+use Rattle.node_history.specs.declared.mark.Mark.{Mark}
 use Rattle.mesh.specs.Matches.{IsWithin}
 use Rattle.mesh_agreement.specs.Keys.{has}
 use Rattle.mesh_agreement.specs.Marking.{KnowsPlan, KnowsCalls, HasCopies, LineIsCopied}

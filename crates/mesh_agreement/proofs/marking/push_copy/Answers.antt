@@ -2,7 +2,7 @@ use Rattle.std.proofs.Common.{◌≡◌, ℕ, List, [], ◌∷◌, ◌++◌, sym
 use Rattle.std.specs.Prelude.{◌||◌}
 use Rattle.std.proofs.lemmas.Result.{IfOk-weaker}
 use Rattle.journal_core.specs.declared.request.Request.{Request}
-use Rattle.node_world.specs.declared.record.Record.{Record}
+use Rattle.node_history.specs.declared.record.Record.{Record}
 use Rattle.mesh_agreement.specs.Keys.{is_ask, has}
 use Rattle.mesh_agreement.specs.Marking.{HasCopies}
 use Rattle.mesh_agreement.proofs.MarkLaws.{copies_add}

@@ -1,6 +1,6 @@
 use Rattle.std.proofs.Common.{◌≡◌, ◌<◌, ◌+◌, List, length, get_or, set, arith, ap, sym, subst, subst₂, ◌∙◌, Decides}
 use Rattle.std.proofs.lemmas.List.{get_or_default}
-use Rattle.node_world.specs.declared.history_line.HistoryLine.{HistoryLine}
+use Rattle.node_history.specs.declared.history_line.HistoryLine.{HistoryLine}
 use Rattle.mesh.specs.Agree.{operator_of, history_at, record_of}
 use Rattle.mesh.specs.Matches.{reached}
 use Rattle.mesh_judge.proofs.Walking.{lines_are}

@@ -1,6 +1,6 @@
 use Rattle.std.proofs.Common.{◌≡◌, IfOk, List, rules, subst}
 use Rattle.std.proofs.lemmas.List.Sorted.{answers_always}
-use Rattle.node_world.specs.declared.event.Event.{Event}
+use Rattle.node_history.specs.declared.event.Event.{Event}
 use Rattle.mesh_judge.proofs.EpochOrder.{pair_of, order_is}
 use Rattle.mesh_judge.proofs.ordering.ordered.Goals as goal
 

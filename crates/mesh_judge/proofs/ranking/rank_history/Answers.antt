@@ -1,6 +1,6 @@
 use Rattle.std.proofs.Common.{◌≡◌, ◌<◌, List, length, get_or, arith, ap, sym, ◌∙◌}
 use Rattle.std.proofs.lemmas.List.{get_or_default}
-use Rattle.node_world.specs.declared.history_line.HistoryLine.{HistoryLine}
+use Rattle.node_history.specs.declared.history_line.HistoryLine.{HistoryLine}
 use Rattle.mesh.specs.Agree.{history_at}
 use Rattle.mesh_judge.proofs.Walking.{lines_are, caller_known, nodes_reached, number_reached, number_small, walk_begins, walk_stays, walk_moves, walk_ends}
 use Rattle.mesh_judge.proofs.ranking.rank_history.Goals as goal

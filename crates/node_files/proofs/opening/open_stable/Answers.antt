@@ -1,6 +1,6 @@
 use Rattle.std.proofs.Common.{sym, subst}
 use Rattle.qj_disk.specs.Files.{Files}
-use Rattle.segment_file.proofs.OpenWhole.{stable_after, quiet_read, quiet_after}
+use Rattle.segment_opening.proofs.OpenWhole.{stable_after, quiet_read, quiet_after}
 use Rattle.node_files.specs.Opening.{HaveNodeNumbers}
 use Rattle.node_files.proofs.OpenQuiet.{numbers_kept}
 use Rattle.node_files.proofs.OpenHolds.{number_found, found_after}

@@ -1,6 +1,6 @@
 use Rattle.std.proofs.Common.{inl, inr}
 use Rattle.std.proofs.lemmas.Result.{on_ok_weaker}
-use Rattle.segment_file.specs.Opening.{IsLastingFile, SyncsOnly}
+use Rattle.segment_opening.specs.Opening.{IsLastingFile, SyncsOnly}
 use Rattle.node_files.specs.Opening.{IsNumberFile, IsOwnFile}
 use Rattle.node_files.proofs.OpenQuiet.{spared_then}
 use Rattle.node_files.proofs.syncing.sync_files.Goals as goal

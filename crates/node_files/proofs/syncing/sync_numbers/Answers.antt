@@ -1,6 +1,6 @@
 use Rattle.std.proofs.Common.{◌≡◌}
 use Rattle.std.proofs.lemmas.Result.{on_ok_weaker}
-use Rattle.segment_file.specs.Opening.{SyncsOnly}
+use Rattle.segment_opening.specs.Opening.{SyncsOnly}
 use Rattle.node_files.specs.declared.node_number.NodeNumber.TheVariants.{Promised, Writer, Committed}
 use Rattle.node_files.specs.Durable.{number_name}
 use Rattle.node_files.specs.Opening.{IsNumberFile}

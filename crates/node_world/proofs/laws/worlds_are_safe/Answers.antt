@@ -1,6 +1,6 @@
-use Rattle.node_world.specs.Moving.{moving_of}
+use Rattle.node_history.specs.Moving.{moving_of}
 use Rattle.node_world.specs.World.{new_world, world_after}
-use Rattle.node_world.proofs.Safety.{run_safe}
+use Rattle.run_safety.proofs.Safety.{run_safe}
 use Rattle.node_world.proofs.WorldRuns.{world_is_run}
 use Rattle.node_world.proofs.laws.worlds_are_safe.Goals as goal
 

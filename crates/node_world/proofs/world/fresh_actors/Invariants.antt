@@ -1,5 +1,5 @@
 use Rattle.std.proofs.Common.{◌≡◌, replicate}
-use Rattle.node_world.specs.World.{fresh_acting}
+use Rattle.run_safety.specs.Actings.{fresh_acting}
 use Rattle.node_world.proofs.world.fresh_actors.Given as goal
 
 abbrev pub invariant-loop : goal.invariant-loop

@@ -1,6 +1,6 @@
 use Rattle.std.proofs.Common.{ℕ, sym, ap, ◌∙◌, subst, None}
 use Rattle.writer_core.specs.Writer.{next_call}
-use Rattle.node_world.specs.Sized.{Sized}
+use Rattle.run_safety.specs.Sized.{Sized}
 use Rattle.std.specs.Prelude.{Option}
 use Rattle.name_node.specs.Holding.{Holding}
 use Rattle.script_actor.specs.KeptActor.{KeptActor}

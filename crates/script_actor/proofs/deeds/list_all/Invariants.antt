@@ -1,5 +1,5 @@
 use Rattle.std.proofs.Common.{◌≡◌, ◌++◌, map}
-use Rattle.node_world.specs.declared.record.Record.TheVariants.{Outcome}
+use Rattle.node_history.specs.declared.record.Record.TheVariants.{Outcome}
 use Rattle.script_actor.proofs.deeds.list_all.Given as goal
 
 abbrev pub invariant-loop-text : goal.invariant-loop-text

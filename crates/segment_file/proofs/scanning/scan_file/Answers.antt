@@ -2,7 +2,7 @@ use Rattle.std.proofs.Common.{◌≡◌, ◌∙◌, ℕ, List, take, drop, lengt
 use Rattle.std.specs.Prelude.{Option, Some, option_map}
 use Rattle.std.proofs.lemmas.Option.{same_Some}
 use Rattle.qj_disk.specs.Files.{Files, bytes_of}
-use Rattle.segment_file.proofs.ReadLoop.{rests_then}
+use Rattle.qj_disk.proofs.Keeping.{rests_then}
 use Rattle.segment_file.proofs.ScanLemmas.{header_in_front, header_of_front, some_file, scanned_whole, scanned_bad}
 use Rattle.segment_file.proofs.scanning.scan_file.Goals as goal
 

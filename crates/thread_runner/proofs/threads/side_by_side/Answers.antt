@@ -1,6 +1,6 @@
 use Rattle.std.proofs.Common.{◌++◌, ◌∷◌, [], List, Option, refl}
-use Rattle.node_world.specs.declared.record.Record.{Record}
-use Rattle.node_world.specs.declared.mark.Mark.{Mark}
+use Rattle.node_history.specs.declared.record.Record.{Record}
+use Rattle.node_history.specs.declared.mark.Mark.{Mark}
 use Rattle.ns_tree.specs.declared.end.LastSpace.{LastSpace}
 use Rattle.thread_runner.proofs.ListLaws.{oks_more, parts_more}
 use Rattle.thread_runner.proofs.threads.side_by_side.Goals as goal

@@ -1,7 +1,7 @@
 use Rattle.std.proofs.Common.{◌≡◌, List, Option, map}
 use Rattle.std.specs.Prelude.{Ok}
-use Rattle.node_world.specs.declared.record.Record.{Record}
-use Rattle.node_world.specs.declared.mark.Mark.{Mark}
+use Rattle.node_history.specs.declared.record.Record.{Record}
+use Rattle.node_history.specs.declared.mark.Mark.{Mark}
 use Rattle.ns_tree.specs.declared.end.LastSpace.{LastSpace}
 use Rattle.thread_runner.proofs.threads.side_by_side.Given as goal
 

@@ -1,5 +1,5 @@
 use Rattle.std.proofs.Common.{rules, ◌≡◌, ◌≤◌, ◌+◌, ◌-◌, true, length, sym, subst, ap, ◌∙◌}
-use Rattle.node_world.specs.declared.mark.MarkKind.TheVariants as kind
+use Rattle.node_history.specs.declared.mark.MarkKind.TheVariants as kind
 use Rattle.caller_seats.specs.Logs.{LogView}
 use Rattle.caller_seats.proofs.IndexLaws.{at_place, places_number}
 use Rattle.caller_seats.proofs.LogLaws.{mark_kept}

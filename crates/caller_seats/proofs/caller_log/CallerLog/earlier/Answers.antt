@@ -1,5 +1,5 @@
 use Rattle.std.proofs.Common.{◌≤◌, ◌-◌, List, sym, ap, ◌∙◌, subst, slice_get}
-use Rattle.node_world.specs.declared.record.Record.{Record}
+use Rattle.node_history.specs.declared.record.Record.{Record}
 use Rattle.mesh.specs.Marks.{calls_to}
 use Rattle.caller_seats.specs.Indexes.{IsIndex}
 use Rattle.caller_seats.specs.Logs.{LogView, earlier_call}

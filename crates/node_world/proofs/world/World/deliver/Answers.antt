@@ -1,5 +1,5 @@
 use Rattle.std.proofs.Common.{◌≡◌, subst, false}
-use Rattle.node_world.specs.declared.node_ask.NodeAsk.TheVariants.{Act}
+use Rattle.node_history.specs.declared.node_ask.NodeAsk.TheVariants.{Act}
 use Rattle.node_world.specs.WorldViews.{IsAsked}
 use Rattle.node_world.proofs.WorldCode.{delivered}
 use Rattle.node_world.proofs.world.World.deliver.Goals as goal

@@ -1,6 +1,6 @@
 use Rattle.std.proofs.Common.{◌≡◌, ap, sym, ◌∙◌}
 use Rattle.request_text.specs.Texts.{request_text}
-use Rattle.node_world.proofs.SameLaws.{request_same}
+use Rattle.node_history.proofs.SameLaws.{request_same}
 use Rattle.report_text.proofs.printed.Printed.text_of.Goals as goal
 
 pub returns-then-same : goal.returns-then-same

@@ -1,0 +1,9 @@
+pub mod Fronts
+pub mod Requests
+pub mod Stops
+pub mod CellLaws
+pub mod Raised
+pub mod Moves
+pub mod CellCode
+pub mod SameLaws
+pub mod SameCode

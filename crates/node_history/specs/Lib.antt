@@ -1,0 +1,6 @@
+pub mod Entries
+pub mod Cell
+pub mod Moving
+pub mod CellLaws
+pub mod NodeCells
+pub mod Same

@@ -1,5 +1,0 @@
-use Rattle.node_world.proofs.Worked.{record_acknowledged, edit_acknowledged, later_acknowledged}
-use Rattle.node_world.proofs.examples.edits_are_acknowledged.Goals as goal
-
-pub returns : goal.returns
-returns c = record { begins = record_acknowledged; first = edit_acknowledged; last = later_acknowledged }

@@ -1,5 +1,0 @@
-use Rattle.node_world.proofs.Worked.{is_run}
-use Rattle.node_world.proofs.examples.recovered_edit_is_a_run.Goals as goal
-
-pub returns : goal.returns
-returns c = is_run

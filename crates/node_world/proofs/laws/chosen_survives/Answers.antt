@@ -1,6 +1,0 @@
-use Rattle.std.proofs.Common.{reverse}
-use Rattle.node_world.proofs.Kept.{chosen_survives}
-use Rattle.node_world.proofs.laws.chosen_survives.Goals as goal
-
-pub returns : goal.returns
-returns c = λ n entries i e t g x run c h lt. chosen_survives n run.0 (reverse entries) run.1 i e t g x c h lt

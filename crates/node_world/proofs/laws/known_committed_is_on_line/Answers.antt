@@ -1,6 +1,0 @@
-use Rattle.std.proofs.Common.{reverse}
-use Rattle.node_world.proofs.Served.{known_on_line}
-use Rattle.node_world.proofs.laws.known_committed_is_on_line.Goals as goal
-
-pub returns : goal.returns
-returns c = λ n entries i t run one up. known_on_line n run.0 (reverse entries) run.1 i t one up

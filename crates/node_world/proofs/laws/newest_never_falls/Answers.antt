@@ -1,9 +1,0 @@
-use Rattle.std.proofs.Common.{reverse}
-use Rattle.std.proofs.lemmas.List.{reverse-append}
-use Rattle.node_world.specs.Entries.{now}
-use Rattle.node_world.proofs.Places.{Earlier-append}
-use Rattle.node_world.proofs.Oks.{newest_rises}
-use Rattle.node_world.proofs.laws.newest_never_falls.Goals as goal
-
-pub returns : goal.returns
-returns c = λ n xs ys i k run is. rw reverse-append (newest_rises n run.0 _ (rw reverse-append at run.1) i k (Earlier-append (reverse ys) (reverse xs)) now is)

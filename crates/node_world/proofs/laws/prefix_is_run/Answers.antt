@@ -1,7 +1,0 @@
-use Rattle.std.proofs.Common.{reverse}
-use Rattle.std.proofs.lemmas.List.{reverse-append}
-use Rattle.node_world.proofs.Places.{Follows-earlier, Earlier-append}
-use Rattle.node_world.proofs.laws.prefix_is_run.Goals as goal
-
-pub returns : goal.returns
-returns c = λ n xs ys run. (run.0, Follows-earlier n run.0 (Earlier-append (reverse ys) (reverse xs)) (rw reverse-append at run.1))

@@ -1,6 +1,0 @@
-use Rattle.std.proofs.Common.{reverse}
-use Rattle.node_world.proofs.Proposals.{proposals_told}
-use Rattle.node_world.proofs.laws.proposals_are_told.Goals as goal
-
-pub returns : goal.returns
-returns c = λ n entries e f t body nodes run chosen lt majority each. proposals_told n run.0 (reverse entries) run.1 e f t body nodes chosen lt majority each

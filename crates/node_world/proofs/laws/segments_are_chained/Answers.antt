@@ -1,6 +1,0 @@
-use Rattle.std.proofs.Common.{reverse}
-use Rattle.node_world.proofs.Kept.{segments_chained}
-use Rattle.node_world.proofs.laws.segments_are_chained.Goals as goal
-
-pub returns : goal.returns
-returns c = λ n entries i g t x run h has. segments_chained n run.0 (reverse entries) run.1 i g t x h has

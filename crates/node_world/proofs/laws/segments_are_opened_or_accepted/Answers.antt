@@ -1,6 +1,0 @@
-use Rattle.std.proofs.Common.{reverse}
-use Rattle.node_world.proofs.Kept.{opened_or_accepted}
-use Rattle.node_world.proofs.laws.segments_are_opened_or_accepted.Goals as goal
-
-pub returns : goal.returns
-returns c = λ n entries xs ys x y e head batch run p q is of same. opened_or_accepted n run.0 (reverse entries) run.1 xs ys x y e head batch p q is of same

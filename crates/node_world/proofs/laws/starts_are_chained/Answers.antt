@@ -1,6 +1,0 @@
-use Rattle.std.proofs.Common.{reverse}
-use Rattle.node_world.proofs.Kept.{starts_chained}
-use Rattle.node_world.proofs.laws.starts_are_chained.Goals as goal
-
-pub returns : goal.returns
-returns c = λ n entries old e f k run p is. starts_chained n run.0 (reverse entries) run.1 old e f k p is

@@ -1,6 +1,0 @@
-use Rattle.std.proofs.Common.{reverse}
-use Rattle.node_world.proofs.Chain.{starts_next}
-use Rattle.node_world.proofs.laws.starts_are_next.Goals as goal
-
-pub returns : goal.returns
-returns c = λ n entries e m l i g t x run f held has. starts_next n run.0 (reverse entries) run.1 e m l i g t x f held has

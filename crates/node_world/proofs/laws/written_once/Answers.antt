@@ -1,6 +1,0 @@
-use Rattle.std.proofs.Common.{reverse}
-use Rattle.node_world.proofs.Kept.{written_once}
-use Rattle.node_world.proofs.laws.written_once.Goals as goal
-
-pub returns : goal.returns
-returns c = λ n entries i j g h t x y run p q same has also. written_once n run.0 (reverse entries) run.1 i j g h t x y p q same has also

@@ -1,0 +1,6 @@
+use Rattle.std.proofs.Common.{reverse}
+use Rattle.run_safety.proofs.Served.{carried_on_line}
+use Rattle.run_safety.proofs.laws.carried_committed_is_on_line.Goals as goal
+
+pub returns : goal.returns
+returns c = λ n entries old e request head t run p is at one up. carried_on_line n run.0 (reverse entries) run.1 old e request head t p is at one up

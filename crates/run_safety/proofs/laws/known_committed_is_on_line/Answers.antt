@@ -1,0 +1,6 @@
+use Rattle.std.proofs.Common.{reverse}
+use Rattle.run_safety.proofs.Served.{known_on_line}
+use Rattle.run_safety.proofs.laws.known_committed_is_on_line.Goals as goal
+
+pub returns : goal.returns
+returns c = λ n entries i t run one up. known_on_line n run.0 (reverse entries) run.1 i t one up

@@ -1,0 +1,9 @@
+pub mod Majority
+pub mod Run
+pub mod Safe
+pub mod Laws
+pub mod Parts
+pub mod Tables
+pub mod Examples
+pub mod Sized
+pub mod Actings

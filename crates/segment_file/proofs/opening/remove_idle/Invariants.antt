@@ -1,7 +1,0 @@
-use Rattle.std.specs.Prelude.{string_bytes, map}
-use Rattle.segment_file.proofs.RemoveLoop.{IsRemoving}
-use Rattle.segment_file.proofs.opening.remove_idle.Given as goal
-
-abbrev pub invariant-loop-name : goal.invariant-loop-name
-invariant-loop-name g l = IsRemoving (g.D.Disk.tells l.fn.disk) (g.D.Disk.tells l.disk) (g.D.Disk.view l.fn.disk) (g.D.Disk.view l.disk) l.table (map string_bytes l.names) l.name-index
-    (g.D.Disk.faults l.fn.disk) (g.D.Disk.faults l.disk) (g.D.Disk.steady l.fn.disk) (g.D.Disk.steady l.disk)

@@ -1,9 +1,0 @@
-use Rattle.std.proofs.Common.{take}
-use Rattle.std.specs.Prelude.{string_bytes, map}
-use Rattle.segment_file.specs.Completing.{IsWay, IsProgress}
-use Rattle.segment_file.proofs.ClearLemmas.{IsClearing}
-use Rattle.segment_file.proofs.settling.settle_all.Given as goal
-
-abbrev pub invariant-loop-name : goal.invariant-loop-name
-invariant-loop-name g l = IsClearing IsWay IsProgress (g.D.Disk.tells l.fn.disk) (g.D.Disk.tells l.disk) (g.D.Disk.view l.fn.disk) (g.D.Disk.view l.disk) (map string_bytes l.name-items) (map string_bytes (take l.name-index l.name-items))
-    (g.D.Disk.faults l.fn.disk) (g.D.Disk.faults l.disk) (g.D.Disk.steady l.fn.disk) (g.D.Disk.steady l.disk)

@@ -1,0 +1,5 @@
+pub mod Kinds
+pub mod Opening
+pub mod Completing
+pub mod Opened
+pub mod OpenSteps

@@ -1,0 +1,61 @@
+//! What stopped calls left half done is repaired, as opening does before it reads the segments.
+ghost use Rattle.std.specs.Prelude.{◌≡◌, ◌↔◌, OnOk, Result};
+ghost use Rattle.qj_disk.specs.Calls.{HasCause};
+ghost use Rattle.qj_disk.specs.Runs.{Quiet};
+ghost use Rattle.segment_opening.specs.Opening.{SegmentsStable, Repairs, IsCompleted, completed_result};
+ghost use Rattle.segment_opening.specs.Completing.{Mends, Spares, Completes};
+
+use crate::bad_record::first_bad_record;
+use crate::completed::Completed;
+use crate::settling::settle_all;
+use crate::starts::final_starts;
+use crate::sweeping::sweep_all;
+use qj_disk::{Disk, DiskFail};
+use std::alloc::Global;
+
+// Repairs the files whatever the records are.
+fn repair<D: Disk>(alloc: Global, disk: &mut D) -> Result<(), DiskFail>
+    ensures tells { D.tells disk.old ↔ D.tells disk.new }
+    ensures mends { D.tells disk.old → SegmentsStable (D.view disk.old) → Mends (D.view disk.old) (D.view disk.new) }
+    ensures completes { D.tells disk.old → OnOk result (Completes (D.view disk.old).seen (D.view disk.new).seen) }
+    ensures cause { HasCause (D.faults disk.old) (D.faults disk.new) (D.steady disk.old) (D.steady disk.new) result }
+{
+    let finals = final_starts(alloc, disk)?;
+    settle_all(alloc, disk, &finals)?;
+    sweep_all(disk, &finals)
+}
+
+// What came of a repair.
+fn completed(done: Result<(), DiskFail>) -> Completed
+    ensures result { completed_result result ≡ done }
+    ensures done { OnOk done (result ≡ Completed.Done) }
+{
+    match done {
+        Ok(()) => Completed::Done,
+        Err(DiskFail::Failed) => Completed::DiskFault,
+        Err(DiskFail::OutOfMemory) => Completed::OutOfMemory,
+    }
+}
+
+/// Repairs what stopped calls left half done, over files that were synced (`sync_segments`), in this order. The
+/// first record in byte order that isn't in its grammar is answered BadFile, with nothing changed. Each
+/// `.epoch=` file becomes the file in progress where it counts and no final file has its start, and else is
+/// removed. Each file in progress beside a final one of its start is removed, and so is each temporary
+/// file: the `.new` file of a segment, and each name that ends in `.tmp`. At every moment a crash leaves
+/// files that stand for the segments that they stood for; final files and records stay, bad ones too, and
+/// so do files of other names. After DiskFault, which comes only where the disk failed, and OutOfMemory it
+/// may be called again.
+pub fn complete_half_done<D: Disk>(alloc: Global, disk: &mut D) -> Completed
+    ensures tells { D.tells disk.old ↔ D.tells disk.new }
+    ensures quiet { D.tells disk.old → SegmentsStable (D.view disk.old) → Quiet Repairs (D.view disk.old) (D.view disk.new) }
+    ensures spares { D.tells disk.old → SegmentsStable (D.view disk.old) → Quiet Spares (D.view disk.old) (D.view disk.new) }
+    ensures stable { D.tells disk.old → SegmentsStable (D.view disk.old) → SegmentsStable (D.view disk.new) }
+    ensures told { D.tells disk.old → SegmentsStable (D.view disk.old) → IsCompleted (D.view disk.old).seen (D.view disk.new).seen result }
+    ensures cause { HasCause (D.faults disk.old) (D.faults disk.new) (D.steady disk.old) (D.steady disk.new) (completed_result result) }
+{
+    match first_bad_record(alloc, disk) {
+        Ok(Some(name)) => Completed::BadFile { name },
+        Ok(None) => completed(repair(alloc, disk)),
+        Err(fail) => completed(Err(fail)),
+    }
+}
