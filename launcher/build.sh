@@ -9,12 +9,13 @@ require_kit() {
   exit "$NO_KIT"
 }
 
-# How many crates to prove side by side: one a processor, with 4 GB of free memory each.
+# How many crates to prove side by side: two a processor, since one that waits for a crate below it keeps its place, with 3 GB of
+# free memory each.
 count_jobs() {
   processors=$(getconf _NPROCESSORS_ONLN 2>/dev/null || echo 1)
-  memory=$(awk '/^MemAvailable:/ { print int($2 / 4194304) }' /proc/meminfo 2>/dev/null)
+  memory=$(awk '/^MemAvailable:/ { print int($2 / 3145728) }' /proc/meminfo 2>/dev/null)
   jobs=${memory:-1}
-  [ "$jobs" -le "$processors" ] || jobs=$processors
+  [ "$jobs" -le $((2 * processors)) ] || jobs=$((2 * processors))
   [ "$jobs" -ge 1 ] || jobs=1
   echo "$jobs"
 }

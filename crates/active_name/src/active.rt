@@ -1,5 +1,5 @@
 // An active name node.
-ghost use Rattle.std.specs.Prelude.{◌≡◌, ◌≤◌, ◌+◌, ◌-◌, [], true, IfOk};
+ghost use Rattle.std.specs.Prelude.{◌≡◌, ◌≤◌, ◌+◌, ◌-◌, [], true, IfOk, IsOk};
 ghost use Rattle.journal_core.specs.Limits.{max_number};
 ghost use Rattle.writer_core.specs.Writer.{is_writing};
 ghost use Rattle.active_name.specs.Actives.{is_open};
@@ -64,9 +64,10 @@ impl Active {
     }
 
     /// The standby that it leaves, and its writer: at the last acknowledged position where nothing was
-    /// aborted and no edit is pending, and else empty at position 0. No call is made.
+    /// aborted and no edit is pending, and else empty at position 0, which alone takes memory. No call is made.
     pub fn part(self, alloc: Global) -> Result<(Standby, QuorumWriter), OutOfMemory>
-        ensures { IfOk result (λ both. (both.0 ≡ left_by self) × (both.1 ≡ self.writer)) }
+        ensures both { IfOk result (λ both. (both.0 ≡ left_by self) × (both.1 ≡ self.writer)) }
+        ensures whole { self.whole ≡ true → self.bodies ≡ [] → IsOk result }
     {
         let Active {
             writer,
@@ -84,9 +85,10 @@ impl Active {
     }
 
     /// Gives up without a call: the standby at the last acknowledged position where nothing was aborted and
-    /// no edit is pending, and else an empty one at position 0. `OutOfMemory` hands nothing back.
+    /// no edit is pending, and else an empty one at position 0, which alone takes memory. `OutOfMemory` hands nothing back.
     pub fn quit(self, alloc: Global) -> Result<Standby, OutOfMemory>
-        ensures { IfOk result (λ standby. standby ≡ left_by self) }
+        ensures left { IfOk result (λ standby. standby ≡ left_by self) }
+        ensures whole { self.whole ≡ true → self.bodies ≡ [] → IsOk result }
     {
         let (standby, _) = self.part(alloc)?;
         Ok(standby)

@@ -1,5 +1,5 @@
 // Edits that pend.
-ghost use Rattle.std.specs.Prelude.{◌≡◌, ℕ, ◌+◌, ◌<◌, ◌++◌, ◌∷◌, [], None, length, OnOk, OnErr};
+ghost use Rattle.std.specs.Prelude.{◌≡◌, ◌≢◌, ℕ, ◌+◌, ◌<◌, ◌++◌, ◌∷◌, [], None, length, OnOk, OnErr};
 ghost use Rattle.edit_ops.specs.Records.{record_of};
 ghost use Rattle.ns_replay.specs.Admit.{admit_of};
 ghost use Rattle.ns_replay.specs.Apply.{apply_of};
@@ -44,7 +44,8 @@ impl Model for Pending {
 
 /// The answer to an edit that isn't admitted.
 fn refused(refusal: AdmitRefusal) -> Submitted
-    ensures { result ≡ refused_as refusal }
+    ensures refusal { result ≡ refused_as refusal }
+    ensures told { result ≢ Submitted.OutOfMemory }
 {
     match refusal {
         AdmitRefusal::RepeatedCall { txid } => Submitted::Repeated { txid },
@@ -90,13 +91,15 @@ impl Pending {
 
     /// Submits an edit, for a writer whose open segment takes `room` bodies more, and whose next txid is `next`,
     /// from 1 to 2^62 + 1: the edit is admitted against the namespace with those that pend, and pends too. It
-    /// is tested in this order: `Repeated` and `Refused`, `TooLong`. It is never answered `Ended`.
+    /// is tested in this order: `Repeated` and `Refused`, `TooLong`. It is never answered `Ended`, and `OutOfMemory` only where it
+    /// is admitted.
     pub fn submit(&mut self, alloc: Global, room: u64, next: u64, edit: &Edit) -> Submitted
         requires { PendsFrom next self.old }
         ensures submitted { (w : WriterView) → PendsAt w room next self.old → IsPended w self.old edit.now self.new result }
         ensures same { SameUnlessTaken self.old self.new result }
         ensures from { PendsFrom next self.new }
         ensures at { (w : WriterView) → PendsAt w room next self.old → PendsAt w room next self.new }
+        ensures memory { result ≡ Submitted.OutOfMemory → admit_of self.old.ahead edit.now ≡ None }
     {
         self.look_at(edit);
         match admit(&self.ahead, edit) {
@@ -165,6 +168,7 @@ impl Pending {
         ensures ok { OnOk result (self.new ≡ record { ahead = apply_of self.old.ahead edit.now (next + length self.old.bodies); bodies = self.old.bodies ++ body ∷ [] }) }
         ensures err { OnErr result (self.new ≡ self.old) }
     {
+        let edit = edit.copy(alloc)?;
         let before = self.bodies.len();
         self.bodies.push(body)?;
         match apply(alloc, &mut self.ahead, edit, next + before as u64) {

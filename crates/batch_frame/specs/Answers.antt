@@ -21,11 +21,11 @@ passed_limit b =
     else if nat_lt max_segment (length b.bodies) then Some max_segment
     else None
 
--- want of memory is a right answer everywhere
+-- want of memory is a right answer to every batch within the limits
 abbrev pub IsFramed : BatchView → Framed → Type 0
 IsFramed b (framed.Bytes v) = (v.items ≡ frame_bytes b) × (passed_limit b ≡ None)
 IsFramed b (framed.TooLong number) = passed_limit b ≡ Some number
-IsFramed b framed.OutOfMemory = Unit {0}
+IsFramed b framed.OutOfMemory = passed_limit b ≡ None
 
 -- what was written breaks no rule where the batch's first txid is the next one
 abbrev pub IsGoodFrame : BatchView → Framed → Type 0

@@ -1,5 +1,5 @@
 //! The frames of a segment's bytes, and the piece of their bodies that is asked for.
-ghost use Rattle.std.specs.Prelude.{◌≡◌, ◌<◌, ◌≤◌, ◌+◌, ◌-◌, ◌^◌, ◌++◌, [], ◌∷◌, List, ℕ, length, OnOk, IfOk, false, take, drop};
+ghost use Rattle.std.specs.Prelude.{◌≡◌, ◌<◌, ◌≤◌, ◌+◌, ◌-◌, ◌^◌, ◌++◌, [], ◌∷◌, List, ℕ, length, IsOk, OnOk, IfOk, false, take, drop};
 ghost use Rattle.batch_frame.specs.Frames.{is_bad_body};
 ghost use Rattle.batch_frame.specs.Answers.{IsScan, IsStop, IsScanned};
 
@@ -23,7 +23,7 @@ fn push_copy(alloc: Global, bodies: &mut BodyList, body: &[u8]) -> Result<(), Ou
     Ok(())
 }
 
-// Copies the bodies of entries after the first `skip`, at most `most`, to the end of the list.
+// Copies the bodies of entries after the first `skip`, at most `most`, to the end of the list. To copy none takes no memory.
 #[tactic(auto, using(crate::proofs::PieceLaws::skipped, crate::proofs::PieceLaws::taken))]
 fn push_piece(
     alloc: Global,
@@ -32,7 +32,8 @@ fn push_piece(
     skip: usize,
     most: usize,
 ) -> Result<(), OutOfMemory>
-    ensures { OnOk result (bodies.new ≡ bodies.old ++ take most (drop skip entries.entry.bodies)) }
+    ensures copied { OnOk result (bodies.new ≡ bodies.old ++ take most (drop skip entries.entry.bodies)) }
+    ensures none { most ≡ 0 → IsOk result }
 {
     let mut before = skip;
     let mut room = most;
@@ -53,7 +54,8 @@ fn push_piece(
 /// Goes on with a scan in a window, which are bytes after the frames that it has: takes the whole frames at
 /// the window's front, and answers what stands after them. `None` where the window ends or the byte is no
 /// gate, else what is wrong with the frame, which is `Short` where the window ends inside it. `first` is
-/// the txid of the scan's first body. Of the bodies those after the first `skip` are copied, at most `most`.
+/// the txid of the scan's first body. Of the bodies those after the first `skip` are copied, at most `most`; where
+/// none is wanted no memory is taken.
 pub fn scan_window(
     alloc: Global,
     scan: &mut Scan,
@@ -69,6 +71,7 @@ pub fn scan_window(
     ensures stop { IfOk result (IsStop (first + scan.new.count) (drop (scan.new.whole_length - scan.old.whole_length) window.now)) }
     ensures txids { first + scan.new.count < 2 ^ 64 }
     ensures limit { first + scan.old.count ≤ 2 ^ 62 + 1 → first + scan.new.count ≤ 2 ^ 62 + 1 }
+    ensures none { most ≡ 0 → IsOk result }
     ensures later { scan.old.whole_length ≤ scan.new.whole_length }
     ensures places { scan.new.whole_length ≤ scan.old.whole_length + length window.now }
 {

@@ -1,5 +1,5 @@
 // A caller's record and its marks.
-ghost use Rattle.std.specs.Prelude.{◌≡◌, ◌≤◌, ◌<◌, ◌+◌, ◌++◌, [], ℕ, OnOk, OnErr, IfOk, Some, true, false, length, map, slice_index_or};
+ghost use Rattle.std.specs.Prelude.{◌≡◌, ◌≤◌, ◌<◌, ◌+◌, ◌++◌, [], ℕ, OnOk, OnErr, IfOk, IsSome, Some, true, false, length, map, slice_index_or};
 ghost use Rattle.journal_core.specs.Limits.{max_number};
 ghost use Rattle.node_history.specs.declared.mark.MarkKind.TheVariants as kind;
 ghost use Rattle.node_history.specs.declared.record.Record.TheVariants.{Call, Operator, Outcome};
@@ -86,12 +86,13 @@ impl CallerLog {
         self.past.as_slice()
     }
 
-    /// How the next call to this node goes.
+    /// How the next call to this node goes. Takes no memory; an `Err` tells that it was wanted before.
     pub fn delivery(&self, node: usize) -> Result<Delivery, OutOfMemory>
         requires low { 1 ≤ node }
         requires high { node ≤ self.now.nodes }
         ensures goes { IfOk result (λ d. d ≡ delivery self.now.marks node (next_number node self.now.past)) }
         ensures whole { OnOk result (self.now.whole ≡ true) }
+        ensures memory { OnErr result (self.now.whole ≡ false) }
     {
         if !self.is_whole {
             return Err(AllocError);
@@ -207,13 +208,14 @@ impl CallerLog {
         Ok(())
     }
 
-    /// What the call with this number to this node asked, if there was one.
+    /// What the call with this number to this node asked, if there was one. Where memory sufficed so far it is wanted only then.
     pub fn earlier(&self, node: usize, number: u64) -> Result<Option<SharedRequest>, OutOfMemory>
         requires low { 1 ≤ node }
         requires high { node ≤ self.now.nodes }
         requires from_one { 1 ≤ number }
         ensures request { IfOk result (λ request. request ≡ earlier_call self.now node number) }
         ensures whole { OnOk result (self.now.whole ≡ true) }
+        ensures memory { OnErr result (self.now.whole ≡ true → IsSome (earlier_call self.now node number)) }
     {
         if !self.is_whole {
             return Err(AllocError);

@@ -1,5 +1,5 @@
 // An actor's calls to one node.
-ghost use Rattle.std.specs.Prelude.{◌≡◌, ◌+◌, ◌-◌, ◌++◌, ◌∷◌, [], ◌≤◌, ℕ, List, OnOk, IfOk, length, slice_get};
+ghost use Rattle.std.specs.Prelude.{◌≡◌, ◌+◌, ◌-◌, ◌++◌, ◌∷◌, [], ◌≤◌, ℕ, List, OnOk, OnErr, IfOk, IsSome, length, slice_get};
 ghost use Rattle.journal_core.specs.declared.request.Request.{Request};
 ghost use Rattle.journal_core.specs.Limits.{max_number};
 ghost use Rattle.node_history.specs.declared.record.Record.{Record};
@@ -28,7 +28,8 @@ pub(crate) struct CallsTo {
 
 /// What the call at this place of the record asked.
 fn asked_at(past: &[Record], place: usize) -> Result<Option<SharedRequest>, OutOfMemory>
-    ensures { IfOk result (λ request. request ≡ asked_at past.now place) }
+    ensures request { IfOk result (λ request. request ≡ asked_at past.now place) }
+    ensures memory { OnErr result (IsSome (asked_at past.now place)) }
 {
     match past.get(place) {
         Some(Record::Call { request, .. }) => Ok(Some(request.share()?)),
@@ -113,14 +114,15 @@ impl CallsTo {
         }
     }
 
-    /// What the `call`-th call so far asked, if there was one, by the record.
+    /// What the `call`-th call so far asked, if there was one, by the record. Only then may memory be wanted.
     pub(crate) fn earlier(
         &self,
         past: &[Record],
         call: u64,
     ) -> Result<Option<SharedRequest>, OutOfMemory>
         requires { 1 ≤ call }
-        ensures { IfOk result (λ request. (node : ℕ) (marks : List Mark) → IsIndex node past.now marks self.now → request ≡ slice_get (calls_to node past.now) (call - 1)) }
+        ensures request { IfOk result (λ request. (node : ℕ) (marks : List Mark) → IsIndex node past.now marks self.now → request ≡ slice_get (calls_to node past.now) (call - 1)) }
+        ensures memory { OnErr result ((node : ℕ) (marks : List Mark) → IsIndex node past.now marks self.now → IsSome (slice_get (calls_to node past.now) (call - 1))) }
     {
         let Some(place) = self.place_of(call) else {
             return Ok(None);

@@ -1,5 +1,5 @@
 // The seats of a caller.
-ghost use Rattle.std.specs.Prelude.{◌≡◌, ◌≤◌, OnOk, IfOk};
+ghost use Rattle.std.specs.Prelude.{◌≡◌, ◌≤◌, true, OnOk, OnErr, IfOk, IsSome};
 ghost use Rattle.journal_core.specs.Limits.{max_number};
 ghost use Rattle.journal_core.specs.Peers.{FitsHeard};
 ghost use Rattle.node_history.specs.declared.record.Record.TheVariants.{Outcome};
@@ -43,13 +43,15 @@ pub trait Seats {
         ensures marked { OnOk result (log self.new ≡ losing (log self.old) node next (mark_kind mute)) }
         ensures later { OnOk result (later self.old self.new) };
 
-    /// A copy of the call with this number to this node reaches the node; false where there was no such call.
+    /// A copy of the call with this number to this node reaches the node; false where there was no such call. Where memory sufficed
+    /// so far it is wanted only of a call that there was.
     fn late(&mut self, alloc: Global, node: usize, number: u64) -> Result<bool, OutOfMemory>
         requires low { 1 ≤ node }
         requires high { node ≤ (log self.old).nodes }
         requires from_one { 1 ≤ number }
         ensures copied { IfOk result (λ made. IsCopied (earlier_call (log self.old) node number) (log self.old) node number made (log self.new)) }
-        ensures later { OnOk result (later self.old self.new) };
+        ensures later { OnOk result (later self.old self.new) }
+        ensures memory { OnErr result ((log self.old).whole ≡ true → IsSome (earlier_call (log self.old) node number)) };
 
     /// Lists a result.
     fn say(&mut self, text: Bytes) -> Result<(), OutOfMemory>

@@ -130,17 +130,18 @@ fn numbers_are_printed(rt: HostRuntime) -> Result<(), Fail> {
     Ok(())
 }
 
-// Whether the text is the same where its name is copied, and where it is moved.
+// Whether the text is the same in its name, and where that is copied.
 fn is_name(alloc: Global, text: &[u8]) -> Result<bool, OutOfMemory> {
     let name = Name::from_slice(alloc, text)?;
-    let moved = Name::of(Vec::from_slice(alloc, text)?);
-    Ok(name.copy(alloc)?.as_slice() == text && moved.as_slice() == text)
+    Ok(name.copy(alloc)?.as_slice() == text && name.as_slice() == text)
 }
 
 #[test]
 fn names_are_copied(rt: HostRuntime) -> Result<(), Fail> {
     assert!(rt; is_name(rt.alloc(), b"/u/d")?);
     assert!(rt; is_name(rt.alloc(), b"hdfs")?);
+    assert!(rt; is_name(rt.alloc(), b"/sixteen/letters")?);
+    assert!(rt; is_name(rt.alloc(), b"/seventeen/letter")?);
     Ok(())
 }
 

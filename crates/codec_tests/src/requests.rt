@@ -214,6 +214,19 @@ fn sessions_are_answered(rt: HostRuntime) -> Result<(), Fail> {
     Ok(())
 }
 
+// A body of one byte more than a body may have.
+#[test]
+fn too_long_a_body_is_told(rt: HostRuntime) -> Result<(), Fail> {
+    let mut line = b"accept 1 1 0 1 ".to_vec(rt.alloc())?;
+    for _ in 0..4097 {
+        line.extend_from_slice(b"0a")?;
+    }
+    let mut node = PlainNode::new(rt.alloc());
+    let reply = reply_to(rt.alloc(), &mut node, str::from_utf8(&line)?)?;
+    assert_eq!(rt; reply.as_slice(), b"bad 8".as_slice());
+    Ok(())
+}
+
 /// Requests that a node has answered.
 type Front = &'static [&'static str];
 

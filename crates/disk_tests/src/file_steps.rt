@@ -3,7 +3,10 @@ ghost use Rattle.std.specs.Prelude.{◌≡◌, ◌≤◌, ◌<◌, ◌^◌, leng
 
 use crate::disks::{line, one};
 use qj_disk::UntoldDisk;
-use segment_file::{Appended, append, append_behind_gate, create, discard, finalize, replace, replace_again};
+use segment_file::{
+    Appended, ReadyFrame, append, append_behind_gate, create, discard, finalize, replace,
+    replace_again,
+};
 use segment_opening::{Completed, complete_half_done, sync_segments};
 use small_files::{NumberFile, PaxosFile, Put, put_bytes};
 use std::alloc::Global;
@@ -139,7 +142,8 @@ pub fn change_segment(
         }
         SegmentStep::Append(start, at, first, body) => {
             let batch = one(rt, alloc, number(rt, *first), body)?;
-            let done = append(alloc, disk, number(rt, *start), offset(rt, *at), &batch);
+            let frame = ReadyFrame::of(alloc, &batch)?;
+            let done = append(disk, number(rt, *start), offset(rt, *at), &batch, &frame);
             is_appended(rt, done, *at, body.len())
         }
         SegmentStep::AppendBehindGate(name, at, bytes) => {
@@ -151,11 +155,16 @@ pub fn change_segment(
         SegmentStep::Discard(end, is_final) => discard_line(rt, disk, *end, *is_final),
         SegmentStep::Replace(epoch, first, body) => {
             let batch = one(rt, alloc, number(rt, *first), body)?;
-            is_put(rt, replace(alloc, disk, number(rt, *epoch), &batch))
+            let mut frame = ReadyFrame::of(alloc, &batch)?;
+            is_put(rt, replace(disk, number(rt, *epoch), &batch, &mut frame))
         }
         SegmentStep::ReplaceAgain(epoch, first, body) => {
             let batch = one(rt, alloc, number(rt, *first), body)?;
-            is_put(rt, replace_again(alloc, disk, number(rt, *epoch), &batch))
+            let mut frame = ReadyFrame::of(alloc, &batch)?;
+            is_put(
+                rt,
+                replace_again(disk, number(rt, *epoch), &batch, &mut frame),
+            )
         }
         SegmentStep::SyncSegments => sync_segments(disk).is_ok(),
         SegmentStep::Complete => is_completed(rt, alloc, disk),

@@ -6,6 +6,7 @@ use node_files::{
     remove_segment,
 };
 use qj_disk::UntoldDisk;
+use segment_file::ReadyFrame;
 use std::alloc::Global;
 use std::process::Abort;
 use std::test::Fail;
@@ -44,14 +45,16 @@ pub fn make_effect(
         }
         NodeStep::Append(at, first, body) => {
             let batch = one(rt, alloc, number(rt, *first), body)?;
-            let done = append_edits(alloc, disk, 1, offset(rt, *at), &batch);
+            let frame = ReadyFrame::of(alloc, &batch)?;
+            let done = append_edits(disk, 1, offset(rt, *at), &batch, &frame);
             is_appended(rt, done, *at, body.len())
         }
         NodeStep::Accept(epoch, body, again) => {
             let batch = one(rt, alloc, 1, body)?;
+            let mut frame = ReadyFrame::of(alloc, &batch)?;
             is_put(
                 rt,
-                accept_edits(alloc, disk, number(rt, *epoch), &batch, *again),
+                accept_edits(disk, number(rt, *epoch), &batch, *again, &mut frame),
             )
         }
         NodeStep::Finalize(end, accepted) => {

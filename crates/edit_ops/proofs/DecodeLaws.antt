@@ -239,10 +239,6 @@ fields_all_good kinds bytes fields rest fits e = matches_good kinds fields [] (f
 pub both_read : (kind : OpKind) (bytes : List ℕ) (front fields : List Field) (after rest : List ℕ) → fields_at (client ∷ call_number ∷ []) bytes ≡ Ok (front, after) → fields_at (layout kind) after ≡ Ok (fields, rest) → fields_at (full_layout kind true) bytes ≡ Ok (front ++ fields, rest)
 both_read kind bytes front fields after rest p q = fields_at-append (client ∷ call_number ∷ []) (layout kind) bytes ∙ rw (p, q) refl
 
-pub first_fails : (kind : OpKind) (bytes : List ℕ) (e : ReadError) → Fails e (fields_at (client ∷ call_number ∷ []) bytes) → Fails e (fields_at (full_layout kind true) bytes)
-first_fails kind bytes errors.Memory fails = tt
-first_fails kind bytes (errors.Fault f) fails = fields_at-append (client ∷ call_number ∷ []) (layout kind) bytes ∙ rw fails refl
-
 pub second_fails : (kind : OpKind) (bytes : List ℕ) (front : List Field) (after : List ℕ) (e : ReadError) → fields_at (client ∷ call_number ∷ []) bytes ≡ Ok (front, after) → Fails e (fields_at (layout kind) after) → Fails e (fields_at (full_layout kind true) bytes)
 second_fails kind bytes front after errors.Memory p fails = tt
 second_fails kind bytes front after (errors.Fault f) p fails = fields_at-append (client ∷ call_number ∷ []) (layout kind) bytes ∙ rw (p, fails) refl

@@ -1,5 +1,5 @@
 -- The fields of an edit match the layout of its kind, and tell the edit.
-use Rattle.std.proofs.Common.{◌≡◌, ℕ, ◌<◌, List, [], ◌∷◌, ◌++◌, length, map, get_or, drop, Bool, true, false, Option, Some, None, refl, sym, ap, subst, ◌∙◌, arith}
+use Rattle.std.proofs.Common.{◌≡◌, ℕ, ◌<◌, List, [], ◌∷◌, ◌++◌, length, map, Bool, true, false, Option, Some, None, refl, sym, ap, subst, ◌∙◌, arith}
 use Rattle.std.specs.Prelude.{replicate, is_some, ◌==◌, if◌then◌else◌}
 use Rattle.std.specs.List.{AllByRecursion}
 use Rattle.edit_ops.specs.declared.kind.OpKind.{OpKind}
@@ -8,7 +8,7 @@ use Rattle.edit_ops.specs.declared.op.Op.{Op}
 use Rattle.edit_ops.specs.declared.op.Op.TheVariants.{Add, RenameOld, Delete, Mkdir, SetReplication, SetPermissions, SetOwner, Close, Times, SetQuota, Rename, ConcatDelete, EndLogSegment, StartLogSegment}
 use Rattle.edit_ops.specs.declared.edit.Call.{Call}
 use Rattle.edit_ops.specs.Kinds.{code}
-use Rattle.edit_ops.specs.Fields.{Kind, Field, path, text, number, Text_, Small_, Number_, Flag_, Client_, Call_, kind_of_field, IsGood, follow}
+use Rattle.edit_ops.specs.Fields.{Kind, Field, path, text, number, Text_, Number_, kind_of_field, IsGood, follow}
 use Rattle.edit_ops.specs.Records.{EditView, kind_of, fields_of, layout, full_layout, call_fields, opcode, called, edit_fields}
 use Rattle.edit_ops.specs.Grammar.{IsEdit}
 use Rattle.edit_ops.specs.Decoding.{Matches}

@@ -1,20 +1,22 @@
 -- Words: where they end, and which fields they say.
-use Rattle.std.proofs.Common.{◌≡◌, ◌≢◌, ℕ, zero, suc, ◌+◌, ◌-◌, ◌*◌, ◌/◌, ◌%◌, ◌^◌, ◌<◌, ◌≤◌, Bool, true, false, cond, ltb, leb, eqb, List, [], ◌∷◌, ◌++◌, length, take, drop, Option, Some, None, refl, sym, ap, subst, ◌∙◌, arith}
+use Rattle.std.proofs.Common.{◌≡◌, ◌≢◌, ℕ, ◌+◌, ◌-◌, ◌/◌, ◌^◌, ◌<◌, ◌≤◌, Bool, true, false, cond, ltb, leb, eqb, List, [], ◌∷◌, ◌++◌, length, take, drop, Option, Some, None, refl, sym, ap, subst, ◌∙◌, arith}
 use Rattle.std.specs.Prelude.{◌&&◌, ◌==◌, codes}
-use Rattle.std.specs.List.{list_all, AllByRecursion, position_or_len, flat_map}
+use Rattle.std.specs.List.{list_all, AllByRecursion, position_or_len}
 use Rattle.std.specs.Char.{is_ascii_graphic, digit_value}
 use Rattle.std.specs.Str.{bytes_eq}
 use Rattle.std.specs.Str.Parse.{AllDigits}
-use Rattle.std.specs.Fmt.{digits, digit_glyph}
+use Rattle.std.specs.Fmt.{digits}
 use Rattle.std.proofs.lemmas.Bool.{eq-eqb, eqb-true, lt-ltb, ltb-true, le-leb, leb-true, and_parts}
 use Rattle.std.proofs.lemmas.Bool.Decides.{nat_tests}
-use Rattle.std.proofs.lemmas.List.{take-append-drop, take_at, drop_at}
+use Rattle.std.proofs.lemmas.List.{take-append-drop, take_all, take_at, drop_at}
 use Rattle.std.proofs.lemmas.Fmt.{digits_is_IsNumeral}
 use Rattle.std.proofs.Math.Nat.{pow-le-pow_left}
 use Rattle.qj_num.specs.Numbers.{IsNumber}
 use Rattle.edit_ops.specs.Fields.{Kind, Field, Text, path, owner, new_owner, replication, permission, numbers, paths, text, small, number, flag, client, call_number, Text_, Small_, Number_, Flag_, Client_, Call_, kind_of_field, limit, IsGood}
-use Rattle.edit_ops.specs.Texts.{text_word, hex_byte, spaced, CanSay}
-use Rattle.edit_ops.specs.Saying.{◌>>=◌, Boundary, split_word, word_at, number_said, at_most, text_said, is_hex, hex_value, unhex, client_said, said, field_said}
+use Rattle.line_words.specs.Hex.{hex_text, bytes_in}
+use Rattle.line_words.proofs.HexLaws.{length-hex_text, bytes_back, bytes_found, hex_graphic}
+use Rattle.edit_ops.specs.Texts.{text_word, spaced, CanSay}
+use Rattle.edit_ops.specs.Saying.{◌>>=◌, Boundary, split_word, word_at, number_said, at_most, text_said, client_said, said, field_said}
 use Rattle.edit_ops.proofs.SayNumbers.{same_bytes, number_is_said, said_is_number, within, said_at_most}
 use Rattle.std.proofs.lemmas.Slice.Eq.{bytes_eq-Decides}
 
@@ -56,7 +58,7 @@ word_in (Small_ paths n) = []
 word_in (Number_ n) = digits 10 false n
 word_in (Flag_ true) = codes "yes"
 word_in (Flag_ false) = codes "no"
-word_in (Client_ bytes) = flat_map hex_byte bytes
+word_in (Client_ bytes) = hex_text bytes
 word_in (Call_ n) = digits 10 false n
 
 pub spaced_is : (f : Field) → HasWord f → spaced false f ≡ 32 ∷ word_in f
@@ -89,59 +91,6 @@ graphic_no_space b g = grind (arith, nat_tests)
 text_no_space : (bytes : List ℕ) → list_all is_ascii_graphic bytes ≡ true → NoSpace bytes
 text_no_space [] g = tt
 text_no_space (b ∷ bytes) g = let p = and_parts (is_ascii_graphic b) (list_all is_ascii_graphic bytes) g in (graphic_no_space b p.0, text_no_space bytes p.1)
-
-glyph_no_space : (d : ℕ) → d < 16 → (digit_glyph false d == 32) ≡ false
-glyph_no_space d lt = grind (arith, nat_tests)
-
-hex_no_space : (bytes : List ℕ) → AllByRecursion (λ b. b < 256) bytes → NoSpace (flat_map hex_byte bytes)
-hex_no_space [] fit = tt
-hex_no_space (b ∷ bytes) fit = (glyph_no_space (b / 16) (omega (arith, fit.0)), (glyph_no_space (b % 16) (omega arith), hex_no_space bytes fit.1))
-
--- ---- hexadecimal digits
-
-glyph_is_hex : (d : ℕ) → d < 16 → is_hex (digit_glyph false d) ≡ true
-glyph_is_hex d lt = grind (arith, nat_tests)
-
-glyph_value : (d : ℕ) → d < 16 → hex_value (digit_glyph false d) % 16 ≡ d
-glyph_value d lt = grind (arith, nat_tests)
-
-pub unhex_again : (bytes : List ℕ) → AllByRecursion (λ b. b < 256) bytes → unhex (flat_map hex_byte bytes) ≡ bytes
-unhex_again [] fit = refl
-unhex_again (b ∷ bytes) fit =
-    let high = glyph_value (b / 16) (omega (arith, fit.0)) in
-    let low = glyph_value (b % 16) (omega arith) in
-    let whole : 16 * (hex_value (digit_glyph false (b / 16)) % 16) + hex_value (digit_glyph false (b % 16)) % 16 ≡ b = omega (arith, high, low) in
-    (λ i. whole i ∷ unhex_again bytes fit.1 i)
-
-hex_all : (bytes : List ℕ) → AllByRecursion (λ b. b < 256) bytes → list_all is_hex (flat_map hex_byte bytes) ≡ true
-hex_all [] fit = refl
-hex_all (b ∷ bytes) fit =
-    let high : is_hex (digit_glyph false (b / 16)) ≡ true = glyph_is_hex (b / 16) (omega (arith, fit.0)) in
-    let low : is_hex (digit_glyph false (b % 16)) ≡ true = glyph_is_hex (b % 16) (omega arith) in
-    rw (high, low) (hex_all bytes fit.1)
-
-hex_length : (bytes : List ℕ) → length (flat_map hex_byte bytes) ≡ 2 * length bytes
-hex_length [] = refl
-hex_length (b ∷ bytes) = omega (arith, hex_length bytes)
-
-hex_glyph : (b : ℕ) → is_hex b ≡ true → (hex_value b % 16 < 16) × (digit_glyph false (hex_value b % 16) ≡ b)
-hex_glyph b h = (omega arith, grind (arith, nat_tests))
-
-pub hex_of_unhex : (n : ℕ) (word : List ℕ) → length word ≡ 2 * n → list_all is_hex word ≡ true → (flat_map hex_byte (unhex word) ≡ word) × (length (unhex word) ≡ n) × AllByRecursion (λ b. b < 256) (unhex word)
-hex_of_unhex zero [] len h = (refl, refl, tt)
-hex_of_unhex (suc n) [] len h = absurd (omega (arith, len))
-hex_of_unhex n (a ∷ []) len h = absurd (omega (arith, len))
-hex_of_unhex zero (a ∷ b ∷ rest) len h = absurd (omega (arith, len))
-hex_of_unhex (suc n) (a ∷ b ∷ rest) len h =
-    let p = and_parts (is_hex a) (list_all is_hex (b ∷ rest)) h in
-    let q = and_parts (is_hex b) (list_all is_hex rest) p.1 in
-    let x = hex_glyph a p.0 in
-    let y = hex_glyph b q.0 in
-    let v : ℕ = 16 * (hex_value a % 16) + hex_value b % 16 in
-    let high : (16 * (hex_value a % 16) + hex_value b % 16) / 16 ≡ hex_value a % 16 = omega (arith, y.0) in
-    let low : (16 * (hex_value a % 16) + hex_value b % 16) % 16 ≡ hex_value b % 16 = omega (arith, y.0) in
-    let rec = hex_of_unhex n rest (omega (arith, len)) q.1 in
-    ((λ i. (ap (digit_glyph false) high ∙ x.1) i ∷ ((ap (digit_glyph false) low ∙ y.1) i ∷ rec.0 i)), omega (arith, rec.1), (omega (arith, x.0, y.0), rec.2))
 
 -- ---- what a word says
 
@@ -213,17 +162,42 @@ new_owner_by false word f is e =
     let no_dash : word ≢ 45 ∷ [] = λ z. let b = (bytes_eq-Decides word (45 ∷ [])).1 z in absurd cc in
     subst (SaidAs (text new_owner) word) (sym r.0) (record { kind_is = refl; has_word = tt; good = (r.2, r.3); can = no_dash; word_is = word_of_text new_owner word r.1 })
 
-client_by : (test : Bool) (word : List ℕ) (f : Field) → (length word == 32) && list_all is_hex word ≡ test → (cond test (Some (unhex word)) None >>= λ bytes. some_field (Client_ bytes)) ≡ Some f → SaidAs client word f
-client_by false word f is e = absurd cc
-client_by true word f is e =
-    let p = and_parts (eqb (length word) 32) (list_all is_hex word) is in
-    let h = hex_of_unhex 16 word (eqb-true _ _ p.0) p.1 in
-    let same : Client_ (unhex word) ≡ f = cc in
-    subst (SaidAs client word) same (record { kind_is = refl; has_word = tt; good = (h.1, h.2); can = tt; word_is = sym h.0 })
+client_by : (long : Bool) (o : Option (List ℕ)) (word : List ℕ) (f : Field) → (length word == 32) ≡ long → bytes_in word ≡ o → (cond long o None >>= λ bytes. some_field (Client_ bytes)) ≡ Some f → SaidAs client word f
+client_by false o word f is read e = absurd cc
+client_by true None word f is read e = absurd cc
+client_by true (Some bytes) word f is read e =
+    let h = bytes_found word bytes read in
+    let long : length word ≡ 32 = eqb-true _ _ is in
+    let two : length (hex_text bytes) ≡ length word = ap length h.text in
+    let size : length bytes ≡ 16 = omega (arith, long, two, length-hex_text bytes) in
+    let same : Client_ bytes ≡ f = cc in
+    subst (SaidAs client word) same (record { kind_is = refl; has_word = tt; good = (size, h.bytes); can = tt; word_is = sym h.text })
 
 said_client : (word : List ℕ) (f : Field) → (client_said word >>= λ bytes. some_field (Client_ bytes)) ≡ Some f → SaidAs client word f
 unfolding client_said
-said_client word f e = client_by ((length word == 32) && list_all is_hex word) word f refl e
+said_client word f e = client_by (length word == 32) (bytes_in word) word f refl refl e
+
+-- ---- the reader of a client's id
+pub no_client : (word : List ℕ) → length word ≢ 32 → client_said word ≡ None
+unfolding client_said
+no_client word n = by (length word == 32) refl
+  where
+    by : (b : Bool) → (length word == 32) ≡ b → cond b (bytes_in word) None ≡ None
+    by true is = absurd (n (eqb-true _ _ is))
+    by false is = refl
+
+pub no_hex : (word : List ℕ) → length word ≡ 32 → bytes_in word ≡ None → client_said word ≡ None
+unfolding client_said
+no_hex word long e = let l : (length word == 32) ≡ true = eq-eqb _ _ long in rw l e
+
+pub client_read : (word bytes : List ℕ) → length word ≡ 32 → length bytes ≡ 16 → bytes_in word ≡ Some (take (length word / 2) bytes) → client_said word ≡ Some bytes
+unfolding client_said
+client_read word bytes long size e =
+    let l : (length word == 32) ≡ true = eq-eqb _ _ long in
+    let all : take (length word / 2) bytes ≡ bytes = take_all (length word / 2) bytes (omega (arith, long, size)) in
+    rw l (e ∙ ap (λ (bs : List ℕ). let o : Option (List ℕ) = Some bs in o) all)
+
+pub ruleset clients = (no_client, no_hex, client_read)
 
 pub said_takes : (kind : Kind) (word : List ℕ) (f : Field) → said kind word ≡ Some f → SaidAs kind word f
 unfolding said
@@ -239,19 +213,11 @@ said_takes flag word f e = flag_by (bytes_eq word (codes "yes")) (bytes_eq word 
 said_takes client word f e = said_client word f e
 said_takes call_number word f e = let r = number_as 10 (2 ^ 32 - 1) word Call_ f e in subst (SaidAs call_number word) (sym r.3) (record { kind_is = refl; has_word = tt; good = omega (arith, r.2); can = tt; word_is = r.1.1 })
 
-some_text : (t : Text) (bytes : List ℕ) → t ≢ new_owner → CanSay (Text_ t bytes) → 0 < length bytes
-some_text path [] ne can = absurd (can refl)
-some_text path (b ∷ bytes) ne can = omega arith
-some_text owner [] ne can = absurd (can refl)
-some_text owner (b ∷ bytes) ne can = omega arith
-some_text new_owner bytes ne can = absurd (ne refl)
-
-client_again : (bytes : List ℕ) → length bytes ≡ 16 → AllByRecursion (λ b. b < 256) bytes → client_said (flat_map hex_byte bytes) ≡ Some bytes
+client_again : (bytes : List ℕ) → length bytes ≡ 16 → AllByRecursion (λ b. b < 256) bytes → client_said (hex_text bytes) ≡ Some bytes
 unfolding client_said
 client_again bytes len fit =
-    let l : (length (flat_map hex_byte bytes) == 32) ≡ true = eq-eqb _ _ (omega (arith, hex_length bytes, len)) in
-    let h = hex_all bytes fit in
-    rw (l, h, unhex_again bytes fit) refl
+    let l : (length (hex_text bytes) == 32) ≡ true = eq-eqb _ _ (omega (arith, length-hex_text bytes, len)) in
+    rw l (bytes_back bytes fit)
 
 -- a number's word says it
 says_number : (base most : ℕ) (kind_says : List ℕ → Option Field) (F : ℕ → Field) (n : ℕ) → 2 ≤ base → base ≤ 16 → n < 2 ^ 64 → n ≤ most → kind_says (digits base false n) ≡ (at_most most (number_said base (digits base false n)) >>= λ m. some_field (F m)) → kind_says (digits base false n) ≡ Some (F n)
@@ -295,7 +261,7 @@ word_no_space (Small_ paths n) h good can = absurd h
 word_no_space (Number_ n) h good can = number_no_space 10 (omega arith) (omega arith) n (omega (arith, good))
 word_no_space (Flag_ true) h good can = (refl, (refl, (refl, tt)))
 word_no_space (Flag_ false) h good can = (refl, (refl, tt))
-word_no_space (Client_ bytes) h good can = hex_no_space bytes good.1
+word_no_space (Client_ bytes) h good can = text_no_space (hex_text bytes) (hex_graphic bytes good.1)
 word_no_space (Call_ n) h good can = number_no_space 10 (omega arith) (omega arith) n (omega (arith, good))
 
 -- ---- a field at the front of a text

@@ -1,6 +1,6 @@
 -- The test of texts passes the texts of edits, and no others.
 use Rattle.std.proofs.Common.{◌≡◌, ℕ, zero, suc, Bool, true, false, cond, List, [], ◌∷◌, ◌++◌, length, map, Option, Some, None, refl, sym, ap, subst, ◌∙◌, arith}
-use Rattle.std.specs.Prelude.{codes, ◌==◌, ◌&&◌}
+use Rattle.std.specs.Prelude.{codes, ◌==◌}
 use Rattle.std.specs.Str.{bytes_eq}
 use Rattle.std.specs.List.{find, flat_map, AllByRecursion}
 use Rattle.std.proofs.lemmas.Bool.{eqb-true, false≢true, and_parts}

@@ -1,10 +1,10 @@
 -- The text of an edit is words with one space between two.
-use Rattle.std.proofs.Common.{◌≡◌, ℕ, ◌<◌, ◌≤◌, ◌/◌, ◌%◌, ◌^◌, true, false, List, [], ◌∷◌, ◌++◌, length, Option, Some, None, refl, sym, ap, ◌∙◌, append_assoc, append-nil, arith}
+use Rattle.std.proofs.Common.{◌≡◌, ℕ, ◌<◌, ◌≤◌, ◌^◌, true, false, List, [], ◌∷◌, ◌++◌, length, Option, Some, None, refl, sym, ap, ◌∙◌, append_assoc, append-nil, arith}
 use Rattle.std.specs.Prelude.{codes}
 use Rattle.std.specs.List.{flat_map, list_all, AllByRecursion}
 use Rattle.std.specs.Char.{is_ascii_graphic, digit_value}
 use Rattle.std.specs.Str.Parse.{AllDigits}
-use Rattle.std.specs.Fmt.{digits, digit_glyph}
+use Rattle.std.specs.Fmt.{digits}
 use Rattle.std.proofs.lemmas.Bool.Decides.{nat_tests}
 use Rattle.std.proofs.lemmas.Fmt.{digits_is_IsNumeral}
 use Rattle.std.proofs.Math.Nat.{pow-le-pow_left}
@@ -15,7 +15,9 @@ use Rattle.edit_ops.specs.declared.edit.Call.{Call}
 use Rattle.edit_ops.specs.Words.{verb}
 use Rattle.edit_ops.specs.Fields.{Field, path, owner, new_owner, replication, permission, numbers, paths, Text_, Small_, Number_, Flag_, Client_, Call_, IsGood}
 use Rattle.edit_ops.specs.Records.{EditView, kind_of, fields_of, call_fields}
-use Rattle.edit_ops.specs.Texts.{hex_byte, spaced, CanSay, IsText}
+use Rattle.line_words.specs.Hex.{hex_text}
+use Rattle.line_words.proofs.HexLaws.{length-hex_text, hex_graphic}
+use Rattle.edit_ops.specs.Texts.{spaced, CanSay, IsText}
 use Rattle.edit_ops.specs.ReadTexts.{IsLine}
 use Rattle.edit_ops.specs.SaidTexts.{IsGraphic, IsWorded}
 use Rattle.edit_ops.proofs.SayEdits.{called_text, plain_text}
@@ -32,19 +34,8 @@ number_graphic base low high n lt =
     let numeral = (digits_is_IsNumeral base false low (omega arith) n (omega (arith, lt, pow-le-pow_left low 64))).0 in
     record { some = numeral.0; graphic = digits_graphic base (digits base false n) high numeral.1 }
 
-glyph_graphic : (d : ℕ) → d < 16 → is_ascii_graphic (digit_glyph false d) ≡ true
-glyph_graphic d lt = grind (arith, nat_tests)
-
-hex_graphic : (bytes : List ℕ) → AllByRecursion (λ b. b < 256) bytes → list_all is_ascii_graphic (flat_map hex_byte bytes) ≡ true
-hex_graphic [] fit = refl
-hex_graphic (b ∷ bytes) fit =
-    let high : is_ascii_graphic (digit_glyph false (b / 16)) ≡ true = glyph_graphic (b / 16) (omega (arith, fit.0)) in
-    let low : is_ascii_graphic (digit_glyph false (b % 16)) ≡ true = glyph_graphic (b % 16) (omega arith) in
-    rw (high, low) (hex_graphic bytes fit.1)
-
-client_graphic : (bytes : List ℕ) → length bytes ≡ 16 → AllByRecursion (λ b. b < 256) bytes → IsGraphic (flat_map hex_byte bytes)
-client_graphic [] len fit = absurd (omega (arith, len))
-client_graphic (b ∷ bytes) len fit = record { some = omega arith; graphic = hex_graphic (b ∷ bytes) fit }
+client_graphic : (bytes : List ℕ) → length bytes ≡ 16 → AllByRecursion (λ b. b < 256) bytes → IsGraphic (hex_text bytes)
+client_graphic bytes len fit = record { some = omega (arith, len, length-hex_text bytes); graphic = hex_graphic bytes fit }
 
 -- ## Words behind spaces
 abbrev spelled_by : List (List ℕ) → List ℕ
@@ -87,7 +78,7 @@ field_spelled (Small_ paths n) good can = nothing
 field_spelled (Number_ n) good can = one (digits 10 false n) (number_graphic 10 (omega arith) (omega arith) n (omega (arith, good)))
 field_spelled (Flag_ true) good can = one (codes "yes") (record { some = omega arith; graphic = refl })
 field_spelled (Flag_ false) good can = one (codes "no") (record { some = omega arith; graphic = refl })
-field_spelled (Client_ bytes) good can = one (flat_map hex_byte bytes) (client_graphic bytes good.0 good.1)
+field_spelled (Client_ bytes) good can = one (hex_text bytes) (client_graphic bytes good.0 good.1)
 field_spelled (Call_ n) good can = one (digits 10 false n) (number_graphic 10 (omega arith) (omega arith) n (omega (arith, good)))
 
 fields_spelled : (fields : List Field) → AllByRecursion IsGood fields → AllByRecursion CanSay fields → Spelled (flat_map (spaced false) fields)

@@ -1,5 +1,5 @@
 -- The edit that the fields of a record tell.
-use Rattle.std.specs.Prelude.{ℕ, List, [], ◌∷◌, drop, map, slice_index_or, Some, None, Bool, true, false}
+use Rattle.std.specs.Prelude.{ℕ, List, [], drop, map, slice_index_or, Some, None, Bool, true, false}
 use Rattle.edit_ops.specs.declared.kind.OpKind.{OpKind}
 use Rattle.edit_ops.specs.declared.kind.OpKind.TheVariants as kinds
 use Rattle.edit_ops.specs.declared.op.Op.{Op}

@@ -1,11 +1,12 @@
 -- The fields at the front of a text, as the readers of words answer them.
-use Rattle.std.specs.Prelude.{◌≡◌, ℕ, zero, suc, ◌-◌, ◌+◌, ◌*◌, ◌%◌, ◌^◌, List, [], ◌∷◌, ◌++◌, length, take, drop, Bool, true, false, ◌&&◌, ◌||◌, Option, Some, None, Result, Ok, Err, option_and_then, nat_lt, nat_le, ◌==◌, if◌then◌else◌, codes}
+use Rattle.std.specs.Prelude.{◌≡◌, ℕ, zero, suc, ◌-◌, ◌^◌, List, [], ◌∷◌, ◌++◌, length, take, drop, Bool, true, false, ◌&&◌, Option, Some, None, Result, Ok, Err, option_and_then, nat_lt, nat_le, ◌==◌, if◌then◌else◌, codes}
 use Rattle.std.specs.List.{position_or_len, list_all}
 use Rattle.std.specs.Char.{is_ascii_graphic}
 use Rattle.std.specs.Fmt.{digits}
-use Rattle.std.specs.Int.{is_in_range}
 use Rattle.std.specs.Str.{bytes_eq}
 use Rattle.std.specs.Str.Parse.{digits_value}
+use Rattle.line_words.specs.Words.{is_space}
+use Rattle.line_words.specs.Hex.{bytes_in}
 use Rattle.edit_ops.specs.declared.fault.TextError.{TextError}
 use Rattle.edit_ops.specs.declared.fault.TextError.TheVariants as errors
 use Rattle.edit_ops.specs.declared.kind.OpKind.{OpKind}
@@ -32,12 +33,12 @@ Boundary (b ∷ words) = b ≡ 32
 
 -- the word up to a space, and the text from the space on
 abbrev pub split_word : List ℕ → List ℕ × List ℕ
-split_word words = (take (position_or_len (λ b. b == 32) words) words, drop (position_or_len (λ b. b == 32) words) words)
+split_word words = (take (position_or_len is_space words) words, drop (position_or_len is_space words) words)
 
 -- the word behind a space
 unfoldable pub word_at : List ℕ → Option (List ℕ × List ℕ)
 word_at [] = None
-word_at (b ∷ words) = if b == 32 then Some (split_word words) else None
+word_at (b ∷ words) = if is_space b then Some (split_word words) else None
 
 -- the word is a number's digits, without a leading zero
 abbrev pub is_number : ℕ → List ℕ → Bool
@@ -54,20 +55,9 @@ at_most most o = do
 unfoldable pub text_said : Text → List ℕ → Option Field
 text_said t word = if nat_lt 0 (length word) && (nat_le (length word) (limit t) && list_all is_ascii_graphic word) then Some (Text_ t word) else None
 
-abbrev pub is_hex : ℕ → Bool
-is_hex b = is_in_range 48 57 b || is_in_range 97 102 b
-
-abbrev pub hex_value : ℕ → ℕ
-hex_value b = if nat_lt b 58 then b - 48 else b - 87
-
--- the bytes that pairs of hexadecimal digits write
-abbrev pub unhex : List ℕ → List ℕ
-unhex [] = []
-unhex (a ∷ []) = []
-unhex (a ∷ b ∷ rest) = (16 * (hex_value a % 16) + hex_value b % 16) ∷ unhex rest
-
+-- 16 bytes as hexadecimal digits
 unfoldable pub client_said : List ℕ → Option (List ℕ)
-client_said word = if (length word == 32) && list_all is_hex word then Some (unhex word) else None
+client_said word = if length word == 32 then bytes_in word else None
 
 -- the field of this kind that a word says
 unfoldable pub said : Kind → List ℕ → Option Field

@@ -1,7 +1,8 @@
 -- Edits as texts: a line of a script, or of the listing of edits.
-use Rattle.std.specs.Prelude.{◌≡◌, ◌≢◌, ℕ, ◌/◌, ◌%◌, ◌<◌, List, [], ◌∷◌, ◌++◌, Bool, true, false, Option, Some, None, codes}
+use Rattle.std.specs.Prelude.{◌≡◌, ◌≢◌, ℕ, ◌<◌, List, [], ◌∷◌, ◌++◌, Bool, true, false, Option, Some, None, codes}
 use Rattle.std.specs.List.{flat_map, AllByRecursion}
-use Rattle.std.specs.Fmt.{decimal, digits, digit_glyph}
+use Rattle.std.specs.Fmt.{decimal, digits}
+use Rattle.line_words.specs.Hex.{hex_text}
 use Rattle.edit_ops.specs.declared.kind.OpKind.{OpKind}
 use Rattle.edit_ops.specs.declared.edit.Call.{Call}
 use Rattle.edit_ops.specs.Kinds.{is_mark}
@@ -22,10 +23,6 @@ text_word false new_owner [] = 45 ∷ []
 text_word false path [] = []
 text_word false owner [] = []
 
--- two lower-case hexadecimal digits
-abbrev pub hex_byte : ℕ → List ℕ
-hex_byte b = digit_glyph false (b / 16) ∷ digit_glyph false (b % 16) ∷ []
-
 -- the word of a field behind a space; a count has none
 abbrev pub spaced : Bool → Field → List ℕ
 spaced listing (Text_ t bytes) = 32 ∷ text_word listing t bytes
@@ -36,7 +33,7 @@ spaced listing (Small_ paths n) = []
 spaced listing (Number_ n) = 32 ∷ decimal n
 spaced listing (Flag_ true) = codes " yes"
 spaced listing (Flag_ false) = codes " no"
-spaced listing (Client_ bytes) = 32 ∷ flat_map hex_byte bytes
+spaced listing (Client_ bytes) = 32 ∷ hex_text bytes
 spaced listing (Call_ n) = 32 ∷ decimal n
 
 -- what stands before an edit that a client's call asked for

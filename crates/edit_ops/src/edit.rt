@@ -1,5 +1,9 @@
 //! An edit: what it does, and the call of the client that asked for it.
+ghost use Rattle.std.specs.Prelude.{◌≡◌, IfOk};
+
 use crate::op::Op;
+use qj_num::OutOfMemory;
+use std::alloc::Global;
 use std::marker::Model;
 
 /// A client's call: who called, and the number of the call.
@@ -26,4 +30,16 @@ impl Model for Edit {
     ghost view = { λ e. record { op = e.op; call = e.call } };
 
     ghost invariant = { λ e. IsEdit (record { op = e.op; call = e.call }) };
+}
+
+impl Edit {
+    /// The same in memory of its own.
+    pub fn copy(&self, alloc: Global) -> Result<Edit, OutOfMemory>
+        ensures { IfOk result (λ edit. edit ≡ self.now) }
+    {
+        Ok(Edit {
+            op: self.op.copy(alloc)?,
+            call: self.call,
+        })
+    }
 }

@@ -43,6 +43,10 @@ impl EditList {
         ensures ok { OnOk result (self.new ≡ self.old ++ edit ∷ []) }
         ensures err { OnErr result (self.new ≡ self.old) }
     {
+        if self.items.is_empty() {
+            // most lines have one edit
+            self.items.reserve_exact(1)?;
+        }
         self.items.push(edit)?;
         Ok(())
     }

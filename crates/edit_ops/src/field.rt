@@ -2,12 +2,14 @@
 ghost use Rattle.std.specs.Prelude.{◌≡◌, ◌++◌, map, OnOk, OnErr, ◌<◌, ◌^◌, length, ◌∷◌, false};
 ghost use Rattle.std.specs.List.{flat_map, AllByRecursion};
 ghost use Rattle.std.specs.Int.{w16, to_be_bytes};
-ghost use Rattle.std.specs.Fmt.{decimal, digits, digit_glyph};
+ghost use Rattle.std.specs.Fmt.{decimal, digits};
+ghost use Rattle.line_words.specs.Hex.{hex_text};
 ghost use Rattle.edit_ops.specs.Fields.{IsGood, field_bytes};
-ghost use Rattle.edit_ops.specs.Texts.{spaced, hex_byte};
+ghost use Rattle.edit_ops.specs.Texts.{spaced};
 ghost use Rattle.edit_ops.specs.Forms.{written};
 ghost use Rattle.edit_ops.specs.Shown.{shown};
 
+use line_words::put_hex;
 use qj_num::{OutOfMemory, put_decimal, put_digits};
 
 /// A field of an edit's record.
@@ -110,28 +112,19 @@ fn put_permission(out: &mut Vec<u8>, permission: u16) -> Result<(), OutOfMemory>
     added
 }
 
-// The lower-case hexadecimal digit of a number below 16.
-fn hex_digit(value: u8) -> u8
-    requires { value < 16 }
-    ensures { result ≡ digit_glyph false value }
+// Appends a client's id as hexadecimal digits behind a space; an `Err` changes nothing.
+#[tactic(auto, using(line_words::proofs::AppendLaws::cuts))]
+fn put_client(out: &mut Vec<u8>, client: &[u8; 16]) -> Result<(), OutOfMemory>
+    ensures ok { OnOk result (out.new.items ≡ out.old.items ++ 32 ∷ hex_text client.now) }
+    ensures err { OnErr result (out.new.items ≡ out.old.items) }
 {
-    if value < 10 {
-        b'0' + value
-    } else {
-        b'a' + (value - 10)
+    let before = out.len();
+    out.push(b' ')?;
+    let added = put_hex(out, client);
+    if added.is_err() {
+        out.truncate(before);
     }
-}
-
-// The hexadecimal digits of a client's id.
-fn hex_of(client: &[u8; 16]) -> [u8; 32]
-    ensures { result ≡ flat_map hex_byte client.now }
-{
-    let mut digits = [0u8; 32];
-    for (i, byte) in client.iter().enumerate() {
-        digits[2 * i] = hex_digit(byte / 16);
-        digits[2 * i + 1] = hex_digit(byte % 16);
-    }
-    digits
+    added
 }
 
 // Appends the word of a field behind a space; an `Err` changes nothing.
@@ -160,7 +153,7 @@ fn put_said(out: &mut Vec<u8>, listing: bool, field: Field<'_>) -> Result<(), Ou
         Field::Number(n) => put_number(out, n),
         Field::Flag(true) => put_word(out, b"yes"),
         Field::Flag(false) => put_word(out, b"no"),
-        Field::Client(bytes) => put_word(out, &hex_of(bytes)),
+        Field::Client(bytes) => put_client(out, bytes),
         Field::CallNumber(n) => put_number(out, u64::from(n)),
     }
 }

@@ -1,5 +1,5 @@
 //! The lists in edits: of numbers, and of names.
-ghost use Rattle.std.specs.Prelude.{◌≡◌, [], ◌∷◌, ◌++◌, List, ℕ, length, OnOk, OnErr};
+ghost use Rattle.std.specs.Prelude.{◌≡◌, [], ◌∷◌, ◌++◌, List, ℕ, length, IfOk, OnOk, OnErr};
 
 use qj_num::{Name, OutOfMemory};
 use std::alloc::Global;
@@ -39,6 +39,14 @@ impl NumberList {
         ensures { result.now ≡ self.now }
     {
         self.items.as_slice()
+    }
+
+    /// The same list in memory of its own.
+    pub fn copy(&self, alloc: Global) -> Result<NumberList, OutOfMemory>
+        ensures { IfOk result (λ l. l ≡ self.now) }
+    {
+        let items = Vec::from_slice(alloc, self.as_slice())?;
+        Ok(NumberList { items })
     }
 
     /// Adds a number at the end; an `Err` changes nothing.
@@ -87,6 +95,14 @@ impl NameList {
         self.items.as_slice()
     }
 
+    /// The same list in memory of its own.
+    pub fn copy(&self, alloc: Global) -> Result<NameList, OutOfMemory>
+        ensures { IfOk result (λ l. l ≡ self.now) }
+    {
+        let items = copy_names(alloc, self.as_slice())?;
+        Ok(NameList { items })
+    }
+
     /// Adds a name at the end; an `Err` changes nothing.
     pub fn push(&mut self, name: Name) -> Result<(), OutOfMemory>
         ensures ok { OnOk result (self.new ≡ self.old ++ name ∷ []) }
@@ -95,4 +111,15 @@ impl NameList {
         self.items.push(name)?;
         Ok(())
     }
+}
+
+/// The same names in memory of their own.
+fn copy_names(alloc: Global, names: &[Name]) -> Result<Vec<Name>, OutOfMemory>
+    ensures { IfOk result (λ copied. copied.items ≡ names.now) }
+{
+    let mut copied = Vec::with_capacity(alloc, names.len())?;
+    for name in names {
+        copied.push(name.copy(alloc)?)?;
+    }
+    Ok(copied)
 }

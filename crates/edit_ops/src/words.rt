@@ -1,33 +1,21 @@
 //! Fields from the words of a text.
-ghost use Rattle.std.specs.Prelude.{◌≡◌, ◌∷◌, [], ◌≤◌, map, length, take, drop, IfOk, Option, Some, None, ◌==◌};
-ghost use Rattle.std.specs.List.{list_all, position_or_len};
-ghost use Rattle.std.specs.Char.{is_ascii_graphic};
+ghost use Rattle.std.specs.Prelude.{◌≡◌, map, take, drop};
+ghost use Rattle.std.specs.List.{position_or_len};
+ghost use Rattle.line_words.specs.Words.{is_space};
 ghost use Rattle.edit_ops.specs.Fields.{Text, Text_, Small_, Number_, Flag_, Client_, Call_, text, small, number, flag, client, call_number, path, owner, new_owner, replication, permission, numbers, paths, limit};
-ghost use Rattle.edit_ops.specs.Saying.{Tells, split_word, word_at, number_said, at_most, text_said, is_hex, hex_value, unhex, client_said, said, field_said, items_said, group_said};
+ghost use Rattle.edit_ops.specs.Saying.{Tells, split_word, word_at, number_said, at_most, text_said, client_said, said, field_said, items_said, group_said};
 
 use crate::fault::TextError;
 use crate::lists::{NameList, NumberList};
 use crate::reading::is_printable;
+use line_words::{read_hex, word_len};
 use qj_num::{MAX, Name, read_digits, read_number};
 use std::alloc::Global;
 
-// How many bytes stand before the first space, or all.
-fn word_len(words: &[u8]) -> usize
-    ensures value { result ≡ position_or_len (λ b. b == 32) words.now }
-    ensures within { result ≤ length words.now }
-{
-    for (i, byte) in words.iter().enumerate() {
-        if *byte == b' ' {
-            return i;
-        }
-    }
-    words.len()
-}
-
 /// The word up to the first space, and the text from the space on.
 pub(crate) fn split_word(words: &[u8]) -> (&[u8], &[u8])
-    ensures word { result.0.now ≡ take (position_or_len (λ b. b == 32) words.now) words.now }
-    ensures rest { result.1.now ≡ drop (position_or_len (λ b. b == 32) words.now) words.now }
+    ensures word { result.0.now ≡ take (position_or_len is_space words.now) words.now }
+    ensures rest { result.1.now ≡ drop (position_or_len is_space words.now) words.now }
 {
     words.split_at(word_len(words))
 }
@@ -84,7 +72,7 @@ pub(crate) fn new_owner_said(alloc: Global, words: &[u8]) -> Result<(Name, &[u8]
 {
     let (word, rest) = word_of(words)?;
     if word == b"-".as_slice() {
-        return Ok((Name::of(Vec::new(alloc)), rest));
+        return Ok((Name::from_slice(alloc, &[])?, rest));
     }
     let name = name_of(alloc, word, 32)?;
     Ok((name, rest))
@@ -166,47 +154,19 @@ pub(crate) fn flag_said(words: &[u8]) -> Result<(bool, &[u8]), TextError>
     Err(TextError::Bad)
 }
 
-fn is_hex(word: &[u8]) -> bool
-    ensures { result ≡ list_all is_hex word.now }
-{
-    word.iter()
-        .all(|byte| matches!(*byte, b'0'..=b'9' | b'a'..=b'f'))
-}
-
-// The value of a lower-case hexadecimal digit.
-fn hex_value(byte: u8) -> u8
-    ensures { result ≡ hex_value byte }
-{
-    if byte < 58 {
-        byte.saturating_sub(48)
-    } else {
-        byte.saturating_sub(87)
-    }
-}
-
-// The bytes that 32 hexadecimal digits write.
-fn unhex(word: &[u8]) -> [u8; 16]
-    requires { length word.now ≡ 32 }
-    ensures { result ≡ unhex word.now }
-{
-    let mut client = [0u8; 16];
-    for i in 0..16 {
-        client[i] = 16 * (hex_value(word[2 * i]) % 16) + hex_value(word[2 * i + 1]) % 16;
-    }
-    client
-}
-
-#[tactic(auto, unfolding(crate::specs::Saying::client_said))]
+// The 16 bytes that hexadecimal digits write.
+#[tactic(auto, using(crate::proofs::SayWords::clients))]
 fn client_of_hex(word: &[u8]) -> Result<[u8; 16], TextError>
     ensures { Tells (λ x. x) result (client_said word.now) }
 {
     if word.len() != 32 {
         return Err(TextError::Bad);
     }
-    if !is_hex(word) {
+    let mut client = [0u8; 16];
+    if !read_hex(word, &mut client) {
         return Err(TextError::Bad);
     }
-    Ok(unhex(word))
+    Ok(client)
 }
 
 #[tactic(auto, unfolding(crate::specs::Saying::field_said, crate::specs::Saying::said))]

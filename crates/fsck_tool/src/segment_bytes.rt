@@ -1,10 +1,8 @@
 //! What the bytes of a segment's file turn out to be.
-ghost use Rattle.std.specs.Prelude.{◌≡◌, IfOk};
 ghost use Rattle.batch_frame.specs.Segments.{HasHeader};
 ghost use Rattle.fsck_tool.specs.Segments.{IsReadAs};
 
 use batch_frame::{HEADER_LENGTH, Header, Scan, read_header, scan_window};
-use qj_num::OutOfMemory;
 use std::alloc::Global;
 
 /// What the bytes of a segment's file turn out to be.
@@ -17,29 +15,30 @@ pub enum SegmentBytes {
 }
 
 // What stands behind the header that bytes have.
-fn frames_behind(alloc: Global, bytes: &[u8], header: Header) -> Result<SegmentBytes, OutOfMemory>
+fn frames_behind(alloc: Global, bytes: &[u8], header: Header) -> SegmentBytes
     requires { HasHeader bytes.now header.start header.epoch }
-    ensures { IfOk result (IsReadAs bytes.now) }
+    ensures { IsReadAs bytes.now result }
 {
     let (_, frames) = bytes.split_at(HEADER_LENGTH);
     let mut scan = Scan::new(alloc);
-    match scan_window(alloc, &mut scan, frames, header.start, 0, 0)? {
-        None => Ok(SegmentBytes::Whole {
+    match scan_window(alloc, &mut scan, frames, header.start, 0, 0) {
+        Ok(None) => SegmentBytes::Whole {
             start: header.start,
             next: header.start + scan.count,
-        }),
-        Some(_) => Ok(SegmentBytes::Bad {
+        },
+        Ok(Some(_)) => SegmentBytes::Bad {
             place: HEADER_LENGTH as u64 + scan.whole_length as u64,
-        }),
+        },
+        Err(_) => unreachable!(),
     }
 }
 
-/// What the bytes of a segment's file turn out to be. Every frame is checked, and no body is copied.
-pub fn read_segment_bytes(alloc: Global, bytes: &[u8]) -> Result<SegmentBytes, OutOfMemory>
-    ensures { IfOk result (IsReadAs bytes.now) }
+/// What the bytes of a segment's file turn out to be. Every frame is checked, no body is copied, and no memory is taken.
+pub fn read_segment_bytes(alloc: Global, bytes: &[u8]) -> SegmentBytes
+    ensures { IsReadAs bytes.now result }
 {
     match read_header(bytes) {
         Some(header) => frames_behind(alloc, bytes, header),
-        None => Ok(SegmentBytes::Bad { place: 0 }),
+        None => SegmentBytes::Bad { place: 0 },
     }
 }

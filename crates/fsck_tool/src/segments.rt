@@ -37,7 +37,7 @@ pub fn read_segment<D: Disk>(
     ensures cause { HasCause (D.faults disk.old) (D.faults disk.new) (D.steady disk.old) (D.steady disk.new) result }
 {
     let bytes = read_file(alloc, disk, name)?;
-    Ok(read_segment_bytes(alloc, &bytes)?)
+    Ok(read_segment_bytes(alloc, &bytes))
 }
 
 // That the bytes are bad at a place.

@@ -1,10 +1,12 @@
 -- Runs of disk calls, one after the other.
-use Rattle.std.proofs.Common.{inl, inr, ⊎_elim, ◌⊎◌, subst}
+use Rattle.std.proofs.Common.{inl, inr, ⊎_elim, ◌⊎◌, ℕ, List, refl, ◌∙◌, subst}
 use Rattle.std.specs.Prelude.{Result, Ok, Err, OnOk}
-use Rattle.qj_disk.specs.Files.{Files, Follows}
+use Rattle.qj_disk.specs.Files.{Files, Follows, ChangesOnly, IsGone}
 use Rattle.qj_disk.specs.View.{View, IsSound, LeavesOnly}
-use Rattle.qj_disk.specs.Calls.{Effect, Happens, Keeps}
-use Rattle.qj_disk.specs.Runs.{Quiet, weaker, joined, quiet_start, quiet_keeps}
+use Rattle.qj_disk.specs.Calls.{Effect, Happens, Keeps, Atomic}
+use Rattle.qj_disk.specs.declared.disk.DiskFail.{DiskFail}
+use Rattle.qj_disk.specs.Runs.{Quiet, weaker, joined, quiet_start, quiet_call, quiet_keeps}
+use Rattle.image_store.specs.Saves.{MayGo}
 
 -- each crash leaves what an old outcome is after this
 abbrev pub From : View → (Files → Files → Type 0) → Files → Type 0
@@ -21,6 +23,17 @@ keeps_then K u v w sound same keeps quiet = record {
     by : (c : Files) → From u K c ⊎ From v K c → From u K c
     by c (inl from) = from
     by c (inr from) = (from.0, keeps.crash from.0 from.1, from.2)
+
+-- a file is removed by one call that is all or nothing
+pub removal_quiet : {T : Type 0} (name : List ℕ) (r : Result T DiskFail) (u v : View) → IsSound u → Atomic (ChangesOnly name IsGone) r u v → Quiet (MayGo name) u v
+removal_quiet name r u v sound atomic = ⊎_elim by (λ k. quiet_keeps (MayGo name) u u v start k) atomic.failed
+  where
+    start : Quiet (MayGo name) u u
+    start = quiet_start (MayGo name) u sound (λ c left. record { here = inl refl; others = λ n ne. refl })
+
+    by : Happens (ChangesOnly name IsGone) u v → Quiet (MayGo name) u v
+    by h = quiet_call (MayGo name) u u v (ChangesOnly name IsGone) sound sound start atomic.time h.crash h.seen
+        (λ d e c left_d left_e may gone. record { here = inr gone.here; others = λ n ne. gone.others n ne ∙ may.others n ne })
 
 pub quiet_weaker : (N K : Files → Files → Type 0) (u v : View) → ((d c : Files) → N d c → K d c) → Quiet N u v → Quiet K u v
 quiet_weaker N K u v more quiet = record {

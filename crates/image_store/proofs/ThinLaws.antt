@@ -12,7 +12,7 @@ use Rattle.std.proofs.lemmas.List.{take-append-drop}
 use Rattle.std.proofs.lemmas.Map.Keys.{sorted_head, sorted_tail}
 use Rattle.qj_disk.specs.Files.{Files}
 use Rattle.qj_disk.specs.View.{View, IsSound}
-use Rattle.qj_disk.specs.Calls.{HasCause, Keeps, Rose}
+use Rattle.qj_disk.specs.Calls.{HasCause, Keeps}
 use Rattle.qj_disk.specs.Runs.{Quiet, quiet_start}
 use Rattle.qj_disk.specs.declared.disk.DiskFail.{DiskFail}
 use Rattle.qj_disk.specs.declared.disk.DiskFail.TheVariants.{Failed}

@@ -6,8 +6,8 @@ use Rattle.std.proofs.lemmas.List.{drop_more, drop_all, drop-take, take_all, tak
 use Rattle.journal_core.specs.declared.segment.Segment.{Segment}
 use Rattle.journal_core.specs.declared.node_state.NodeState.{NodeState}
 use Rattle.journal_core.specs.Segments.{AreSound, AreRising, AreAbove, IsWithin, has_edit, any_body, end_of}
-use Rattle.journal_core.specs.Reads.{served, serving, least_served, last_below, manifest_of, edits_from, not_served}
-use Rattle.journal_core.specs.Answers.{Serves, BeginsAt, last_of}
+use Rattle.journal_core.specs.Reads.{served, serving, least_served, last_below, manifest_of, edits_from, answer_from, not_served}
+use Rattle.journal_core.specs.Answers.{Serves, BeginsAt, last_of, is_refusal}
 use Rattle.journal_core.specs.declared.reply.Reply.{Reply}
 use Rattle.journal_core.specs.declared.reply.Reply.TheVariants.{Edits}
 use Rattle.journal_core.proofs.PlaceLaws.{segment_within}
@@ -170,6 +170,11 @@ pub piece_ends : (g : Segment) (from most : ℕ) → IsWithin g → g.start ≤ 
 piece_ends g from most w l h = omega (arith, length_piece g.bodies (from - g.start) most)
 
 pub ruleset pieces = (piece_some, piece_ends)
+
+-- a txid that is served isn't refused
+pub served_is_given : (s : NodeState) (from : ℕ) (g : Segment) (count : ℕ) → Serves s from g count → is_refusal (edits_from s from) ≡ false
+unfolding edits_from
+served_is_given s from g count h = ap (λ o. is_refusal (answer_from s from o)) h.piece
 
 pub edit_some : (g : Segment) → has_edit g ≡ true → 0 < length g.bodies
 edit_some g h = grind (arith, nat_tests, any_body_is g.bodies)

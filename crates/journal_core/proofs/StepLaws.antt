@@ -1,5 +1,5 @@
 -- Laws of the node step: which refusals it has.
-use Rattle.std.proofs.Common.{ℕ, ◌≡◌, ◌+◌, ◌==◌, ◌&&◌, ◌||◌, List, Option, Some, None, Bool, true, false, not, cond, nat_lt, nat_le, sym, subst, ◌∙◌}
+use Rattle.std.proofs.Common.{ℕ, ◌≡◌, ◌+◌, ◌==◌, ◌&&◌, ◌||◌, List, Option, Some, None, Bool, true, false, not, cond, nat_lt, nat_le, sym, subst, ap, ◌∙◌}
 use Rattle.journal_core.specs.Views.{HeadView, BatchView, last_txid}
 use Rattle.journal_core.specs.declared.segment.Segment.{Segment}
 use Rattle.journal_core.specs.declared.node_state.NodeState.{NodeState}
@@ -134,6 +134,18 @@ step_answer s t r a e = own_answer (node_step s r) t a (step_own s r) e
 
 pub own_not_memory : (a : Reply) → IsOwn a → a ≡ reply.Refused OutOfMemory → ⊥
 own_not_memory a o e = subst IsOwn e o
+
+-- a row's own reply isn't want of memory, nor is a refusal before the front
+pub row_not_memory : (s t : NodeState) (r : Request) (a : Reply) → row s r ≡ record { state = t; reply = a } → a ≡ reply.Refused OutOfMemory → ⊥
+row_not_memory s t r a e = own_not_memory a (row_answer s t r a e)
+
+pub at_once_not_memory : (s : NodeState) (r : Request) (refusal : Refusal) → Some refusal ≡ refused_at_once s r → reply.Refused refusal ≡ reply.Refused OutOfMemory → ⊥
+at_once_not_memory s r refusal h = own_not_memory (reply.Refused refusal) (subst Own (sym h) (at_once_own s r).own)
+
+-- what isn't refused before the front is answered by its row
+pub passed_row : (s : NodeState) (r : Request) → refused_at_once s r ≡ None → node_step s r ≡ row (fronted s r) r
+unfolding node_step
+passed_row s r e = ap (unless_refused s r) e
 
 pub own_not_fault : (a : Reply) → IsOwn a → a ≡ reply.Refused DiskFault → ⊥
 own_not_fault a o e = subst IsOwn e o

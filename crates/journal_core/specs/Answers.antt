@@ -89,11 +89,18 @@ FitsRequest (Purge head min) r = IsDone r
 FitsRequest (Read from) r = AreEdits from r
 FitsRequest Manifest r = AreSegments r
 
--- the answer takes no memory
+-- the answer takes no memory, whatever the state
 abbrev pub is_free : Request → Bool
 is_free State = true
 is_free (NewEpoch epoch) = true
+is_free (Finalize head start end) = true
+is_free (Purge head min) = true
 is_free _ = false
+
+-- the reply refuses
+abbrev pub is_refusal : Reply → Bool
+is_refusal (reply.Refused refusal) = true
+is_refusal _ = false
 
 -- the segment serves so many edits, this txid among them, and none with a greater start serves it
 pub record Serves (s : NodeState) (from : ℕ) (g : Segment) (count : ℕ) : Type 0 where

@@ -1,7 +1,7 @@
 // The node that keeps its state in memory.
 ghost use Rattle.std.specs.Prelude.{◌≡◌, ◌≢◌, ◌≤◌, true, Some, IsOk, OnErr, IfErr};
-ghost use Rattle.journal_core.specs.Step.{fresh_state};
-ghost use Rattle.journal_core.specs.Answers.{Answers, FitsRequest, is_free};
+ghost use Rattle.journal_core.specs.Step.{fresh_state, node_step};
+ghost use Rattle.journal_core.specs.Answers.{Answers, FitsRequest, is_free, is_refusal};
 ghost use Rattle.journal_core.specs.Stops.{Stops, Restarts};
 ghost use Rattle.journal_core.specs.Cuts.{Cuts};
 
@@ -57,13 +57,14 @@ impl Node for PlainNode {
 
     ghost steady = { λ _. Unit {0} };
 
-    /// Answers one request. Want of memory leaves all as it was, and the two requests that take no
-    /// memory never answer it; no disk fails.
+    /// Answers one request. Want of memory leaves all as it was; it is never the answer to the four requests that take no memory
+    /// (state, new, finalize and purge), nor to what is refused. No disk fails.
     fn act(&mut self, alloc: Global, request: &Request) -> Reply
         ensures step { Answers (Some self.old) request.now result (Some self.new) }
         ensures fits { FitsRequest request.now result }
         ensures memory { result ≡ Reply.Refused Refusal.OutOfMemory → self.new ≡ self.old }
         ensures free { is_free request.now ≡ true → result ≢ Reply.Refused Refusal.OutOfMemory }
+        ensures refused { is_refusal (node_step self.old request.now).reply ≡ true → result ≢ Reply.Refused Refusal.OutOfMemory }
         ensures sound { result ≢ Reply.Refused Refusal.DiskFault }
     {
         self.state.step(alloc, request)

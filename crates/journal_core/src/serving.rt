@@ -1,9 +1,9 @@
 // What a node serves, and what it tells of its segments.
-ghost use Rattle.std.specs.Prelude.{◌≡◌, ◌≤◌, ◌<◌, ◌+◌, ◌-◌, length, take, drop, Some, None, IfOk, MatchOption};
+ghost use Rattle.std.specs.Prelude.{◌≡◌, ◌≤◌, ◌<◌, ◌+◌, ◌-◌, length, take, drop, false, Some, None, IfOk, OnErr, MatchOption};
 ghost use Rattle.journal_core.specs.declared.node_state.NodeState.{NodeState};
 ghost use Rattle.journal_core.specs.Segments.{IsWithin, find_segment};
 ghost use Rattle.journal_core.specs.Reads.{served, serving, last_below, least_served, edits_from, manifest_of, told_of, piece_of, not_served};
-ghost use Rattle.journal_core.specs.Answers.{AreEdits, Serves, last_of, behind_fetch};
+ghost use Rattle.journal_core.specs.Answers.{AreEdits, Serves, last_of, behind_fetch, is_refusal};
 
 use crate::OutOfMemory;
 use crate::batch::Batch;
@@ -94,11 +94,12 @@ impl NodeState {
         (from - 1).min(segment.start + count - 1)
     }
 
-    /// Gives served edits.
+    /// Gives served edits. A refusal takes no memory.
     #[tactic(auto, using(crate::proofs::ServingLaws::pieces), unfolding(crate::specs::Reads::edits_from))]
     pub(crate) fn read(&self, alloc: Global, from: u64) -> Result<Reply, OutOfMemory>
         ensures reply { IfOk result (λ reply. edits_from self.now from ≡ reply) }
         ensures fits { IfOk result (AreEdits from) }
+        ensures refused { OnErr result (is_refusal (edits_from self.now from) ≡ false) }
     {
         let Some((segment, count)) = self.serving(from) else {
             return Ok(Reply::Refused(self.not_served(from)));
@@ -164,11 +165,12 @@ impl NodeState {
         }
     }
 
-    /// Gives edits of a segment under recovery.
+    /// Gives edits of a segment under recovery. A refusal takes no memory.
     #[tactic(auto, using(crate::proofs::ServingLaws::pieces))]
     pub(crate) fn fetch(&self, alloc: Global, start: u64, from: u64) -> Result<Reply, OutOfMemory>
         ensures reply { IfOk result (λ reply. behind_fetch self.now start from ≡ reply) }
         ensures fits { IfOk result (AreEdits from) }
+        ensures refused { OnErr result (is_refusal (behind_fetch self.now start from) ≡ false) }
     {
         let Some(segment) = self.segments.find(start) else {
             return Ok(Reply::Refused(Refusal::NoSegment));

@@ -1,10 +1,10 @@
 // The table of requests: what each does behind the front.
-ghost use Rattle.std.specs.Prelude.{◌≡◌, ◌≢◌, ◌≤◌, true, None, IfOk, IsOkAnd, OnErr};
+ghost use Rattle.std.specs.Prelude.{◌≡◌, ◌≢◌, ◌≤◌, true, false, None, IfOk, IsOkAnd, OnErr};
 ghost use Rattle.journal_core.specs.Views.{last_txid};
 ghost use Rattle.journal_core.specs.Limits.{limit_of, max_number};
 ghost use Rattle.journal_core.specs.Segments.{find_segment};
 ghost use Rattle.journal_core.specs.Step.{start_refused, journal_refused, finalize_refused, accept_refused, is_final_one, node_step};
-ghost use Rattle.journal_core.specs.Answers.{FitsRequest, IsDone, IsNewEpoch, row, is_free};
+ghost use Rattle.journal_core.specs.Answers.{FitsRequest, IsDone, IsNewEpoch, row, is_free, is_refusal};
 
 use crate::OutOfMemory;
 use crate::batch::Batch;
@@ -110,13 +110,14 @@ impl NodeState {
         }
     }
 
-    /// Begins a segment. An `Err` leaves all as it was.
+    /// Begins a segment. An `Err` leaves all as it was; what is refused takes no memory.
     #[tactic(auto, unfolding(crate::specs::Effects::after_effects))]
     fn start(&mut self, alloc: Global, head: &Head, start: u64) -> Result<Reply, OutOfMemory>
         requires { start ≤ max_number }
         ensures ok { IfOk result (λ reply. row self.old (Request.Start head.now start) ≡ record { state = self.new; reply = reply }) }
         ensures fits { IfOk result IsDone }
         ensures err { OnErr result (self.new ≡ self.old) }
+        ensures refused { OnErr result (is_refusal (row self.old (Request.Start head.now start)).reply ≡ false) }
     {
         if let Some(refusal) = self.start_refused(start) {
             return Ok(Reply::Refused(refusal));
@@ -134,7 +135,7 @@ impl NodeState {
         Ok(Reply::Ok)
     }
 
-    /// Stores a batch in the open segment. An `Err` leaves all as it was.
+    /// Stores a batch in the open segment. An `Err` leaves all as it was; what is refused takes no memory.
     #[tactic(auto, using(crate::proofs::Within::journal_within), unfolding(crate::specs::Effects::after_effects))]
     fn journal(&mut self, head: &Head, start: u64, batch: &Batch) -> Result<Reply, OutOfMemory>
         requires start_fits { start ≤ max_number }
@@ -142,6 +143,7 @@ impl NodeState {
         ensures ok { IfOk result (λ reply. row self.old (Request.Journal head.now start batch.now) ≡ record { state = self.new; reply = reply }) }
         ensures fits { IfOk result IsDone }
         ensures err { OnErr result (self.new ≡ self.old) }
+        ensures refused { OnErr result (is_refusal (row self.old (Request.Journal head.now start batch.now)).reply ≡ false) }
     {
         if let Some(refusal) = self.journal_refused(head, start, batch) {
             return Ok(Reply::Refused(refusal));
@@ -151,10 +153,11 @@ impl NodeState {
     }
 
     /// Makes a segment final, and stores the known committed txid. Takes no memory.
-    #[tactic(auto, using(crate::proofs::TableLaws::finals), unfolding(crate::specs::Effects::after_effects))]
+    #[tactic(auto, using(crate::proofs::TableLaws::finals, crate::proofs::StepLaws::row_not_memory), unfolding(crate::specs::Effects::after_effects))]
     fn finalize(&mut self, head: &Head, start: u64, end: u64) -> Reply
         ensures step { row self.old (Request.Finalize head.now start end) ≡ record { state = self.new; reply = result } }
         ensures fits { IsDone result }
+        ensures free { result ≢ Reply.Refused Refusal.OutOfMemory }
     {
         if let Some(refusal) = self.finalize_refused(head.epoch(), start, end) {
             return Reply::Refused(refusal);
@@ -179,13 +182,15 @@ impl NodeState {
         }
     }
 
-    /// Takes the batch as the segment that starts at its first txid. An `Err` leaves all as it was.
+    /// Takes the batch as the segment that starts at its first txid. An `Err` leaves all as it was; what is refused takes no
+    /// memory.
     #[tactic(auto, unfolding(crate::specs::Effects::after_effects))]
     fn accept(&mut self, alloc: Global, head: &Head, batch: &Batch) -> Result<Reply, OutOfMemory>
         requires { last_txid batch.now ≤ max_number }
         ensures ok { IfOk result (λ reply. row self.old (Request.Accept head.now batch.now) ≡ record { state = self.new; reply = reply }) }
         ensures fits { IfOk result IsDone }
         ensures err { OnErr result (self.new ≡ self.old) }
+        ensures refused { OnErr result (is_refusal (row self.old (Request.Accept head.now batch.now)).reply ≡ false) }
     {
         if let Some(refusal) = self.accept_refused(batch) {
             return Ok(Reply::Refused(refusal));
@@ -209,6 +214,7 @@ impl NodeState {
     fn purge(&mut self, head: &Head, min: u64) -> Reply
         ensures step { row self.old (Request.Purge head.now min) ≡ record { state = self.new; reply = result } }
         ensures fits { IsDone result }
+        ensures free { result ≢ Reply.Refused Refusal.OutOfMemory }
     {
         self.segments.remove_old(self.opened, head.committed(), min);
         Reply::Ok
@@ -216,7 +222,7 @@ impl NodeState {
 }
 
 impl NodeState {
-    /// Behind the front. An `Err` leaves all as it was.
+    /// Behind the front. An `Err` leaves all as it was; what is refused takes no memory.
     #[tactic(auto, using(crate::proofs::FrontLaws::within_limits), unfolding(crate::specs::Effects::after_effects))]
     fn row(&mut self, alloc: Global, request: &Request) -> Result<Reply, OutOfMemory>
         requires { limit_of request.now ≡ None }
@@ -224,6 +230,7 @@ impl NodeState {
         ensures fits { IfOk result (FitsRequest request.now) }
         ensures err { OnErr result (self.new ≡ self.old) }
         ensures free { is_free request.now ≡ true → IsOkAnd result (λ reply. reply ≢ Reply.Refused Refusal.OutOfMemory) }
+        ensures refused { OnErr result (is_refusal (row self.old request.now).reply ≡ false) }
     {
         match request {
             Request::State => Ok(Reply::State {
@@ -242,13 +249,14 @@ impl NodeState {
         }
     }
 
-    /// One step. Want of memory leaves all as it was.
-    #[tactic(auto, unfolding(crate::specs::Step::node_step))]
+    /// One step. Want of memory leaves all as it was, and is never the answer to what is refused.
+    #[tactic(auto, using(crate::proofs::StepLaws::passed_row, crate::proofs::StepLaws::at_once_not_memory), unfolding(crate::specs::Step::node_step))]
     pub fn step(&mut self, alloc: Global, request: &Request) -> Reply
         ensures step { result ≢ Reply.Refused Refusal.OutOfMemory → node_step self.old request.now ≡ record { state = self.new; reply = result } }
         ensures fits { FitsRequest request.now result }
         ensures memory { result ≡ Reply.Refused Refusal.OutOfMemory → self.new ≡ self.old }
         ensures free { is_free request.now ≡ true → result ≢ Reply.Refused Refusal.OutOfMemory }
+        ensures refused { is_refusal (node_step self.old request.now).reply ≡ true → result ≢ Reply.Refused Refusal.OutOfMemory }
     {
         if let Some(refusal) = self.refused_at_once(request) {
             return Reply::Refused(refusal);

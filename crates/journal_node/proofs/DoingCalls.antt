@@ -52,6 +52,9 @@ find_range start gs g starts known = subst (λ (m : ℕ). (1 ≤ m) × (m ≤ 2 
 pub append_range : (start at : ℕ) (b : BatchView) (gs : List Segment) (rows : List SegmentRow) → Tells gs rows → IsAppendDue start at b gs rows → (1 ≤ start) × (start ≤ 2 ^ 62)
 append_range start at b gs rows t due = find_range start gs due.segment t.starts due.known
 
+pub append_some : (start at : ℕ) (b : BatchView) (gs : List Segment) (rows : List SegmentRow) → Tells gs rows → IsAppendDue start at b gs rows → 1 ≤ b.first
+append_some start at b gs rows t due = omega (arith, due.next, (append_range start at b gs rows t due).0)
+
 pub remove_range : (info : SegmentInfo) (gs : List Segment) (rows : List SegmentRow) → Tells gs rows → IsRemoveDue info gs → (1 ≤ info.start) × (info.start ≤ 2 ^ 62)
 remove_range info gs rows t due = find_range info.start gs due.segment t.starts due.known
 

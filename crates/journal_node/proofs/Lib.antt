@@ -9,6 +9,7 @@ pub mod DoneLaws
 pub mod DoneStops
 pub mod DoneCosts
 pub mod DoneAppends
+pub mod DoneRooms
 pub mod ActingReads
 pub mod ActingFront
 pub mod NodeStands

@@ -13,7 +13,6 @@ use Rattle.journal_core.specs.Step.{row_refused, fetch_refused, fronted, effects
 use Rattle.journal_core.proofs.SegmentLists.{find-start}
 use Rattle.segment_file.specs.declared.segment_row.SegmentRow.{SegmentRow}
 use Rattle.node_deeds.specs.declared.deed.Deed.{Deed}
-use Rattle.node_deeds.specs.declared.deed.Deed.TheVariants as deed
 use Rattle.recent_edits.specs.Recent.{Recent, IsRecent, AsksRecent, FitsRing, held_from, nothing}
 use Rattle.recent_edits.proofs.Reading.{is_held}
 use Rattle.journal_node.specs.Done.{effects_by}

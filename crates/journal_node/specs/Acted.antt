@@ -1,5 +1,4 @@
 -- What is known of an answer of a node over a disk, beside the reply and the state that it tells.
-use Rattle.std.specs.Prelude.{◌≡◌}
 use Rattle.qj_disk.specs.View.{View, IsSound, LeavesOnly}
 use Rattle.journal_core.specs.declared.node_state.NodeState.{NodeState}
 use Rattle.journal_core.specs.declared.request.Request.{Request}

@@ -1,5 +1,5 @@
 -- One deed, done at a disk and noted in the table.
-use Rattle.std.specs.Prelude.{ℕ, ◌≡◌, ◌≢◌, ◌⊎◌, ◌+◌, List, ◌++◌, length, Option, Some, Result, OnOk}
+use Rattle.std.specs.Prelude.{ℕ, ◌≡◌, ◌≢◌, ◌⊎◌, ◌+◌, ◌≤◌, List, ◌++◌, length, Option, Some, Result, OnOk}
 use Rattle.qj_disk.specs.View.{View}
 use Rattle.qj_disk.specs.declared.disk.DiskFail.{DiskFail}
 use Rattle.journal_core.specs.declared.cut.Cut.{Cut}
@@ -11,6 +11,7 @@ use Rattle.journal_core.specs.Effects.{after_effect, empty_segment}
 use Rattle.journal_core.specs.Cuts.{cost_of}
 use Rattle.batch_frame.specs.Frames.{frame_bytes}
 use Rattle.segment_file.specs.Effects.{AppendsAt, IsCounted}
+use Rattle.segment_file.specs.Calls.{IsFrameOf}
 use Rattle.segment_file.specs.declared.segment_row.SegmentRow.{SegmentRow}
 use Rattle.node_files.specs.Deeds.{Does, IsCutAt}
 use Rattle.node_deeds.specs.Due.{batch_of, effect_of, IsDue, rows_after}
@@ -26,6 +27,10 @@ place_after r (deed.Append start at) = at + length (frame_bytes (batch_of r))
 place_after r (deed.Accept epoch again) = 0
 place_after r (deed.Finalize start end accepted) = 0
 place_after r (deed.Remove info) = 0
+
+-- these bytes are the frame of the request's batch, where it has one
+abbrev pub HasFrame : Request → List ℕ → Type 0
+HasFrame r bytes = 1 ≤ (batch_of r).first → IsFrameOf (batch_of r) bytes
 
 -- an append needs a segment to which frames can be appended
 abbrev pub HasPlace : View → List Segment → List SegmentRow → Deed → Type 0

@@ -1,5 +1,5 @@
 -- Deeds done at a disk, one after the other.
-use Rattle.std.specs.Prelude.{ℕ, ◌≡◌, ◌⊎◌, ◌≤◌, ◌+◌, List, [], ◌∷◌, length, map, take, Option, Some, None, Result, IsErrOf}
+use Rattle.std.specs.Prelude.{ℕ, ◌≡◌, ◌⊎◌, ◌≤◌, ◌<◌, ◌+◌, true, List, [], ◌∷◌, length, map, take, Option, Some, None, Result, IsErrOf}
 use Rattle.qj_disk.specs.Files.{Files}
 use Rattle.qj_disk.specs.View.{View}
 use Rattle.qj_disk.specs.declared.disk.DiskFail.{DiskFail}
@@ -15,7 +15,7 @@ use Rattle.journal_core.specs.Effects.{Effect, segments_after, after_effects}
 use Rattle.journal_core.specs.Cuts.{Cost, cost_of, standing}
 use Rattle.segment_file.specs.Effects.{choice_of, IsLeft}
 use Rattle.segment_file.specs.declared.segment_row.SegmentRow.{SegmentRow}
-use Rattle.node_deeds.specs.Due.{effect_of, AreDue}
+use Rattle.node_deeds.specs.Due.{effect_of, AreDue, puts_row}
 use Rattle.journal_node.specs.Held.{IsHeld, OpenedAt, Opens, Spares}
 use Rattle.journal_node.specs.Held as held
 use Rattle.node_deeds.specs.declared.deed.Deed.{Deed}
@@ -37,6 +37,11 @@ GoesTo open_ (deed.Remove info) = Unit {0}
 abbrev pub AppendWithin : Option ℕ → List Deed → Type 0
 AppendWithin open_ [] = Unit {0}
 AppendWithin open_ (d ∷ ds) = GoesTo open_ d × Spares open_ d × AppendWithin open_ ds
+
+-- a deed that may put a row is the last, and there is room for the rows and one more
+abbrev pub HasRoom : List Deed → ℕ → ℕ → Type 0
+HasRoom [] count room = Unit {0}
+HasRoom (d ∷ ds) count room = (puts_row d ≡ true → (count < room) × (ds ≡ [])) × HasRoom ds count room
 
 -- A node of this state can do the deeds. Where one is an append, frames can be appended to its segment.
 pub record CanDoAll (v : View) (m : NodeState) (rows : List SegmentRow) (s : NodeState) (r : Request) (ds : List Deed) : Type 0 where

@@ -2,6 +2,7 @@
 use Rattle.std.specs.Prelude.{ℕ, ◌≡◌, ◌≢◌, ◌≤◌, Bool, true, false, List, take, Option, Some, None, if◌then◌else◌}
 use Rattle.qj_disk.specs.Files.{Files}
 use Rattle.qj_disk.specs.View.{View}
+use Rattle.qj_disk.specs.Calls.{Rests}
 use Rattle.journal_core.specs.declared.segment.Segment.{Segment}
 use Rattle.journal_core.specs.declared.node_state.NodeState.{NodeState}
 use Rattle.journal_core.specs.declared.request.Request.{Request}
@@ -102,6 +103,13 @@ pub record IsCaused (before now : ℕ) (was_steady is_steady : Type 0) (reply : 
   pub later : before ≤ now
   pub fault : reply ≡ Refused DiskFault → Rose before now
   pub steady : was_steady → is_steady × (reply ≢ Refused DiskFault)
+
+-- no file changes, and memory, the table and the held edits are as they were
+pub record IsUnchanged (tells : Type 0) (old_view new_view : View) (old_memory new_memory : NodeState) (old_rows new_rows : List SegmentRow) (old_recent new_recent : Recent) : Type 0 where
+  pub disk : tells → Rests old_view new_view
+  pub memory : new_memory ≡ old_memory
+  pub rows : new_rows ≡ old_rows
+  pub recent : new_recent ≡ old_recent
 
 -- a node went down behind the first effects of a request, some number of them
 pub record IsStoppedIn (v : View) (m : NodeState) (rows : List SegmentRow) (s : NodeState) (r : Request) : Type 0 where

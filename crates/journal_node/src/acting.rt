@@ -1,7 +1,7 @@
 //! A request is answered: its reply is found, its deeds are done, and memory follows.
-ghost use Rattle.std.specs.Prelude.{◌≡◌, ◌≢◌, ◌≤◌, ◌↔◌, None, Some, List, Option, true, false, [], IfOk, OnOk, OnErr};
+ghost use Rattle.std.specs.Prelude.{◌≡◌, ◌≢◌, ◌≤◌, ◌↔◌, ◌⊎◌, None, Some, List, Option, length, true, false, [], IfOk, OnOk, OnErr};
 ghost use Rattle.qj_disk.specs.View.{LeavesOnly, AllLeave};
-ghost use Rattle.qj_disk.specs.Calls.{HasCause, Rests};
+ghost use Rattle.qj_disk.specs.Calls.{HasCause, HasShortage, Rests};
 ghost use Rattle.journal_core.specs.declared.segment.Segment.{Segment};
 ghost use Rattle.journal_core.specs.declared.node_state.NodeState.{NodeState as AnyState};
 ghost use Rattle.journal_core.specs.Limits.{limit_of};
@@ -15,15 +15,17 @@ ghost use Rattle.node_files.specs.Durable.{StandsAs};
 ghost use Rattle.node_deeds.specs.Told.{Tells, state_with};
 ghost use Rattle.node_deeds.specs.Due.{AreDue};
 ghost use Rattle.recent_edits.specs.Recent.{AsksRecent, IsRecent, cached_behind};
-ghost use Rattle.journal_node.specs.Done.{effects_by};
+ghost use Rattle.journal_node.specs.Doing.{HasFrame};
+ghost use Rattle.journal_node.specs.Done.{effects_by, HasRoom};
 ghost use Rattle.journal_node.specs.Held.{StandsStopped};
-ghost use Rattle.journal_node.specs.Node.{BringsEdits, IsUp, HasState, IsNode, IsNoFault, IsCaused, IsStoppedIn, IsWhole, Recalls, settled, state_behind, foretold};
+ghost use Rattle.journal_node.specs.Node.{BringsEdits, IsUp, HasState, IsNode, IsNoFault, IsCaused, IsStoppedIn, IsUnchanged, IsWhole, Recalls, settled, state_behind, foretold};
 
 use crate::acting_reads::{fetch, read_served};
 use crate::deeds_done::do_deeds;
 use crate::following::follow_deeds;
+use crate::readying::{Ready, ready_deeds};
 use journal_core::{NodeState, Refusal, Reply, Request};
-use node_deeds::{Deed, behind_front, deeds_of, follow, plain_reply, row_refusal};
+use node_deeds::{Deed, behind_front, follow, plain_reply, row_refusal};
 use qj_disk::{Disk, DiskFail};
 use recent_edits::RecentEdits;
 use segment_file::SegmentTable;
@@ -80,6 +82,7 @@ fn foretell<D: Disk>(
     ensures disk { D.tells disk.old → Rests (D.view disk.old) (D.view disk.new) }
     ensures unread { (gs : List Segment) → Tells gs table.now → IsRecent recent.now gs → AsksRecent recent.now.start (state_with front.now gs) request.now → D.reads disk.new ≡ D.reads disk.old }
     ensures cause { HasCause (D.faults disk.old) (D.faults disk.new) (D.steady disk.old) (D.steady disk.new) result }
+    ensures shortages { D.shortages disk.old ≤ D.shortages disk.new }
 {
     if let Some(refusal) = refusal {
         return Ok(Reply::Refused(refusal));
@@ -101,6 +104,7 @@ pub(crate) fn carry_out<D: Disk>(
     memory: &mut NodeState,
     table: &mut SegmentTable,
     recent: &mut RecentEdits,
+    ready: &mut Ready,
     request: &Request,
     deeds: &[Deed],
     refusal: Option<Refusal>,
@@ -113,6 +117,8 @@ pub(crate) fn carry_out<D: Disk>(
     requires refused { (gs : List Segment) → Tells gs table.old → refusal ≡ row_refused (state_with (fronted memory.old request.now) gs) request.now }
     requires effects { (gs : List Segment) → Tells gs table.old → effects_by request.now deeds.now ≡ effects_of (state_with memory.old gs) request.now }
     requires due { (gs : List Segment) → Tells gs table.old → AreDue gs table.old request.now deeds.now }
+    requires frame { HasFrame request.now ready.old.frame }
+    requires room { HasRoom deeds.now (length table.old) ready.old.room }
 
     ensures tells { D.tells disk.old ↔ D.tells disk.new }
     ensures node { IsNode (D.tells disk.new) (D.view disk.new) memory.new table.new }
@@ -125,9 +131,10 @@ pub(crate) fn carry_out<D: Disk>(
     ensures cached { D.tells disk.old → (s : AnyState) → IsUp (D.view disk.old) memory.old table.old s → OnOk result (recent.new.start ≡ cached_behind recent.old.start (effects_of s request.now)) }
     ensures reads { D.reads disk.new ≡ D.reads disk.old }
     ensures cause { HasCause (D.faults disk.old) (D.faults disk.new) (D.steady disk.old) (D.steady disk.new) result }
+    ensures shortage { HasShortage (D.shortages disk.old) (D.shortages disk.new) result }
 {
     let front = behind_front(alloc, memory, request);
-    match do_deeds(alloc, disk, memory, table, request, deeds) {
+    match do_deeds(disk, memory, table, ready, request, deeds) {
         Ok(()) => {
             follow_deeds(recent, request, deeds);
             settle(memory, &front, request, refusal);
@@ -147,6 +154,7 @@ fn finish<D: Disk>(
     memory: &mut NodeState,
     table: &mut SegmentTable,
     recent: &mut RecentEdits,
+    ready: &mut Ready,
     request: &Request,
     deeds: &[Deed],
     refusal: Option<Refusal>,
@@ -162,6 +170,8 @@ fn finish<D: Disk>(
     requires due { (gs : List Segment) → Tells gs table.old → AreDue gs table.old request.now deeds.now }
     requires fits { FitsRequest request.now reply }
     requires own { IsNoFault reply }
+    requires frame { HasFrame request.now ready.old.frame }
+    requires room { HasRoom deeds.now (length table.old) ready.old.room }
 
     ensures tells { D.tells disk.old ↔ D.tells disk.new }
     ensures node { IsNode (D.tells disk.new) (D.view disk.new) memory.new table.new }
@@ -174,8 +184,11 @@ fn finish<D: Disk>(
     ensures cached { D.tells disk.old → (s : AnyState) → IsUp (D.view disk.old) memory.old table.old s → IsNoFault result → recent.new.start ≡ cached_behind recent.old.start (effects_of s request.now) }
     ensures reads { D.reads disk.new ≡ D.reads disk.old }
     ensures cause { IsCaused (D.faults disk.old) (D.faults disk.new) (D.steady disk.old) (D.steady disk.new) result }
+    ensures short { result ≡ Reply.Refused Refusal.OutOfMemory → Rose (D.shortages disk.old) (D.shortages disk.new) }
 {
-    match carry_out(alloc, disk, memory, table, recent, request, deeds, refusal) {
+    match carry_out(
+        alloc, disk, memory, table, recent, ready, request, deeds, refusal,
+    ) {
         Ok(()) => reply,
         Err(DiskFail::Failed) => Reply::Refused(Refusal::DiskFault),
         Err(DiskFail::OutOfMemory) => Reply::Refused(Refusal::OutOfMemory),
@@ -189,6 +202,7 @@ fn answer_by<D: Disk>(
     memory: &mut NodeState,
     table: &mut SegmentTable,
     recent: &mut RecentEdits,
+    ready: &mut Ready,
     request: &Request,
     deeds: &[Deed],
 ) -> Reply
@@ -199,6 +213,8 @@ fn answer_by<D: Disk>(
     requires brings { BringsEdits request.now }
     requires effects { (gs : List Segment) → Tells gs table.old → effects_by request.now deeds.now ≡ effects_of (state_with memory.old gs) request.now }
     requires due { (gs : List Segment) → Tells gs table.old → AreDue gs table.old request.now deeds.now }
+    requires frame { HasFrame request.now ready.old.frame }
+    requires room { HasRoom deeds.now (length table.old) ready.old.room }
 
     ensures tells { D.tells disk.old ↔ D.tells disk.new }
     ensures node { IsNode (D.tells disk.new) (D.view disk.new) memory.new table.new }
@@ -211,12 +227,13 @@ fn answer_by<D: Disk>(
     ensures cached { D.tells disk.old → (s : AnyState) → IsUp (D.view disk.old) memory.old table.old s → IsNoFault result → recent.new.start ≡ cached_behind recent.old.start (effects_of s request.now) }
     ensures unread { D.tells disk.old → (s : AnyState) → IsUp (D.view disk.old) memory.old table.old s → AsksRecent recent.old.start s request.now → D.reads disk.new ≡ D.reads disk.old }
     ensures cause { IsCaused (D.faults disk.old) (D.faults disk.new) (D.steady disk.old) (D.steady disk.new) result }
+    ensures spared { result ≡ Reply.Refused Refusal.OutOfMemory → Rose (D.shortages disk.old) (D.shortages disk.new) ⊎ IsUnchanged (D.tells disk.old) (D.view disk.old) (D.view disk.new) memory.old memory.new table.old table.new recent.old recent.new }
 {
     let front = behind_front(alloc, memory, request);
     let refusal = row_refusal(&front, table, request);
     match foretell(alloc, disk, &front, table, recent, request, refusal) {
         Ok(reply) => finish(
-            alloc, disk, memory, table, recent, request, deeds, refusal, reply,
+            alloc, disk, memory, table, recent, ready, request, deeds, refusal, reply,
         ),
         Err(DiskFail::Failed) => {
             go_down(memory, table);
@@ -226,9 +243,9 @@ fn answer_by<D: Disk>(
     }
 }
 
-/// Answers one request at a node over a disk, of which memory and the table are given. The reply is found
-/// before anything is done, so that want of memory for it changes nothing; where the disk fails, or where
-/// memory is wanted among the deeds, the node goes down.
+/// Answers one request at a node over a disk, of which memory and the table are given. The reply is found,
+/// and the memory for the deeds taken, before anything is done, so that want of it changes nothing; where
+/// the disk fails, or wants memory in a call of a deed, the node goes down.
 pub(crate) fn answer<D: Disk>(
     alloc: Global,
     disk: &mut D,
@@ -251,17 +268,19 @@ pub(crate) fn answer<D: Disk>(
     ensures cached { D.tells disk.old → (s : AnyState) → IsUp (D.view disk.old) memory.old table.old s → IsNoFault result → recent.new.start ≡ cached_behind recent.old.start (effects_of s request.now) }
     ensures unread { D.tells disk.old → (s : AnyState) → IsUp (D.view disk.old) memory.old table.old s → AsksRecent recent.old.start s request.now → D.reads disk.new ≡ D.reads disk.old }
     ensures cause { IsCaused (D.faults disk.old) (D.faults disk.new) (D.steady disk.old) (D.steady disk.new) result }
+    ensures spared { result ≡ Reply.Refused Refusal.OutOfMemory → Rose (D.shortages disk.old) (D.shortages disk.new) ⊎ IsUnchanged (D.tells disk.old) (D.view disk.old) (D.view disk.new) memory.old memory.new table.old table.new recent.old recent.new }
 {
     look_at(request);
     match memory.refused_at_once(request) {
         Some(refusal) => Reply::Refused(refusal),
-        None => match deeds_of(alloc, memory, table, request) {
-            Ok(deeds) => answer_by(
+        None => match ready_deeds(alloc, memory, table, request) {
+            Ok((deeds, mut ready)) => answer_by(
                 alloc,
                 disk,
                 memory,
                 table,
                 recent,
+                &mut ready,
                 request,
                 deeds.as_slice(),
             ),

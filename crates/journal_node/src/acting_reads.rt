@@ -17,25 +17,25 @@ ghost use Rattle.journal_node.specs.Node.{IsNoFault};
 use journal_core::{Batch, MAX_BATCH, MAX_NUMBER, NodeState, Refusal, Reply, Request, SegmentLine};
 use node_deeds::{line_at, not_served, serving_row};
 use qj_disk::{Disk, DiskFail};
-use qj_num::OutOfMemory;
 use recent_edits::RecentEdits;
 use segment_file::{Given, SegmentTable, read_from};
 use std::alloc::Global;
 
 // The first bodies of a batch, at most `most`, as edits from that txid on. BadFile comes where one would
 // have a txid above 2^62.
-fn edits(alloc: Global, batch: &Batch, from: u64, most: usize) -> Result<Reply, OutOfMemory>
+fn edits(batch: Batch, from: u64, most: usize) -> Reply
     requires { 0 < most }
-    ensures edits { last_txid (record { first = from; bodies = take most batch.now.bodies }) ≤ max_number → IfOk result (λ reply. reply ≡ Reply.Edits (record { first = from; bodies = take most batch.now.bodies })) }
-    ensures fits { IfOk result (AreEdits from) }
-    ensures own { IfOk result IsNoFault }
+    ensures edits { last_txid (record { first = from; bodies = take most batch.bodies }) ≤ max_number → result ≡ Reply.Edits (record { first = from; bodies = take most batch.bodies }) }
+    ensures fits { AreEdits from result }
+    ensures own { IsNoFault result }
 {
-    let bodies = batch.bodies().share_piece(alloc, 0, most)?;
+    let mut bodies = batch.into_bodies();
+    bodies.truncate(most);
     let piece = Batch::new(from, bodies);
     if piece.last_within(MAX_NUMBER).is_none() {
-        return Ok(Reply::Refused(Refusal::BadFile));
+        return Reply::Refused(Refusal::BadFile);
     }
-    Ok(Reply::Edits(piece))
+    Reply::Edits(piece)
 }
 
 // The edits of a segment from a txid on, which lies in it: at most `most`, and at most 256. They are those that
@@ -62,16 +62,13 @@ fn edits_of<D: Disk>(
     ensures disk { D.tells disk.old → Rests (D.view disk.old) (D.view disk.new) }
     ensures unread { held_from recent.now line.now.start from ≢ [] → D.reads disk.new ≡ D.reads disk.old }
     ensures cause { HasCause (D.faults disk.old) (D.faults disk.new) (D.steady disk.old) (D.steady disk.new) result }
+    ensures shortages { D.shortages disk.old ≤ D.shortages disk.new }
 {
     if let Some(batch) = recent.edits_from(alloc, line.start, from)? {
-        let reply = edits(alloc, &batch, from, most)?;
-        return Ok(reply);
+        return Ok(edits(batch, from, most));
     }
     match read_from(alloc, disk, line, from) {
-        Given::Edits(batch) => {
-            let reply = edits(alloc, &batch, from, most)?;
-            Ok(reply)
-        }
+        Given::Edits(batch) => Ok(edits(batch, from, most)),
         Given::BadFile { .. } => Ok(Reply::Refused(Refusal::BadFile)),
         Given::DiskFault => Err(DiskFail::Failed),
         Given::OutOfMemory => Err(DiskFail::OutOfMemory),
@@ -97,6 +94,7 @@ pub(crate) fn read_served<D: Disk>(
     ensures disk { D.tells disk.old → Rests (D.view disk.old) (D.view disk.new) }
     ensures unread { (gs : List Segment) → Tells gs table.now → IsRecent recent.now gs → AsksRecent recent.now.start (state_with memory.now gs) (Request.Read from) → D.reads disk.new ≡ D.reads disk.old }
     ensures cause { HasCause (D.faults disk.old) (D.faults disk.new) (D.steady disk.old) (D.steady disk.new) result }
+    ensures shortages { D.shortages disk.old ≤ D.shortages disk.new }
 {
     match serving_row(memory, table, from) {
         Some((line, count)) => {
@@ -126,6 +124,7 @@ pub(crate) fn fetch<D: Disk>(
     ensures disk { D.tells disk.old → Rests (D.view disk.old) (D.view disk.new) }
     ensures unread { (gs : List Segment) → Tells gs table.now → IsRecent recent.now gs → ((g : Segment) → find_segment start gs ≡ Some g → FitsRing recent.now.start g from) → D.reads disk.new ≡ D.reads disk.old }
     ensures cause { HasCause (D.faults disk.old) (D.faults disk.new) (D.steady disk.old) (D.steady disk.new) result }
+    ensures shortages { D.shortages disk.old ≤ D.shortages disk.new }
 {
     match line_at(table, start) {
         Some(line) => edits_of(alloc, disk, recent, &line, from, MAX_BATCH),

@@ -10,24 +10,26 @@ ghost use Rattle.journal_core.specs.Stops.{Stops};
 ghost use Rattle.journal_core.specs.Answers.{Rose};
 ghost use Rattle.node_deeds.specs.Told.{Tells, state_with};
 ghost use Rattle.node_deeds.specs.Due.{AreDue};
-ghost use Rattle.journal_node.specs.Done.{effects_by};
+ghost use Rattle.journal_node.specs.Doing.{HasFrame};
+ghost use Rattle.journal_node.specs.Done.{effects_by, HasRoom};
 ghost use Rattle.journal_node.specs.Held.{StandsStopped};
 ghost use Rattle.journal_node.specs.Node.{BringsEdits, IsUp, IsDown, HasState, IsNode, IsStoppedIn};
 
 use crate::acting::{go_down, look_at};
 use crate::deeds_done::do_deeds;
+use crate::readying::{Ready, ready_deeds};
 use journal_core::{NodeFail, NodeState, Request};
-use node_deeds::{Deed, deeds_of};
+use node_deeds::Deed;
 use qj_disk::{Disk, DiskFail};
 use segment_file::SegmentTable;
 use std::alloc::Global;
 
 // Does the first `count` deeds of a request, and goes down.
 fn stop_behind<D: Disk>(
-    alloc: Global,
     disk: &mut D,
     memory: &mut NodeState,
     table: &mut SegmentTable,
+    ready: &mut Ready,
     request: &Request,
     deeds: &[Deed],
     count: usize,
@@ -39,6 +41,8 @@ fn stop_behind<D: Disk>(
     requires effects { (gs : List Segment) → Tells gs table.old → effects_by request.now deeds.now ≡ effects_of (state_with memory.old gs) request.now }
     requires due { (gs : List Segment) → Tells gs table.old → AreDue gs table.old request.now deeds.now }
     requires count { count ≤ length deeds.now }
+    requires frame { HasFrame request.now ready.old.frame }
+    requires room { HasRoom deeds.now (length table.old) ready.old.room }
 
     ensures tells { D.tells disk.old ↔ D.tells disk.new }
     ensures node { IsNode (D.tells disk.new) (D.view disk.new) memory.new table.new }
@@ -49,7 +53,7 @@ fn stop_behind<D: Disk>(
     ensures reads { D.reads disk.new ≡ D.reads disk.old }
     ensures cause { HasCause (D.faults disk.old) (D.faults disk.new) (D.steady disk.old) (D.steady disk.new) result }
 {
-    let done = do_deeds(alloc, disk, memory, table, request, &deeds[..count]);
+    let done = do_deeds(disk, memory, table, ready, request, &deeds[..count]);
     go_down(memory, table);
     done
 }
@@ -84,14 +88,14 @@ pub(crate) fn stop<D: Disk>(
             go_down(memory, table);
             Ok(0)
         }
-        None => match deeds_of(alloc, memory, table, request) {
-            Ok(deeds) => {
+        None => match ready_deeds(alloc, memory, table, request) {
+            Ok((deeds, mut ready)) => {
                 let count = keep.min(deeds.len() as u64);
                 match stop_behind(
-                    alloc,
                     disk,
                     memory,
                     table,
+                    &mut ready,
                     request,
                     deeds.as_slice(),
                     count as usize,

@@ -1,5 +1,5 @@
 //! A node over a disk in memory is cut between two disk calls of a request.
-ghost use Rattle.std.specs.Prelude.{◌≡◌, ◌≢◌, ◌≤◌, ◌==◌, ℕ, true, false, None, Some, List, map, OnOk, OnErr};
+ghost use Rattle.std.specs.Prelude.{◌≡◌, ◌≢◌, ◌≤◌, ◌==◌, ℕ, true, false, None, Some, List, length, map, OnOk, OnErr};
 ghost use Rattle.std.specs.List.{list_any};
 ghost use Rattle.qj_disk.specs.Files.{IsSame};
 ghost use Rattle.qj_disk.specs.View.{AllLeave};
@@ -13,15 +13,17 @@ ghost use Rattle.segment_file.specs.Effects.{choice_of, IsLeft};
 ghost use Rattle.segment_file.specs.Rows.{RowsRise};
 ghost use Rattle.node_deeds.specs.Told.{Tells, state_with};
 ghost use Rattle.node_deeds.specs.Due.{AreDue};
-ghost use Rattle.journal_node.specs.Done.{effects_by};
+ghost use Rattle.journal_node.specs.Doing.{HasFrame};
+ghost use Rattle.journal_node.specs.Done.{effects_by, HasRoom};
 ghost use Rattle.journal_node.specs.Node.{BringsEdits, IsUp, IsDown, HasState, IsNode, IsStoppedIn};
 ghost use Rattle.journal_node.specs.Cutting.{deed_cost, state_in, IsSameNodeBut};
 
 use crate::acting::{go_down, look_at};
 use crate::deeds_done::do_deeds;
 use crate::journal_node::JournalNode;
+use crate::readying::{Ready, ready_deeds};
 use journal_core::{Cut, NodeState, OutOfMemory, Request};
-use node_deeds::{Deed, deeds_of};
+use node_deeds::Deed;
 use qj_disk::{Choice, DiskFail, MemDisk};
 use segment_file::SegmentTable;
 use std::alloc::{AllocError, Global};
@@ -142,10 +144,10 @@ fn cut_short(done: Result<(), DiskFail>) -> Result<(), OutOfMemory>
 
 // Does the deeds of a request until the disk stops after so many calls, and crashes.
 fn cut_deeds(
-    alloc: Global,
     disk: &mut MemDisk,
     memory: &mut NodeState,
     table: &mut SegmentTable,
+    ready: &mut Ready,
     request: &Request,
     deeds: &[Deed],
     calls: u64,
@@ -158,6 +160,8 @@ fn cut_deeds(
     requires brings { BringsEdits request.now }
     requires effects { (gs : List Segment) → Tells gs table.old → effects_by request.now deeds.now ≡ effects_of (state_with memory.old gs) request.now }
     requires due { (gs : List Segment) → Tells gs table.old → AreDue gs table.old request.now deeds.now }
+    requires frame { HasFrame request.now ready.old.frame }
+    requires room { HasRoom deeds.now (length table.old) ready.old.room }
 
     ensures node { IsNode (Unit {0}) (disk_view disk.new) memory.new table.new }
     ensures down { memory.new.up ≡ false }
@@ -169,7 +173,7 @@ fn cut_deeds(
     ensures steady { CannotFail disk.new }
 {
     disk.stop_after(calls);
-    let done = do_deeds(alloc, disk, memory, table, request, deeds);
+    let done = do_deeds(disk, memory, table, ready, request, deeds);
     crash_down(disk, memory, table, cut);
     cut_short(done)
 }
@@ -202,14 +206,14 @@ fn cut_in(
             crash_down(disk, memory, table, cut);
             Ok(0)
         }
-        None => match deeds_of(alloc, memory, table, request) {
-            Ok(deeds) => {
+        None => match ready_deeds(alloc, memory, table, request) {
+            Ok((deeds, mut ready)) => {
                 let standing = deeds_standing(deeds.as_slice(), cut, calls);
                 match cut_deeds(
-                    alloc,
                     disk,
                     memory,
                     table,
+                    &mut ready,
                     request,
                     deeds.as_slice(),
                     calls,

@@ -1,7 +1,7 @@
 //! The deeds of a request are done at a node's disk.
-ghost use Rattle.std.specs.Prelude.{◌≡◌, ◌↔◌, ℕ, None, List, Option, map, OnOk, OnErr};
+ghost use Rattle.std.specs.Prelude.{◌≡◌, ◌↔◌, ℕ, None, List, Option, length, map, OnOk, OnErr};
 ghost use Rattle.qj_disk.specs.View.{LeavesOnly, AllLeave};
-ghost use Rattle.qj_disk.specs.Calls.{HasCause};
+ghost use Rattle.qj_disk.specs.Calls.{HasCause, HasShortage};
 ghost use Rattle.journal_core.specs.declared.cut.Cut.{Cut};
 ghost use Rattle.journal_core.specs.declared.segment.Segment.{Segment};
 ghost use Rattle.journal_core.specs.declared.node_state.NodeState.{NodeState as AnyState};
@@ -11,15 +11,16 @@ ghost use Rattle.journal_core.specs.Cuts.{cost_of};
 ghost use Rattle.segment_file.specs.Effects.{IsCounted};
 ghost use Rattle.node_deeds.specs.Told.{Tells, state_with};
 ghost use Rattle.node_deeds.specs.Due.{AreDue};
+ghost use Rattle.journal_node.specs.Doing.{HasFrame};
 ghost use Rattle.journal_node.specs.Held.{IsHeld, OpenedAt, StandsStopped};
-ghost use Rattle.journal_node.specs.Done.{effects_by, CanDoAll, EndOpen, LeftStopped, KeepCosts, calls_of, IsCutAmong};
+ghost use Rattle.journal_node.specs.Done.{effects_by, CanDoAll, HasRoom, EndOpen, LeftStopped, KeepCosts, calls_of, IsCutAmong};
 
 use crate::doing::do_deed;
+use crate::readying::Ready;
 use journal_core::{NodeState, Request};
 use node_deeds::Deed;
 use qj_disk::{Disk, DiskFail};
 use segment_file::SegmentTable;
-use std::alloc::Global;
 
 /// Does the deeds of a request at the disk in order, and stops at the first that fails. Each is due where
 /// those before it were done, and the request passes no limit. On a disk that tells its bytes, its files,
@@ -27,18 +28,20 @@ use std::alloc::Global;
 /// any moment leaves files that stand for the state behind the first deeds, some number of them, and once
 /// this answered Ok only behind all, which memory and the table then tell too. An `Err` leaves a table that
 /// has a row of each segment of which the files tell. `Failed` comes where the disk failed, `OutOfMemory`
-/// for want of memory. Nothing is read.
+/// where the disk wanted memory: what the deeds themselves want was taken before. Nothing is read.
 pub fn do_deeds<D: Disk>(
-    alloc: Global,
     disk: &mut D,
     memory: &mut NodeState,
     table: &mut SegmentTable,
+    ready: &mut Ready,
     request: &Request,
     deeds: &[Deed],
 ) -> Result<(), DiskFail>
     requires limits { limit_of request.now ≡ None }
     requires due { (gs : List Segment) × Tells gs table.old × AreDue gs table.old request.now deeds.now }
     requires held { D.tells disk.old → (s : AnyState) × CanDoAll (D.view disk.old) memory.old table.old s request.now deeds.now }
+    requires frame { HasFrame request.now ready.old.frame }
+    requires room { HasRoom deeds.now (length table.old) ready.old.room }
 
     ensures tells { D.tells disk.old ↔ D.tells disk.new }
     ensures rows { (gs : List Segment) × Tells gs table.new }
@@ -61,9 +64,10 @@ pub fn do_deeds<D: Disk>(
         → IsCutAmong s (effects_by request.now deeds.now) (D.left disk.old) result (D.view disk.new) table.new }
     ensures reads { D.reads disk.new ≡ D.reads disk.old }
     ensures cause { HasCause (D.faults disk.old) (D.faults disk.new) (D.steady disk.old) (D.steady disk.new) result }
+    ensures shortage { HasShortage (D.shortages disk.old) (D.shortages disk.new) result }
 {
     for deed in deeds {
-        do_deed(alloc, disk, memory, table, request, *deed)?;
+        do_deed(disk, memory, table, ready, request, *deed)?;
     }
     Ok(())
 }

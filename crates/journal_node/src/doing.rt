@@ -1,7 +1,7 @@
 //! A deed is done at a node's disk.
-ghost use Rattle.std.specs.Prelude.{◌≡◌, ◌⊎◌, ◌↔◌, ℕ, [], None, List, Option, MatchOption, IsErrOf, OnOk, OnErr};
+ghost use Rattle.std.specs.Prelude.{◌≡◌, ◌⊎◌, ◌↔◌, ◌≤◌, ◌<◌, ℕ, [], None, List, Option, MatchOption, length, true, false, IsErrOf, OnOk, OnErr};
 ghost use Rattle.qj_disk.specs.View.{AllLeave};
-ghost use Rattle.qj_disk.specs.Calls.{HasCause};
+ghost use Rattle.qj_disk.specs.Calls.{HasCause, HasShortage};
 ghost use Rattle.small_files.specs.Answers.{put_result};
 ghost use Rattle.journal_core.specs.declared.cut.Cut.{Cut};
 ghost use Rattle.journal_core.specs.declared.segment.Segment.{Segment};
@@ -12,11 +12,12 @@ ghost use Rattle.journal_core.specs.Cuts.{cost_of};
 ghost use Rattle.segment_file.specs.Effects.{IsCounted};
 ghost use Rattle.node_files.specs.Deeds.{Does, IsCutAt};
 ghost use Rattle.node_deeds.specs.Told.{Tells};
-ghost use Rattle.node_deeds.specs.Due.{batch_of, effect_of, IsDue, IsInRange};
+ghost use Rattle.node_deeds.specs.Due.{batch_of, effect_of, puts_row, IsDue, IsInRange};
 ghost use Rattle.journal_node.specs.FileState.{Covers, without_segments};
 ghost use Rattle.journal_node.specs.Held.{IsHeld, OpenedAt, MayLeave, numbers_after, Opens, Spares};
-ghost use Rattle.journal_node.specs.Doing.{place_after, CanDo, DoesDeed, IsNoted, NotedAtFault};
+ghost use Rattle.journal_node.specs.Doing.{place_after, HasFrame, CanDo, DoesDeed, IsNoted, NotedAtFault};
 
+use crate::readying::Ready;
 use journal_core::{Batch, NodeState, Request, SegmentInfo, SegmentLine};
 use node_deeds::{Deed, apply, note};
 use node_files::{
@@ -24,9 +25,8 @@ use node_files::{
     remove_segment,
 };
 use qj_disk::{Disk, DiskFail};
-use segment_file::{Appended, SegmentTable};
+use segment_file::{Appended, RowRoom, SegmentTable};
 use small_files::Put;
-use std::alloc::Global;
 
 // A put as the result of a disk call.
 fn outcome(put: Put) -> Result<(), DiskFail>
@@ -52,6 +52,7 @@ pub(crate) fn batch_in(request: &Request) -> Option<&Batch>
 // Notes a deed in the table.
 fn note_row(
     table: &mut SegmentTable,
+    room: &mut RowRoom,
     request: &Request,
     deed: Deed,
     place: u64,
@@ -62,8 +63,11 @@ fn note_row(
     ensures noted { IsNoted request.now deed result table.old table.new }
     ensures err { OnErr result (table.new ≡ table.old) }
     ensures cause { IsErrOf result DiskFail.Failed → ⊥ }
+    ensures shortage { (puts_row deed ≡ true → length table.old < room.old) → IsErrOf result DiskFail.OutOfMemory → ⊥ }
+    ensures room { puts_row deed ≡ false → room.new ≡ room.old }
+    ensures fewer { puts_row deed ≡ false → length table.new ≤ length table.old }
 {
-    apply(table, request, deed, place)?;
+    apply(table, room, request, deed, place)?;
     Ok(())
 }
 
@@ -85,8 +89,10 @@ fn do_number<D: Disk>(
         → DoesDeed s request.now (Deed.Number number value) result (D.view disk.old) (D.view disk.new) (D.left disk.old) (D.left disk.new) }
     ensures left { D.tells disk.old → (s : AnyState) → CanDo (D.view disk.old) (without_segments s) table.old s request.now (Deed.Number number value)
         → AllLeave (D.view disk.new) (MayLeave table.new s (after_effect s (effect_of request.now (Deed.Number number value)))) }
+    ensures fewer { length table.new ≤ length table.old }
     ensures reads { D.reads disk.new ≡ D.reads disk.old }
     ensures cause { HasCause (D.faults disk.old) (D.faults disk.new) (D.steady disk.old) (D.steady disk.new) result }
+    ensures shortage { HasShortage (D.shortages disk.old) (D.shortages disk.new) result }
 {
     let (_, _) = (table, request);
     outcome(put_number(disk, number, value))
@@ -95,12 +101,14 @@ fn do_number<D: Disk>(
 fn do_begin<D: Disk>(
     disk: &mut D,
     table: &mut SegmentTable,
+    room: &mut RowRoom,
     request: &Request,
     start: u64,
     epoch: u64,
 ) -> Result<(), DiskFail>
     requires limits { limit_of request.now ≡ None }
     requires due { (gs : List Segment) × Tells gs table.old × IsDue gs table.old request.now (Deed.Begin start epoch) }
+    requires room { length table.old < room.old }
 
     ensures tells { D.tells disk.old ↔ D.tells disk.new }
     ensures noted { IsNoted request.now (Deed.Begin start epoch) result table.old table.new }
@@ -111,16 +119,17 @@ fn do_begin<D: Disk>(
         → AllLeave (D.view disk.new) (MayLeave table.new s (after_effect s (effect_of request.now (Deed.Begin start epoch)))) }
     ensures reads { D.reads disk.new ≡ D.reads disk.old }
     ensures cause { HasCause (D.faults disk.old) (D.faults disk.new) (D.steady disk.old) (D.steady disk.new) result }
+    ensures shortage { HasShortage (D.shortages disk.old) (D.shortages disk.new) result }
 {
-    note_row(table, request, Deed::Begin { start, epoch }, 0)?;
+    note_row(table, room, request, Deed::Begin { start, epoch }, 0)?;
     outcome(begin_segment(disk, start, epoch))
 }
 
 // The batch is that of the request.
 fn append_batch<D: Disk>(
-    alloc: Global,
     disk: &mut D,
     table: &mut SegmentTable,
+    ready: &mut Ready,
     request: &Request,
     start: u64,
     at: u64,
@@ -130,20 +139,31 @@ fn append_batch<D: Disk>(
     requires batch_is { batch.now ≡ batch_of request.now }
     requires due { (gs : List Segment) × Tells gs table.old × IsDue gs table.old request.now (Deed.Append start at) }
     requires can { D.tells disk.old → (s : AnyState) × CanDo (D.view disk.old) (without_segments s) table.old s request.now (Deed.Append start at) }
+    requires frame { HasFrame request.now ready.old.frame }
 
     ensures tells { D.tells disk.old ↔ D.tells disk.new }
+    ensures frame { HasFrame request.now ready.new.frame }
     ensures noted { IsNoted request.now (Deed.Append start at) result table.old table.new }
     ensures fault { IsErrOf result DiskFail.Failed → NotedAtFault request.now (Deed.Append start at) table.old table.new }
     ensures does { D.tells disk.old → (s : AnyState) → CanDo (D.view disk.old) (without_segments s) table.old s request.now (Deed.Append start at)
         → DoesDeed s request.now (Deed.Append start at) result (D.view disk.old) (D.view disk.new) (D.left disk.old) (D.left disk.new) }
     ensures left { D.tells disk.old → (s : AnyState) → CanDo (D.view disk.old) (without_segments s) table.old s request.now (Deed.Append start at)
         → AllLeave (D.view disk.new) (MayLeave table.new s (after_effect s (effect_of request.now (Deed.Append start at)))) }
+    ensures room { ready.new.room ≡ ready.old.room }
+    ensures fewer { length table.new ≤ length table.old }
     ensures reads { D.reads disk.new ≡ D.reads disk.old }
     ensures cause { HasCause (D.faults disk.old) (D.faults disk.new) (D.steady disk.old) (D.steady disk.new) result }
+    ensures shortage { HasShortage (D.shortages disk.old) (D.shortages disk.new) result }
 {
-    match append_edits(alloc, disk, start, at, batch) {
+    match append_edits(disk, start, at, batch, &ready.frame) {
         Appended::Done { at: place } => {
-            note_row(table, request, Deed::Append { start, at }, place)
+            note_row(
+                table,
+                &mut ready.room,
+                request,
+                Deed::Append { start, at },
+                place,
+            )
         }
         Appended::DiskFault => Err(DiskFail::Failed),
         Appended::OutOfMemory => Err(DiskFail::OutOfMemory),
@@ -152,9 +172,9 @@ fn append_batch<D: Disk>(
 
 // A deed without its batch isn't due.
 fn do_append<D: Disk>(
-    alloc: Global,
     disk: &mut D,
     table: &mut SegmentTable,
+    ready: &mut Ready,
     request: &Request,
     start: u64,
     at: u64,
@@ -162,28 +182,33 @@ fn do_append<D: Disk>(
     requires limits { limit_of request.now ≡ None }
     requires due { (gs : List Segment) × Tells gs table.old × IsDue gs table.old request.now (Deed.Append start at) }
     requires can { D.tells disk.old → (s : AnyState) × CanDo (D.view disk.old) (without_segments s) table.old s request.now (Deed.Append start at) }
+    requires frame { HasFrame request.now ready.old.frame }
 
     ensures tells { D.tells disk.old ↔ D.tells disk.new }
+    ensures frame { HasFrame request.now ready.new.frame }
     ensures noted { IsNoted request.now (Deed.Append start at) result table.old table.new }
     ensures fault { IsErrOf result DiskFail.Failed → NotedAtFault request.now (Deed.Append start at) table.old table.new }
     ensures does { D.tells disk.old → (s : AnyState) → CanDo (D.view disk.old) (without_segments s) table.old s request.now (Deed.Append start at)
         → DoesDeed s request.now (Deed.Append start at) result (D.view disk.old) (D.view disk.new) (D.left disk.old) (D.left disk.new) }
     ensures left { D.tells disk.old → (s : AnyState) → CanDo (D.view disk.old) (without_segments s) table.old s request.now (Deed.Append start at)
         → AllLeave (D.view disk.new) (MayLeave table.new s (after_effect s (effect_of request.now (Deed.Append start at)))) }
+    ensures room { ready.new.room ≡ ready.old.room }
+    ensures fewer { length table.new ≤ length table.old }
     ensures reads { D.reads disk.new ≡ D.reads disk.old }
     ensures cause { HasCause (D.faults disk.old) (D.faults disk.new) (D.steady disk.old) (D.steady disk.new) result }
+    ensures shortage { HasShortage (D.shortages disk.old) (D.shortages disk.new) result }
 {
     match batch_in(request) {
-        Some(batch) => append_batch(alloc, disk, table, request, start, at, batch),
+        Some(batch) => append_batch(disk, table, ready, request, start, at, batch),
         None => Err(DiskFail::OutOfMemory),
     }
 }
 
 // The batch is that of the request.
 fn accept_batch<D: Disk>(
-    alloc: Global,
     disk: &mut D,
     table: &mut SegmentTable,
+    ready: &mut Ready,
     request: &Request,
     epoch: u64,
     batch: &Batch,
@@ -193,8 +218,11 @@ fn accept_batch<D: Disk>(
     requires batch_is { batch.now ≡ batch_of request.now }
     requires due { (gs : List Segment) × Tells gs table.old × IsDue gs table.old request.now (Deed.Accept epoch again) }
     requires can { D.tells disk.old → (s : AnyState) × CanDo (D.view disk.old) (without_segments s) table.old s request.now (Deed.Accept epoch again) }
+    requires frame { HasFrame request.now ready.old.frame }
+    requires room { length table.old < ready.old.room }
 
     ensures tells { D.tells disk.old ↔ D.tells disk.new }
+    ensures frame { HasFrame request.now ready.new.frame }
     ensures noted { IsNoted request.now (Deed.Accept epoch again) result table.old table.new }
     ensures fault { IsErrOf result DiskFail.Failed → NotedAtFault request.now (Deed.Accept epoch again) table.old table.new }
     ensures does { D.tells disk.old → (s : AnyState) → CanDo (D.view disk.old) (without_segments s) table.old s request.now (Deed.Accept epoch again)
@@ -203,16 +231,23 @@ fn accept_batch<D: Disk>(
         → AllLeave (D.view disk.new) (MayLeave table.new s (after_effect s (effect_of request.now (Deed.Accept epoch again)))) }
     ensures reads { D.reads disk.new ≡ D.reads disk.old }
     ensures cause { HasCause (D.faults disk.old) (D.faults disk.new) (D.steady disk.old) (D.steady disk.new) result }
+    ensures shortage { HasShortage (D.shortages disk.old) (D.shortages disk.new) result }
 {
-    note_row(table, request, Deed::Accept { epoch, again }, 0)?;
-    outcome(accept_edits(alloc, disk, epoch, batch, again))
+    note_row(
+        table,
+        &mut ready.room,
+        request,
+        Deed::Accept { epoch, again },
+        0,
+    )?;
+    outcome(accept_edits(disk, epoch, batch, again, &mut ready.frame))
 }
 
 // A deed without its batch isn't due.
 fn do_accept<D: Disk>(
-    alloc: Global,
     disk: &mut D,
     table: &mut SegmentTable,
+    ready: &mut Ready,
     request: &Request,
     epoch: u64,
     again: bool,
@@ -220,8 +255,11 @@ fn do_accept<D: Disk>(
     requires limits { limit_of request.now ≡ None }
     requires due { (gs : List Segment) × Tells gs table.old × IsDue gs table.old request.now (Deed.Accept epoch again) }
     requires can { D.tells disk.old → (s : AnyState) × CanDo (D.view disk.old) (without_segments s) table.old s request.now (Deed.Accept epoch again) }
+    requires frame { HasFrame request.now ready.old.frame }
+    requires room { length table.old < ready.old.room }
 
     ensures tells { D.tells disk.old ↔ D.tells disk.new }
+    ensures frame { HasFrame request.now ready.new.frame }
     ensures noted { IsNoted request.now (Deed.Accept epoch again) result table.old table.new }
     ensures fault { IsErrOf result DiskFail.Failed → NotedAtFault request.now (Deed.Accept epoch again) table.old table.new }
     ensures does { D.tells disk.old → (s : AnyState) → CanDo (D.view disk.old) (without_segments s) table.old s request.now (Deed.Accept epoch again)
@@ -230,9 +268,10 @@ fn do_accept<D: Disk>(
         → AllLeave (D.view disk.new) (MayLeave table.new s (after_effect s (effect_of request.now (Deed.Accept epoch again)))) }
     ensures reads { D.reads disk.new ≡ D.reads disk.old }
     ensures cause { HasCause (D.faults disk.old) (D.faults disk.new) (D.steady disk.old) (D.steady disk.new) result }
+    ensures shortage { HasShortage (D.shortages disk.old) (D.shortages disk.new) result }
 {
     match batch_in(request) {
-        Some(batch) => accept_batch(alloc, disk, table, request, epoch, batch, again),
+        Some(batch) => accept_batch(disk, table, ready, request, epoch, batch, again),
         None => Err(DiskFail::OutOfMemory),
     }
 }
@@ -240,6 +279,7 @@ fn do_accept<D: Disk>(
 fn do_finalize<D: Disk>(
     disk: &mut D,
     table: &mut SegmentTable,
+    room: &mut RowRoom,
     request: &Request,
     start: u64,
     end: u64,
@@ -256,8 +296,11 @@ fn do_finalize<D: Disk>(
         → DoesDeed s request.now (Deed.Finalize start end accepted) result (D.view disk.old) (D.view disk.new) (D.left disk.old) (D.left disk.new) }
     ensures left { D.tells disk.old → (s : AnyState) → CanDo (D.view disk.old) (without_segments s) table.old s request.now (Deed.Finalize start end accepted)
         → AllLeave (D.view disk.new) (MayLeave table.new s (after_effect s (effect_of request.now (Deed.Finalize start end accepted)))) }
+    ensures room { room.new ≡ room.old }
+    ensures fewer { length table.new ≤ length table.old }
     ensures reads { D.reads disk.new ≡ D.reads disk.old }
     ensures cause { HasCause (D.faults disk.old) (D.faults disk.new) (D.steady disk.old) (D.steady disk.new) result }
+    ensures shortage { HasShortage (D.shortages disk.old) (D.shortages disk.new) result }
 {
     let deed = Deed::Finalize {
         start,
@@ -265,7 +308,7 @@ fn do_finalize<D: Disk>(
         accepted,
     };
     match finalize_segment(disk, start, end, accepted) {
-        Put::Done => note_row(table, request, deed, 0),
+        Put::Done => note_row(table, room, request, deed, 0),
         failed => outcome(failed),
     }
 }
@@ -273,6 +316,7 @@ fn do_finalize<D: Disk>(
 fn do_remove<D: Disk>(
     disk: &mut D,
     table: &mut SegmentTable,
+    room: &mut RowRoom,
     request: &Request,
     info: SegmentInfo,
 ) -> Result<(), DiskFail>
@@ -287,8 +331,11 @@ fn do_remove<D: Disk>(
         → DoesDeed s request.now (Deed.Remove info) result (D.view disk.old) (D.view disk.new) (D.left disk.old) (D.left disk.new) }
     ensures left { D.tells disk.old → (s : AnyState) → CanDo (D.view disk.old) (without_segments s) table.old s request.now (Deed.Remove info)
         → AllLeave (D.view disk.new) (MayLeave table.new s (after_effect s (effect_of request.now (Deed.Remove info)))) }
+    ensures room { room.new ≡ room.old }
+    ensures fewer { length table.new ≤ length table.old }
     ensures reads { D.reads disk.new ≡ D.reads disk.old }
     ensures cause { HasCause (D.faults disk.old) (D.faults disk.new) (D.steady disk.old) (D.steady disk.new) result }
+    ensures shortage { HasShortage (D.shortages disk.old) (D.shortages disk.new) result }
 {
     let _rows = table.as_slice();
     let line = SegmentLine {
@@ -298,44 +345,57 @@ fn do_remove<D: Disk>(
         epoch: info.epoch,
     };
     match remove_segment(disk, &line, info.accepted) {
-        Put::Done => note_row(table, request, Deed::Remove { info }, 0),
+        Put::Done => note_row(table, room, request, Deed::Remove { info }, 0),
         failed => outcome(failed),
     }
 }
 
 // The calls of a deed, which is noted in the table.
 fn do_calls<D: Disk>(
-    alloc: Global,
     disk: &mut D,
     table: &mut SegmentTable,
+    ready: &mut Ready,
     request: &Request,
     deed: Deed,
 ) -> Result<(), DiskFail>
     requires limits { limit_of request.now ≡ None }
     requires due { (gs : List Segment) × Tells gs table.old × IsDue gs table.old request.now deed }
     requires can { D.tells disk.old → (s : AnyState) × CanDo (D.view disk.old) (without_segments s) table.old s request.now deed }
+    requires frame { HasFrame request.now ready.old.frame }
+    requires room { puts_row deed ≡ true → length table.old < ready.old.room }
 
     ensures tells { D.tells disk.old ↔ D.tells disk.new }
+    ensures frame { HasFrame request.now ready.new.frame }
     ensures noted { IsNoted request.now deed result table.old table.new }
     ensures fault { IsErrOf result DiskFail.Failed → NotedAtFault request.now deed table.old table.new }
     ensures does { D.tells disk.old → (s : AnyState) → CanDo (D.view disk.old) (without_segments s) table.old s request.now deed
         → DoesDeed s request.now deed result (D.view disk.old) (D.view disk.new) (D.left disk.old) (D.left disk.new) }
     ensures left { D.tells disk.old → (s : AnyState) → CanDo (D.view disk.old) (without_segments s) table.old s request.now deed
         → AllLeave (D.view disk.new) (MayLeave table.new s (after_effect s (effect_of request.now deed))) }
+    ensures room { puts_row deed ≡ false → ready.new.room ≡ ready.old.room }
+    ensures fewer { puts_row deed ≡ false → length table.new ≤ length table.old }
     ensures reads { D.reads disk.new ≡ D.reads disk.old }
     ensures cause { HasCause (D.faults disk.old) (D.faults disk.new) (D.steady disk.old) (D.steady disk.new) result }
+    ensures shortage { HasShortage (D.shortages disk.old) (D.shortages disk.new) result }
 {
     match deed {
         Deed::Number { number, value } => do_number(disk, table, request, number, value),
-        Deed::Begin { start, epoch } => do_begin(disk, table, request, start, epoch),
-        Deed::Append { start, at } => do_append(alloc, disk, table, request, start, at),
-        Deed::Accept { epoch, again } => do_accept(alloc, disk, table, request, epoch, again),
+        Deed::Begin { start, epoch } => do_begin(
+            disk,
+            table,
+            &mut ready.room,
+            request,
+            start,
+            epoch,
+        ),
+        Deed::Append { start, at } => do_append(disk, table, ready, request, start, at),
+        Deed::Accept { epoch, again } => do_accept(disk, table, ready, request, epoch, again),
         Deed::Finalize {
             start,
             end,
             accepted,
-        } => do_finalize(disk, table, request, start, end, accepted),
-        Deed::Remove { info } => do_remove(disk, table, request, info),
+        } => do_finalize(disk, table, &mut ready.room, request, start, end, accepted),
+        Deed::Remove { info } => do_remove(disk, table, &mut ready.room, request, info),
     }
 }
 
@@ -344,20 +404,24 @@ fn do_calls<D: Disk>(
 /// files, memory and the table hold a state. A crash at any moment leaves files that stand for the state
 /// without the deed or with it, and once this answered Ok only with it, which memory and the table then
 /// tell too. An `Err` leaves memory as it was, and a table that has a row of each segment, whichever of
-/// the two the files stand for. `Failed` comes where the disk failed, `OutOfMemory` for want of memory.
+/// the two the files stand for. `Failed` comes where the disk failed, `OutOfMemory` where the disk wanted
+/// memory: what the deed itself wants was taken before, and a deed that may put a row has room for it.
 pub fn do_deed<D: Disk>(
-    alloc: Global,
     disk: &mut D,
     memory: &mut NodeState,
     table: &mut SegmentTable,
+    ready: &mut Ready,
     request: &Request,
     deed: Deed,
 ) -> Result<(), DiskFail>
     requires limits { limit_of request.now ≡ None }
     requires due { (gs : List Segment) × Tells gs table.old × IsDue gs table.old request.now deed }
     requires held { D.tells disk.old → (s : AnyState) × CanDo (D.view disk.old) memory.old table.old s request.now deed }
+    requires frame { HasFrame request.now ready.old.frame }
+    requires room { puts_row deed ≡ true → length table.old < ready.old.room }
 
     ensures tells { D.tells disk.old ↔ D.tells disk.new }
+    ensures frame { HasFrame request.now ready.new.frame }
     ensures noted { IsNoted request.now deed result table.old table.new }
     ensures rows { (gs : List Segment) → Tells gs table.old → IsDue gs table.old request.now deed → OnOk result (Tells (segments_after gs (effect_of request.now deed)) table.new) }
     ensures told { (gs : List Segment) → Tells gs table.old → IsDue gs table.old request.now deed → Tells gs table.new ⊎ Tells (segments_after gs (effect_of request.now deed)) table.new }
@@ -378,10 +442,13 @@ pub fn do_deed<D: Disk>(
         → (cut : Cut) → IsCounted (cost_of cut s.segments (effect_of request.now deed)).calls (D.left disk.old) (D.left disk.new) result }
     ensures cut { D.tells disk.old → (s : AnyState) → CanDo (D.view disk.old) memory.old table.old s request.now deed
         → IsCutAt (λ cut. cost_of cut s.segments (effect_of request.now deed)) s (after_effect s (effect_of request.now deed)) (D.left disk.old) result (D.view disk.new) }
+    ensures room { puts_row deed ≡ false → ready.new.room ≡ ready.old.room }
+    ensures fewer { puts_row deed ≡ false → length table.new ≤ length table.old }
     ensures reads { D.reads disk.new ≡ D.reads disk.old }
     ensures cause { HasCause (D.faults disk.old) (D.faults disk.new) (D.steady disk.old) (D.steady disk.new) result }
+    ensures shortage { HasShortage (D.shortages disk.old) (D.shortages disk.new) result }
 {
-    do_calls(alloc, disk, table, request, deed)?;
+    do_calls(disk, table, ready, request, deed)?;
     note(memory, deed);
     Ok(())
 }

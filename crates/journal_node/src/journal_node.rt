@@ -1,5 +1,5 @@
 //! A node of the journal over a disk.
-ghost use Rattle.std.specs.Prelude.{◌≡◌, ◌≢◌, ◌≤◌, take, true, false};
+ghost use Rattle.std.specs.Prelude.{◌≡◌, ◌≢◌, ◌≤◌, ◌⊎◌, take, true, false};
 ghost use Rattle.qj_disk.specs.View.{LeavesOnly, AllLeave};
 ghost use Rattle.journal_core.specs.declared.node_state.NodeState.{NodeState as AnyState};
 ghost use Rattle.journal_core.specs.Effects.{after_effects};
@@ -11,7 +11,7 @@ ghost use Rattle.recent_edits.specs.Recent.{AsksRecent, cached_behind, nothing};
 ghost use Rattle.journal_node.specs.Acted.{IsActed};
 ghost use Rattle.journal_node.specs.FileState.{state_of};
 ghost use Rattle.journal_node.specs.Held.{StandsStopped};
-ghost use Rattle.journal_node.specs.Node.{IsUp, IsNoFault, told_state};
+ghost use Rattle.journal_node.specs.Node.{IsUp, IsNoFault, IsUnchanged, told_state};
 ghost use Rattle.journal_node.specs.Opening.{StandsAsBefore};
 
 use crate::acting::{answer, go_down};
@@ -55,9 +55,9 @@ impl<D: Disk> JournalNode<D> {
         self.disk
     }
 
-    /// Answers one request. The reply is found before anything is done: want of memory for it changes
-    /// nothing. Where the disk fails, or where memory is wanted among the durable effects, the node goes
-    /// down. A crash at any moment of the call leaves files that stand for the state behind the first of
+    /// Answers one request. The reply is found before anything is done, and what the durable effects want of
+    /// memory is taken before the first of them: want of it is answered OutOfMemory and changes nothing. Where
+    /// the disk fails, or a disk call of the effects wants memory, the node goes down. A crash at any moment of the call leaves files that stand for the state behind the first of
     /// the request's effects, some number of them, and one behind an answer that is neither DiskFault nor
     /// OutOfMemory leaves all of them. Of a node that is down no disk call is made, and a read or a fetch of
     /// the cached segment's newest edits reads no file.
@@ -73,6 +73,7 @@ impl<D: Disk> JournalNode<D> {
         ensures later { D.faults self.old.disk ≤ D.faults self.new.disk }
         ensures fault { result ≡ Reply.Refused Refusal.DiskFault → Rose (D.faults self.old.disk) (D.faults self.new.disk) }
         ensures steady { D.steady self.old.disk → D.steady self.new.disk × (result ≢ Reply.Refused Refusal.DiskFault) }
+        ensures spared { result ≡ Reply.Refused Refusal.OutOfMemory → Rose (D.shortages self.old.disk) (D.shortages self.new.disk) ⊎ IsUnchanged (D.tells self.old.disk) (D.view self.old.disk) (D.view self.new.disk) self.old.memory self.new.memory self.old.rows self.new.rows self.old.recent self.new.recent }
     {
         answer(
             alloc,

@@ -14,6 +14,7 @@ mod following;
 mod journal_node;
 mod node_opening;
 mod open_fail;
+mod readying;
 mod state_examples;
 mod state_laws;
 
@@ -22,6 +23,7 @@ pub use doing::do_deed;
 pub use doing_laws::{appends_are_within, costs_are_kept};
 pub use journal_node::JournalNode;
 pub use open_fail::OpenFail;
+pub use readying::{Ready, ready_deeds};
 pub use state_examples::{
     a_number_file_is_read, no_files_are_a_fresh_node, segment_files_are_read,
 };

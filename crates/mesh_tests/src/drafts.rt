@@ -1,7 +1,9 @@
 //! Meshes line by line.
 use journal_core::{OutOfMemory, Reply, Request, SharedRequest};
 use mesh::{HistoryTable, Mesh, RecordTable};
-use node_history::{ActorPlan, HistoryLine, HistoryList, NodeAnswer, NodeAsk, Plan, Record, RecordList, Told};
+use node_history::{
+    ActorPlan, HistoryLine, HistoryList, NodeAnswer, NodeAsk, Plan, Record, RecordList, Told,
+};
 use std::alloc::Global;
 
 /// The lists of a mesh that is being written.

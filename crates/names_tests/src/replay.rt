@@ -385,7 +385,7 @@ fn applies(
         return Ok(false);
     }
     let before = seen_at(namespace, path);
-    match apply(alloc, namespace, &edit, 1) {
+    match apply(alloc, namespace, edit, 1) {
         Ok(()) => Ok(true),
         Err(error) => {
             if seen_at(namespace, path) == before {

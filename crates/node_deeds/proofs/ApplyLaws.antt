@@ -3,6 +3,7 @@ use Rattle.std.proofs.Common.{ℕ, ◌≡◌, ◌≤◌, ◌<◌, ◌+◌, ◌-�
 use Rattle.std.proofs.lemmas.Bool.{cond_both, eqb-true}
 use Rattle.std.proofs.lemmas.Bool.Decides.{nat_tests}
 use Rattle.std.proofs.lemmas.Option.{same_Some}
+use Rattle.std.specs.Prelude.{IsSome}
 use Rattle.std.specs.List.{list_any, flat_map}
 use Rattle.journal_core.specs.Views.{BatchView, HeadView, last_txid}
 use Rattle.journal_core.specs.declared.segment.Segment.{Segment}
@@ -146,6 +147,10 @@ start_found start row [] e = absurd (cc)
 start_found start row (other ∷ rows) is =
     cond_both (other.info.start == start) (Some other) (find_row start rows) (λ o. o ≡ Some row → row.info.start ≡ start)
     (λ t e. subst (λ (x : SegmentRow). x.info.start ≡ start) (same_Some other row e) (eqb-true other.info.start start t)) (λ t e. start_found start row rows e) is
+
+-- the row that is found is there by its own start
+pub found_there : (start : ℕ) (row : SegmentRow) (rows : List SegmentRow) → find_row start rows ≡ Some row → IsSome (find_row row.info.start rows)
+found_there start row rows is = subst (λ (n : ℕ). IsSome (find_row n rows)) (sym (start_found start row rows is)) (subst (λ (o : Option SegmentRow). IsSome o) (sym is) refl)
 
 -- an append leaves a row that a table can hold
 pub appended_within : (start end place : ℕ) (row : SegmentRow) (rows : List SegmentRow) → find_row start rows ≡ Some row → IsRowWithin row → start ≤ end + 1 → end ≤ max_number

@@ -94,6 +94,15 @@ IsInRange r (deed.Accept epoch again) = IsNumbered (batch_of r).first
 IsInRange r _ = Unit {0}
 
 -- ## What a deed makes of the rows
+-- it may put a row that isn't there
+abbrev pub puts_row : Deed → Bool
+puts_row (deed.Number number value) = false
+puts_row (deed.Begin start epoch) = true
+puts_row (deed.Append start at) = false
+puts_row (deed.Accept epoch again) = true
+puts_row (deed.Finalize start end accepted) = false
+puts_row (deed.Remove info) = false
+
 abbrev pub begun_row : ℕ → ℕ → SegmentRow
 begun_row start epoch = record { info = record { start = start; end = start - 1; epoch = epoch; is_final = false; accepted = false }; whole_length = 24 }
 

@@ -1,5 +1,5 @@
 //! What a deed that is done makes of the table.
-ghost use Rattle.std.specs.Prelude.{◌≡◌, ◌≤◌, ◌<◌, ◌+◌, ◌^◌, None, List, length, OnOk, OnErr};
+ghost use Rattle.std.specs.Prelude.{◌≡◌, ◌≤◌, ◌<◌, ◌+◌, ◌^◌, None, List, length, true, false, IsOk, OnOk, OnErr};
 ghost use Rattle.std.specs.List.{flat_map};
 ghost use Rattle.journal_core.specs.Views.{last_txid};
 ghost use Rattle.journal_core.specs.declared.segment.Segment.{Segment};
@@ -8,12 +8,12 @@ ghost use Rattle.journal_core.specs.Effects.{segments_after};
 ghost use Rattle.batch_frame.specs.Frames.{entry_bytes, frame_bytes};
 ghost use Rattle.segment_file.specs.Rows.{find_row, IsRowWithin};
 ghost use Rattle.node_deeds.specs.Told.{Tells};
-ghost use Rattle.node_deeds.specs.Due.{batch_of, effect_of, IsDue, IsInRange, IsNumbered, begun_row, accepted_row, appended_row, final_row, changed, rows_after};
+ghost use Rattle.node_deeds.specs.Due.{batch_of, effect_of, IsDue, IsInRange, IsNumbered, begun_row, accepted_row, appended_row, final_row, changed, rows_after, puts_row};
 
 use crate::deed::Deed;
 use journal_core::{Bytes, Request, SegmentInfo};
 use qj_num::OutOfMemory;
-use segment_file::{SegmentRow, SegmentTable};
+use segment_file::{RowRoom, SegmentRow, SegmentTable};
 
 /// Where the frames of a segment file begin, in bytes.
 const HEADER_LENGTH: u64 = 24;
@@ -112,6 +112,8 @@ fn append(table: &mut SegmentTable, start: u64, end: u64, place: u64) -> Result<
     requires small { end ≤ max_number }
     ensures ok { OnOk result (table.new ≡ changed (appended_row end place) (find_row start table.old) table.old) }
     ensures err { OnErr result (table.new ≡ table.old) }
+    ensures fits { IsOk result }
+    ensures long { length table.new ≡ length table.old }
 {
     let row = match table.find(start) {
         Some(row) => *row,
@@ -128,6 +130,8 @@ fn append(table: &mut SegmentTable, start: u64, end: u64, place: u64) -> Result<
 fn make_final(table: &mut SegmentTable, start: u64) -> Result<(), OutOfMemory>
     ensures ok { OnOk result (table.new ≡ changed final_row (find_row start table.old) table.old) }
     ensures err { OnErr result (table.new ≡ table.old) }
+    ensures fits { IsOk result }
+    ensures long { length table.new ≡ length table.old }
 {
     let row = match table.find(start) {
         Some(row) => *row,
@@ -143,6 +147,7 @@ fn make_final(table: &mut SegmentTable, start: u64) -> Result<(), OutOfMemory>
 
 fn apply_by(
     table: &mut SegmentTable,
+    room: &mut RowRoom,
     request: &Request,
     deed: Deed,
     place: u64,
@@ -151,12 +156,15 @@ fn apply_by(
     requires range { IsInRange request.now deed }
     ensures rows { OnOk result (table.new ≡ rows_after request.now deed place table.old) }
     ensures err { OnErr result (table.new ≡ table.old) }
+    ensures fits { (puts_row deed ≡ true → length table.old < room.old) → IsOk result }
+    ensures room { puts_row deed ≡ false → room.new ≡ room.old }
+    ensures fewer { puts_row deed ≡ false → length table.new ≤ length table.old }
 {
     match deed {
         Deed::Number { .. } => Ok(()),
-        Deed::Begin { start, epoch } => table.put(begun_row(start, epoch)),
+        Deed::Begin { start, epoch } => table.put_in(begun_row(start, epoch), room),
         Deed::Append { start, .. } => append(table, start, last_of(request), place),
-        Deed::Accept { epoch, .. } => table.put(accepted_row(request, epoch)),
+        Deed::Accept { epoch, .. } => table.put_in(accepted_row(request, epoch), room),
         Deed::Finalize { start, .. } => make_final(table, start),
         Deed::Remove { info } => {
             table.remove(info.start);
@@ -169,9 +177,11 @@ fn apply_by(
 /// segment's file now end, in bytes, as the append told it; for other deeds it doesn't matter. The request
 /// passes no limit. A segment that begins or is accepted has a start from 1 to 2^62, and a batch that is
 /// appended ends at least at that segment's start less one, as with each deed that is due. An `Err` leaves
-/// the table as it was.
+/// the table as it was, and never comes where a deed that may put a row is given room for these rows and one
+/// more.
 pub fn apply(
     table: &mut SegmentTable,
+    room: &mut RowRoom,
     request: &Request,
     deed: Deed,
     place: u64,
@@ -181,6 +191,9 @@ pub fn apply(
     ensures rows { OnOk result (table.new ≡ rows_after request.now deed place table.old) }
     ensures told { (gs : List Segment) → Tells gs table.old → IsDue gs table.old request.now deed → OnOk result (Tells (segments_after gs (effect_of request.now deed)) table.new) }
     ensures err { OnErr result (table.new ≡ table.old) }
+    ensures fits { (puts_row deed ≡ true → length table.old < room.old) → IsOk result }
+    ensures room { puts_row deed ≡ false → room.new ≡ room.old }
+    ensures fewer { puts_row deed ≡ false → length table.new ≤ length table.old }
 {
-    apply_by(table, request, deed, place)
+    apply_by(table, room, request, deed, place)
 }

@@ -1,4 +1,7 @@
 //! What is done at a node's disk for a request.
+ghost use Rattle.std.specs.Prelude.{◌≡◌};
+ghost use Rattle.node_deeds.specs.Due.{puts_row};
+
 use journal_core::SegmentInfo;
 use node_files::NodeNumber;
 
@@ -37,4 +40,13 @@ pub enum Deed {
     Remove {
         info: SegmentInfo,
     },
+}
+
+impl Deed {
+    /// It may put a row that isn't there.
+    pub fn puts_row(&self) -> bool
+        ensures { result ≡ puts_row self.now }
+    {
+        matches!(self, Deed::Begin { .. } | Deed::Accept { .. })
+    }
 }

@@ -1,6 +1,6 @@
 //! A recovery is accepted.
 ghost use Rattle.std.specs.Prelude.{◌≡◌, ◌↔◌, ◌≤◌, ◌^◌, ℕ, None};
-ghost use Rattle.qj_disk.specs.Calls.{HasCause};
+ghost use Rattle.qj_disk.specs.Calls.{HasCause, HasShortage};
 ghost use Rattle.small_files.specs.Answers.{put_result};
 ghost use Rattle.journal_core.specs.Views.{last_txid};
 ghost use Rattle.journal_core.specs.declared.node_state.NodeState.{NodeState};
@@ -8,36 +8,38 @@ ghost use Rattle.journal_core.specs.Effects.{Replace, after_effect};
 ghost use Rattle.journal_core.specs.Cuts.{accept_cost};
 ghost use Rattle.segment_file.specs.Names.{name_of, FreshRecord};
 ghost use Rattle.segment_file.specs.Effects.{IsCounted};
+ghost use Rattle.segment_file.specs.Calls.{IsFrameOf};
 ghost use Rattle.node_files.specs.Durable.{HoldsState};
 ghost use Rattle.node_files.specs.Deeds.{CanAccept, Does, IsCutAt, KeepsOthers};
 
 use journal_core::Batch;
 use qj_disk::Disk;
-use segment_file::{replace, replace_again};
+use segment_file::{ReadyFrame, replace, replace_again};
 use small_files::Put;
-use std::alloc::Global;
 
 /// Accepts the edits of the batch under this epoch as the segment in progress with its start, in the place
 /// of one that may be there, where no final segment has that start. `again` tells whether the segment's
 /// record already has this epoch: then there are three disk calls, of which the last decides, and else six,
 /// of which the fifth decides. A crash at any moment leaves files that stand for the state with the old
 /// edits or with the accepted ones, and once this answered Done only with these. The temporary file of the
-/// record isn't there. The batch's start and the epoch are from 1 to 2^62. A batch with a body of more than
-/// 4,096 bytes, or of more than 16,384 bodies, is answered `OutOfMemory`, which like `DiskFault` leaves
+/// record isn't there. The batch's start and the epoch are from 1 to 2^62, and the frame was made of the
+/// batch, as it still is. It takes no memory but what the disk takes. `DiskFault` and `OutOfMemory` leave
 /// either.
 pub fn accept_edits<D: Disk>(
-    alloc: Global,
     disk: &mut D,
     epoch: u64,
     batch: &Batch,
     again: bool,
+    frame: &mut ReadyFrame,
 ) -> Put
     requires start { (1 ≤ batch.now.first) × (batch.now.first ≤ 2 ^ 62) }
     requires epoch { (1 ≤ epoch) × (epoch ≤ 2 ^ 62) }
     requires last { last_txid batch.now ≤ 2 ^ 62 }
     requires absent { D.tells disk.old → (D.view disk.old).seen (name_of batch.now.first FreshRecord) ≡ None }
+    requires frame { IsFrameOf batch.now frame.old }
 
     ensures tells { D.tells disk.old ↔ D.tells disk.new }
+    ensures frame { IsFrameOf batch.now frame.new }
     ensures effect { D.tells disk.old → (s : NodeState) → HoldsState (D.view disk.old) s → CanAccept epoch batch.now again s.segments
         → Does s (after_effect s (Replace epoch batch.now)) (put_result result) (D.view disk.old) (D.view disk.new) }
     ensures others { D.tells disk.old → KeepsOthers batch.now.first (D.view disk.old) (D.view disk.new) }
@@ -46,11 +48,12 @@ pub fn accept_edits<D: Disk>(
         → IsCutAt (λ _. accept_cost again) s (after_effect s (Replace epoch batch.now)) (D.left disk.old) (put_result result) (D.view disk.new) }
     ensures reads { D.reads disk.new ≡ D.reads disk.old }
     ensures cause { HasCause (D.faults disk.old) (D.faults disk.new) (D.steady disk.old) (D.steady disk.new) (put_result result) }
+    ensures shortage { HasShortage (D.shortages disk.old) (D.shortages disk.new) (put_result result) }
 {
     prove!(!batch.bodies().is_empty());
     if again {
-        replace_again(alloc, disk, epoch, batch)
+        replace_again(disk, epoch, batch, frame)
     } else {
-        replace(alloc, disk, epoch, batch)
+        replace(disk, epoch, batch, frame)
     }
 }

@@ -1,7 +1,7 @@
 //! Edits are appended to a segment in progress.
 ghost use Rattle.std.specs.Prelude.{◌≡◌, ◌↔◌, ◌≤◌, ◌<◌, ◌+◌, ◌^◌, ◌++◌, ℕ, length, OnOk};
 ghost use Rattle.qj_disk.specs.View.{IsStable};
-ghost use Rattle.qj_disk.specs.Calls.{HasCause};
+ghost use Rattle.qj_disk.specs.Calls.{HasCause, HasShortage};
 ghost use Rattle.journal_core.specs.Views.{last_txid};
 ghost use Rattle.journal_core.specs.declared.segment.Segment.{Segment};
 ghost use Rattle.journal_core.specs.declared.node_state.NodeState.{NodeState};
@@ -11,33 +11,33 @@ ghost use Rattle.batch_frame.specs.Frames.{frame_bytes};
 ghost use Rattle.segment_file.specs.Gate.{IsShut};
 ghost use Rattle.segment_file.specs.Names.{name_of, InProgress};
 ghost use Rattle.segment_file.specs.Effects.{AppendsAt, IsCounted};
-ghost use Rattle.segment_file.specs.Calls.{CanAppend};
+ghost use Rattle.segment_file.specs.Calls.{CanAppend, IsFrameOf};
 ghost use Rattle.segment_file.specs.Answers.{appended_result, TellsPlace};
 ghost use Rattle.node_files.specs.Durable.{HoldsState};
 ghost use Rattle.node_files.specs.Deeds.{Does, IsCutAt, KeepsOthers};
 
 use journal_core::Batch;
 use qj_disk::Disk;
-use segment_file::{Appended, append};
-use std::alloc::Global;
+use segment_file::{Appended, ReadyFrame, append};
 
 /// Appends a batch to the segment in progress with this start, at the offset `at` of its file, where its
 /// whole frames end and a gate stands closed and synced: four disk calls, of which the third decides, and
 /// a crash may undo it until the fourth. Where the batch is next in the segment, a crash at any moment
 /// leaves files that stand for the state without its edits or with them all, and once this answered Done
-/// only with them. The place that is told is where the next frame goes. `start` is from 1 to 2^62. A batch
-/// with a body of more than 4,096 bytes, or of more than 16,384 bodies, is answered `OutOfMemory`, which
-/// like `DiskFault` leaves either.
+/// only with them. The place that is told is where the next frame goes. `start` is from 1 to 2^62, and the
+/// frame was made of the batch. It takes no memory but what the disk takes. `DiskFault` and `OutOfMemory`
+/// leave either.
 pub fn append_edits<D: Disk>(
-    alloc: Global,
     disk: &mut D,
     start: u64,
     at: u64,
     batch: &Batch,
+    frame: &ReadyFrame,
 ) -> Appended
     requires start { (1 ≤ start) × (start ≤ 2 ^ 62) }
     requires small { at < 2 ^ 62 }
     requires last { last_txid batch.now ≤ 2 ^ 62 }
+    requires frame { IsFrameOf batch.now frame.now }
     requires shut { D.tells disk.old → IsShut at ((D.view disk.old).seen (name_of start InProgress)) }
     requires stable { D.tells disk.old → IsStable (name_of start InProgress) (D.view disk.old) }
 
@@ -53,6 +53,7 @@ pub fn append_edits<D: Disk>(
         → IsCutAt append_cost s (after_effect s (Append start batch.now.bodies)) (D.left disk.old) (appended_result result) (D.view disk.new) }
     ensures reads { D.reads disk.new ≡ D.reads disk.old }
     ensures cause { HasCause (D.faults disk.old) (D.faults disk.new) (D.steady disk.old) (D.steady disk.new) (appended_result result) }
+    ensures shortage { HasShortage (D.shortages disk.old) (D.shortages disk.new) (appended_result result) }
 {
-    append(alloc, disk, start, at, batch)
+    append(disk, start, at, batch, frame)
 }

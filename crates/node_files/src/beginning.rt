@@ -1,6 +1,6 @@
 //! A segment begins.
 ghost use Rattle.std.specs.Prelude.{◌≡◌, ◌↔◌, ◌≤◌, ◌^◌, ℕ, OnOk};
-ghost use Rattle.qj_disk.specs.Calls.{HasCause};
+ghost use Rattle.qj_disk.specs.Calls.{HasCause, HasShortage};
 ghost use Rattle.small_files.specs.Answers.{put_result};
 ghost use Rattle.journal_core.specs.declared.node_state.NodeState.{NodeState};
 ghost use Rattle.journal_core.specs.Effects.{NewSegment, after_effect, empty_segment};
@@ -32,6 +32,7 @@ pub fn begin_segment<D: Disk>(disk: &mut D, start: u64, epoch: u64) -> Put
         → IsCutAt (λ _. segment_cost) s (after_effect s (NewSegment start epoch)) (D.left disk.old) (put_result result) (D.view disk.new) }
     ensures reads { D.reads disk.new ≡ D.reads disk.old }
     ensures cause { HasCause (D.faults disk.old) (D.faults disk.new) (D.steady disk.old) (D.steady disk.new) (put_result result) }
+    ensures shortage { HasShortage (D.shortages disk.old) (D.shortages disk.new) (put_result result) }
 {
     create(disk, start, epoch)
 }

@@ -1,6 +1,6 @@
 //! The record of an acceptance that no longer counts is removed.
 ghost use Rattle.std.specs.Prelude.{◌≡◌, ◌↔◌, ◌≤◌, ◌^◌, true, IsSome};
-ghost use Rattle.qj_disk.specs.Calls.{HasCause};
+ghost use Rattle.qj_disk.specs.Calls.{HasCause, HasShortage};
 ghost use Rattle.small_files.specs.Answers.{put_result};
 ghost use Rattle.segment_file.specs.Names.{name_of, Record};
 ghost use Rattle.segment_file.specs.Effects.{IsCounted};
@@ -20,6 +20,7 @@ pub fn clear_record<D: Disk>(disk: &mut D, start: u64, accepted: bool) -> Put
     ensures counts { IsCounted (clear_calls accepted) (D.left disk.old) (D.left disk.new) (put_result result) }
     ensures reads { D.reads disk.new ≡ D.reads disk.old }
     ensures cause { HasCause (D.faults disk.old) (D.faults disk.new) (D.steady disk.old) (D.steady disk.new) (put_result result) }
+    ensures shortage { HasShortage (D.shortages disk.old) (D.shortages disk.new) (put_result result) }
 {
     if !accepted {
         return Put::Done;

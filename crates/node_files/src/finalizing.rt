@@ -1,6 +1,6 @@
 //! A segment becomes final.
 ghost use Rattle.std.specs.Prelude.{◌≡◌, ◌↔◌, ◌≤◌, ◌^◌, true, IsSome};
-ghost use Rattle.qj_disk.specs.Calls.{HasCause};
+ghost use Rattle.qj_disk.specs.Calls.{HasCause, HasShortage};
 ghost use Rattle.small_files.specs.Answers.{put_result};
 ghost use Rattle.journal_core.specs.declared.segment.Segment.{Segment};
 ghost use Rattle.journal_core.specs.declared.node_state.NodeState.{NodeState};
@@ -37,6 +37,7 @@ pub fn finalize_segment<D: Disk>(disk: &mut D, start: u64, end: u64, accepted: b
         → IsCutAt (λ _. name_cost accepted) s (after_effect s (MakeFinal start)) (D.left disk.old) (put_result result) (D.view disk.new) }
     ensures reads { D.reads disk.new ≡ D.reads disk.old }
     ensures cause { HasCause (D.faults disk.old) (D.faults disk.new) (D.steady disk.old) (D.steady disk.new) (put_result result) }
+    ensures shortage { HasShortage (D.shortages disk.old) (D.shortages disk.new) (put_result result) }
 {
     match finalize(disk, start, end) {
         Put::Done => clear_record(disk, start, accepted),

@@ -1,6 +1,6 @@
 //! A number of a node is noted.
 ghost use Rattle.std.specs.Prelude.{◌≡◌, ◌≢◌, ◌↔◌, ◌≤◌, ◌^◌, ℕ, List, None};
-ghost use Rattle.qj_disk.specs.Calls.{HasCause};
+ghost use Rattle.qj_disk.specs.Calls.{HasCause, HasShortage};
 ghost use Rattle.small_files.specs.Puts.{temporary};
 ghost use Rattle.small_files.specs.Answers.{put_result};
 ghost use Rattle.journal_core.specs.declared.segment.Segment.{Segment};
@@ -33,6 +33,7 @@ pub fn put_number<D: Disk>(disk: &mut D, number: NodeNumber, value: u64) -> Put
         → IsCutAt (λ _. number_cost) s (after_effect s (number_effect number value)) (D.left disk.old) (put_result result) (D.view disk.new) }
     ensures reads { D.reads disk.new ≡ D.reads disk.old }
     ensures cause { HasCause (D.faults disk.old) (D.faults disk.new) (D.steady disk.old) (D.steady disk.new) (put_result result) }
+    ensures shortage { HasShortage (D.shortages disk.old) (D.shortages disk.new) (put_result result) }
 {
     NumberFile::put(disk, number.name(), value)
 }

@@ -1,6 +1,6 @@
 //! A segment is removed.
 ghost use Rattle.std.specs.Prelude.{◌≡◌, ◌↔◌, ◌≤◌, ◌^◌, true, IsSome};
-ghost use Rattle.qj_disk.specs.Calls.{HasCause};
+ghost use Rattle.qj_disk.specs.Calls.{HasCause, HasShortage};
 ghost use Rattle.small_files.specs.Answers.{put_result};
 ghost use Rattle.journal_core.specs.declared.segment.Segment.{Segment};
 ghost use Rattle.journal_core.specs.declared.node_state.NodeState.{NodeState};
@@ -40,6 +40,7 @@ pub fn remove_segment<D: Disk>(disk: &mut D, segment: &SegmentLine, accepted: bo
         → IsCutAt (λ _. name_cost accepted) s (after_effect s (Remove segment.now.start)) (D.left disk.old) (put_result result) (D.view disk.new) }
     ensures reads { D.reads disk.new ≡ D.reads disk.old }
     ensures cause { HasCause (D.faults disk.old) (D.faults disk.new) (D.steady disk.old) (D.steady disk.new) (put_result result) }
+    ensures shortage { HasShortage (D.shortages disk.old) (D.shortages disk.new) (put_result result) }
 {
     match discard(disk, segment) {
         Put::Done => clear_record(disk, segment.start, accepted),

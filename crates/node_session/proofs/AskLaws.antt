@@ -1,12 +1,11 @@
 -- What was asked of a node, one line after the other.
-use Rattle.std.proofs.Common.{ℕ, ◌≡◌, ◌≢◌, ◌⊎◌, List, [], ◌∷◌, ◌++◌, Option, Some, None, refl, inl, inr, subst, sym}
+use Rattle.std.proofs.Common.{ℕ, ◌≡◌, ◌⊎◌, List, [], ◌∷◌, ◌++◌, Option, Some, None, refl, inl, inr, subst}
 use Rattle.journal_core.specs.declared.request.Request.{Request}
 use Rattle.journal_core.specs.declared.reply.Reply.{Reply}
 use Rattle.request_text.specs.Reading.{reading_of}
 use Rattle.request_text.specs.declared.request_line.ReadRequest.TheVariants.{Read}
-use Rattle.node_session.specs.Session.{Asks}
 use Rattle.node_session.specs.Answering.{IsToldBy}
-use Rattle.node_session.specs.Asking.{IsAsked, IsAskedWell, AsksThen, AreAsked, IsAskedLast, IsTrail, IsAskedFor}
+use Rattle.node_session.specs.Asking.{IsAsked, IsAskedWell, AreAsked, IsTrail, IsAskedFor}
 use Rattle.node_session.specs.declared.answered.Answered.{Answered}
 use Rattle.node_session.specs.declared.answered.Answered.TheVariants as answered
 use Rattle.node_session.proofs.EndLaws.{IsThis}

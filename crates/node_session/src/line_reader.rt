@@ -76,9 +76,9 @@ fn drop_front(bytes: &mut Vec<u8>, count: usize)
     if count == 0 {
         return;
     }
-    let left = bytes.len() - count;
-    bytes.rotate_left(count);
-    bytes.truncate(left);
+    let length = bytes.len();
+    bytes.copy_within(count..length, 0);
+    bytes.truncate(length - count);
 }
 
 /// Drops so many bytes from the front, and adds these at the end. An `Err` adds none.

@@ -2,6 +2,8 @@
 ghost use Rattle.std.specs.Prelude.{◌≡◌, ◌≢◌, ◌≤◌, ℕ, List, Option, Some, is_some};
 ghost use Rattle.qj_outside.specs.Faults.{Rose};
 ghost use Rattle.journal_core.specs.Answers.{Rose as NodeRose};
+ghost use Rattle.request_text.specs.declared.request_line.ReadRequest.TheVariants.{Bad};
+ghost use Rattle.request_text.specs.Reading.{reading_of};
 ghost use Rattle.node_session.specs.Answering.{IsServedOf};
 ghost use Rattle.node_session.specs.Asking.{IsAskedBy, IsTrail};
 ghost use Rattle.node_session.specs.Session.{IsSessionOf};
@@ -33,6 +35,7 @@ fn serve_line<N: SessionNode, K: Sink>(
     ensures disk_fault { result ≡ Some Served.DiskFault → NodeRose (N.faults node.old) (N.faults node.new) }
     ensures steady { N.steady node.old → N.steady node.new × (result ≢ Some Served.DiskFault) }
     ensures no_read_fault { result ≢ Some Served.ReadFault }
+    ensures memory { (rule : ℕ) → reading_of line.now ≡ Bad rule → rule ≢ 8 → result ≢ Some Served.OutOfMemory }
 {
     match answer_line(alloc, node, line, reply) {
         Answered::Reply => match write_all(sink, reply) {

@@ -11,7 +11,7 @@ use node_deeds::{
     row_refusal, serving_row,
 };
 use node_files::NodeNumber;
-use segment_file::{SegmentRow, SegmentTable};
+use segment_file::{RowRoom, SegmentRow, SegmentTable};
 use std::alloc::Global;
 use std::process::Abort;
 use std::test::Fail;
@@ -115,14 +115,19 @@ fn is_in_range(request: &Request, deed: Deed) -> bool
     }
 }
 
-fn do_deed(table: &mut SegmentTable, request: &Request, deed: Deed) -> Result<(), Fail> {
+fn do_deed(
+    alloc: Global,
+    table: &mut SegmentTable,
+    request: &Request,
+    deed: Deed,
+) -> Result<(), Fail> {
     match request.limit() {
         Some(_) => Err("it passes a limit".into()),
         None => {
             if !is_in_range(request, deed) {
                 return Err("it is out of range".into());
             }
-            apply(table, request, deed, 84)?;
+            apply(table, &mut RowRoom::none(alloc), request, deed, 84)?;
             Ok(())
         }
     }
@@ -136,7 +141,7 @@ fn row_behind(
     start: u64,
 ) -> Result<SegmentRow, Fail> {
     let mut table = table(alloc)?;
-    do_deed(&mut table, request, deed)?;
+    do_deed(alloc, &mut table, request, deed)?;
     Ok(*table.find(start).ok_or("no row")?)
 }
 

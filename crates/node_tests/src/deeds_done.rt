@@ -6,8 +6,8 @@ ghost use Rattle.node_deeds.specs.Told.{Tells};
 
 use crate::texts::request;
 use journal_core::{NodeState, Request};
-use journal_node::do_deeds;
-use node_deeds::{deeds_of, follow};
+use journal_node::{do_deeds, ready_deeds};
+use node_deeds::follow;
 use qj_disk::{Choice, Disk, DiskFail, MemDisk, UntoldDisk};
 use segment_file::SegmentTable;
 use std::alloc::Global;
@@ -50,8 +50,8 @@ fn ask(
     match memory.refused_at_once(request) {
         Some(_) => Err("it is refused at once".into()),
         None => {
-            let deeds = deeds_of(alloc, memory, table, request)?;
-            match do_deeds(alloc, disk, memory, table, request, deeds.as_slice()) {
+            let (deeds, mut ready) = ready_deeds(alloc, memory, table, request)?;
+            match do_deeds(disk, memory, table, &mut ready, request, deeds.as_slice()) {
                 Ok(()) => {
                     follow(memory, request);
                     Ok(true)

@@ -1,5 +1,5 @@
 -- What the world's code does is one step of the world.
-use Rattle.std.proofs.Common.{◌≡◌, ◌≢◌, ℕ, ◌-◌, ◌<◌, ◌≤◌, List, [], ◌∷◌, ◌++◌, Bool, true, false, length, map, refl, sym, ap, ◌∙◌, Option, Some, None, set, get_or, arith, ◌+◌}
+use Rattle.std.proofs.Common.{◌≡◌, ◌≢◌, ℕ, ◌-◌, ◌<◌, ◌≤◌, List, [], ◌∷◌, ◌++◌, Bool, true, false, length, map, refl, sym, ap, ◌∙◌, Option, Some, None, set, get_or, arith}
 use Rattle.std.proofs.lemmas.Bool.{eqb-true, eqb-false, and_parts}
 use Rattle.std.specs.Prelude.{option_map, filter, ◌==◌, if◌then◌else◌}
 use Rattle.std.proofs.Math.ListN.{get_or-map as mapped_at}

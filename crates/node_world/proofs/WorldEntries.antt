@@ -14,12 +14,11 @@ use Rattle.node_history.specs.declared.node_ask.NodeAnswer.{NodeAnswer}
 use Rattle.node_history.specs.declared.node_ask.NodeAnswer.TheVariants.{Replied, Stopped}
 use Rattle.node_history.specs.Cell.{Cell, cell_takes, stopping, heard_of}
 use Rattle.node_history.specs.Entries.{Heard, Muted, Late, Move, Answer, Stop, Kill, Restart, Entry, moved, node_after}
-use Rattle.run_safety.specs.Run.{Story, IsInTurn}
 use Rattle.node_history.specs.Moving.{move_of}
 use Rattle.run_safety.proofs.Entering.{Entered, quiet, answered as entered_answer, cut, entered, Operated, nothing as no_move, killed, again, kills, restarts, arms, Did, still, gone, line_did}
-use Rattle.run_safety.proofs.Fair.{IsFairEntry, IsDue, Sounds}
+use Rattle.run_safety.proofs.Fair.{IsDue, Sounds}
 use Rattle.node_world.specs.World.{World, cell_at, taken_at, node_asked}
-use Rattle.run_safety.proofs.CallLeft.{entry, CallLeft, nothing, unheard, answered, enters_answer, enters_muted, enters_late, enters_stop, Enters, CopyLeft, no_entry, an_entry, OperationLeft, no_change, a_change}
+use Rattle.run_safety.proofs.CallLeft.{entry, CallLeft, nothing, unheard, answered, enters_answer, enters_muted, enters_late, enters_stop, CopyLeft, no_entry, an_entry, OperationLeft, no_change, a_change}
 use Rattle.node_world.proofs.WorldNodes.{entries, Agree, asked_next, asked_still, asked_moved, stopping_state}
 
 -- the node's state is the one that the entries leave

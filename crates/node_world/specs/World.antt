@@ -1,29 +1,27 @@
 -- The journal world, event by event: nodes with their armings, a writer for each actor, and all that reached the nodes.
-use Rattle.std.specs.Prelude.{ℕ, ◌-◌, ◌<◌, ◌≤◌, ◌==◌, ◌&&◌, Bool, true, false, not, nat_lt, List, [], ◌∷◌, ◌++◌, map, filter, replicate, slice_index_or, slice_set, Option, Some, None, if◌then◌else◌}
-use Rattle.std.specs.List.{list_any}
+use Rattle.std.specs.Prelude.{ℕ, ◌-◌, ◌<◌, ◌≤◌, ◌==◌, ◌&&◌, Bool, true, false, List, [], ◌∷◌, ◌++◌, map, filter, replicate, slice_index_or, slice_set, Option, Some, None}
 use Rattle.journal_core.specs.declared.request.Request.{Request}
 use Rattle.journal_core.specs.declared.request.Request.TheVariants as request
 use Rattle.journal_core.specs.declared.heard.Heard.{Heard}
-use Rattle.journal_core.specs.declared.heard.Heard.TheVariants.{Answer, Silent}
+use Rattle.journal_core.specs.declared.heard.Heard.TheVariants.{Silent}
 use Rattle.writer_core.specs.declared.task.Task.{Task}
 use Rattle.writer_core.specs.declared.task.Begun.{Begun}
 use Rattle.writer_core.specs.declared.task.Begun.TheVariants as begun
 use Rattle.writer_core.specs.Views.{WriterView}
-use Rattle.writer_core.specs.Writer.{new_writer, writer_begun, is_under_way, next_call, writer_heard, writer_stopped, HasBody}
+use Rattle.writer_core.specs.Writer.{writer_begun, is_under_way, next_call, writer_heard, writer_stopped, HasBody}
 use Rattle.node_history.specs.declared.event.Fate.{Fate}
 use Rattle.node_history.specs.declared.event.Fate.TheVariants as fate
 use Rattle.node_history.specs.declared.event.Event.{Event}
 use Rattle.node_history.specs.declared.event.Event.TheVariants.{Begin, Call, Late, Kill, Restart, Arm, GiveUp, Checkpoint}
 use Rattle.node_world.specs.declared.seen.Seen.{Seen}
 use Rattle.node_world.specs.declared.seen.Seen.TheVariants as seen
-use Rattle.node_history.specs.declared.stop.Stop.TheVariants.{Effects}
 use Rattle.node_history.specs.declared.node_ask.NodeAsk.{NodeAsk}
 use Rattle.node_history.specs.declared.node_ask.NodeAsk.TheVariants as ask
 use Rattle.node_history.specs.declared.node_ask.NodeAnswer.{NodeAnswer}
 use Rattle.node_history.specs.declared.node_ask.NodeAnswer.TheVariants as answer
 use Rattle.node_history.specs.declared.history_line.HistoryLine.{HistoryLine}
 use Rattle.node_history.specs.Cell.{Cell, fresh_cell, Taken, cell_takes, stopping, heard_of}
-use Rattle.run_safety.specs.Actings.{CallMade, Acting, fresh_acting, was_made}
+use Rattle.run_safety.specs.Actings.{Acting, fresh_acting, was_made}
 use Rattle.node_history.specs.Moving.{Placed}
 use Rattle.node_history.specs.Same.{same_request}
 

@@ -15,7 +15,7 @@ use Rattle.node_history.specs.declared.node_ask.NodeAnswer.{NodeAnswer}
 use Rattle.node_history.specs.NodeCells.{CellView, new_cell, IsTaken, stopping_at}
 use Rattle.node_world.specs.World.{World, history_in, Stepped, world_step, taken_at, node_asked, call_heard, call_reached, with_writer, IsWithin}
 use Rattle.run_safety.specs.Actings.{Acting, fresh_acting}
-use Rattle.node_history.specs.Cell.{stopping, heard_of}
+use Rattle.node_history.specs.Cell.{heard_of}
 
 pub record WorldView : Type 0 where
   pub cells : List CellView

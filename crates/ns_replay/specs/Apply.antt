@@ -108,6 +108,17 @@ apply_op (ConcatDelete target time sources) xs = concat_of target time sources x
 apply_op EndLogSegment xs = xs
 apply_op StartLogSegment xs = xs
 
+-- nothing is added, so that to apply it takes no memory
+abbrev pub is_free : Op → Bool
+is_free (Delete path time) = true
+is_free (SetReplication path replication) = true
+is_free (SetPermissions path permission) = true
+is_free (Times path mtime atime) = true
+is_free (SetQuota path names space) = true
+is_free EndLogSegment = true
+is_free StartLogSegment = true
+is_free _ = false
+
 -- ## An edit at its txid: its call goes into the retry list
 abbrev pub noted_if : Option Call → ℕ → List Noted → List Noted
 noted_if None txid calls = calls

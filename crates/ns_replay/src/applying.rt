@@ -1,11 +1,11 @@
 //! An admitted edit applied: the table of the kinds and what each leaves.
-ghost use Rattle.std.specs.Prelude.{◌≡◌, ◌≤◌, ◌-◌, None, OnOk, OnErr};
+ghost use Rattle.std.specs.Prelude.{◌≡◌, ◌≤◌, ◌-◌, true, None, IsOk, OnOk, OnErr};
 ghost use Rattle.std.specs.List.{AllByRecursion};
 ghost use Rattle.edit_ops.specs.Fields.{IsGood};
 ghost use Rattle.edit_ops.specs.Records.{fields_of};
 ghost use Rattle.ns_tree.specs.Space.{AreRising};
 ghost use Rattle.ns_replay.specs.Admit.{admit_op, admit_of};
-ghost use Rattle.ns_replay.specs.Apply.{apply_op, apply_of};
+ghost use Rattle.ns_replay.specs.Apply.{apply_op, apply_of, is_free};
 
 mod concat;
 mod inodes;
@@ -13,22 +13,25 @@ mod made;
 mod moved;
 mod settings;
 
-use edit_ops::{Edit, NumberList, Op};
+use edit_ops::{Edit, Op};
 use ns_tree::Namespace;
 use qj_num::OutOfMemory;
 use std::alloc::Global;
 
 /// Applies an edit that the namespace admits, as the entry of this txid. All memory is taken before the first
-/// change; after an `Err`, which is want of memory or of room for one more row, all is as before.
-pub fn apply(alloc: Global, ns: &mut Namespace, edit: &Edit, txid: u64) -> Result<(), OutOfMemory>
-    requires admitted { admit_of ns.old edit.now ≡ None }
+/// change; after an `Err`, which is want of memory or of room for one more row, all is as before. Where nothing is added there is
+/// no `Err`.
+pub fn apply(alloc: Global, ns: &mut Namespace, edit: Edit, txid: u64) -> Result<(), OutOfMemory>
+    requires admitted { admit_of ns.old edit ≡ None }
     requires positive { 1 ≤ txid }
     requires later { AreRising 0 (txid - 1) ns.old.calls }
-    ensures ok { OnOk result (ns.new ≡ apply_of ns.old edit.now txid) }
+    ensures ok { OnOk result (ns.new ≡ apply_of ns.old edit txid) }
     ensures err { OnErr result (ns.new ≡ ns.old) }
+    ensures free { is_free edit.op ≡ true → IsOk result }
 {
-    apply_op(alloc, ns, &edit.op)?;
-    match edit.call {
+    let Edit { op, call } = edit;
+    apply_op(alloc, ns, op)?;
+    match call {
         Some(call) => {
             ns.note(call, txid);
             Ok(())
@@ -38,11 +41,12 @@ pub fn apply(alloc: Global, ns: &mut Namespace, edit: &Edit, txid: u64) -> Resul
 }
 
 #[tactic(auto, unfolding(crate::specs::Admit::admit_op, crate::specs::Apply::apply_op))]
-fn apply_op(alloc: Global, ns: &mut Namespace, op: &Op) -> Result<(), OutOfMemory>
-    requires good { AllByRecursion IsGood (fields_of op.now) }
-    requires admitted { admit_op op.now ns.old.pairs ≡ None }
-    ensures ok { OnOk result (ns.new ≡ record ns.old { pairs = apply_op op.now ns.old.pairs }) }
+fn apply_op(alloc: Global, ns: &mut Namespace, op: Op) -> Result<(), OutOfMemory>
+    requires good { AllByRecursion IsGood (fields_of op) }
+    requires admitted { admit_op op ns.old.pairs ≡ None }
+    ensures ok { OnOk result (ns.new ≡ record ns.old { pairs = apply_op op ns.old.pairs }) }
     ensures err { OnErr result (ns.new ≡ ns.old) }
+    ensures free { is_free op ≡ true → IsOk result }
 {
     match op {
         Op::Add {
@@ -57,12 +61,12 @@ fn apply_op(alloc: Global, ns: &mut Namespace, op: &Op) -> Result<(), OutOfMemor
         } => made::add(
             alloc,
             ns,
-            path.as_slice(),
-            *replication,
-            *mtime,
-            *atime,
-            *block_size,
-            *permission,
+            path,
+            replication,
+            mtime,
+            atime,
+            block_size,
+            permission,
             user,
             group,
         ),
@@ -72,57 +76,54 @@ fn apply_op(alloc: Global, ns: &mut Namespace, op: &Op) -> Result<(), OutOfMemor
             permission,
             user,
             group,
-        } => made::mkdir(alloc, ns, path.as_slice(), *time, *permission, user, group),
+        } => made::mkdir(alloc, ns, path, time, permission, user, group),
         Op::Close {
             path,
             mtime,
             atime,
             lengths,
         } => {
-            let lengths = NumberList::of(Vec::from_slice(alloc, lengths.as_slice())?);
-            settings::close(ns, path.as_slice(), *mtime, *atime, lengths);
+            settings::close(ns, path.as_slice(), mtime, atime, lengths);
             Ok(())
         }
         Op::Delete { path, time } => {
-            made::delete(ns, path.as_slice(), *time);
+            made::delete(ns, path.as_slice(), time);
             Ok(())
         }
         Op::RenameOld { src, dst, time } => {
-            moved::rename_old(alloc, ns, src.as_slice(), dst.as_slice(), *time)
+            moved::rename_old(alloc, ns, src.as_slice(), dst.as_slice(), time)
         }
         Op::Rename {
             src,
             dst,
             time,
             overwrite,
-        } => moved::rename(alloc, ns, src.as_slice(), dst.as_slice(), *time, *overwrite),
+        } => moved::rename(alloc, ns, src.as_slice(), dst.as_slice(), time, overwrite),
         Op::SetReplication { path, replication } => {
-            settings::set_replication(ns, path.as_slice(), *replication);
+            settings::set_replication(ns, path.as_slice(), replication);
             Ok(())
         }
         Op::SetPermissions { path, permission } => {
-            settings::set_permissions(ns, path.as_slice(), *permission);
+            settings::set_permissions(ns, path.as_slice(), permission);
             Ok(())
         }
         Op::SetOwner { path, user, group } => {
-            let user = user.copy(alloc)?;
-            let group = group.copy(alloc)?;
             settings::set_owner(ns, path.as_slice(), user, group);
             Ok(())
         }
         Op::Times { path, mtime, atime } => {
-            settings::set_times(ns, path.as_slice(), *mtime, *atime);
+            settings::set_times(ns, path.as_slice(), mtime, atime);
             Ok(())
         }
         Op::SetQuota { path, names, space } => {
-            settings::set_quota(ns, path.as_slice(), *names, *space);
+            settings::set_quota(ns, path.as_slice(), names, space);
             Ok(())
         }
         Op::ConcatDelete {
             target,
             time,
             sources,
-        } => concat::join(alloc, ns, target.as_slice(), *time, sources),
+        } => concat::join(alloc, ns, target.as_slice(), time, &sources),
         Op::EndLogSegment | Op::StartLogSegment => Ok(()),
     }
 }

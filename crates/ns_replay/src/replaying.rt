@@ -1,7 +1,10 @@
 //! The replay of a batch: each body decoded, admitted and applied in order.
-ghost use Rattle.std.specs.Prelude.{◌≡◌, ◌≤◌, ◌-◌, ◌<◌, ◌^◌, Some, IfOk, IfErr, OnOk, OnErr};
+ghost use Rattle.std.specs.Prelude.{◌≡◌, ◌≤◌, ◌-◌, ◌<◌, ◌^◌, ◌≢◌, true, Some, None, Err, IfOk, IfErr, OnOk, OnErr};
 ghost use Rattle.journal_core.specs.Views.{last_txid};
 ghost use Rattle.ns_tree.specs.Space.{AreRising};
+ghost use Rattle.ns_replay.specs.declared.entry_error.EntryError.TheVariants as errors;
+ghost use Rattle.ns_replay.specs.Admit.{admit_of};
+ghost use Rattle.ns_replay.specs.Apply.{is_free};
 ghost use Rattle.ns_replay.specs.Decoded.{decoded};
 ghost use Rattle.ns_replay.specs.Replay.{edit_entered, entered, IsEntryError, IsReplayed};
 
@@ -46,21 +49,23 @@ fn enter(alloc: Global, ns: &mut Namespace, body: &Bytes, txid: u64) -> Result<(
     ensures err { OnErr result (ns.new ≡ ns.old) }
 {
     match edit_of(alloc, body.as_slice())? {
-        Some(edit) => enter_edit(alloc, ns, &edit, txid),
+        Some(edit) => enter_edit(alloc, ns, edit, txid),
         None => Err(EntryError::Bad),
     }
 }
 
-/// Admits and applies an edit; an `Err` changes nothing.
-fn enter_edit(alloc: Global, ns: &mut Namespace, edit: &Edit, txid: u64) -> Result<(), EntryError>
+/// Admits and applies an edit; an `Err` changes nothing. Memory is wanted only for an edit that is admitted, and adds something.
+fn enter_edit(alloc: Global, ns: &mut Namespace, edit: Edit, txid: u64) -> Result<(), EntryError>
     requires positive { 1 ≤ txid }
     requires later { AreRising 0 (txid - 1) ns.old.calls }
-    ensures ok { OnOk result (edit_entered (Some edit.now) txid ns.old ≡ Some ns.new) }
-    ensures why { IfErr result (λ e. IsEntryError e (edit_entered (Some edit.now) txid ns.old)) }
+    ensures ok { OnOk result (edit_entered (Some edit) txid ns.old ≡ Some ns.new) }
+    ensures why { IfErr result (λ e. IsEntryError e (edit_entered (Some edit) txid ns.old)) }
     ensures err { OnErr result (ns.new ≡ ns.old) }
+    ensures memory { result ≡ Err errors.Memory → admit_of ns.old edit ≡ None }
+    ensures free { is_free edit.op ≡ true → result ≢ Err errors.Memory }
 {
-    aim(ns, edit);
-    match admit(ns, edit) {
+    aim(ns, &edit);
+    match admit(ns, &edit) {
         Ok(()) => {
             apply(alloc, ns, edit, txid)?;
             Ok(())

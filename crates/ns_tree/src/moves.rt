@@ -121,5 +121,5 @@ fn path_moved(alloc: Global, path: &[u8], skip: usize, front: &[u8]) -> Result<N
     let skip = skip.min(path.len());
     let mut bytes = Vec::from_slice(alloc, front)?;
     bytes.extend_from_slice(&path[skip..])?;
-    Ok(Name::of(bytes))
+    Name::from_slice(alloc, bytes.as_slice())
 }

@@ -10,7 +10,8 @@ use Rattle.oev_tool.specs.declared.fault.Fault.TheVariants.{Memory, Damage}
 use Rattle.oev_tool.specs.Segment.{IsSegment}
 use Rattle.oev_tool.specs.Damage.{HasNoHeader, IsDamaged, header}
 use Rattle.oev_tool.specs.Listed.{IsTold}
-use Rattle.oev_tool.specs.Places.{Reader, IsFresh, Passes, IsNextEdit, IsRead}
+use Rattle.batch_frame.specs.Segments.{HasHeader}
+use Rattle.oev_tool.specs.Places.{Reader, IsAt, between, within, IsFresh, Passes, IsNextEdit, IsRead}
 use Rattle.oev_tool.specs.Steps.{IsListedSoFar, IsCountedSoFar, IsCounted, GoesOn, IsLineMore, IsOneMore, ListsNext, CountsNext}
 use Rattle.oev_tool.proofs.ListLaws.{statistics_are}
 
@@ -43,6 +44,14 @@ counted_more bytes old new counts total h txid edit p after are sum e = record {
 
 pub no_header_read : (tell : ℕ → List EditView → List ℕ) (bytes : List ℕ) (fault : Fault) → HasNoHeader bytes → fault ≡ Damage 0 Header → IsRead tell bytes (Err fault)
 no_header_read tell bytes fault none e = subst (λ (f : Fault). IsRead tell bytes (Err f)) (sym e) (header none refl refl)
+
+-- a reader stands behind a header
+at_header : (bytes : List ℕ) (start : ℕ) (edits : List EditView) (r : Reader) → IsAt start edits r → r.bytes ≡ bytes → HasNoHeader bytes → ⊥
+at_header bytes start edits r (between b) e none = none start b.begins.epoch (subst (λ z. HasHeader z start b.begins.epoch) e b.begins.header)
+at_header bytes start edits r (within w) e none = none start w.begins.epoch (subst (λ z. HasHeader z start w.begins.epoch) e w.begins.header)
+
+pub fresh_header : (bytes : List ℕ) (r : Reader) → IsFresh bytes r → HasNoHeader bytes → ⊥
+fresh_header bytes r f none = at_header bytes f.start [] r f.at f.same none
 
 pub all_told : {X : Type 0} (tell : ℕ → List EditView → List X) (bytes : List ℕ) (text : List X) (start : ℕ) (edits : List EditView) (old : Reader) → old.bytes ≡ bytes → IsSegment old.bytes start edits
     → text ≡ tell start edits → IsTold tell bytes text

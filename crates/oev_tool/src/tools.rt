@@ -1,12 +1,13 @@
 //! The listings of a segment's file.
-ghost use Rattle.std.specs.Prelude.{◌≡◌, ℕ, List, OnOk};
+ghost use Rattle.std.specs.Prelude.{◌≡◌, ℕ, List, Err, OnOk};
 ghost use Rattle.edit_ops.specs.Records.{EditView};
+ghost use Rattle.oev_tool.specs.declared.fault.Fault.TheVariants.{Damage};
 ghost use Rattle.oev_tool.specs.declared.listing.ByteCause.{ByteCause};
 ghost use Rattle.oev_tool.specs.Lines.{lines};
 ghost use Rattle.oev_tool.specs.Entries.{entry_tokens, entry_lines};
 ghost use Rattle.oev_tool.specs.Counts.{statistics};
 ghost use Rattle.oev_tool.specs.Segment.{IsSegment};
-ghost use Rattle.oev_tool.specs.Damage.{IsDamaged};
+ghost use Rattle.oev_tool.specs.Damage.{HasNoHeader, IsDamaged};
 ghost use Rattle.oev_tool.specs.Listed.{IsListed, GivesText, GivesDamage};
 ghost use Rattle.oev_tool.specs.Places.{IsFresh, IsRead};
 ghost use Rattle.oev_tool.specs.Steps.{IsListedSoFar, ListsNext, IsCountedSoFar, CountsNext};
@@ -105,7 +106,8 @@ fn statistics_of(alloc: Global, mut edits: Edits<'_>) -> Result<Vec<u8>, Fault>
 
 // A line for each edit of the file.
 fn lines_in(alloc: Global, bytes: &[u8]) -> Result<Vec<u8>, Fault>
-    ensures { IsRead lines bytes.now result }
+    ensures read { IsRead lines bytes.now result }
+    ensures header { HasNoHeader bytes.now → result ≡ Err (Damage 0 ByteCause.Header) }
 {
     match Edits::of(bytes) {
         Some(edits) => lines_of(alloc, edits),
@@ -115,7 +117,8 @@ fn lines_in(alloc: Global, bytes: &[u8]) -> Result<Vec<u8>, Fault>
 
 // How many edits of each kind the file has.
 fn statistics_in(alloc: Global, bytes: &[u8]) -> Result<Vec<u8>, Fault>
-    ensures { IsRead (λ start. statistics) bytes.now result }
+    ensures read { IsRead (λ start. statistics) bytes.now result }
+    ensures header { HasNoHeader bytes.now → result ≡ Err (Damage 0 ByteCause.Header) }
 {
     match Edits::of(bytes) {
         Some(edits) => statistics_of(alloc, edits),
@@ -125,7 +128,8 @@ fn statistics_in(alloc: Global, bytes: &[u8]) -> Result<Vec<u8>, Fault>
 
 // An array of JSON with the edits of the file.
 fn entries_in(alloc: Global, bytes: &[u8]) -> Result<Vec<u8>, Fault>
-    ensures { IsRead entry_lines bytes.now result }
+    ensures read { IsRead entry_lines bytes.now result }
+    ensures header { HasNoHeader bytes.now → result ≡ Err (Damage 0 ByteCause.Header) }
 {
     match Edits::of(bytes) {
         Some(edits) => entries_of(alloc, edits),
@@ -135,7 +139,8 @@ fn entries_in(alloc: Global, bytes: &[u8]) -> Result<Vec<u8>, Fault>
 
 // The answer for a text, or for why there is none.
 fn listing_of(read: Result<Vec<u8>, Fault>) -> Listing
-    ensures { (tell : ℕ → List EditView → List ℕ) (bytes : List ℕ) → IsRead tell bytes read → IsListed tell bytes result }
+    ensures right { (tell : ℕ → List EditView → List ℕ) (bytes : List ℕ) → IsRead tell bytes read → IsListed tell bytes result }
+    ensures damage { (place : ℕ) (cause : ByteCause) → read ≡ Err (Damage place cause) → result ≡ Listing.BadBytes place cause }
 {
     match read {
         Ok(text) => Listing::Text(text),
@@ -156,6 +161,8 @@ pub fn list(alloc: Global, bytes: &[u8]) -> Listing
     ensures text { (start : ℕ) (edits : List EditView) → IsSegment bytes.now start edits → GivesText (lines start edits) result }
     // A damaged file is told by its first damage.
     ensures damage { (place : ℕ) (cause : ByteCause) → IsDamaged bytes.now place cause → GivesDamage place cause result }
+    // Bytes without a header are told so, and take no memory.
+    ensures header { HasNoHeader bytes.now → result ≡ Listing.BadBytes 0 ByteCause.Header }
 {
     listing_of(lines_in(alloc, bytes))
 }
@@ -170,6 +177,8 @@ pub fn stats(alloc: Global, bytes: &[u8]) -> Listing
     ensures text { (start : ℕ) (edits : List EditView) → IsSegment bytes.now start edits → GivesText (statistics edits) result }
     // A damaged file is told by its first damage.
     ensures damage { (place : ℕ) (cause : ByteCause) → IsDamaged bytes.now place cause → GivesDamage place cause result }
+    // Bytes without a header are told so, and take no memory.
+    ensures header { HasNoHeader bytes.now → result ≡ Listing.BadBytes 0 ByteCause.Header }
 {
     listing_of(statistics_in(alloc, bytes))
 }
@@ -185,6 +194,8 @@ pub fn json(alloc: Global, bytes: &[u8]) -> Listing
     ensures text { (start : ℕ) (edits : List EditView) → IsSegment bytes.now start edits → GivesText (entry_lines start edits) result }
     // A damaged file is told by its first damage.
     ensures damage { (place : ℕ) (cause : ByteCause) → IsDamaged bytes.now place cause → GivesDamage place cause result }
+    // Bytes without a header are told so, and take no memory.
+    ensures header { HasNoHeader bytes.now → result ≡ Listing.BadBytes 0 ByteCause.Header }
 {
     listing_of(entries_in(alloc, bytes))
 }

@@ -74,6 +74,17 @@ fn an_edit_of_one_node_is_recovered(rt: HostRuntime) -> Result<(), Fail> {
 }
 
 #[test]
+fn an_edit_of_a_later_node_is_recovered(rt: HostRuntime) -> Result<(), Fail> {
+    let script =
+        b"raw 3\nwriter a\nwriter b\ntakeover a\ndrop a 1 1\nmute a 2 1\ndrop a 3 1\nlog a 0a\ntakeover b\n";
+    let parts = [
+        "1 prepare 2 1 0 1 -> prepared 1 0 1 inprogress 1 no 1\n2 prepare 2 1 0 1 -> prepared 1 1 1 inprogress 1 no 2\n3 prepare 2 1 0 1 -> prepared 1 0 1 inprogress 1 no 1\n2 fetch 2 2 0 1 1 -> edits 1 18 0a\n1 accept 2 3 0 1 18 0a -> ok\n",
+        "= takeover 2 3\nend\n",
+    ];
+    says(&rt, rt.alloc(), script, &parts)
+}
+
+#[test]
 fn a_lost_fetch_goes_to_the_next_node(rt: HostRuntime) -> Result<(), Fail> {
     let script =
         b"raw 3\nwriter a\nwriter b\ntakeover a\nmute a 1 1\ndrop a 2 1\ndrop a 3 1\nlog a 0a\ndrop b 1 4\ntakeover b\n";

@@ -1,4 +1,5 @@
 //! A log line of as many bodies as a batch may have, and one of one more, over one node: every line of their reports.
+use crate::known_scripts::says;
 use crate::program::played;
 use qj_cli::Status;
 use qj_num::put_decimal;
@@ -79,4 +80,17 @@ fn each_edit_of_the_longest_log_is_told(rt: HostRuntime) -> Result<(), Fail> {
     assert_eq!(rt; done.status, Status::Ok);
     assert_eq!(rt; done.taken.as_slice(), wanted.as_slice());
     Ok(())
+}
+
+// A segment of more edits than one answer has is recovered in two pieces.
+#[test]
+fn the_later_piece_of_a_segment_is_fetched(rt: HostRuntime) -> Result<(), Fail> {
+    let mut lines = script(rt.alloc(), 256)?;
+    lines.extend_from_slice(b"writer b\ntakeover b\n")?;
+    let parts = [
+        "1 fetch 2 2 0 1 1 -> edits 1 18 0a 0a ",
+        "1 fetch 2 3 0 1 257 -> edits 257 0a\n1 accept 2 4 0 1 18 0a 0a ",
+        "= takeover 2 258\nend\n",
+    ];
+    says(&rt, rt.alloc(), &lines, &parts)
 }

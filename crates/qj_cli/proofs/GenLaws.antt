@@ -2,7 +2,7 @@
 use Rattle.std.proofs.Common.{◌≡◌, ℕ, List, [], ◌∷◌, sym, subst}
 use Rattle.std.specs.Prelude.{codes}
 use Rattle.script_text.specs.Words.{greatest}
-use Rattle.script_text.specs.Reading.{Tells}
+use Rattle.line_words.specs.Numbers.{Tells}
 use Rattle.qj_cli.specs.Commands.{gen, AskFor}
 
 pub asks_gen : (words : List (List ℕ)) (first second third : List ℕ) (number edits nodes : ℕ) → words ≡ first ∷ second ∷ third ∷ [] → Tells 0 greatest first number → Tells 0 10000 second edits

@@ -5,8 +5,10 @@ use Rattle.std.specs.Str.{bytes_eq}
 use Rattle.std.specs.Str.Parse.{digits_value}
 use Rattle.std.proofs.lemmas.Slice.Eq.{bytes_eq-Decides}
 use Rattle.std.proofs.lemmas.Bool.{or_cases}
-use Rattle.script_text.specs.Words.{greatest, is_number}
-use Rattle.script_text.proofs.NumberLaws.{number_is, number_again, told_number}
+use Rattle.line_words.specs.Numbers.{is_number}
+use Rattle.line_words.proofs.NumberLaws.{told_number}
+use Rattle.script_text.specs.Words.{greatest}
+use Rattle.script_text.proofs.NumberLaws.{number_is, number_again}
 use Rattle.script_maker.specs.Generated.{IsWithin}
 use Rattle.qj_cli.specs.declared.tool.SegmentTool.{SegmentTool}
 use Rattle.qj_cli.specs.declared.tool.SegmentTool.TheVariants as segment

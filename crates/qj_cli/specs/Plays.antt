@@ -1,5 +1,5 @@
 -- How a script that is played, in order or by threads, ends, and what it writes.
-use Rattle.std.specs.Prelude.{ℕ, ◌≡◌, ◌<◌, ◌≤◌, ◌⊎◌, List, [], Option, Some, None, length}
+use Rattle.std.specs.Prelude.{ℕ, ◌≡◌, ◌≢◌, ◌<◌, ◌≤◌, ◌⊎◌, List, [], Option, Some, None, length}
 use Rattle.mesh.specs.declared.whole.Mesh.{Mesh}
 use Rattle.ns_tree.specs.declared.end.End.{End}
 use Rattle.script_text.specs.Views.{ScriptView}
@@ -49,10 +49,10 @@ pub record GivesScript (source : SourceUse) (script : ScriptView) : Type 0 where
   pub read : IsReadWhole source bytes
   pub reads : IsScriptText bytes script
 
--- why bytes give none
+-- why bytes give none; where the first line is wrong it isn't want of memory
 abbrev pub IsTextFault : List ℕ → Fault → Type 0
 IsTextFault bytes (fault.BadScript line rule) = fault_of bytes ≡ Some (line, rule)
-IsTextFault bytes fault.OutOfMemory = Unit {0}
+IsTextFault bytes fault.OutOfMemory = (line : ℕ) → fault_of bytes ≢ Some (line, 1)
 IsTextFault bytes _ = ⊥
 
 -- why a source gives none
@@ -63,10 +63,10 @@ IsReadingFault source fault.ReadFault = AReadFailed source
 IsReadingFault source fault.OutOfMemory = Unit {0}
 IsReadingFault source _ = ⊥
 
--- why the report with this text isn't printed
+-- why the report with this text isn't printed; where it is too long it isn't want of memory
 abbrev pub IsReportFault : List ℕ → Fault → Type 0
 IsReportFault text (fault.Limit number) = (number ≡ 268435456) × (longest_report < length text)
-IsReportFault text fault.OutOfMemory = Unit {0}
+IsReportFault text fault.OutOfMemory = length text ≤ longest_report
 IsReportFault text _ = ⊥
 
 -- ## What is due of a script's bytes

@@ -4,7 +4,7 @@ ghost use Rattle.qj_cli.specs.Commands.{asked_in, AskFor};
 ghost use Rattle.qj_cli.specs.Usage.{bytes_of, is_alone, is_oev, is_oiv, behind_one, behind_tool, behind_program, behind_gen, usage_of};
 
 use crate::tool::{Tool, image_tool_of, segment_tool_of};
-use script_text::number_of;
+use line_words::number_of;
 
 /// The greatest number of a command.
 const GREATEST: u64 = 4_611_686_018_427_387_904;

@@ -6,7 +6,7 @@ use Rattle.std.specs.List.Sorted.{IsStrictlySortedBy}
 use Rattle.qj_disk.specs.Files.{Files, ChangesOnly, Holds, Torn, IsShortened, Cut, Follows}
 use Rattle.qj_disk.specs.View.{View, Elapses, IsStable, LeavesOnly}
 use Rattle.qj_disk.specs.declared.disk.DiskFail.{DiskFail}
-use Rattle.qj_disk.specs.declared.disk.DiskFail.TheVariants.{Failed}
+use Rattle.qj_disk.specs.declared.disk.DiskFail.TheVariants.{Failed, OutOfMemory}
 
 -- no file changes, and no crash leaves what it couldn't leave before
 pub record Keeps (old new : View) : Type 0 where
@@ -67,6 +67,11 @@ pub record HasCause {T : Type 0} (before now : ℕ) (was_steady is_steady : Type
   pub steady : was_steady → is_steady
   pub no_fault : was_steady → IsErrOf result Failed → ⊥
   pub same : was_steady → now ≡ before
+
+-- a call answers OutOfMemory only where the count of shortages rose
+pub record HasShortage {T : Type 0} (before now : ℕ) (result : Result T DiskFail) : Type 0 where
+  pub later : before ≤ now
+  pub short : IsErrOf result OutOfMemory → Rose before now
 
 -- these are the names of the files, in byte order and each once
 pub record Lists (names : List (List ℕ)) (seen : Files) : Type 0 where

@@ -25,6 +25,9 @@ calls_left m = left_of m.plan
 abbrev pub faults_of : MemDisk → ℕ
 faults_of m = m.plan.faults
 
+abbrev pub shortages_of : MemDisk → ℕ
+shortages_of m = m.shortages
+
 abbrev pub reads_of : MemDisk → ℕ
 reads_of m = m.reads
 

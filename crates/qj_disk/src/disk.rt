@@ -3,7 +3,7 @@ ghost use Rattle.std.specs.Prelude.{◌≡◌, ◌≢◌, ◌≤◌, ◌<◌, �
 ghost use Rattle.qj_disk.specs.declared.disk.DiskFail.TheVariants.{OutOfMemory};
 ghost use Rattle.qj_disk.specs.Files.{bytes_of, Moves, ChangesOnly, IsGone};
 ghost use Rattle.qj_disk.specs.View.{View, IsSound};
-ghost use Rattle.qj_disk.specs.Calls.{Rests, Budget, Writes, Cuts, Syncs, Atomic, HasCause, Rose, Lists};
+ghost use Rattle.qj_disk.specs.Calls.{Rests, Budget, Writes, Cuts, Syncs, Atomic, HasCause, HasShortage, Rose, Lists};
 
 use std::alloc::{AllocError, AllocFailed};
 use thiserror::Error;
@@ -64,6 +64,9 @@ pub trait Disk {
     // A count that never falls, and rose in each call that answered Failed.
     ghost faults: { Self → ℕ };
 
+    // A count that never falls, and rose in each call that answered OutOfMemory.
+    ghost shortages: { Self → ℕ };
+
     // A count that never falls, rose in each call of `read`, and stays in every other call.
     ghost reads: { Self → ℕ };
 
@@ -80,6 +83,7 @@ pub trait Disk {
         ensures disk { tells self.old → Rests (view self.old) (view self.new) }
         ensures reads { reads self.new ≡ reads self.old }
         ensures cause { HasCause (faults self.old) (faults self.new) (steady self.old) (steady self.new) result }
+        ensures shortage { HasShortage (shortages self.old) (shortages self.new) result }
         ensures budget { Budget (left self.old) (left self.new) (tells self.old) result (view self.old) (view self.new) };
 
     /// Reads the bytes from the offset `at` on into the front of `into`, and answers how many: as
@@ -92,6 +96,7 @@ pub trait Disk {
         ensures reads { Rose (reads self.old) (reads self.new) }
         ensures later { reads self.old ≤ reads self.new }
         ensures cause { HasCause (faults self.old) (faults self.new) (steady self.old) (steady self.new) result }
+        ensures shortage { HasShortage (shortages self.old) (shortages self.new) result }
         ensures budget { Budget (left self.old) (left self.new) (tells self.old) result (view self.old) (view self.new) };
 
     /// The names of all files, in byte order.
@@ -101,6 +106,7 @@ pub trait Disk {
         ensures disk { tells self.old → Rests (view self.old) (view self.new) }
         ensures reads { reads self.new ≡ reads self.old }
         ensures cause { HasCause (faults self.old) (faults self.new) (steady self.old) (steady self.new) result }
+        ensures shortage { HasShortage (shortages self.old) (shortages self.new) result }
         ensures budget { Budget (left self.old) (left self.new) (tells self.old) result (view self.old) (view self.new) };
 
     /// Writes the bytes at the offset `at`, which is at most the file's length, and makes the file
@@ -112,6 +118,7 @@ pub trait Disk {
         ensures disk { tells self.old → Writes name.now at bytes.now result (view self.old) (view self.new) }
         ensures reads { reads self.new ≡ reads self.old }
         ensures cause { HasCause (faults self.old) (faults self.new) (steady self.old) (steady self.new) result }
+        ensures shortage { HasShortage (shortages self.old) (shortages self.new) result }
         ensures budget { Budget (left self.old) (left self.new) (tells self.old) result (view self.old) (view self.new) };
 
     /// Cuts the file, which is there, to its first `to` bytes, of which it has as many. At `Err`,
@@ -122,6 +129,7 @@ pub trait Disk {
         ensures disk { tells self.old → Cuts name.now to result (view self.old) (view self.new) }
         ensures reads { reads self.new ≡ reads self.old }
         ensures cause { HasCause (faults self.old) (faults self.new) (steady self.old) (steady self.new) result }
+        ensures shortage { HasShortage (shortages self.old) (shortages self.new) result }
         ensures budget { Budget (left self.old) (left self.new) (tells self.old) result (view self.old) (view self.new) };
 
     /// Makes the file, which is there, stable: at `Ok` each crash leaves it as a read gives it, until
@@ -132,6 +140,7 @@ pub trait Disk {
         ensures disk { tells self.old → Syncs name.now result (view self.old) (view self.new) }
         ensures reads { reads self.new ≡ reads self.old }
         ensures cause { HasCause (faults self.old) (faults self.new) (steady self.old) (steady self.new) result }
+        ensures shortage { HasShortage (shortages self.old) (shortages self.new) result }
         ensures budget { Budget (left self.old) (left self.new) (tells self.old) result (view self.old) (view self.new) };
 
     /// Puts the file `from`, which is there, under the name `to`, in place of a file of that name. At
@@ -142,6 +151,7 @@ pub trait Disk {
         ensures disk { tells self.old → Atomic (Moves from.now to.now) result (view self.old) (view self.new) }
         ensures reads { reads self.new ≡ reads self.old }
         ensures cause { HasCause (faults self.old) (faults self.new) (steady self.old) (steady self.new) result }
+        ensures shortage { HasShortage (shortages self.old) (shortages self.new) result }
         ensures budget { Budget (left self.old) (left self.new) (tells self.old) result (view self.old) (view self.new) };
 
     /// Removes the file, which is there. At `Ok` no crash undoes it. At `Err` it has happened or not,
@@ -152,6 +162,7 @@ pub trait Disk {
         ensures disk { tells self.old → Atomic (ChangesOnly name.now IsGone) result (view self.old) (view self.new) }
         ensures reads { reads self.new ≡ reads self.old }
         ensures cause { HasCause (faults self.old) (faults self.new) (steady self.old) (steady self.new) result }
+        ensures shortage { HasShortage (shortages self.old) (shortages self.new) result }
         ensures budget { Budget (left self.old) (left self.new) (tells self.old) result (view self.old) (view self.new) };
 
     ghost sound: { (disk : Self) → tells disk → IsSound (view disk) };

@@ -15,6 +15,8 @@ impl<D: Disk> Disk for &mut D {
 
     ghost faults = { λ d. D.faults d.now };
 
+    ghost shortages = { λ d. D.shortages d.now };
+
     ghost reads = { λ d. D.reads d.now };
 
     ghost steady = { λ d. D.steady d.now };

@@ -1,12 +1,13 @@
 //! A disk in memory.
-ghost use Rattle.std.specs.Prelude.{◌≡◌, ◌≤◌, length, take, drop, OnOk, OnErr};
+ghost use Rattle.std.specs.Prelude.{◌≡◌, ◌≤◌, length, take, drop, OnOk, OnErr, IsErrOf};
+ghost use Rattle.qj_disk.specs.Calls.{HasShortage, Rose};
 ghost use Rattle.qj_disk.specs.Timeline.{Remembers};
 
 use crate::call_plan::CallPlan;
 use crate::disk::{Choice, Disk, DiskFail};
 use crate::file_map;
 use crate::file_map::FileMap;
-use std::alloc::{AllocError, Global};
+use std::alloc::Global;
 use std::snapshot::Snapshot;
 
 /// A disk in memory that tells its bytes, and that can be told when to fail and to crash.
@@ -19,16 +20,35 @@ pub struct MemDisk {
     files: FileMap,
     past: Vec<Snapshot<FileMap>>,
     plan: CallPlan,
+    shortages: u64,
     reads: u64,
 }
 
+// Tells a want of memory, and counts it.
+fn tell_short(shortages: &mut u64) -> DiskFail
+    ensures told { result ≡ DiskFail.OutOfMemory }
+    ensures rose { Rose shortages.old shortages.new }
+    ensures later { shortages.old ≤ shortages.new }
+{
+    *shortages = shortages.saturating_add(1);
+    DiskFail::OutOfMemory
+}
+
 // Keeps what the files are, for proofs.
-fn remember(past: &mut Vec<Snapshot<FileMap>>, files: &FileMap) -> Result<(), AllocError>
+fn remember(
+    past: &mut Vec<Snapshot<FileMap>>,
+    files: &FileMap,
+    shortages: &mut u64,
+) -> Result<(), DiskFail>
     ensures ok { OnOk result (Remembers files.now past.old.items past.new.items) }
     ensures err { OnErr result (past.new.items ≡ past.old.items) }
+    ensures shortage { HasShortage shortages.old shortages.new result }
+    ensures own { IsErrOf result DiskFail.Failed → ⊥ }
 {
-    past.push(Snapshot::of(files))?;
-    Ok(())
+    match past.push(Snapshot::of(files)) {
+        Ok(()) => Ok(()),
+        Err(_) => Err(tell_short(shortages)),
+    }
 }
 
 // Copies what there is from an offset on.
@@ -73,6 +93,7 @@ impl MemDisk {
                 left: None,
                 faults: 0,
             },
+            shortages: 0,
             reads: 0,
         }
     }
@@ -122,7 +143,7 @@ impl MemDisk {
 
 impl Disk for MemDisk {
     ghost use Rattle.std.specs.Prelude.{◌≡◌, ℕ, true};
-    ghost use Rattle.qj_disk.specs.MemDisk.{disk_view, faults_of, reads_of, CannotFail, calls_left};
+    ghost use Rattle.qj_disk.specs.MemDisk.{disk_view, faults_of, shortages_of, reads_of, CannotFail, calls_left};
     ghost use Rattle.qj_disk.specs.TimelineLaws.{is_sound};
 
     ghost tells = { λ _. Unit {0} };
@@ -132,6 +153,8 @@ impl Disk for MemDisk {
     ghost view = { disk_view };
 
     ghost faults = { faults_of };
+
+    ghost shortages = { shortages_of };
 
     ghost reads = { reads_of };
 
@@ -164,40 +187,49 @@ impl Disk for MemDisk {
 
     fn list(&mut self) -> Result<Vec<String>, DiskFail> {
         self.plan.admit()?;
-        Ok(file_map::names(self.alloc, &self.files)?)
+        match file_map::names(self.alloc, &self.files) {
+            Ok(names) => Ok(names),
+            Err(_) => Err(tell_short(&mut self.shortages)),
+        }
     }
 
     fn write_at(&mut self, name: &str, at: u64, bytes: &[u8]) -> Result<(), DiskFail> {
         self.plan.admit()?;
-        remember(&mut self.past, &self.files)?;
-        file_map::write(self.alloc, &mut self.files, name, at as usize, bytes)?;
-        Ok(())
+        remember(&mut self.past, &self.files, &mut self.shortages)?;
+        match file_map::write(self.alloc, &mut self.files, name, at as usize, bytes) {
+            Ok(()) => Ok(()),
+            Err(_) => Err(tell_short(&mut self.shortages)),
+        }
     }
 
     fn cut(&mut self, name: &str, to: u64) -> Result<(), DiskFail> {
         self.plan.admit()?;
-        remember(&mut self.past, &self.files)?;
-        file_map::cut(&mut self.files, name, to as usize)?;
-        Ok(())
+        remember(&mut self.past, &self.files, &mut self.shortages)?;
+        match file_map::cut(&mut self.files, name, to as usize) {
+            Ok(()) => Ok(()),
+            Err(_) => Err(tell_short(&mut self.shortages)),
+        }
     }
 
     fn sync(&mut self, name: &str) -> Result<(), DiskFail> {
         self.plan.admit()?;
-        remember(&mut self.past, &self.files)?;
+        remember(&mut self.past, &self.files, &mut self.shortages)?;
         file_map::sync(&mut self.files, name);
         Ok(())
     }
 
     fn rename(&mut self, from: &str, to: &str) -> Result<(), DiskFail> {
         self.plan.admit()?;
-        remember(&mut self.past, &self.files)?;
-        file_map::rename(self.alloc, &mut self.files, from, to)?;
-        Ok(())
+        remember(&mut self.past, &self.files, &mut self.shortages)?;
+        match file_map::rename(self.alloc, &mut self.files, from, to) {
+            Ok(()) => Ok(()),
+            Err(_) => Err(tell_short(&mut self.shortages)),
+        }
     }
 
     fn remove(&mut self, name: &str) -> Result<(), DiskFail> {
         self.plan.admit()?;
-        remember(&mut self.past, &self.files)?;
+        remember(&mut self.past, &self.files, &mut self.shortages)?;
         file_map::remove(&mut self.files, name);
         Ok(())
     }

@@ -35,7 +35,7 @@ fn refuse<T>(refused: &mut u64) -> Result<T, DiskFail>
 
 impl Disk for UntoldDisk {
     ghost use Rattle.std.specs.Prelude.{◌+◌, None, false};
-    ghost use Rattle.qj_disk.specs.MemDisk.{disk_view, faults_of, reads_of};
+    ghost use Rattle.qj_disk.specs.MemDisk.{disk_view, faults_of, shortages_of, reads_of};
 
     ghost tells = { λ _. ⊥ };
 
@@ -44,6 +44,8 @@ impl Disk for UntoldDisk {
     ghost view = { λ d. disk_view d.disk };
 
     ghost faults = { λ d. faults_of d.disk + d.refused };
+
+    ghost shortages = { λ d. shortages_of d.disk };
 
     ghost reads = { λ d. reads_of d.disk };
 

@@ -2,9 +2,10 @@
 use Rattle.std.specs.Prelude.{ℕ, None}
 use Rattle.qj_disk.specs.View.{View}
 
--- what contracts see of it: how often a call failed, and how often it was read
+-- what contracts see of it: how often a call failed, how often memory was wanted, and how often it was read
 pub record FolderView : Type 0 where
   pub faults : ℕ
+  pub shortages : ℕ
   pub reads : ℕ
 
 pub untold : View

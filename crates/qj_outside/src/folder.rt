@@ -137,14 +137,6 @@ where
         fill(&mut file, into)
     }
 
-    /// The file that was written last, where it has this name. It is no longer kept.
-    fn take_written(&mut self, name: &str) -> Option<WrittenFile<R::File>> {
-        match self.written.take() {
-            Some(file) if file.has_name(name) => Some(file),
-            _ => None,
-        }
-    }
-
     /// Opens a file that has at least so many bytes for writing, and makes it where it is absent and none are wanted.
     fn open_to_write(&mut self, name: &str, least: u64) -> io::Result<WrittenFile<R::File>> {
         let length = self.expect_length(name, least)?;
@@ -162,10 +154,20 @@ where
     }
 
     pub fn write_at(&mut self, name: &str, at: u64, bytes: &[u8]) -> io::Result<()> {
-        let mut file = match self.take_written(name) {
-            Some(file) => file,
-            None => self.open_to_write(name, at)?,
+        let wrote = match &mut self.written {
+            Some(file) if file.has_name(name) => file.write_at(at, bytes),
+            _ => return self.write_opened(name, at, bytes),
         };
+        if wrote.is_err() {
+            self.written = None;
+        }
+        wrote
+    }
+
+    /// Opens the file, writes to it, and keeps it open.
+    fn write_opened(&mut self, name: &str, at: u64, bytes: &[u8]) -> io::Result<()> {
+        self.written = None;
+        let mut file = self.open_to_write(name, at)?;
         file.write_at(at, bytes)?;
         self.written = Some(file);
         Ok(())
@@ -183,12 +185,13 @@ where
 
     /// Syncs the file, and the folders where a name changed since they were synced.
     pub fn sync(&mut self, name: &str) -> io::Result<()> {
-        match self.take_written(name) {
-            Some(file) => {
-                file.sync()?;
-                self.written = Some(file);
-            }
-            None => self.sync_closed(name)?,
+        let synced = match &self.written {
+            Some(file) if file.has_name(name) => file.sync(),
+            _ => self.sync_closed(name),
+        };
+        if synced.is_err() {
+            self.written = None;
+            return synced;
         }
         self.sync_names()
     }
@@ -285,17 +288,22 @@ where
         }
     }
 
-    /// Syncs the folder, and the subfolder where it is meant too.
+    /// Syncs the folders, where a name changed since they were synced.
     fn sync_names(&mut self) -> io::Result<()> {
         if self.are_names_synced {
             return Ok(());
         }
+        self.sync_folders()?;
+        self.are_names_synced = true;
+        Ok(())
+    }
+
+    /// Syncs the folder, and the subfolder where it is there too.
+    fn sync_folders(&self) -> io::Result<()> {
         if self.has_subfolder()? {
             self.sync_folder(SUBFOLDER)?;
         }
-        self.sync_folder("")?;
-        self.are_names_synced = true;
-        Ok(())
+        self.sync_folder("")
     }
 
     fn sync_folder(&self, name: &str) -> io::Result<()> {

@@ -1,6 +1,6 @@
 // A disk over a folder of the system.
 ghost use Rattle.std.specs.Prelude.{◌≡◌, None, IfOk, IsErrOf, Ok};
-ghost use Rattle.qj_disk.specs.Calls.{HasCause, Rose};
+ghost use Rattle.qj_disk.specs.Calls.{HasCause, HasShortage, Rose};
 ghost use Rattle.qj_outside.specs.Faults.{counted};
 
 use crate::OutOfMemory;
@@ -15,7 +15,7 @@ use std::os::unix::fs::FileExt;
 
 /// The files of a folder and of its subfolder `paxos`, as `paxos/NAME`. The subfolder is made where a name in it is
 /// written or renamed to. It tells nothing of what the files hold, since other programs may change them: contracts see its
-/// counts of faults and of reads alone.
+/// counts of faults, of wants of memory and of reads alone.
 ///
 /// A name under which no file stands, be it nothing, a folder or too long for a file, is absent: it has no length and no
 /// bytes. A name that begins with `/` is one of the whole system. Names that aren't UTF-8 are left out. A file is opened
@@ -27,6 +27,7 @@ use std::os::unix::fs::FileExt;
 pub struct FolderDisk<R: Files + Drop> {
     folder: Folder<R>,
     faults: u64,
+    shortages: u64,
     reads: u64,
 }
 
@@ -35,7 +36,7 @@ impl<R: Files + Drop> Model for FolderDisk<R> {
 
     ghost Value = { FolderView };
 
-    ghost view = { λ d. record { faults = d.faults; reads = d.reads } };
+    ghost view = { λ d. record { faults = d.faults; shortages = d.shortages; reads = d.reads } };
 }
 
 impl<R: Files + AllocGlobal + Clone + Drop> FolderDisk<R>
@@ -49,6 +50,7 @@ where
         Ok(FolderDisk {
             folder: Folder::new(rt, folder)?,
             faults: 0,
+            shortages: 0,
             reads: 0,
         })
     }
@@ -88,14 +90,22 @@ where
     }
 }
 
-/// What a call answers; a fault is counted.
-fn counted<T: Drop>(faults: &mut u64, answer: io::Result<T>) -> Result<T, DiskFail>
+/// What a call answers; a fault is counted, and so is a want of memory.
+fn counted<T: Drop>(
+    faults: &mut u64,
+    shortages: &mut u64,
+    answer: io::Result<T>,
+) -> Result<T, DiskFail>
     ensures value { IfOk result (λ v. answer ≡ Ok v) }
     ensures cause { HasCause faults.old faults.new ⊥ ⊥ result }
+    ensures shortage { HasShortage shortages.old shortages.new result }
 {
     match answer {
         Ok(value) => Ok(value),
-        Err(error) if error.kind() == ErrorKind::OutOfMemory => Err(DiskFail::OutOfMemory),
+        Err(error) if error.kind() == ErrorKind::OutOfMemory => {
+            *shortages = shortages.saturating_add(1);
+            Err(DiskFail::OutOfMemory)
+        }
         Err(_) => {
             *faults = faults.saturating_add(1);
             Err(DiskFail::Failed)
@@ -118,6 +128,8 @@ where
 
     ghost faults = { λ d. d.faults };
 
+    ghost shortages = { λ d. d.shortages };
+
     ghost reads = { λ d. d.reads };
 
     ghost steady = { λ _. ⊥ };
@@ -131,35 +143,63 @@ where
     ghost told_so = { λ _. (λ t. t, λ t. t) };
 
     fn length(&mut self, name: &str) -> Result<Option<u64>, DiskFail> {
-        counted(&mut self.faults, self.folder.length(name))
+        counted(
+            &mut self.faults,
+            &mut self.shortages,
+            self.folder.length(name),
+        )
     }
 
     fn read(&mut self, name: &str, at: u64, into: &mut [u8]) -> Result<usize, DiskFail> {
         self.reads = self.reads.saturating_add(1);
-        counted(&mut self.faults, self.folder.read(name, at, into))
+        counted(
+            &mut self.faults,
+            &mut self.shortages,
+            self.folder.read(name, at, into),
+        )
     }
 
     fn list(&mut self) -> Result<Vec<String>, DiskFail> {
-        counted(&mut self.faults, self.folder.list())
+        counted(&mut self.faults, &mut self.shortages, self.folder.list())
     }
 
     fn write_at(&mut self, name: &str, at: u64, bytes: &[u8]) -> Result<(), DiskFail> {
-        counted(&mut self.faults, self.folder.write_at(name, at, bytes))
+        counted(
+            &mut self.faults,
+            &mut self.shortages,
+            self.folder.write_at(name, at, bytes),
+        )
     }
 
     fn cut(&mut self, name: &str, to: u64) -> Result<(), DiskFail> {
-        counted(&mut self.faults, self.folder.cut(name, to))
+        counted(
+            &mut self.faults,
+            &mut self.shortages,
+            self.folder.cut(name, to),
+        )
     }
 
     fn sync(&mut self, name: &str) -> Result<(), DiskFail> {
-        counted(&mut self.faults, self.folder.sync(name))
+        counted(
+            &mut self.faults,
+            &mut self.shortages,
+            self.folder.sync(name),
+        )
     }
 
     fn rename(&mut self, from: &str, to: &str) -> Result<(), DiskFail> {
-        counted(&mut self.faults, self.folder.rename(from, to))
+        counted(
+            &mut self.faults,
+            &mut self.shortages,
+            self.folder.rename(from, to),
+        )
     }
 
     fn remove(&mut self, name: &str) -> Result<(), DiskFail> {
-        counted(&mut self.faults, self.folder.remove(name))
+        counted(
+            &mut self.faults,
+            &mut self.shortages,
+            self.folder.remove(name),
+        )
     }
 }

@@ -1,5 +1,5 @@
 // The report as a whole.
-ghost use Rattle.std.specs.Prelude.{◌≡◌, ◌<◌, ◌≤◌, ◌++◌, length, Err, OnOk, IfOk};
+ghost use Rattle.std.specs.Prelude.{◌≡◌, ◌<◌, ◌≤◌, ◌++◌, length, Err, OnOk, OnErr, IfOk, nat_lt};
 ghost use Rattle.report_text.specs.Limit.{longest_report, Reports};
 ghost use Rattle.ns_tree.specs.declared.end.End.{End};
 ghost use Rattle.report_text.specs.Text.{node_text, nodes_text, actor_text, ended_text, actors_text, operator_text, text_of};
@@ -9,7 +9,8 @@ use crate::entries::{put_history, put_record};
 use crate::lasts::put_last;
 use crate::parts::put_spaced;
 use crate::printed_requests::PrintedRequests;
-use crate::unprinted::{Unprinted, within_limit};
+use crate::size::text_size;
+use crate::unprinted::{LONGEST_REPORT, Unprinted, within_limit};
 use journal_core::OutOfMemory;
 use mesh::Mesh;
 use node_history::{HistoryLine, HistoryList, Record, RecordList};
@@ -159,19 +160,42 @@ fn longest_history(histories: &[HistoryList]) -> usize {
     longest
 }
 
+/// The text of a report, as far as there is memory.
+fn print_report(alloc: Global, mesh: &Mesh, ends: &[End]) -> Result<Vec<u8>, Unprinted>
+    ensures text { IfOk result (λ text. text.items ≡ text_of mesh.now ends.now) }
+    ensures within { IfOk result (λ text. length text.items ≤ longest_report) }
+    ensures long { result ≡ Err Unprinted.TooLong → longest_report < length (text_of mesh.now ends.now) }
+{
+    let mut out = Vec::new(alloc);
+    let mut printed = PrintedRequests::new(alloc, longest_history(mesh.histories.as_slice()))?;
+    put_report(&mut out, &mut printed, mesh, ends)?;
+    Ok(out)
+}
+
+/// Whether the text of a report is too long. It isn't printed, and no memory is taken.
+fn is_too_long(mesh: &Mesh, ends: &EndList) -> bool
+    ensures { result ≡ nat_lt longest_report (length (text_of mesh.now ends.now)) }
+{
+    text_size(mesh, ends) > LONGEST_REPORT as u64
+}
+
 /// The report of what a play leaves: each node's history, and each actor's record and then the
 /// operator's; the record of an actor with names ends with its position and its namespace's rows.
 /// `ends` has one end per actor. `TooLong` comes exactly where the text has more than
-/// 268,435,456 bytes; no more than one line past them is printed then.
+/// 268,435,456 bytes, also where there was no memory to print so many: then they are counted. No more than one line past them is
+/// printed.
 pub fn report_of(alloc: Global, mesh: &Mesh, ends: &EndList) -> Result<Report, OutOfMemory>
-    ensures { IfOk result (λ report. Reports report (text_of mesh.now ends.now)) }
+    ensures report { IfOk result (λ report. Reports report (text_of mesh.now ends.now)) }
+    ensures memory { OnErr result (length (text_of mesh.now ends.now) ≤ longest_report) }
 {
-    let ends = ends.as_slice();
-    let mut out = Vec::new(alloc);
-    let mut printed = PrintedRequests::new(alloc, longest_history(mesh.histories.as_slice()))?;
-    match put_report(&mut out, &mut printed, mesh, ends) {
-        Ok(()) => Ok(Report::Text(out)),
+    match print_report(alloc, mesh, ends.as_slice()) {
+        Ok(text) => Ok(Report::Text(text)),
         Err(Unprinted::TooLong) => Ok(Report::TooLong),
-        Err(Unprinted::OutOfMemory) => Err(AllocError),
+        Err(Unprinted::OutOfMemory) => {
+            if is_too_long(mesh, ends) {
+                return Ok(Report::TooLong);
+            }
+            Err(AllocError)
+        }
     }
 }

@@ -1,5 +1,5 @@
 // Why a report isn't printed whole.
-ghost use Rattle.std.specs.Prelude.{◌≡◌, ◌<◌, ◌≤◌, length, Err, OnOk};
+ghost use Rattle.std.specs.Prelude.{◌≡◌, ◌<◌, ◌≤◌, length, Err, IsOk, OnOk};
 ghost use Rattle.report_text.specs.declared.unprinted.Unprinted.TheVariants.{OutOfMemory};
 ghost use Rattle.report_text.specs.Limit.{longest_report};
 
@@ -33,10 +33,12 @@ impl<T: Drop> From<AllocFailed<T>> for Unprinted {
     }
 }
 
-/// Stops where what is printed is too long already.
+/// Stops where what is printed is too long already, and only there. Takes no memory.
 pub fn within_limit(out: &[u8]) -> Result<(), Unprinted>
     ensures within { OnOk result (length out.now ≤ longest_report) }
     ensures long { result ≡ Err Unprinted.TooLong → longest_report < length out.now }
+    ensures past { longest_report < length out.now → result ≡ Err Unprinted.TooLong }
+    ensures short { length out.now ≤ longest_report → IsOk result }
 {
     if out.len() > LONGEST_REPORT {
         return Err(Unprinted::TooLong);

@@ -1,8 +1,10 @@
 -- Counts of lengths, which stand still at the end of their type.
-use Rattle.std.proofs.Common.{ℕ, ◌≡◌, ◌<◌, ◌≤◌, ◌+◌, ◌-◌, ◌*◌, ◌^◌, List, [], ◌∷◌, ◌++◌, length, take, get_or, min, refl, sym, ◌∙◌, ap, arith, decimal, length-append}
+use Rattle.std.proofs.Common.{ℕ, ◌≡◌, ◌<◌, ◌+◌, ◌^◌, List, [], ◌∷◌, ◌++◌, length, take, get_or, min, refl, ◌∙◌, ap, arith, decimal, length-append}
 use Rattle.journal_core.specs.declared.segment_line.SegmentLine.{SegmentLine}
+use Rattle.line_words.specs.Hex.{hex_text}
+use Rattle.line_words.proofs.HexLaws.{length-hex_text}
 use Rattle.request_text.specs.Counts.{counted}
-use Rattle.request_text.specs.Texts.{hex_text, spaced, numbers_text, bodies_text, lines_text, line_text}
+use Rattle.request_text.specs.Texts.{numbers_text, bodies_text, lines_text, line_text}
 use Rattle.request_text.proofs.PrintLaws.{numbers-append, numbers_more, bodies_more, lines_more}
 
 -- nothing
@@ -73,11 +75,6 @@ lines_begun n h = counted_none n h ∙ ap (λ xs. counted n xs) lines_nil
 
 pub lines_on : (n m r i : ℕ) (d : SegmentLine) (lines : List SegmentLine) → m ≡ counted n (lines_text (take i lines)) → i < length lines → r ≡ counted m (line_text (get_or lines i d)) → r ≡ counted n (lines_text (take (i + 1) lines))
 lines_on n m r i d lines one l two = counted_on n m r (lines_text (take i lines)) (line_text (get_or lines i d)) (lines_text (take (i + 1) lines)) one two (lines_more lines i d l)
-
-pub length-hex_text : (bytes : List ℕ) → length (hex_text bytes) ≡ 2 * length bytes
-unfolding hex_text
-length-hex_text [] = refl
-length-hex_text (b ∷ bytes) = let e = length-hex_text bytes in omega (arith, e)
 
 pub body_counted : (n a b r : ℕ) (bytes : List ℕ) → a ≡ min (n + 1) 18446744073709551615 → b ≡ min (a + length bytes) 18446744073709551615 → r ≡ min (b + length bytes) 18446744073709551615 → r ≡ counted n (32 ∷ hex_text bytes)
 unfolding counted

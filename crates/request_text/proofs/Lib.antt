@@ -1,5 +1,6 @@
 pub mod PrintLaws
 pub mod WordLaws
 pub mod ReadLaws
+pub mod BodyLaws
 pub mod LineLaws
 pub mod CountLaws

@@ -1,11 +1,10 @@
 -- A request's text is read as the request.
-use Rattle.std.proofs.Common.{ℕ, ◌≡◌, ◌<◌, ◌≤◌, ◌+◌, ◌-◌, ◌*◌, ◌^◌, ◌/◌, ◌%◌, ◌==◌, ◌&&◌, List, [], ◌∷◌, ◌++◌, length, map, drop, Option, Some, Bool, true, false, not, cond, nat_lt, nat_le, refl, sym, ap, ◌∙◌, subst, arith, zero, suc, append_assoc, append-nil, length-append, decimal, inl, inr}
+use Rattle.std.proofs.Common.{ℕ, ◌≡◌, ◌<◌, ◌≤◌, ◌+◌, ◌^◌, ◌/◌, ◌%◌, ◌==◌, ◌&&◌, List, [], ◌∷◌, ◌++◌, length, map, drop, Option, Some, Bool, true, false, not, cond, nat_lt, refl, sym, ap, ◌∙◌, subst, arith, zero, suc, append_assoc, append-nil, length-append, decimal}
 use Rattle.std.proofs.lemmas.Bool.Decides.{nat_tests}
-use Rattle.std.proofs.lemmas.Bool.{cases_lt}
 use Rattle.std.proofs.lemmas.List.{drop_at, length-map}
 use Rattle.std.proofs.lemmas.List.Splits.{slice_split_at, slice_split_none}
 use Rattle.std.proofs.lemmas.Fmt.{decimal_by_steps, decimal_nonempty}
-use Rattle.std.specs.List.{list_any, All}
+use Rattle.std.specs.List.{list_any, All, AllByRecursion}
 use Rattle.journal_core.specs.declared.request.Request.{Request}
 use Rattle.journal_core.specs.declared.request.Request.TheVariants as request
 use Rattle.request_text.specs.declared.request_word.RequestWord.{RequestWord}
@@ -13,10 +12,14 @@ use Rattle.request_text.specs.declared.request_word.RequestWord.TheVariants as w
 use Rattle.request_text.specs.declared.request_line.ReadRequest.{ReadRequest}
 use Rattle.request_text.specs.declared.request_line.ReadRequest.TheVariants.{Read}
 use Rattle.journal_core.specs.Limits.{bodies_of}
-use Rattle.request_text.specs.Texts.{numbers_text, hex_digit, hex_text, bodies_text, request_text}
-use Rattle.request_text.specs.Reading.{is_space, words_of, is_blank, first_word, word_text, word_of, leasts_of, has_bodies, fits_count, put_first, numbers_in, digit_in, byte_on, bytes_in, body_of_size, body_in, bodies_in, made, by_bodies, by_numbers, by_count, by_word, reading_of}
+use Rattle.line_words.specs.Words.{is_space, is_empty, words_of, first_word}
+use Rattle.line_words.specs.Hex.{hex_digit, hex_text}
+use Rattle.line_words.proofs.WordLaws.{some_of, first_first}
+use Rattle.request_text.specs.Texts.{numbers_text, bodies_text, request_text}
+use Rattle.request_text.specs.Reading.{word_text, word_of, leasts_of, has_bodies, fits_count, put_first, numbers_in, bodies_in, made, by_bodies, by_numbers, by_count, by_word, reading_of}
 use Rattle.request_text.proofs.WordLaws.{number_read}
-use Rattle.request_text.specs.Lines.{word_for, numbers_for, AreNumbers, AreBytes, IsBody, AreBodies, IsRequest}
+use Rattle.request_text.proofs.BodyLaws.{bodies_read}
+use Rattle.request_text.specs.Lines.{word_for, numbers_for, AreNumbers, IsBody, IsRequest}
 
 -- ## Words without a space
 abbrev NoSpace : List ℕ → Type 0
@@ -58,6 +61,7 @@ AreApart [] = Unit {0}
 AreApart (w ∷ ws) = NoSpace w × AreApart ws
 
 words_joined : (ws : List (List ℕ)) (w : List ℕ) → NoSpace w → AreApart ws → words_of (w ++ joined ws) ≡ w ∷ ws
+unfolding words_of
 words_joined [] w h k = ap words_of (append-nil w) ∙ slice_split_none is_space w (each_no_space w h)
 words_joined (v ∷ vs) w h k =
     slice_split_at is_space w 32 (v ++ joined vs) (each_no_space w h) refl ∙ ap (λ (us : List (List ℕ)). w ∷ us) (words_joined vs v k.0 k.1)
@@ -98,60 +102,14 @@ numbers_read (l ∷ ls) [] rest h = absurd h
 numbers_read (l ∷ ls) (n ∷ ns) rest h =
     ap (λ o. put_first o (numbers_in ls (map decimal ns ++ rest))) (number_read l n h.0 h.1) ∙ ap (λ (o : Option (List ℕ)). put_first (Some n) o) (numbers_read ls ns rest h.2)
 
-digit_read : (d : ℕ) → d < 16 → digit_in (hex_digit d) ≡ Some d
-digit_read d h = elim (cases_lt d 10) [ inl l ↦ low d l | inr l ↦ high d l h ]
-  where
-    low : (d : ℕ) → d < 10 → digit_in (hex_digit d) ≡ Some d
-    low d l =
-        let a : nat_lt d 10 ≡ true = grind (arith, nat_tests, l) in
-        let b : nat_le 48 (48 + d) ≡ true = grind (arith, nat_tests) in
-        let c : nat_le (48 + d) 57 ≡ true = grind (arith, nat_tests, l) in
-        let e : 48 + d - 48 ≡ d = omega arith in
-        rw (a, b, c, e) refl
-
-    high : (d : ℕ) → 10 ≤ d → d < 16 → digit_in (hex_digit d) ≡ Some d
-    high d l h =
-        let a : nat_lt d 10 ≡ false = grind (arith, nat_tests, l) in
-        let b : nat_le 48 (87 + d) ≡ true = grind (arith, nat_tests) in
-        let c : nat_le (87 + d) 57 ≡ false = grind (arith, nat_tests, l) in
-        let f : nat_le 97 (87 + d) ≡ true = grind (arith, nat_tests, l) in
-        let g : nat_le (87 + d) 102 ≡ true = grind (arith, nat_tests, h) in
-        let e : 87 + d - 87 ≡ d = omega arith in
-        rw (a, b, c, f, g, e) refl
-
-bytes_read : (bs : List ℕ) → AreBytes bs → bytes_in (hex_text bs) ≡ Some bs
-unfolding hex_text
-bytes_read [] h = refl
-bytes_read (b ∷ bs) h =
-    let high : b / 16 < 16 = (let l : b < 256 = h.0 in omega arith) in
-    let low : b % 16 < 16 = omega arith in
-    let whole : 16 * (b / 16) + b % 16 ≡ b = omega arith in
-    ap (λ o. byte_on o (digit_in (hex_digit (b % 16))) (bytes_in (hex_text bs))) (digit_read (b / 16) high)
-    ∙ ap (λ o. byte_on (Some (b / 16)) o (bytes_in (hex_text bs))) (digit_read (b % 16) low)
-    ∙ ap (λ (o : Option (List ℕ)). byte_on (Some (b / 16)) (Some (b % 16)) o) (bytes_read bs h.1)
-    ∙ ap (λ n. let o : Option (List ℕ) = Some (n ∷ bs) in o) whole
-
-pub body_read : (b : List ℕ) → IsBody b → body_in (hex_text b) ≡ Some b
-unfolding body_in
-body_read b h =
-    let some : (length b == 0) ≡ false = grind (arith, nat_tests, h.some) in
-    let short : nat_lt 4096 (length b) ≡ false = grind (arith, nat_tests, h.short) in
-    ap body_of_size (bytes_read b h.bytes) ∙ rw (some, short) refl
-
-bodies_read : (bs : List (List ℕ)) → AreBodies bs → bodies_in (map hex_text bs) ≡ Some bs
-bodies_read [] h = refl
-bodies_read (b ∷ bs) h =
-    ap (λ o. put_first o (bodies_in (map hex_text bs))) (body_read b h.0) ∙ ap (λ (o : Option (List (List ℕ))). put_first (Some b) o) (bodies_read bs h.1)
-
 -- ## No word is empty
 abbrev AreSome : List (List ℕ) → Type 0
 AreSome [] = Unit {0}
 AreSome (w ∷ ws) = (0 < length w) × AreSome ws
 
-some_no_blank : (ws : List (List ℕ)) → AreSome ws → list_any is_blank ws ≡ false
-some_no_blank [] h = refl
-some_no_blank (w ∷ ws) h =
-    let e : (length w == 0) ≡ false = grind (arith, nat_tests, h.0) in rw e (some_no_blank ws h.1)
+some_no_empty : (ws : List (List ℕ)) → AreSome ws → list_any is_empty ws ≡ false
+some_no_empty [] h = refl
+some_no_empty (w ∷ ws) h = rw (some_of w h.0) (some_no_empty ws h.1)
 
 some-append : (ws vs : List (List ℕ)) → AreSome ws → AreSome vs → AreSome (ws ++ vs)
 some-append [] vs h k = k
@@ -168,7 +126,7 @@ unfolding hex_text
 hex_some [] h = h
 hex_some (x ∷ xs) h = omega arith
 
-bodies_some : (bs : List (List ℕ)) → AreBodies bs → AreSome (map hex_text bs)
+bodies_some : (bs : List (List ℕ)) → AllByRecursion IsBody bs → AreSome (map hex_text bs)
 bodies_some [] h = tt
 bodies_some (b ∷ bs) h = (hex_some b (h.0).some, bodies_some bs h.1)
 
@@ -192,7 +150,7 @@ word_apart word.Purge = (refl, (refl, (refl, (refl, (refl, tt)))))
 word_apart word.Read = (refl, (refl, (refl, (refl, tt))))
 word_apart word.Manifest = (refl, (refl, (refl, (refl, (refl, (refl, (refl, (refl, tt))))))))
 
-word_some : (w : RequestWord) → (length (word_text w) == 0) ≡ false
+word_some : (w : RequestWord) → is_empty (word_text w) ≡ false
 word_some word.State = refl
 word_some word.NewEpoch = refl
 word_some word.Start = refl
@@ -283,9 +241,9 @@ text_read r h =
     let ws = words_for r in
     let split : words_of (request_text r) ≡ word_text w ∷ ws =
     ap words_of (text_joined r) ∙ words_joined ws (word_text w) (word_apart w) (apart-append (map decimal (numbers_for r)) (map hex_text (bodies_of r)) (numbers_apart (leasts_of w) (numbers_for r) h.numbers) (bodies_apart (bodies_of r))) in
-    let first : first_word (word_text w ∷ ws) ≡ word_text w = rw (word_some w) refl in
-    let whole : list_any is_blank (word_text w ∷ ws) ≡ false =
-    rw (word_some w) (some_no_blank ws (some-append (map decimal (numbers_for r)) (map hex_text (bodies_of r)) (numbers_some (leasts_of w) (numbers_for r) h.numbers) (bodies_some (bodies_of r) h.bodies))) in
+    let first : first_word (word_text w ∷ ws) ≡ word_text w = first_first (word_text w) ws (word_some w) in
+    let whole : list_any is_empty (word_text w ∷ ws) ≡ false =
+    rw (word_some w) (some_no_empty ws (some-append (map decimal (numbers_for r)) (map hex_text (bodies_of r)) (numbers_some (leasts_of w) (numbers_for r) h.numbers) (bodies_some (bodies_of r) h.bodies))) in
     let long : length (map decimal (numbers_for r)) ≡ length (leasts_of w) = numbers_length (leasts_of w) (numbers_for r) h.numbers in
     let same : length (map hex_text (bodies_of r)) ≡ length (bodies_of r) = length-map (bodies_of r) hex_text in
     let fits : fits_count w (suc (length ws)) ≡ true =

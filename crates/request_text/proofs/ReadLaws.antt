@@ -1,12 +1,15 @@
 -- Laws of the reading of lines.
-use Rattle.std.proofs.Common.{ℕ, ◌≡◌, ◌≢◌, ◌<◌, ◌≤◌, ◌+◌, List, [], length, drop, Option, Some, None, false, refl, sym, ap, ◌∙◌, arith, option_map, IsTrue, length-drop}
+use Rattle.std.proofs.Common.{ℕ, ◌≡◌, ◌≢◌, ◌<◌, ◌≤◌, ◌+◌, ◌==◌, ◌&&◌, List, [], ◌∷◌, length, drop, Option, Some, None, Bool, true, false, not, refl, sym, ap, ◌∙◌, arith, option_map, IsTrue, length-drop}
+use Rattle.std.specs.List.{list_any}
 use Rattle.std.proofs.lemmas.Bool.Decides.{nat_tests}
 use Rattle.std.proofs.lemmas.List.{drop_all}
 use Rattle.journal_core.specs.declared.request.Request.{Request}
 use Rattle.request_text.specs.declared.request_word.RequestWord.{RequestWord}
+use Rattle.request_text.specs.declared.request_word.RequestWord.TheVariants as word
 use Rattle.request_text.specs.declared.request_line.ReadRequest.{ReadRequest}
-use Rattle.request_text.specs.declared.request_line.ReadRequest.TheVariants.{Read, Bad}
-use Rattle.request_text.specs.Reading.{has_bodies, leasts_of, fits_count, numbers_in, made, by_numbers}
+use Rattle.request_text.specs.declared.request_line.ReadRequest.TheVariants.{Read, Bad, OutOfMemory}
+use Rattle.line_words.specs.Words.{is_empty, words_of, first_word}
+use Rattle.request_text.specs.Reading.{word_of, has_bodies, leasts_of, fits_count, numbers_in, bodies_in, made, by_bodies, by_numbers, by_count, by_word, takes_memory, reading_of}
 use Rattle.request_text.specs.Words.{asked}
 
 pub asked_none : (w : RequestWord) (ws : List (List ℕ)) → numbers_in (leasts_of w) ws ≡ None → None ≡ asked w ws
@@ -42,6 +45,48 @@ plain_fails w ws plain fits e =
     sym (by_none w (numbers_in (leasts_of w) ws) (drop (length (leasts_of w)) ws) (drop_all (length (leasts_of w)) ws all) ∙ ap plain_answer (sym e))
 
 pub ruleset counted = (plain_reads, plain_fails)
+
+-- ## Where memory is wanted
+journal_bodies : (e s c m f : ℕ) (bodies : Option (List (List ℕ))) → takes_memory (by_bodies word.Journal (e ∷ s ∷ c ∷ m ∷ f ∷ []) bodies) ≡ true
+journal_bodies e s c m f None = refl
+journal_bodies e s c m f (Some bodies) = refl
+
+pub journal_takes : (ns : Option (List ℕ)) (e s c m f : ℕ) (ws : List (List ℕ)) → ns ≡ Some (e ∷ s ∷ c ∷ m ∷ f ∷ []) → takes_memory (by_numbers word.Journal ns ws) ≡ true
+journal_takes ns e s c m f ws h = ap (λ xs. takes_memory (by_numbers word.Journal xs ws)) h ∙ journal_bodies e s c m f (bodies_in ws)
+
+accept_bodies : (e s c f : ℕ) (bodies : Option (List (List ℕ))) → takes_memory (by_bodies word.Accept (e ∷ s ∷ c ∷ f ∷ []) bodies) ≡ true
+accept_bodies e s c f None = refl
+accept_bodies e s c f (Some bodies) = refl
+
+pub accept_takes : (ns : Option (List ℕ)) (e s c f : ℕ) (ws : List (List ℕ)) → ns ≡ Some (e ∷ s ∷ c ∷ f ∷ []) → takes_memory (by_numbers word.Accept ns ws) ≡ true
+accept_takes ns e s c f ws h = ap (λ xs. takes_memory (by_numbers word.Accept xs ws)) h ∙ accept_bodies e s c f (bodies_in ws)
+
+-- what a line says isn't want of memory
+bodies_told : (w : RequestWord) (ns : List ℕ) (bodies : Option (List (List ℕ))) → by_bodies w ns bodies ≢ OutOfMemory
+bodies_told w ns None e = cc
+bodies_told w ns (Some bodies) e = cc
+
+numbers_told : (w : RequestWord) (ns : Option (List ℕ)) (ws : List (List ℕ)) → by_numbers w ns ws ≢ OutOfMemory
+numbers_told w None ws e = cc
+numbers_told w (Some ns) ws e = bodies_told w ns (bodies_in ws) e
+
+count_told : (w : RequestWord) (ws : List (List ℕ)) (b : Bool) → by_count w ws b ≢ OutOfMemory
+count_told w ws true e = numbers_told w (numbers_in (leasts_of w) (drop 1 ws)) (drop (length (leasts_of w)) (drop 1 ws)) e
+count_told w ws false e = cc
+
+word_told : (o : Option RequestWord) (ws : List (List ℕ)) → by_word o ws ≢ OutOfMemory
+word_told None ws e = cc
+word_told (Some w) ws e = count_told w ws (not (list_any is_empty ws) && fits_count w (length ws)) e
+
+-- of the rules, 8 alone takes memory
+pub bad_takes : (line : List ℕ) (rule : ℕ) → takes_memory (reading_of line) ≡ true → reading_of line ≡ Bad rule → rule ≡ 8
+bad_takes line rule h e =
+    let is : (rule == 8) ≡ true = sym (ap takes_memory e) ∙ h in
+    grind (arith, nat_tests)
+
+pub reading_told : (line : List ℕ) → reading_of line ≢ OutOfMemory
+unfolding reading_of
+reading_told line e = word_told (word_of (first_word (words_of line))) (words_of line) e
 
 pub length_behind : (ws : List (List ℕ)) → 0 < length ws → length (drop 1 ws) + 1 ≡ length ws
 length_behind ws l = omega (arith, length-drop 1 ws)

@@ -1,4 +1,3 @@
-pub mod Appends
 pub mod Texts
 pub mod Reading
 pub mod Words

@@ -1,5 +1,7 @@
 -- Which requests have a text, and what reading and printing have to do with each other.
 use Rattle.std.specs.Prelude.{ℕ, ◌≡◌, ◌≤◌, ◌<◌, ◌^◌, true, List, [], ◌∷◌, length}
+use Rattle.std.specs.List.{AllByRecursion}
+use Rattle.line_words.specs.Hex.{IsByte}
 use Rattle.journal_core.specs.declared.request.Request.{Request}
 use Rattle.journal_core.specs.declared.request.Request.TheVariants as request
 use Rattle.request_text.specs.declared.request_word.RequestWord.{RequestWord}
@@ -42,24 +44,16 @@ AreNumbers [] [] = Unit {0}
 AreNumbers (l ∷ ls) (n ∷ ns) = (l ≤ n) × (n < 2 ^ 64) × AreNumbers ls ns
 AreNumbers _ _ = ⊥
 
-abbrev pub AreBytes : List ℕ → Type 0
-AreBytes [] = Unit {0}
-AreBytes (b ∷ bs) = (b < 256) × AreBytes bs
-
 -- one to 4,096 bytes
 pub record IsBody (body : List ℕ) : Type 0 where
   pub some : 0 < length body
   pub short : length body ≤ 4096
-  pub bytes : AreBytes body
-
-abbrev pub AreBodies : List (List ℕ) → Type 0
-AreBodies [] = Unit {0}
-AreBodies (body ∷ bodies) = IsBody body × AreBodies bodies
+  pub bytes : AllByRecursion IsByte body
 
 -- A request that has a text: its starts, first txids, epochs and serials are at least 1, its batch has a body, and each body is one.
 pub record IsRequest (r : Request) : Type 0 where
   pub numbers : AreNumbers (leasts_of (word_for r)) (numbers_for r)
-  pub bodies : AreBodies (bodies_of r)
+  pub bodies : AllByRecursion IsBody (bodies_of r)
   pub some : has_bodies (word_for r) ≡ true → 0 < length (bodies_of r)
 
 -- what is printed is read as the same request

@@ -1,7 +1,11 @@
 -- The request that a line says, or the first rule that it breaks.
-use Rattle.std.specs.Prelude.{ℕ, ◌+◌, ◌-◌, ◌*◌, ◌^◌, ◌==◌, ◌&&◌, ◌||◌, Bool, true, false, not, nat_lt, nat_le, List, [], ◌∷◌, length, drop, Option, Some, None, if◌then◌else◌, codes, decimal}
-use Rattle.std.specs.List.{slice_split, list_any}
+use Rattle.std.specs.Prelude.{ℕ, ◌+◌, ◌-◌, ◌^◌, ◌==◌, ◌&&◌, ◌||◌, Bool, true, false, not, nat_lt, List, [], ◌∷◌, length, drop, Option, Some, None, if◌then◌else◌, codes}
+use Rattle.std.specs.List.{list_any}
 use Rattle.std.specs.Str.{bytes_eq}
+use Rattle.std.specs.Str.Parse.{digits_value}
+use Rattle.line_words.specs.Words.{is_empty, words_of, first_word}
+use Rattle.line_words.specs.Hex.{bytes_in}
+use Rattle.line_words.specs.Numbers.{is_number}
 use Rattle.journal_core.specs.Views.{HeadView}
 use Rattle.journal_core.specs.declared.request.Request.{Request}
 use Rattle.journal_core.specs.declared.request.Request.TheVariants as request
@@ -9,21 +13,6 @@ use Rattle.request_text.specs.declared.request_word.RequestWord.{RequestWord}
 use Rattle.request_text.specs.declared.request_word.RequestWord.TheVariants as word
 use Rattle.request_text.specs.declared.request_line.ReadRequest.{ReadRequest}
 use Rattle.request_text.specs.declared.request_line.ReadRequest.TheVariants.{Read, Bad}
-
-abbrev pub is_space : ℕ → Bool
-is_space b = b == 32
-
--- what stands between the spaces
-abbrev pub words_of : List ℕ → List (List ℕ)
-words_of line = slice_split is_space line
-
-abbrev pub is_blank : List ℕ → Bool
-is_blank word = length word == 0
-
--- the first word that isn't empty
-abbrev pub first_word : List (List ℕ) → List ℕ
-first_word [] = []
-first_word (w ∷ ws) = if is_blank w then first_word ws else w
 
 abbrev pub word_text : RequestWord → List ℕ
 word_text word.State = codes "state"
@@ -74,15 +63,9 @@ has_bodies _ = false
 abbrev pub fits_count : RequestWord → ℕ → Bool
 fits_count w count = if has_bodies w then nat_lt (length (leasts_of w) + 1) count else (length (leasts_of w) + 1) == count
 
--- the number whose digits these are
-abbrev pub value_after : ℕ → List ℕ → ℕ
-value_after n [] = n
-value_after n (c ∷ cs) = value_after (n * 10 + (c - 48)) cs
-
 -- a decimal number without a leading zero, of 64 bits and no less than that
 unfoldable pub number_in : ℕ → List ℕ → Option ℕ
-number_in least w =
-    if nat_lt (value_after 0 w) (2 ^ 64) && (nat_le least (value_after 0 w) && bytes_eq (decimal (value_after 0 w)) w) then Some (value_after 0 w) else None
+number_in least w = if is_number least (2 ^ 64 - 1) w then Some (digits_value 10 w) else None
 
 abbrev pub put_first : {A : Type 0} → Option A → Option (List A) → Option (List A)
 put_first (Some x) (Some xs) = Some (x ∷ xs)
@@ -94,25 +77,9 @@ numbers_in [] ws = Some []
 numbers_in (l ∷ ls) [] = None
 numbers_in (l ∷ ls) (w ∷ ws) = put_first (number_in l w) (numbers_in ls ws)
 
--- a digit of base 16, in lower case
-abbrev pub digit_in : ℕ → Option ℕ
-digit_in c = if nat_le 48 c && nat_le c 57 then Some (c - 48) else if nat_le 97 c && nat_le c 102 then Some (c - 87) else None
-
-abbrev pub byte_on : Option ℕ → Option ℕ → Option (List ℕ) → Option (List ℕ)
-byte_on (Some x) (Some y) (Some bs) = Some ((16 * x + y) ∷ bs)
-byte_on (Some x) (Some y) None = None
-byte_on (Some x) None bs = None
-byte_on None y bs = None
-
--- two digits for each byte
-abbrev pub bytes_in : List ℕ → Option (List ℕ)
-bytes_in [] = Some []
-bytes_in (a ∷ []) = None
-bytes_in (a ∷ b ∷ cs) = byte_on (digit_in a) (digit_in b) (bytes_in cs)
-
 abbrev pub body_of_size : Option (List ℕ) → Option (List ℕ)
 body_of_size None = None
-body_of_size (Some bs) = if is_blank bs || nat_lt 4096 (length bs) then None else Some bs
+body_of_size (Some bs) = if is_empty bs || nat_lt 4096 (length bs) then None else Some bs
 
 -- a body of one to 4,096 bytes
 unfoldable pub body_in : List ℕ → Option (List ℕ)
@@ -157,7 +124,14 @@ by_count w ws false = Bad 3
 -- rule 2: no such word
 abbrev pub by_word : Option RequestWord → List (List ℕ) → ReadRequest
 by_word None ws = Bad 2
-by_word (Some w) ws = by_count w ws (not (list_any is_blank ws) && fits_count w (length ws))
+by_word (Some w) ws = by_count w ws (not (list_any is_empty ws) && fits_count w (length ws))
+
+-- Memory is wanted for bodies alone: those of a request, and those in front of the one that isn't one.
+abbrev pub takes_memory : ReadRequest → Bool
+takes_memory (Read (request.Journal head start batch)) = true
+takes_memory (Read (request.Accept head batch)) = true
+takes_memory (Bad rule) = rule == 8
+takes_memory _ = false
 
 -- what a line says
 unfoldable pub reading_of : List ℕ → ReadRequest

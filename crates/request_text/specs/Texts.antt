@@ -1,5 +1,6 @@
 -- The texts of requests and replies: words behind one another with one space between.
-use Rattle.std.specs.Prelude.{ℕ, ◌+◌, ◌/◌, ◌%◌, nat_lt, Bool, true, false, List, [], ◌∷◌, ◌++◌, Option, Some, None, if◌then◌else◌, codes, decimal}
+use Rattle.std.specs.Prelude.{ℕ, Bool, true, false, List, [], ◌∷◌, ◌++◌, Option, Some, None, codes, decimal}
+use Rattle.line_words.specs.Hex.{hex_text}
 use Rattle.journal_core.specs.Views.{HeadView}
 use Rattle.journal_core.specs.declared.segment_info.SegmentInfo.{SegmentInfo}
 use Rattle.journal_core.specs.declared.segment_line.SegmentLine.{SegmentLine}
@@ -19,15 +20,6 @@ spaced word = 32 ∷ word
 unfoldable pub numbers_text : List ℕ → List ℕ
 numbers_text [] = []
 numbers_text (n ∷ ns) = spaced (decimal n) ++ numbers_text ns
-
--- a digit of base 16, in lower case
-abbrev pub hex_digit : ℕ → ℕ
-hex_digit d = if nat_lt d 10 then 48 + d else 87 + d
-
--- two digits for each byte
-unfoldable pub hex_text : List ℕ → List ℕ
-hex_text [] = []
-hex_text (b ∷ bs) = hex_digit (b / 16) ∷ hex_digit (b % 16) ∷ hex_text bs
 
 -- bodies, each behind a space
 unfoldable pub bodies_text : List (List ℕ) → List ℕ

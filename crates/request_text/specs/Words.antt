@@ -1,9 +1,10 @@
 -- What is left of a line.
 use Rattle.std.specs.Prelude.{ℕ, List, [], ◌∷◌, Option, Some, None, option_map}
+use Rattle.line_words.specs.Words.{words_of}
 use Rattle.journal_core.specs.Views.{HeadView}
 use Rattle.journal_core.specs.declared.request.Request.{Request}
 use Rattle.request_text.specs.declared.request_word.RequestWord.{RequestWord}
-use Rattle.request_text.specs.Reading.{words_of, leasts_of, numbers_in, made}
+use Rattle.request_text.specs.Reading.{leasts_of, numbers_in, made}
 
 abbrev pub words_left : Option (List ℕ) → List (List ℕ)
 words_left None = []

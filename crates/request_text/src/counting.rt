@@ -1,7 +1,8 @@
 // How long texts are, without writing them: each call adds a text's length to a count, which stands still at 2^64 - 1.
 ghost use Rattle.std.specs.Prelude.{◌≡◌, ◌∷◌, ◌++◌, decimal};
 ghost use Rattle.request_text.specs.Counts.{counted};
-ghost use Rattle.request_text.specs.Texts.{hex_text, numbers_text, bodies_text, asked_by, request_text};
+ghost use Rattle.line_words.specs.Hex.{hex_text};
+ghost use Rattle.request_text.specs.Texts.{numbers_text, bodies_text, asked_by, request_text};
 
 use itoa::write_digits;
 use journal_core::{BodyList, Head, Request};

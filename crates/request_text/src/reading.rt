@@ -1,12 +1,13 @@
 // The reading of a request line.
-ghost use Rattle.std.specs.Prelude.{◌≡◌, ◌≢◌, ◌<◌, ◌+◌, [], ◌∷◌, length, drop, None, Some, false, IfOk, IsTrue, OnSome, MatchOption};
-ghost use Rattle.request_text.specs.Reading.{leasts_of, has_bodies, fits_count, numbers_in, by_numbers, reading_of};
+ghost use Rattle.std.specs.Prelude.{◌≡◌, ◌≢◌, ◌<◌, ◌+◌, [], ◌∷◌, length, drop, None, Some, true, false, IfOk, OnErr, IsTrue, OnSome, MatchOption};
+ghost use Rattle.request_text.specs.Reading.{leasts_of, has_bodies, fits_count, numbers_in, by_numbers, reading_of, takes_memory};
 ghost use Rattle.request_text.specs.Words.{asked};
 
 use crate::request_line::ReadRequest;
 use crate::request_word::RequestWord;
-use crate::words::{Words, count_words, first_word};
-use journal_core::{Batch, Head, Request};
+use crate::words::Words;
+use journal_core::{Batch, Head, MAX_BODY, Request};
+use line_words::{count_words, first_word};
 use qj_num::OutOfMemory;
 use std::alloc::Global;
 
@@ -77,15 +78,16 @@ fn read_journal_numbers(words: &mut Words) -> Option<(Head, u64, u64)>
     Some((head, start, first))
 }
 
-#[tactic(auto, using(crate::proofs::ReadLaws::some_bodies))]
+#[tactic(auto, using(crate::proofs::ReadLaws::some_bodies, crate::proofs::ReadLaws::journal_takes))]
 fn read_journal(alloc: Global, words: &mut Words) -> Result<ReadRequest, OutOfMemory>
     requires { 5 < length words.old }
-    ensures { IfOk result (λ read. read ≡ by_numbers RequestWord.Journal (numbers_in (leasts_of RequestWord.Journal) words.old) (drop 5 words.old)) }
+    ensures read { IfOk result (λ read. read ≡ by_numbers RequestWord.Journal (numbers_in (leasts_of RequestWord.Journal) words.old) (drop 5 words.old)) }
+    ensures memory { OnErr result (takes_memory (by_numbers RequestWord.Journal (numbers_in (leasts_of RequestWord.Journal) words.old) (drop 5 words.old)) ≡ true) }
 {
     let Some((head, start, first)) = read_journal_numbers(words) else {
         return Ok(ReadRequest::Bad { rule: 7 });
     };
-    let Some(bodies) = words.bodies(alloc)? else {
+    let Some(bodies) = words.bodies(alloc, &mut [0; MAX_BODY])? else {
         return Ok(ReadRequest::Bad { rule: 8 });
     };
     let batch = Batch::new(first, bodies);
@@ -102,15 +104,16 @@ fn read_accept_numbers(words: &mut Words) -> Option<(Head, u64)>
     Some((head, first))
 }
 
-#[tactic(auto, using(crate::proofs::ReadLaws::some_bodies))]
+#[tactic(auto, using(crate::proofs::ReadLaws::some_bodies, crate::proofs::ReadLaws::accept_takes))]
 fn read_accept(alloc: Global, words: &mut Words) -> Result<ReadRequest, OutOfMemory>
     requires { 4 < length words.old }
-    ensures { IfOk result (λ read. read ≡ by_numbers RequestWord.Accept (numbers_in (leasts_of RequestWord.Accept) words.old) (drop 4 words.old)) }
+    ensures read { IfOk result (λ read. read ≡ by_numbers RequestWord.Accept (numbers_in (leasts_of RequestWord.Accept) words.old) (drop 4 words.old)) }
+    ensures memory { OnErr result (takes_memory (by_numbers RequestWord.Accept (numbers_in (leasts_of RequestWord.Accept) words.old) (drop 4 words.old)) ≡ true) }
 {
     let Some((head, first)) = read_accept_numbers(words) else {
         return Ok(ReadRequest::Bad { rule: 7 });
     };
-    let Some(bodies) = words.bodies(alloc)? else {
+    let Some(bodies) = words.bodies(alloc, &mut [0; MAX_BODY])? else {
         return Ok(ReadRequest::Bad { rule: 8 });
     };
     let batch = Batch::new(first, bodies);
@@ -144,7 +147,8 @@ fn read_words(
     words: &mut Words,
 ) -> Result<ReadRequest, OutOfMemory>
     requires { IsTrue (fits_count word (length words.old + 1)) }
-    ensures { IfOk result (λ read. read ≡ by_numbers word (numbers_in (leasts_of word) words.old) (drop (length (leasts_of word)) words.old)) }
+    ensures read { IfOk result (λ read. read ≡ by_numbers word (numbers_in (leasts_of word) words.old) (drop (length (leasts_of word)) words.old)) }
+    ensures memory { OnErr result (takes_memory (by_numbers word (numbers_in (leasts_of word) words.old) (drop (length (leasts_of word)) words.old)) ≡ true) }
 {
     match word {
         RequestWord::Journal => read_journal(alloc, words),
@@ -158,7 +162,8 @@ fn read_words(
 
 #[tactic(auto, using(crate::proofs::ReadLaws::lines), unfolding(crate::specs::Reading::reading_of))]
 fn read_line(alloc: Global, line: &[u8]) -> Result<ReadRequest, OutOfMemory>
-    ensures { IfOk result (λ read. read ≡ reading_of line.now) }
+    ensures read { IfOk result (λ read. read ≡ reading_of line.now) }
+    ensures memory { OnErr result (takes_memory (reading_of line.now) ≡ true) }
 {
     let Some(word) = RequestWord::of(first_word(line)) else {
         return Ok(ReadRequest::Bad { rule: 2 });
@@ -173,9 +178,11 @@ fn read_line(alloc: Global, line: &[u8]) -> Result<ReadRequest, OutOfMemory>
     read_words(alloc, word, &mut words)
 }
 
-/// The request that a line says, without its line feed, or the first rule that it breaks.
+/// The request that a line says, without its line feed, or the first rule that it breaks. Want of memory is told only where
+/// bodies are read: rules 2, 3 and 7 are always told, and so is a request without bodies.
 pub fn read_request(alloc: Global, line: &[u8]) -> ReadRequest
-    ensures { result ≢ ReadRequest.OutOfMemory → result ≡ reading_of line.now }
+    ensures read { result ≢ ReadRequest.OutOfMemory → result ≡ reading_of line.now }
+    ensures memory { result ≡ ReadRequest.OutOfMemory → takes_memory (reading_of line.now) ≡ true }
 {
     match read_line(alloc, line) {
         Ok(read) => read,

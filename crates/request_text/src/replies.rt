@@ -1,10 +1,11 @@
 // The texts of replies, and of causes.
 ghost use Rattle.std.specs.Prelude.{◌≡◌, ◌++◌, ◌∷◌, [], OnOk, OnErr};
-ghost use Rattle.request_text.specs.Appends.{Keeps};
+ghost use Rattle.line_words.specs.Appends.{Keeps};
 ghost use Rattle.request_text.specs.Texts.{numbers_text, kind_text, accepted_text, told_text, line_text, lines_text, newest_text, refusal_number, refusal_name, refusal_field, field_text, reply_text, refusal_cause_text, spaced};
 
-use crate::printing::{put, put_bodies, put_marked, put_numbers};
+use crate::printing::{put_bodies, put_marked, put_numbers};
 use journal_core::{Refusal, Reply, SegmentLine, ToldSegment};
+use line_words::put;
 use qj_num::OutOfMemory;
 
 /// Adds a reply's text at the end. An `Err` leaves all as it was.

@@ -1,10 +1,11 @@
 // The texts of requests.
 ghost use Rattle.std.specs.Prelude.{◌≡◌, ◌++◌, OnOk, OnErr};
-ghost use Rattle.request_text.specs.Appends.{Keeps};
+ghost use Rattle.line_words.specs.Appends.{Keeps};
 ghost use Rattle.request_text.specs.Texts.{request_text};
 
-use crate::printing::{put, put_asked, put_bodies, put_numbers};
+use crate::printing::{put_asked, put_bodies, put_numbers};
 use journal_core::Request;
+use line_words::put;
 use qj_num::OutOfMemory;
 
 /// Adds a request's text at the end. An `Err` leaves all as it was.

@@ -1,10 +1,10 @@
 -- What may come at a node before its answer to a prepare: only requests of lower epochs; and what stands between a purge and a later segment.
-use Rattle.std.proofs.Common.{◌≡◌, ℕ, zero, suc, ◌+◌, ◌-◌, ◌<◌, ◌≤◌, max, ◌⊎◌, List, [], ◌∷◌, ◌++◌, take, Option, Some, None, refl, inl, inr, arith, sym, ap, ◌∙◌, nat_lt}
-use Rattle.std.proofs.lemmas.Bool.{cases_lt, cases_eq, cond_both, ltb-false}
-use Rattle.journal_core.specs.Effects.{Effect, Promise, after_effect, after_effects}
+use Rattle.std.proofs.Common.{◌≡◌, ℕ, zero, suc, ◌+◌, ◌-◌, ◌<◌, ◌≤◌, max, ◌⊎◌, List, ◌∷◌, Option, Some, None, refl, inl, inr, arith, sym, ap, ◌∙◌}
+use Rattle.std.proofs.lemmas.Bool.{cases_lt, cases_eq}
+use Rattle.journal_core.specs.Effects.{after_effects}
 use Rattle.journal_core.specs.Limits.{head_of}
 use Rattle.journal_core.specs.Segments.{find_segment, HasAt}
-use Rattle.journal_core.specs.Step.{node_step, effects_of, refused_at_once, row_effects, fronted, front_effects, front_promised}
+use Rattle.journal_core.specs.Step.{node_step, refused_at_once, row_effects, fronted, front_promised}
 use Rattle.journal_core.specs.Views.{HeadView, last_txid}
 use Rattle.journal_core.specs.declared.node_state.NodeState.{NodeState}
 use Rattle.journal_core.specs.declared.reply.Reply.{Reply}
@@ -14,7 +14,7 @@ use Rattle.journal_core.specs.declared.segment.Segment.{Segment}
 use Rattle.writer_core.specs.Whole.{Takeover}
 use Rattle.node_history.specs.Entries.{Entry, Move, Answer, Stop, Way, moved, node_after, Earlier, now, before}
 use Rattle.run_safety.proofs.SeenLaws.{Round, Propose, Ask, Get, Open, Other, Recover, Seal, Write, Clean, Writer, seen_at}
-use Rattle.journal_core.proofs.Steps.{Acted, at_once, by_row, done, acted, none≢some, append_nil}
+use Rattle.journal_core.proofs.Steps.{Acted, at_once, by_row, done, acted, none≢some}
 use Rattle.journal_core.proofs.SegmentLaws.{stopped_is_promised}
 use Rattle.journal_core.proofs.Changes.{Change, same, created, grown, made_final, replaced, removed}
 use Rattle.journal_core.proofs.Opened.{promise_done, IsProposal}

@@ -1,5 +1,5 @@
 -- Between the start of a segment for which a finalise was done and its end no other segment begins.
-use Rattle.std.proofs.Common.{◌≡◌, ℕ, suc, ◌+◌, ◌<◌, ◌≤◌, max, ◌⊎◌, List, length, Some, refl, inl, inr, arith, sym, ap, ◌∙◌}
+use Rattle.std.proofs.Common.{◌≡◌, ℕ, suc, ◌<◌, ◌≤◌, max, ◌⊎◌, List, length, Some, refl, inl, inr, arith, sym, ◌∙◌}
 use Rattle.std.specs.Prelude.{slice_get}
 use Rattle.std.proofs.lemmas.Bool.{cases_lt, cases_order}
 use Rattle.journal_core.specs.Segments.{HasAt}

@@ -1,5 +1,5 @@
 -- A final copy of a segment has all that was held of it under its epoch, and is what is held of it under each higher epoch.
-use Rattle.std.proofs.Common.{◌≡◌, ℕ, suc, ◌+◌, ◌<◌, ◌≤◌, max, true, List, length, Some, refl, inl, inr, arith, sym, ap, ◌∙◌, subst}
+use Rattle.std.proofs.Common.{◌≡◌, ℕ, suc, ◌+◌, ◌<◌, ◌≤◌, true, List, length, Some, refl, inl, inr, arith, sym, ap, ◌∙◌}
 use Rattle.std.specs.Prelude.{slice_get}
 use Rattle.journal_core.specs.Segments.{find_segment, end_of, HasAt}
 use Rattle.journal_core.specs.Views.{last_txid}
@@ -8,7 +8,6 @@ use Rattle.node_history.specs.Entries.{Entry, node_after}
 use Rattle.run_safety.specs.Run.{Story, Follows}
 use Rattle.run_safety.specs.Safe.{IsHeld}
 use Rattle.run_safety.proofs.Places.{Follows-earlier}
-use Rattle.run_safety.proofs.Sent.{to}
 use Rattle.run_safety.proofs.Shapes.{Shape, by_recovery, by_opening, shaped, Shaped-later, Maj}
 use Rattle.run_safety.proofs.Epochs.{Fin, held_wrote, same_epoch, higher_epoch}
 use Rattle.run_safety.proofs.Finals.{Sealed, sealed}

@@ -1,20 +1,18 @@
 -- A node that answered a finalise with Ok holds the segment, unless a later start has an acknowledged edit under an epoch that isn't above its promise.
-use Rattle.std.proofs.Common.{◌≡◌, ℕ, ◌+◌, ◌<◌, ◌≤◌, ◌⊎◌, true, false, List, ◌∷◌, length, Option, Some, None, refl, inl, inr, arith, sym, ap, ◌∙◌, subst}
-use Rattle.std.proofs.lemmas.Bool.{cases_lt, cases_eq, cases_order, cond-true}
+use Rattle.std.proofs.Common.{◌≡◌, ℕ, ◌+◌, ◌<◌, ◌≤◌, ◌⊎◌, true, false, List, ◌∷◌, length, Option, Some, refl, inl, inr, arith, sym, ap, ◌∙◌, subst}
+use Rattle.std.proofs.lemmas.Bool.{cases_lt, cases_eq, cond-true}
 use Rattle.journal_core.specs.Limits.{head_of}
-use Rattle.journal_core.specs.Segments.{find_segment, newest, has_edit, end_of, HasAt}
+use Rattle.journal_core.specs.Segments.{find_segment, has_edit, end_of}
 use Rattle.journal_core.specs.Step.{node_step, last_or_start}
-use Rattle.journal_core.specs.Views.{HeadView, BatchView}
-use Rattle.journal_core.specs.declared.node_state.NodeState.{NodeState}
+use Rattle.journal_core.specs.Views.{HeadView}
 use Rattle.journal_core.specs.declared.reply.Reply.{Reply}
 use Rattle.journal_core.specs.declared.reply.Reply.TheVariants.{Ok}
 use Rattle.journal_core.specs.declared.request.Request.{Request}
-use Rattle.journal_core.specs.declared.request.Request.TheVariants.{Journal, Finalize, Purge}
+use Rattle.journal_core.specs.declared.request.Request.TheVariants.{Journal, Finalize}
 use Rattle.journal_core.specs.declared.segment.Segment.{Segment}
 use Rattle.journal_core.proofs.SegmentLists.{find-start}
 use Rattle.journal_core.proofs.Steps.{front_le}
 use Rattle.journal_core.proofs.Changes.{Change, same, created, grown, made_final, replaced, removed, NoEdit, NotFinal}
-use Rattle.run_safety.specs.Majority.{Member}
 use Rattle.node_history.specs.Entries.{Heard, Answer, Entry, Earlier, moved, node_after}
 use Rattle.run_safety.specs.Run.{Story, Follows, IsNext}
 use Rattle.run_safety.specs.Safe.{SaidOk}
@@ -22,7 +20,7 @@ use Rattle.run_safety.specs.Parts.{IsAcknowledgedIn}
 use Rattle.run_safety.proofs.Places.{Earlier-trans, Earlier-tail, next_of}
 use Rattle.run_safety.proofs.SoundNodes.{stored_after, promise_earlier}
 use Rattle.run_safety.proofs.Along.{Requested, Changes, along, node_here}
-use Rattle.run_safety.proofs.Slots.{none≢some, some_same, true≢false}
+use Rattle.run_safety.proofs.Slots.{some_same, true≢false}
 use Rattle.run_safety.proofs.SeenLaws.{Clean, Seal, Write, Writer, seen_at, asked, is_ok_kind}
 use Rattle.run_safety.proofs.Frames.{Framed, OkHeard, IsGet, IsWriting}
 use Rattle.run_safety.proofs.Rounds.{frame}

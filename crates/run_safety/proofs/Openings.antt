@@ -1,5 +1,5 @@
 -- Why a segment is opened: no newest start was told, nothing of the segment was told, or the same epoch finalised the segment before it.
-use Rattle.std.proofs.Common.{◌≡◌, ℕ, zero, suc, ◌+◌, ◌<◌, ◌≤◌, ◌⊎◌, true, List, ◌∷◌, Option, Some, None, refl, inl, inr, arith, sym, ap, ◌∙◌}
+use Rattle.std.proofs.Common.{◌≡◌, ℕ, zero, suc, ◌+◌, ◌<◌, ◌⊎◌, true, List, ◌∷◌, Option, Some, None, refl, inl, inr, arith, sym, ap, ◌∙◌}
 use Rattle.journal_core.specs.declared.request.Request.TheVariants.{NewEpoch}
 use Rattle.journal_core.specs.declared.reply.Reply.{Reply}
 use Rattle.journal_core.specs.declared.reply.Reply.TheVariants.{NewEpoch as EpochTaken, Prepared}
@@ -7,19 +7,18 @@ use Rattle.journal_core.specs.declared.segment_info.SegmentInfo.{SegmentInfo}
 use Rattle.journal_core.specs.declared.heard.Heard.TheVariants.{Answer as AnswerHeard}
 use Rattle.writer_core.specs.declared.slot.Slot.TheVariants.{Told}
 use Rattle.writer_core.specs.Answers.{fits_propose}
-use Rattle.writer_core.specs.Best.{Best, best_of, segment_told}
-use Rattle.run_safety.specs.Majority.{Member}
+use Rattle.writer_core.specs.Best.{best_of, segment_told}
 use Rattle.node_history.specs.Entries.{Heard, Entry, Answer, Earlier}
 use Rattle.run_safety.specs.Run.{Story, Follows}
 use Rattle.run_safety.specs.Safe.{IsStart}
 use Rattle.run_safety.specs.Parts.{IsFinalised, ToldNewest, ToldPrepare, NoneToldNewest, NoneToldPrepare}
 use Rattle.run_safety.proofs.Places.{Earlier-trans}
-use Rattle.run_safety.proofs.Slots.{some_same, IsTop, best_is_top, AtLeast, told_newest}
-use Rattle.run_safety.proofs.SeenLaws.{Propose, Open, Seal, Writer, is_ok_kind, seen_at, seen_first, asked}
-use Rattle.run_safety.proofs.Frames.{Newest, Counted, OkHeard, IsAsking, IsGet}
+use Rattle.run_safety.proofs.Slots.{some_same, IsTop, best_is_top, told_newest}
+use Rattle.run_safety.proofs.SeenLaws.{Propose, Open, Writer, is_ok_kind, seen_first, asked}
+use Rattle.run_safety.proofs.Frames.{Newest, OkHeard, IsGet}
 use Rattle.run_safety.proofs.Rounds.{Comes, comes}
 use Rattle.run_safety.proofs.Before.{OpenedBy, at_one, found_none, after_seal_of, open_before, proposal_first}
-use Rattle.run_safety.proofs.Sent.{Sent, Sent-round, Answered, Answers, answers_of, Vote, vote_of, to}
+use Rattle.run_safety.proofs.Sent.{Sent, Answered, Answers, answers_of, Vote, vote_of, to}
 use Rattle.run_safety.proofs.Epochs.{Opn}
 use Rattle.run_safety.proofs.Prepares.{Asking, AnswerAt, answer_at, answers}
 use Rattle.run_safety.proofs.Induction.{asking_of, seal_done}

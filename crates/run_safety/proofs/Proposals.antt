@@ -1,8 +1,7 @@
 -- What a proposal is told where a lower epoch has a chosen body; and how a segment goes from a node.
-use Rattle.std.proofs.Common.{◌≡◌, ℕ, ◌+◌, ◌<◌, ◌≤◌, true, List, ◌∷◌, Option, None, Some, refl, inl, inr, arith, sym, ap, ◌∙◌}
-use Rattle.journal_core.specs.Limits.{head_of}
+use Rattle.std.proofs.Common.{◌≡◌, ℕ, ◌<◌, ◌≤◌, true, List, ◌∷◌, Option, None, Some, refl, inl, inr, arith, sym, ap, ◌∙◌}
 use Rattle.journal_core.specs.Segments.{find_segment, newest, has_edit, HasAt}
-use Rattle.journal_core.specs.Step.{node_step, last_or_start}
+use Rattle.journal_core.specs.Step.{last_or_start}
 use Rattle.journal_core.specs.Views.{HeadView}
 use Rattle.journal_core.specs.declared.node_state.NodeState.{NodeState}
 use Rattle.journal_core.specs.declared.reply.Reply.TheVariants.{NewEpoch as EpochTaken}
@@ -18,7 +17,7 @@ use Rattle.run_safety.specs.Safe.{IsHeld, IsChosen, IsOf}
 use Rattle.run_safety.specs.Parts.{ToldNewest}
 use Rattle.run_safety.proofs.Places.{Earlier-tail, next_of}
 use Rattle.run_safety.proofs.Majorities.{majorities_share}
-use Rattle.run_safety.proofs.Along.{node_here, entry_change, Changes}
+use Rattle.run_safety.proofs.Along.{node_here, entry_change}
 use Rattle.run_safety.proofs.Slots.{none≢some}
 use Rattle.run_safety.proofs.Sent.{Taken, taken, to}
 use Rattle.run_safety.proofs.Values.{edit_of}

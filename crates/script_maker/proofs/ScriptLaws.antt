@@ -7,7 +7,8 @@ use Rattle.edit_ops.specs.Texts.{text_of}
 use Rattle.script_text.specs.declared.script_line.ScriptLine.{ScriptLine}
 use Rattle.script_text.specs.declared.script_line.ScriptLine.TheVariants.{Declare, Takeover, Roll, Edits, Tail, Drop, Kill, Restart}
 use Rattle.script_text.specs.Views.{ScriptView, SaidView}
-use Rattle.script_text.specs.Words.{joined, words_of, is_name, actor_of}
+use Rattle.line_words.specs.Words.{joined, words_of}
+use Rattle.script_text.specs.Words.{is_name, actor_of}
 use Rattle.script_text.specs.Edits.{edits_text}
 use Rattle.script_text.specs.Grammar.{nothing_said, said_after, words_in, line_text, MaySay, AreLines, IsScript}
 use Rattle.script_maker.specs.declared.chance.Chance.{Chance}

@@ -12,10 +12,14 @@ use std::alloc::Global;
 /// How many edits lie between two directories.
 const DIRECTORY_STEP: u64 = 100;
 
+/// No path is longer.
+const PATH_ROOM: usize = 16;
+
 fn directory_path(alloc: Global, directory: u64) -> Result<Vec<u8>, OutOfMemory>
     ensures { IfOk result (λ path. path.items ≡ directory_path directory) }
 {
-    let mut path = b"/d".to_vec(alloc)?;
+    let mut path = Vec::with_capacity(alloc, PATH_ROOM)?;
+    path.extend_from_slice(b"/d")?;
     put_decimal(&mut path, directory)?;
     Ok(path)
 }
@@ -43,7 +47,7 @@ fn directory_edit(alloc: Global, directory: u64, number: u64) -> Result<Edit, Ou
     ensures { IfOk result (λ edit. edit ≡ directory_edit directory number) }
 {
     let op = Op::Mkdir {
-        path: Name::of(directory_path(alloc, directory)?),
+        path: Name::from_slice(alloc, directory_path(alloc, directory)?.as_slice())?,
         time: number,
         permission: 0o755,
         user: owner(alloc)?,
@@ -59,7 +63,7 @@ fn file_edit(alloc: Global, directory: u64, number: u64) -> Result<Edit, OutOfMe
     ensures { IfOk result (λ edit. edit ≡ file_edit directory number) }
 {
     let op = Op::Add {
-        path: Name::of(file_path(alloc, directory, number)?),
+        path: Name::from_slice(alloc, file_path(alloc, directory, number)?.as_slice())?,
         replication: 3,
         mtime: number,
         atime: number,

@@ -12,10 +12,11 @@ use Rattle.edit_ops.proofs.TestLaws.{passes, edit_from}
 use Rattle.edit_ops.proofs.TextWords.{worded}
 use Rattle.edit_ops.proofs.SayEdits.{one_edit}
 use Rattle.script_text.specs.Lines.{Lacks}
-use Rattle.script_text.specs.Words.{joined, is_space, words_of, is_empty}
+use Rattle.line_words.specs.Words.{joined, is_space, words_of, is_empty}
 use Rattle.script_text.specs.Edits.{separator, is_separator, texts_between, are_edits, edits_text, edit_words, IsSayable}
 use Rattle.script_text.specs.Reading.{HasText}
-use Rattle.script_text.proofs.WordLaws.{words_more, words_all, words_joined, words_some, all_push}
+use Rattle.line_words.proofs.WordLaws.{words_joined, words_some}
+use Rattle.script_text.proofs.WordLaws.{words_more, words_all, all_push}
 use Rattle.script_text.proofs.BodyLaws.{IsWord, words_again}
 
 -- ## Words of texts

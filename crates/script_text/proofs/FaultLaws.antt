@@ -9,11 +9,12 @@ use Rattle.script_text.specs.declared.line_read.LineRead.TheVariants as line_rea
 use Rattle.script_text.specs.declared.script_line.ScriptLine.{ScriptLine}
 use Rattle.script_text.specs.Views.{ScriptView, SaidView}
 use Rattle.script_text.specs.Lines.{Line, Ended, Open, lines_of, is_line, is_whole, Lacks, longest_line}
-use Rattle.script_text.specs.Words.{words_of, first_word}
+use Rattle.line_words.specs.Words.{words_of, first_word}
 use Rattle.script_text.specs.Grammar.{line_text, words_in, said_after, first_line, nothing_said, texts_of, MaySay, AreLines, is_silent, telling, script_lines, IsScript, IsScriptText}
 use Rattle.script_text.specs.Rules.{kind_of, bad_spacing, rule_said, rule_of, said_first, said_behind, said_next, or_later, first_fault, fault_of}
 use Rattle.script_text.specs.Reading.{Says}
-use Rattle.script_text.proofs.WordLaws.{words_more, words_all, text_is}
+use Rattle.line_words.proofs.WordLaws.{text_is}
+use Rattle.script_text.proofs.WordLaws.{words_more, words_all}
 use Rattle.script_text.proofs.KindLaws.{first_is, too_few, count_behind, no_kind, ill_spaced, rule_later, line_read_as}
 use Rattle.script_text.proofs.EditLaws.{words_lack}
 use Rattle.script_text.proofs.MeansLaws.{means_kind}

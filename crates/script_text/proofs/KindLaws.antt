@@ -15,11 +15,11 @@ use Rattle.script_text.specs.declared.kind.Kind.TheVariants as kind
 use Rattle.script_text.specs.declared.line_read.LineRead.{LineRead}
 use Rattle.script_text.specs.declared.line_read.LineRead.TheVariants as line_read
 use Rattle.script_text.specs.Views.{SaidView}
-use Rattle.script_text.specs.Words.{words_of, is_empty, first_word}
+use Rattle.line_words.specs.Words.{words_of, is_empty, first_word}
 use Rattle.script_text.specs.Grammar.{keyword, belongs, kind_in}
 use Rattle.script_text.specs.Rules.{shared_kinds, own_kinds, kind_of, has_length, bad_spacing, later_rule, rule_in, rule_said}
 use Rattle.script_text.specs.Reading.{IsRead, IsLineRead}
-use Rattle.script_text.proofs.WordLaws.{one_word}
+use Rattle.line_words.proofs.WordLaws.{one_word, first_first}
 
 -- ## First words
 pub kind_is : (named : Bool) (k : Kind) → belongs named k ≡ true → kind_of named (keyword named k) ≡ Some k
@@ -92,10 +92,6 @@ or_true false = refl
 pub not_false : (a : Bool) → not a ≡ false → a ≡ true
 not_false true e = refl
 not_false false e = absurd (false≢true (sym e))
-
-first_first : (w : List ℕ) (ws : List (List ℕ)) → is_empty w ≡ false → first_word (w ∷ ws) ≡ w
-first_first [] ws e = absurd (false≢true (sym e))
-first_first (b ∷ bs) ws e = refl
 
 -- the first of several words that aren't empty
 pub first_is : (k : Kind) (words : List (List ℕ)) (w : List ℕ) (ws : List (List ℕ)) → bad_spacing k words ≡ false → words ≡ w ∷ ws → words ≡ first_word words ∷ ws

@@ -4,6 +4,7 @@ pub mod BodyLaws
 pub mod NumberLaws
 pub mod NameLaws
 pub mod KindLaws
+pub mod MemoryLaws
 pub mod EditLaws
 pub mod MeansLaws
 pub mod SenseLaws

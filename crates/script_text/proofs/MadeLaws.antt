@@ -1,7 +1,7 @@
 -- Two lines with the same words are one.
 use Rattle.std.proofs.Common.{ℕ, ◌≡◌, ◌<◌, List, [], ◌∷◌, length, Option, Some, None, true, refl, sym, ap, arith, ◌∙◌, map, decimal}
 use Rattle.std.specs.Str.Parse.{digits_value}
-use Rattle.request_text.specs.Texts.{hex_text}
+use Rattle.line_words.specs.Hex.{hex_text}
 use Rattle.journal_core.specs.declared.cut.Cut.{Cut}
 use Rattle.journal_core.specs.declared.cut.Cut.TheVariants as choice
 use Rattle.node_history.specs.declared.stop.Stop.TheVariants as stop
@@ -15,10 +15,12 @@ use Rattle.script_text.specs.declared.script_line.ScriptLine.{ScriptLine}
 use Rattle.script_text.specs.declared.script_line.ScriptLine.TheVariants as line
 use Rattle.script_text.specs.Views.{SaidView}
 use Rattle.script_text.specs.Edits.{texts_between, edits_text}
-use Rattle.script_text.specs.Words.{words_of, actor_of, name_at, choice_word, choice_of}
+use Rattle.line_words.specs.Words.{words_of}
+use Rattle.script_text.specs.Words.{actor_of, name_at, choice_word, choice_of}
 use Rattle.script_text.specs.Grammar.{belongs, keyword, kind_in, operands, words_in, IsNode, IsCount, HasSense}
 use Rattle.script_text.specs.Rules.{kind_of}
-use Rattle.script_text.proofs.BodyLaws.{unhex, bodies_back}
+use Rattle.request_text.specs.Reading.{bodies_in}
+use Rattle.request_text.proofs.BodyLaws.{bodies_read}
 use Rattle.script_text.proofs.NumberLaws.{number_again, choice_again}
 use Rattle.script_text.proofs.NameLaws.{AreKnown}
 use Rattle.script_text.proofs.EditLaws.{edits_from, edits_again}
@@ -28,6 +30,10 @@ use Rattle.script_text.proofs.SenseLaws.{AreFew}
 abbrev or_first : Option ℕ → ℕ
 or_first None = 0
 or_first (Some n) = n
+
+abbrev or_nothing : Option (List (List ℕ)) → List (List ℕ)
+or_nothing None = []
+or_nothing (Some bodies) = bodies
 
 abbrev or_old : Option Cut → Cut
 or_old None = choice.Old
@@ -42,7 +48,7 @@ made names kind.Declare (name ∷ []) = line.Declare name
 made names (kind.Task task.Takeover) (name ∷ []) = line.Takeover (place_of names name)
 made names (kind.Task task.Roll) (name ∷ []) = line.Roll (place_of names name)
 made names (kind.Task task.Close) (name ∷ []) = line.Close (place_of names name)
-made names kind.Log (name ∷ bodies) = line.Log (place_of names name) (map unhex bodies)
+made names kind.Log (name ∷ bodies) = line.Log (place_of names name) (or_nothing (bodies_in bodies))
 made names kind.Edits (name ∷ words) = line.Edits (place_of names name) (edits_from (texts_between words))
 made names kind.Trim (name ∷ extra ∷ []) = line.Trim (place_of names name) (digits_value 10 extra)
 made names (kind.Standby standby.Tail) (name ∷ []) = line.Tail (place_of names name)
@@ -74,7 +80,7 @@ module _ (said : SaidView) (k : AreKnown said.names) (f : AreFew said) where
   made_again (line.Takeover actor) s = ap line.Takeover (place actor s)
   made_again (line.Roll actor) s = ap line.Roll (place actor s)
   made_again (line.Close actor) s = ap line.Close (place actor s)
-  made_again (line.Log actor bodies) s = ap (λ a. line.Log a (map unhex (map hex_text bodies))) (place actor s.0) ∙ ap (line.Log actor) (bodies_back bodies s.2)
+  made_again (line.Log actor bodies) s = ap (λ a. line.Log a (or_nothing (bodies_in (map hex_text bodies)))) (place actor s.0) ∙ ap (λ o. line.Log actor (or_nothing o)) (bodies_read bodies s.2)
   made_again (line.Edits actor edits) s = ap (λ a. line.Edits a (edits_from (texts_between (words_of (edits_text edits))))) (place actor s.0) ∙ ap (line.Edits actor) (edits_again edits s.1 s.2)
   made_again (line.Trim actor extra) s = ap (λ a. line.Trim a (digits_value 10 (decimal extra))) (place actor s.0) ∙ ap (line.Trim actor) (number_again extra s.1)
   made_again (line.Tail actor) s = ap line.Tail (place actor s)

@@ -5,7 +5,7 @@ use Rattle.std.specs.List.{list_all, AllByRecursion}
 use Rattle.std.specs.Str.Parse.{digits_value}
 use Rattle.std.proofs.lemmas.Bool.{false≢true, and_parts}
 use Rattle.std.proofs.lemmas.Bool.Decides.{leb_tells}
-use Rattle.request_text.specs.Texts.{hex_text}
+use Rattle.line_words.specs.Hex.{hex_text}
 use Rattle.journal_core.specs.declared.cut.Cut.{Cut}
 use Rattle.node_history.specs.declared.stop.Stop.TheVariants as stop
 use Rattle.script_text.specs.declared.task_word.TaskWord.{TaskWord}
@@ -26,13 +26,18 @@ use Rattle.edit_ops.specs.Records.{EditView}
 use Rattle.edit_ops.specs.Texts.{text_of}
 use Rattle.script_text.specs.Lines.{Lacks}
 use Rattle.script_text.specs.Edits.{texts_between, are_edits, edits_text}
-use Rattle.script_text.specs.Words.{words_of, is_name, actor_of, is_number, choice_word, choice_of, is_body, greatest, IsBody}
+use Rattle.line_words.specs.Words.{words_of}
+use Rattle.line_words.specs.Numbers.{is_number, Tells}
+use Rattle.script_text.specs.Words.{is_name, actor_of, choice_word, choice_of, is_body, greatest}
 use Rattle.script_text.specs.Grammar.{most_actors}
 use Rattle.script_text.specs.Rules.{has_length, later_rule}
-use Rattle.script_text.specs.Reading.{IsRead, Names, Tells, HasText}
-use Rattle.script_text.proofs.BodyLaws.{bodies_of}
+use Rattle.script_text.specs.Reading.{IsRead, Names, HasText}
+use Rattle.request_text.specs.Reading.{bodies_in}
+use Rattle.request_text.proofs.BodyLaws.{bodies_found}
+use Rattle.script_text.proofs.BodyLaws.{bodies_of, bodies_test}
 use Rattle.script_text.proofs.EditLaws.{edits_told, said_by_texts}
-use Rattle.script_text.proofs.NumberLaws.{told_number, chosen}
+use Rattle.line_words.proofs.NumberLaws.{told_number}
+use Rattle.script_text.proofs.NumberLaws.{chosen}
 use Rattle.script_text.proofs.NameLaws.{named}
 use Rattle.script_text.proofs.KindLaws.{not_false, behind_one, behind_two, behind_three, behind_four, behind_some}
 
@@ -252,10 +257,17 @@ pub no_name : (name : List ℕ) → name ≡ [] → is_name name ≡ true → �
 unfolding is_name
 no_name name e n = false≢true (rw e at n)
 
-pub logs : (said : SaidView) (name : List ℕ) (words bodies : List (List ℕ)) (actor : ℕ) → Names said.names name actor → words ≢ [] → list_all is_body words ≡ true → map hex_text bodies ≡ words
-    → AllByRecursion IsBody bodies → IsRead said kind.Log (name ∷ words) (line_read.Says (line.Log actor bodies))
-logs said name words bodies actor n some all e h =
-    (rw (n.0, all) refl, refl, ap (λ w. w ∷ map hex_text bodies) n.1 ∙ ap (λ ws. name ∷ ws) e, (n.2, (λ none. some (sym e ∙ ap (map hex_text) none)), h))
+pub logs : (said : SaidView) (name : List ℕ) (words bodies : List (List ℕ)) (actor : ℕ) → Names said.names name actor → words ≢ [] → bodies_in words ≡ Some bodies
+    → IsRead said kind.Log (name ∷ words) (line_read.Says (line.Log actor bodies))
+logs said name words bodies actor n some read =
+    let all : list_all is_body words ≡ true = bodies_test words ∙ ap is_some read in
+    let found = bodies_found words bodies read in
+    (rw (n.0, all) refl, refl, ap (λ w. w ∷ map hex_text bodies) n.1 ∙ ap (λ ws. name ∷ ws) found.0, (n.2, (λ none. some (sym found.0 ∙ ap (map hex_text) none)), found.1))
+
+pub no_logs : (said : SaidView) (name : List ℕ) (words : List (List ℕ)) (actor : ℕ) → Names said.names name actor → bodies_in words ≡ None → IsRead said kind.Log (name ∷ words) (line_read.Broken 8)
+no_logs said name words actor n read =
+    let other : list_all is_body words ≡ false = bodies_test words ∙ ap is_some read in
+    rw (n.0, other) refl
 
 pub submits : (said : SaidView) (name : List ℕ) (words : List (List ℕ)) (edits : List EditView) (actor : ℕ) → Names said.names name actor → AllByRecursion (Lacks 32) words → are_edits words ≡ true
     → map (text_of false) edits ≡ texts_between words → AllByRecursion HasText edits → IsRead said kind.Edits (name ∷ words) (line_read.Says (line.Edits actor edits))

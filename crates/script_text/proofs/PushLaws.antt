@@ -1,13 +1,14 @@
 -- Texts that grow at the end.
-use Rattle.std.proofs.Common.{ℕ, zero, suc, ◌≡◌, ◌<◌, ◌+◌, ◌/◌, ◌%◌, List, [], ◌∷◌, ◌++◌, length, take, get_or, false, codes, refl, sym, ap, arith, ◌∙◌, append_assoc, append-nil, map}
+use Rattle.std.proofs.Common.{ℕ, zero, suc, ◌≡◌, ◌<◌, ◌+◌, List, [], ◌∷◌, ◌++◌, length, take, get_or, false, codes, refl, sym, ap, arith, ◌∙◌, append_assoc, append-nil, map}
 use Rattle.std.specs.List.{AllByRecursion}
 use Rattle.std.proofs.lemmas.List.{take_more, flat_map_more}
 use Rattle.edit_ops.specs.Records.{EditView}
 use Rattle.edit_ops.specs.Texts.{text_of}
-use Rattle.request_text.specs.Texts.{hex_text, bodies_text}
-use Rattle.script_text.specs.Words.{joined, words_of}
+use Rattle.line_words.specs.Hex.{hex_text}
+use Rattle.request_text.specs.Texts.{bodies_text}
+use Rattle.line_words.specs.Words.{joined, words_of}
 use Rattle.script_text.specs.Edits.{others_text, edits_text, IsSayable}
-use Rattle.script_text.proofs.WordLaws.{words_some, words_joined}
+use Rattle.line_words.proofs.WordLaws.{words_some, words_joined}
 
 pub spaced : (old mid new word : List ℕ) → mid ≡ old ++ 32 ∷ [] → new ≡ mid ++ word → new ≡ old ++ 32 ∷ word
 spaced old mid new word m n = n ∙ ap (λ x. x ++ word) m ∙ append_assoc old (32 ∷ []) word

@@ -1,18 +1,18 @@
 -- The reader, one line on.
 use Rattle.std.proofs.Common.{ℕ, ◌≡◌, ◌<◌, ◌≤◌, ◌+◌, List, [], ◌∷◌, ◌++◌, length, drop, Option, Some, None, Bool, true, false, ◌&&◌, refl, sym, ap, arith, ◌∙◌, append_assoc, append-nil, nat_le, cond, subst}
-use Rattle.std.specs.Prelude.{Result, Ok, Err, IfOk, IfSome, IfNone, is_none}
+use Rattle.std.specs.Prelude.{Result, Ok, Err, IfOk, IfSome, IfNone, OnErr, is_none}
 use Rattle.std.specs.List.{list_all}
 use Rattle.std.proofs.lemmas.Bool.{and_parts}
 use Rattle.std.proofs.lemmas.Bool.Decides.{nat_tests}
 use Rattle.script_text.specs.declared.script_line.ScriptLine.{ScriptLine}
 use Rattle.script_text.specs.Views.{ScriptView, SaidView, ReadingView}
 use Rattle.script_text.specs.Lines.{Ended, lines_of, is_plain, is_line, is_whole, Lacks, longest_line}
-use Rattle.script_text.specs.Words.{words_of, first_word}
+use Rattle.line_words.specs.Words.{words_of, first_word}
 use Rattle.script_text.specs.Grammar.{belongs, kind_in, words_in, operands, line_text, first_line, texts_of, nothing_said, said_after, MaySay, AreLines, IsScript, script_lines, IsScriptText, is_silent, unless_silent, telling}
 use Rattle.script_text.specs.Rules.{kind_of, rule_said, rule_of, said_in, said_first, said_next, said_behind, or_later, fault_at_end, first_fault, fault_of}
-use Rattle.script_text.specs.Reading.{Says, told_if, told, all_said, AreSaidBy, IsSoundIf, IsSound, script_of, Adds, Takes, IsBehind, nothing_read}
+use Rattle.script_text.specs.Reading.{Says, told_if, told, all_said, AreSaidBy, IsSoundIf, IsSound, script_of, Adds, Takes, IsBehind, nothing_read, takes_memory}
 use Rattle.script_text.proofs.LineLaws.{line_first, line_open, no_lines}
-use Rattle.script_text.proofs.WordLaws.{text_is}
+use Rattle.line_words.proofs.WordLaws.{text_is}
 use Rattle.script_text.proofs.FirstLaws.{FirstTells, first_tells}
 use Rattle.script_text.proofs.SenseLaws.{kind_of_words, named_after, nodes_after}
 
@@ -164,6 +164,19 @@ later_broken r o read said text (Ok (Some rule)) is n w q h =
     let same : r.said ≡ Some said = ap (λ (x : ReadingView). x.said) (sym is) ∙ n in
     ap (λ v. rule_of v text) same ∙ later_rule_of said text w q ∙ h
 later_broken r o read said text (Err e) is n w q h = h
+
+pub later_takes : {E : Type 0} (r : ReadingView) (o : Option SaidView) (read : List ScriptLine) (said : SaidView) (text : List ℕ) (res : Result (Option ℕ) E) → reading o read ≡ r → o ≡ Some said
+    → is_line text ≡ true → is_silent text ≡ false → OnErr res (takes_memory (rule_said (Some said) text) ≡ true) → OnErr res (takes_memory (rule_of r.said text) ≡ true)
+later_takes r o read said text (Ok x) is n w q h = h
+later_takes r o read said text (Err e) is n w q h =
+    let same : r.said ≡ Some said = ap (λ (x : ReadingView). x.said) (sym is) ∙ n in
+    ap (λ v. takes_memory (rule_of v text)) same ∙ ap takes_memory (later_rule_of said text w q) ∙ h
+
+-- something was said
+pub said_some : (r : ReadingView) (o : Option SaidView) (read : List ScriptLine) (said : SaidView) → reading o read ≡ r → o ≡ Some said → r.said ≡ None → ⊥
+said_some r o read said is n e =
+    let same : Some said ≡ None = sym n ∙ ap (λ (x : ReadingView). x.said) is ∙ e in
+    cc
 
 pub ruleset takes = (bad_line, takes_silent, first_broken)
 

@@ -6,7 +6,7 @@ use Rattle.std.proofs.lemmas.Bool.{false≢true, and_parts}
 use Rattle.script_text.specs.declared.script_line.ScriptLine.{ScriptLine}
 use Rattle.script_text.specs.Views.{ScriptView, SaidView}
 use Rattle.script_text.specs.Lines.{Line, Ended, Open, lines_of, is_line, is_whole}
-use Rattle.script_text.specs.Words.{words_of}
+use Rattle.line_words.specs.Words.{words_of}
 use Rattle.script_text.specs.Grammar.{words_in, line_text, nothing_said, said_after, first_line, texts_of, AreLines, is_silent, telling, script_lines, IsScriptText}
 use Rattle.script_text.specs.Rules.{nodes_of, rule_said, rule_of, said_first, said_behind, said_next, or_later, first_fault, fault_of}
 use Rattle.script_text.proofs.NameLaws.{AreKnown, none_known}

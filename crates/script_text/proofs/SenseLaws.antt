@@ -2,7 +2,7 @@
 use Rattle.std.proofs.Common.{ℕ, ◌≡◌, ◌≢◌, ◌<◌, ◌≤◌, List, [], ◌∷◌, ◌++◌, length, Some, None, Bool, true, false, inl, inr, refl, ap, arith, ◌∙◌, nat_le, map, codes, decimal}
 use Rattle.std.specs.List.{list_all, list_any, AllByRecursion}
 use Rattle.std.proofs.lemmas.Bool.Decides.{nat_tests, leb_tells}
-use Rattle.request_text.specs.Texts.{hex_text}
+use Rattle.line_words.specs.Hex.{hex_text}
 use Rattle.journal_core.specs.declared.cut.Cut.{Cut}
 use Rattle.journal_core.specs.declared.cut.Cut.TheVariants as choice
 use Rattle.node_history.specs.declared.stop.Stop.TheVariants as stop
@@ -15,7 +15,10 @@ use Rattle.script_text.specs.declared.kind.Kind.TheVariants as kind
 use Rattle.script_text.specs.declared.script_line.ScriptLine.{ScriptLine}
 use Rattle.script_text.specs.declared.script_line.ScriptLine.TheVariants as line
 use Rattle.script_text.specs.Views.{SaidView}
-use Rattle.script_text.specs.Words.{joined, words_of, is_empty, first_word, actor_of, name_at, greatest, is_number, choice_word, is_body, IsBody}
+use Rattle.line_words.specs.Words.{joined, words_of, is_empty, first_word}
+use Rattle.request_text.specs.Lines.{IsBody}
+use Rattle.line_words.specs.Numbers.{is_number}
+use Rattle.script_text.specs.Words.{actor_of, name_at, greatest, choice_word, is_body}
 use Rattle.script_text.specs.Edits.{edits_text}
 use Rattle.script_text.specs.Grammar.{belongs, keyword, kind_in, operands, words_in, line_text, said_after, most_actors, IsActor, IsNode, IsCount, HasSense, is_silent}
 use Rattle.script_text.specs.Rules.{kind_of, has_length, bad_spacing, later_rule, rule_in, rule_said}
@@ -23,7 +26,7 @@ use Rattle.script_text.specs.Reading.{Says}
 use Rattle.script_text.proofs.BodyLaws.{IsWord, words_again, name_is_word, body_is_word, body_again}
 use Rattle.script_text.proofs.NumberLaws.{number_is, number_is_word, choice_again}
 use Rattle.script_text.proofs.NameLaws.{AreKnown, known_push, name_good}
-use Rattle.script_text.proofs.WordLaws.{words_some}
+use Rattle.line_words.proofs.WordLaws.{words_some}
 use Rattle.script_text.proofs.EditLaws.{edits_full, are_edits_again}
 use Rattle.script_text.proofs.KindLaws.{kind_is}
 

@@ -5,7 +5,7 @@ use Rattle.std.specs.Str.{bytes_eq}
 use Rattle.edit_ops.specs.Records.{EditView}
 use Rattle.edit_ops.specs.Texts.{text_of, IsText}
 use Rattle.edit_ops.specs.SaidTexts.{is_edit_text}
-use Rattle.script_text.specs.Words.{joined, words_of}
+use Rattle.line_words.specs.Words.{joined, words_of}
 
 -- the word between two edits
 abbrev pub separator : List ℕ

@@ -1,7 +1,7 @@
 -- The grammar of scripts: how a script is spelled, and which texts are spelled so.
 use Rattle.std.specs.Prelude.{ℕ, ◌≡◌, ◌≢◌, ◌≤◌, ◌<◌, List, [], ◌∷◌, ◌++◌, Bool, true, false, not, None, ◌==◌, if◌then◌else◌, length, codes, map, decimal}
 use Rattle.std.specs.List.{list_all, AllByRecursion}
-use Rattle.request_text.specs.Texts.{hex_text}
+use Rattle.line_words.specs.Hex.{hex_text}
 use Rattle.node_history.specs.declared.stop.Stop.TheVariants as stop
 use Rattle.script_text.specs.declared.task_word.TaskWord.TheVariants as task
 use Rattle.script_text.specs.declared.standby_word.StandbyWord.TheVariants as standby
@@ -13,7 +13,9 @@ use Rattle.script_text.specs.declared.script_line.ScriptLine.{ScriptLine}
 use Rattle.script_text.specs.declared.script_line.ScriptLine.TheVariants as line
 use Rattle.script_text.specs.Views.{ScriptView, SaidView}
 use Rattle.script_text.specs.Lines.{Line, Ended, Open, lines_of, ended, longest_line, is_whole}
-use Rattle.script_text.specs.Words.{joined, word_at, is_name, actor_of, name_at, greatest, choice_word, IsBody, words_of}
+use Rattle.line_words.specs.Words.{joined, words_of}
+use Rattle.request_text.specs.Lines.{IsBody}
+use Rattle.script_text.specs.Words.{word_at, is_name, actor_of, name_at, greatest, choice_word}
 use Rattle.script_text.specs.Edits.{edits_text, IsSayable}
 
 -- ## The kinds of line

@@ -1,6 +1,6 @@
 -- What the reader of scripts answers, and where it stands between two lines.
-use Rattle.std.specs.Prelude.{ℕ, ◌≡◌, ◌<◌, ◌≤◌, ◌+◌, List, [], ◌∷◌, ◌++◌, Option, Some, None, true, false, length, decimal, if◌then◌else◌}
-use Rattle.std.specs.List.{list_any, list_all}
+use Rattle.std.specs.Prelude.{ℕ, ◌≡◌, ◌<◌, ◌≤◌, ◌+◌, ◌==◌, ◌||◌, List, [], ◌∷◌, ◌++◌, Option, Some, None, Bool, true, false, length}
+use Rattle.std.specs.List.{list_all}
 use Rattle.edit_ops.specs.Records.{EditView}
 use Rattle.edit_ops.specs.Texts.{text_of, IsText}
 use Rattle.script_text.specs.declared.answer.ReadScript.{ReadScript}
@@ -10,7 +10,8 @@ use Rattle.script_text.specs.declared.line_read.LineRead.TheVariants as line_rea
 use Rattle.script_text.specs.declared.script_line.ScriptLine.{ScriptLine}
 use Rattle.script_text.specs.declared.kind.Kind.{Kind}
 use Rattle.script_text.specs.Views.{ScriptView, SaidView, ReadingView}
-use Rattle.script_text.specs.Words.{words_of, is_empty, is_number, actor_of, name_at}
+use Rattle.line_words.specs.Words.{words_of}
+use Rattle.script_text.specs.Words.{actor_of, name_at}
 use Rattle.script_text.specs.Grammar.{first_line, texts_of, operands, words_in, kind_in, belongs, nothing_said, said_after, HasSense, AreLines, unless_silent, telling}
 use Rattle.script_text.specs.Lines.{is_line, is_whole, lines_of}
 use Rattle.script_text.specs.Rules.{later_rule, rule_of, rule_said, said_behind, first_fault, fault_of}
@@ -33,17 +34,15 @@ Reads (read.BadScript line rule) t = ⊥
 Reads read.OutOfMemory t = Unit {0}
 
 -- ## Words
--- how many words there are, if none is empty
-abbrev pub word_count : List (List ℕ) → Option ℕ
-word_count words = if list_any is_empty words then None else Some (length words)
-
--- the word is that number, of that range
-abbrev pub Tells : ℕ → ℕ → List ℕ → ℕ → Type 0
-Tells least most word n = (is_number least most word ≡ true) × (decimal n ≡ word) × (least ≤ n) × (n ≤ most)
-
 -- the word is the name of that actor
 abbrev pub Names : List (List ℕ) → List ℕ → ℕ → Type 0
 Names names word actor = (actor_of names word ≡ Some actor) × (name_at names actor ≡ word) × (actor < length names)
+
+-- ## Memory
+-- Memory is wanted for a line that breaks no rule, and for the bodies or edits in front of one that isn't one: rules 8 and 9.
+abbrev pub takes_memory : Option ℕ → Bool
+takes_memory None = true
+takes_memory (Some rule) = (rule == 8) || (rule == 9)
 
 -- the edit has a text in a script
 abbrev pub HasText : EditView → Type 0

@@ -10,7 +10,9 @@ use Rattle.script_text.specs.declared.kind.Kind.{Kind}
 use Rattle.script_text.specs.declared.kind.Kind.TheVariants as kind
 use Rattle.script_text.specs.Views.{SaidView}
 use Rattle.script_text.specs.Lines.{Line, Ended, Open, lines_of, is_line}
-use Rattle.script_text.specs.Words.{words_of, is_empty, first_word, word_at, is_name, actor_of, greatest, is_number, choice_of, is_body}
+use Rattle.line_words.specs.Words.{words_of, is_empty, first_word}
+use Rattle.line_words.specs.Numbers.{is_number}
+use Rattle.script_text.specs.Words.{word_at, is_name, actor_of, greatest, choice_of, is_body}
 use Rattle.script_text.specs.Edits.{are_edits}
 use Rattle.script_text.specs.Grammar.{keyword, first_line, nothing_said, said_by, most_actors, is_silent}
 

@@ -3,13 +3,13 @@ ghost use Rattle.std.specs.Prelude.{◌≡◌, ◌≢◌, ◌+◌, ◌++◌, ◌
 ghost use Rattle.std.specs.List.{AllByRecursion};
 ghost use Rattle.edit_ops.specs.Texts.{text_of};
 ghost use Rattle.edit_ops.specs.SaidTexts.{is_edit_text};
-ghost use Rattle.script_text.specs.Words.{words_of};
+ghost use Rattle.line_words.specs.Words.{words_of};
 ghost use Rattle.script_text.specs.Edits.{is_separator, texts_between, are_edits, IsSayable};
 ghost use Rattle.script_text.specs.Reading.{HasText};
 
-use crate::words::split_word;
 use edit_ops::{Edit, EditList, ReadText, read_text};
 use journal_core::OutOfMemory;
+use line_words::split_word;
 use std::alloc::{AllocError, Global};
 
 fn is_separator(word: &[u8]) -> bool

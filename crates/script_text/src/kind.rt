@@ -1,6 +1,6 @@
 // The kinds of line.
 ghost use Rattle.std.specs.Prelude.{◌≡◌, ◌∷◌, true, false, MatchOption};
-ghost use Rattle.script_text.specs.Words.{words_of, first_word};
+ghost use Rattle.line_words.specs.Words.{words_of, first_word};
 ghost use Rattle.script_text.specs.Grammar.{declaration};
 ghost use Rattle.script_text.specs.Rules.{kind_of, own_kind_of, bad_spacing};
 
@@ -8,7 +8,7 @@ use crate::call_word::CallWord;
 use crate::node_word::NodeWord;
 use crate::standby_word::StandbyWord;
 use crate::task_word::TaskWord;
-use crate::words::{count_words, split_word};
+use line_words::{count_words, split_word};
 
 /// A kind of line behind the first, by its first word.
 #[derive(Clone, Copy, Debug, PartialEq, Eq)]

@@ -32,4 +32,3 @@ pub use print::print_script;
 pub use reader::read_script;
 pub use script::Script;
 pub use script_line::ScriptLine;
-pub use words::number_of;

@@ -1,9 +1,9 @@
 // Lines behind the first are read.
-ghost use Rattle.std.specs.Prelude.{◌≡◌, ◌+◌, ◌∷◌, [], true, IfOk, length};
+ghost use Rattle.std.specs.Prelude.{◌≡◌, ◌+◌, ◌∷◌, [], true, Some, IfOk, OnErr, length};
 ghost use Rattle.script_text.specs.declared.kind.Kind.TheVariants as kind;
-ghost use Rattle.script_text.specs.Words.{words_of};
-ghost use Rattle.script_text.specs.Rules.{has_length};
-ghost use Rattle.script_text.specs.Reading.{IsRead, IsLineRead};
+ghost use Rattle.line_words.specs.Words.{words_of};
+ghost use Rattle.script_text.specs.Rules.{has_length, later_rule, rule_said};
+ghost use Rattle.script_text.specs.Reading.{IsRead, IsLineRead, takes_memory};
 
 use crate::call_word::CallWord;
 use crate::edits::read_edits;
@@ -18,18 +18,19 @@ use crate::said::Said;
 use crate::script_line::ScriptLine;
 use crate::standby_word::StandbyWord;
 use crate::task_word::TaskWord;
-use crate::words::{
-    choice_of, first_word, four_words, is_name, number_of, read_bodies, split_word, three_words,
-    two_words,
-};
+use crate::words::{choice_of, four_words, is_name, three_words, two_words};
 use journal_core::{Bytes, OutOfMemory};
+use line_words::{first_word, number_of, split_word};
 use node_history::Stop;
 use qj_num::MAX;
+use request_text::read_bodies;
 use std::alloc::Global;
 
-/// A declaration.
+/// A declaration. Memory is taken for a name that may be declared alone.
+#[tactic(auto, using(crate::proofs::MemoryLaws::declared_takes))]
 fn read_declaration(alloc: Global, said: &Said, name: &[u8]) -> Result<LineRead, OutOfMemory>
-    ensures { IfOk result (IsRead said.now kind.Declare (name.now ∷ [])) }
+    ensures read { IfOk result (IsRead said.now kind.Declare (name.now ∷ [])) }
+    ensures memory { OnErr result (takes_memory (later_rule said.now kind.Declare (name.now ∷ [])) ≡ true) }
 {
     if !is_name(name) {
         return Ok(LineRead::Broken { rule: BAD_NAME });
@@ -67,6 +68,7 @@ fn read_task(said: &Said, task: TaskWord, name: &[u8]) -> LineRead
 }
 
 /// A batch that is logged.
+#[tactic(auto, using(crate::proofs::MemoryLaws::log_takes))]
 fn read_log(
     alloc: Global,
     said: &Said,
@@ -75,7 +77,8 @@ fn read_log(
     scratch: &mut [u8],
 ) -> Result<LineRead, OutOfMemory>
     requires { length scratch.old ≡ 4096 }
-    ensures { IfOk result (IsRead said.now kind.Log (name.now ∷ words_of bodies.now)) }
+    ensures read { IfOk result (IsRead said.now kind.Log (name.now ∷ words_of bodies.now)) }
+    ensures memory { OnErr result (takes_memory (later_rule said.now kind.Log (name.now ∷ words_of bodies.now)) ≡ true) }
 {
     let Some(actor) = said.actor_of(name) else {
         return Ok(LineRead::Broken {
@@ -89,13 +92,15 @@ fn read_log(
 }
 
 /// Edits that are submitted and synced.
+#[tactic(auto, using(crate::proofs::MemoryLaws::edits_take))]
 fn read_submits(
     alloc: Global,
     said: &Said,
     name: &[u8],
     edits: &[u8],
 ) -> Result<LineRead, OutOfMemory>
-    ensures { IfOk result (IsRead said.now kind.Edits (name.now ∷ words_of edits.now)) }
+    ensures read { IfOk result (IsRead said.now kind.Edits (name.now ∷ words_of edits.now)) }
+    ensures memory { OnErr result (takes_memory (later_rule said.now kind.Edits (name.now ∷ words_of edits.now)) ≡ true) }
 {
     let Some(actor) = said.actor_of(name) else {
         return Ok(LineRead::Broken {
@@ -244,7 +249,8 @@ fn read_operands(
 ) -> Result<LineRead, OutOfMemory>
     requires room { length scratch.old ≡ 4096 }
     requires count { has_length kind (length (words_of text.now) + 1) ≡ true }
-    ensures { IfOk result (IsRead said.now kind (words_of text.now)) }
+    ensures read { IfOk result (IsRead said.now kind (words_of text.now)) }
+    ensures memory { OnErr result (takes_memory (later_rule said.now kind (words_of text.now)) ≡ true) }
 {
     match kind {
         Kind::Declare => read_declaration(alloc, said, text),
@@ -282,7 +288,8 @@ fn read_operands(
     }
 }
 
-/// A line that says something, behind the first: its tests in order.
+/// A line that says something, behind the first: its tests in order. No memory is taken for one that breaks a rule, but for the
+/// bodies or edits in front of a bad one.
 #[tactic(auto, using(crate::proofs::KindLaws::first_tests))]
 pub fn read_line(
     alloc: Global,
@@ -291,7 +298,8 @@ pub fn read_line(
     scratch: &mut [u8],
 ) -> Result<LineRead, OutOfMemory>
     requires { length scratch.old ≡ 4096 }
-    ensures { IfOk result (IsLineRead said.now line.now) }
+    ensures read { IfOk result (IsLineRead said.now line.now) }
+    ensures memory { OnErr result (takes_memory (rule_said (Some said.now) line.now) ≡ true) }
 {
     let Some(kind) = kind_of(said.named(), first_word(line)) else {
         return Ok(LineRead::Broken { rule: FIRST_WORD });

@@ -9,28 +9,18 @@ use memchr::memchr;
 /// The most bytes of a line, its LF not counted.
 pub const LONGEST_LINE: usize = 16_384;
 
-/// What stands before the first such byte, and what follows it.
-#[tactic(auto, using(crate::proofs::LineLaws::cuts))]
-pub fn split_byte(text: &[u8], byte: u8) -> Option<(&[u8], &[u8])>
-    ensures spelled { IfSome result (λ p. text.now ≡ p.0.now ++ byte ∷ p.1.now) }
-    ensures first { IfSome result (λ p. Lacks byte p.0.now) }
-    ensures shorter { IfSome result (λ p. length p.0.now + length p.1.now < length text.now) }
-    ensures none { IfNone result (Lacks byte text.now) }
-{
-    match memchr(byte, text) {
-        Some(at) => Some((&text[..at], &text[at + 1..])),
-        None => None,
-    }
-}
-
 /// The first line, without its LF, and what follows it.
+#[tactic(auto, using(crate::proofs::LineLaws::cuts))]
 pub fn split_line(text: &[u8]) -> Option<(&[u8], &[u8])>
     ensures spelled { IfSome result (λ p. text.now ≡ p.0.now ++ 10 ∷ p.1.now) }
     ensures first { IfSome result (λ p. Lacks 10 p.0.now) }
     ensures shorter { IfSome result (λ p. length p.1.now < length text.now) }
     ensures none { IfNone result (Lacks 10 text.now) }
 {
-    split_byte(text, b'\n')
+    match memchr(b'\n', text) {
+        Some(at) => Some((&text[..at], &text[at + 1..])),
+        None => None,
+    }
 }
 
 fn is_plain(b: u8) -> bool

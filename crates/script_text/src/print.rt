@@ -1,8 +1,9 @@
 // Scripts are printed.
 ghost use Rattle.std.specs.Prelude.{◌≡◌, ◌++◌, ◌∷◌, [], ◌<◌, ◌≤◌, OnOk, IfOk, codes, decimal, map, true};
 ghost use Rattle.std.specs.List.{AllByRecursion};
-ghost use Rattle.request_text.specs.Texts.{hex_text};
-ghost use Rattle.script_text.specs.Words.{joined, words_of, choice_word};
+ghost use Rattle.line_words.specs.Hex.{hex_text};
+ghost use Rattle.line_words.specs.Words.{joined, words_of};
+ghost use Rattle.script_text.specs.Words.{choice_word};
 ghost use Rattle.script_text.specs.Edits.{others_text, edits_text, IsSayable};
 ghost use Rattle.script_text.specs.Grammar.{beginning, declaration, first_line, line_text, script_text, HasSense, IsScript, IsScriptText};
 

@@ -1,5 +1,5 @@
 // Scripts are read.
-ghost use Rattle.std.specs.Prelude.{◌≡◌, Some, IfOk};
+ghost use Rattle.std.specs.Prelude.{◌≡◌, ◌≢◌, ℕ, Some, IfOk, OnErr};
 ghost use Rattle.script_text.specs.Views.{ScriptView};
 ghost use Rattle.script_text.specs.Grammar.{IsScriptText};
 ghost use Rattle.script_text.specs.Rules.{fault_of};
@@ -16,6 +16,8 @@ use std::alloc::Global;
 fn read_lines(alloc: Global, bytes: &[u8]) -> Result<ReadScript, OutOfMemory>
     ensures script { IfOk result (λ r. IfScript r (λ s. IsScriptText bytes.now s)) }
     ensures fault { IfOk result (λ r. IfBadScript r (λ line rule. fault_of bytes.now ≡ Some (line, rule))) }
+    ensures told { IfOk result (λ r. r ≢ ReadScript.OutOfMemory) }
+    ensures first { OnErr result ((line : ℕ) → fault_of bytes.now ≢ Some (line, 1)) }
 {
     let mut reading = Reading::nothing(alloc);
     let mut scratch = [0u8; 4096];
@@ -47,11 +49,12 @@ fn read_lines(alloc: Global, bytes: &[u8]) -> Result<ReadScript, OutOfMemory>
 }
 
 /// The script that the bytes are, exactly where they are in the grammar; else the first line that
-/// breaks a rule, from 1, and the rule.
+/// breaks a rule, from 1, and the rule. A first line that is wrong is told so, and never as want of memory: none is taken before it.
 pub fn read_script(alloc: Global, bytes: &[u8]) -> ReadScript
     ensures script { IfScript result (λ s. IsScriptText bytes.now s) }
     ensures fault { IfBadScript result (λ line rule. fault_of bytes.now ≡ Some (line, rule)) }
     ensures only { (s : ScriptView) → IsScriptText bytes.now s → Reads result s }
+    ensures memory { (line : ℕ) → fault_of bytes.now ≡ Some (line, 1) → result ≢ ReadScript.OutOfMemory }
 {
     match read_lines(alloc, bytes) {
         Ok(read) => read,

@@ -1,9 +1,9 @@
 // The reader of scripts, line by line.
-ghost use Rattle.std.specs.Prelude.{◌≡◌, ◌<◌, Some, None, IfOk, IfSome, IfNone, length, true, false};
+ghost use Rattle.std.specs.Prelude.{◌≡◌, ◌<◌, Some, None, IfOk, IfSome, IfNone, IsOk, OnErr, length, true, false};
 ghost use Rattle.std.specs.Str.{bytes_eq};
-ghost use Rattle.script_text.specs.Grammar.{first_line};
+ghost use Rattle.script_text.specs.Grammar.{first_line, is_silent};
 ghost use Rattle.script_text.specs.Rules.{nodes_of, said_first, rule_said, rule_of};
-ghost use Rattle.script_text.specs.Reading.{IsSound, Adds, Takes, nothing_read, script_of};
+ghost use Rattle.script_text.specs.Reading.{IsSound, Adds, Takes, nothing_read, script_of, takes_memory};
 
 use crate::line_read::LineRead;
 use crate::line_reading::read_line;
@@ -91,6 +91,7 @@ fn said_first(alloc: Global, line: &[u8]) -> Option<Said>
 }
 
 /// One more line that says something, behind the first; the answer is the rule that it breaks.
+#[tactic(auto, using(crate::proofs::MemoryLaws::says_takes))]
 fn add_line(
     alloc: Global,
     said: &mut Said,
@@ -101,6 +102,7 @@ fn add_line(
     requires { length scratch.old ≡ 4096 }
     ensures broken { IfOk result (λ o. IfSome o (λ rule. rule_said (Some said.old) line.now ≡ Some rule)) }
     ensures taken { IfOk result (λ o. IfNone o (Adds said.old lines.old.items line.now said.new lines.new.items)) }
+    ensures memory { OnErr result (takes_memory (rule_said (Some said.old) line.now) ≡ true) }
 {
     match read_line(alloc, said, line, scratch)? {
         LineRead::Broken { rule } => Ok(Some(rule)),
@@ -138,7 +140,8 @@ impl Reading {
         }
     }
 
-    /// One more line; the answer is the rule that it breaks.
+    /// One more line; the answer is the rule that it breaks. No memory is taken for a line that says nothing, for the first that
+    /// says something, or for one that breaks a rule, but for the bodies or edits in front of a bad one.
     #[tactic(auto, using(crate::proofs::ReadLaws::takes))]
     pub fn take_line(
         &mut self,
@@ -150,6 +153,9 @@ impl Reading {
         requires sound { IsSound self.old }
         ensures broken { IfOk result (λ o. IfSome o (λ rule. rule_of self.old.said line.now ≡ Some rule)) }
         ensures taken { IfOk result (λ o. IfNone o (Takes self.old line.now self.new)) }
+        ensures memory { OnErr result (takes_memory (rule_of self.old.said line.now) ≡ true) }
+        ensures silent { is_silent line.now ≡ true → IsOk result }
+        ensures first { self.old.said ≡ None → IsOk result }
     {
         if !is_line(line) {
             return Ok(Some(LINE_BYTES));

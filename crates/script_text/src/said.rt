@@ -1,12 +1,13 @@
 // What the lines so far said.
 ghost use Rattle.std.specs.Prelude.{◌≡◌, ◌<◌, ◌≤◌, false, None, OnOk, OnErr, IfSome, MatchOption, length, nat_le};
-ghost use Rattle.script_text.specs.Words.{actor_of, name_at, is_number};
+ghost use Rattle.line_words.specs.Numbers.{is_number, Tells};
+ghost use Rattle.script_text.specs.Words.{actor_of, name_at};
 ghost use Rattle.script_text.specs.Grammar.{nothing_said, said_after, most_actors, HasSense};
-ghost use Rattle.script_text.specs.Reading.{Names, Tells};
+ghost use Rattle.script_text.specs.Reading.{Names};
 
 use crate::script_line::ScriptLine;
-use crate::words::number_of;
 use journal_core::{Bytes, OutOfMemory};
+use line_words::number_of;
 use std::alloc::Global;
 use std::marker::Model;
 

@@ -136,9 +136,9 @@ shut_file w None shut = absurd shut
 shut_file w (Some o) shut = record { bytes = o; is = refl; shut = shut }
 
 -- an error that `?` passes on
-pub carried : {S T : Type 0} (inner : Result S DiskFail) (outer : Result T DiskFail) (e : DiskFail) → inner ≡ Err e → IsErrAnd outer (λ d. d ≡ e) → IsErrOf outer Failed → IsErrOf inner Failed
-carried inner (Ok x) e is and failed = absurd and
-carried inner (Err d) e is and failed = is ∙ (let p : e ≡ Failed = cc in ap (λ (x : DiskFail). Err x) p)
+pub carried : {S T : Type 0} {x : DiskFail} (inner : Result S DiskFail) (outer : Result T DiskFail) (e : DiskFail) → inner ≡ Err e → IsErrAnd outer (λ d. d ≡ e) → IsErrOf outer x → IsErrOf inner x
+carried inner (Ok y) e is and failed = absurd and
+carried {x = x} inner (Err d) e is and failed = is ∙ (let p : e ≡ x = cc in ap (λ (f : DiskFail). Err f) p)
 
 -- after the last call that is left
 pub stopped_at : {T : Type 0} (before now : Option ℕ) (tells : Type 0) (r : Result T DiskFail) (old new : View) (k : ℕ) → Budget before now tells r old new → before ≡ Some k → IsErrOf r Failed → (k ≡ 0) × (tells → Rests old new)

@@ -18,6 +18,7 @@ pub mod AcceptCuts
 pub mod Counts
 pub mod ScanLemmas
 pub mod ReadLemmas
+pub mod ReadyFrames
 pub mod RowLaws
 pub mod RowsOf
 pub mod RowsTold

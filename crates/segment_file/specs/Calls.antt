@@ -17,6 +17,11 @@ use Rattle.segment_file.specs.Effects.{AppendsAt}
 abbrev pub behind_gate : BatchView → List ℕ
 behind_gate b = drop 1 (frame_bytes b ++ 0 ∷ [])
 
+-- behind room for a header the frame of the batch stands, which breaks no rule of its own, and a closed gate
+pub record IsFrameOf (b : BatchView) (bytes : List ℕ) : Type 0 where
+  pub behind : drop 24 bytes ≡ frame_bytes b ++ 0 ∷ []
+  pub good : broken_rule b.first b ≡ None
+
 -- a header, a frame or none, and a closed gate
 unfoldable pub content_of : ℕ → ℕ → List ℕ → List ℕ
 content_of start epoch frame = header_bytes start epoch ++ (frame ++ 0 ∷ [])

@@ -1,7 +1,7 @@
 //! A recovery is accepted.
-ghost use Rattle.std.specs.Prelude.{◌≡◌, ◌≢◌, ◌↔◌, ◌≤◌, ◌^◌, List, ◌∷◌, [], None, IsSome, IfOk, OnOk, false};
+ghost use Rattle.std.specs.Prelude.{◌≡◌, ◌≢◌, ◌↔◌, ◌≤◌, ◌^◌, List, ◌∷◌, [], None, IsSome, OnOk, false};
 ghost use Rattle.qj_disk.specs.Files.{Moves};
-ghost use Rattle.qj_disk.specs.Calls.{Atomic, Effect, HasCause};
+ghost use Rattle.qj_disk.specs.Calls.{Atomic, Effect, HasCause, HasShortage};
 ghost use Rattle.qj_disk.specs.Runs.{Quiet};
 ghost use Rattle.small_files.specs.Puts.{Disturbs, Puts, PutCut, OneCut};
 ghost use Rattle.small_files.specs.Answers.{put_result};
@@ -14,14 +14,13 @@ ghost use Rattle.batch_frame.specs.Frames.{frame_bytes, broken_rule};
 ghost use Rattle.segment_file.specs.Names.{name_of, InProgress, Record, UnderWay, FreshRecord};
 ghost use Rattle.segment_file.specs.Places.{IsStaged};
 ghost use Rattle.segment_file.specs.Effects.{IsReady, Becomes, Touches, IsCounted, IsCut};
-ghost use Rattle.segment_file.specs.Calls.{CanReplace, content_of};
+ghost use Rattle.segment_file.specs.Calls.{CanReplace, IsFrameOf, content_of};
 
-use crate::content::{content_bytes, good_frame};
 use crate::names::{progress_name, under_way_name};
+use crate::ready_frame::ReadyFrame;
 use journal_core::Batch;
 use qj_disk::{Disk, DiskFail};
 use small_files::{PaxosFile, Put};
-use std::alloc::{AllocError, Global};
 
 // Writes a content and syncs it.
 fn stage_by<D: Disk>(disk: &mut D, way: &str, bytes: &[u8]) -> Result<(), DiskFail>
@@ -31,39 +30,35 @@ fn stage_by<D: Disk>(disk: &mut D, way: &str, bytes: &[u8]) -> Result<(), DiskFa
     ensures counts { IsCounted 2 (D.left disk.old) (D.left disk.new) result }
     ensures reads { D.reads disk.new ≡ D.reads disk.old }
     ensures cause { HasCause (D.faults disk.old) (D.faults disk.new) (D.steady disk.old) (D.steady disk.new) result }
+    ensures shortage { HasShortage (D.shortages disk.old) (D.shortages disk.new) result }
 {
     disk.write_at(way, 0, bytes)?;
     disk.sync(way)
 }
 
-// The bytes of the content of an acceptance.
-fn content(alloc: Global, epoch: u64, batch: &Batch) -> Result<Vec<u8>, AllocError>
-    requires { last_txid batch.now ≤ 2 ^ 62 }
-    ensures bytes { IfOk result (λ v. v.items ≡ content_of batch.now.first epoch (frame_bytes batch.now)) }
-    ensures good { OnOk result (broken_rule batch.now.first batch.now ≡ None) }
-{
-    let frame = good_frame(alloc, batch)?;
-    content_bytes(alloc, batch.first(), epoch, &frame)
-}
-
 // Writes the content of an acceptance beside the file in progress.
-fn stage<D: Disk>(alloc: Global, disk: &mut D, epoch: u64, batch: &Batch) -> Result<(), DiskFail>
+fn stage<D: Disk>(
+    disk: &mut D,
+    epoch: u64,
+    batch: &Batch,
+    frame: &mut ReadyFrame,
+) -> Result<(), DiskFail>
     requires start { batch.now.first ≤ 2 ^ 62 }
-    requires last { last_txid batch.now ≤ 2 ^ 62 }
+    requires frame { IsFrameOf batch.now frame.old }
 
     ensures tells { D.tells disk.old ↔ D.tells disk.new }
     ensures quiet { D.tells disk.old → Quiet (Disturbs (name_of batch.now.first (UnderWay epoch))) (D.view disk.old) (D.view disk.new) }
     ensures staged { D.tells disk.old → OnOk result (IsStaged (name_of batch.now.first (UnderWay epoch)) (content_of batch.now.first epoch (frame_bytes batch.now)) (D.view disk.new)) }
     ensures good { OnOk result (broken_rule batch.now.first batch.now ≡ None) }
+    ensures frame { IsFrameOf batch.now frame.new }
     ensures counts { IsCounted 2 (D.left disk.old) (D.left disk.new) result }
     ensures reads { D.reads disk.new ≡ D.reads disk.old }
     ensures cause { HasCause (D.faults disk.old) (D.faults disk.new) (D.steady disk.old) (D.steady disk.new) result }
+    ensures shortage { HasShortage (D.shortages disk.old) (D.shortages disk.new) result }
 {
     let way = under_way_name(batch.first(), epoch);
-    match content(alloc, epoch, batch) {
-        Ok(bytes) => stage_by(disk, way.as_str(), &bytes),
-        Err(_) => Err(DiskFail::OutOfMemory),
-    }
+    frame.put_header(epoch, batch);
+    stage_by(disk, way.as_str(), frame.as_slice())
 }
 
 // Puts the record of an acceptance.
@@ -78,6 +73,7 @@ fn put_record<D: Disk>(disk: &mut D, epoch: u64, batch: &Batch) -> Result<(), Di
     ensures cut { PutCut (D.left disk.old) (D.left disk.new) (D.tells disk.old) (name_of batch.now.first FreshRecord) result (D.view disk.old) (D.view disk.new) }
     ensures reads { D.reads disk.new ≡ D.reads disk.old }
     ensures cause { HasCause (D.faults disk.old) (D.faults disk.new) (D.steady disk.old) (D.steady disk.new) result }
+    ensures shortage { HasShortage (D.shortages disk.old) (D.shortages disk.new) result }
 {
     as_result(PaxosFile::put(disk, batch.first(), epoch, batch.last()))
 }
@@ -102,6 +98,7 @@ fn settle<D: Disk>(disk: &mut D, epoch: u64, batch: &Batch) -> Result<(), DiskFa
     ensures cut { OneCut (D.left disk.old) (D.left disk.new) (D.tells disk.old) result (D.view disk.old) (D.view disk.new) }
     ensures reads { D.reads disk.new ≡ D.reads disk.old }
     ensures cause { HasCause (D.faults disk.old) (D.faults disk.new) (D.steady disk.old) (D.steady disk.new) result }
+    ensures shortage { HasShortage (D.shortages disk.old) (D.shortages disk.new) result }
 {
     let from = under_way_name(batch.first(), epoch);
     let to = progress_name(batch.first());
@@ -109,17 +106,19 @@ fn settle<D: Disk>(disk: &mut D, epoch: u64, batch: &Batch) -> Result<(), DiskFa
 }
 
 fn accept_by<D: Disk>(
-    alloc: Global,
     disk: &mut D,
     epoch: u64,
     batch: &Batch,
+    frame: &mut ReadyFrame,
 ) -> Result<(), DiskFail>
     requires start { (1 ≤ batch.now.first) × (batch.now.first ≤ 2 ^ 62) }
     requires epoch { (1 ≤ epoch) × (epoch ≤ 2 ^ 62) }
     requires last { last_txid batch.now ≤ 2 ^ 62 }
     requires absent { D.tells disk.old → (D.view disk.old).seen (name_of batch.now.first FreshRecord) ≡ None }
+    requires frame { IsFrameOf batch.now frame.old }
 
     ensures tells { D.tells disk.old ↔ D.tells disk.new }
+    ensures frame { IsFrameOf batch.now frame.new }
     ensures effect { D.tells disk.old → (gs : List Segment) → IsReady (D.view disk.old) gs → CanReplace epoch batch.now gs (D.view disk.old)
         → Becomes gs (segments_after gs (Replace epoch batch.now)) result (D.view disk.old) (D.view disk.new) }
     ensures touches { D.tells disk.old → Touches batch.now.first (UnderWay epoch ∷ Record ∷ FreshRecord ∷ InProgress ∷ []) (D.view disk.old) (D.view disk.new) }
@@ -129,8 +128,9 @@ fn accept_by<D: Disk>(
         → IsCut (λ _. accept_cost false) gs (segments_after gs (Replace epoch batch.now)) (D.left disk.old) result (D.view disk.new) }
     ensures reads { D.reads disk.new ≡ D.reads disk.old }
     ensures cause { HasCause (D.faults disk.old) (D.faults disk.new) (D.steady disk.old) (D.steady disk.new) result }
+    ensures shortage { HasShortage (D.shortages disk.old) (D.shortages disk.new) result }
 {
-    stage(alloc, disk, epoch, batch)?;
+    stage(disk, epoch, batch, frame)?;
     put_record(disk, epoch, batch)?;
     settle(disk, epoch, batch)
 }
@@ -142,15 +142,17 @@ fn accept_by<D: Disk>(
 /// among which no final one has this start, and the record isn't of this epoch, a crash at any moment
 /// leaves files that stand for the old edits or for the accepted ones, and once this answered Done only
 /// for these. The temporary file of the record isn't there, and is gone again once this answered Done. The
-/// batch's start and the epoch are from 1 to 2^62; a batch with a body of more than 4,096 bytes, or of more than 16,384 bodies, is answered
-/// OutOfMemory.
-pub fn replace<D: Disk>(alloc: Global, disk: &mut D, epoch: u64, batch: &Batch) -> Put
+/// batch's start and the epoch are from 1 to 2^62, and the frame was made of the batch, as it still is. It takes no memory
+/// but what the disk takes.
+pub fn replace<D: Disk>(disk: &mut D, epoch: u64, batch: &Batch, frame: &mut ReadyFrame) -> Put
     requires start { (1 ≤ batch.now.first) × (batch.now.first ≤ 2 ^ 62) }
     requires epoch { (1 ≤ epoch) × (epoch ≤ 2 ^ 62) }
     requires last { last_txid batch.now ≤ 2 ^ 62 }
     requires absent { D.tells disk.old → (D.view disk.old).seen (name_of batch.now.first FreshRecord) ≡ None }
+    requires frame { IsFrameOf batch.now frame.old }
 
     ensures tells { D.tells disk.old ↔ D.tells disk.new }
+    ensures frame { IsFrameOf batch.now frame.new }
     ensures effect { D.tells disk.old → (gs : List Segment) → IsReady (D.view disk.old) gs → CanReplace epoch batch.now gs (D.view disk.old)
         → Becomes gs (segments_after gs (Replace epoch batch.now)) (put_result result) (D.view disk.old) (D.view disk.new) }
     ensures touches { D.tells disk.old → Touches batch.now.first (UnderWay epoch ∷ Record ∷ FreshRecord ∷ InProgress ∷ []) (D.view disk.old) (D.view disk.new) }
@@ -160,6 +162,7 @@ pub fn replace<D: Disk>(alloc: Global, disk: &mut D, epoch: u64, batch: &Batch) 
         → IsCut (λ _. accept_cost false) gs (segments_after gs (Replace epoch batch.now)) (D.left disk.old) (put_result result) (D.view disk.new) }
     ensures reads { D.reads disk.new ≡ D.reads disk.old }
     ensures cause { HasCause (D.faults disk.old) (D.faults disk.new) (D.steady disk.old) (D.steady disk.new) (put_result result) }
+    ensures shortage { HasShortage (D.shortages disk.old) (D.shortages disk.new) (put_result result) }
 {
-    Put::from(accept_by(alloc, disk, epoch, batch))
+    Put::from(accept_by(disk, epoch, batch, frame))
 }

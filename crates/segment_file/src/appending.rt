@@ -2,7 +2,7 @@
 ghost use Rattle.std.specs.Prelude.{◌≡◌, ◌↔◌, ◌≤◌, ◌<◌, ◌+◌, ◌^◌, ◌++◌, ◌∷◌, [], ℕ, List, length, Some, None, IfOk, OnOk, IsErrOf};
 ghost use Rattle.qj_disk.specs.Files.{ChangesOnly};
 ghost use Rattle.qj_disk.specs.View.{IsStable};
-ghost use Rattle.qj_disk.specs.Calls.{Effect, HasCause};
+ghost use Rattle.qj_disk.specs.Calls.{Effect, HasCause, HasShortage};
 ghost use Rattle.small_files.specs.Answers.{put_result};
 ghost use Rattle.journal_core.specs.Views.{last_txid};
 ghost use Rattle.journal_core.specs.declared.segment.Segment.{Segment};
@@ -12,29 +12,16 @@ ghost use Rattle.batch_frame.specs.Frames.{frame_bytes, broken_rule};
 ghost use Rattle.segment_file.specs.Gate.{IsShut, StaysShut, Opens, IsCutAfter, GateCounts};
 ghost use Rattle.segment_file.specs.Names.{name_of, InProgress};
 ghost use Rattle.segment_file.specs.Effects.{IsReady, Becomes, Touches, AppendsAt, IsCounted, IsCut};
-ghost use Rattle.segment_file.specs.Calls.{CanAppend, AppendsFrame, behind_gate};
+ghost use Rattle.segment_file.specs.Calls.{CanAppend, AppendsFrame, IsFrameOf, behind_gate};
 ghost use Rattle.segment_file.specs.Answers.{appended_result, TellsPlace};
 
 use crate::appended::Appended;
-use crate::content::good_frame;
 use crate::gate::append_behind_gate;
 use crate::names::progress_name;
+use crate::ready_frame::ReadyFrame;
 use journal_core::Batch;
 use qj_disk::{Disk, DiskFail};
 use small_files::Put;
-use std::alloc::{AllocError, Global};
-
-// The frame of a batch, and a closed gate.
-fn closed_frame(alloc: Global, batch: &Batch) -> Result<Vec<u8>, AllocError>
-    requires { last_txid batch.now ≤ 2 ^ 62 }
-    ensures bytes { IfOk result (λ v. v.items ≡ frame_bytes batch.now ++ 0 ∷ []) }
-    ensures length { IfOk result (λ v. length v.items ≡ length (frame_bytes batch.now) + 1) }
-    ensures good { OnOk result (broken_rule batch.now.first batch.now ≡ None) }
-{
-    let mut bytes = good_frame(alloc, batch)?;
-    bytes.push(0)?;
-    Ok(bytes)
-}
 
 // Appends behind the gate of the file in progress.
 fn append_to<D: Disk>(disk: &mut D, start: u64, at: u64, behind: &[u8]) -> Put
@@ -50,6 +37,7 @@ fn append_to<D: Disk>(disk: &mut D, start: u64, at: u64, behind: &[u8]) -> Put
     ensures counts { GateCounts (D.left disk.old) (D.left disk.new) (put_result result) }
     ensures reads { D.reads disk.new ≡ D.reads disk.old }
     ensures cause { HasCause (D.faults disk.old) (D.faults disk.new) (D.steady disk.old) (D.steady disk.new) (put_result result) }
+    ensures shortage { HasShortage (D.shortages disk.old) (D.shortages disk.new) (put_result result) }
 {
     let name = progress_name(start);
     Put::from(append_behind_gate(disk, name.as_str(), at, behind))
@@ -69,15 +57,16 @@ fn told(put: Put, next: u64) -> Appended
 
 // Appends the frame of a batch behind the gate of the file in progress.
 fn append_frame<D: Disk>(
-    alloc: Global,
     disk: &mut D,
     start: u64,
     at: u64,
     batch: &Batch,
+    frame: &ReadyFrame,
 ) -> Appended
     requires start { start ≤ 2 ^ 62 }
     requires small { at < 2 ^ 62 }
     requires last { last_txid batch.now ≤ 2 ^ 62 }
+    requires frame { IsFrameOf batch.now frame.now }
     requires shut { D.tells disk.old → IsShut at ((D.view disk.old).seen (name_of start InProgress)) }
     requires stable { D.tells disk.old → IsStable (name_of start InProgress) (D.view disk.old) }
 
@@ -90,27 +79,31 @@ fn append_frame<D: Disk>(
     ensures counts { GateCounts (D.left disk.old) (D.left disk.new) (appended_result result) }
     ensures reads { D.reads disk.new ≡ D.reads disk.old }
     ensures cause { HasCause (D.faults disk.old) (D.faults disk.new) (D.steady disk.old) (D.steady disk.new) (appended_result result) }
+    ensures shortage { HasShortage (D.shortages disk.old) (D.shortages disk.new) (appended_result result) }
 {
-    match closed_frame(alloc, batch) {
-        Ok(bytes) => {
-            let next = at + (bytes.len() - 1) as u64;
-            told(append_to(disk, start, at, &bytes[1..]), next)
-        }
-        Err(_) => Appended::OutOfMemory,
-    }
+    let behind = frame.behind_gate(batch);
+    let next = at + behind.len() as u64;
+    told(append_to(disk, start, at, behind), next)
 }
 
 /// Appends a batch to the segment in progress with this start, at the place where the whole frames of
 /// its file end, and where a gate stands closed and synced. Four disk calls: the frame without its gate,
 /// with a closed gate behind it, is written at `at + 1`; sync; the gate is opened; sync. Where the batch
-/// is next in the segment, has no body of more than 4,096 bytes and at most 16,384 bodies, a crash at any
-/// moment leaves files that stand for the segment without its edits or with them all, and once this
-/// answered Done only with them. The place that is told is where the next frame goes. `start` is from 1
-/// to 2^62, and a batch past those limits is answered OutOfMemory.
-pub fn append<D: Disk>(alloc: Global, disk: &mut D, start: u64, at: u64, batch: &Batch) -> Appended
+/// is next in the segment, a crash at any moment leaves files that stand for the segment without its
+/// edits or with them all, and once this answered Done only with them. The place that is told is where
+/// the next frame goes. `start` is from 1 to 2^62, and the frame was made of the batch. It takes no memory
+/// but what the disk takes.
+pub fn append<D: Disk>(
+    disk: &mut D,
+    start: u64,
+    at: u64,
+    batch: &Batch,
+    frame: &ReadyFrame,
+) -> Appended
     requires start { (1 ≤ start) × (start ≤ 2 ^ 62) }
     requires small { at < 2 ^ 62 }
     requires last { last_txid batch.now ≤ 2 ^ 62 }
+    requires frame { IsFrameOf batch.now frame.now }
     requires shut { D.tells disk.old → IsShut at ((D.view disk.old).seen (name_of start InProgress)) }
     requires stable { D.tells disk.old → IsStable (name_of start InProgress) (D.view disk.old) }
 
@@ -126,6 +119,7 @@ pub fn append<D: Disk>(alloc: Global, disk: &mut D, start: u64, at: u64, batch: 
         → IsCut append_cost gs (segments_after gs (Append start batch.now.bodies)) (D.left disk.old) (appended_result result) (D.view disk.new) }
     ensures reads { D.reads disk.new ≡ D.reads disk.old }
     ensures cause { HasCause (D.faults disk.old) (D.faults disk.new) (D.steady disk.old) (D.steady disk.new) (appended_result result) }
+    ensures shortage { HasShortage (D.shortages disk.old) (D.shortages disk.new) (appended_result result) }
 {
-    append_frame(alloc, disk, start, at, batch)
+    append_frame(disk, start, at, batch, frame)
 }

@@ -1,7 +1,7 @@
 //! A segment begins.
 ghost use Rattle.std.specs.Prelude.{◌≡◌, ◌↔◌, ◌≤◌, ◌^◌, List, ◌∷◌, [], OnOk};
 ghost use Rattle.qj_disk.specs.View.{IsStable};
-ghost use Rattle.qj_disk.specs.Calls.{Effect, HasCause};
+ghost use Rattle.qj_disk.specs.Calls.{Effect, HasCause, HasShortage};
 ghost use Rattle.small_files.specs.Puts.{Disturbs, PutCut};
 ghost use Rattle.small_files.specs.Answers.{put_result};
 ghost use Rattle.journal_core.specs.declared.segment.Segment.{Segment};
@@ -27,6 +27,7 @@ fn place_empty<D: Disk>(disk: &mut D, start: u64, epoch: u64) -> Put
     ensures cut { PutCut (D.left disk.old) (D.left disk.new) (D.tells disk.old) (name_of start Fresh) (put_result result) (D.view disk.old) (D.view disk.new) }
     ensures reads { D.reads disk.new ≡ D.reads disk.old }
     ensures cause { HasCause (D.faults disk.old) (D.faults disk.new) (D.steady disk.old) (D.steady disk.new) (put_result result) }
+    ensures shortage { HasShortage (D.shortages disk.old) (D.shortages disk.new) (put_result result) }
 {
     let content = empty_content(start, epoch);
     place_content(disk, start, &content)
@@ -52,6 +53,7 @@ pub fn create<D: Disk>(disk: &mut D, start: u64, epoch: u64) -> Put
         → IsCut (λ _. segment_cost) gs (segments_after gs (NewSegment start epoch)) (D.left disk.old) (put_result result) (D.view disk.new) }
     ensures reads { D.reads disk.new ≡ D.reads disk.old }
     ensures cause { HasCause (D.faults disk.old) (D.faults disk.new) (D.steady disk.old) (D.steady disk.new) (put_result result) }
+    ensures shortage { HasShortage (D.shortages disk.old) (D.shortages disk.new) (put_result result) }
 {
     place_empty(disk, start, epoch)
 }

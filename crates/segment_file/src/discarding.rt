@@ -1,7 +1,7 @@
 //! A segment is removed.
 ghost use Rattle.std.specs.Prelude.{◌≡◌, ◌↔◌, ◌≤◌, ◌^◌, List, ◌∷◌, [], IsSome, false};
 ghost use Rattle.qj_disk.specs.Files.{ChangesOnly, IsGone};
-ghost use Rattle.qj_disk.specs.Calls.{Atomic, HasCause};
+ghost use Rattle.qj_disk.specs.Calls.{Atomic, HasCause, HasShortage};
 ghost use Rattle.small_files.specs.Puts.{OneCut};
 ghost use Rattle.small_files.specs.Answers.{put_result};
 ghost use Rattle.journal_core.specs.declared.segment.Segment.{Segment};
@@ -27,6 +27,7 @@ fn remove_file<D: Disk>(disk: &mut D, segment: &SegmentLine) -> Put
     ensures cut { OneCut (D.left disk.old) (D.left disk.new) (D.tells disk.old) (put_result result) (D.view disk.old) (D.view disk.new) }
     ensures reads { D.reads disk.new ≡ D.reads disk.old }
     ensures cause { HasCause (D.faults disk.old) (D.faults disk.new) (D.steady disk.old) (D.steady disk.new) (put_result result) }
+    ensures shortage { HasShortage (D.shortages disk.old) (D.shortages disk.new) (put_result result) }
 {
     let name = kind_name(segment.start, segment.end, segment.is_final);
     Put::from(disk.remove(name.as_str()))
@@ -50,6 +51,7 @@ pub fn discard<D: Disk>(disk: &mut D, segment: &SegmentLine) -> Put
         → IsCut (λ _. name_cost false) gs (segments_after gs (Remove segment.now.start)) (D.left disk.old) (put_result result) (D.view disk.new) }
     ensures reads { D.reads disk.new ≡ D.reads disk.old }
     ensures cause { HasCause (D.faults disk.old) (D.faults disk.new) (D.steady disk.old) (D.steady disk.new) (put_result result) }
+    ensures shortage { HasShortage (D.shortages disk.old) (D.shortages disk.new) (put_result result) }
 {
     remove_file(disk, segment)
 }

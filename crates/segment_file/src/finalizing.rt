@@ -1,7 +1,7 @@
 //! A segment becomes final.
 ghost use Rattle.std.specs.Prelude.{◌≡◌, ◌↔◌, ◌≤◌, ◌^◌, List, ◌∷◌, [], IsSome, false};
 ghost use Rattle.qj_disk.specs.Files.{Moves};
-ghost use Rattle.qj_disk.specs.Calls.{Atomic, HasCause};
+ghost use Rattle.qj_disk.specs.Calls.{Atomic, HasCause, HasShortage};
 ghost use Rattle.small_files.specs.Puts.{OneCut};
 ghost use Rattle.small_files.specs.Answers.{put_result};
 ghost use Rattle.journal_core.specs.declared.segment.Segment.{Segment};
@@ -26,6 +26,7 @@ fn rename_to_final<D: Disk>(disk: &mut D, start: u64, end: u64) -> Put
     ensures cut { OneCut (D.left disk.old) (D.left disk.new) (D.tells disk.old) (put_result result) (D.view disk.old) (D.view disk.new) }
     ensures reads { D.reads disk.new ≡ D.reads disk.old }
     ensures cause { HasCause (D.faults disk.old) (D.faults disk.new) (D.steady disk.old) (D.steady disk.new) (put_result result) }
+    ensures shortage { HasShortage (D.shortages disk.old) (D.shortages disk.new) (put_result result) }
 {
     let from = progress_name(start);
     let to = final_name(start, end);
@@ -50,6 +51,7 @@ pub fn finalize<D: Disk>(disk: &mut D, start: u64, end: u64) -> Put
         → IsCut (λ _. name_cost false) gs (segments_after gs (MakeFinal start)) (D.left disk.old) (put_result result) (D.view disk.new) }
     ensures reads { D.reads disk.new ≡ D.reads disk.old }
     ensures cause { HasCause (D.faults disk.old) (D.faults disk.new) (D.steady disk.old) (D.steady disk.new) (put_result result) }
+    ensures shortage { HasShortage (D.shortages disk.old) (D.shortages disk.new) (put_result result) }
 {
     rename_to_final(disk, start, end)
 }

@@ -2,7 +2,7 @@
 ghost use Rattle.std.specs.Prelude.{◌≡◌, ◌↔◌, ◌<◌, ◌^◌, ℕ, Some, OnOk, IsErrOf};
 ghost use Rattle.qj_disk.specs.Files.{ChangesOnly};
 ghost use Rattle.qj_disk.specs.View.{IsStable};
-ghost use Rattle.qj_disk.specs.Calls.{Effect, HasCause};
+ghost use Rattle.qj_disk.specs.Calls.{Effect, HasCause, HasShortage};
 ghost use Rattle.segment_file.specs.Gate.{IsShut, StaysShut, Opens, IsCutAfter, GateCounts};
 
 use qj_disk::{Disk, DiskFail};
@@ -30,6 +30,7 @@ pub fn append_behind_gate<D: Disk>(
     ensures counts { GateCounts (D.left disk.old) (D.left disk.new) result }
     ensures reads { D.reads disk.new ≡ D.reads disk.old }
     ensures cause { HasCause (D.faults disk.old) (D.faults disk.new) (D.steady disk.old) (D.steady disk.new) result }
+    ensures shortage { HasShortage (D.shortages disk.old) (D.shortages disk.new) result }
 {
     disk.write_at(name, at + 1, behind)?;
     disk.sync(name)?;

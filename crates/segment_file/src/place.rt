@@ -1,7 +1,7 @@
 //! A new content is put in the place of a segment's file in progress.
 ghost use Rattle.std.specs.Prelude.{◌≡◌, ◌≢◌, ◌↔◌, ◌≤◌, ◌^◌, OnOk};
 ghost use Rattle.qj_disk.specs.View.{IsStable};
-ghost use Rattle.qj_disk.specs.Calls.{Effect, HasCause};
+ghost use Rattle.qj_disk.specs.Calls.{Effect, HasCause, HasShortage};
 ghost use Rattle.small_files.specs.Puts.{Disturbs, PutCut};
 ghost use Rattle.small_files.specs.Answers.{put_result};
 ghost use Rattle.segment_file.specs.Places.{Places};
@@ -21,6 +21,7 @@ fn place_by<D: Disk>(disk: &mut D, tmp: &str, name: &str, bytes: &[u8]) -> Resul
     ensures cut { PutCut (D.left disk.old) (D.left disk.new) (D.tells disk.old) tmp.now result (D.view disk.old) (D.view disk.new) }
     ensures reads { D.reads disk.new ≡ D.reads disk.old }
     ensures cause { HasCause (D.faults disk.old) (D.faults disk.new) (D.steady disk.old) (D.steady disk.new) result }
+    ensures shortage { HasShortage (D.shortages disk.old) (D.shortages disk.new) result }
 {
     disk.write_at(tmp, 0, bytes)?;
     disk.sync(tmp)?;
@@ -38,6 +39,7 @@ pub fn place_content<D: Disk>(disk: &mut D, start: u64, bytes: &[u8]) -> Put
     ensures cut { PutCut (D.left disk.old) (D.left disk.new) (D.tells disk.old) (name_of start Fresh) (put_result result) (D.view disk.old) (D.view disk.new) }
     ensures reads { D.reads disk.new ≡ D.reads disk.old }
     ensures cause { HasCause (D.faults disk.old) (D.faults disk.new) (D.steady disk.old) (D.steady disk.new) (put_result result) }
+    ensures shortage { HasShortage (D.shortages disk.old) (D.shortages disk.new) (put_result result) }
 {
     let name = progress_name(start);
     let fresh = fresh_name(start);

@@ -58,6 +58,7 @@ fn read_by<D: Disk>(
     ensures given { D.tells disk.old → IsGiven segment.now.start segment.now.end segment.now.is_final from ((D.view disk.old).seen name.now) result }
     ensures disk { D.tells disk.old → Rests (D.view disk.old) (D.view disk.new) }
     ensures cause { HasCause (D.faults disk.old) (D.faults disk.new) (D.steady disk.old) (D.steady disk.new) (given_result result) }
+    ensures shortages { D.shortages disk.old ≤ D.shortages disk.new }
 {
     let asked = Asked {
         name,
@@ -90,6 +91,7 @@ pub fn read_from<D: Disk>(alloc: Global, disk: &mut D, segment: &SegmentLine, fr
     ensures given { D.tells disk.old → IsGiven segment.now.start segment.now.end segment.now.is_final from ((D.view disk.old).seen (name_of segment.now.start (kind_of segment.now.end segment.now.is_final))) result }
     ensures disk { D.tells disk.old → Rests (D.view disk.old) (D.view disk.new) }
     ensures cause { HasCause (D.faults disk.old) (D.faults disk.new) (D.steady disk.old) (D.steady disk.new) (given_result result) }
+    ensures shortages { D.shortages disk.old ≤ D.shortages disk.new }
 {
     let name = kind_name(segment.start, segment.end, segment.is_final);
     read_by(alloc, disk, name.as_str(), segment, from)

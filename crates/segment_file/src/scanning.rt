@@ -28,6 +28,7 @@ fn read_window<D: Disk>(
     ensures length { IfOk result (λ v. length v.items ≤ most) }
     ensures disk { D.tells disk.old → Rests (D.view disk.old) (D.view disk.new) }
     ensures cause { HasCause (D.faults disk.old) (D.faults disk.new) (D.steady disk.old) (D.steady disk.new) result }
+    ensures shortages { D.shortages disk.old ≤ D.shortages disk.new }
 {
     let mut window = vec![in alloc; 0u8; most as usize]?;
     let count = disk.read(name, at, &mut window)?;
@@ -67,6 +68,7 @@ fn scan_next<D: Disk>(
     ensures beyond { rest ≤ size → result ≢ Ok WindowEnd.Beyond }
     ensures disk { D.tells disk.old → Rests (D.view disk.old) (D.view disk.new) }
     ensures cause { HasCause (D.faults disk.old) (D.faults disk.new) (D.steady disk.old) (D.steady disk.new) result }
+    ensures shortages { D.shortages disk.old ≤ D.shortages disk.new }
 {
     let before = scan.whole_length;
     let at = HEADER_LENGTH as u64 + before as u64;
@@ -97,6 +99,7 @@ fn scan_frames<D: Disk>(
     ensures places { IfOk result (λ o. IfSome o (λ s. 24 + s.whole_length ≤ size)) }
     ensures disk { D.tells disk.old → Rests (D.view disk.old) (D.view disk.new) }
     ensures cause { HasCause (D.faults disk.old) (D.faults disk.new) (D.steady disk.old) (D.steady disk.new) result }
+    ensures shortages { D.shortages disk.old ≤ D.shortages disk.new }
 {
     let mut scan = Scan::new(alloc);
     let mut is_long = false;
@@ -129,6 +132,7 @@ pub fn scan_file<D: Disk>(
     ensures places { IfOk result (λ o. IfSome o (λ f. 24 + f.scan.whole_length < 2 ^ 64)) }
     ensures disk { D.tells disk.old → Rests (D.view disk.old) (D.view disk.new) }
     ensures cause { HasCause (D.faults disk.old) (D.faults disk.new) (D.steady disk.old) (D.steady disk.new) result }
+    ensures shortages { D.shortages disk.old ≤ D.shortages disk.new }
 {
     let Some(size) = disk.length(asked.name)? else {
         return Ok(None);

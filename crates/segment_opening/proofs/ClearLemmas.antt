@@ -4,7 +4,7 @@ use Rattle.std.specs.Prelude.{Option, Some, None, IsSome, Contains, Result, IsEr
 use Rattle.std.proofs.lemmas.List.Elements.{Contains-push, Contains-push_cases, Contains-append_left}
 use Rattle.qj_disk.specs.Files.{Files}
 use Rattle.qj_disk.specs.View.{View, IsSound}
-use Rattle.qj_disk.specs.Calls.{Rests, Lists, HasCause, Rose}
+use Rattle.qj_disk.specs.Calls.{Rests, Lists, HasCause}
 use Rattle.qj_disk.specs.declared.disk.DiskFail.{DiskFail}
 use Rattle.qj_disk.specs.declared.disk.DiskFail.TheVariants.{Failed}
 use Rattle.segment_file.specs.Names.{Kind, InProgress, Final, UnderWay}

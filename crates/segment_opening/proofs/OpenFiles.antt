@@ -4,12 +4,10 @@ use Rattle.std.specs.Prelude.{Option, Some, None, MatchOption}
 use Rattle.std.specs.Bool.{Decides}
 use Rattle.std.proofs.lemmas.Option.{same_Some}
 use Rattle.std.proofs.lemmas.Bool.Decides.{nat_tests}
-use Rattle.qj_num.proofs.PaddedLaws.{padded_injective}
 use Rattle.qj_disk.specs.Files.{Files}
-use Rattle.small_files.specs.Records.{Record, IsRecord}
+use Rattle.small_files.specs.Records.{IsRecord}
 use Rattle.small_files.specs.Answers.{FoundIn}
 use Rattle.small_files.specs.declared.answers.GotRecord.TheVariants as got
-use Rattle.small_files.proofs.RecordLaws.{parts_of_record}
 use Rattle.journal_core.specs.Views.{BatchView}
 use Rattle.journal_core.specs.declared.segment.Segment.{Segment}
 use Rattle.journal_core.specs.declared.segment_info.SegmentInfo.{SegmentInfo}

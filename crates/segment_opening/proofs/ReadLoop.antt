@@ -1,10 +1,10 @@
 -- The loop that reads the files of segments.
-use Rattle.std.proofs.Common.{inl, inr, ⊎_elim, ◌⊎◌, ◌≡◌, ◌↔◌, ℕ, ◌+◌, ◌<◌, ◌≤◌, List, [], length, refl, sym, ◌∙◌, subst, arith}
+use Rattle.std.proofs.Common.{inl, inr, ◌⊎◌, ◌≡◌, ◌↔◌, ℕ, ◌+◌, ◌<◌, ◌≤◌, List, [], length, refl, sym, ◌∙◌, subst, arith}
 use Rattle.std.specs.Prelude.{Option, Some, None, Result, IsErrOf, slice_index_or, map}
 use Rattle.std.proofs.lemmas.List.{length-map}
 use Rattle.qj_disk.specs.Files.{Files}
 use Rattle.qj_disk.specs.View.{View, IsSound}
-use Rattle.qj_disk.specs.Calls.{Keeps, Rests, Lists, HasCause}
+use Rattle.qj_disk.specs.Calls.{Rests, Lists, HasCause}
 use Rattle.qj_disk.specs.declared.disk.DiskFail.{DiskFail}
 use Rattle.qj_disk.specs.declared.disk.DiskFail.TheVariants.{Failed}
 use Rattle.segment_opening.specs.Opening.{IsRepaired}

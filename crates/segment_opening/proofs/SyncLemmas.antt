@@ -4,7 +4,7 @@ use Rattle.std.specs.Prelude.{Option, Some, None, IsSome, Contains, slice_index_
 use Rattle.std.proofs.lemmas.List.{take_more, take_all, map-append, length-map}
 use Rattle.qj_disk.specs.Files.{Files, IsSame, ChangesOnly}
 use Rattle.qj_disk.specs.View.{View, IsSound, IsStable}
-use Rattle.qj_disk.specs.Calls.{Keeps, Rests, Lists, HasCause, Rose}
+use Rattle.qj_disk.specs.Calls.{Keeps, Rests, Lists, HasCause}
 use Rattle.qj_disk.specs.Runs.{Quiet, quiet_start, quiet_keeps}
 use Rattle.qj_disk.specs.declared.disk.DiskFail.{DiskFail}
 use Rattle.qj_disk.specs.declared.disk.DiskFail.TheVariants.{Failed}

@@ -1,13 +1,13 @@
 -- What opening reads of the files of segments.
-use Rattle.std.specs.Prelude.{◌≡◌, ℕ, ◌+◌, ◌<◌, ◌≤◌, ◌^◌, true, List, [], ◌∷◌, length, Some, None, IsSome, Result, Ok, Err}
+use Rattle.std.specs.Prelude.{◌≡◌, ℕ, ◌+◌, ◌<◌, List, length, Some, None, IsSome, Result, Ok, Err}
 use Rattle.qj_disk.specs.Files.{Files}
 use Rattle.qj_disk.specs.View.{View}
 use Rattle.qj_disk.specs.declared.disk.DiskFail.{DiskFail}
 use Rattle.qj_disk.specs.declared.disk.DiskFail.TheVariants as fail
 use Rattle.journal_core.specs.declared.segment.Segment.{Segment}
-use Rattle.journal_core.specs.Segments.{find_segment, info_of, end_of, AreSound}
+use Rattle.journal_core.specs.Segments.{AreSound}
 use Rattle.batch_frame.specs.Segments.{IsSegmentFile}
-use Rattle.segment_file.specs.Names.{Kind, InProgress, Final, Record, name_of, kind_of, IsKind}
+use Rattle.segment_file.specs.Names.{Kind, InProgress, Final, name_of, IsKind}
 use Rattle.segment_opening.specs.Kinds.{IsNamed}
 use Rattle.segment_file.specs.Stands.{StandsFor}
 use Rattle.segment_file.specs.Effects.{IsReady}

@@ -1,6 +1,6 @@
 //! Files that hold one number.
 ghost use Rattle.std.specs.Prelude.{◌≡◌, ◌↔◌, ◌≤◌, ◌^◌, None, length};
-ghost use Rattle.qj_disk.specs.Calls.{Effect, HasCause, Rests};
+ghost use Rattle.qj_disk.specs.Calls.{Effect, HasCause, HasShortage, Rests};
 ghost use Rattle.small_files.specs.Puts.{temporary, Disturbs, Puts, PutCut};
 ghost use Rattle.small_files.specs.Records.{number_bytes};
 ghost use Rattle.small_files.specs.Answers.{GotOf, IsSmallGot, got_result, put_result, IsBadNumber};
@@ -50,6 +50,7 @@ impl NumberFile {
         ensures cut { PutCut (D.left disk.old) (D.left disk.new) (D.tells disk.old) (temporary name.now) (put_result result) (D.view disk.old) (D.view disk.new) }
         ensures reads { D.reads disk.new ≡ D.reads disk.old }
         ensures cause { HasCause (D.faults disk.old) (D.faults disk.new) (D.steady disk.old) (D.steady disk.new) (put_result result) }
+        ensures shortage { HasShortage (D.shortages disk.old) (D.shortages disk.new) (put_result result) }
     {
         put_bytes(disk, name, &print_number(value))
     }

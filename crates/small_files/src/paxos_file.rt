@@ -1,7 +1,7 @@
 //! Files that hold an accepted recovery.
 ghost use Rattle.std.specs.Prelude.{◌≡◌, ◌↔◌, ◌≤◌, ◌^◌, None, IsSome};
 ghost use Rattle.qj_disk.specs.Files.{ChangesOnly, IsGone};
-ghost use Rattle.qj_disk.specs.Calls.{Atomic, Budget, Effect, HasCause, Rests};
+ghost use Rattle.qj_disk.specs.Calls.{Atomic, Budget, Effect, HasCause, HasShortage, Rests};
 ghost use Rattle.small_files.specs.Puts.{temporary, Disturbs, Puts, PutCut, OneCut};
 ghost use Rattle.small_files.specs.Records.{paxos_name as name_of, record_bytes};
 ghost use Rattle.small_files.specs.Answers.{FoundIn, found_result, put_result, IsBadRecord};
@@ -46,6 +46,7 @@ impl PaxosFile {
         ensures cut { PutCut (D.left disk.old) (D.left disk.new) (D.tells disk.old) (temporary (name_of start)) (put_result result) (D.view disk.old) (D.view disk.new) }
         ensures reads { D.reads disk.new ≡ D.reads disk.old }
         ensures cause { HasCause (D.faults disk.old) (D.faults disk.new) (D.steady disk.old) (D.steady disk.new) (put_result result) }
+        ensures shortage { HasShortage (D.shortages disk.old) (D.shortages disk.new) (put_result result) }
     {
         let name = paxos_name(start);
         put_bytes(disk, name.as_str(), &print_record(epoch, end))
@@ -61,6 +62,7 @@ impl PaxosFile {
         ensures cut { OneCut (D.left disk.old) (D.left disk.new) (D.tells disk.old) (put_result result) (D.view disk.old) (D.view disk.new) }
         ensures reads { D.reads disk.new ≡ D.reads disk.old }
         ensures cause { HasCause (D.faults disk.old) (D.faults disk.new) (D.steady disk.old) (D.steady disk.new) (put_result result) }
+        ensures shortage { HasShortage (D.shortages disk.old) (D.shortages disk.new) (put_result result) }
     {
         let name = paxos_name(start);
         Put::from(disk.remove(name.as_str()))

@@ -1,6 +1,6 @@
 //! A file is put in the place of another, all or nothing.
 ghost use Rattle.std.specs.Prelude.{◌≡◌, ◌≢◌, ◌↔◌, ◌≤◌, ◌++◌, None, length};
-ghost use Rattle.qj_disk.specs.Calls.{Effect, HasCause};
+ghost use Rattle.qj_disk.specs.Calls.{Effect, HasCause, HasShortage};
 ghost use Rattle.small_files.specs.Puts.{temporary, Disturbs, Puts, PutCut};
 ghost use Rattle.small_files.specs.Answers.{put_result};
 
@@ -21,6 +21,7 @@ pub fn put_bytes<D: Disk>(disk: &mut D, name: &str, bytes: &[u8]) -> Put
     ensures cut { PutCut (D.left disk.old) (D.left disk.new) (D.tells disk.old) (temporary name.now) (put_result result) (D.view disk.old) (D.view disk.new) }
     ensures reads { D.reads disk.new ≡ D.reads disk.old }
     ensures cause { HasCause (D.faults disk.old) (D.faults disk.new) (D.steady disk.old) (D.steady disk.new) (put_result result) }
+    ensures shortage { HasShortage (D.shortages disk.old) (D.shortages disk.new) (put_result result) }
 {
     let tmp = temporary_name(name);
     put_through(disk, tmp.as_str(), name, bytes)
@@ -47,6 +48,7 @@ pub fn put_through<D: Disk>(disk: &mut D, tmp: &str, name: &str, bytes: &[u8]) -
     ensures cut { PutCut (D.left disk.old) (D.left disk.new) (D.tells disk.old) tmp.now (put_result result) (D.view disk.old) (D.view disk.new) }
     ensures reads { D.reads disk.new ≡ D.reads disk.old }
     ensures cause { HasCause (D.faults disk.old) (D.faults disk.new) (D.steady disk.old) (D.steady disk.new) (put_result result) }
+    ensures shortage { HasShortage (D.shortages disk.old) (D.shortages disk.new) (put_result result) }
 {
     Put::from(put_by(disk, tmp, name, bytes))
 }
@@ -60,6 +62,7 @@ fn put_by<D: Disk>(disk: &mut D, tmp: &str, name: &str, bytes: &[u8]) -> Result<
     ensures cut { PutCut (D.left disk.old) (D.left disk.new) (D.tells disk.old) tmp.now result (D.view disk.old) (D.view disk.new) }
     ensures reads { D.reads disk.new ≡ D.reads disk.old }
     ensures cause { HasCause (D.faults disk.old) (D.faults disk.new) (D.steady disk.old) (D.steady disk.new) result }
+    ensures shortage { HasShortage (D.shortages disk.old) (D.shortages disk.new) result }
 {
     disk.write_at(tmp, 0, bytes)?;
     disk.sync(tmp)?;

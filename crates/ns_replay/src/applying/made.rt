@@ -15,19 +15,19 @@ use std::alloc::Global;
 pub(crate) fn add(
     alloc: Global,
     ns: &mut Namespace,
-    path: &[u8],
+    path: Name,
     replication: u16,
     mtime: u64,
     atime: u64,
     block_size: u64,
     permission: u16,
-    user: &Name,
-    group: &Name,
+    user: Name,
+    group: Name,
 ) -> Result<(), OutOfMemory>
-    requires good { AllByRecursion IsGood (fields_of (Op.Add path.now replication mtime atime block_size permission user.now group.now)) }
-    requires admitted { admit_add path.now replication block_size permission user.now group.now ns.old.pairs ≡ None }
+    requires good { AllByRecursion IsGood (fields_of (Op.Add path replication mtime atime block_size permission user group)) }
+    requires admitted { admit_add path replication block_size permission user group ns.old.pairs ≡ None }
     ensures ok { OnOk result (ns.new
-        ≡ record ns.old { pairs = add_of path.now replication mtime atime block_size permission user.now group.now ns.old.pairs }) }
+        ≡ record ns.old { pairs = add_of path replication mtime atime block_size permission user group ns.old.pairs }) }
     ensures err { OnErr result (ns.new ≡ ns.old) }
 {
     let file = Inode::File {
@@ -36,42 +36,38 @@ pub(crate) fn add(
         atime,
         block_size,
         permission,
-        user: user.copy(alloc)?,
-        group: group.copy(alloc)?,
+        user,
+        group,
         lengths: NumberList::new(alloc),
         under_construction: true,
     };
-    ns.insert(alloc, path, file)?;
-    ns.raise_mtime(parent(path), mtime);
-    Ok(())
+    ns.make(alloc, path, file, mtime)
 }
 
 /// Makes an empty directory, and raises the mtime of its parent.
 pub(crate) fn mkdir(
     alloc: Global,
     ns: &mut Namespace,
-    path: &[u8],
+    path: Name,
     time: u64,
     permission: u16,
-    user: &Name,
-    group: &Name,
+    user: Name,
+    group: Name,
 ) -> Result<(), OutOfMemory>
-    requires good { AllByRecursion IsGood (fields_of (Op.Mkdir path.now time permission user.now group.now)) }
-    requires admitted { admit_mkdir path.now permission user.now group.now ns.old.pairs ≡ None }
-    ensures ok { OnOk result (ns.new ≡ record ns.old { pairs = mkdir_of path.now time permission user.now group.now ns.old.pairs }) }
+    requires good { AllByRecursion IsGood (fields_of (Op.Mkdir path time permission user group)) }
+    requires admitted { admit_mkdir path permission user group ns.old.pairs ≡ None }
+    ensures ok { OnOk result (ns.new ≡ record ns.old { pairs = mkdir_of path time permission user group ns.old.pairs }) }
     ensures err { OnErr result (ns.new ≡ ns.old) }
 {
     let dir = Inode::Dir {
         mtime: time,
         permission,
-        user: user.copy(alloc)?,
-        group: group.copy(alloc)?,
+        user,
+        group,
         names: 0,
         space: 0,
     };
-    ns.insert(alloc, path, dir)?;
-    ns.raise_mtime(parent(path), time);
-    Ok(())
+    ns.make(alloc, path, dir, time)
 }
 
 /// Takes away a path with all under it, and raises the mtime of its parent. Takes no memory.

@@ -30,7 +30,7 @@ loop-cause-preserved c =
     let w = c.in-Whole.ensures in
     let entries : c.of-entries.result.bodies ≡ w.batch.bodies = ap (λ (x : EntriesView). x.bodies) (c.of-entries.ensures w.batch w.spells) in
     goes_on_in c.args.first c.args.skip c.args.most c.args.window.now c.args.scan.now c.loop-cause.scan _ c.loop-cause.at c.in-Whole.count c.in-Whole.length c.loop-cause.invariant w refl refl
-    (c.in_ok-push_piece-in-Whole.ensures ∙ ap (λ (p : ℕ × ℕ × List (List ℕ)). c.loop-cause.scan.bodies ++ take p.0 (drop p.1 p.2)) (λ i. (room i, before i, entries i)))
+    (c.in_ok-push_piece-in-Whole.ensures.copied ∙ ap (λ (p : ℕ × ℕ × List (List ℕ)). c.loop-cause.scan.bodies ++ take p.0 (drop p.1 p.2)) (λ i. (room i, before i, entries i)))
   where
     room : c.saturating_sub-room.result ≡ c.args.most - length c.loop-cause.scan.bodies
     room = c.saturating_sub-room.ensures ∙ ap (λ (k : ℕ). c.args.most - k) c.len.ensures

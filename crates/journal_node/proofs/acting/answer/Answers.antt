@@ -1,8 +1,11 @@
-use Rattle.std.proofs.Common.{List, refl, sym, ap, ◌∙◌}
+use Rattle.std.proofs.Common.{inr, List, length, refl, sym, ap, subst, ◌∙◌}
 use Rattle.journal_core.specs.Effects.{Effect}
 use Rattle.recent_edits.specs.Recent.{cached_behind}
 use Rattle.journal_node.proofs.ActingDone.{once_same, once_up}
 use Rattle.journal_node.proofs.ActingAnswer.{answer_at_once, moments_none, stable_at_once, up_stands, none_at_once}
+use Rattle.qj_disk.proofs.Keeping.{rests_same}
+use Rattle.node_deeds.specs.declared.deed.Deed.{Deed}
+use Rattle.journal_node.specs.Done.{HasRoom}
 use Rattle.journal_node.proofs.acting.answer.Goals as goal
 
 pub returns-in-Some-clause-answer : goal.returns-in-Some-clause-answer
@@ -25,3 +28,14 @@ pub returns-in-Some-clause-cached : goal.returns-in-Some-clause-cached
 returns-in-Some-clause-cached g c = λ t s up own.
     sym (ap (λ (es : List Effect). cached_behind c.args.recent.now.start es)
     (none_at_once s c.args.request.now c.in-Some.refusal (sym (once_up (g.D.Disk.view c.args.disk.now) c.args.memory.now c.args.table.now s c.args.request.now up) ∙ sym c.in-Some.ensures.refusal)))
+
+pub returns-in-Some-clause-spared : goal.returns-in-Some-clause-spared
+returns-in-Some-clause-spared g c = λ e. inr (record { disk = λ t. rests_same (g.D.Disk.view c.args.disk.now); memory = refl; rows = refl; recent = refl })
+
+pub returns-in-Err-clause-spared : goal.returns-in-Err-clause-spared
+returns-in-Err-clause-spared g c = λ e. inr (record { disk = λ t. rests_same (g.D.Disk.view c.args.disk.now); memory = refl; rows = refl; recent = refl })
+
+pub answer_by-requires-clause-room : goal.answer_by-requires-clause-room
+answer_by-requires-clause-room g c =
+    let told = c.requires.node.told in
+    subst (λ (ds : List Deed). HasRoom ds (length c.args.table.now) c.in-Ok.ready.room) (sym c.as_slice.ensures.value) (c.in-Ok.ensures.room told.0 told.1)

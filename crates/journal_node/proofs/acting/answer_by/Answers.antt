@@ -1,4 +1,5 @@
-use Rattle.std.proofs.Common.{sym, subst, ◌∙◌}
+use Rattle.std.proofs.Common.{inl, inr, refl, sym, subst, ◌∙◌}
+use Rattle.qj_disk.proofs.Rises.{rose_since}
 use Rattle.journal_core.specs.declared.node_state.NodeState.{NodeState}
 use Rattle.recent_edits.specs.Recent.{AsksRecent}
 use Rattle.journal_node.proofs.Recalling.{recalls_rests, asks_front}
@@ -79,3 +80,9 @@ pub returns-clause-unread : goal.returns-clause-unread
 returns-clause-unread g c = λ t s up asks.
     c.foretell.ensures.unread s.segments up.held.told (c.requires.recalls t s (is_up c.args.memory.now c.args.request.now c.requires.at_once) up)
     (subst (λ (x : NodeState). AsksRecent c.args.recent.now.start x c.args.request.now) (sym (front_same c.args.memory.now s c.behind_front-front.result c.args.request.now up.held.memory c.behind_front-front.ensures)) (asks_front c.args.recent.now.start s c.args.request.now asks))
+
+pub returns-in-Ok-clause-spared : goal.returns-in-Ok-clause-spared
+returns-in-Ok-clause-spared g c = λ e. inl (rose_since (g.D.Disk.shortages c.args.disk.now) (g.D.Disk.shortages c.foretell.new.disk) (g.D.Disk.shortages c.finish.new.disk) c.foretell.ensures.shortages (c.finish.ensures.short e))
+
+pub returns-clause-spared : goal.returns-clause-spared
+returns-clause-spared g c = λ e. inr (record { disk = c.foretell.ensures.disk; memory = refl; rows = refl; recent = refl })

@@ -1,4 +1,4 @@
-use Rattle.std.proofs.Common.{ℕ, ap, sym, subst, ◌∙◌, ◌≡◌, arith, Option, Some, None}
+use Rattle.std.proofs.Common.{ℕ, ap, subst, ◌∙◌, ◌≡◌, arith, Option, Some, None}
 use Rattle.journal_core.specs.declared.segment.Segment.{Segment}
 use Rattle.journal_core.specs.declared.segment_line.SegmentLine.{SegmentLine}
 use Rattle.journal_core.specs.Segments.{find_segment}

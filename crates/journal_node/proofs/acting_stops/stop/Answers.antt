@@ -1,7 +1,9 @@
-use Rattle.std.proofs.Common.{refl, sym, ◌∙◌, arith}
+use Rattle.std.proofs.Common.{List, length, refl, sym, subst, ◌∙◌, arith}
 use Rattle.journal_node.proofs.ActingDone.{once_same, up_of, is_up, are_of}
 use Rattle.journal_node.proofs.ActingAnswer.{up_stands}
 use Rattle.journal_node.proofs.ActingStops.{kept_moments, no_moments, node_goes_down, stops_at_once, stops_done, stops_fault, stops_memory}
+use Rattle.node_deeds.specs.declared.deed.Deed.{Deed}
+use Rattle.journal_node.specs.Done.{HasRoom}
 use Rattle.journal_node.proofs.acting_stops.stop.Goals as goal
 
 pub returns-in-Some-clause-node : goal.returns-in-Some-clause-node
@@ -62,3 +64,8 @@ returns-in-Ok-clause-moments g c = λ t s up.
 pub returns-clause-moments : goal.returns-clause-moments
 returns-clause-moments g c = λ t s up.
     no_moments (g.D.Disk.view c.args.disk.now) s c.args.request.now c.args.keep (g.met.D.Disk.sound _ t) (up_stands (g.D.Disk.view c.args.disk.now) c.args.memory.now c.args.table.now s up)
+
+pub stop_behind-requires-clause-room : goal.stop_behind-requires-clause-room
+stop_behind-requires-clause-room g c =
+    let told = c.requires.told in
+    subst (λ (ds : List Deed). HasRoom ds (length c.args.table.now) c.in-Ok.ready.room) (sym c.as_slice.ensures.value) (c.in-Ok.ensures.room told.0 told.1)

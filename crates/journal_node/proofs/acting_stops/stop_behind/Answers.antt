@@ -1,10 +1,11 @@
-use Rattle.std.proofs.Common.{take, ap, ◌≡◌, false}
+use Rattle.std.proofs.Common.{take, length, ap, ◌≡◌, false}
 use Rattle.journal_core.specs.declared.node_state.NodeState.{NodeState}
 use Rattle.journal_core.specs.Effects.{after_effects}
 use Rattle.journal_core.specs.Step.{stopped}
 use Rattle.journal_node.specs.Done.{effects_by, LeftStopped}
 use Rattle.journal_node.specs.Held.{IsHeld}
 use Rattle.journal_node.specs.Node.{IsDown, IsStoppedIn}
+use Rattle.journal_node.proofs.DoneRooms.{room_take}
 use Rattle.journal_node.proofs.ActingDone.{up_of, is_up, are_of, can_of}
 use Rattle.journal_node.proofs.ActingStops.{due_first, first_moments, can_first, held_down, left_down, node_stops, ok_to, err_to}
 use Rattle.journal_node.proofs.acting_stops.stop_behind.Goals as goal
@@ -13,6 +14,9 @@ pub do_deeds-done-requires-clause-due : goal.do_deeds-done-requires-clause-due
 do_deeds-done-requires-clause-due g c =
     let told = c.requires.node.told in
     (told.0, told.1, due_first c.args.count told.0 c.args.table.now c.args.request.now c.args.deeds.now (c.requires.due told.0 told.1))
+
+pub do_deeds-done-requires-clause-room : goal.do_deeds-done-requires-clause-room
+do_deeds-done-requires-clause-room g c = room_take c.args.count c.args.deeds.now (length c.args.table.now) c.args.ready.now.room c.requires.room
 
 pub do_deeds-done-requires-clause-held : goal.do_deeds-done-requires-clause-held
 do_deeds-done-requires-clause-held g c = λ t.

@@ -1,4 +1,4 @@
-use Rattle.std.proofs.Common.{◌≡◌, ◌+◌, get_or, take, drop, refl, ◌∙◌, rules}
+use Rattle.std.proofs.Common.{◌≡◌, ◌+◌, get_or, take, drop, length, arith, refl, ◌∙◌, rules}
 use Rattle.std.proofs.lemmas.List.{drop_all}
 use Rattle.std.specs.Prelude.{IsErr}
 use Rattle.segment_file.proofs.GateLemmas.{carried}
@@ -6,11 +6,13 @@ use Rattle.segment_file.proofs.Counts.{counted_as}
 use Rattle.node_files.specs.declared.node_number.NodeNumber.TheVariants.{Promised}
 use Rattle.node_deeds.specs.declared.deed.Deed.TheVariants.{Number}
 use Rattle.journal_node.proofs.DoneLaws.{begun, way_here, way_next, next_way}
+use Rattle.qj_disk.proofs.Rises.{rose_since}
+use Rattle.journal_node.proofs.DoneRooms.{room_here, room_next}
 use Rattle.journal_node.proofs.DoneStops.{failed_rows, failed_rest, can_here, run_moments, failed_leaves, failed_counts, failed_cut, ended_rest, ended_moments, ended_held, ended_opened, on_err_always, among_carried, ended_counts}
 use Rattle.journal_node.proofs.deeds_done.do_deeds.Goals as goal
 
 pub loop-deed-init : goal.loop-deed-init
-loop-deed-init g c = record { way = begun (g.D.Disk.tells c.args.disk.now) (g.D.Disk.view c.args.disk.now) (λ t. g.met.D.Disk.sound _ t) c.args.memory.now c.args.table.now c.args.request.now c.args.deeds.now (g.D.Disk.faults c.args.disk.now) (g.D.Disk.steady c.args.disk.now) (g.D.Disk.left c.args.disk.now) c.requires.due; unread = refl }
+loop-deed-init g c = record { way = begun (g.D.Disk.tells c.args.disk.now) (g.D.Disk.view c.args.disk.now) (λ t. g.met.D.Disk.sound _ t) c.args.memory.now c.args.table.now c.args.request.now c.args.deeds.now (g.D.Disk.faults c.args.disk.now) (g.D.Disk.steady c.args.disk.now) (g.D.Disk.left c.args.disk.now) c.requires.due; frame = c.requires.frame; room = c.requires.room; shortages = omega arith; unread = refl }
 
 pub do_deed-requires-clause-held : goal.do_deed-requires-clause-held
 do_deed-requires-clause-held g c = λ tells.
@@ -74,8 +76,28 @@ loop-deed-preserved g c = record {
       (way_here (g.D.Disk.tells c.args.disk.now) (g.D.Disk.tells c.loop-deed.disk) (g.D.Disk.view c.args.disk.now) (g.D.Disk.view c.loop-deed.disk) c.args.memory.now c.loop-deed.memory c.args.table.now c.loop-deed.table c.args.request.now c.args.deeds.now c.loop-deed.deed-index (Number Promised 0) (g.D.Disk.faults c.args.disk.now) (g.D.Disk.faults c.loop-deed.disk) (g.D.Disk.steady c.args.disk.now) (g.D.Disk.steady c.loop-deed.disk) (g.D.Disk.left c.args.disk.now) (g.D.Disk.left c.loop-deed.disk) c.loop-deed-test.true c.loop-deed.invariant.way)
       (g.D.Disk.tells c.do_deed.new.disk) (g.D.Disk.view c.do_deed.new.disk) c.do_deed.new.memory c.do_deed.new.table (g.D.Disk.faults c.do_deed.new.disk) (g.D.Disk.steady c.do_deed.new.disk) (g.D.Disk.left c.do_deed.new.disk) c.do_deed.result c.do_deed.ensures.tells c.do_deed.ensures.effect c.do_deed.ensures.counts c.do_deed.ensures.cause
       (search rules) c.in_ok-do_deed.ensures.noted.done c.in_ok-do_deed.ensures.rows c.in_ok-do_deed.ensures.memory c.in_ok-do_deed.ensures.held c.in_ok-do_deed.ensures.opened);
+  frame = c.do_deed.ensures.frame;
+  room =
+      room_next (get_or c.args.deeds.now c.loop-deed.deed-index (Number Promised 0)) (drop (c.loop-deed.deed-index + 1) c.args.deeds.now) (length c.loop-deed.table) (length c.do_deed.new.table) c.loop-deed.ready.room c.do_deed.new.ready.room
+      (room_here c.args.deeds.now c.loop-deed.deed-index (length c.loop-deed.table) c.loop-deed.ready.room (Number Promised 0) c.loop-deed-test.true c.loop-deed.invariant.room) c.do_deed.ensures.fewer c.do_deed.ensures.room;
+  shortages = omega (arith, c.loop-deed.invariant.shortages, c.do_deed.ensures.shortage.later);
   unread = c.do_deed.ensures.reads ∙ c.loop-deed.invariant.unread;
 }
+
+pub do_deed-requires-clause-room : goal.do_deed-requires-clause-room
+do_deed-requires-clause-room g c = λ puts.
+    ((room_here c.args.deeds.now c.loop-deed.deed-index (length c.loop-deed.table) c.loop-deed.ready.room (Number Promised 0) c.loop-deed-test.true c.loop-deed.invariant.room).0 puts).0
+
+pub returns-in_err-do_deed-clause-shortage : goal.returns-in_err-do_deed-clause-shortage
+returns-in_err-do_deed-clause-shortage g c = record {
+  later = omega (arith, c.loop-deed.invariant.shortages, c.do_deed.ensures.shortage.later);
+  short = λ failed.
+      rose_since (g.D.Disk.shortages c.args.disk.now) (g.D.Disk.shortages c.loop-deed.disk) (g.D.Disk.shortages c.do_deed.new.disk) c.loop-deed.invariant.shortages
+      (c.do_deed.ensures.shortage.short (carried c.do_deed.result c.from_residual.result c.in_err-do_deed.field-0.0 c.in_err-do_deed.was c.from_residual.ensures.1 failed));
+}
+
+pub returns-clause-shortage : goal.returns-clause-shortage
+returns-clause-shortage g c = record { later = c.loop-deed.invariant.shortages; short = λ failed. absurd (cc) }
 
 pub returns-clause-rest : goal.returns-clause-rest
 returns-clause-rest g c = ended_rest (g.D.Disk.tells c.args.disk.now) (g.D.Disk.tells c.loop-deed.disk) (g.D.Disk.view c.args.disk.now) (g.D.Disk.view c.loop-deed.disk) c.args.memory.now c.loop-deed.memory c.args.table.now c.loop-deed.table c.args.request.now c.args.deeds.now (take c.loop-deed.deed-index c.args.deeds.now) (drop c.loop-deed.deed-index c.args.deeds.now) (g.D.Disk.faults c.args.disk.now) (g.D.Disk.faults c.loop-deed.disk) (g.D.Disk.steady c.args.disk.now) (g.D.Disk.steady c.loop-deed.disk) (g.D.Disk.left c.args.disk.now) (g.D.Disk.left c.loop-deed.disk)

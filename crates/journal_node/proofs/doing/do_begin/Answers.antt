@@ -1,4 +1,6 @@
+use Rattle.std.proofs.Common.{arith}
 use Rattle.small_files.specs.Answers.{put_result}
+use Rattle.segment_file.proofs.GateLemmas.{carried}
 use Rattle.node_deeds.specs.declared.deed.Deed.TheVariants as deed
 use Rattle.node_deeds.proofs.ApplyLaws.{due_in_range}
 use Rattle.journal_node.proofs.DoingCalls.{begin_does, does_as}
@@ -22,3 +24,9 @@ pub returns-clause-left : goal.returns-clause-left
 returns-clause-left g c = λ t s can.
     done_before (g.D.Disk.view c.args.disk.now) c.args.table.now s c.args.request.now (deed.Begin c.args.start c.args.epoch) can (g.D.Disk.view c.begin_segment.new.disk) (g.met.D.Disk.sound _ (c.begin_segment.ensures.tells.0 t)) (g.D.Disk.left c.args.disk.now) (g.D.Disk.left c.begin_segment.new.disk)
     c.outcome.result (returns-clause-does g c t s can) c.note_row.new.table tt c.in_ok-note_row.ensures.noted.done
+
+pub returns-in_err-note_row-clause-shortage : goal.returns-in_err-note_row-clause-shortage
+returns-in_err-note_row-clause-shortage g c = record {
+  later = omega arith;
+  short = λ failed. absurd (c.note_row.ensures.shortage (λ puts. c.requires.room) (carried c.note_row.result c.from_residual.result c.in_err-note_row.field-0.0 c.in_err-note_row.was c.from_residual.ensures.1 failed));
+}

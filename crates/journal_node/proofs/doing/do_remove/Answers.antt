@@ -43,3 +43,6 @@ pub returns-in_default-clause-left : goal.returns-in_default-clause-left
 returns-in_default-clause-left g c = λ t s can.
     failed_behind (g.D.Disk.view c.args.disk.now) c.args.table.now s c.args.request.now (deed.Remove c.args.info) can (g.D.Disk.view c.remove_segment.new.disk) (g.met.D.Disk.sound _ (c.remove_segment.ensures.tells.0 t)) (g.D.Disk.left c.args.disk.now) (g.D.Disk.left c.remove_segment.new.disk)
     c.outcome.result (returns-in_default-clause-does g c t s can) c.args.table.now tt (λ i. c.args.table.now)
+
+pub returns-in-Done-clause-shortage : goal.returns-in-Done-clause-shortage
+returns-in-Done-clause-shortage g c = record { later = c.remove_segment.ensures.shortage.later; short = λ failed. absurd (c.note_row.ensures.shortage (λ puts. absurd (cc)) failed) }

@@ -1,6 +1,7 @@
 use Rattle.std.proofs.Common.{refl}
 use Rattle.std.specs.Fmt.{digits}
-use Rattle.request_text.specs.Texts.{numbers_text, hex_text, bodies_text, request_text, refusal_name, reply_text}
+use Rattle.line_words.specs.Hex.{hex_text}
+use Rattle.request_text.specs.Texts.{numbers_text, bodies_text, request_text, refusal_name, reply_text}
 use Rattle.report_text.specs.Text.{ask_text, answer_text, heard_text, history_line_text, record_line_text, node_text, nodes_text, actor_text, row_line_text, space_text, last_text, ended_text, operator_text, actors_text, text_of}
 use Rattle.report_text.proofs.examples.reports_are_as_written.Goals as goal
 

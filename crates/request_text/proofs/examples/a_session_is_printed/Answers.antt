@@ -1,6 +1,7 @@
 use Rattle.std.proofs.Common.{refl}
 use Rattle.std.specs.Fmt.{digits}
-use Rattle.request_text.specs.Texts.{request_text, reply_text, numbers_text, hex_text, bodies_text, lines_text, refusal_name}
+use Rattle.line_words.specs.Hex.{hex_text}
+use Rattle.request_text.specs.Texts.{request_text, reply_text, numbers_text, bodies_text, lines_text, refusal_name}
 use Rattle.request_text.proofs.examples.a_session_is_printed.Goals as goal
 
 pub returns-clause-requests : goal.returns-clause-requests

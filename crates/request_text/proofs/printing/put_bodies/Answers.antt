@@ -1,5 +1,6 @@
 use Rattle.std.proofs.Common.{arith, ◌∙◌, ap, ◌++◌, List, ℕ, ◌∷◌, ◌≡◌, length, sym, get_or, take, ◌+◌}
-use Rattle.request_text.specs.Texts.{hex_text, bodies_text}
+use Rattle.line_words.specs.Hex.{hex_text}
+use Rattle.request_text.specs.Texts.{bodies_text}
 use Rattle.request_text.proofs.PrintLaws.{body_grows, bodies_more}
 use Rattle.request_text.proofs.printing.put_bodies.Goals as goal
 

@@ -1,7 +1,7 @@
 use Rattle.std.proofs.Common.{refl}
 use Rattle.std.specs.Fmt.{digits}
 use Rattle.edit_ops.specs.Words.{verb}
-use Rattle.script_text.specs.Words.{words_of}
+use Rattle.line_words.specs.Words.{words_of}
 use Rattle.script_text.specs.Grammar.{texts_of}
 use Rattle.script_maker.specs.Generated.{lines_before, edit_lines}
 use Rattle.script_maker.proofs.examples.generated_scripts_are_spelled.Goals as goal

@@ -1,14 +1,20 @@
 use Rattle.std.proofs.Common.{sym, ◌∙◌}
-use Rattle.script_text.specs.Words.{words_of, first_word}
+use Rattle.line_words.specs.Words.{words_of, first_word}
 use Rattle.script_text.specs.Rules.{kind_of}
 use Rattle.script_text.proofs.KindLaws.{count_behind, line_reads}
+use Rattle.script_text.proofs.MemoryLaws.{line_takes}
 use Rattle.script_text.proofs.line_reading.read_line.Goals as goal
 
 pub read_operands-requires-clause-count : goal.read_operands-requires-clause-count
 read_operands-requires-clause-count c =
     count_behind c.in-Some.kind (words_of c.args.line.now) (first_word (words_of c.args.line.now)) (words_of c.in-Some-operands.text.now) c.in-Some-operands.ensures.0 c.in-Some-operands.ensures.1
 
-pub returns : goal.returns
-returns c =
+pub returns-clause-read : goal.returns-clause-read
+returns-clause-read c =
     line_reads c.args.said.now c.args.line.now c.in-Some.kind (words_of c.in-Some-operands.text.now) _ (sym (c.in-Some.ensures ∙ (λ i. kind_of (c.named.ensures i) (c.first_word.ensures i)))) c.in-Some-operands.ensures.0 c.in-Some-operands.ensures.1
-    c.read_operands.ensures
+    c.read_operands.ensures.read
+
+pub returns-clause-memory : goal.returns-clause-memory
+returns-clause-memory c =
+    line_takes c.args.said.now c.args.line.now c.in-Some.kind (words_of c.in-Some-operands.text.now) _ (sym (c.in-Some.ensures ∙ (λ i. kind_of (c.named.ensures i) (c.first_word.ensures i)))) c.in-Some-operands.ensures.0 c.in-Some-operands.ensures.1
+    c.read_operands.ensures.memory

@@ -1,9 +1,12 @@
 use Rattle.std.proofs.Common.{◌≡◌, ◌<◌, sym, subst, length, arith}
+use Rattle.std.proofs.lemmas.Bool.{false≢true}
 use Rattle.std.proofs.lemmas.Bool.Decides.{nat_tests}
+use Rattle.std.proofs.lemmas.Result.{err_from_is_err_and}
 use Rattle.std.proofs.lemmas.List.{nil_from_length}
 use Rattle.script_text.specs.Views.{ReadingView}
 use Rattle.script_text.specs.Reading.{IsBehind}
 use Rattle.script_text.proofs.ReadLaws.{behind_start, behind_more, behind_open, behind_broken, behind_nothing, behind_all}
+use Rattle.script_text.proofs.MemoryLaws.{first_was_right}
 use Rattle.script_text.proofs.reader.read_lines.Goals as goal
 
 pub loop-rest-init : goal.loop-rest-init
@@ -37,3 +40,8 @@ returns-in-None-clause-fault c =
     let none : length c.loop-rest.rest.now ≡ 0 = grind (arith, nat_tests) in
     behind_nothing c.args.bytes.now c.loop-rest.count c.loop-rest.reading c.loop-rest.rest.now
     c.loop-rest.invariant (nil_from_length c.loop-rest.rest.now none) c.in-None.ensures
+
+pub returns-in_err-rule-clause-first : goal.returns-in_err-rule-clause-first
+returns-in_err-rule-clause-first c =
+    let p = err_from_is_err_and c.from_residual.result c.from_residual.ensures.1 in
+    rw p.1 (λ line e. first_was_right c.args.bytes.now c.loop-rest.count line c.loop-rest.reading c.loop-rest.rest.now c.loop-rest.invariant (λ n. false≢true (c.in_err-rule.ensures.first n)) e)

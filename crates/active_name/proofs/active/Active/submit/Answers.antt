@@ -1,4 +1,5 @@
-use Rattle.std.proofs.Common.{◌≡◌, ◌∙◌, subst, true}
+use Rattle.std.proofs.Common.{◌≡◌, ◌∙◌, None, subst, true}
+use Rattle.ns_replay.specs.Admit.{admit_of}
 use Rattle.active_name.specs.Actives.{ActiveView, is_open}
 use Rattle.active_name.specs.Acting.{IsSubmitted}
 use Rattle.active_name.proofs.ActiveLaws.{pending_as, pends_at, pended_submits}
@@ -10,3 +11,6 @@ returns-clause-submitted c =
     let opens : is_open a ≡ true = c.self.invariant.1 ∙ c.if-not-self.false in
     subst (λ (v : ActiveView). IsSubmitted v c.args.edit (pending_as a c.submit.new.self) c.submit.result) c.self.view_is
     (pended_submits a c.args.edit c.submit.new.self c.submit.result (c.submit.ensures.submitted a.writer (pends_at a opens c.self.invariant.0 c.room-room.result c.room-room.ensures)))
+
+pub returns-clause-memory : goal.returns-clause-memory
+returns-clause-memory c = λ e. subst (λ (v : ActiveView). admit_of v.ahead c.args.edit ≡ None) c.self.view_is (c.submit.ensures.memory e)

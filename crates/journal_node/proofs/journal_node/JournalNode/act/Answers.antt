@@ -1,11 +1,13 @@
-use Rattle.std.proofs.Common.{subst, ◌≡◌, Option}
+use Rattle.std.proofs.Common.{subst, ◌≡◌, ◌⊎◌, Option}
 use Rattle.recent_edits.specs.Recent.{AsksRecent}
 use Rattle.journal_core.specs.declared.node_state.NodeState.{NodeState}
 use Rattle.journal_node.specs.Acted.{IsActed}
-use Rattle.journal_node.specs.Node.{told_state, IsUp, IsNoFault}
+use Rattle.journal_node.specs.Node.{told_state, IsUp, IsNoFault, IsUnchanged}
 use Rattle.journal_node.proofs.NodeStands.{told_both}
 use Rattle.qj_disk.specs.View.{AllLeave}
-use Rattle.journal_core.specs.Answers.{Answers}
+use Rattle.journal_core.specs.Answers.{Answers, Rose}
+use Rattle.journal_core.specs.declared.reply.Reply.TheVariants.{Refused}
+use Rattle.journal_core.specs.declared.refusal.Refusal.TheVariants.{OutOfMemory}
 use Rattle.journal_core.specs.Effects.{after_effects}
 use Rattle.journal_core.specs.Step.{effects_of}
 use Rattle.node_files.specs.Durable.{StandsAs}
@@ -37,3 +39,9 @@ returns-clause-acted g c =
       goes = c.answer.ensures.answer;
       moments = c.answer.ensures.moments;
     })
+
+pub returns-clause-spared : goal.returns-clause-spared
+returns-clause-spared g c =
+    subst
+    (λ p. c.answer.result ≡ Refused OutOfMemory → Rose (g.D.Disk.shortages p.disk) (g.D.Disk.shortages c.answer.new.disk)
+    ⊎ IsUnchanged (g.D.Disk.tells p.disk) (g.D.Disk.view p.disk) (g.D.Disk.view c.answer.new.disk) p.memory c.answer.new.memory p.rows c.answer.new.table p.recent c.answer.new.recent) c.self.view_is c.answer.ensures.spared

@@ -1,6 +1,6 @@
 use Rattle.std.proofs.Common.{◌≡◌, ◌+◌, length}
 use Rattle.request_text.specs.Reading.{bodies_in}
-use Rattle.request_text.proofs.WordLaws.{prepend}
+use Rattle.line_words.proofs.HexLaws.{prepend}
 use Rattle.request_text.proofs.words.Words.bodies.Given as goal
 
 -- the bodies so far, and those of the rest

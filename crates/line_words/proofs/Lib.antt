@@ -1,0 +1,5 @@
+pub mod AppendLaws
+pub mod WordLaws
+pub mod NumberLaws
+pub mod HexLaws
+pub mod EndLaws
