@@ -10,7 +10,7 @@ use Rattle.writer_core.specs.declared.task.Task.TheVariants as task
 use Rattle.writer_core.specs.declared.task.Begun.TheVariants as begun
 use Rattle.writer_core.specs.declared.round.Round.TheVariants as round
 use Rattle.writer_core.specs.declared.phase.Aim.TheVariants as aim
-use Rattle.writer_core.specs.Rounds.{asking_all, asking_others, end_record}
+use Rattle.writer_core.specs.Rounds.{asks_all, asks_others, end_record}
 use Rattle.writer_core.specs.Writer.{Began, begins, is_writing, if_writing, log_begins, log_limit, writer_begun}
 use Rattle.writer_core.specs.Room.{room_of}
 use Rattle.active_name.specs.declared.submitted.Submitted.{Submitted}
@@ -44,21 +44,17 @@ inactive_by : (b : Bool) (x : Began) (w : WriterView) → x.begun ≢ begun.NotA
 inactive_by true x w n e = absurd (n e)
 inactive_by false x w n e = refl
 
-log_not : (o : Option ℕ) (bodies : List (List ℕ)) (w : WriterView) → (log_begins o bodies w).begun ≢ begun.NotActive
-log_not None bodies w e = cc e
-log_not (Some number) bodies w e = cc e
-
 pub roll_inactive : (w : WriterView) → (writer_begun w task.Roll).begun ≡ begun.NotActive → is_writing w.phase ≡ false
 unfolding writer_begun
-roll_inactive w e = inactive_by (is_writing w.phase) (begins (asking_others (round.Write end_record) (record w { aim = aim.Roll }))) w (λ x. cc x) e
+roll_inactive w e = inactive_by (is_writing w.phase) (begins (asks_others (round.Write end_record) (record w { aim = aim.Roll }))) w (λ x. cc x) e
 
 pub close_inactive : (w : WriterView) → (writer_begun w task.Close).begun ≡ begun.NotActive → is_writing w.phase ≡ false
 unfolding writer_begun
-close_inactive w e = inactive_by (is_writing w.phase) (begins (asking_others (round.Write end_record) (record w { aim = aim.Close }))) w (λ x. cc x) e
+close_inactive w e = inactive_by (is_writing w.phase) (begins (asks_others (round.Write end_record) (record w { aim = aim.Close }))) w (λ x. cc x) e
 
 pub purge_inactive : (w : WriterView) (min : ℕ) → (writer_begun w (task.Purge min)).begun ≡ begun.NotActive → is_writing w.phase ≡ false
 unfolding writer_begun
-purge_inactive w min e = inactive_by (is_writing w.phase) (begins (asking_all (round.Purge min) (record w { aim = aim.Purge }))) w (λ x. cc x) e
+purge_inactive w min e = inactive_by (is_writing w.phase) (begins (asks_all (round.Purge min) (record w { aim = aim.Purge }))) w (λ x. cc x) e
 
 -- a batch that fits an open segment is begun
 pub log_going : (w : WriterView) (bodies : List (List ℕ)) → is_writing w.phase ≡ true → log_limit w bodies ≡ None → (writer_begun w (task.Log bodies)).begun ≡ begun.Going

@@ -12,7 +12,7 @@ use Rattle.ns_tree.proofs.Noting.{rising_later, rising_noted}
 use Rattle.ns_replay.specs.Apply.{apply_of, noted_if}
 use Rattle.writer_core.specs.Views.{WriterView}
 use Rattle.writer_core.specs.Writer.{log_limit}
-use Rattle.name_node.specs.Submissions.{Submission, Due, submitted_one, submitted}
+use Rattle.name_node.specs.Submissions.{Submission, Due, submitted_one, submit_edits}
 use Rattle.active_name.specs.declared.submitted.Submitted.{Submitted}
 use Rattle.active_name.specs.Pendings.{PendingView, submission, PendsFrom, PendsAt, IsOneMore}
 
@@ -109,12 +109,7 @@ from_more next p e body h =
     record { some = some; within = h.within; calls = subst (λ (k : ℕ). AreRising 0 k (apply_of p.ahead e (next + length p.bodies)).calls) same rising }
 
 -- ## Edits that are submitted one after the other
-pub submitted_more : (w : WriterView) (es : List EditView) (e : EditView) (x : Submission) → submitted w (es ++ e ∷ []) x ≡ submitted_one w e (submitted w es x)
-unfolding submitted
+pub submitted_more : (w : WriterView) (es : List EditView) (e : EditView) (x : Submission) → submit_edits w (es ++ e ∷ []) x ≡ submitted_one w e (submit_edits w es x)
+unfolding submit_edits
 submitted_more w [] e x = refl
 submitted_more w (d ∷ es) e x = submitted_more w es e (submitted_one w d x)
-
--- what a loop over edits rests on: one more of them was submitted
-pub pended_more : (w : WriterView) (es : List EditView) (e : EditView) (x : Submission) (dues : List Due) (old new : PendingView) (t : Submitted) → submitted w es x ≡ submission dues old
-    → (m : IsOneMore w old e new t) → submitted w (es ++ e ∷ []) x ≡ submission (dues ++ m.due ∷ []) new
-pended_more w es e x dues old new t h m = submitted_more w es e x ∙ (ap (submitted_one w e) h ∙ m.submitted dues)

@@ -1,4 +1,4 @@
--- An active name node behind a round.
+-- An active name node after a round.
 use Rattle.std.proofs.Common.{◌≡◌, ◌⊎◌, inl, inr, ℕ, ◌+◌, ◌-◌, ◌≤◌, ◌==◌, List, length, [], ◌∷◌, Bool, true, false, None, refl, sym, ap, ◌∙◌, subst, arith}
 use Rattle.std.specs.Prelude.{◌≢◌}
 use Rattle.journal_core.specs.Limits.{max_number}
@@ -10,7 +10,7 @@ use Rattle.writer_core.specs.declared.turn.Outcome.TheVariants as outcome
 use Rattle.writer_core.specs.Views.{WriterView}
 use Rattle.writer_core.specs.declared.round.Round.TheVariants as round
 use Rattle.writer_core.specs.declared.phase.Aim.TheVariants as aim
-use Rattle.writer_core.specs.Rounds.{asking_all, asking_others, end_record}
+use Rattle.writer_core.specs.Rounds.{asks_all, asks_others, end_record}
 use Rattle.writer_core.specs.Writer.{Began, begins, is_writing, if_writing, log_limit, writer_begun}
 use Rattle.quorum_writer.specs.declared.logged.Logged.{Logged}
 use Rattle.quorum_writer.specs.declared.logged.Logged.TheVariants as logged
@@ -51,7 +51,7 @@ pub roll_kept : (a : ActiveView) (w : WriterView) (before after : List PeerCall)
     → IsActive (record { writer = w; position = start; ahead = a.ahead; bodies = a.bodies; whole = a.whole }) × (is_writing w.phase ≡ is_open a)
 unfolding writer_begun
 roll_kept a w before after start h none c =
-    let opens : is_open a ≡ true = begun_open (is_writing a.writer.phase) (begins (asking_others (round.Write end_record) (record a.writer { aim = aim.Roll }))) a.writer c.begun in
+    let opens : is_open a ≡ true = begun_open (is_writing a.writer.phase) (begins (asks_others (round.Write end_record) (record a.writer { aim = aim.Roll }))) a.writer c.begun in
     let o = outcome_of _ w before after (outcome.Roll start) c.calls in
     let le : a.writer.next ≤ start = roll_start a.writer w before after start c.begun c.calls in
     let next : a.writer.next ≡ a.position + 1 = (h.opened opens).next in
@@ -62,7 +62,7 @@ pub purge_kept : (a : ActiveView) (w : WriterView) (before after : List PeerCall
     → IsActive (record { writer = w; position = a.position; ahead = a.ahead; bodies = a.bodies; whole = a.whole }) × (is_writing w.phase ≡ is_open a)
 unfolding writer_begun
 purge_kept a w before after min h none c =
-    let opens : is_open a ≡ true = begun_open (is_writing a.writer.phase) (begins (asking_all (round.Purge min) (record a.writer { aim = aim.Purge }))) a.writer c.begun in
+    let opens : is_open a ≡ true = begun_open (is_writing a.writer.phase) (begins (asks_all (round.Purge min) (record a.writer { aim = aim.Purge }))) a.writer c.begun in
     let same : w.next ≡ a.writer.next = purge_next a.writer w min before after c.begun c.calls in
     let size : length a.bodies ≡ 0 = ap (λ (l : List (List ℕ)). length l) none in
     (kept_active a w a.position a.bodies opens h (same ∙ (h.opened opens).next) h.within (omega (arith, size)) none, ap is_writing c.phase ∙ sym opens)
@@ -71,7 +71,7 @@ pub close_kept : (a : ActiveView) (w : WriterView) (before after : List PeerCall
     → IsActive (record { writer = w; position = last; ahead = a.ahead; bodies = a.bodies; whole = a.whole }) × (is_writing w.phase ≡ false)
 unfolding writer_begun
 close_kept a w before after last h none c =
-    let opens : is_open a ≡ true = begun_open (is_writing a.writer.phase) (begins (asking_others (round.Write end_record) (record a.writer { aim = aim.Close }))) a.writer c.begun in
+    let opens : is_open a ≡ true = begun_open (is_writing a.writer.phase) (begins (asks_others (round.Write end_record) (record a.writer { aim = aim.Close }))) a.writer c.begun in
     let most : last ≤ max_number = outcome_of _ w before after (outcome.Close last) c.calls in
     let le : a.writer.next ≤ last = close_last a.writer w before after last c.begun c.calls in
     let next : a.writer.next ≡ a.position + 1 = (h.opened opens).next in

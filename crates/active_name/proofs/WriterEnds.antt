@@ -22,11 +22,11 @@ use Rattle.writer_core.specs.declared.turn.Outcome.TheVariants as outcome
 use Rattle.writer_core.specs.Views.{WriterView}
 use Rattle.writer_core.specs.Answers.{fits, is_waiting, has_majority, fits_edits}
 use Rattle.writer_core.specs.Best.{greatest_promise}
-use Rattle.writer_core.specs.Rounds.{numbers_fit, Judged, going, stopped, proposing, done_in, with_causes, judged_by, judged, taken_out, fetched, after_finalize, after_open, after_write, edits_fetched, not_fetched, next_serial, asking_all, asking_others, end_record}
+use Rattle.writer_core.specs.Rounds.{numbers_fit, Judgment, keep_going, stops_with, begin_propose, after_round, with_causes, judgment_by, judgment, without_answer_of, after_fetch, after_finalize, after_open, after_write, after_edits, after_no_edits, next_serial, asks_all, asks_others, end_record}
 use Rattle.writer_core.specs.declared.task.Task.TheVariants as task
 use Rattle.writer_core.specs.declared.task.Begun.TheVariants as begun
-use Rattle.writer_core.specs.Writer.{begins, writer_begun, if_writing, is_writing, log_begins, log_limit, next_call, with_answer, judged_when, heard_in, heard_at, writer_heard}
-use Rattle.quorum_writer.specs.Led.{IsLed, judged_along, Leads}
+use Rattle.writer_core.specs.Writer.{begins, writer_begun, if_writing, is_writing, log_begins, log_limit, next_call, with_answer, judgment_when, heard_in, heard_at, writer_heard}
+use Rattle.quorum_writer.specs.Led.{IsLed, judgment_along, Leads}
 use Rattle.std.proofs.lemmas.Bool.{and_parts}
 
 -- what an outcome tells of the writer
@@ -43,13 +43,13 @@ IsTurnAt turn.Going w = Unit {0}
 IsTurnAt turn.Aborted w = Unit {0}
 IsTurnAt (turn.EpochLimit told) w = Unit {0}
 
-abbrev StandsSo : Judged → Type 0
+abbrev StandsSo : Judgment → Type 0
 StandsSo j = IsTurnAt j.turn j.writer
 
 fits_is : (n : ℕ) → fits n ≡ true → n ≤ max_number
 fits_is n e = grind (arith, nat_tests)
 
-state_so : (b : Bool) (told : ℕ) (w : WriterView) → StandsSo (if b then going (proposing told w) else stopped (turn.EpochLimit told) w)
+state_so : (b : Bool) (told : ℕ) (w : WriterView) → StandsSo (if b then keep_going (begin_propose told w) else stops_with (turn.EpochLimit told) w)
 state_so true told w = tt
 state_so false told w = tt
 
@@ -74,7 +74,7 @@ write_so aim.Log first last w e h = (e, h)
 write_so aim.Takeover first last w e h = (e, h)
 write_so aim.Purge first last w e h = (e, h)
 
-done_so : (r : Round) (w : WriterView) → numbers_fit w r ≡ true → StandsSo (done_in r w)
+done_so : (r : Round) (w : WriterView) → numbers_fit w r ≡ true → StandsSo (after_round r w)
 done_so round.State w e = state_so (nat_lt (greatest_promise w.slots) max_number) (greatest_promise w.slots) w
 done_so round.Propose w e = tt
 done_so (round.Prepare start) w e = tt
@@ -103,28 +103,28 @@ same_numbers round.Open w = refl
 same_numbers (round.Write bodies) w = refl
 same_numbers (round.Purge min) w = refl
 
-judged_so : (r : Round) (w : WriterView) → StandsSo (judged r w)
-unfolding judged
+judged_so : (r : Round) (w : WriterView) → StandsSo (judgment r w)
+unfolding judgment
 judged_so r w = by (numbers_fit w r) (has_majority r w.slots) refl
   where
-    by : (b c : Bool) → numbers_fit w r ≡ b → StandsSo (judged_by (b && c) r w)
+    by : (b c : Bool) → numbers_fit w r ≡ b → StandsSo (judgment_by (b && c) r w)
     by true true e = done_so r (with_causes r w) (sym (same_numbers r w) ∙ e)
     by true false e = tt
     by false c e = tt
 
-prepare_so : (b : Bool) (start : ℕ) (w : WriterView) → StandsSo (judged_by b (round.Prepare start) w)
+prepare_so : (b : Bool) (start : ℕ) (w : WriterView) → StandsSo (judgment_by b (round.Prepare start) w)
 prepare_so true start w = tt
 prepare_so false start w = tt
 
-edits_so : (b : Bool) (node start end : ℕ) (bodies : List (List ℕ)) (batch : BatchView) (w : WriterView) → StandsSo (edits_fetched b node start end bodies batch w)
+edits_so : (b : Bool) (node start end : ℕ) (bodies : List (List ℕ)) (batch : BatchView) (w : WriterView) → StandsSo (after_edits b node start end bodies batch w)
 edits_so true node start end bodies batch w = tt
-edits_so false node start end bodies batch w = prepare_so (has_majority (round.Prepare start) (taken_out node Silent w).slots) start (taken_out node Silent w)
+edits_so false node start end bodies batch w = prepare_so (has_majority (round.Prepare start) (without_answer_of node Silent w).slots) start (without_answer_of node Silent w)
 
-not_so : (node start : ℕ) (heard : Heard) (w : WriterView) → StandsSo (not_fetched node start heard w)
-not_so node start heard w = prepare_so (has_majority (round.Prepare start) (taken_out node heard w).slots) start (taken_out node heard w)
+not_so : (node start : ℕ) (heard : Heard) (w : WriterView) → StandsSo (after_no_edits node start heard w)
+not_so node start heard w = prepare_so (has_majority (round.Prepare start) (without_answer_of node heard w).slots) start (without_answer_of node heard w)
 
-fetched_so : (node start end : ℕ) (bodies : List (List ℕ)) (heard : Heard) (w : WriterView) → StandsSo (fetched node start end bodies heard w)
-unfolding fetched
+fetched_so : (node start end : ℕ) (bodies : List (List ℕ)) (heard : Heard) (w : WriterView) → StandsSo (after_fetch node start end bodies heard w)
+unfolding after_fetch
 fetched_so node start end bodies Silent w = not_so node start Silent w
 fetched_so node start end bodies (Answer reply.Ok) w = not_so node start (Answer reply.Ok) w
 fetched_so node start end bodies (Answer (reply.State promised)) w = not_so node start (Answer (reply.State promised)) w
@@ -135,7 +135,7 @@ fetched_so node start end bodies (Answer (reply.Refused refusal)) w = not_so nod
 fetched_so node start end bodies (Answer (reply.Edits batch)) w =
     edits_so (numbers_fit w (round.Fetch node start end bodies) && fits_edits (start + length bodies) batch) node start end bodies batch w
 
-when_so : (b : Bool) (r : Round) (w : WriterView) → StandsSo (judged_when b r w)
+when_so : (b : Bool) (r : Round) (w : WriterView) → StandsSo (judgment_when b r w)
 when_so true r w = tt
 when_so false r w = judged_so r w
 
@@ -161,22 +161,22 @@ heard_so : (w : WriterView) (node : ℕ) (heard : Heard) → StandsSo (writer_he
 unfolding writer_heard
 heard_so w node heard = at_so w.phase w node heard
 
-along_so : (j : Judged) (made : List PeerCall) → StandsSo j → StandsSo (judged_along j made)
-unfolding judged_along
+along_so : (j : Judgment) (made : List PeerCall) → StandsSo j → StandsSo (judgment_along j made)
+unfolding judgment_along
 along_so j [] h = h
 along_so j (c ∷ cs) h = along_so (writer_heard j.writer c.node c.heard) cs (heard_so j.writer c.node c.heard)
 
 -- where a task was done, the outcome tells where the writer stands
 pub outcome_of : (begun new : WriterView) (before after : List PeerCall) (o : Outcome) → Leads begun before after (record { writer = new; turn = turn.Done o }) → IsOutcome o new
-outcome_of begun new before after o l = subst StandsSo (sym l.stands) (along_so (going begun) l.made tt)
+outcome_of begun new before after o l = subst StandsSo (sym l.stands) (along_so (keep_going begun) l.made tt)
 
 -- ## A task of one round
 -- while the round goes on, and what it ends with
-module _ (P : WriterView → Type 0) (Q : Judged → Type 0)
+module _ (P : WriterView → Type 0) (Q : Judgment → Type 0)
     (step : (w : WriterView) (node : ℕ) (heard : Heard) → P w → (((writer_heard w node heard).turn ≡ turn.Going) × P (writer_heard w node heard).writer) ⊎ (Q (writer_heard w node heard) × (next_call (writer_heard w node heard).writer ≡ None))) where
-  ends_along : (j : Judged) (made : List PeerCall) → ((j.turn ≡ turn.Going) × P j.writer) ⊎ (Q j × (next_call j.writer ≡ None)) → IsLed j.writer made
-      → ((judged_along j made).turn ≡ turn.Going) ⊎ Q (judged_along j made)
-  unfolding judged_along IsLed
+  ends_along : (j : Judgment) (made : List PeerCall) → ((j.turn ≡ turn.Going) × P j.writer) ⊎ (Q j × (next_call j.writer ≡ None)) → IsLed j.writer made
+      → ((judgment_along j made).turn ≡ turn.Going) ⊎ Q (judgment_along j made)
+  unfolding judgment_along IsLed
   ends_along j [] (inl h) l = inl h.0
   ends_along j [] (inr h) l = inr h.0
   ends_along j (c ∷ cs) (inl h) l = ends_along (writer_heard j.writer c.node c.heard) cs (step j.writer c.node c.heard h.1) l.1
@@ -200,12 +200,12 @@ LogEnds bodies n (turn.EpochLimit told) = ⊥
 
 log_step : (bodies : List (List ℕ)) (n : ℕ) (w : WriterView) (node : ℕ) (heard : Heard) → InLog bodies n w
     → (((writer_heard w node heard).turn ≡ turn.Going) × InLog bodies n (writer_heard w node heard).writer) ⊎ (LogEnds bodies n (writer_heard w node heard).turn × (next_call (writer_heard w node heard).writer ≡ None))
-unfolding writer_heard judged
+unfolding writer_heard judgment
 log_step bodies n w node heard h =
     subst (λ (p : Phase). Good (heard_at p w node heard)) (sym h.under_way)
     (by (list_any is_waiting (with_answer w node heard).slots))
   where
-    Good : Judged → Type 0
+    Good : Judgment → Type 0
     Good j = ((j.turn ≡ turn.Going) × InLog bodies n j.writer) ⊎ (LogEnds bodies n j.turn × (next_call j.writer ≡ None))
 
     done : (a : Aim) (first last : ℕ) (v : WriterView) → a ≡ aim.Log → first ≡ n → last ≡ n + length bodies - 1 → Good (after_write a first last v)
@@ -215,11 +215,11 @@ log_step bodies n w node heard h =
     done aim.Close first last v e f l = absurd (cc e)
     done aim.Purge first last v e f l = absurd (cc e)
 
-    over : (b : Bool) (v : WriterView) → v.aim ≡ aim.Log → v.next ≡ n → Good (judged_by b (round.Write bodies) v)
+    over : (b : Bool) (v : WriterView) → v.aim ≡ aim.Log → v.next ≡ n → Good (judgment_by b (round.Write bodies) v)
     over true v a e = done v.aim v.next (v.next + length bodies - 1) _ a e (ap (λ (k : ℕ). k + length bodies - 1) e)
     over false v a e = inr (tt, refl)
 
-    by : (b : Bool) → Good (judged_when b (round.Write bodies) (with_answer w node heard))
+    by : (b : Bool) → Good (judgment_when b (round.Write bodies) (with_answer w node heard))
     by true = inl (refl, record { under_way = h.under_way; aim = h.aim; next = h.next })
     by false = over (numbers_fit (with_answer w node heard) (round.Write bodies) && has_majority (round.Write bodies) (with_answer w node heard).slots) (with_answer w node heard) h.aim h.next
 
@@ -235,8 +235,8 @@ begun_log old bodies e = by (is_writing old.phase) (log_limit old bodies) e
 pub log_last : (old new : WriterView) (bodies : List (List ℕ)) (before after : List PeerCall) (first last : ℕ) → (writer_begun old (task.Log bodies)).begun ≡ begun.Going
     → Leads (writer_begun old (task.Log bodies)).writer before after (record { writer = new; turn = turn.Done (outcome.Log first last) }) → last ≡ old.next + length bodies - 1
 log_last old new bodies before after first last e l =
-    by (judged_along (going (writer_begun old (task.Log bodies)).writer) l.made).turn (sym (ap (λ (j : Judged). j.turn) l.stands))
-    (ends_along (InLog bodies old.next) (λ j. LogEnds bodies old.next j.turn) (log_step bodies old.next) (going (writer_begun old (task.Log bodies)).writer) l.made (inl (refl, begun_log old bodies e)) l.led)
+    by (judgment_along (keep_going (writer_begun old (task.Log bodies)).writer) l.made).turn (sym (ap (λ (j : Judgment). j.turn) l.stands))
+    (ends_along (InLog bodies old.next) (λ j. LogEnds bodies old.next j.turn) (log_step bodies old.next) (keep_going (writer_begun old (task.Log bodies)).writer) l.made (inl (refl, begun_log old bodies e)) l.led)
   where
     by : (t : Turn) → t ≡ turn.Done (outcome.Log first last) → (t ≡ turn.Going) ⊎ LogEnds bodies old.next t → last ≡ old.next + length bodies - 1
     by t is (inl goes) = absurd (cc (is, goes))
@@ -249,19 +249,19 @@ record InPurge (min n : ℕ) (w : WriterView) : Type 0 where
 
 purge_step : (min n : ℕ) (w : WriterView) (node : ℕ) (heard : Heard) → InPurge min n w
     → (((writer_heard w node heard).turn ≡ turn.Going) × InPurge min n (writer_heard w node heard).writer) ⊎ (((writer_heard w node heard).writer.next ≡ n) × (next_call (writer_heard w node heard).writer ≡ None))
-unfolding writer_heard judged
+unfolding writer_heard judgment
 purge_step min n w node heard h =
     subst (λ (p : Phase). Good (heard_at p w node heard)) (sym h.under_way)
     (by (list_any is_waiting (with_answer w node heard).slots))
   where
-    Good : Judged → Type 0
+    Good : Judgment → Type 0
     Good j = ((j.turn ≡ turn.Going) × InPurge min n j.writer) ⊎ ((j.writer.next ≡ n) × (next_call j.writer ≡ None))
 
-    over : (b : Bool) (v : WriterView) → v.next ≡ n → Good (judged_by b (round.Purge min) v)
+    over : (b : Bool) (v : WriterView) → v.next ≡ n → Good (judgment_by b (round.Purge min) v)
     over true v e = inr (e, refl)
     over false v e = inr (e, refl)
 
-    by : (b : Bool) → Good (judged_when b (round.Purge min) (with_answer w node heard))
+    by : (b : Bool) → Good (judgment_when b (round.Purge min) (with_answer w node heard))
     by true = inl (refl, record { under_way = h.under_way; next = h.next })
     by false = over (numbers_fit (with_answer w node heard) (round.Purge min) && has_majority (round.Purge min) (with_answer w node heard).slots) (with_answer w node heard) h.next
 
@@ -269,20 +269,20 @@ begun_purge : (old : WriterView) (min : ℕ) → (writer_begun old (task.Purge m
 unfolding writer_begun
 begun_purge old min e = by (is_writing old.phase) e
   where
-    by : (b : Bool) → (if_writing b (begins (asking_all (round.Purge min) (record old { aim = aim.Purge }))) old).begun ≡ begun.Going
-        → InPurge min old.next (if_writing b (begins (asking_all (round.Purge min) (record old { aim = aim.Purge }))) old).writer
+    by : (b : Bool) → (if_writing b (begins (asks_all (round.Purge min) (record old { aim = aim.Purge }))) old).begun ≡ begun.Going
+        → InPurge min old.next (if_writing b (begins (asks_all (round.Purge min) (record old { aim = aim.Purge }))) old).writer
     by true e = record { under_way = refl; next = refl }
     by false e = absurd (cc e)
 
 pub purge_next : (old new : WriterView) (min : ℕ) (before after : List PeerCall) → (writer_begun old (task.Purge min)).begun ≡ begun.Going
     → Leads (writer_begun old (task.Purge min)).writer before after (record { writer = new; turn = turn.Done outcome.Purge }) → new.next ≡ old.next
 purge_next old new min before after e l =
-    by (judged_along (going (writer_begun old (task.Purge min)).writer) l.made) (sym l.stands)
-    (ends_along (InPurge min old.next) (λ j. j.writer.next ≡ old.next) (purge_step min old.next) (going (writer_begun old (task.Purge min)).writer) l.made (inl (refl, begun_purge old min e)) l.led)
+    by (judgment_along (keep_going (writer_begun old (task.Purge min)).writer) l.made) (sym l.stands)
+    (ends_along (InPurge min old.next) (λ j. j.writer.next ≡ old.next) (purge_step min old.next) (keep_going (writer_begun old (task.Purge min)).writer) l.made (inl (refl, begun_purge old min e)) l.led)
   where
-    by : (j : Judged) → j ≡ record { writer = new; turn = turn.Done outcome.Purge } → (j.turn ≡ turn.Going) ⊎ (j.writer.next ≡ old.next) → new.next ≡ old.next
-    by j is (inl goes) = let end : j.turn ≡ turn.Done outcome.Purge = ap (λ (x : Judged). x.turn) is in absurd (cc (end, goes))
-    by j is (inr e) = sym (ap (λ (x : Judged). x.writer.next) is) ∙ e
+    by : (j : Judgment) → j ≡ record { writer = new; turn = turn.Done outcome.Purge } → (j.turn ≡ turn.Going) ⊎ (j.writer.next ≡ old.next) → new.next ≡ old.next
+    by j is (inl goes) = let end : j.turn ≡ turn.Done outcome.Purge = ap (λ (x : Judgment). x.turn) is in absurd (cc (end, goes))
+    by j is (inr e) = sym (ap (λ (x : Judgment). x.writer.next) is) ∙ e
 
 -- ## A segment ends: a roll or a close
 abbrev EndsSo : ℕ → Phase → WriterView → Type 0
@@ -304,7 +304,7 @@ record InEnd (a : Aim) (n : ℕ) (w : WriterView) : Type 0 where
   aim : w.aim ≡ a
   so : EndsSo n w.phase w
 
-abbrev EndGood : Aim → ℕ → Judged → Type 0
+abbrev EndGood : Aim → ℕ → Judgment → Type 0
 EndGood a n j = ((j.turn ≡ turn.Going) × InEnd a n j.writer) ⊎ (EndTurn n j.turn × (next_call j.writer ≡ None))
 
 abbrev ending : Bool → Aim
@@ -346,17 +346,17 @@ last_of : (w : WriterView) (n : ℕ) (bodies : List (List ℕ)) → bodies ≡ e
 last_of w n bodies e next = let one : length bodies ≡ 1 = ap (λ (l : List (List ℕ)). length l) e in omega (arith, one, next)
 
 end_step : (k : Bool) (n : ℕ) (w : WriterView) (node : ℕ) (heard : Heard) → InEnd (ending k) n w → EndGood (ending k) n (writer_heard w node heard)
-unfolding writer_heard judged
+unfolding writer_heard judgment
 end_step k n w node heard h = at w.phase refl h.so
   where
-    still : (v : WriterView) → v.aim ≡ w.aim → EndsSo n v.phase v → EndGood (ending k) n (going v)
+    still : (v : WriterView) → v.aim ≡ w.aim → EndsSo n v.phase v → EndGood (ending k) n (keep_going v)
     still v e s = inl (refl, record { aim = e ∙ h.aim; so = s })
 
-    over : (r : Round) (b : Bool) (v : WriterView) → (EndGood (ending k) n (done_in r (with_causes r v))) → EndGood (ending k) n (judged_by b r v)
+    over : (r : Round) (b : Bool) (v : WriterView) → (EndGood (ending k) n (after_round r (with_causes r v))) → EndGood (ending k) n (judgment_by b r v)
     over r true v g = g
     over r false v g = inr (tt, refl)
 
-    when : (r : Round) (b : Bool) (v : WriterView) → EndGood (ending k) n (going v) → EndGood (ending k) n (done_in r (with_causes r v)) → EndGood (ending k) n (judged_when b r v)
+    when : (r : Round) (b : Bool) (v : WriterView) → EndGood (ending k) n (keep_going v) → EndGood (ending k) n (after_round r (with_causes r v)) → EndGood (ending k) n (judgment_when b r v)
     when r true v s d = s
     when r false v s d = over r (numbers_fit v r && has_majority r v.slots) v d
 
@@ -389,8 +389,8 @@ begun_roll : (old : WriterView) → (writer_begun old task.Roll).begun ≡ begun
 unfolding writer_begun
 begun_roll old e = by (is_writing old.phase) e
   where
-    by : (b : Bool) → (if_writing b (begins (asking_others (round.Write end_record) (record old { aim = aim.Roll }))) old).begun ≡ begun.Going
-        → InEnd (ending true) old.next (if_writing b (begins (asking_others (round.Write end_record) (record old { aim = aim.Roll }))) old).writer
+    by : (b : Bool) → (if_writing b (begins (asks_others (round.Write end_record) (record old { aim = aim.Roll }))) old).begun ≡ begun.Going
+        → InEnd (ending true) old.next (if_writing b (begins (asks_others (round.Write end_record) (record old { aim = aim.Roll }))) old).writer
     by true e = record { aim = refl; so = (refl, refl) }
     by false e = absurd (cc e)
 
@@ -398,15 +398,15 @@ begun_close : (old : WriterView) → (writer_begun old task.Close).begun ≡ beg
 unfolding writer_begun
 begun_close old e = by (is_writing old.phase) e
   where
-    by : (b : Bool) → (if_writing b (begins (asking_others (round.Write end_record) (record old { aim = aim.Close }))) old).begun ≡ begun.Going
-        → InEnd (ending false) old.next (if_writing b (begins (asking_others (round.Write end_record) (record old { aim = aim.Close }))) old).writer
+    by : (b : Bool) → (if_writing b (begins (asks_others (round.Write end_record) (record old { aim = aim.Close }))) old).begun ≡ begun.Going
+        → InEnd (ending false) old.next (if_writing b (begins (asks_others (round.Write end_record) (record old { aim = aim.Close }))) old).writer
     by true e = record { aim = refl; so = (refl, refl) }
     by false e = absurd (cc e)
 
 end_turn : (k : Bool) (n : ℕ) (begun new : WriterView) (before after : List PeerCall) (o : Outcome) → InEnd (ending k) n begun → Leads begun before after (record { writer = new; turn = turn.Done o }) → EndTurn n (turn.Done o)
 end_turn k n begun new before after o h l =
-    by (judged_along (going begun) l.made).turn (sym (ap (λ (j : Judged). j.turn) l.stands))
-    (ends_along (InEnd (ending k) n) (λ j. EndTurn n j.turn) (end_step k n) (going begun) l.made (inl (refl, h)) l.led)
+    by (judgment_along (keep_going begun) l.made).turn (sym (ap (λ (j : Judgment). j.turn) l.stands))
+    (ends_along (InEnd (ending k) n) (λ j. EndTurn n j.turn) (end_step k n) (keep_going begun) l.made (inl (refl, h)) l.led)
   where
     by : (t : Turn) → t ≡ turn.Done o → (t ≡ turn.Going) ⊎ EndTurn n t → EndTurn n (turn.Done o)
     by t is (inl goes) = absurd (cc (is, goes))

@@ -9,20 +9,13 @@ ghost use Rattle.active_name.specs.Pendings.{none_pending, PendsFrom, PendsAt, I
 
 use crate::submitted::Submitted;
 use edit_ops::{Edit, encode_in};
-use journal_core::BodyList;
+use journal_core::{BodyList, MAX_BATCH, MAX_BODY, MAX_SEGMENT};
 use ns_replay::{AdmitRefusal, admit, aim, apply};
 use ns_tree::Namespace;
 use qj_num::{Bytes, OutOfMemory};
 use std::alloc::Global;
 use std::marker::Model;
 use std::mem;
-
-/// The most bytes of a body.
-const MAX_BODY: usize = 4096;
-/// The most bodies of a batch.
-const MAX_BATCH: usize = 256;
-/// The most edits of a segment.
-const MAX_SEGMENT: u64 = 16384;
 
 /// Edits that were admitted one after the other and are to be logged together: the namespace that they lead
 /// to, which is what the next one is admitted against, and their bodies. Contracts see both. Beside them stands the
@@ -43,7 +36,7 @@ impl Model for Pending {
 }
 
 /// The answer to an edit that isn't admitted.
-fn refused(refusal: AdmitRefusal) -> Submitted
+fn refuse(refusal: AdmitRefusal) -> Submitted
     ensures refusal { result ≡ refused_as refusal }
     ensures told { result ≢ Submitted.OutOfMemory }
 {
@@ -104,7 +97,7 @@ impl Pending {
         self.look_at(edit);
         match admit(&self.ahead, edit) {
             Ok(()) => self.pend(alloc, room, next, edit),
-            Err(refusal) => refused(refusal),
+            Err(refusal) => refuse(refusal),
         }
     }
 

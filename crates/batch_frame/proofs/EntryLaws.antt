@@ -1,5 +1,5 @@
 -- Entries that are read are those that were written.
-use Rattle.std.proofs.Common.{◌≡◌, ℕ, zero, suc, ◌+◌, ◌^◌, ◌<◌, ◌≤◌, Bool, true, false, cond, ltb, List, [], ◌∷◌, ◌++◌, length, take, drop, Option, Some, None, refl, sym, ap, subst, ◌∙◌, append_assoc, arith}
+use Rattle.std.proofs.Common.{◌≡◌, ℕ, zero, suc, ◌+◌, ◌^◌, ◌<◌, ◌≤◌, Bool, true, false, cond, ltb, List, [], ◌∷◌, ◌++◌, length, take, drop, Option, Some, None, refl, sym, ap, subst, ◌∙◌, arith}
 use Rattle.std.specs.Option.{option_map, option_and_then}
 use Rattle.std.specs.List.{flat_map, AllByRecursion}
 use Rattle.std.specs.Int.{w16, w32, w64, from_be_bytes, to_be_bytes}
@@ -90,7 +90,7 @@ entries_again (body ∷ bodies) short =
     ap (option_and_then (λ (entry : List ℕ × List ℕ). option_map (λ (others : List (List ℕ)). entry.0 ∷ others) (entries_in (length bodies) entry.1))) (entry_again body (flat_map entry_bytes bodies) short.0)
     ∙ ap (option_map (λ (others : List (List ℕ)). body ∷ others)) (entries_again bodies short.1)
 
--- ---- what stands behind a frame's length
+-- ---- what stands after a frame's length
 
 pub batch_again : (b : BatchView) → FitsFields b → batch_in (inner_bytes b) ≡ Some b
 unfolding batch_in

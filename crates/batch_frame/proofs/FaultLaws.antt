@@ -1,8 +1,8 @@
 -- Bytes are frames and a tail, or have one first bad frame, and never both.
-use Rattle.std.proofs.Common.{◌≡◌, ◌≢◌, ℕ, zero, suc, ◌+◌, ◌-◌, ◌^◌, ◌<◌, ◌≤◌, ◌⊎◌, inl, inr, Bool, true, false, cond, List, [], ◌∷◌, ◌++◌, length, take, drop, Option, Some, None, refl, sym, ap, subst, ◌∙◌, arith}
+use Rattle.std.proofs.Common.{◌≡◌, ℕ, zero, suc, ◌+◌, ◌<◌, ◌≤◌, ◌⊎◌, inl, inr, Bool, true, false, cond, List, [], ◌∷◌, ◌++◌, length, take, drop, Option, Some, None, refl, sym, ap, subst, ◌∙◌, arith}
 use Rattle.std.specs.List.{list_any}
 use Rattle.std.proofs.lemmas.Bool.{cases_lt, cases_eq}
-use Rattle.std.proofs.lemmas.List.{length-append, length-drop}
+use Rattle.std.proofs.lemmas.List.{length-drop}
 use Rattle.std.proofs.lemmas.Option.{same_Some}
 use Rattle.journal_core.specs.Views.{BatchView, last_txid}
 use Rattle.batch_frame.specs.declared.frame_cause.FrameCause.{FrameCause}
@@ -12,8 +12,7 @@ use Rattle.batch_frame.specs.Faults.{IsBytes, HasGate, told_length, Spells, IsBa
 use Rattle.batch_frame.specs.Reading.{batch_in}
 use Rattle.batch_frame.proofs.FieldLaws.{IsBytes-drop}
 use Rattle.batch_frame.proofs.SpellLaws.{spelled_tells, spelled_batch, one_spelling, spells_from, length-frame_bytes}
-use Rattle.batch_frame.proofs.RuleLaws.{good_fits}
-use Rattle.batch_frame.proofs.FrameLaws.{Stops, SameFront, one_front, goes_on, no_frames}
+use Rattle.batch_frame.proofs.FrameLaws.{Stops, one_front, goes_on, no_frames}
 
 -- ---- what a bad frame is, in three ways
 

@@ -1,5 +1,5 @@
 -- What the readers of entries and frames find.
-use Rattle.std.proofs.Common.{◌≡◌, ◌≢◌, ℕ, zero, suc, ◌+◌, ◌-◌, ◌*◌, ◌^◌, ◌<◌, ◌≤◌, Bool, true, false, cond, ◌||◌, ltb, leb, List, [], ◌∷◌, ◌++◌, length, get_or, take, drop, Option, Some, None, Result, Ok, Err, refl, sym, ap, subst, ◌∙◌, arith}
+use Rattle.std.proofs.Common.{◌≡◌, ◌≢◌, ℕ, append_assoc, zero, suc, ◌+◌, ◌-◌, ◌*◌, ◌^◌, ◌<◌, ◌≤◌, Bool, true, false, cond, ◌||◌, ltb, leb, List, [], ◌∷◌, ◌++◌, length, get_or, take, drop, Option, Some, None, Result, Ok, Err, refl, sym, ap, subst, ◌∙◌, arith}
 use Rattle.std.specs.Option.{option_map, option_and_then}
 use Rattle.std.specs.Prelude.{unwrap_or}
 use Rattle.std.specs.List.{flat_map, list_any}
@@ -60,8 +60,8 @@ pub split_whole : (bytes rest body behind : List ℕ) (n : ℕ) → Some n ≡ n
 split_whole bytes rest body behind n e is le body_is behind_is =
     let told = number_some w16 bytes 0 n e in
     let body_same : body ≡ take n (drop 2 bytes) = body_is ∙ ap (take n) is in
-    let behind_same : behind ≡ drop (2 + n) bytes = behind_is ∙ ap (drop n) is ∙ drop-drop n 2 bytes in
-    (λ i. Some (body_same i, behind_same i)) ∙ sym (entry_by bytes n (sym told.1) (omega (arith, told.0, ap length is, length-drop 2 bytes, le)))
+    let after_same : behind ≡ drop (2 + n) bytes = behind_is ∙ ap (drop n) is ∙ drop-drop n 2 bytes in
+    (λ i. Some (body_same i, after_same i)) ∙ sym (entry_by bytes n (sym told.1) (omega (arith, told.0, ap length is, length-drop 2 bytes, le)))
 
 -- ---- entries, whether one is bad
 
@@ -115,7 +115,7 @@ pub bad_starts : (n count : ℕ) (bytes : List ℕ) → n ≡ count → seen_bad
 unfolding seen_bad
 bad_starts n count bytes is = ap (λ (m : ℕ). option_map (list_any is_bad_body) (entries_in m bytes)) is
 
--- ---- what stands behind a length
+-- ---- what stands after a length
 
 pub inner_none : (inner : List ℕ) → length inner < 12 → batch_in inner ≡ None
 unfolding batch_in
@@ -177,7 +177,7 @@ judged_inner next first count inner entries result fields e = e ∙ ap (judged n
 pub judged_short : (next : ℕ) (inner : List ℕ) → length inner < 12 → Err Length ≡ judged next (batch_in inner)
 judged_short next inner lt = sym (ap (judged next) (inner_none inner lt))
 
--- ---- a frame behind its gate
+-- ---- a frame after its gate
 
 ok_by : (rule : Option FrameCause) (count n : ℕ) → count_unless rule n ≡ Ok count → (rule ≡ None) × (count ≡ n)
 ok_by None count n e = (refl, sym (ok_same n count e))
@@ -337,15 +337,6 @@ pub step : (left : ℕ) (rest body behind : List ℕ) (txid place : ℕ) → Are
 step zero rest body behind txid place are ne e = absurd (ne refl)
 step (suc left) rest body behind txid place are ne e = step_by left rest body behind txid place (entries_in left behind) are e (entry_length rest body behind e) refl
 
-pub no_step : (left : ℕ) (rest : List ℕ) (txid place : ℕ) → AreEntries left rest txid place → left ≢ 0 → None ≡ entry_at rest → ⊥
-no_step zero rest txid place are ne e = ne refl
-no_step (suc left) rest txid place are ne e = none-some are.bodies (sym (no_entry_in left rest e) ∙ are.entries)
-
-pub no_entries : (left : ℕ) (rest : List ℕ) (txid place : ℕ) → AreEntries left rest txid place → left ≡ 0 → bodies_in left rest ≡ []
-no_entries left rest txid place are is =
-    let len = entries_count left rest are.bodies are.entries in
-    ap (λ (o : Option (List (List ℕ))). unwrap_or o []) are.entries ∙ nil_from_length are.bodies (omega (arith, len, is))
-
 -- ---- headers
 
 pub header_same : (bytes front : List ℕ) (start epoch start' epoch' : ℕ) → Some start ≡ number_at w64 bytes 8 → Some epoch ≡ number_at w64 bytes 16 → HasHeader bytes start' epoch' → front ≡ take 24 bytes → front ≡ header_bytes start epoch
@@ -369,23 +360,29 @@ short_sized (body ∷ bodies) e =
     let le : length body ≤ 4096 = ltb-false _ _ parts.0 in
     omega (arith, le, short_sized bodies parts.1, length-append body (flat_map entry_bytes bodies))
 
-pub frame_built : (first inner : ℕ) (bodies : List (List ℕ)) (items : List ℕ) → inner ≡ 12 + length (flat_map entry_bytes bodies)
-    → items ≡ (((([] ++ 165 ∷ []) ++ to_be_bytes w32 inner) ++ to_be_bytes w64 first) ++ to_be_bytes w32 (length bodies)) ++ flat_map entry_bytes bodies → items ≡ frame_bytes (record { first = first; bodies = bodies })
+regrouped : (f a b c d : List ℕ) → ((((f ++ 165 ∷ []) ++ a) ++ b) ++ c) ++ d ≡ f ++ (165 ∷ (a ++ (b ++ (c ++ d))))
+regrouped f a b c d = simp append_assoc
+
+pub frame_built : (front : List ℕ) (first inner : ℕ) (bodies : List (List ℕ)) (items : List ℕ) → inner ≡ 12 + length (flat_map entry_bytes bodies)
+    → items ≡ ((((front ++ 165 ∷ []) ++ to_be_bytes w32 inner) ++ to_be_bytes w64 first) ++ to_be_bytes w32 (length bodies)) ++ flat_map entry_bytes bodies
+    → items ≡ front ++ frame_bytes (record { first = first; bodies = bodies })
 unfolding frame_bytes
-frame_built first inner bodies items is e =
+frame_built front first inner bodies items is e =
     let n : inner ≡ length (inner_bytes (record { first = first; bodies = bodies })) = omega (arith, is) in
-    e ∙ ap (λ (m : ℕ). 165 ∷ (to_be_bytes w32 m ++ inner_bytes (record { first = first; bodies = bodies }))) n
+    e ∙ regrouped front (to_be_bytes w32 inner) (to_be_bytes w64 first) (to_be_bytes w32 (length bodies)) (flat_map entry_bytes bodies)
+    ∙ ap (λ (m : ℕ). front ++ (165 ∷ (to_be_bytes w32 m ++ inner_bytes (record { first = first; bodies = bodies })))) n
 
-pub frame_joined : (first inner : ℕ) (bodies : List (List ℕ)) (i0 i1 i2 i3 i4 i5 x2 x3 x4 : List ℕ) → inner ≡ 12 + length (flat_map entry_bytes bodies) → i0 ≡ [] → i1 ≡ i0 ++ 165 ∷ [] → x2 ≡ to_be_bytes w32 inner → i2 ≡ i1 ++ x2
-    → x3 ≡ to_be_bytes w64 first → i3 ≡ i2 ++ x3 → x4 ≡ to_be_bytes w32 (length bodies) → i4 ≡ i3 ++ x4 → i5 ≡ i4 ++ flat_map entry_bytes bodies → i5 ≡ frame_bytes (record { first = first; bodies = bodies })
-frame_joined first inner bodies i0 i1 i2 i3 i4 i5 x2 x3 x4 is h0 h1 y2 h2 y3 h3 y4 h4 h5 =
-    let e1 : i1 ≡ [] ++ 165 ∷ [] = h1 ∙ ap (λ (x : List ℕ). x ++ 165 ∷ []) h0 in
-    let e2 : i2 ≡ ([] ++ 165 ∷ []) ++ to_be_bytes w32 inner = h2 ∙ (λ i. e1 i ++ y2 i) in
-    let e3 : i3 ≡ (([] ++ 165 ∷ []) ++ to_be_bytes w32 inner) ++ to_be_bytes w64 first = h3 ∙ (λ i. e2 i ++ y3 i) in
-    let e4 : i4 ≡ ((([] ++ 165 ∷ []) ++ to_be_bytes w32 inner) ++ to_be_bytes w64 first) ++ to_be_bytes w32 (length bodies) = h4 ∙ (λ i. e3 i ++ y4 i) in
-    frame_built first inner bodies i5 is (h5 ∙ ap (λ (x : List ℕ). x ++ flat_map entry_bytes bodies) e4)
+pub frame_joined : (front : List ℕ) (first inner : ℕ) (bodies : List (List ℕ)) (i0 i1 i2 i3 i4 i5 x2 x3 x4 : List ℕ) → inner ≡ 12 + length (flat_map entry_bytes bodies) → i0 ≡ front
+    → i1 ≡ i0 ++ 165 ∷ [] → x2 ≡ to_be_bytes w32 inner → i2 ≡ i1 ++ x2 → x3 ≡ to_be_bytes w64 first → i3 ≡ i2 ++ x3 → x4 ≡ to_be_bytes w32 (length bodies) → i4 ≡ i3 ++ x4
+    → i5 ≡ i4 ++ flat_map entry_bytes bodies → i5 ≡ front ++ frame_bytes (record { first = first; bodies = bodies })
+frame_joined front first inner bodies i0 i1 i2 i3 i4 i5 x2 x3 x4 is h0 h1 y2 h2 y3 h3 y4 h4 h5 =
+    let e1 : i1 ≡ front ++ 165 ∷ [] = h1 ∙ ap (λ (x : List ℕ). x ++ 165 ∷ []) h0 in
+    let e2 : i2 ≡ (front ++ 165 ∷ []) ++ to_be_bytes w32 inner = h2 ∙ (λ i. e1 i ++ y2 i) in
+    let e3 : i3 ≡ ((front ++ 165 ∷ []) ++ to_be_bytes w32 inner) ++ to_be_bytes w64 first = h3 ∙ (λ i. e2 i ++ y3 i) in
+    let e4 : i4 ≡ (((front ++ 165 ∷ []) ++ to_be_bytes w32 inner) ++ to_be_bytes w64 first) ++ to_be_bytes w32 (length bodies) = h4 ∙ (λ i. e3 i ++ y4 i) in
+    frame_built front first inner bodies i5 is (h5 ∙ ap (λ (x : List ℕ). x ++ flat_map entry_bytes bodies) e4)
 
--- a whole frame lies within the bytes, and the txid behind it has room
+-- a whole frame lies within the bytes, and the txid after it has room
 pub record InRoom (bytes : List ℕ) (at next count size : ℕ) : Type 0 where
   pub some : 0 < size
   pub there : at + size ≤ length bytes

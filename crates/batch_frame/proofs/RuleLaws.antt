@@ -1,13 +1,13 @@
 -- The rules that a frame keeps, and that a batch within the limits keeps them.
-use Rattle.std.proofs.Common.{◌≡◌, ◌≢◌, ℕ, zero, suc, ◌+◌, ◌*◌, ◌^◌, ◌<◌, ◌≤◌, Bool, true, false, not, ◌||◌, cond, eqb, ltb, List, [], ◌∷◌, ◌++◌, length, Option, Some, None, refl, sym, ap, ◌∙◌, arith}
+use Rattle.std.proofs.Common.{◌≡◌, ◌≢◌, ℕ, ◌+◌, ◌*◌, ◌^◌, ◌<◌, ◌≤◌, Bool, true, false, not, cond, eqb, ltb, List, [], ◌∷◌, length, Option, Some, None, refl, arith}
 use Rattle.std.specs.List.{flat_map, list_any, AllByRecursion}
 use Rattle.std.proofs.lemmas.Bool.{ltb-false, le-ltb, eqb-true, eqb-false, eq-eqb, ne_eqb, or_parts, or_from, not-false, not_from_true}
 use Rattle.std.proofs.lemmas.List.{length-append}
 use Rattle.journal_core.specs.Views.{BatchView, last_txid}
-use Rattle.journal_core.specs.Limits.{max_number, max_body, max_segment}
+use Rattle.journal_core.specs.Limits.{max_number, max_body}
 use Rattle.batch_frame.specs.declared.frame_cause.FrameCause.{FrameCause}
 use Rattle.batch_frame.specs.declared.frame_cause.FrameCause.TheVariants.{Count, Body, Order}
-use Rattle.batch_frame.specs.Frames.{entry_bytes, inner_bytes, is_bad_count, is_bad_body, is_out_of_order, broken_rule}
+use Rattle.batch_frame.specs.Frames.{entry_bytes, is_bad_count, is_bad_body, is_out_of_order, broken_rule}
 use Rattle.batch_frame.specs.Faults.{FitsFields}
 
 -- what a frame has that breaks no rule
@@ -79,7 +79,7 @@ good_fits next b e =
       bodies = s.short;
     }
 
--- the txids go on behind a frame
+-- the txids go on after a frame
 pub next_within : (next : ℕ) (b : BatchView) → broken_rule next b ≡ None → next + length b.bodies ≤ 4611686018427387905
 next_within next b e = let k = rules_kept next b e in omega (arith, k.last, k.some, k.first)
 

@@ -1,7 +1,7 @@
 -- The bytes of a segment file: how it goes on, and that they are one in one way at most.
-use Rattle.std.proofs.Common.{◌≡◌, ℕ, ◌+◌, ◌^◌, ◌<◌, ◌≤◌, List, [], ◌∷◌, ◌++◌, length, take, drop, Option, Some, None, ◌⊎◌, inl, inr, refl, sym, ap, subst, ◌∙◌, arith}
+use Rattle.std.proofs.Common.{◌≡◌, ℕ, ◌+◌, ◌^◌, ◌<◌, ◌≤◌, List, [], ◌++◌, length, take, drop, None, ◌⊎◌, inl, inr, refl, sym, ap, subst, ◌∙◌, arith}
 use Rattle.std.specs.Int.{w64, from_be_bytes}
-use Rattle.std.proofs.lemmas.List.{take_at, drop_at, take-append-le, drop-append-le, take-take, drop-take, drop-drop, length-append, length-take, length-drop}
+use Rattle.std.proofs.lemmas.List.{take-append-le, drop-append-le, take-take, drop-take, drop-drop, length-take, length-drop}
 use Rattle.std.proofs.lemmas.Nat.{from_be_bytes-to_be_bytes_8}
 use Rattle.journal_core.specs.Views.{BatchView}
 use Rattle.batch_frame.specs.declared.frame_cause.FrameCause.{FrameCause}
@@ -40,17 +40,14 @@ header_again bytes rest start epoch end h le there = record {
   epoch_within = h.epoch_within;
 }
 
--- ---- what stands behind the header
+-- ---- what stands after the header
 
 pub whole_within : (bytes : List ℕ) (start epoch : ℕ) (bodies : List (List ℕ)) (whole_length : ℕ) → IsSegmentFile bytes start epoch bodies whole_length → (24 ≤ whole_length) × (whole_length ≤ length bytes)
 whole_within bytes start epoch bodies whole_length s =
     (omega (arith, s.whole), omega (arith, s.whole, s.frames.frames.there, length-drop 24 bytes, header_there bytes start epoch s.header))
 
-pub segment_tail : (bytes : List ℕ) (start epoch : ℕ) (bodies : List (List ℕ)) (whole_length : ℕ) → IsSegmentFile bytes start epoch bodies whole_length → IsTail (drop whole_length bytes)
-segment_tail bytes start epoch bodies whole_length s = subst IsTail (drop-drop s.frames_length 24 bytes ∙ ap (λ (n : ℕ). drop n bytes) (sym s.whole)) s.frames.tail
-
-behind_header : (bytes rest : List ℕ) (end more : ℕ) → end ≡ 24 + more → end ≤ length bytes → drop 24 (take end bytes ++ rest) ≡ take more (drop 24 bytes) ++ rest
-behind_header bytes rest end more is there =
+after_header : (bytes rest : List ℕ) (end more : ℕ) → end ≡ 24 + more → end ≤ length bytes → drop 24 (take end bytes ++ rest) ≡ take more (drop 24 bytes) ++ rest
+after_header bytes rest end more is there =
     drop-append-le 24 (take end bytes) rest (omega (arith, length-take end bytes, is, there))
     ∙ ap (λ (n : ℕ). drop 24 (take n bytes) ++ rest) is
     ∙ ap (λ (x : List ℕ). x ++ rest) (drop-take 24 more bytes)
@@ -62,7 +59,7 @@ segment_other_tail bytes start epoch bodies whole_length tail s is =
     record {
       header = header_again bytes tail start epoch whole_length s.header within.0 within.1;
       frames_length = s.frames_length;
-      frames = subst (λ (x : List ℕ). AreFrames start x bodies s.frames_length) (sym (behind_header bytes tail whole_length s.frames_length s.whole within.1)) (other_tail start (drop 24 bytes) bodies s.frames_length tail s.frames is);
+      frames = subst (λ (x : List ℕ). AreFrames start x bodies s.frames_length) (sym (after_header bytes tail whole_length s.frames_length s.whole within.1)) (other_tail start (drop 24 bytes) bodies s.frames_length tail s.frames is);
       whole = s.whole;
     }
 
@@ -74,7 +71,7 @@ segment_one_more bytes start epoch bodies whole_length b tail s good is =
     record {
       header = header_again bytes (frame_bytes b ++ tail) start epoch whole_length s.header within.0 within.1;
       frames_length = s.frames_length + length (frame_bytes b);
-      frames = subst (λ (x : List ℕ). AreFrames start x (bodies ++ b.bodies) (s.frames_length + length (frame_bytes b))) (sym (behind_header bytes (frame_bytes b ++ tail) whole_length s.frames_length s.whole within.1))
+      frames = subst (λ (x : List ℕ). AreFrames start x (bodies ++ b.bodies) (s.frames_length + length (frame_bytes b))) (sym (after_header bytes (frame_bytes b ++ tail) whole_length s.frames_length s.whole within.1))
           (one_frame_more start (drop 24 bytes) bodies s.frames_length b tail s.frames good is);
       whole = omega (arith, s.whole);
     }

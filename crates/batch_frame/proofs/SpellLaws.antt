@@ -1,12 +1,12 @@
 -- A frame that is spelled, and what it tells.
-use Rattle.std.proofs.Common.{◌≡◌, ℕ, suc, ◌+◌, ◌^◌, ◌<◌, ◌≤◌, List, [], ◌∷◌, ◌++◌, length, take, drop, Option, Some, None, refl, sym, ap, subst, ◌∙◌, append_assoc, arith}
+use Rattle.std.proofs.Common.{◌≡◌, ℕ, suc, ◌+◌, ◌^◌, ◌<◌, ◌≤◌, List, [], ◌∷◌, ◌++◌, length, take, drop, Some, refl, sym, ap, subst, ◌∙◌, arith}
 use Rattle.std.specs.Int.{w32, from_be_bytes, to_be_bytes}
 use Rattle.std.proofs.lemmas.Option.{same_Some}
 use Rattle.std.proofs.lemmas.List.{take_at, take-append-drop, length-append, length-take, length-drop}
 use Rattle.std.proofs.lemmas.Nat.{from_be_bytes-to_be_bytes_4}
 use Rattle.journal_core.specs.Views.{BatchView}
-use Rattle.batch_frame.specs.Frames.{gate, inner_bytes, frame_bytes}
-use Rattle.batch_frame.specs.Faults.{IsBytes, HasGate, told_length, FitsFields, Spells}
+use Rattle.batch_frame.specs.Frames.{inner_bytes, frame_bytes}
+use Rattle.batch_frame.specs.Faults.{IsBytes, HasGate, told_length, Spells}
 use Rattle.batch_frame.specs.Reading.{batch_in}
 use Rattle.batch_frame.proofs.FieldLaws.{IsBytes-drop, IsBytes-take, wide32, front_spelled, front_below}
 use Rattle.batch_frame.proofs.EntryLaws.{batch_again, batch_takes}

@@ -1,5 +1,5 @@
 -- The right answers for a batch that is written, and for bytes that are read.
-use Rattle.std.specs.Prelude.{◌≡◌, ℕ, List, length, take, drop, Option, Some, None, nat_lt, if◌then◌else◌}
+use Rattle.std.specs.Prelude.{◌≡◌, ℕ, List, ◌++◌, length, take, drop, Option, Some, None, nat_lt, if◌then◌else◌}
 use Rattle.std.specs.List.{list_any}
 use Rattle.journal_core.specs.Views.{BatchView}
 use Rattle.journal_core.specs.Limits.{max_body, max_segment}
@@ -21,11 +21,11 @@ passed_limit b =
     else if nat_lt max_segment (length b.bodies) then Some max_segment
     else None
 
--- want of memory is a right answer to every batch within the limits
-abbrev pub IsFramed : BatchView → Framed → Type 0
-IsFramed b (framed.Bytes v) = (v.items ≡ frame_bytes b) × (passed_limit b ≡ None)
-IsFramed b (framed.TooLong number) = passed_limit b ≡ Some number
-IsFramed b framed.OutOfMemory = passed_limit b ≡ None
+-- lack of memory is a right answer to every batch within the limits
+abbrev pub IsFramed : List ℕ → BatchView → Framed → Type 0
+IsFramed front b (framed.Bytes v) = (v.items ≡ front ++ frame_bytes b) × (passed_limit b ≡ None)
+IsFramed front b (framed.TooLong number) = passed_limit b ≡ Some number
+IsFramed front b framed.OutOfMemory = passed_limit b ≡ None
 
 -- what was written breaks no rule where the batch's first txid is the next one
 abbrev pub IsGoodFrame : BatchView → Framed → Type 0

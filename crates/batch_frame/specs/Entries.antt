@@ -1,5 +1,5 @@
 -- The entries of a frame in turn.
-use Rattle.std.specs.Prelude.{◌≡◌, ℕ, ◌+◌, ◌^◌, ◌<◌, ◌≤◌, List, [], ◌∷◌, length, Option, Some, None, false, unwrap_or}
+use Rattle.std.specs.Prelude.{◌≡◌, ℕ, ◌+◌, ◌^◌, ◌<◌, List, [], ◌∷◌, length, Option, Some, None, false, unwrap_or}
 use Rattle.std.specs.List.{list_any}
 use Rattle.batch_frame.specs.declared.entry.Entry.{Entry}
 use Rattle.batch_frame.specs.Frames.{is_bad_body}
@@ -12,7 +12,7 @@ pub record EntriesView : Type 0 where
   pub place : ℕ
   pub bodies : List (List ℕ)
 
--- the next entry is this one, with its body behind two bytes of length, and these are to come behind it
+-- the next entry is this one, with its body after two bytes of length, and these are to come after it
 pub record IsNext (before : EntriesView) (entry : Entry) (after : EntriesView) : Type 0 where
   pub txid : entry.txid ≡ before.txid
   pub place : entry.place ≡ before.place + 2

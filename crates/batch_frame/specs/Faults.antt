@@ -1,5 +1,5 @@
 -- What is wrong with a frame, and where.
-use Rattle.std.specs.Prelude.{◌≡◌, ◌≢◌, ℕ, ◌+◌, ◌^◌, ◌<◌, ◌≤◌, List, [], ◌∷◌, ◌++◌, length, take, drop, slice_index, Some}
+use Rattle.std.specs.Prelude.{◌≡◌, ℕ, ◌+◌, ◌^◌, ◌<◌, ◌≤◌, List, [], ◌∷◌, ◌++◌, length, take, drop, slice_index, Some}
 use Rattle.std.specs.List.{AllByRecursion}
 use Rattle.std.specs.Int.{w32, from_be_bytes}
 use Rattle.journal_core.specs.Views.{BatchView}
@@ -15,7 +15,7 @@ HasGate (byte ∷ bytes) = byte ≡ gate
 abbrev pub IsBytes : List ℕ → Type 0
 IsBytes bytes = (i : ℕ) → slice_index bytes i < 256
 
--- the length that a frame tells behind its gate
+-- the length that a frame tells after its gate
 abbrev pub told_length : List ℕ → ℕ
 told_length bytes = from_be_bytes w32 (take 4 (drop 1 bytes))
 
@@ -32,7 +32,7 @@ pub record Spells (bytes : List ℕ) (b : BatchView) : Type 0 where
   pub rest : List ℕ
   pub spelled : bytes ≡ frame_bytes b ++ rest
 
--- the frame at the front of the bytes, behind an open gate, where this txid is the next: what is wrong with it first
+-- the frame at the front of the bytes, after an open gate, where this txid is the next: what is wrong with it first
 abbrev pub IsBadFrame : ℕ → List ℕ → FrameCause → Type 0
 -- the bytes end inside the frame
 IsBadFrame next bytes Short = HasGate bytes × (length bytes < 5 + told_length bytes)

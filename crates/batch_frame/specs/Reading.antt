@@ -1,5 +1,5 @@
 -- Entries and batches as they stand in bytes, whichever rules they break.
-use Rattle.std.specs.Prelude.{◌≡◌, ℕ, zero, suc, ◌+◌, ◌-◌, Bool, Result, Ok, Err, List, [], ◌∷◌, length, take, drop, Option, Some, None, nat_lt, if◌then◌else◌, option_and_then, unwrap_or}
+use Rattle.std.specs.Prelude.{ℕ, zero, suc, ◌+◌, ◌-◌, Bool, Result, Ok, Err, List, [], ◌∷◌, length, take, drop, Option, Some, None, nat_lt, if◌then◌else◌, option_and_then}
 use Rattle.std.specs.Option.{option_map}
 use Rattle.std.specs.Int.{w16, w32, w64, from_be_bytes}
 use Rattle.journal_core.specs.Views.{BatchView}
@@ -7,7 +7,7 @@ use Rattle.batch_frame.specs.declared.frame_cause.FrameCause.{FrameCause}
 use Rattle.batch_frame.specs.declared.frame_cause.FrameCause.TheVariants.{Length, Count, Body, Order}
 use Rattle.batch_frame.specs.Frames.{is_bad_count, is_out_of_order, broken_rule}
 
--- the body at the front, and the bytes behind its entry
+-- the body at the front, and the bytes after its entry
 unfoldable pub entry_at : List ℕ → Option (List ℕ × List ℕ)
 entry_at bytes =
     if nat_lt (length bytes) (2 + from_be_bytes w16 (take 2 bytes)) then None
@@ -19,7 +19,7 @@ entries_in zero [] = Some []
 entries_in zero (byte ∷ bytes) = None
 entries_in (suc count) bytes = option_and_then (λ entry. option_map (λ bodies. entry.0 ∷ bodies) (entries_in count entry.1)) (entry_at bytes)
 
--- the batch of which these are the bytes behind a frame's length
+-- the batch of which these are the bytes after a frame's length
 unfoldable pub batch_in : List ℕ → Option BatchView
 batch_in inner =
     if nat_lt (length inner) 12 then None

@@ -1,5 +1,5 @@
 -- The bytes of a segment file: a header, frames, and a tail.
-use Rattle.std.specs.Prelude.{◌≡◌, ℕ, ◌+◌, ◌≤◌, List, [], ◌∷◌, ◌++◌, take, drop}
+use Rattle.std.specs.Prelude.{◌≡◌, ℕ, ◌+◌, ◌≤◌, List, ◌∷◌, ◌++◌, take, drop}
 use Rattle.std.specs.Int.{w32, w64, to_be_bytes}
 use Rattle.journal_core.specs.Limits.{max_number}
 use Rattle.batch_frame.specs.declared.frame_cause.FrameCause.{FrameCause}

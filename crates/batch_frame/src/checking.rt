@@ -14,7 +14,7 @@ use crate::frame_cause::FrameCause;
 use crate::rules::{GATE, first_rule, is_bad_body};
 use qj_num::{get_u16, get_u32, get_u64};
 
-/// The body of the entry at the front, and the bytes behind the entry; none where the bytes end inside it.
+/// The body of the entry at the front, and the bytes after the entry; none where the bytes end inside it.
 pub(crate) fn split_entry(bytes: &[u8]) -> Option<(&[u8], &[u8])>
     ensures { option_map (λ x. (x.0.now, x.1.now)) result ≡ entry_at bytes.now }
 {
@@ -40,7 +40,7 @@ fn any_bad_body(entries: &[u8], count: u32) -> Option<bool>
     if rest.is_empty() { Some(found) } else { None }
 }
 
-// What stands behind the length of a frame; none where the bytes end inside the frame.
+// What stands after the length of a frame; none where the bytes end inside the frame.
 fn inner_of(bytes: &[u8]) -> Option<&[u8]>
     requires { HasGate bytes.now }
     ensures { MatchOption result (length bytes.now < 5 + told_length bytes.now) (λ inner. (5 + told_length bytes.now ≤ length bytes.now) × (inner.now ≡ take (told_length bytes.now) (drop 5 bytes.now))) }
@@ -54,7 +54,7 @@ fn inner_of(bytes: &[u8]) -> Option<&[u8]>
     Some(inner)
 }
 
-// The first txid, the count and the entries that stand behind the length of a frame; none where there is no room
+// The first txid, the count and the entries that stand after the length of a frame; none where there is no room
 // for the numbers.
 fn fields_of(inner: &[u8]) -> Option<(u64, u32, &[u8])>
     ensures { MatchOption result (length inner.now < 12) (λ x. (Some x.0 ≡ number_at w64 inner.now 0) × (Some x.1 ≡ number_at w32 inner.now 8) × (x.2.now ≡ drop 12 inner.now)) }
@@ -79,7 +79,7 @@ fn check_entries(next: u64, first: u64, count: u32, entries: &[u8]) -> Result<u6
     }
 }
 
-// How many entries stand behind the length of a frame, or what is wrong with them first.
+// How many entries stand after the length of a frame, or what is wrong with them first.
 #[tactic(auto, using(crate::proofs::ReadLaws::judges))]
 fn check_inner(inner: &[u8], next: u64) -> Result<u64, FrameCause>
     ensures { result ≡ judged next (batch_in inner.now) }
@@ -90,7 +90,7 @@ fn check_inner(inner: &[u8], next: u64) -> Result<u64, FrameCause>
     }
 }
 
-// The frame at the front, behind an open gate.
+// The frame at the front, after an open gate.
 fn check_front(bytes: &[u8], next: u64) -> Checked
     requires { HasGate bytes.now }
     ensures { IsChecked next bytes.now result }
@@ -110,7 +110,7 @@ fn check_front(bytes: &[u8], next: u64) -> Checked
 }
 
 /// What stands at the place `at` of a segment's bytes, where the txid `first` is the next one. Any place and
-/// any txid may be asked for; nothing stands behind the end. Takes no memory.
+/// any txid may be asked for; nothing stands after the end. Takes no memory.
 #[tactic(auto, using(crate::proofs::ReadLaws::gates))]
 pub fn check_frame(bytes: &[u8], at: usize, first: u64) -> Checked
     ensures { IsChecked first (drop at bytes.now) result }

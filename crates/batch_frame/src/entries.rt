@@ -31,7 +31,7 @@ impl<'a> Model for Entries<'a> {
 
 impl<'a> Entries<'a> {
     /// Those of the frame at the place `at`, of which `check_frame` told this count and this length where
-    /// the txid `first` is the next one. The first entry begins 17 bytes behind the gate.
+    /// the txid `first` is the next one. The first entry begins 17 bytes after the gate.
     pub fn of(bytes: &'a [u8], at: usize, first: u64, count: u64, length: usize) -> Entries<'a>
         requires { IsWholeFrame first (drop at bytes.now) count length }
         ensures { (b : BatchView) → Spells (drop at bytes.now) b → result ≡ record { txid = b.first; place = at + 17; bodies = b.bodies } }

@@ -38,16 +38,22 @@ fn put_entries(out: &mut Vec<u8>, bodies: &[Bytes]) -> Result<(), OutOfMemory>
     Ok(())
 }
 
-// The frame of these bodies from this txid on, where they are within the limits.
-fn bytes_of(alloc: Global, first: u64, bodies: &[Bytes]) -> Result<Vec<u8>, OutOfMemory>
+// The frame of these bodies from this txid on after other bytes, where they are within the limits.
+fn bytes_of(
+    alloc: Global,
+    front: &[u8],
+    first: u64,
+    bodies: &[Bytes],
+) -> Result<Vec<u8>, OutOfMemory>
     requires short { list_any (λ body. nat_lt max_body (length body)) bodies.now ≡ false }
     requires most { length bodies.now ≤ 16384 }
-    ensures spelled { IfOk result (λ v. v.items ≡ frame_bytes (record { first = first; bodies = bodies.now })) }
+    ensures spelled { IfOk result (λ v. v.items ≡ front.now ++ frame_bytes (record { first = first; bodies = bodies.now })) }
     ensures some { IfOk result (λ v. AllByRecursion (λ body. body ≢ []) bodies.now) }
 {
     let inner = 12 + entries_length(bodies);
-    // with room for the closed gate that is going to stand behind it
-    let mut out = Vec::with_capacity(alloc, 6 + inner)?;
+    // with room for the closed gate that is going to stand after it
+    let mut out = Vec::with_capacity(alloc, front.len().saturating_add(6 + inner))?;
+    out.extend_from_slice(front)?;
     out.push(GATE)?;
     out.extend_from_slice(&(inner as u32).to_be_bytes())?;
     out.extend_from_slice(&first.to_be_bytes())?;
@@ -56,10 +62,10 @@ fn bytes_of(alloc: Global, first: u64, bodies: &[Bytes]) -> Result<Vec<u8>, OutO
     Ok(out)
 }
 
-/// The frame of a batch, with its gate open. The frame breaks no rule where the batch's first txid is the next.
-pub fn frame_of(alloc: Global, batch: &Batch) -> Framed
+/// The frame of a batch after these bytes, with its gate open. It breaks no rule where the batch's first txid is the next.
+pub fn frame_after(alloc: Global, front: &[u8], batch: &Batch) -> Framed
     requires { last_txid batch.now ≤ max_number }
-    ensures framed { IsFramed batch.now result }
+    ensures framed { IsFramed front.now batch.now result }
     ensures good { IsGoodFrame batch.now result }
 {
     if batch.bodies().any_longer(MAX_BODY) {
@@ -72,7 +78,7 @@ pub fn frame_of(alloc: Global, batch: &Batch) -> Framed
             number: MAX_SEGMENT,
         };
     }
-    match bytes_of(alloc, batch.first(), batch.bodies().as_slice()) {
+    match bytes_of(alloc, front, batch.first(), batch.bodies().as_slice()) {
         Ok(bytes) => Framed::Bytes(bytes),
         Err(_) => Framed::OutOfMemory,
     }

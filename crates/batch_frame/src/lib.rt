@@ -21,7 +21,7 @@ pub use entries::Entries;
 pub use entry::Entry;
 pub use frame_cause::FrameCause;
 pub use framed::Framed;
-pub use framing::frame_of;
+pub use framing::frame_after;
 pub use header::{HEADER_LENGTH, Header, header_of, put_header, read_header};
 pub use laws::{
     bytes_have_one_answer, frame_is_read_back, frames_go_on, segments_go_on,

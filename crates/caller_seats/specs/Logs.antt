@@ -28,12 +28,12 @@ abbrev pub with_line : LogView → Record → LogView
 with_line l r = record l { past = l.past ++ r ∷ [] }
 
 -- one of the next calls to the node is marked, counted from 1
-abbrev pub losing : LogView → ℕ → ℕ → MarkKind → LogView
-losing l node next loss = record l { marks = l.marks ++ mark node (next_number node l.past + (next - 1)) loss ∷ [] }
+abbrev pub lose_call : LogView → ℕ → ℕ → MarkKind → LogView
+lose_call l node next loss = record l { marks = l.marks ++ mark node (next_number node l.past + (next - 1)) loss ∷ [] }
 
 -- a copy of the call with this number
-abbrev pub copying : LogView → ℕ → ℕ → Request → LogView
-copying l node number r = record l { past = l.past ++ Late node r ∷ []; marks = l.marks ++ mark node number kind.Late ∷ [] }
+abbrev pub copy_call : LogView → ℕ → ℕ → Request → LogView
+copy_call l node number r = record l { past = l.past ++ Late node r ∷ []; marks = l.marks ++ mark node number kind.Late ∷ [] }
 
 -- the request of one of the calls to the node so far, counted from 1
 abbrev pub earlier_call : LogView → ℕ → ℕ → Option Request
@@ -49,7 +49,7 @@ pub record IsCalled (old : LogView) (node : ℕ) (r : Request) (heard : Heard) (
 -- a copy of the call was made, if there was such a call
 abbrev pub IsCopied : Option Request → LogView → ℕ → ℕ → Bool → LogView → Type 0
 IsCopied None old node number made new = (made ≡ false) × (new ≡ old)
-IsCopied (Some r) old node number made new = (made ≡ true) × (new ≡ copying old node number r)
+IsCopied (Some r) old node number made new = (made ≡ true) × (new ≡ copy_call old node number r)
 
 abbrev pub mark_kind : Bool → MarkKind
 mark_kind true = kind.Muted

@@ -8,7 +8,7 @@ ghost use Rattle.mesh.specs.Matches.{AreWithin};
 ghost use Rattle.caller_seats.specs.declared.calls_to.CallsTo.{CallsTo};
 ghost use Rattle.caller_seats.specs.Deliveries.{delivery};
 ghost use Rattle.caller_seats.specs.Indexes.{IsIndex};
-ghost use Rattle.caller_seats.specs.Logs.{new_log, with_line, losing, copying, earlier_call};
+ghost use Rattle.caller_seats.specs.Logs.{new_log, with_line, lose_call, copy_call, earlier_call};
 
 use crate::calls_to::CallsTo;
 use crate::delivery::Delivery;
@@ -168,7 +168,7 @@ impl CallerLog {
         requires high { node ≤ self.old.nodes }
         requires from_one { 1 ≤ next }
         requires in_range { next ≤ max_number }
-        ensures ok { OnOk result (self.new ≡ losing self.old node next kind.Dropped) }
+        ensures ok { OnOk result (self.new ≡ lose_call self.old node next kind.Dropped) }
         ensures err { OnErr result (self.new ≡ record self.old { whole = false }) }
     {
         if !self.is_whole {
@@ -191,7 +191,7 @@ impl CallerLog {
         requires high { node ≤ self.old.nodes }
         requires from_one { 1 ≤ next }
         requires in_range { next ≤ max_number }
-        ensures ok { OnOk result (self.new ≡ losing self.old node next kind.Muted) }
+        ensures ok { OnOk result (self.new ≡ lose_call self.old node next kind.Muted) }
         ensures err { OnErr result (self.new ≡ record self.old { whole = false }) }
     {
         if !self.is_whole {
@@ -235,7 +235,7 @@ impl CallerLog {
         requires high { node ≤ self.old.nodes }
         requires from_one { 1 ≤ number }
         requires made { earlier_call self.old node number ≡ Some request }
-        ensures ok { OnOk result (self.new ≡ copying self.old node number request) }
+        ensures ok { OnOk result (self.new ≡ copy_call self.old node number request) }
         ensures err { OnErr result (self.new.whole ≡ false) }
         ensures err_nodes { OnErr result (self.new.nodes ≡ self.old.nodes) }
     {

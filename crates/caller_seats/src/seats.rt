@@ -3,13 +3,13 @@ ghost use Rattle.std.specs.Prelude.{◌≡◌, ◌≤◌, true, OnOk, OnErr, IfO
 ghost use Rattle.journal_core.specs.Limits.{max_number};
 ghost use Rattle.journal_core.specs.Peers.{FitsHeard};
 ghost use Rattle.node_history.specs.declared.record.Record.TheVariants.{Outcome};
-ghost use Rattle.caller_seats.specs.Logs.{LogView, with_line, losing, earlier_call, mark_kind, IsCalled, IsCopied};
+ghost use Rattle.caller_seats.specs.Logs.{LogView, with_line, lose_call, earlier_call, mark_kind, IsCalled, IsCopied};
 
 use journal_core::{Bytes, Heard, OutOfMemory, SharedRequest};
 use std::alloc::Global;
 
 /// A caller's seats, one at each node: its calls go through them, lost as its marks say, and are listed with what was
-/// told of them. Nodes are numbered from 1. Want of memory ends whatever is under way.
+/// told of them. Nodes are numbered from 1. Lack of memory ends whatever is under way.
 pub trait Seats {
     /// What the caller has listed and marked.
     ghost log: { Self → LogView };
@@ -40,7 +40,7 @@ pub trait Seats {
         requires high { node ≤ (log self.old).nodes }
         requires from_one { 1 ≤ next }
         requires in_range { next ≤ max_number }
-        ensures marked { OnOk result (log self.new ≡ losing (log self.old) node next (mark_kind mute)) }
+        ensures marked { OnOk result (log self.new ≡ lose_call (log self.old) node next (mark_kind mute)) }
         ensures later { OnOk result (later self.old self.new) };
 
     /// A copy of the call with this number to this node reaches the node; false where there was no such call. Where memory sufficed

@@ -9,7 +9,7 @@ use Rattle.node_history.specs.declared.node_ask.NodeAnswer.{NodeAnswer}
 use Rattle.node_history.specs.declared.node_ask.NodeAnswer.TheVariants.{Replied, Stopped, Done, Idle, NotOpened}
 use Rattle.node_history.specs.declared.record.Record.TheVariants.{Call}
 use Rattle.node_history.specs.declared.arming.Arming.{Arming}
-use Rattle.node_history.specs.Cell.{Cell, cell_takes, replies, stops, kept_by, counted, requested, killed, started_again, armed}
+use Rattle.node_history.specs.Cell.{Cell, cell_takes, replies, stops, kept_by, count_request, take_request, take_kill, started_again, take_arming}
 use Rattle.mesh.specs.Makers.{IsOperation}
 use Rattle.mesh.specs.Matches.{reaches, StandsFor, done_or_idle}
 use Rattle.mesh.specs.Order.{was_muted}
@@ -28,12 +28,12 @@ unfolding IsCallAnswer
 counted_by true s q o k = tt
 counted_by false s q o k = tt
 
-counted_answer : (s : NodeState) (q : Request) (o : Option Arming) → IsCallAnswer (counted s q o).answer
+counted_answer : (s : NodeState) (q : Request) (o : Option Arming) → IsCallAnswer (count_request s q o).answer
 unfolding IsCallAnswer
 counted_answer s q None = tt
 counted_answer s q (Some a) = counted_by (nat_lt 1 a.calls) s q (Some (record a { calls = a.calls - 1 })) (kept_by a.stop s q)
 
-requested_answer : (b : Bool) (c : Cell) (q : Request) → IsCallAnswer (requested b c q).answer
+requested_answer : (b : Bool) (c : Cell) (q : Request) → IsCallAnswer (take_request b c q).answer
 unfolding IsCallAnswer
 requested_answer true c q = counted_answer c.state q c.arming
 requested_answer false c q = tt
@@ -67,7 +67,7 @@ told_muted Idle = refl
 told_muted (NotOpened f) = refl
 
 -- an operation is done or idle
-killed_answer : (b : Bool) (c : Cell) → (killed b c).answer ≡ done_or_idle (is_done (killed b c).answer)
+killed_answer : (b : Bool) (c : Cell) → (take_kill b c).answer ≡ done_or_idle (is_done (take_kill b c).answer)
 unfolding is_done
 killed_answer true c = refl
 killed_answer false c = refl
@@ -77,7 +77,7 @@ unfolding is_done
 started_answer true c = refl
 started_answer false c = refl
 
-armed_answer : (b : Bool) (c : Cell) (a : Arming) → (armed b c a).answer ≡ done_or_idle (is_done (armed b c a).answer)
+armed_answer : (b : Bool) (c : Cell) (a : Arming) → (take_arming b c a).answer ≡ done_or_idle (is_done (take_arming b c a).answer)
 unfolding is_done
 armed_answer true c a = refl
 armed_answer false c a = refl

@@ -23,7 +23,7 @@ use Rattle.writer_core.specs.declared.turn.Outcome.TheVariants as outcome
 use Rattle.writer_core.specs.Views.{WriterView}
 use Rattle.writer_core.specs.declared.phase.Aim.TheVariants as aim
 use Rattle.writer_core.specs.declared.round.Round.TheVariants as round
-use Rattle.writer_core.specs.Rounds.{Judged}
+use Rattle.writer_core.specs.Rounds.{Judgment}
 use Rattle.writer_core.specs.Writer.{HasBody, new_writer, is_under_way, is_writing, call_in, writer_begun, next_call, writer_heard, writer_stopped}
 use Rattle.ns_tree.specs.Space.{Space}
 use Rattle.ns_replay.specs.Replay.{Applied, All, BadEntry, entered, applied_next, applied}
@@ -32,11 +32,11 @@ use Rattle.node_history.specs.declared.record.Record.TheVariants.{Call, Late, Op
 use Rattle.node_history.specs.declared.record.Told.{Told}
 use Rattle.node_history.specs.declared.record.Told.TheVariants as told
 use Rattle.mesh.specs.Makers.{Chore, Writes, Tails as ReadsOn, Reading, Maker, heard_of, maker_of, next_node, read_heard, maker_hears, HaveBodies, IsMade, IsOfChores}
-use Rattle.name_node.specs.Submissions.{Submission, submitted, nothing_submitted}
-use Rattle.name_node.specs.Holding.{Holding, Work, Free, Tails, Logs, Broken, emptied, working, saved, loaded, reloaded, min_to_keep, enters}
+use Rattle.name_node.specs.Submissions.{Submission, submit_edits, nothing_submitted}
+use Rattle.name_node.specs.Holding.{Holding, Work, Free, Tails, Logs, Broken, empty_holding, with_work, save_image, load_image, reload_image, min_to_keep, enters}
 use Rattle.name_node.specs.Tails.{TailEnd, Caught, Reached, PurgedFrom, BehindBy, TailStep, GoesOn, Ends, pass_begun, up_to, after_applied, pass_end, no_edits, tail_hears}
-use Rattle.script_actor.specs.Lines.{Deed, Does, DoDrop, DoMute, DoLate, Submits, Trims, DoTail, Saves, Reloads, IsTask, IsDeed, AreDeeds}
-use Rattle.script_actor.specs.Actor.{Actor, WantsCall, fresh_actor, call_wanted, work_read, read_first, is_wanting, is_broken, wants, tail_ended, tail_stepped, task_begun, copied, sync_begun, synced, logged_when, trim_at, unless_active, saving, reloading, held_deed, deed_taken, while_wanting, settled, logs_done, task_done, held_turn, turn_with, turn_taken, judged_as, heard_in_work, heard_by, moved_on, resettled, goes_on, Fits, IsLed}
+use Rattle.script_actor.specs.Lines.{Action, Does, DoDrop, DoMute, DoLate, Submits, Trims, DoTail, Saves, Reloads, IsTask, IsAction, AreActions}
+use Rattle.script_actor.specs.Actor.{Actor, WantsCall, fresh_actor, call_wanted, work_read, read_first, is_wanting, is_broken, wants, tail_ended, tail_stepped, task_begun, make_copy, begin_sync, after_sync, logged_when, trim_at, unless_active, begin_save, begin_reload, take_named_action, take_action, while_wanting, settle, logs_done, task_done, held_turn, turn_with, turn_taken, after_judgment, heard_in_work, heard_by, moved_on, settle_again, goes_on, Fits, IsLed}
 use Rattle.script_actor.specs.Ready.{is_going}
 use Rattle.cluster_runner.proofs.Led.{moved_keeps}
 use Rattle.cluster_runner.proofs.Wanting.{Resting, sending, resting, fits_calling, no_operation, call_by, rests_by}
@@ -44,7 +44,7 @@ use Rattle.cluster_runner.proofs.Makes.{busy_by}
 use Rattle.script_actor.proofs.WriterTurn.{call_under}
 use Rattle.script_actor.proofs.TurnsTell.{turn_tells}
 use Rattle.script_actor.proofs.TrimLaws.{purge_begins}
-use Rattle.cluster_runner.proofs.Sound.{or_false, waiting_deeds}
+use Rattle.cluster_runner.proofs.Sound.{or_false, waiting_actions}
 use Rattle.cluster_runner.proofs.NamedResults.{loaded_work}
 
 -- ## The maker's writer: the actor's, or what it was before it gave up
@@ -180,7 +180,7 @@ unfolding maker_of
 reads_first p more cs w none =
     cond-false (is_some (next_call w)) (record { chores = ReadsOn p more ∷ cs; writer = w; reading = None }) (record { chores = cs; writer = w; reading = Some (record { position = p; node = 1; more = more }) }) (ap is_some none)
 
-begins_reading : (rs : List Record) (until : Option ℕ) (h : Holding) (w : WriterView) → next_call w ≡ None → CanMake (Some (working (Tails until 1 []) h)) w rs → CanBegin w rs
+begins_reading : (rs : List Record) (until : Option ℕ) (h : Holding) (w : WriterView) → next_call w ≡ None → CanMake (Some (with_work (Tails until 1 []) h)) w rs → CanBegin w rs
 unfolding HaveBodies
 begins_reading rs until h w none c = (ReadsOn h.position c.1 ∷ c.0, c.2, subst (λ (m : Maker). IsMade m rs) (sym (reads_first h.position c.1 c.0 w none)) c.3)
 
@@ -190,10 +190,10 @@ NotAt None p = Unit {0}
 NotAt (Some last) p = last ≢ p
 
 abbrev PassIs : Option ℕ → Holding → Type 0
-PassIs until h = (pass_begun until h ≡ Ends Reached (working Free h)) ⊎ ((pass_begun until h ≡ GoesOn (working (Tails until 1 []) h)) × NotAt until h.position)
+PassIs until h = (pass_begun until h ≡ Ends Reached (with_work Free h)) ⊎ ((pass_begun until h ≡ GoesOn (with_work (Tails until 1 []) h)) × NotAt until h.position)
 
 abbrev either_pass : Option ℕ → Holding → Bool → TailStep
-either_pass until h b = cond b (Ends Reached (working Free h)) (GoesOn (working (Tails until 1 []) h))
+either_pass until h b = cond b (Ends Reached (with_work Free h)) (GoesOn (with_work (Tails until 1 []) h))
 
 pass_is : (until : Option ℕ) (h : Holding) → PassIs until h
 unfolding pass_begun
@@ -237,17 +237,17 @@ pass_begins : (rs : List Record) (until : Option ℕ) (h : Holding) (a : Actor) 
 unfolding tail_stepped
 pass_begins rs until h a below none = by (pass_is until h)
   where
-    going : Begins rs a.writer (tail_stepped until (GoesOn (working (Tails until 1 []) h)) a)
+    going : Begins rs a.writer (tail_stepped until (GoesOn (with_work (Tails until 1 []) h)) a)
     going = record { back = λ can. begins_reading rs until h a.writer none (can a.writer (inl refl)); calm = (none, below) }
 
-    ending : Begins rs a.writer (tail_stepped until (Ends Reached (working Free h)) a)
-    ending = begins_quiet rs a.writer (tail_ended until Reached (working Free h) a) (reached_writer until (working Free h) a) (ended_quiet until Reached (working Free h) a refl)
+    ending : Begins rs a.writer (tail_stepped until (Ends Reached (with_work Free h)) a)
+    ending = begins_quiet rs a.writer (tail_ended until Reached (with_work Free h) a) (reached_writer until (with_work Free h) a) (ended_quiet until Reached (with_work Free h) a refl)
 
     by : PassIs until h → Begins rs a.writer (tail_stepped until (pass_begun until h) a)
     by (inl e) = subst (λ (x : TailStep). Begins rs a.writer (tail_stepped until x a)) (sym e) ending
     by (inr e) = subst (λ (x : TailStep). Begins rs a.writer (tail_stepped until x a)) (sym e.0) going
 
--- ## Deeds
+-- ## Actions
 -- an actor that wants nothing
 record Idle (a : Actor) : Type 0 where
   quiet : IsQuiet a.holds
@@ -277,15 +277,15 @@ does_step rs t a begun.Going i body e = task_step rs a (record a { writer = (wri
 does_step rs t a begun.NotActive i body e = quiet_step rs a _ refl i.quiet i.quiet
 does_step rs t a (begun.TooLong number) i body e = quiet_step rs a _ refl i.quiet i.quiet
 
-copy_step : (rs : List Record) (k n : ℕ) (o : Option Request) (a : Actor) → Idle a → Step rs a (copied k n o a)
-unfolding copied
+copy_step : (rs : List Record) (k n : ℕ) (o : Option Request) (a : Actor) → Idle a → Step rs a (make_copy k n o a)
+unfolding make_copy
 copy_step rs k n None a i = quiet_step rs a _ refl i.quiet i.quiet
 copy_step rs k n (Some q) a i = quiet_step rs a _ refl i.quiet i.quiet
 
 sync_step : (rs : List Record) (b : Begun) (x : Submission) (h : Holding) (a : Actor) → Idle a → HasBody (task.Log x.bodies) → (writer_begun a.writer (task.Log x.bodies)).begun ≡ b
-    → Step rs a (sync_begun b (writer_begun a.writer (task.Log x.bodies)).writer x h a)
+    → Step rs a (begin_sync b (writer_begun a.writer (task.Log x.bodies)).writer x h a)
 sync_step rs begun.Going x h a i body e =
-    task_step rs a (record a { writer = (writer_begun a.writer (task.Log x.bodies)).writer; doing = Some (task.Log x.bodies); holds = Some (working (Logs x.ahead x.dues) h) }) (task.Log x.bodies) body i.none e refl i.quiet
+    task_step rs a (record a { writer = (writer_begun a.writer (task.Log x.bodies)).writer; doing = Some (task.Log x.bodies); holds = Some (with_work (Logs x.ahead x.dues) h) }) (task.Log x.bodies) body i.none e refl i.quiet
     (λ more. refl)
 sync_step rs begun.NotActive x h a i body e = quiet_step rs a _ refl i.quiet i.quiet
 sync_step rs (begun.TooLong number) x h a i body e = quiet_step rs a _ refl i.quiet i.quiet
@@ -293,13 +293,13 @@ sync_step rs (begun.TooLong number) x h a i body e = quiet_step rs a _ refl i.qu
 some_bodies : (bodies all : List (List ℕ)) (b : List ℕ) (bs : List (List ℕ)) → bodies ≡ all → all ≡ b ∷ bs → bodies ≢ []
 some_bodies bodies all b bs e f g = cc (e, f, g)
 
-synced_step : (rs : List Record) (bodies : List (List ℕ)) (x : Submission) (h : Holding) (a : Actor) → Idle a → x.bodies ≡ bodies → Step rs a (synced bodies x h a)
+synced_step : (rs : List Record) (bodies : List (List ℕ)) (x : Submission) (h : Holding) (a : Actor) → Idle a → x.bodies ≡ bodies → Step rs a (after_sync bodies x h a)
 synced_step rs [] x h a i e = quiet_step rs a _ refl i.quiet i.quiet
 synced_step rs (b ∷ bs) x h a i e = sync_step rs (writer_begun a.writer (task.Log x.bodies)).begun x h a i (some_bodies x.bodies (b ∷ bs) b bs e refl) refl
 
 logged_step : (rs : List Record) (b : Bool) (es : List EditView) (h : Holding) (a : Actor) → Idle a → Step rs a (logged_when b es h a)
 unfolding logged_when
-logged_step rs true es h a i = synced_step rs (submitted a.writer es (nothing_submitted h.space)).bodies (submitted a.writer es (nothing_submitted h.space)) h a i refl
+logged_step rs true es h a i = synced_step rs (submit_edits a.writer es (nothing_submitted h.space)).bodies (submit_edits a.writer es (nothing_submitted h.space)) h a i refl
 logged_step rs false es h a i = quiet_step rs a _ refl i.quiet i.quiet
 
 trim_step : (rs : List Record) (b : Bool) (min : Option ℕ) (a : Actor) → Idle a → is_writing a.writer.phase ≡ b → Step rs a (trim_at b min a)
@@ -320,16 +320,16 @@ tail_step rs h a i = record {
   calm = (i.none, tt);
 }
 
-reloaded_quiet : (h : Holding) → IsQuiet (Some (reloaded h))
-unfolding reloaded
-reloaded_quiet h = λ more. ap (λ (x : Work). work_reading x (loaded h.images (record h { work = Free })).position more) (loaded_work h.images (record h { work = Free }))
+reloaded_quiet : (h : Holding) → IsQuiet (Some (reload_image h))
+unfolding reload_image
+reloaded_quiet h = λ more. ap (λ (x : Work). work_reading x (load_image h.images (record h { work = Free })).position more) (loaded_work h.images (record h { work = Free }))
 
-saved_quiet : (h : Holding) → IsQuiet (Some h) → IsQuiet (Some (saved h))
-unfolding saved
+saved_quiet : (h : Holding) → IsQuiet (Some h) → IsQuiet (Some (save_image h))
+unfolding save_image
 saved_quiet h q = q
 
-held_step : (rs : List Record) (d : Deed) (o : Option Holding) (a : Actor) → a.holds ≡ o → Idle a → Step rs a (held_deed d o a)
-unfolding held_deed
+held_step : (rs : List Record) (d : Action) (o : Option Holding) (a : Actor) → a.holds ≡ o → Idle a → Step rs a (take_named_action d o a)
+unfolding take_named_action
 held_step rs (Does t) o a e i = quiet_step rs a _ refl i.quiet i.quiet
 held_step rs (DoDrop k n) o a e i = quiet_step rs a _ refl i.quiet i.quiet
 held_step rs (DoMute k n) o a e i = quiet_step rs a _ refl i.quiet i.quiet
@@ -341,9 +341,9 @@ held_step rs (Trims extra) (Some h) a e i = trim_step rs (is_writing a.writer.ph
 held_step rs DoTail None a e i = quiet_step rs a _ refl i.quiet i.quiet
 held_step rs DoTail (Some h) a e i = unless_step rs (is_writing a.writer.phase) (tail_stepped None (pass_begun None h) a) a i (tail_step rs h a i)
 held_step rs Saves None a e i = quiet_step rs a _ refl i.quiet i.quiet
-held_step rs Saves (Some h) a e i = unless_step rs (is_writing a.writer.phase) (saving h a) a i (quiet_step rs a (saving h a) refl i.quiet (saved_quiet h (subst (λ (x : Option Holding). IsQuiet x) e i.quiet)))
+held_step rs Saves (Some h) a e i = unless_step rs (is_writing a.writer.phase) (begin_save h a) a i (quiet_step rs a (begin_save h a) refl i.quiet (saved_quiet h (subst (λ (x : Option Holding). IsQuiet x) e i.quiet)))
 held_step rs Reloads None a e i = quiet_step rs a _ refl i.quiet i.quiet
-held_step rs Reloads (Some h) a e i = unless_step rs (is_writing a.writer.phase) (reloading h a) a i (quiet_step rs a (reloading h a) refl i.quiet (reloaded_quiet h))
+held_step rs Reloads (Some h) a e i = unless_step rs (is_writing a.writer.phase) (begin_reload h a) a i (quiet_step rs a (begin_reload h a) refl i.quiet (reloaded_quiet h))
 
 task_body : (named : Bool) (t : Task) → IsTask named t → HasBody t
 task_body false t h = h
@@ -353,36 +353,36 @@ task_body true task.Close h = tt
 task_body true (task.Log bodies) h = absurd h
 task_body true (task.Purge min) h = tt
 
-deed_step : (named : Bool) (rs : List Record) (d : Deed) (a : Actor) → IsDeed named d → Idle a → Step rs a (deed_taken d a)
-unfolding deed_taken
-deed_step named rs (Does t) a d i = does_step rs t a (writer_begun a.writer t).begun i (task_body named t d) refl
-deed_step named rs (DoDrop k n) a d i = quiet_step rs a _ refl i.quiet i.quiet
-deed_step named rs (DoMute k n) a d i = quiet_step rs a _ refl i.quiet i.quiet
-deed_step named rs (DoLate k n) a d i = copy_step rs k n _ a i
-deed_step named rs (Submits es) a d i = held_step rs (Submits es) a.holds a refl i
-deed_step named rs (Trims extra) a d i = held_step rs (Trims extra) a.holds a refl i
-deed_step named rs DoTail a d i = held_step rs DoTail a.holds a refl i
-deed_step named rs Saves a d i = held_step rs Saves a.holds a refl i
-deed_step named rs Reloads a d i = held_step rs Reloads a.holds a refl i
+action_step : (named : Bool) (rs : List Record) (d : Action) (a : Actor) → IsAction named d → Idle a → Step rs a (take_action d a)
+unfolding take_action
+action_step named rs (Does t) a d i = does_step rs t a (writer_begun a.writer t).begun i (task_body named t d) refl
+action_step named rs (DoDrop k n) a d i = quiet_step rs a _ refl i.quiet i.quiet
+action_step named rs (DoMute k n) a d i = quiet_step rs a _ refl i.quiet i.quiet
+action_step named rs (DoLate k n) a d i = copy_step rs k n _ a i
+action_step named rs (Submits es) a d i = held_step rs (Submits es) a.holds a refl i
+action_step named rs (Trims extra) a d i = held_step rs (Trims extra) a.holds a refl i
+action_step named rs DoTail a d i = held_step rs DoTail a.holds a refl i
+action_step named rs Saves a d i = held_step rs Saves a.holds a refl i
+action_step named rs Reloads a d i = held_step rs Reloads a.holds a refl i
 
--- all deeds that are taken
+-- all actions that are taken
 record Settled (rs : List Record) (named : Bool) (a b : Actor) : Type 0 where
   back : Can b rs → Can a rs
   calm : Calm b.holds b.writer
-  deeds : AreDeeds named b.todo
+  actions : AreActions named b.todo
 
-settled_step : (named : Bool) (rs : List Record) (ds : List Deed) (a : Actor) → AreDeeds named ds → Calm a.holds a.writer → Settled rs named a (settled ds a)
-unfolding settled AreDeeds
-settled_step named rs [] a d c = record { back = λ can. can; calm = c; deeds = tt }
-settled_step named rs (d ∷ ds) a e c = by (is_wanting (wants a) || is_broken a) refl (settled_step named rs ds (deed_taken d a) e.1)
+settled_step : (named : Bool) (rs : List Record) (ds : List Action) (a : Actor) → AreActions named ds → Calm a.holds a.writer → Settled rs named a (settle ds a)
+unfolding settle AreActions
+settled_step named rs [] a d c = record { back = λ can. can; calm = c; actions = tt }
+settled_step named rs (d ∷ ds) a e c = by (is_wanting (wants a) || is_broken a) refl (settled_step named rs ds (take_action d a) e.1)
   where
-    by : (b : Bool) → (is_wanting (wants a) || is_broken a) ≡ b → (Calm (deed_taken d a).holds (deed_taken d a).writer → Settled rs named (deed_taken d a) (settled ds (deed_taken d a)))
-        → Settled rs named a (cond b (record a { todo = while_wanting (is_wanting (wants a)) (d ∷ ds) }) (settled ds (deed_taken d a)))
-    by true is go = record { back = λ can. can; calm = c; deeds = waiting_deeds named (is_wanting (wants a)) (d ∷ ds) e }
+    by : (b : Bool) → (is_wanting (wants a) || is_broken a) ≡ b → (Calm (take_action d a).holds (take_action d a).writer → Settled rs named (take_action d a) (settle ds (take_action d a)))
+        → Settled rs named a (cond b (record a { todo = while_wanting (is_wanting (wants a)) (d ∷ ds) }) (settle ds (take_action d a)))
+    by true is go = record { back = λ can. can; calm = c; actions = waiting_actions named (is_wanting (wants a)) (d ∷ ds) e }
     by false is go =
-        let s : Step rs a (deed_taken d a) = deed_step named rs d a e.0 (idle_of a is) in
-        let more : Settled rs named (deed_taken d a) (settled ds (deed_taken d a)) = go s.calm in
-        record { back = λ can. s.back (more.back can); calm = more.calm; deeds = more.deeds }
+        let s : Step rs a (take_action d a) = action_step named rs d a e.0 (idle_of a is) in
+        let more : Settled rs named (take_action d a) (settle ds (take_action d a)) = go s.calm in
+        record { back = λ can. s.back (more.back can); calm = more.calm; actions = more.actions }
 
 -- ## An answer to a read
 all_position : (p : ℕ) (bodies : List (List ℕ)) (s z : Space) (t : ℕ) → applied p bodies s ≡ All z t → t ≡ p + length bodies
@@ -442,10 +442,10 @@ edits_over rs p node batch a b e q = record {
 
 -- another pass
 edits_more : (rs : List Record) (node : ℕ) (until : Option ℕ) (batch : BatchView) (h z : Holding) (a : Actor) → next_call a.writer ≡ None → Below until z.position → z.position ≡ h.position + length batch.bodies
-    → Reads rs h.position node (told.Reply (reply.Edits batch)) a (record a { holds = Some (working (Tails until 1 []) z) })
+    → Reads rs h.position node (told.Reply (reply.Edits batch)) a (record a { holds = Some (with_work (Tails until 1 []) z) })
 edits_more rs node until batch h z a none below e = record {
   back = λ can w al.
-      let c : CanMake (Some (working (Tails until 1 []) z)) w rs = can w al in
+      let c : CanMake (Some (with_work (Tails until 1 []) z)) w rs = can w al in
       (c.0, suc c.1, c.2, subst (λ (p : ℕ). IsMade (at_node c.0 w p 1 c.1) rs) e c.3);
   calm = (none, below);
 }
@@ -455,7 +455,7 @@ edits_all : (rs : List Record) (node : ℕ) (until : Option ℕ) (batch : BatchV
 unfolding tail_stepped
 edits_all rs node until batch h z a none (inl f) below to =
     subst (λ (y : TailStep). Reads rs h.position node (told.Reply (reply.Edits batch)) a (tail_stepped until y a)) (sym f)
-    (edits_over rs h.position node batch a (tail_ended until Reached (working Free z) a) (reached_writer until (working Free z) a) (ended_quiet until Reached (working Free z) a refl))
+    (edits_over rs h.position node batch a (tail_ended until Reached (with_work Free z) a) (reached_writer until (with_work Free z) a) (ended_quiet until Reached (with_work Free z) a refl))
 edits_all rs node until batch h z a none (inr f) below to =
     subst (λ (y : TailStep). Reads rs h.position node (told.Reply (reply.Edits batch)) a (tail_stepped until y a)) (sym f.0) (edits_more rs node until batch h z a none below (to f.1))
 
@@ -473,20 +473,20 @@ node_more : (cs : List Chore) (w : WriterView) (p node more n : ℕ) (b : Bool) 
 node_more cs w p node more n b e f = ap (λ (x : Bool). cond x (at_node cs w p (node + 1) more) (maker_of cs w)) (ap (nat_lt node) (sym e) ∙ f)
 
 none_by : (rs : List Record) (until : Option ℕ) (node : ℕ) (heard : List Heard) (h : Holding) (a : Actor) (b : Bool) → next_call a.writer ≡ None → Below until h.position → nat_lt node (length a.writer.left) ≡ b
-    → ReadsNone rs h.position node a (tail_stepped until (cond b (GoesOn (working (Tails until (node + 1) heard) h)) (Ends (pass_end until heard) (working Free h))) a)
+    → ReadsNone rs h.position node a (tail_stepped until (cond b (GoesOn (with_work (Tails until (node + 1) heard) h)) (Ends (pass_end until heard) (with_work Free h))) a)
 unfolding tail_stepped
 none_by rs until node heard h a true none below e = record {
   back = λ can w al.
-      let c : CanMake (Some (working (Tails until (node + 1) heard) h)) w rs = can w al in
+      let c : CanMake (Some (with_work (Tails until (node + 1) heard) h)) w rs = can w al in
       (c.0, c.1, c.2, subst (λ (m : Maker). IsMade m rs) (sym (node_more c.0 w h.position node c.1 (length a.writer.left) true (alike_left w a.writer al) e)) c.3);
   calm = (none, below);
 }
 none_by rs until node heard h a false none below e = record {
   back = λ can w al.
-      let q : IsQuiet (tail_ended until (pass_end until heard) (working Free h) a).holds = ended_quiet until (pass_end until heard) (working Free h) a refl in
-      let c : CanBegin w rs = at_quiet (tail_ended until (pass_end until heard) (working Free h) a).holds w rs q (can w (ended_alike until (pass_end until heard) (working Free h) a w al none)) in
+      let q : IsQuiet (tail_ended until (pass_end until heard) (with_work Free h) a).holds = ended_quiet until (pass_end until heard) (with_work Free h) a refl in
+      let c : CanBegin w rs = at_quiet (tail_ended until (pass_end until heard) (with_work Free h) a).holds w rs q (can w (ended_alike until (pass_end until heard) (with_work Free h) a w al none)) in
       (c.0, 0, c.1, subst (λ (m : Maker). IsMade m rs) (sym (node_more c.0 w h.position node 0 (length a.writer.left) false (alike_left w a.writer al) e)) c.2);
-  calm = quiet_calm (tail_ended until (pass_end until heard) (working Free h) a).holds (tail_ended until (pass_end until heard) (working Free h) a).writer (ended_quiet until (pass_end until heard) (working Free h) a refl);
+  calm = quiet_calm (tail_ended until (pass_end until heard) (with_work Free h) a).holds (tail_ended until (pass_end until heard) (with_work Free h) a).writer (ended_quiet until (pass_end until heard) (with_work Free h) a refl);
 }
 
 none_step : (rs : List Record) (until : Option ℕ) (node : ℕ) (heard : List Heard) (h : Holding) (a : Actor) → next_call a.writer ≡ None → Below until h.position
@@ -511,7 +511,7 @@ read_step rs until node heard told.Silent h a none below = let x = none_step rs 
 entered_below : (last : ℕ) (h : Holding) → (enters last h).position ≤ last
 entered_below last h = by (nat_lt last h.position) refl
   where
-    by : (b : Bool) → nat_lt last h.position ≡ b → (cond b (emptied h) h).position ≤ last
+    by : (b : Bool) → nat_lt last h.position ≡ b → (cond b (empty_holding h) h).position ≤ last
     by true e = omega arith
     by false e = grind (arith, nat_tests)
 
@@ -585,9 +585,9 @@ call_made rs a w k q t al quiet e c =
     from_quiet a.holds w (Call k q t ∷ rs) quiet (c.0, c.1, subst (λ (m : Maker). IsMade m (Call k q t ∷ rs)) (sym (busy_by c.0 w (k, q) call)) (call, made))
 
 judged_line : (rs : List Record) (a : Actor) (k : ℕ) (q : Request) (t : Told) → IsQuiet a.holds → next_call a.writer ≡ Some (k, q)
-    → LineMade rs (Call k q t) a (judged_as (writer_heard a.writer k (heard_of t)) (record a { past = a.past ++ Call k q t ∷ [] }))
+    → LineMade rs (Call k q t) a (after_judgment (writer_heard a.writer k (heard_of t)) (record a { past = a.past ++ Call k q t ∷ [] }))
 judged_line rs a k q t quiet e =
-    let j : Judged = writer_heard a.writer k (heard_of t) in
+    let j : Judgment = writer_heard a.writer k (heard_of t) in
     let x : Begins rs j.writer (turn_taken j.turn a.doing (record a { past = a.past ++ Call k q t ∷ []; writer = j.writer })) =
     turn_begins rs j.turn a.doing (record a { past = a.past ++ Call k q t ∷ []; writer = j.writer }) quiet (free_after a.writer k q t e) in
     record { back = λ can w al. call_made rs a w k q t al quiet e (x.back can); calm = x.calm }
@@ -641,15 +641,15 @@ unfolding IsMade
 none_made None w = tt
 none_made (Some r) w = tt
 
-led_can : (named : Bool) (rs : List Record) (a : Actor) → AreDeeds named a.todo → Calm a.holds a.writer → IsLed a rs → Can a rs
-unfolding IsLed HaveBodies goes_on resettled
+led_can : (named : Bool) (rs : List Record) (a : Actor) → AreActions named a.todo → Calm a.holds a.writer → IsLed a rs → Can a rs
+unfolding IsLed HaveBodies goes_on settle_again
 led_can named [] a d calm h = λ w al. ([], 0, tt, none_made (reading_of a.holds 0) w)
 led_can named (r ∷ rs) a d calm h =
     let old : Actor = record a { past = a.past ++ r ∷ [] } in
     let b : Actor = moved_on r old in
     let l : LineMade rs r a b = moved_line rs r a calm h.0 in
-    let s : Settled rs named b (settled b.todo b) = settled_step named rs b.todo b (subst (AreDeeds named) (sym (moved_keeps r old).0) d) l.calm in
-    l.back (s.back (led_can named rs (settled b.todo b) s.deeds s.calm h.1))
+    let s : Settled rs named b (settle b.todo b) = settled_step named rs b.todo b (subst (AreActions named) (sym (moved_keeps r old).0) d) l.calm in
+    l.back (s.back (led_can named rs (settle b.todo b) s.actions s.calm h.1))
 
 fresh_quiet : (named : Bool) (n : ℕ) → IsQuiet (fresh_actor named n).holds
 unfolding fresh_actor
@@ -661,9 +661,9 @@ unfolding fresh_actor
 fresh_writer named n = refl
 
 -- the calls of an actor are those of some chores
-pub chores_made : (named : Bool) (n : ℕ) (ds : List Deed) (rs : List Record) → AreDeeds named ds → IsLed (settled ds (fresh_actor named n)) rs → IsOfChores n rs
+pub chores_made : (named : Bool) (n : ℕ) (ds : List Action) (rs : List Record) → AreActions named ds → IsLed (settle ds (fresh_actor named n)) rs → IsOfChores n rs
 chores_made named n ds rs d h =
     let new : Actor = fresh_actor named n in
-    let s : Settled rs named new (settled ds new) = settled_step named rs ds new d (quiet_calm new.holds new.writer (fresh_quiet named n)) in
-    let can : Can new rs = s.back (led_can named rs (settled ds new) s.deeds s.calm h) in
+    let s : Settled rs named new (settle ds new) = settled_step named rs ds new d (quiet_calm new.holds new.writer (fresh_quiet named n)) in
+    let can : Can new rs = s.back (led_can named rs (settle ds new) s.actions s.calm h) in
     at_quiet new.holds (new_writer n) rs (fresh_quiet named n) (can (new_writer n) (inl (fresh_writer named n)))

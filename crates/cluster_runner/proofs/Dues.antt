@@ -7,7 +7,7 @@ use Rattle.writer_core.specs.Views.{WriterView}
 use Rattle.writer_core.specs.Writer.{log_limit}
 use Rattle.ns_replay.specs.declared.refusal.AdmitRefusal.TheVariants as refusal
 use Rattle.ns_replay.specs.Admit.{Refusal, admit_of}
-use Rattle.name_node.specs.Submissions.{Due, Pends, Refused, Repeats, TooLong, Submission, unless_long, unless_refused, submitted}
+use Rattle.name_node.specs.Submissions.{Due, Pends, Refused, Repeats, TooLong, Submission, unless_long, unless_refused, submit_edits}
 use Rattle.script_actor.specs.Results.{dues_logged, dues_aborted}
 
 pub one_due : (xs : List Due) (d : Due) → length (xs ++ d ∷ []) ≡ length xs + 1
@@ -32,8 +32,8 @@ long_due : (o : Option ℕ) (txid : ℕ) (e : EditView) (x : Submission) → len
 long_due (Some number) txid e x = one_due x.dues (TooLong number)
 long_due None txid e x = one_due x.dues Pends
 
-pub submitted_dues : (w : WriterView) (es : List EditView) (x : Submission) → length (submitted w es x).dues ≡ length x.dues + length es
-unfolding submitted
+pub submitted_dues : (w : WriterView) (es : List EditView) (x : Submission) → length (submit_edits w es x).dues ≡ length x.dues + length es
+unfolding submit_edits
 submitted_dues w [] x = omega arith
 submitted_dues w (e ∷ es) x =
     let y : Submission = unless_long (log_limit w (x.bodies ++ record_of e ∷ [])) (w.next + length x.bodies) e x in

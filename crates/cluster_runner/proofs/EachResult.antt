@@ -1,4 +1,4 @@
--- An actor that is led to its end has said, deed by deed, as many results as are due.
+-- An actor that is led to its end has said, action by action, as many results as are due.
 use Rattle.std.proofs.Common.{◌≡◌, ℕ, suc, ◌+◌, ◌≤◌, List, [], ◌∷◌, ◌++◌, Bool, true, false, cond, refl, sym, ap, ◌∙◌, subst, arith, length, drop, ◌⊎◌, inl, inr}
 use Rattle.std.specs.Prelude.{Option, Some, None, ◌≢◌, ◌||◌}
 use Rattle.std.proofs.lemmas.List.{length-map}
@@ -18,15 +18,15 @@ use Rattle.writer_core.specs.declared.turn.Outcome.{Outcome as TaskOutcome}
 use Rattle.writer_core.specs.declared.turn.Outcome.TheVariants as outcome
 use Rattle.writer_core.specs.Turns.{aim_of, IsOf, IsInRound}
 use Rattle.writer_core.specs.Views.{WriterView}
-use Rattle.writer_core.specs.Rounds.{Judged}
+use Rattle.writer_core.specs.Rounds.{Judgment}
 use Rattle.writer_core.specs.Writer.{writer_begun, next_call, writer_heard}
 use Rattle.node_history.specs.declared.record.Record.{Record}
 use Rattle.node_history.specs.declared.record.Record.TheVariants.{Call, Late, Operator, Outcome}
 use Rattle.node_history.specs.declared.record.Told.{Told}
 use Rattle.mesh.specs.Makers.{heard_of}
-use Rattle.script_actor.specs.Lines.{Deed, Does, DoDrop, DoMute, DoLate, Submits, Trims, DoTail, Saves, Reloads}
-use Rattle.script_actor.specs.Results.{for_each, acked_from, acked, done_results, results_of, inactive_results, too_long_results, late_none}
-use Rattle.script_actor.specs.Actor.{Actor, Rests, fresh_actor, wants, is_wanting, is_broken, task_begun, copied, deed_taken, while_wanting, settled, turn_with, turn_taken, moved_on, resettled, goes_on, Fits, IsLed, actor_after}
+use Rattle.script_actor.specs.Lines.{Action, Does, DoDrop, DoMute, DoLate, Submits, Trims, DoTail, Saves, Reloads}
+use Rattle.script_actor.specs.Results.{for_each, acked_from, acknowledged_results, outcome_results, results_of, inactive_results, too_long_results, late_none}
+use Rattle.script_actor.specs.Actor.{Actor, Rests, fresh_actor, wants, is_wanting, is_broken, task_begun, make_copy, take_action, while_wanting, settle, turn_with, turn_taken, moved_on, settle_again, goes_on, Fits, IsLed, actor_after}
 use Rattle.cluster_runner.specs.Told.{results_in}
 use Rattle.cluster_runner.specs.EditResults.{results_due, AreResultsOf, AreResults, IsRaw, AreRaw}
 use Rattle.cluster_runner.proofs.Led.{todo_wants, waiting, either_wants, moved_keeps}
@@ -49,8 +49,8 @@ unfolding acked_from
 acked_length txid [] = refl
 acked_length txid (b ∷ bodies) = ap suc (acked_length (txid + 1) bodies)
 
-done_length : (t : Task) (o : TaskOutcome) → IsOf (aim_of t) o → length (done_results t o) ≡ results_due t
-unfolding done_results acked
+done_length : (t : Task) (o : TaskOutcome) → IsOf (aim_of t) o → length (outcome_results t o) ≡ results_due t
+unfolding outcome_results acknowledged_results
 done_length task.Takeover (outcome.Takeover epoch first) h = refl
 done_length task.Takeover (outcome.Log first last) h = absurd h
 done_length task.Takeover (outcome.Roll start) h = absurd h
@@ -94,19 +94,19 @@ record Live (a : Actor) : Type 0 where
   course : Course kind a.writer
   doing : IsDoing kind a.writer.phase a.says a.doing
 
--- what is still due: the results to be said, those of the task under way, and those of the deeds to come
+-- what is still due: the results to be said, those of the task under way, and those of the actions to come
 abbrev IsDue : Option Task → List (List ℕ) → Type 0
 IsDue None texts = texts ≡ []
 IsDue (Some t) texts = length texts ≡ results_due t
 
-record Owes (says : List (List ℕ)) (doing : Option Task) (todo : List Deed) (texts : List (List ℕ)) : Type 0 where
+record Owes (says : List (List ℕ)) (doing : Option Task) (todo : List Action) (texts : List (List ℕ)) : Type 0 where
   due : List (List ℕ)
   rest : List (List ℕ)
   all : texts ≡ says ++ (due ++ rest)
   is_due : IsDue doing due
   are_results : AreResults todo rest
 
--- ## A deed that is taken
+-- ## An action that is taken
 doing_none : (a : Actor) → Live a → next_call a.writer ≡ None → a.doing ≡ None
 doing_none a l e = by a.doing refl l.doing
   where
@@ -125,13 +125,13 @@ begun_by t a w begun.Going l none quiet (inr h) = absurd (h.0 refl)
 begun_by t a w begun.NotActive l none quiet h = record { kind = l.kind; course = l.course; doing = subst (λ (o : Option Task). IsDoing l.kind a.writer.phase (inactive_results t) o) (sym none) (between a l none) }
 begun_by t a w (begun.TooLong n) l none quiet h = record { kind = l.kind; course = l.course; doing = subst (λ (o : Option Task). IsDoing l.kind a.writer.phase (too_long_results t n) o) (sym none) (between a l none) }
 
-copied_live : (k n : ℕ) (o : Option Request) (a : Actor) → Live a → a.doing ≡ None → Live (copied k n o a)
-unfolding copied
+copied_live : (k n : ℕ) (o : Option Request) (a : Actor) → Live a → a.doing ≡ None → Live (make_copy k n o a)
+unfolding make_copy
 copied_live k n None a l none = record { kind = l.kind; course = l.course; doing = subst (λ (o : Option Task). IsDoing l.kind a.writer.phase (late_none ∷ []) o) (sym none) (between a l none) }
 copied_live k n (Some q) a l none = record { kind = l.kind; course = l.course; doing = l.doing }
 
-taken_live : (d : Deed) (a : Actor) → IsRaw d → a.holds ≡ None → Resting a → Live a → Live (deed_taken d a)
-unfolding deed_taken Begins
+taken_live : (d : Action) (a : Actor) → IsRaw d → a.holds ≡ None → Resting a → Live a → Live (take_action d a)
+unfolding take_action Begins
 taken_live (Does t) a raw e r l =
     begun_by t a (writer_begun a.writer t).writer (writer_begun a.writer t).begun l (doing_none a l (raw_rest a e r)) r.says (begun_turn t a.writer l.course.other)
 taken_live (DoDrop k n) a raw e r l = record { kind = l.kind; course = l.course; doing = l.doing }
@@ -143,8 +143,8 @@ taken_live DoTail a raw e r l = absurd raw
 taken_live Saves a raw e r l = absurd raw
 taken_live Reloads a raw e r l = absurd raw
 
--- what it now owes is what the deed's results are
-owes_task : (t : Task) (a : Actor) (w : WriterView) (b : Begun) (ds : List Deed) (texts : List (List ℕ)) → a.doing ≡ None → a.says ≡ [] → Owes (task_begun t w a b).says (task_begun t w a b).doing ds texts
+-- what it now owes is what the action's results are
+owes_task : (t : Task) (a : Actor) (w : WriterView) (b : Begun) (ds : List Action) (texts : List (List ℕ)) → a.doing ≡ None → a.says ≡ [] → Owes (task_begun t w a b).says (task_begun t w a b).doing ds texts
     → Owes [] None (Does t ∷ ds) texts
 unfolding task_begun AreResults inactive_results too_long_results
 owes_task t a w begun.Going ds texts none quiet h = record {
@@ -173,7 +173,7 @@ owes_task t a w (begun.TooLong n) ds texts none quiet h =
       are_results = (too_long_results t n, h.rest, h.all ∙ ap (λ (x : List (List ℕ)). too_long_results t n ++ (x ++ h.rest)) empty, each_length t _, h.are_results);
     }
 
-owes_same : (a : Actor) (d : Deed) (ds : List Deed) (texts : List (List ℕ)) → AreResultsOf d [] → a.doing ≡ None → a.says ≡ [] → Owes a.says a.doing ds texts → Owes [] None (d ∷ ds) texts
+owes_same : (a : Actor) (d : Action) (ds : List Action) (texts : List (List ℕ)) → AreResultsOf d [] → a.doing ≡ None → a.says ≡ [] → Owes a.says a.doing ds texts → Owes [] None (d ∷ ds) texts
 unfolding AreResults
 owes_same a d ds texts is none quiet h =
     let empty : h.due ≡ [] = subst (λ (o : Option Task). IsDue o h.due) none h.is_due in
@@ -185,8 +185,8 @@ owes_same a d ds texts is none quiet h =
       are_results = ([], h.rest, h.all ∙ (ap (λ (x : List (List ℕ)). x ++ (h.due ++ h.rest)) quiet ∙ ap (λ (x : List (List ℕ)). x ++ h.rest) empty), is, h.are_results);
     }
 
-owes_copy : (k n : ℕ) (o : Option Request) (a : Actor) (ds : List Deed) (texts : List (List ℕ)) → a.doing ≡ None → a.says ≡ [] → Owes (copied k n o a).says (copied k n o a).doing ds texts → Owes [] None (DoLate k n ∷ ds) texts
-unfolding copied AreResults
+owes_copy : (k n : ℕ) (o : Option Request) (a : Actor) (ds : List Action) (texts : List (List ℕ)) → a.doing ≡ None → a.says ≡ [] → Owes (make_copy k n o a).says (make_copy k n o a).doing ds texts → Owes [] None (DoLate k n ∷ ds) texts
+unfolding make_copy AreResults
 owes_copy k n (Some q) a ds texts none quiet h = owes_same a (DoLate k n) ds texts (omega arith) none quiet h
 owes_copy k n None a ds texts none quiet h =
     let empty : h.due ≡ [] = subst (λ (o : Option Task). IsDue o h.due) none h.is_due in
@@ -198,34 +198,34 @@ owes_copy k n None a ds texts none quiet h =
       are_results = (late_none ∷ [], h.rest, h.all ∙ ap (λ (x : List (List ℕ)). late_none ∷ (x ++ h.rest)) empty, omega arith, h.are_results);
     }
 
-owes_deed : (d : Deed) (ds : List Deed) (a : Actor) (texts : List (List ℕ)) → IsRaw d → Resting a → a.doing ≡ None → Owes (deed_taken d a).says (deed_taken d a).doing ds texts → Owes [] None (d ∷ ds) texts
-unfolding deed_taken
-owes_deed (Does t) ds a texts raw r none h = owes_task t a (writer_begun a.writer t).writer (writer_begun a.writer t).begun ds texts none r.says h
-owes_deed (DoDrop k n) ds a texts raw r none h = owes_same a (DoDrop k n) ds texts refl none r.says h
-owes_deed (DoMute k n) ds a texts raw r none h = owes_same a (DoMute k n) ds texts refl none r.says h
-owes_deed (DoLate k n) ds a texts raw r none h = owes_copy k n _ a ds texts none r.says h
-owes_deed (Submits es) ds a texts raw r none h = absurd raw
-owes_deed (Trims extra) ds a texts raw r none h = absurd raw
-owes_deed DoTail ds a texts raw r none h = absurd raw
-owes_deed Saves ds a texts raw r none h = absurd raw
-owes_deed Reloads ds a texts raw r none h = absurd raw
+owes_action : (d : Action) (ds : List Action) (a : Actor) (texts : List (List ℕ)) → IsRaw d → Resting a → a.doing ≡ None → Owes (take_action d a).says (take_action d a).doing ds texts → Owes [] None (d ∷ ds) texts
+unfolding take_action
+owes_action (Does t) ds a texts raw r none h = owes_task t a (writer_begun a.writer t).writer (writer_begun a.writer t).begun ds texts none r.says h
+owes_action (DoDrop k n) ds a texts raw r none h = owes_same a (DoDrop k n) ds texts refl none r.says h
+owes_action (DoMute k n) ds a texts raw r none h = owes_same a (DoMute k n) ds texts refl none r.says h
+owes_action (DoLate k n) ds a texts raw r none h = owes_copy k n _ a ds texts none r.says h
+owes_action (Submits es) ds a texts raw r none h = absurd raw
+owes_action (Trims extra) ds a texts raw r none h = absurd raw
+owes_action DoTail ds a texts raw r none h = absurd raw
+owes_action Saves ds a texts raw r none h = absurd raw
+owes_action Reloads ds a texts raw r none h = absurd raw
 
-along : (s t : List (List ℕ)) (d e : Option Task) (ds : List Deed) (texts : List (List ℕ)) → s ≡ t → d ≡ e → Owes s d ds texts → Owes t e ds texts
+along : (s t : List (List ℕ)) (d e : Option Task) (ds : List Action) (texts : List (List ℕ)) → s ≡ t → d ≡ e → Owes s d ds texts → Owes t e ds texts
 along s t d e ds texts x y h = subst (λ (z : Option Task). Owes t z ds texts) y (subst (λ (z : List (List ℕ)). Owes z d ds texts) x h)
 
--- ## Deeds that are taken
+-- ## Actions that are taken
 rested : (a : Actor) → (is_wanting (wants a) || is_broken a) ≡ false → Resting a
 rested a is = resting a (or_false (is_wanting (wants a)) (is_broken a) is)
 
-settled_by : (b : Bool) (d : Deed) (ds : List Deed) (a : Actor) → (is_wanting (wants a) || is_broken a) ≡ b → IsRaw d → a.holds ≡ None → Live a
-    → (Live (deed_taken d a) → Live (settled ds (deed_taken d a))) → Live (cond b (record a { todo = while_wanting (is_wanting (wants a)) (d ∷ ds) }) (settled ds (deed_taken d a)))
+settled_by : (b : Bool) (d : Action) (ds : List Action) (a : Actor) → (is_wanting (wants a) || is_broken a) ≡ b → IsRaw d → a.holds ≡ None → Live a
+    → (Live (take_action d a) → Live (settle ds (take_action d a))) → Live (cond b (record a { todo = while_wanting (is_wanting (wants a)) (d ∷ ds) }) (settle ds (take_action d a)))
 settled_by true d ds a is raw e l go = record { kind = l.kind; course = l.course; doing = l.doing }
 settled_by false d ds a is raw e l go = go (taken_live d a raw e (rested a is) l)
 
-settled_live : (ds : List Deed) (a : Actor) → AreRaw ds → a.holds ≡ None → Live a → Live (settled ds a)
-unfolding settled
+settled_live : (ds : List Action) (a : Actor) → AreRaw ds → a.holds ≡ None → Live a → Live (settle ds a)
+unfolding settle
 settled_live [] a raw e l = record { kind = l.kind; course = l.course; doing = l.doing }
-settled_live (d ∷ ds) a raw e l = settled_by (is_wanting (wants a) || is_broken a) d ds a refl raw.0 e l (settled_live ds (deed_taken d a) raw.1 (raw_taken d a raw.0 ∙ e))
+settled_live (d ∷ ds) a raw e l = settled_by (is_wanting (wants a) || is_broken a) d ds a refl raw.0 e l (settled_live ds (take_action d a) raw.1 (raw_taken d a raw.0 ∙ e))
 
 raw_wanting : (a : Actor) → (is_wanting (wants a) || is_broken a) ≡ true → a.holds ≡ None → is_wanting (wants a) ≡ true
 raw_wanting a is e = either_wants (is_wanting (wants a)) (is_broken a) is (raw_whole a e)
@@ -234,35 +234,35 @@ raw_wanting a is e = either_wants (is_wanting (wants a)) (is_broken a) is (raw_w
 abbrev OwesAll : Actor → List (List ℕ) → Type 0
 OwesAll b texts = Owes b.says b.doing b.todo texts
 
-owes_by : (b : Bool) (d : Deed) (ds : List Deed) (a : Actor) (texts : List (List ℕ)) → (is_wanting (wants a) || is_broken a) ≡ b → IsRaw d → a.holds ≡ None → Live a
-    → (Live (deed_taken d a) → Owes (settled ds (deed_taken d a)).says (settled ds (deed_taken d a)).doing (settled ds (deed_taken d a)).todo texts → Owes (deed_taken d a).says (deed_taken d a).doing ds texts)
-    → OwesAll (cond b (record a { todo = while_wanting (is_wanting (wants a)) (d ∷ ds) }) (settled ds (deed_taken d a))) texts
+owes_by : (b : Bool) (d : Action) (ds : List Action) (a : Actor) (texts : List (List ℕ)) → (is_wanting (wants a) || is_broken a) ≡ b → IsRaw d → a.holds ≡ None → Live a
+    → (Live (take_action d a) → Owes (settle ds (take_action d a)).says (settle ds (take_action d a)).doing (settle ds (take_action d a)).todo texts → Owes (take_action d a).says (take_action d a).doing ds texts)
+    → OwesAll (cond b (record a { todo = while_wanting (is_wanting (wants a)) (d ∷ ds) }) (settle ds (take_action d a))) texts
     → Owes a.says a.doing (d ∷ ds) texts
-owes_by true d ds a texts is raw e l go h = subst (λ (ts : List Deed). Owes a.says a.doing ts texts) (waiting a (d ∷ ds) (raw_wanting a is e)) h
+owes_by true d ds a texts is raw e l go h = subst (λ (ts : List Action). Owes a.says a.doing ts texts) (waiting a (d ∷ ds) (raw_wanting a is e)) h
 owes_by false d ds a texts is raw e l go h =
     let r : Resting a = rested a is in
     let none : a.doing ≡ None = doing_none a l (raw_rest a e r) in
-    along [] a.says None a.doing (d ∷ ds) texts (sym r.says) (sym none) (owes_deed d ds a texts raw r none (go (taken_live d a raw e r l) h))
+    along [] a.says None a.doing (d ∷ ds) texts (sym r.says) (sym none) (owes_action d ds a texts raw r none (go (taken_live d a raw e r l) h))
 
-settled_owes : (ds : List Deed) (a : Actor) (texts : List (List ℕ)) → AreRaw ds → a.holds ≡ None → Live a → Owes (settled ds a).says (settled ds a).doing (settled ds a).todo texts → Owes a.says a.doing ds texts
-unfolding settled
+settled_owes : (ds : List Action) (a : Actor) (texts : List (List ℕ)) → AreRaw ds → a.holds ≡ None → Live a → Owes (settle ds a).says (settle ds a).doing (settle ds a).todo texts → Owes a.says a.doing ds texts
+unfolding settle
 settled_owes [] a texts raw e l h = h
 settled_owes (d ∷ ds) a texts raw e l h =
-    owes_by (is_wanting (wants a) || is_broken a) d ds a texts refl raw.0 e l (settled_owes ds (deed_taken d a) texts raw.1 (raw_taken d a raw.0 ∙ e)) h
+    owes_by (is_wanting (wants a) || is_broken a) d ds a texts refl raw.0 e l (settled_owes ds (take_action d a) texts raw.1 (raw_taken d a raw.0 ∙ e)) h
 
 -- one that wants nothing has nothing to do
 abbrev IsDone : Actor → Type 0
 IsDone b = is_wanting (wants b) ≡ false → b.todo ≡ []
 
-done_by : (b : Bool) (d : Deed) (ds : List Deed) (a : Actor) → (is_wanting (wants a) || is_broken a) ≡ b → a.holds ≡ None
-    → IsDone (settled ds (deed_taken d a)) → IsDone (cond b (record a { todo = while_wanting (is_wanting (wants a)) (d ∷ ds) }) (settled ds (deed_taken d a)))
+done_by : (b : Bool) (d : Action) (ds : List Action) (a : Actor) → (is_wanting (wants a) || is_broken a) ≡ b → a.holds ≡ None
+    → IsDone (settle ds (take_action d a)) → IsDone (cond b (record a { todo = while_wanting (is_wanting (wants a)) (d ∷ ds) }) (settle ds (take_action d a)))
 done_by true d ds a is n go e = absurd (cc (raw_wanting a is n, ap is_wanting (sym (todo_wants a (while_wanting (is_wanting (wants a)) (d ∷ ds)))) ∙ e))
 done_by false d ds a is n go e = go e
 
-settled_done : (ds : List Deed) (a : Actor) → AreRaw ds → a.holds ≡ None → is_wanting (wants (settled ds a)) ≡ false → (settled ds a).todo ≡ []
-unfolding settled
+settled_done : (ds : List Action) (a : Actor) → AreRaw ds → a.holds ≡ None → is_wanting (wants (settle ds a)) ≡ false → (settle ds a).todo ≡ []
+unfolding settle
 settled_done [] a raw n e = refl
-settled_done (d ∷ ds) a raw n e = done_by (is_wanting (wants a) || is_broken a) d ds a refl n (settled_done ds (deed_taken d a) raw.1 (raw_taken d a raw.0 ∙ n)) e
+settled_done (d ∷ ds) a raw n e = done_by (is_wanting (wants a) || is_broken a) d ds a refl n (settled_done ds (take_action d a) raw.1 (raw_taken d a raw.0 ∙ n)) e
 
 -- ## A line of the record
 turn_live : (a : Actor) (t : Task) (k : Aim) (x : Turn) → a.holds ≡ None → aim_of t ≡ k → a.says ≡ [] → a.doing ≡ Some t → Course k a.writer → TurnOf k a.writer.phase x → Live (turn_taken x (Some t) a)
@@ -292,7 +292,7 @@ ended_owes a t texts says long quiet is h =
     }
 
 -- without names
-raw_owes : (a : Actor) (t : Task) (x : Turn) (todo : List Deed) (texts : List (List ℕ)) → a.holds ≡ None
+raw_owes : (a : Actor) (t : Task) (x : Turn) (todo : List Action) (texts : List (List ℕ)) → a.holds ≡ None
     → Owes (turn_with a.holds x t a).says (turn_with a.holds x t a).doing todo texts → Owes (turn_with None x t a).says (turn_with None x t a).doing todo texts
 raw_owes a t x todo texts n h = subst (λ (b : Actor). Owes b.says b.doing todo texts) (raw_with a.holds x t a n) h
 
@@ -334,7 +334,7 @@ in_round w c e = by (round_or_not w.phase)
     by (inr b) = absurd (cc (e, call_none w b))
 
 -- where a call was told, the task goes on or ends
-record Calls (a : Actor) (j : Judged) : Type 0 where
+record Calls (a : Actor) (j : Judgment) : Type 0 where
   task : Task
   kind : Aim
   doing : a.doing ≡ Some task
@@ -350,20 +350,20 @@ calls a k q t n l c =
     record { task = x.0; kind = l.kind; doing = x.1; aims = d.0; quiet = c.says; turned = heard_turn l.kind a.writer k (heard_of t) l.course i }
 
 -- the actor, told of the call
-told : Actor → List Record → Judged → Actor
+told : Actor → List Record → Judgment → Actor
 told a past j = record a { past = past; writer = j.writer }
 
 moved_call : (a : Actor) (k : ℕ) (q : Request) (t : Told) (task : Task) → a.holds ≡ None → a.doing ≡ Some task
     → moved_on (Call k q t) (record a { past = a.past ++ Call k q t ∷ [] }) ≡ turn_taken (writer_heard a.writer k (heard_of t)).turn (Some task) (told a (a.past ++ Call k q t ∷ []) (writer_heard a.writer k (heard_of t)))
 unfolding moved_on told
 moved_call a k q t task n e =
-    let j : Judged = writer_heard a.writer k (heard_of t) in
+    let j : Judgment = writer_heard a.writer k (heard_of t) in
     raw_heard a.holds k (heard_of t) (record a { past = a.past ++ Call k q t ∷ [] }) n ∙ ap (λ (o : Option Task). turn_taken j.turn o (record a { past = a.past ++ Call k q t ∷ []; writer = j.writer })) e
 
 call_live : (a : Actor) (k : ℕ) (q : Request) (t : Told) → a.holds ≡ None → Live a → Calling k q a → Live (moved_on (Call k q t) (record a { past = a.past ++ Call k q t ∷ [] }))
 unfolding told
 call_live a k q t n l c =
-    let j : Judged = writer_heard a.writer k (heard_of t) in
+    let j : Judgment = writer_heard a.writer k (heard_of t) in
     let x : Calls a j = calls a k q t n l c in
     subst Live (sym (moved_call a k q t x.task n x.doing)) (turn_live (told a (a.past ++ Call k q t ∷ []) j) x.task x.kind j.turn n x.aims x.quiet x.doing x.turned.course x.turned.turn)
 
@@ -371,7 +371,7 @@ call_owes : (a : Actor) (k : ℕ) (q : Request) (t : Told) (texts : List (List �
     → Owes (moved_on (Call k q t) (record a { past = a.past ++ Call k q t ∷ [] })).says (moved_on (Call k q t) (record a { past = a.past ++ Call k q t ∷ [] })).doing a.todo texts → Owes a.says a.doing a.todo texts
 unfolding told
 call_owes a k q t texts n l c h =
-    let j : Judged = writer_heard a.writer k (heard_of t) in
+    let j : Judgment = writer_heard a.writer k (heard_of t) in
     let x : Calls a j = calls a k q t n l c in
     turn_owes (told a (a.past ++ Call k q t ∷ []) j) x.task x.kind j.turn texts n x.aims x.quiet x.doing x.turned.turn
     (subst (λ (b : Actor). Owes b.says b.doing a.todo texts) (moved_call a k q t x.task n x.doing) h)
@@ -403,10 +403,10 @@ moved_live a (Outcome x) n l f = unfold moved_on in said_live a x (a.past ++ Out
 
 -- what is still to do once a line was heard
 raw_todo : (a : Actor) (r : Record) → RawActor a → AreRaw (moved_on r (record a { past = a.past ++ r ∷ [] })).todo
-raw_todo a r raw = subst AreRaw (sym (moved_keeps r (record a { past = a.past ++ r ∷ [] })).0) raw.deeds
+raw_todo a r raw = subst AreRaw (sym (moved_keeps r (record a { past = a.past ++ r ∷ [] })).0) raw.actions
 
 goes_live : (a : Actor) (r : Record) → RawActor a → Live a → Fits (wants a) r → Live (goes_on a r)
-unfolding goes_on resettled
+unfolding goes_on settle_again
 goes_live a r raw l f =
     let b : Actor = moved_on r (record a { past = a.past ++ r ∷ [] }) in
     settled_live b.todo b (raw_todo a r raw) (raw_moved r (record a { past = a.past ++ r ∷ [] }) raw.holds) (moved_live a r raw.holds l f)
@@ -420,15 +420,15 @@ moved_owes a (Operator k ask d) rs n l f h = absurd (no_operation (wants a) k as
 moved_owes a (Outcome x) rs n l f h = said_owes a x (results_in rs) (fits_saying a x f) (unfold moved_on in h)
 
 goes_owes : (a : Actor) (r : Record) (rs : List Record) → RawActor a → Live a → Fits (wants a) r → Owes (goes_on a r).says (goes_on a r).doing (goes_on a r).todo (results_in rs) → Owes a.says a.doing a.todo (results_in (r ∷ rs))
-unfolding goes_on resettled
+unfolding goes_on settle_again
 goes_owes a r rs raw l f h =
     let old : Actor = record a { past = a.past ++ r ∷ [] } in
     let b : Actor = moved_on r old in
-    moved_owes a r rs raw.holds l f (subst (λ (ds : List Deed). Owes b.says b.doing ds (results_in rs)) (moved_keeps r old).0
+    moved_owes a r rs raw.holds l f (subst (λ (ds : List Action). Owes b.says b.doing ds (results_in rs)) (moved_keeps r old).0
     (settled_owes b.todo b (results_in rs) (raw_todo a r raw) (raw_moved r old raw.holds) (moved_live a r raw.holds l f) h))
 
 goes_done : (a : Actor) (r : Record) → RawActor a → is_wanting (wants (goes_on a r)) ≡ false → (goes_on a r).todo ≡ []
-unfolding goes_on resettled
+unfolding goes_on settle_again
 goes_done a r raw e =
     let old : Actor = record a { past = a.past ++ r ∷ [] } in
     let b : Actor = moved_on r old in settled_done b.todo b (raw_todo a r raw) (raw_moved r old raw.holds) e
@@ -443,7 +443,7 @@ led_owes [] a raw l done h e =
       rest = [];
       all = ap (λ (x : List (List ℕ)). x ++ []) (sym r.says);
       is_due = subst (λ (o : Option Task). IsDue o []) (sym (doing_none a l (raw_rest a raw.holds r))) refl;
-      are_results = subst (λ (ds : List Deed). AreResults ds []) (sym (done off)) refl;
+      are_results = subst (λ (ds : List Action). AreResults ds []) (sym (done off)) refl;
     }
 led_owes (r ∷ rs) a raw l done h e = goes_owes a r rs raw l h.0 (led_owes rs (goes_on a r) (raw_goes a r raw) (goes_live a r raw l h.0) (goes_done a r raw) h.1 e)
 
@@ -451,12 +451,12 @@ fresh_live : (n : ℕ) → 1 ≤ n → Live (fresh_actor false n)
 unfolding fresh_actor
 fresh_live n h = record { kind = aim.Takeover; course = new_course n h; doing = tt }
 
-pub each_result : (n : ℕ) (ds : List Deed) (rs : List Record) → 1 ≤ n → AreRaw ds → IsLed (settled ds (fresh_actor false n)) rs → wants (actor_after (settled ds (fresh_actor false n)) rs) ≡ Rests
+pub each_result : (n : ℕ) (ds : List Action) (rs : List Record) → 1 ≤ n → AreRaw ds → IsLed (settle ds (fresh_actor false n)) rs → wants (actor_after (settle ds (fresh_actor false n)) rs) ≡ Rests
     → AreResults ds (results_in rs)
 unfolding fresh_actor
 each_result n ds rs h raw led e =
     let new : Actor = fresh_actor false n in
     let o : Owes [] None ds (results_in rs) =
     settled_owes ds new (results_in rs) raw refl (fresh_live n h)
-    (led_owes rs (settled ds new) (raw_settled ds new raw refl) (settled_live ds new raw refl (fresh_live n h)) (settled_done ds new raw refl) led e) in
+    (led_owes rs (settle ds new) (raw_settled ds new raw refl) (settled_live ds new raw refl (fresh_live n h)) (settled_done ds new raw refl) led e) in
     subst (AreResults ds) (sym (o.all ∙ ap (λ (x : List (List ℕ)). x ++ o.rest) o.is_due)) o.are_results

@@ -1,4 +1,4 @@
--- A mesh that agrees shows no fault of a disk, no want of memory and no bad file.
+-- A mesh that agrees shows no fault of a disk, no lack of memory and no bad file.
 use Rattle.std.proofs.Common.{◌≡◌, ℕ, suc, ◌+◌, ◌-◌, ◌<◌, ◌≤◌, List, [], ◌∷◌, Bool, true, false, cond, filter, Some, None, refl, sym, subst, arith, inl, inr}
 use Rattle.std.specs.Prelude.{Option, nat_lt, ◌==◌}
 use Rattle.std.specs.List.{All}
@@ -16,7 +16,7 @@ use Rattle.node_history.specs.declared.record.Record.TheVariants.{Call, Late, Op
 use Rattle.node_history.specs.declared.record.Told.{Told}
 use Rattle.node_history.specs.declared.record.Told.TheVariants as told
 use Rattle.node_history.specs.declared.arming.Arming.{Arming}
-use Rattle.node_history.specs.Cell.{Cell, fresh_cell, Taken, replies, stops, kept_by, counted, requested, killed, started_again, armed, cell_takes, IsLocalRun}
+use Rattle.node_history.specs.Cell.{Cell, fresh_cell, Taken, replies, stops, kept_by, count_request, take_request, take_kill, started_again, take_arming, cell_takes, IsLocalRun}
 use Rattle.mesh.specs.declared.whole.Mesh.{Mesh}
 use Rattle.mesh.specs.Agree.{Agrees, history_at, record_of, operator_of}
 use Rattle.mesh.specs.Matches.{reaches, reached, lines_of, StandsFor, IsSame, AreSame, IsWithin, AreWithin}
@@ -27,16 +27,16 @@ either : (P : Taken → Type 0) (b : Bool) (x y : Taken) → P x → P y → P (
 either P true x y h k = h
 either P false x y h k = k
 
-counted_sound : (s : NodeState) (r : Request) (o : Option Arming) → IsSound (counted s r o).answer
+counted_sound : (s : NodeState) (r : Request) (o : Option Arming) → IsSound (count_request s r o).answer
 counted_sound s r None = step_own s r
 counted_sound s r (Some a) =
     either (λ t. IsSound t.answer) (nat_lt 1 a.calls) (replies s r (Some (record a { calls = a.calls - 1 }))) (stops s r (kept_by a.stop s r)) (step_own s r) tt
 
-requested_sound : (up : Bool) (c : Cell) (r : Request) → IsSound (requested up c r).answer
+requested_sound : (up : Bool) (c : Cell) (r : Request) → IsSound (take_request up c r).answer
 requested_sound true c r = counted_sound c.state r c.arming
 requested_sound false c r = step_own c.state r
 
-killed_sound : (up : Bool) (c : Cell) → IsSound (killed up c).answer
+killed_sound : (up : Bool) (c : Cell) → IsSound (take_kill up c).answer
 killed_sound true c = tt
 killed_sound false c = tt
 
@@ -44,7 +44,7 @@ restarted_sound : (up : Bool) (c : Cell) → IsSound (started_again up c).answer
 restarted_sound true c = tt
 restarted_sound false c = tt
 
-armed_sound : (up : Bool) (c : Cell) (a : Arming) → IsSound (armed up c a).answer
+armed_sound : (up : Bool) (c : Cell) (a : Arming) → IsSound (take_arming up c a).answer
 armed_sound true c a = tt
 armed_sound false c a = tt
 

@@ -16,7 +16,7 @@ use Rattle.mesh.specs.Makers.{IsOfChores, IsOperators}
 use Rattle.mesh.specs.Matches.{reached, lines_of, AreSame, AreWithin, CallersWithin}
 use Rattle.mesh.specs.Order.{placed_at, entries_at}
 use Rattle.mesh.specs.Agree.{Agrees, operator_of, history_at, record_of, plan_of}
-use Rattle.script_actor.specs.Lines.{Line, declared, names_in, deeds_of, operations_in, ArePlayable, HasNodes, Declares, Acts, Operates}
+use Rattle.script_actor.specs.Lines.{Line, count_actors, names_in, actions_of, operations_in, ArePlayable, HasNodes, Declares, Acts, Operates}
 use Rattle.script_actor.specs.Actor.{Actor, fresh_actor, wants, last_of}
 use Rattle.cluster_runner.specs.Plays.{Play, play_steps, play_begins, has_ended, no_lines, actor_at, history_of, histories_from, mesh_of, ends_from, ends_of, IsPlay}
 use Rattle.cluster_runner.specs.Follows.{Follows, AreOperations, FollowsLines}
@@ -110,8 +110,8 @@ ended_turn p e = by p.lines p.turn e
     by (l ∷ ls) (Some a) h = absurd (cc h)
 
 -- ## Its ends
-pub names_count : (ls : List Line) → length (names_in ls) ≡ declared ls
-unfolding names_in declared
+pub names_count : (ls : List Line) → length (names_in ls) ≡ count_actors ls
+unfolding names_in count_actors
 names_count [] = refl
 names_count (Declares x ∷ ls) = ap suc (names_count ls)
 names_count (Acts a d ∷ ls) = names_count ls
@@ -139,12 +139,12 @@ module _ (named : Bool) (n : ℕ) (lines : List Line) (p : Play) (h : Holds name
   taken_is = h.all ∙ (ap (λ (x : List Line). h.taken ++ x) (ended_lines p e) ∙ append_none h.taken)
 
   last_actor : p.operator ≡ length p.actors
-  last_actor = h.operator ∙ (ap declared taken_is ∙ sym h.counted)
+  last_actor = h.operator ∙ (ap count_actors taken_is ∙ sym h.counted)
 
   below_is : (c : ℕ) → c < operator_of (mesh_of p) → c < length p.actors
   below_is c below = subst (λ (m : ℕ). c < m) (actors_are p) below
 
-  ok_of : (c : ℕ) → c < length p.actors → ActorOk p.named p.nodes (deeds_of c h.taken) (actor_at p c)
+  ok_of : (c : ℕ) → c < length p.actors → ActorOk p.named p.nodes (actions_of c h.taken) (actor_at p c)
   unfolding actor_at
   ok_of c below = h.actors.each c below
 
@@ -235,10 +235,10 @@ module _ (named : Bool) (n : ℕ) (lines : List Line) (p : Play) (h : Holds name
   in_order_of : AreMade p → (i : ℕ) → i < n → entries_at (i + 1) (moving_of p.trace) ≡ moving_of (placed_at (mesh_of p) i)
   in_order_of made i below = trace_at_nodes (mesh_of p) p.trace (agrees_of made) traced_of i (subst (λ (m : ℕ). i < m) (sym (nodes_are p ∙ h.nodes)) below)
 
-  follows_of : (c : ℕ) (x : End) → c < length p.actors → slice_get (ends_of p) c ≡ Some x → Follows p.named p.nodes (deeds_of c h.taken) (actor_at p c).past (actor_at p c).marks x
+  follows_of : (c : ℕ) (x : End) → c < length p.actors → slice_get (ends_of p) c ≡ Some x → Follows p.named p.nodes (actions_of c h.taken) (actor_at p c).past (actor_at p c).marks x
   unfolding ends_of actor_at
   follows_of c x u f =
-      let ok : ActorOk p.named p.nodes (deeds_of c h.taken) (actor_at p c) = ok_of c u in
+      let ok : ActorOk p.named p.nodes (actions_of c h.taken) (actor_at p c) = ok_of c u in
       record {
         led = ok.led;
         ended = ap wants ok.is ∙ h.rests c u (λ (g : p.turn ≡ Some c). cc (g, ended_turn p e));
@@ -246,14 +246,14 @@ module _ (named : Bool) (n : ℕ) (lines : List Line) (p : Play) (h : Holds name
         end = end_at p.names p.actors c (fresh_actor p.named p.nodes) x f ∙ ap (λ (a : Actor). last_of a.holds) (sym ok.is);
       }
 
-  each_follows : (c : ℕ) (x : End) → c < operator_of (mesh_of p) → slice_get (ends_of p) c ≡ Some x → Follows named n (deeds_of c lines) (record_of (mesh_of p) c) (plan_of (mesh_of p) c) x
+  each_follows : (c : ℕ) (x : End) → c < operator_of (mesh_of p) → slice_get (ends_of p) c ≡ Some x → Follows named n (actions_of c lines) (record_of (mesh_of p) c) (plan_of (mesh_of p) c) x
   each_follows c x below f =
       let u : c < length p.actors = below_is c below in
-      subst (λ (b : Bool). Follows b n (deeds_of c lines) (record_of (mesh_of p) c) (plan_of (mesh_of p) c) x) h.named_is
-      (subst (λ (m : ℕ). Follows p.named m (deeds_of c lines) (record_of (mesh_of p) c) (plan_of (mesh_of p) c) x) h.nodes
-      (subst (λ (ls : List Line). Follows p.named p.nodes (deeds_of c ls) (record_of (mesh_of p) c) (plan_of (mesh_of p) c) x) (sym taken_is)
-      (subst (λ (y : List Record). Follows p.named p.nodes (deeds_of c h.taken) y (plan_of (mesh_of p) c) x) (sym (record_is p c u))
-      (subst (λ (y : List Mark). Follows p.named p.nodes (deeds_of c h.taken) (actor_at p c).past y x) (sym (plan_is p c u)) (follows_of c x u f)))))
+      subst (λ (b : Bool). Follows b n (actions_of c lines) (record_of (mesh_of p) c) (plan_of (mesh_of p) c) x) h.named_is
+      (subst (λ (m : ℕ). Follows p.named m (actions_of c lines) (record_of (mesh_of p) c) (plan_of (mesh_of p) c) x) h.nodes
+      (subst (λ (ls : List Line). Follows p.named p.nodes (actions_of c ls) (record_of (mesh_of p) c) (plan_of (mesh_of p) c) x) (sym taken_is)
+      (subst (λ (y : List Record). Follows p.named p.nodes (actions_of c h.taken) y (plan_of (mesh_of p) c) x) (sym (record_is p c u))
+      (subst (λ (y : List Mark). Follows p.named p.nodes (actions_of c h.taken) (actor_at p c).past y x) (sym (plan_is p c u)) (follows_of c x u f)))))
 
   names_of : map (λ (x : End). x.name) (ends_of p) ≡ names_in lines
   unfolding ends_of
@@ -262,7 +262,7 @@ module _ (named : Bool) (n : ℕ) (lines : List Line) (p : Play) (h : Holds name
   follows_all : FollowsLines named n lines (mesh_of p) (ends_of p)
   follows_all = record {
     nodes_are = nodes_are p ∙ h.nodes;
-    actors_are = actors_are p ∙ (h.counted ∙ ap declared (sym taken_is));
+    actors_are = actors_are p ∙ (h.counted ∙ ap count_actors (sym taken_is));
     names = names_of;
     actors = each_follows;
     operator = subst (λ (x : List Record). AreOperations (operations_in lines) x) (sym (last_is p (operator_of (mesh_of p)) (actors_are p)))
@@ -275,8 +275,8 @@ holds_at named n lines p some can h = subst (Holds named n lines) h.reached (ste
 made_at : (named : Bool) (n : ℕ) (lines : List Line) (p : Play) → Holds named n lines p → AreMade p
 unfolding actor_at
 made_at named n lines p h c below =
-    let ok : ActorOk p.named p.nodes (deeds_of c h.taken) (get_or p.actors c (fresh_actor p.named p.nodes)) = h.actors.each c below in
-    chores_made p.named p.nodes (deeds_of c h.taken) (actor_at p c).past ok.deeds ok.led
+    let ok : ActorOk p.named p.nodes (actions_of c h.taken) (get_or p.actors c (fresh_actor p.named p.nodes)) = h.actors.each c below in
+    chores_made p.named p.nodes (actions_of c h.taken) (actor_at p c).past ok.actions ok.led
 
 pub play_agrees : (named : Bool) (n : ℕ) (lines : List Line) (p : Play) → HasNodes named n → ArePlayable named n 0 lines → IsPlay named n lines p → Agrees (mesh_of p)
 play_agrees named n lines p some can h =

@@ -1,4 +1,4 @@
--- An actor's record goes by its marks, line by line and deed by deed.
+-- An actor's record goes by its marks, line by line and action by action.
 use Rattle.std.proofs.Common.{◌≡◌, ℕ, ◌+◌, ◌-◌, ◌≤◌, Bool, List, [], ◌∷◌, ◌++◌, Contains, refl, sym, ap, subst, arith, ◌⊎◌, inl, inr}
 use Rattle.std.specs.Prelude.{Option, Some, None, ◌≢◌, slice_get}
 use Rattle.std.proofs.lemmas.List.Elements.{Contains-append_left, Contains-push, Contains-push_cases}
@@ -14,8 +14,8 @@ use Rattle.node_history.specs.declared.mark.Mark.{Mark}
 use Rattle.node_history.specs.declared.mark.MarkKind.TheVariants as kind
 use Rattle.mesh.specs.Marks.{mark, calls_to, next_number, Asked, IsAsMarked, IsCopy, IsMarked, AreCopied}
 use Rattle.name_node.specs.Holding.{Holding}
-use Rattle.script_actor.specs.Lines.{Deed, Does, DoDrop, DoMute, DoLate, Submits, Trims, DoTail, Saves, Reloads, IsDeed}
-use Rattle.script_actor.specs.Actor.{Actor, wants, task_begun, copied, held_deed, deed_taken, moved_on, Fits}
+use Rattle.script_actor.specs.Lines.{Action, Does, DoDrop, DoMute, DoLate, Submits, Trims, DoTail, Saves, Reloads, IsAction}
+use Rattle.script_actor.specs.Actor.{Actor, wants, task_begun, make_copy, take_named_action, take_action, moved_on, Fits}
 use Rattle.script_actor.proofs.Framed.{framed_keeps, held_framed}
 use Rattle.cluster_runner.proofs.Led.{moved_keeps, call_copies}
 use Rattle.cluster_runner.proofs.Wanting.{sending, same_sending, Copying, fits_copying, no_operation}
@@ -134,23 +134,23 @@ begun_goes t v a begun.Going h = h
 begun_goes t v a begun.NotActive h = h
 begun_goes t v a (begun.TooLong n) h = h
 
-copied_goes : (k n : ℕ) (o : Option Request) (a : Actor) → slice_get (calls_to k a.past) (n - 1) ≡ o → 1 ≤ n → a.copies ≡ None → GoesBy a → GoesBy (copied k n o a)
-unfolding copied GoesBy
+copied_goes : (k n : ℕ) (o : Option Request) (a : Actor) → slice_get (calls_to k a.past) (n - 1) ≡ o → 1 ≤ n → a.copies ≡ None → GoesBy a → GoesBy (make_copy k n o a)
+unfolding make_copy GoesBy
 copied_goes k n None a e l none h = h
 copied_goes k n (Some q) a e l none h = one_copy a.marks a.past k n q (l, e) (subst (λ (z : Option (ℕ × Request)). Goes a.marks a.past z) none h)
 
 along : (m n : List Mark) (p o : List Record) (c e : Option (ℕ × Request)) → m ≡ n → p ≡ o → c ≡ e → Goes m p c → Goes n o e
 along m n p o c e x y z h = subst (λ (u : Option (ℕ × Request)). Goes n o u) z (subst (λ (u : List Record). Goes n u c) y (subst (λ (u : List Mark). Goes u p c) x h))
 
-held_goes : (d : Deed) (o : Option Holding) (a : Actor) → GoesBy a → GoesBy (held_deed d o a)
+held_goes : (d : Action) (o : Option Holding) (a : Actor) → GoesBy a → GoesBy (take_named_action d o a)
 unfolding GoesBy
 held_goes d o a h =
-    let e : ((held_deed d o a).todo ≡ a.todo) × ((held_deed d o a).past ≡ a.past) × ((held_deed d o a).marks ≡ a.marks) × ((held_deed d o a).copies ≡ a.copies) =
-    framed_keeps (held_deed d o) (held_framed d o) a in
-    along a.marks (held_deed d o a).marks a.past (held_deed d o a).past a.copies (held_deed d o a).copies (sym e.2) (sym e.1) (sym e.3) h
+    let e : ((take_named_action d o a).todo ≡ a.todo) × ((take_named_action d o a).past ≡ a.past) × ((take_named_action d o a).marks ≡ a.marks) × ((take_named_action d o a).copies ≡ a.copies) =
+    framed_keeps (take_named_action d o) (held_framed d o) a in
+    along a.marks (take_named_action d o a).marks a.past (take_named_action d o a).past a.copies (take_named_action d o a).copies (sym e.2) (sym e.1) (sym e.3) h
 
-pub taken_goes : (named : Bool) (d : Deed) (a : Actor) → IsDeed named d → a.copies ≡ None → GoesBy a → GoesBy (deed_taken d a)
-unfolding deed_taken GoesBy IsLater
+pub taken_goes : (named : Bool) (d : Action) (a : Actor) → IsAction named d → a.copies ≡ None → GoesBy a → GoesBy (take_action d a)
+unfolding take_action GoesBy IsLater
 taken_goes named (Does t) a d none h = unfold GoesBy in begun_goes t (writer_begun a.writer t).writer a (writer_begun a.writer t).begun h
 taken_goes named (DoDrop k n) a d none h = one_mark a.marks a.past a.copies (mark k (next_number k a.past + (n - 1)) kind.Dropped) (inr (omega arith)) (λ i j e. absurd (kinds (ap (λ (m : Mark). m.kind) e))) h
   where

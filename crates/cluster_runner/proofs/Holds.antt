@@ -16,7 +16,7 @@ use Rattle.writer_core.specs.declared.turn.Turn.TheVariants as turn
 use Rattle.writer_core.specs.declared.turn.Outcome.{Outcome as TaskOutcome}
 use Rattle.writer_core.specs.declared.turn.Outcome.TheVariants as outcome
 use Rattle.writer_core.specs.Views.{WriterView}
-use Rattle.writer_core.specs.Rounds.{Judged}
+use Rattle.writer_core.specs.Rounds.{Judgment}
 use Rattle.writer_core.specs.Writer.{is_writing, writer_begun, writer_heard, writer_stopped}
 use Rattle.ns_replay.specs.Replay.{Image, Applied, All, BadEntry, applied}
 use Rattle.node_history.specs.declared.record.Record.{Record}
@@ -25,12 +25,12 @@ use Rattle.node_history.specs.declared.record.Told.{Told}
 use Rattle.run_safety.specs.Sized.{Sized}
 use Rattle.run_safety.proofs.WriterRange.{heard_sized, begun_sized}
 use Rattle.mesh.specs.Makers.{heard_of}
-use Rattle.name_node.specs.Submissions.{Submission, submitted, nothing_submitted}
-use Rattle.name_node.specs.Holding.{Holding, Work, Free, Tails, Logs, Broken, working, saved, loaded, reloaded, min_to_keep, enters}
+use Rattle.name_node.specs.Submissions.{Submission, submit_edits, nothing_submitted}
+use Rattle.name_node.specs.Holding.{Holding, Work, Free, Tails, Logs, Broken, with_work, save_image, load_image, reload_image, min_to_keep, enters}
 use Rattle.name_node.specs.Tails.{TailEnd, Caught, Reached, PurgedFrom, BehindBy, TailStep, GoesOn, Ends, Breaks, is_until, pass_begun, up_to, after_applied, pass_end, no_edits, tail_hears}
-use Rattle.script_actor.specs.Lines.{Deed, Does, DoDrop, DoMute, DoLate, Submits, Trims, DoTail, Saves, Reloads}
+use Rattle.script_actor.specs.Lines.{Action, Does, DoDrop, DoMute, DoLate, Submits, Trims, DoTail, Saves, Reloads}
 use Rattle.cluster_runner.specs.EditResults.{IsRaw, AreRaw}
-use Rattle.script_actor.specs.Actor.{Actor, is_wanting, is_broken, wants, tail_ended, tail_stepped, task_begun, copied, sync_begun, synced, logged_when, trim_at, unless_active, saving, reloading, held_deed, deed_taken, is_broken_holding, while_wanting, settled, logs_done, task_done, held_turn, turn_with, turn_taken, judged_as, heard_in_work, heard_by, moved_on, resettled, goes_on}
+use Rattle.script_actor.specs.Actor.{Actor, is_wanting, is_broken, wants, tail_ended, tail_stepped, task_begun, make_copy, begin_sync, after_sync, logged_when, trim_at, unless_active, begin_save, begin_reload, take_named_action, take_action, is_broken_holding, while_wanting, settle, logs_done, task_done, held_turn, turn_with, turn_taken, after_judgment, heard_in_work, heard_by, moved_on, settle_again, goes_on}
 use Rattle.cluster_runner.proofs.Led.{moved_keeps}
 
 -- ## With names: a tail asks a node that is there
@@ -58,7 +58,7 @@ pass_asks : (n : ℕ) (until : Option ℕ) (h : Holding) → 1 ≤ n → StepAsk
 unfolding pass_begun
 pass_asks n until h some = by (is_until until h.position)
   where
-    by : (b : Bool) → StepAsks n (cond b (Ends Reached (working Free h)) (GoesOn (working (Tails until 1 []) h)))
+    by : (b : Bool) → StepAsks n (cond b (Ends Reached (with_work Free h)) (GoesOn (with_work (Tails until 1 []) h)))
     by true = tt
     by false = (omega arith, some)
 
@@ -69,7 +69,7 @@ applied_asks n until (BadEntry s t) h some = tt
 none_asks : (n m : ℕ) (until : Option ℕ) (node : ℕ) (told : List Heard) (h : Holding) → m ≡ n → 1 ≤ node → StepAsks n (no_edits m until node told h)
 none_asks n m until node told h same from = by (nat_lt node m) refl
   where
-    by : (b : Bool) → nat_lt node m ≡ b → StepAsks n (cond b (GoesOn (working (Tails until (node + 1) told) h)) (Ends (pass_end until told) (working Free h)))
+    by : (b : Bool) → nat_lt node m ≡ b → StepAsks n (cond b (GoesOn (with_work (Tails until (node + 1) told) h)) (Ends (pass_end until told) (with_work Free h)))
     by true e = (omega arith, below)
       where
         below : node + 1 ≤ n
@@ -108,31 +108,31 @@ stepped_well n until (GoesOn h) a s w = (s, w)
 stepped_well n until (Ends end h) a s w = ended_well n until end h a s w
 stepped_well n until (Breaks h) a s w = (s, w)
 
--- ## A deed
+-- ## An action
 begun_well : (n : ℕ) (t : Task) (v : WriterView) (b : Begun) (a : Actor) → Sized n v → Well n a → Well n (task_begun t v a b)
 unfolding task_begun
 begun_well n t v begun.Going a s w = (s, w.1)
 begun_well n t v begun.NotActive a s w = w
 begun_well n t v (begun.TooLong number) a s w = w
 
-copied_well : (n k i : ℕ) (o : Option Request) (a : Actor) → Well n a → Well n (copied k i o a)
-unfolding copied
+copied_well : (n k i : ℕ) (o : Option Request) (a : Actor) → Well n a → Well n (make_copy k i o a)
+unfolding make_copy
 copied_well n k i None a w = w
 copied_well n k i (Some q) a w = w
 
-sync_well : (n : ℕ) (b : Begun) (v : WriterView) (x : Submission) (h : Holding) (a : Actor) → Sized n v → Well n a → Well n (sync_begun b v x h a)
+sync_well : (n : ℕ) (b : Begun) (v : WriterView) (x : Submission) (h : Holding) (a : Actor) → Sized n v → Well n a → Well n (begin_sync b v x h a)
 sync_well n begun.Going v x h a s w = (s, tt)
 sync_well n begun.NotActive v x h a s w = w
 sync_well n (begun.TooLong number) v x h a s w = w
 
-synced_well : (n : ℕ) (bodies : List (List ℕ)) (x : Submission) (h : Holding) (a : Actor) → Well n a → Well n (synced bodies x h a)
+synced_well : (n : ℕ) (bodies : List (List ℕ)) (x : Submission) (h : Holding) (a : Actor) → Well n a → Well n (after_sync bodies x h a)
 synced_well n [] x h a w = w
 synced_well n (b ∷ bs) x h a w =
     sync_well n (writer_begun a.writer (task.Log x.bodies)).begun (writer_begun a.writer (task.Log x.bodies)).writer x h a (begun_sized n a.writer (task.Log x.bodies) w.0) w
 
 logged_well : (n : ℕ) (b : Bool) (es : List EditView) (h : Holding) (a : Actor) → Well n a → Well n (logged_when b es h a)
 unfolding logged_when
-logged_well n true es h a w = synced_well n (submitted a.writer es (nothing_submitted h.space)).bodies (submitted a.writer es (nothing_submitted h.space)) h a w
+logged_well n true es h a w = synced_well n (submit_edits a.writer es (nothing_submitted h.space)).bodies (submit_edits a.writer es (nothing_submitted h.space)) h a w
 logged_well n false es h a w = w
 
 trim_well : (n : ℕ) (b : Bool) (min : Option ℕ) (a : Actor) → Well n a → Well n (trim_at b min a)
@@ -145,20 +145,20 @@ unless_well : (n : ℕ) (b : Bool) (c a : Actor) → Well n c → Well n a → W
 unless_well n true c a v w = w
 unless_well n false c a v w = v
 
-loaded_asks : (n : ℕ) (images : List Image) (h : Holding) → AsksNode n h.work → AsksNode n (loaded images h).work
+loaded_asks : (n : ℕ) (images : List Image) (h : Holding) → AsksNode n h.work → AsksNode n (load_image images h).work
 loaded_asks n [] h w = w
 loaded_asks n (i ∷ is) h w = w
 
-reloaded_asks : (n : ℕ) (h : Holding) → AsksNode n (reloaded h).work
-unfolding reloaded
+reloaded_asks : (n : ℕ) (h : Holding) → AsksNode n (reload_image h).work
+unfolding reload_image
 reloaded_asks n h = loaded_asks n h.images (record h { work = Free }) tt
 
-saved_asks : (n : ℕ) (h : Holding) → AsksNode n h.work → AsksNode n (saved h).work
-unfolding saved
+saved_asks : (n : ℕ) (h : Holding) → AsksNode n h.work → AsksNode n (save_image h).work
+unfolding save_image
 saved_asks n h w = w
 
-held_well : (n : ℕ) (d : Deed) (o : Option Holding) (a : Actor) → 1 ≤ n → AsksIn n o → Well n a → Well n (held_deed d o a)
-unfolding held_deed
+held_well : (n : ℕ) (d : Action) (o : Option Holding) (a : Actor) → 1 ≤ n → AsksIn n o → Well n a → Well n (take_named_action d o a)
+unfolding take_named_action
 held_well n (Does t) o a some q w = w
 held_well n (DoDrop k i) o a some q w = w
 held_well n (DoMute k i) o a some q w = w
@@ -171,12 +171,12 @@ held_well n DoTail None a some q w = w
 held_well n DoTail (Some h) a some q w =
     unless_well n (is_writing a.writer.phase) (tail_stepped None (pass_begun None h) a) a (stepped_well n None (pass_begun None h) a w.0 (pass_asks n None h some)) w
 held_well n Saves None a some q w = w
-held_well n Saves (Some h) a some q w = unless_well n (is_writing a.writer.phase) (saving h a) a (w.0, saved_asks n h q) w
+held_well n Saves (Some h) a some q w = unless_well n (is_writing a.writer.phase) (begin_save h a) a (w.0, saved_asks n h q) w
 held_well n Reloads None a some q w = w
-held_well n Reloads (Some h) a some q w = unless_well n (is_writing a.writer.phase) (reloading h a) a (w.0, reloaded_asks n h) w
+held_well n Reloads (Some h) a some q w = unless_well n (is_writing a.writer.phase) (begin_reload h a) a (w.0, reloaded_asks n h) w
 
-pub taken_well : (n : ℕ) (d : Deed) (a : Actor) → 1 ≤ n → Well n a → Well n (deed_taken d a)
-unfolding deed_taken
+pub taken_well : (n : ℕ) (d : Action) (a : Actor) → 1 ≤ n → Well n a → Well n (take_action d a)
+unfolding take_action
 taken_well n (Does t) a some w = begun_well n t (writer_begun a.writer t).writer (writer_begun a.writer t).begun a (begun_sized n a.writer t w.0) w
 taken_well n (DoDrop k i) a some w = w
 taken_well n (DoMute k i) a some w = w
@@ -230,9 +230,9 @@ turn_well n turn.Aborted (Some s) a some w = with_well n a.holds turn.Aborted s 
 turn_well n (turn.EpochLimit k) None a some w = w
 turn_well n (turn.EpochLimit k) (Some s) a some w = with_well n a.holds (turn.EpochLimit k) s (record a { doing = None }) some w
 
-judged_well : (n : ℕ) (node : ℕ) (heard : Heard) (a : Actor) → 1 ≤ n → Well n a → Well n (judged_as (writer_heard a.writer node heard) a)
+judged_well : (n : ℕ) (node : ℕ) (heard : Heard) (a : Actor) → 1 ≤ n → Well n a → Well n (after_judgment (writer_heard a.writer node heard) a)
 judged_well n node heard a some w =
-    let j : Judged = writer_heard a.writer node heard in
+    let j : Judgment = writer_heard a.writer node heard in
     turn_well n j.turn a.doing (record a { writer = j.writer }) some (heard_sized n a.writer node heard w.0, w.1)
 
 work_well : (n : ℕ) (work : Work) (h : Holding) (node : ℕ) (heard : Heard) (a : Actor) → 1 ≤ n → AsksNode n work → Well n a → Well n (heard_in_work work h node heard a)
@@ -261,13 +261,13 @@ begun_holds t v begun.Going a = refl
 begun_holds t v begun.NotActive a = refl
 begun_holds t v (begun.TooLong number) a = refl
 
-copied_holds : (k i : ℕ) (o : Option Request) (a : Actor) → (copied k i o a).holds ≡ a.holds
-unfolding copied
+copied_holds : (k i : ℕ) (o : Option Request) (a : Actor) → (make_copy k i o a).holds ≡ a.holds
+unfolding make_copy
 copied_holds k i None a = refl
 copied_holds k i (Some q) a = refl
 
-pub raw_taken : (d : Deed) (a : Actor) → IsRaw d → (deed_taken d a).holds ≡ a.holds
-unfolding deed_taken
+pub raw_taken : (d : Action) (a : Actor) → IsRaw d → (take_action d a).holds ≡ a.holds
+unfolding take_action
 raw_taken (Does t) a r = begun_holds t (writer_begun a.writer t).writer (writer_begun a.writer t).begun a
 raw_taken (DoDrop k i) a r = refl
 raw_taken (DoMute k i) a r = refl
@@ -282,7 +282,7 @@ raw_taken Reloads a r = absurd r
 pub raw_with : (o : Option Holding) (t : Turn) (s : Task) (a : Actor) → o ≡ None → turn_with o t s a ≡ turn_with None t s a
 raw_with o t s a e = ap (λ (x : Option Holding). turn_with x t s a) e
 
-pub raw_heard : (o : Option Holding) (node : ℕ) (heard : Heard) (a : Actor) → o ≡ None → heard_by o node heard a ≡ judged_as (writer_heard a.writer node heard) a
+pub raw_heard : (o : Option Holding) (node : ℕ) (heard : Heard) (a : Actor) → o ≡ None → heard_by o node heard a ≡ after_judgment (writer_heard a.writer node heard) a
 unfolding heard_by
 raw_heard o node heard a e = ap (λ (x : Option Holding). heard_by x node heard a) e
 
@@ -303,13 +303,13 @@ turn_same (turn.EpochLimit k) (Some s) a e = with_same a.holds (turn.EpochLimit 
 pub raw_writer : (k : ℕ) (q : Request) (t : Told) (a : Actor) → a.holds ≡ None → (moved_on (Call k q t) a).writer ≡ (writer_heard a.writer k (heard_of t)).writer
 unfolding moved_on
 raw_writer k q t a e =
-    let j : Judged = writer_heard a.writer k (heard_of t) in
+    let j : Judgment = writer_heard a.writer k (heard_of t) in
     ap (λ (b : Actor). b.writer) (raw_heard a.holds k (heard_of t) a e) ∙ (turn_same j.turn a.doing (record a { writer = j.writer }) e).1
 
 pub raw_moved : (r : Record) (a : Actor) → a.holds ≡ None → (moved_on r a).holds ≡ None
 unfolding moved_on
 raw_moved (Call k q t) a e =
-    let j : Judged = writer_heard a.writer k (heard_of t) in
+    let j : Judgment = writer_heard a.writer k (heard_of t) in
     ap (λ (b : Actor). b.holds) (raw_heard a.holds k (heard_of t) a e) ∙ (turn_same j.turn a.doing (record a { writer = j.writer }) e).0 ∙ e
 raw_moved (Late k q) a e = e
 raw_moved (Operator k ask d) a e = e
@@ -323,24 +323,24 @@ raw_whole a e = ap is_broken_holding e
 -- an actor of a script without names
 pub record RawActor (a : Actor) : Type 0 where
   pub holds : a.holds ≡ None
-  pub deeds : AreRaw a.todo
+  pub actions : AreRaw a.todo
 
-raw_waiting : (w : Bool) (ds : List Deed) → AreRaw ds → AreRaw (while_wanting w ds)
+raw_waiting : (w : Bool) (ds : List Action) → AreRaw ds → AreRaw (while_wanting w ds)
 raw_waiting true ds r = r
 raw_waiting false ds r = tt
 
-settled_raw_by : (b w : Bool) (d : Deed) (ds : List Deed) (a : Actor) → AreRaw (d ∷ ds) → a.holds ≡ None → RawActor (settled ds (deed_taken d a))
-    → RawActor (cond b (record a { todo = while_wanting w (d ∷ ds) }) (settled ds (deed_taken d a)))
-settled_raw_by true w d ds a r e h = record { holds = e; deeds = raw_waiting w (d ∷ ds) r }
+settled_raw_by : (b w : Bool) (d : Action) (ds : List Action) (a : Actor) → AreRaw (d ∷ ds) → a.holds ≡ None → RawActor (settle ds (take_action d a))
+    → RawActor (cond b (record a { todo = while_wanting w (d ∷ ds) }) (settle ds (take_action d a)))
+settled_raw_by true w d ds a r e h = record { holds = e; actions = raw_waiting w (d ∷ ds) r }
 settled_raw_by false w d ds a r e h = h
 
-pub raw_settled : (ds : List Deed) (a : Actor) → AreRaw ds → a.holds ≡ None → RawActor (settled ds a)
-unfolding settled
-raw_settled [] a r e = record { holds = e; deeds = tt }
-raw_settled (d ∷ ds) a r e = settled_raw_by (is_wanting (wants a) || is_broken a) (is_wanting (wants a)) d ds a r e (raw_settled ds (deed_taken d a) r.1 (raw_taken d a r.0 ∙ e))
+pub raw_settled : (ds : List Action) (a : Actor) → AreRaw ds → a.holds ≡ None → RawActor (settle ds a)
+unfolding settle
+raw_settled [] a r e = record { holds = e; actions = tt }
+raw_settled (d ∷ ds) a r e = settled_raw_by (is_wanting (wants a) || is_broken a) (is_wanting (wants a)) d ds a r e (raw_settled ds (take_action d a) r.1 (raw_taken d a r.0 ∙ e))
 
 pub raw_goes : (a : Actor) (r : Record) → RawActor a → RawActor (goes_on a r)
-unfolding goes_on resettled
+unfolding goes_on settle_again
 raw_goes a r h =
     let b : Actor = record a { past = a.past ++ r ∷ [] } in
-    raw_settled (moved_on r b).todo (moved_on r b) (subst AreRaw (sym (moved_keeps r b).0) h.deeds) (raw_moved r b h.holds)
+    raw_settled (moved_on r b).todo (moved_on r b) (subst AreRaw (sym (moved_keeps r b).0) h.actions) (raw_moved r b h.holds)

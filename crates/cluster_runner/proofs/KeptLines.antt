@@ -10,10 +10,10 @@ use Rattle.node_history.specs.Cell.{fresh_cell}
 use Rattle.node_history.specs.NodeCells.{CellView, new_cell}
 use Rattle.mesh.specs.declared.whole.Mesh.{Mesh}
 use Rattle.mesh.specs.Marks.{IsMarked}
-use Rattle.script_actor.specs.Lines.{Line, Deed, Declares, Acts, declared}
-use Rattle.script_actor.specs.Actor.{Actor, wants, is_wanting, is_broken, while_wanting, deed_taken, settled, IsLed, actor_after, handed, fresh_actor}
+use Rattle.script_actor.specs.Lines.{Line, Action, Declares, Acts, count_actors}
+use Rattle.script_actor.specs.Actor.{Actor, wants, is_wanting, is_broken, while_wanting, take_action, settle, IsLed, actor_after, hand_action, fresh_actor}
 use Rattle.script_actor.specs.KeptActor.{KeptActor, new_actor, resting}
-use Rattle.script_actor.specs.Deeds.{IsIdleActor}
+use Rattle.script_actor.specs.Actions.{IsIdleActor}
 use Rattle.cluster_runner.specs.Plays.{Play, play_step, play_begins, line_taken, actor_at, histories_from, history_of, has_ended, no_lines, mesh_of, ends_from, ends_of}
 use Rattle.cluster_runner.specs.Kept.{Kept, actor_of, Stands, IsAtRest, Leads, LeadsTo, with_actor, with_actor_at, new_kept, mesh_kept, end_of, ends_kept, IsPlayed}
 use Rattle.cluster_runner.specs.PlaySeats.{LinesGo}
@@ -35,12 +35,12 @@ resting_there k p ls c s e =
 abbrev pub handed_play : Play → List Line → ℕ → Actor → Play
 handed_play p ls c x = record p { lines = ls; turn = Some c; actors = set p.actors c x }
 
-pub step_handed : (k : Kept) (p : Play) (ls : List Line) (c : ℕ) (d : Deed) (x : Actor) → IsAtRest (Acts c d ∷ ls) k p → handed d (resting (actor_of k c)) ≡ x
+pub step_handed : (k : Kept) (p : Play) (ls : List Line) (c : ℕ) (d : Action) (x : Actor) → IsAtRest (Acts c d ∷ ls) k p → hand_action d (resting (actor_of k c)) ≡ x
     → play_step p ≡ handed_play p ls c x
 unfolding line_taken
 step_handed k p ls c d x h e =
     step_line p (Acts c d) ls h.turn h.lines_are
-    ∙ ap (λ a. handed_play p ls c (handed d a)) (resting_there k p ls c h.stands h.actors)
+    ∙ ap (λ a. handed_play p ls c (hand_action d a)) (resting_there k p ls c h.stands h.actors)
     ∙ ap (λ y. handed_play p ls c y) e
 
 -- the same nodes, names and operator
@@ -51,24 +51,24 @@ stands_same k p ls turn xs s = record { named = s.named; nodes = s.nodes; cells 
 pub actor_as : (k : Kept) (cells : List CellView) (c : ℕ) → c < length k.actors → actor_of (with_cells k cells) c ≡ actor_of k c
 actor_as k cells c l = get_or_default k.actors c (new_actor k.named (length cells) []) (new_actor k.named (length k.nodes) []) l
 
--- an idle actor leaves no deed to be done
-none_left : (b w : Bool) (d : Deed) (x y : Actor) → w ≡ false → (cond b (record x { todo = while_wanting w (d ∷ []) }) (record y { todo = [] })).todo ≡ []
+-- an idle actor leaves no action to be done
+none_left : (b w : Bool) (d : Action) (x y : Actor) → w ≡ false → (cond b (record x { todo = while_wanting w (d ∷ []) }) (record y { todo = [] })).todo ≡ []
 none_left true true d x y e = absurd (cc e)
 none_left true false d x y e = refl
 none_left false w d x y e = refl
 
-handed_todo : (n : ℕ) (a : KeptActor) (d : Deed) → IsIdleActor n a → (handed d (resting a)).todo ≡ []
-unfolding handed settled is_wanting
+handed_todo : (n : ℕ) (a : KeptActor) (d : Action) → IsIdleActor n a → (hand_action d (resting a)).todo ≡ []
+unfolding hand_action settle is_wanting
 handed_todo n a d idle =
-    none_left (is_wanting (wants (resting a)) || is_broken (resting a)) (is_wanting (wants (resting a))) d (resting a) (deed_taken d (resting a)) (ap is_wanting (rests a None (idle_no_tail a.holds idle.holds) idle.rests))
+    none_left (is_wanting (wants (resting a)) || is_broken (resting a)) (is_wanting (wants (resting a))) d (resting a) (take_action d (resting a)) (ap is_wanting (rests a None (idle_no_tail a.holds idle.holds) idle.rests))
 
--- a deed, from one rest to the next
-pub deed_leads : (k : Kept) (ls : List Line) (c n : ℕ) (d : Deed) (lines : List Record) (b : KeptActor) (cells : List CellView) → c < length k.actors → IsIdleActor n (actor_of k c)
-    → IsLed (handed d (resting (actor_of k c))) lines → actor_after (handed d (resting (actor_of k c))) lines ≡ resting b → IsIdleActor n b → b.name ≡ (actor_of k c).name
+-- an action, from one rest to the next
+pub action_leads : (k : Kept) (ls : List Line) (c n : ℕ) (d : Action) (lines : List Record) (b : KeptActor) (cells : List CellView) → c < length k.actors → IsIdleActor n (actor_of k c)
+    → IsLed (hand_action d (resting (actor_of k c))) lines → actor_after (hand_action d (resting (actor_of k c))) lines ≡ resting b → IsIdleActor n b → b.name ≡ (actor_of k c).name
     → IsMarked b.marks (actor_of k c).past lines → LinesGo c lines k.nodes cells → LeadsTo (IsAtRest (Acts c d ∷ ls) k) (IsAtRest ls (with_actor_at (with_cells k cells) c b))
-deed_leads k ls c n d lines b cells l idle led after over name marked go p h =
+action_leads k ls c n d lines b cells l idle led after over name marked go p h =
     let a : KeptActor = actor_of k c in
-    let x : Actor = handed d (resting a) in
+    let x : Actor = hand_action d (resting a) in
     let todo : x.todo ≡ [] = handed_todo n a d idle in
     let marks : b.marks ≡ x.marks = sym (ap (λ y. y.marks) after) ∙ after_marks x lines todo in
     let one : Play = handed_play p ls c x in
@@ -135,7 +135,7 @@ unfolding histories_from history_of
 no_histories k zero = refl
 no_histories k (suc n) = ap (λ xs. [] ∷ xs) (no_histories (k + 1) n)
 
-pub begins_at_rest : (named : Bool) (n : ℕ) (ls : List Line) → IsAtRest ls (new_kept named n (declared ls)) (play_begins named n ls)
+pub begins_at_rest : (named : Bool) (n : ℕ) (ls : List Line) → IsAtRest ls (new_kept named n (count_actors ls)) (play_begins named n ls)
 unfolding play_begins
 begins_at_rest named n ls =
     record {

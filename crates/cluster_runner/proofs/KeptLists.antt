@@ -17,7 +17,7 @@ histories_above k (suc n) xs x l =
     let b : histories_from (k + 1) n (xs ++ x ∷ []) ≡ histories_from (k + 1) n xs = histories_above (k + 1) n xs x (omega (arith, l)) in
     ap (λ h. h ∷ histories_from (k + 1) n (xs ++ x ∷ [])) a ∙ ap (λ hs. history_of k xs ∷ hs) b
 
--- a line behind the lines of its node
+-- a line after the lines of its node
 pub histories_snoc : (k n i : ℕ) (xs : List Placed) (x : Placed) → x.node ≡ k + i → i < n
     → histories_from k n (xs ++ x ∷ []) ≡ set (histories_from k n xs) i (get_or (histories_from k n xs) i [] ++ x.line ∷ [])
 unfolding histories_from

@@ -10,7 +10,7 @@ use Rattle.node_history.specs.Moving.{Placed}
 use Rattle.mesh.specs.Marks.{next_number}
 use Rattle.script_actor.specs.Lines.{Line, Operates}
 use Rattle.script_actor.specs.Actor.{Actor, WantsCall, WantsCopy, Says, Rests, wants, goes_on, fresh_actor}
-use Rattle.cluster_runner.specs.Plays.{Play, play_step, turned, wanted, call_made, copy_made, Delivery, Delivered, ReplyLost, NotDelivered, delivery, told_of, noted, node_asked, is_done, actor_at, next_line, line_taken}
+use Rattle.cluster_runner.specs.Plays.{Play, play_step, take_turn, meet_want, call_made, copy_made, Delivery, Delivered, ReplyLost, NotDelivered, delivery, told_of, note_record, node_asked, is_done, actor_at, next_line, line_taken}
 
 -- what was listed of this node
 abbrev pub placed : ℕ → ℕ → Bool → NodeAsk → Cell → Placed
@@ -35,11 +35,11 @@ called_play d p c node r a v = noted_play (reached_play d p node c r v) c a (Cal
 
 pub step_call : (d : Delivery) (p : Play) (c node : ℕ) (r : Request) (a : Actor) (v : Cell) → p.turn ≡ Some c → actor_at p c ≡ a → wants a ≡ WantsCall node r
     → delivery a.marks node (next_number node a.past) ≡ d → get_or p.cells (node - 1) fresh_cell ≡ v → play_step p ≡ called_play d p c node r a v
-unfolding play_step turned wanted call_made noted node_asked told_of actor_at
+unfolding play_step take_turn meet_want call_made note_record node_asked told_of actor_at
 step_call d p c node r a v turn actor want goes cell =
-    ap (λ t. turned t p) turn
-    ∙ ap (λ x. wanted (wants x) c p) actor
-    ∙ ap (λ w. wanted w c p) want
+    ap (λ t. take_turn t p) turn
+    ∙ ap (λ x. meet_want (wants x) c p) actor
+    ∙ ap (λ w. meet_want w c p) want
     ∙ ap (λ x. call_made (delivery x.marks node (next_number node x.past)) c node r p) actor
     ∙ ap (λ e. call_made e c node r p) goes
     ∙ by d
@@ -55,32 +55,32 @@ copied_play p c node r a v = noted_play (asked_play p node c false (Act true r) 
 
 pub step_copy : (p : Play) (c node : ℕ) (r : Request) (a : Actor) (v : Cell) → p.turn ≡ Some c → actor_at p c ≡ a → wants a ≡ WantsCopy node r
     → get_or p.cells (node - 1) fresh_cell ≡ v → play_step p ≡ copied_play p c node r a v
-unfolding play_step turned wanted copy_made noted node_asked actor_at
+unfolding play_step take_turn meet_want copy_made note_record node_asked actor_at
 step_copy p c node r a v turn actor want cell =
-    ap (λ t. turned t p) turn
-    ∙ ap (λ x. wanted (wants x) c p) actor
-    ∙ ap (λ w. wanted w c p) want
+    ap (λ t. take_turn t p) turn
+    ∙ ap (λ x. meet_want (wants x) c p) actor
+    ∙ ap (λ w. meet_want w c p) want
     ∙ ap (λ y. copied_play p c node r (get_or p.actors c (fresh_actor p.named p.nodes)) y) cell
     ∙ ap (λ x. copied_play p c node r x v) actor
 
 pub step_says : (p : Play) (c : ℕ) (text : List ℕ) (a : Actor) → p.turn ≡ Some c → actor_at p c ≡ a → wants a ≡ Says text → play_step p ≡ noted_play p c a (Outcome text)
-unfolding play_step turned wanted noted actor_at
+unfolding play_step take_turn meet_want note_record actor_at
 step_says p c text a turn actor want =
-    ap (λ t. turned t p) turn
-    ∙ ap (λ x. wanted (wants x) c p) actor
-    ∙ ap (λ w. wanted w c p) want
+    ap (λ t. take_turn t p) turn
+    ∙ ap (λ x. meet_want (wants x) c p) actor
+    ∙ ap (λ w. meet_want w c p) want
     ∙ ap (λ x. noted_play p c x (Outcome text)) actor
 
 pub step_rests : (p : Play) (c : ℕ) (a : Actor) → p.turn ≡ Some c → actor_at p c ≡ a → wants a ≡ Rests → play_step p ≡ record p { turn = None }
-unfolding play_step turned wanted actor_at
+unfolding play_step take_turn meet_want actor_at
 step_rests p c a turn actor want =
-    ap (λ t. turned t p) turn
-    ∙ ap (λ x. wanted (wants x) c p) actor
-    ∙ ap (λ w. wanted w c p) want
+    ap (λ t. take_turn t p) turn
+    ∙ ap (λ x. meet_want (wants x) c p) actor
+    ∙ ap (λ w. meet_want w c p) want
 
 pub step_line : (p : Play) (l : Line) (ls : List Line) → p.turn ≡ None → p.lines ≡ l ∷ ls → play_step p ≡ line_taken l (record p { lines = ls })
-unfolding play_step turned next_line
-step_line p l ls turn lines = ap (λ t. turned t p) turn ∙ ap (λ x. next_line x p) lines
+unfolding play_step take_turn next_line
+step_line p l ls turn lines = ap (λ t. take_turn t p) turn ∙ ap (λ x. next_line x p) lines
 
 -- the play once the operator has done this to the node
 abbrev pub operated_play : Play → List Line → ℕ → NodeAsk → ℕ → Cell → Play

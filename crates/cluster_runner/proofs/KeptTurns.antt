@@ -19,11 +19,11 @@ use Rattle.caller_seats.specs.declared.delivery.Delivery.TheVariants.{Delivered,
 use Rattle.caller_seats.specs.Deliveries.{delivery}
 use Rattle.caller_seats.proofs.MarkLaws.{delivery_known}
 use Rattle.script_actor.specs.Lines.{Line}
-use Rattle.script_actor.specs.Actor.{Actor, WantsCall, WantsCopy, Says, IsLed, wants, goes_on, resettled, settled, moved_on, actor_after, fresh_actor}
+use Rattle.script_actor.specs.Actor.{Actor, WantsCall, WantsCopy, Says, IsLed, wants, goes_on, settle_again, settle, moved_on, actor_after, fresh_actor}
 use Rattle.cluster_runner.specs.Plays.{Play, play_step, play_steps, actor_at}
 use Rattle.script_actor.specs.KeptActor.{KeptActor, new_actor, resting}
-use Rattle.script_actor.specs.Deeds.{IsIdleActor}
-use Rattle.cluster_runner.specs.Kept.{Kept, node_at, actor_of, listed, answer_to, reached_by, told_by, with_actor_at, Stands, IsAtRest, Leads}
+use Rattle.script_actor.specs.Actions.{IsIdleActor}
+use Rattle.cluster_runner.specs.Kept.{Kept, node_at, actor_of, list_ask, answer_to, reached_by, told_by, with_actor_at, Stands, IsAtRest, Leads}
 use Rattle.cluster_runner.specs.PlaySeats.{Reaches, CopyReaches, LinesGo}
 use Rattle.cluster_runner.proofs.KeptLists.{set_set, histories_snoc}
 use Rattle.cluster_runner.proofs.KeptSteps.{placed, asked_play, reached_play, noted_play, called_play, copied_play, step_call, step_copy, step_says, step_rests}
@@ -65,9 +65,9 @@ abbrev pub with_node : Kept → ℕ → CellView → Kept
 with_node k node v = record k { nodes = set k.nodes (node - 1) v }
 
 pub stands_asked : (k : Kept) (p : Play) (node c : ℕ) (muted : Bool) (ask : NodeAsk) → Stands k p → 1 ≤ node → node ≤ length k.nodes
-    → Stands (with_node k node (listed (node_at k node) c ask)) (asked_play p node c muted ask (node_at k node).cell)
+    → Stands (with_node k node (list_ask (node_at k node) c ask)) (asked_play p node c muted ask (node_at k node).cell)
 stands_asked k p node c muted ask s low high =
-    let v : CellView = listed (node_at k node) c ask in
+    let v : CellView = list_ask (node_at k node) c ask in
     record {
       named = s.named;
       nodes = length-set k.nodes (node - 1) v ∙ s.nodes;
@@ -168,7 +168,7 @@ copy_acts : (ls : List Line) (c : ℕ) (x : Actor) (k : Kept) (p : Play) (node :
     → wants x ≡ WantsCopy node r → CopyReaches c node r k.nodes cells → Acts ls c (goes_on x (Late node r)) k cells p
 copy_acts ls c x k p node r cells l h want g =
     let v : CellView = node_at k node in
-    let w : CellView = listed v c (Act true r) in
+    let w : CellView = list_ask v c (Act true r) in
     let q : Play = copied_play p c node r x v.cell in
     let s : Stands (with_node k node w) (asked_play p node c false (Act true r) v.cell) = stands_asked k p node c false (Act true r) h.stands g.low g.high in
     let own : IsActing ls c (goes_on x (Late node r)) (with_node k node w) q = record {
@@ -193,13 +193,13 @@ say_acts ls c x k p text cells l h want e =
     let Q : List CellView → Type 0 = λ vs. IsActing ls c (goes_on x (Outcome text)) (with_cells k vs) q in
     (q, leads_one p q (step_says p c text x h.turn (acting_there ls c x k p l h) want), subst Q (sym e) own)
 
--- an actor with no more deeds to come takes no other marks
+-- an actor with no more actions to come takes no other marks
 goes_marks : (x : Actor) (r : Record) → x.todo ≡ [] → ((goes_on x r).todo ≡ []) × ((goes_on x r).marks ≡ x.marks)
-unfolding goes_on resettled settled
+unfolding goes_on settle_again settle
 goes_marks x r e =
     let y : Actor = moved_on r (record x { past = x.past ++ r ∷ [] }) in
     let m = moved_keeps r (record x { past = x.past ++ r ∷ [] }) in
-    let none : settled y.todo y ≡ record y { todo = [] } = ap (λ ds. settled ds y) (m.0 ∙ e) in
+    let none : settle y.todo y ≡ record y { todo = [] } = ap (λ ds. settle ds y) (m.0 ∙ e) in
     (ap (λ a. a.todo) none, ap (λ a. a.marks) none ∙ m.2)
 
 pub after_marks : (x : Actor) (rs : List Record) → x.todo ≡ [] → (actor_after x rs).marks ≡ x.marks
@@ -233,7 +233,7 @@ lines_act (Outcome text ∷ rs) ls c x k p cells l h todo led marked go =
     (λ q g. lines_act rs ls c (goes_on x (Outcome text)) (with_cells k go.0) q cells l g (goes_marks x (Outcome text) todo).0 led.1 (next_marked x (Outcome text) rs todo marked) go.2)
 lines_act (Operator node ask done ∷ rs) ls c x k p cells l h todo led marked go = absurd go.1
 
--- ## A deed, from one rest to the next
+-- ## An action, from one rest to the next
 pub rest_after : (ls : List Line) (c n : ℕ) (k : Kept) (b : KeptActor) (p : Play) → c < length k.actors → IsIdleActor n b → b.name ≡ (actor_of k c).name → IsActing ls c (resting b) k p
     → (q : Play) × Leads p q × IsAtRest ls (with_actor_at k c b) q
 rest_after ls c n k b p l idle name h = (

@@ -29,4 +29,4 @@ pub mod NodesLeft
 pub mod FaultlessLaws
 pub mod NeverBroken
 pub mod ScriptLaws
-pub mod PlayableDeeds
+pub mod PlayableActions

@@ -1,4 +1,4 @@
--- A line is taken: a deed of an actor, or an operation.
+-- A line is taken: an action of an actor, or an operation.
 use Rattle.std.proofs.Common.{◌≡◌, ℕ, ◌-◌, ◌<◌, ◌≤◌, List, [], ◌∷◌, ◌++◌, length, false, refl, sym, ap, ◌∙◌, subst, set, get_or, arith, inl, inr}
 use Rattle.std.proofs.lemmas.List.{length-set, get_or-set_same, get_or-set_other}
 use Rattle.std.proofs.lemmas.Bool.Decides.{eqb_tells}
@@ -8,18 +8,18 @@ use Rattle.node_history.specs.declared.record.Record.TheVariants.{Call, Late, Op
 use Rattle.node_history.specs.Cell.{Cell}
 use Rattle.node_history.specs.NodeCells.{CellView}
 use Rattle.mesh.specs.Marks.{IsMarked}
-use Rattle.script_actor.specs.Lines.{Line, Deed, Acts, Operates}
-use Rattle.script_actor.specs.Actor.{IsLed, actor_after, handed}
+use Rattle.script_actor.specs.Lines.{Line, Action, Acts, Operates}
+use Rattle.script_actor.specs.Actor.{IsLed, actor_after, hand_action}
 use Rattle.cluster_runner.specs.Plays.{Play, is_done}
 use Rattle.script_actor.specs.KeptActor.{KeptActor, new_actor, resting}
-use Rattle.cluster_runner.specs.Kept.{Kept, actor_of, node_at, listed, answer_to, operates, with_actor_at, Stands, IsAtRest, LeadsTo}
+use Rattle.cluster_runner.specs.Kept.{Kept, actor_of, node_at, list_ask, answer_to, operates, with_actor_at, Stands, IsAtRest, LeadsTo}
 use Rattle.cluster_runner.specs.PlaySeats.{LineGoes, LinesGo}
 use Rattle.cluster_runner.specs.Ready.{IsIdleIn, IsIdle, TakesLine}
 use Rattle.cluster_runner.proofs.KeptSteps.{asked_play, operated_play, step_operated}
 use Rattle.cluster_runner.proofs.KeptTurns.{leads_one, cell_there, with_node, with_cells, stands_asked}
-use Rattle.cluster_runner.proofs.KeptLines.{deed_leads}
+use Rattle.cluster_runner.proofs.KeptLines.{action_leads}
 
--- ## A deed
+-- ## An action
 line_length : (c : ℕ) (r : Record) (old new : List CellView) → LineGoes c r old new → length new ≡ length old
 line_length c (Call node q told) old new g = ap length g.cells ∙ length-set old (node - 1) _
 line_length c (Late node q) old new g = ap length g.cells ∙ length-set old (node - 1) _
@@ -40,11 +40,11 @@ others k c e b cells long l mine other =
       | inr off ↦ subst (λ a. IsIdleIn k.named (length k.nodes) a) (sym (get_or-set_other k.actors c e b (new_actor k.named (length k.nodes) []) off.1)) other
     ])
 
-pub takes_deed : (k : Kept) (c : ℕ) (d : Deed) (lines : List Record) (b : KeptActor) (cells : List CellView) → c < length k.actors → IsIdle k
-    → IsLed (handed d (resting (actor_of k c))) lines → actor_after (handed d (resting (actor_of k c))) lines ≡ resting b → IsIdleIn k.named (length k.nodes) b
+pub takes_action : (k : Kept) (c : ℕ) (d : Action) (lines : List Record) (b : KeptActor) (cells : List CellView) → c < length k.actors → IsIdle k
+    → IsLed (hand_action d (resting (actor_of k c))) lines → actor_after (hand_action d (resting (actor_of k c))) lines ≡ resting b → IsIdleIn k.named (length k.nodes) b
     → b.name ≡ (actor_of k c).name → IsMarked b.marks (actor_of k c).past lines → LinesGo c lines k.nodes cells
     → TakesLine (Acts c d) (length k.actors) k (with_actor_at (with_cells k cells) c b)
-takes_deed k c d lines b cells l idle led after mine name marked go =
+takes_action k c d lines b cells l idle led after mine name marked go =
     let n : length cells ≡ length k.nodes = lines_length c lines k.nodes cells go in
     let m : length (set k.actors c b) ≡ length k.actors = length-set k.actors c b in
     record {
@@ -55,7 +55,7 @@ takes_deed k c d lines b cells l idle led after mine name marked go =
         some = let some = idle.some in omega (arith, n, some);
         actors = λ e h. others k c e b cells n l mine (idle.actors e (omega (arith, h, m)));
       };
-      leads = λ ls. deed_leads k ls c (length k.nodes) d lines b cells l (idle.actors c l).idle led after mine.idle name marked go;
+      leads = λ ls. action_leads k ls c (length k.nodes) d lines b cells l (idle.actors c l).idle led after mine.idle name marked go;
     }
 
 -- ## An operation
@@ -63,7 +63,7 @@ operates_leads : (k : Kept) (ls : List Line) (node : ℕ) (ask : NodeAsk) → 1 
 operates_leads k ls node ask low high p h =
     let v : Cell = (node_at k node).cell in
     let q : Play = operated_play p ls node ask k.operator v in
-    let s : Stands (with_node k node (listed (node_at k node) k.operator ask)) (asked_play p node k.operator false ask v) = stands_asked k p node k.operator false ask h.stands low high in (
+    let s : Stands (with_node k node (list_ask (node_at k node) k.operator ask)) (asked_play p node k.operator false ask v) = stands_asked k p node k.operator false ask h.stands low high in (
       q,
       leads_one p q (step_operated p ls node k.operator ask v h.turn h.lines_are h.stands.operator (cell_there k p node h.stands)),
       record {
@@ -86,7 +86,7 @@ pub takes_operation : (old new : Kept) (node : ℕ) (ask : NodeAsk) → IsIdle o
     → TakesLine (Operates node ask) (length old.actors) old new
 takes_operation old new node ask idle low high is =
     let P : Kept → Type 0 = λ k. TakesLine (Operates node ask) (length old.actors) old k in
-    let n : length (operates old node ask).nodes ≡ length old.nodes = length-set old.nodes (node - 1) (listed (node_at old node) old.operator ask) in
+    let n : length (operates old node ask).nodes ≡ length old.nodes = length-set old.nodes (node - 1) (list_ask (node_at old node) old.operator ask) in
     subst P (sym is) (record {
       nodes = n;
       actors_are = refl;

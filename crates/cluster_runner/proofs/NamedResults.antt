@@ -1,4 +1,4 @@
--- An actor with names that meets no bad entry says, deed by deed, as many results as are due.
+-- An actor with names that meets no bad entry says, action by action, as many results as are due.
 use Rattle.std.proofs.Common.{◌≡◌, ℕ, suc, ◌+◌, ◌-◌, ◌≤◌, List, [], ◌∷◌, ◌++◌, Bool, true, false, cond, refl, sym, ap, ◌∙◌, subst, arith, length, drop, append_assoc, ◌⊎◌, inl, inr}
 use Rattle.std.specs.Prelude.{Option, Some, None, ◌≢◌, ◌||◌, map, nat_lt, codes}
 use Rattle.std.proofs.lemmas.List.{length-map, length-append, nil_from_length}
@@ -21,7 +21,7 @@ use Rattle.writer_core.specs.declared.turn.Outcome.{Outcome as TaskOutcome}
 use Rattle.writer_core.specs.declared.turn.Outcome.TheVariants as outcome
 use Rattle.writer_core.specs.Turns.{aim_of, IsOf, IsInRound}
 use Rattle.writer_core.specs.Views.{WriterView}
-use Rattle.writer_core.specs.Rounds.{Judged}
+use Rattle.writer_core.specs.Rounds.{Judgment}
 use Rattle.writer_core.specs.Writer.{is_writing, writer_begun, next_call, writer_heard, writer_stopped}
 use Rattle.ns_tree.specs.Space.{Space}
 use Rattle.ns_replay.specs.Replay.{Image, Applied, All, BadEntry, applied}
@@ -29,12 +29,12 @@ use Rattle.node_history.specs.declared.record.Record.{Record}
 use Rattle.node_history.specs.declared.record.Record.TheVariants.{Call, Late, Operator, Outcome}
 use Rattle.node_history.specs.declared.record.Told.{Told}
 use Rattle.mesh.specs.Makers.{heard_of}
-use Rattle.name_node.specs.Submissions.{Due, Submission, submitted, nothing_submitted}
-use Rattle.name_node.specs.Holding.{Holding, new_holding, Work, Free, Tails, Logs, Broken, working, at_position, saved, loaded, reloaded, min_to_keep, enters}
+use Rattle.name_node.specs.Submissions.{Due, Submission, submit_edits, nothing_submitted}
+use Rattle.name_node.specs.Holding.{Holding, new_holding, Work, Free, Tails, Logs, Broken, with_work, at_position, save_image, load_image, reload_image, min_to_keep, enters}
 use Rattle.name_node.specs.Tails.{TailEnd, Caught, Reached, PurgedFrom, BehindBy, TailStep, GoesOn, Ends, Breaks, is_until, pass_begun, up_to, after_applied, pass_end, no_edits, tail_hears}
-use Rattle.script_actor.specs.Lines.{Deed, Does, DoDrop, DoMute, DoLate, Submits, Trims, DoTail, Saves, Reloads, IsNamesTask, IsDeed, AreDeeds}
+use Rattle.script_actor.specs.Lines.{Action, Does, DoDrop, DoMute, DoLate, Submits, Trims, DoTail, Saves, Reloads, IsNamesTask, IsAction, AreActions}
 use Rattle.script_actor.specs.Results.{dues_logged, dues_aborted, abort_text, inactive_results, too_long_results, late_none}
-use Rattle.script_actor.specs.Actor.{Actor, Rests, WantsCall, fresh_actor, call_wanted, work_read, read_first, wants, is_wanting, is_broken_work, is_broken_holding, is_broken, tail_ended, tail_stepped, task_begun, copied, sync_begun, synced, logged_when, trim_at, unless_active, saving, reloading, held_deed, deed_taken, while_wanting, settled, logs_done, aborted_texts, task_done, held_turn, turn_with, turn_taken, heard_in_work, heard_by, moved_on, resettled, goes_on, Fits, IsLed, actor_after}
+use Rattle.script_actor.specs.Actor.{Actor, Rests, WantsCall, fresh_actor, call_wanted, work_read, read_first, wants, is_wanting, is_broken_work, is_broken_holding, is_broken, tail_ended, tail_stepped, task_begun, make_copy, begin_sync, after_sync, logged_when, trim_at, unless_active, begin_save, begin_reload, take_named_action, take_action, while_wanting, settle, logs_done, aborted_texts, task_done, held_turn, turn_with, turn_taken, heard_in_work, heard_by, moved_on, settle_again, goes_on, Fits, IsLed, actor_after}
 use Rattle.script_actor.proofs.TrimLaws.{purge_begins}
 use Rattle.cluster_runner.specs.Told.{results_in}
 use Rattle.cluster_runner.specs.EditResults.{results_due, AreResultsOf, AreResults, NeverBroken}
@@ -81,26 +81,26 @@ due_of (Some t) (Tails until node heard) = 1
 due_of (Some t) (Logs ahead dues) = length dues
 due_of (Some t) Broken = 0
 
--- the results to be said, those of what is under way, and those of the deeds to come
-record Owes (says : List (List ℕ)) (n : ℕ) (todo : List Deed) (texts : List (List ℕ)) : Type 0 where
+-- the results to be said, those of what is under way, and those of the actions to come
+record Owes (says : List (List ℕ)) (n : ℕ) (todo : List Action) (texts : List (List ℕ)) : Type 0 where
   due : List (List ℕ)
   rest : List (List ℕ)
   all : texts ≡ says ++ (due ++ rest)
   count : length due ≡ n
   are_results : AreResults todo rest
 
-abbrev OwesBy : (a : Actor) → Live a → List Deed → List (List ℕ) → Type 0
+abbrev OwesBy : (a : Actor) → Live a → List Action → List (List ℕ) → Type 0
 OwesBy a l todo texts = Owes a.says (due_of a.doing l.holding.work) todo texts
 
--- ## A deed
--- what a deed leaves, and its results
-record Taken (d : Deed) (a b : Actor) : Type 0 where
+-- ## An action
+-- what an action leaves, and its results
+record Taken (d : Action) (a b : Actor) : Type 0 where
   live : Live b
-  owes : (ds : List Deed) (texts : List (List ℕ)) → OwesBy b live ds texts → Owes [] 0 (d ∷ ds) texts
+  owes : (ds : List Action) (texts : List (List ℕ)) → OwesBy b live ds texts → Owes [] 0 (d ∷ ds) texts
 
-owes_deed : (d : Deed) (says : List (List ℕ)) (n : ℕ) (ds : List Deed) (texts : List (List ℕ)) → ((xs : List (List ℕ)) → length xs ≡ n → AreResultsOf d (says ++ xs)) → Owes says n ds texts → Owes [] 0 (d ∷ ds) texts
+owes_action : (d : Action) (says : List (List ℕ)) (n : ℕ) (ds : List Action) (texts : List (List ℕ)) → ((xs : List (List ℕ)) → length xs ≡ n → AreResultsOf d (says ++ xs)) → Owes says n ds texts → Owes [] 0 (d ∷ ds) texts
 unfolding AreResults
-owes_deed d says n ds texts f h = record {
+owes_action d says n ds texts f h = record {
   due = [];
   rest = texts;
   all = refl;
@@ -108,7 +108,7 @@ owes_deed d says n ds texts f h = record {
   are_results = (says ++ h.due, h.rest, h.all ∙ sym (append_assoc says h.due h.rest), f h.due h.count, h.are_results);
 }
 
--- an actor between deeds
+-- an actor between actions
 record Idle (a : Actor) : Type 0 where
   live : Live a
   free : live.holding.work ≡ Free
@@ -130,15 +130,15 @@ says_live a b i h e f g n = record {
 free_due : (o : Option Task) (x : Work) → o ≡ None → x ≡ Free → due_of o x ≡ 0
 free_due o x e f = ap (λ (z : Option Task). due_of z x) e ∙ ap (λ (y : Work). due_of None y) f
 
-said : (d : Deed) (a b : Actor) (i : Idle a) (h : Holding) → b.holds ≡ Some h → h.work ≡ Free → b.writer ≡ a.writer → b.doing ≡ None → ((xs : List (List ℕ)) → length xs ≡ 0 → AreResultsOf d (b.says ++ xs)) → Taken d a b
+said : (d : Action) (a b : Actor) (i : Idle a) (h : Holding) → b.holds ≡ Some h → h.work ≡ Free → b.writer ≡ a.writer → b.doing ≡ None → ((xs : List (List ℕ)) → length xs ≡ 0 → AreResultsOf d (b.says ++ xs)) → Taken d a b
 unfolding says_live
 said d a b i h e f g n are = record {
   live = says_live a b i h e f g n;
-  owes = λ ds texts o. owes_deed d b.says 0 ds texts are (subst (λ (k : ℕ). Owes b.says k ds texts) (free_due b.doing h.work n f) o);
+  owes = λ ds texts o. owes_action d b.says 0 ds texts are (subst (λ (k : ℕ). Owes b.says k ds texts) (free_due b.doing h.work n f) o);
 }
 
 -- as it was, but for these texts
-said_same : (d : Deed) (a b : Actor) (i : Idle a) → b.holds ≡ a.holds → b.writer ≡ a.writer → b.doing ≡ a.doing → ((xs : List (List ℕ)) → length xs ≡ 0 → AreResultsOf d (b.says ++ xs)) → Taken d a b
+said_same : (d : Action) (a b : Actor) (i : Idle a) → b.holds ≡ a.holds → b.writer ≡ a.writer → b.doing ≡ a.doing → ((xs : List (List ℕ)) → length xs ≡ 0 → AreResultsOf d (b.says ++ xs)) → Taken d a b
 said_same d a b i e g n are = said d a b i i.live.holding (e ∙ i.live.holds) i.free g (n ∙ i.none) are
 
 -- a number of texts, and no more of them
@@ -159,7 +159,7 @@ begun_live a t i single c r = record {
 one_more : (says xs : List (List ℕ)) → says ≡ [] → length xs ≡ 1 → length (says ++ xs) ≡ 1
 one_more says xs e f = omega (arith, length-append says xs, ap length e, f)
 
-goes_task : (d : Deed) (t : Task) (a : Actor) (i : Idle a) → ((xs : List (List ℕ)) → length xs ≡ 1 → AreResultsOf d xs) → Single t → (writer_begun a.writer t).begun ≡ begun.Going
+goes_task : (d : Action) (t : Task) (a : Actor) (i : Idle a) → ((xs : List (List ℕ)) → length xs ≡ 1 → AreResultsOf d xs) → Single t → (writer_begun a.writer t).begun ≡ begun.Going
     → Taken d a (record a { writer = (writer_begun a.writer t).writer; doing = Some t })
 unfolding Begins begun_live
 goes_task d t a i are single e = by (begun_turn t a.writer i.live.course.other)
@@ -169,7 +169,7 @@ goes_task d t a i are single e = by (begun_turn t a.writer i.live.course.other)
     by (inl h) = record {
       live = begun_live a t i single h.1 h.2;
       owes = λ ds texts o.
-          owes_deed d a.says 1 ds texts (λ xs f. subst (λ (says : List (List ℕ)). AreResultsOf d (says ++ xs)) (sym i.quiet) (are xs f))
+          owes_action d a.says 1 ds texts (λ xs f. subst (λ (says : List (List ℕ)). AreResultsOf d (says ++ xs)) (sym i.quiet) (are xs f))
           (subst (λ (x : Work). Owes a.says (due_of (Some t) x) ds texts) i.free o);
     }
 
@@ -196,47 +196,40 @@ names_single task.Close h = tt
 names_single (task.Log bodies) h = absurd h
 names_single (task.Purge min) h = absurd h
 
-single_due : (t : Task) → Single t → results_due t ≡ 1
-single_due task.Takeover h = refl
-single_due task.Roll h = refl
-single_due task.Close h = refl
-single_due (task.Log bodies) h = absurd h
-single_due (task.Purge min) h = refl
-
 does_taken : (t : Task) (a : Actor) (b : Begun) → Idle a → IsNamesTask t → (writer_begun a.writer t).begun ≡ b → Taken (Does t) a (task_begun t (writer_begun a.writer t).writer a b)
 unfolding task_begun inactive_results too_long_results
 does_taken t a begun.Going i n e = goes_task (Does t) t a i (λ xs f. f ∙ sym (names_due t n)) (names_single t n) e
 does_taken t a begun.NotActive i n e = said_same (Does t) a (record a { says = inactive_results t }) i refl refl refl (as_many (inactive_results t) (results_due t) (each_length t _))
 does_taken t a (begun.TooLong number) i n e = said_same (Does t) a (record a { says = too_long_results t number }) i refl refl refl (as_many (too_long_results t number) (results_due t) (each_length t _))
 
-late_taken : (k n : ℕ) (o : Option Request) (a : Actor) → Idle a → Taken (DoLate k n) a (copied k n o a)
-unfolding copied
+late_taken : (k n : ℕ) (o : Option Request) (a : Actor) → Idle a → Taken (DoLate k n) a (make_copy k n o a)
+unfolding make_copy
 late_taken k n None a i = said_same (DoLate k n) a (record a { says = late_none ∷ [] }) i refl refl refl (λ xs f. few_more (late_none ∷ []) xs (omega arith) f)
 late_taken k n (Some q) a i = said_same (DoLate k n) a _ i refl refl refl (λ xs f. few_more a.says xs (none_few a.says i.quiet) f)
 
 -- edits that are submitted
 sync_taken : (b : Begun) (es : List EditView) (x : Submission) (h : Holding) (a : Actor) → Idle a → length x.dues ≡ length es → (writer_begun a.writer (task.Log x.bodies)).begun ≡ b
-    → Taken (Submits es) a (sync_begun b (writer_begun a.writer (task.Log x.bodies)).writer x h a)
+    → Taken (Submits es) a (begin_sync b (writer_begun a.writer (task.Log x.bodies)).writer x h a)
 unfolding Begins
 sync_taken begun.Going es x h a i many e = by (begun_turn (task.Log x.bodies) a.writer i.live.course.other)
   where
-    by : Begins (task.Log x.bodies) a.writer (writer_begun a.writer (task.Log x.bodies)) → Taken (Submits es) a (sync_begun begun.Going (writer_begun a.writer (task.Log x.bodies)).writer x h a)
+    by : Begins (task.Log x.bodies) a.writer (writer_begun a.writer (task.Log x.bodies)) → Taken (Submits es) a (begin_sync begun.Going (writer_begun a.writer (task.Log x.bodies)).writer x h a)
     by (inr g) = absurd (g.0 e)
     by (inl g) = record {
-      live = record { holding = working (Logs x.ahead x.dues) h; holds = refl; kind = aim.Log; course = g.1; stage = (refl, g.2, i.quiet, tt) };
-      owes = λ ds texts o. owes_deed (Submits es) a.says (length x.dues) ds texts (λ xs f. omega (arith, length-append a.says xs, ap length i.quiet, f, many)) o;
+      live = record { holding = with_work (Logs x.ahead x.dues) h; holds = refl; kind = aim.Log; course = g.1; stage = (refl, g.2, i.quiet, tt) };
+      owes = λ ds texts o. owes_action (Submits es) a.says (length x.dues) ds texts (λ xs f. omega (arith, length-append a.says xs, ap length i.quiet, f, many)) o;
     }
 sync_taken begun.NotActive es x h a i many e = said_same (Submits es) a _ i refl refl refl (as_many (dues_aborted _ x.dues) (length es) (aborted_length _ x.dues ∙ many))
 sync_taken (begun.TooLong number) es x h a i many e = said_same (Submits es) a _ i refl refl refl (as_many (dues_aborted _ x.dues) (length es) (aborted_length _ x.dues ∙ many))
 
-synced_taken : (bodies : List (List ℕ)) (es : List EditView) (x : Submission) (h : Holding) (a : Actor) → Idle a → length x.dues ≡ length es → Taken (Submits es) a (synced bodies x h a)
+synced_taken : (bodies : List (List ℕ)) (es : List EditView) (x : Submission) (h : Holding) (a : Actor) → Idle a → length x.dues ≡ length es → Taken (Submits es) a (after_sync bodies x h a)
 synced_taken [] es x h a i many = said_same (Submits es) a _ i refl refl refl (as_many (dues_logged 0 x.dues) (length es) (logged_length 0 x.dues ∙ many))
 synced_taken (b ∷ bs) es x h a i many = sync_taken (writer_begun a.writer (task.Log x.bodies)).begun es x h a i many refl
 
 logged_taken : (b : Bool) (es : List EditView) (h : Holding) (a : Actor) → Idle a → Taken (Submits es) a (logged_when b es h a)
 unfolding logged_when
 logged_taken true es h a i =
-    let x : Submission = submitted a.writer es (nothing_submitted h.space) in
+    let x : Submission = submit_edits a.writer es (nothing_submitted h.space) in
     let many : length x.dues ≡ length es = let n = submitted_dues a.writer es (nothing_submitted h.space) in omega (arith, n) in
     synced_taken x.bodies es x h a i many
 logged_taken false es h a i = said_same (Submits es) a _ i refl refl refl (as_many (map _ es) (length es) (length-map es _))
@@ -247,7 +240,7 @@ trim_taken extra false min a i e = said_same (Trims extra) a _ i refl refl refl 
 trim_taken extra true None a i e = said_same (Trims extra) a _ i refl refl refl (as_many (codes "trim noimage" ∷ []) 1 refl)
 trim_taken extra true (Some min) a i e = goes_task (Trims extra) (task.Purge min) a i (λ xs f. f) tt (purge_begins a.writer min e)
 
-unless_taken : (d : Deed) (b : Bool) (c a : Actor) → Idle a → ((xs : List (List ℕ)) → length xs ≡ 1 → AreResultsOf d xs) → Taken d a c → Taken d a (unless_active b c a)
+unless_taken : (d : Action) (b : Bool) (c a : Actor) → Idle a → ((xs : List (List ℕ)) → length xs ≡ 1 → AreResultsOf d xs) → Taken d a c → Taken d a (unless_active b c a)
 unless_taken d true c a i are t = said_same d a _ i refl refl refl (λ xs f. are (_ ∷ xs) (ap suc f))
 unless_taken d false c a i are t = t
 
@@ -255,32 +248,32 @@ tail_taken : (h : Holding) (a : Actor) → Idle a → Taken DoTail a (tail_stepp
 unfolding tail_stepped pass_begun
 tail_taken h a i = record {
   live = record {
-    holding = working (Tails None 1 []) h;
+    holding = with_work (Tails None 1 []) h;
     holds = refl;
     kind = i.live.kind;
     course = i.live.course;
     stage = subst (λ (o : Option Task). Stage i.live.kind a.writer.phase a.says o (Tails None 1 [])) (sym i.none) (i.between, i.quiet);
   };
-  owes = λ ds texts o. owes_deed DoTail a.says 1 ds texts (λ xs f. one_more a.says xs i.quiet f) (subst (λ (t : Option Task). Owes a.says (due_of t (Tails None 1 [])) ds texts) i.none o);
+  owes = λ ds texts o. owes_action DoTail a.says 1 ds texts (λ xs f. one_more a.says xs i.quiet f) (subst (λ (t : Option Task). Owes a.says (due_of t (Tails None 1 [])) ds texts) i.none o);
 }
 
-pub loaded_work : (images : List Image) (h : Holding) → (loaded images h).work ≡ h.work
+pub loaded_work : (images : List Image) (h : Holding) → (load_image images h).work ≡ h.work
 loaded_work [] h = refl
 loaded_work (i ∷ is) h = refl
 
-reloaded_work : (h : Holding) → (reloaded h).work ≡ Free
-unfolding reloaded
+reloaded_work : (h : Holding) → (reload_image h).work ≡ Free
+unfolding reload_image
 reloaded_work h = loaded_work h.images (record h { work = Free })
 
-saved_work : (h : Holding) → (saved h).work ≡ h.work
-unfolding saved
+saved_work : (h : Holding) → (save_image h).work ≡ h.work
+unfolding save_image
 saved_work h = refl
 
 held_work : (h z : Holding) (o : Option Holding) → o ≡ Some h → o ≡ Some z → h.work ≡ z.work
 held_work h z o e f = let same : h ≡ z = cc (e, f) in ap (λ (x : Holding). x.work) same
 
--- a deed of an actor that holds a namespace
-abbrev IsHeld : Deed → Type 0
+-- an action of an actor that holds a namespace
+abbrev IsHeld : Action → Type 0
 IsHeld (Submits es) = Unit {0}
 IsHeld (Trims extra) = Unit {0}
 IsHeld DoTail = Unit {0}
@@ -291,8 +284,8 @@ IsHeld _ = ⊥
 no_holding : {A : Type 0} (a : Actor) → Idle a → a.holds ≡ None → A
 no_holding a i e = absurd (cc (e, i.live.holds))
 
-held_taken : (d : Deed) (o : Option Holding) (a : Actor) → IsHeld d → a.holds ≡ o → Idle a → Taken d a (held_deed d o a)
-unfolding held_deed
+held_taken : (d : Action) (o : Option Holding) (a : Actor) → IsHeld d → a.holds ≡ o → Idle a → Taken d a (take_named_action d o a)
+unfolding take_named_action
 held_taken (Does t) o a is e i = absurd is
 held_taken (DoDrop k n) o a is e i = absurd is
 held_taken (DoMute k n) o a is e i = absurd is
@@ -305,25 +298,25 @@ held_taken DoTail None a is e i = no_holding a i e
 held_taken DoTail (Some h) a is e i = unless_taken DoTail (is_writing a.writer.phase) (tail_stepped None (pass_begun None h) a) a i (λ xs f. f) (tail_taken h a i)
 held_taken Saves None a is e i = no_holding a i e
 held_taken Saves (Some h) a is e i =
-    unless_taken Saves (is_writing a.writer.phase) (saving h a) a i (λ xs f. f)
-    (said Saves a (saving h a) i (saved h) refl (saved_work h ∙ held_work h i.live.holding a.holds e i.live.holds ∙ i.free) refl i.none (as_many (saving h a).says 1 refl))
+    unless_taken Saves (is_writing a.writer.phase) (begin_save h a) a i (λ xs f. f)
+    (said Saves a (begin_save h a) i (save_image h) refl (saved_work h ∙ held_work h i.live.holding a.holds e i.live.holds ∙ i.free) refl i.none (as_many (begin_save h a).says 1 refl))
 held_taken Reloads None a is e i = no_holding a i e
 held_taken Reloads (Some h) a is e i =
-    unless_taken Reloads (is_writing a.writer.phase) (reloading h a) a i (λ xs f. f) (said Reloads a (reloading h a) i (reloaded h) refl (reloaded_work h) refl i.none (as_many (reloading h a).says 1 refl))
+    unless_taken Reloads (is_writing a.writer.phase) (begin_reload h a) a i (λ xs f. f) (said Reloads a (begin_reload h a) i (reload_image h) refl (reloaded_work h) refl i.none (as_many (begin_reload h a).says 1 refl))
 
-deed_taken_so : (d : Deed) (a : Actor) → IsDeed true d → Idle a → Taken d a (deed_taken d a)
-unfolding deed_taken
-deed_taken_so (Does t) a d i = does_taken t a (writer_begun a.writer t).begun i d refl
-deed_taken_so (DoDrop k n) a d i = said_same (DoDrop k n) a _ i refl refl refl (λ xs f. none_more a.says xs i.quiet f)
-deed_taken_so (DoMute k n) a d i = said_same (DoMute k n) a _ i refl refl refl (λ xs f. none_more a.says xs i.quiet f)
-deed_taken_so (DoLate k n) a d i = late_taken k n _ a i
-deed_taken_so (Submits es) a d i = held_taken (Submits es) a.holds a tt refl i
-deed_taken_so (Trims extra) a d i = held_taken (Trims extra) a.holds a tt refl i
-deed_taken_so DoTail a d i = held_taken DoTail a.holds a tt refl i
-deed_taken_so Saves a d i = held_taken Saves a.holds a tt refl i
-deed_taken_so Reloads a d i = held_taken Reloads a.holds a tt refl i
+action_taken_so : (d : Action) (a : Actor) → IsAction true d → Idle a → Taken d a (take_action d a)
+unfolding take_action
+action_taken_so (Does t) a d i = does_taken t a (writer_begun a.writer t).begun i d refl
+action_taken_so (DoDrop k n) a d i = said_same (DoDrop k n) a _ i refl refl refl (λ xs f. none_more a.says xs i.quiet f)
+action_taken_so (DoMute k n) a d i = said_same (DoMute k n) a _ i refl refl refl (λ xs f. none_more a.says xs i.quiet f)
+action_taken_so (DoLate k n) a d i = late_taken k n _ a i
+action_taken_so (Submits es) a d i = held_taken (Submits es) a.holds a tt refl i
+action_taken_so (Trims extra) a d i = held_taken (Trims extra) a.holds a tt refl i
+action_taken_so DoTail a d i = held_taken DoTail a.holds a tt refl i
+action_taken_so Saves a d i = held_taken Saves a.holds a tt refl i
+action_taken_so Reloads a d i = held_taken Reloads a.holds a tt refl i
 
--- ## Deeds that are taken
+-- ## Actions that are taken
 stage_idle : (k : Aim) (says : List (List ℕ)) (o : Option Task) (x : Work) (t : ℕ) (w : WriterView) → Stage k w.phase says o x → Course k w → is_wanting (work_read x t (call_wanted (next_call w))) ≡ false
     → (x ≡ Free) × (o ≡ None) × IsBetween w.phase
 unfolding is_wanting
@@ -358,50 +351,50 @@ live_whole : (a : Actor) → Live a → is_broken a ≡ false
 unfolding is_broken
 live_whole a l = ap is_broken_holding l.holds ∙ whole_work l.kind a.writer.phase a.says a.doing l.holding.work l.stage
 
-record Settled (ds : List Deed) (a : Actor) (l : Live a) (b : Actor) : Type 0 where
+record Settled (ds : List Action) (a : Actor) (l : Live a) (b : Actor) : Type 0 where
   live : Live b
-  deeds : AreDeeds true b.todo
+  actions : AreActions true b.todo
   owes : (texts : List (List ℕ)) → OwesBy b live b.todo texts → OwesBy a l ds texts
   done : is_wanting (wants b) ≡ false → b.todo ≡ []
 
-with_todo : (a : Actor) (ds : List Deed) → Live a → Live (record a { todo = ds })
+with_todo : (a : Actor) (ds : List Action) → Live a → Live (record a { todo = ds })
 with_todo a ds l = record { holding = l.holding; holds = l.holds; kind = l.kind; course = l.course; stage = l.stage }
 
-idle_owes : (a : Actor) (l : Live a) (i : Idle a) (ds : List Deed) (texts : List (List ℕ)) → l.holding.work ≡ Free → Owes [] 0 ds texts → OwesBy a l ds texts
+idle_owes : (a : Actor) (l : Live a) (i : Idle a) (ds : List Action) (texts : List (List ℕ)) → l.holding.work ≡ Free → Owes [] 0 ds texts → OwesBy a l ds texts
 idle_owes a l i ds texts free h =
     subst (λ (s : List (List ℕ)). Owes s (due_of a.doing l.holding.work) ds texts) (sym i.quiet) (subst (λ (n : ℕ). Owes [] n ds texts) (sym (free_due a.doing l.holding.work i.none free)) h)
 
-settled_so : (ds : List Deed) (a : Actor) (l : Live a) → AreDeeds true ds → Settled ds a l (settled ds a)
-unfolding settled AreDeeds with_todo
-settled_so [] a l d = record { live = with_todo a [] l; deeds = tt; owes = λ texts o. o; done = λ e. refl }
-settled_so (d ∷ ds) a l e = by (is_wanting (wants a) || is_broken a) refl (λ g. settled_so ds (deed_taken d a) g e.1)
+settled_so : (ds : List Action) (a : Actor) (l : Live a) → AreActions true ds → Settled ds a l (settle ds a)
+unfolding settle AreActions with_todo
+settled_so [] a l d = record { live = with_todo a [] l; actions = tt; owes = λ texts o. o; done = λ e. refl }
+settled_so (d ∷ ds) a l e = by (is_wanting (wants a) || is_broken a) refl (λ g. settled_so ds (take_action d a) g e.1)
   where
-    by : (b : Bool) → (is_wanting (wants a) || is_broken a) ≡ b → ((g : Live (deed_taken d a)) → Settled ds (deed_taken d a) g (settled ds (deed_taken d a)))
-        → Settled (d ∷ ds) a l (cond b (record a { todo = while_wanting (is_wanting (wants a)) (d ∷ ds) }) (settled ds (deed_taken d a)))
+    by : (b : Bool) → (is_wanting (wants a) || is_broken a) ≡ b → ((g : Live (take_action d a)) → Settled ds (take_action d a) g (settle ds (take_action d a)))
+        → Settled (d ∷ ds) a l (cond b (record a { todo = while_wanting (is_wanting (wants a)) (d ∷ ds) }) (settle ds (take_action d a)))
     by true is go =
         let at_work : is_wanting (wants a) ≡ true = either_wants (is_wanting (wants a)) (is_broken a) is (live_whole a l) in
-        subst (λ (ts : List Deed). Settled (d ∷ ds) a l (record a { todo = ts })) (sym (waiting a (d ∷ ds) at_work)) (record {
+        subst (λ (ts : List Action). Settled (d ∷ ds) a l (record a { todo = ts })) (sym (waiting a (d ∷ ds) at_work)) (record {
           live = with_todo a (d ∷ ds) l;
-          deeds = e;
+          actions = e;
           owes = λ texts o. o;
           done = λ f. absurd (cc (at_work, ap is_wanting (sym (todo_wants a (d ∷ ds))) ∙ f));
         })
     by false is go =
         let i : Idle a = idle_of a l (or_false (is_wanting (wants a)) (is_broken a) is) in
-        let t : Taken d a (deed_taken d a) = deed_taken_so d a e.0 i in
-        let s : Settled ds (deed_taken d a) t.live (settled ds (deed_taken d a)) = go t.live in
-        record { live = s.live; deeds = s.deeds; owes = λ texts o. idle_owes a l i (d ∷ ds) texts (held_work l.holding i.live.holding a.holds l.holds i.live.holds ∙ i.free) (t.owes ds texts (s.owes texts o)); done = s.done }
+        let t : Taken d a (take_action d a) = action_taken_so d a e.0 i in
+        let s : Settled ds (take_action d a) t.live (settle ds (take_action d a)) = go t.live in
+        record { live = s.live; actions = s.actions; owes = λ texts o. idle_owes a l i (d ∷ ds) texts (held_work l.holding i.live.holding a.holds l.holds i.live.holds ∙ i.free) (t.owes ds texts (s.owes texts o)); done = s.done }
 
 -- ## A line of the record
 -- an actor that is broken, or goes on with what it owes
 record Next (n : ℕ) (b : Actor) : Type 0 where
   live : Live b
-  owes : (todo : List Deed) (texts : List (List ℕ)) → OwesBy b live todo texts → Owes [] n todo texts
+  owes : (todo : List Action) (texts : List (List ℕ)) → OwesBy b live todo texts → Owes [] n todo texts
 
 abbrev Moved : ℕ → Actor → Type 0
 Moved n b = (is_broken b ≡ true) ⊎ Next n b
 
-owes_more : (says : List (List ℕ)) (m n : ℕ) (todo : List Deed) (texts : List (List ℕ)) → length says + m ≡ n → Owes says m todo texts → Owes [] n todo texts
+owes_more : (says : List (List ℕ)) (m n : ℕ) (todo : List Action) (texts : List (List ℕ)) → length says + m ≡ n → Owes says m todo texts → Owes [] n todo texts
 owes_more says m n todo texts e h = record {
   due = says ++ h.due;
   rest = h.rest;
@@ -449,7 +442,7 @@ pass_shape : (until : Option ℕ) (h : Holding) → Shape (pass_begun until h)
 unfolding pass_begun
 pass_shape until h = by (is_until until h.position)
   where
-    by : (b : Bool) → Shape (cond b (Ends Reached (working Free h)) (GoesOn (working (Tails until 1 []) h)))
+    by : (b : Bool) → Shape (cond b (Ends Reached (with_work Free h)) (GoesOn (with_work (Tails until 1 []) h)))
     by true = refl
     by false = (until, 1, [], refl)
 
@@ -460,7 +453,7 @@ applied_shape until (BadEntry s t) h = refl
 none_shape : (m : ℕ) (until : Option ℕ) (node : ℕ) (heard : List Heard) (h : Holding) → Shape (no_edits m until node heard h)
 none_shape m until node heard h = by (nat_lt node m)
   where
-    by : (b : Bool) → Shape (cond b (GoesOn (working (Tails until (node + 1) heard) h)) (Ends (pass_end until heard) (working Free h)))
+    by : (b : Bool) → Shape (cond b (GoesOn (with_work (Tails until (node + 1) heard) h)) (Ends (pass_end until heard) (with_work Free h)))
     by true = (until, node + 1, heard, refl)
     by false = refl
 
@@ -538,7 +531,7 @@ single_turn : (t : Task) (u : Turn) (h : Holding) (a : Actor) (k : Aim) → Sing
 unfolding held_turn
 single_turn t turn.Going h a k s e f o off is = absurd (off refl)
 single_turn t (turn.Done x) h a k s e f o off is = single_done t x h a k s (subst (λ (z : Aim). IsOf z x) (sym e) is.0) f o.0 o.1 o.2 o.3 is.1
-single_turn t turn.Aborted h a k s e f o off is = inr (says_next 1 _ (reloaded h) k refl (reloaded_work h) o.1 o.3 is (single_aborted t a.writer.causes h.work s f))
+single_turn t turn.Aborted h a k s e f o off is = inr (says_next 1 _ (reload_image h) k refl (reloaded_work h) o.1 o.3 is (single_aborted t a.writer.causes h.work s f))
 single_turn t (turn.EpochLimit m) h a k s e f o off is = inr (says_next 1 _ h k o.0 f o.1 o.3 is.1 refl)
 
 log_done : (t : Task) (x : TaskOutcome) (h : Holding) (ahead : Space) (dues : List Due) (a : Actor) (k : Aim) → IsLog t → IsOf (aim_of t) x → h.work ≡ Logs ahead dues → Over a h k → IsBetween a.writer.phase → Moved (length dues) (task_done x t h a)
@@ -568,7 +561,7 @@ unfolding held_turn
 log_turn t turn.Going h ahead dues a k s e f o off is = absurd (off refl)
 log_turn t (turn.Done x) h ahead dues a k s e f o off is = log_done t x h ahead dues a k s (subst (λ (z : Aim). IsOf z x) (sym e) is.0) f o is.1
 log_turn t turn.Aborted h ahead dues a k s e f o off is =
-    inr (says_next (length dues) _ (reloaded h) k refl (reloaded_work h) o.1 o.3 is (ap (λ (w : Work). length (aborted_texts w t a.writer.causes)) f ∙ aborted_length (abort_text a.writer.causes) dues))
+    inr (says_next (length dues) _ (reload_image h) k refl (reloaded_work h) o.1 o.3 is (ap (λ (w : Work). length (aborted_texts w t a.writer.causes)) f ∙ aborted_length (abort_text a.writer.causes) dues))
 log_turn t (turn.EpochLimit m) h ahead dues a k s e f o off is = absurd (log_limit_apart t k s e is.0)
 
 -- a task goes on
@@ -592,7 +585,7 @@ told_of_call a node q t = record a { past = a.past ++ Call node q t ∷ []; writ
 single_moves : (a : Actor) (node : ℕ) (q : Request) (t : Told) (s : Task) (h : Holding) (k : Aim) → a.holds ≡ Some h → h.work ≡ Free → a.doing ≡ Some s → Course k a.writer → Stage k a.writer.phase a.says (Some s) Free
     → Moved 1 (turn_taken (writer_heard a.writer node (heard_of t)).turn (Some s) (told_of_call a node q t))
 single_moves a node q t s h k e f d c g =
-    let j : Judged = writer_heard a.writer node (heard_of t) in
+    let j : Judgment = writer_heard a.writer node (heard_of t) in
     let x : Turned k j = heard_turn k a.writer node (heard_of t) c g.1 in
     turn_moves 1 s j.turn h (told_of_call a node q t) e
     (λ u. inr (going_next (told_of_call a node q t) s h k 1 e d g.2 x.course
@@ -602,7 +595,7 @@ single_moves a node q t s h k e f d c g =
 log_moves : (a : Actor) (node : ℕ) (q : Request) (t : Told) (s : Task) (h : Holding) (ahead : Space) (dues : List Due) (k : Aim) → a.holds ≡ Some h → h.work ≡ Logs ahead dues → a.doing ≡ Some s → Course k a.writer
     → Stage k a.writer.phase a.says (Some s) (Logs ahead dues) → Moved (length dues) (turn_taken (writer_heard a.writer node (heard_of t)).turn (Some s) (told_of_call a node q t))
 log_moves a node q t s h ahead dues k e f d c g =
-    let j : Judged = writer_heard a.writer node (heard_of t) in
+    let j : Judgment = writer_heard a.writer node (heard_of t) in
     let x : Turned k j = heard_turn k a.writer node (heard_of t) c g.1 in
     turn_moves (length dues) s j.turn h (told_of_call a node q t) e
     (λ u. inr (going_next (told_of_call a node q t) s h k (length dues) e d g.2 x.course
@@ -648,7 +641,7 @@ said_stage k p says rest x (Some t) (Tails until node heard) e s = s
 said_stage k p says rest x (Some t) (Logs ahead dues) e s = absurd (cc (e, s.2))
 said_stage k p says rest x (Some t) Broken e s = s
 
-said_owes : (says rest : List (List ℕ)) (x : List ℕ) (n : ℕ) (todo : List Deed) (texts : List (List ℕ)) → says ≡ x ∷ rest → Owes (drop 1 says) n todo texts → Owes says n todo (x ∷ texts)
+said_owes : (says rest : List (List ℕ)) (x : List ℕ) (n : ℕ) (todo : List Action) (texts : List (List ℕ)) → says ≡ x ∷ rest → Owes (drop 1 says) n todo texts → Owes says n todo (x ∷ texts)
 said_owes says rest x n todo texts e h = record {
   due = h.due;
   rest = h.rest;
@@ -688,14 +681,14 @@ broken_by true c x y e h = h
 broken_by false true x y e h = h
 broken_by false false x y e h = absurd (cc e)
 
-broken_todo : (a : Actor) (x : List Deed) → is_broken (record a { todo = x }) ≡ is_broken a
+broken_todo : (a : Actor) (x : List Action) → is_broken (record a { todo = x }) ≡ is_broken a
 unfolding is_broken
 broken_todo a x = refl
 
-broken_settled : (ds : List Deed) (a : Actor) → is_broken a ≡ true → is_broken (settled ds a) ≡ true
-unfolding settled
+broken_settled : (ds : List Action) (a : Actor) → is_broken a ≡ true → is_broken (settle ds a) ≡ true
+unfolding settle
 broken_settled [] a e = broken_todo a [] ∙ e
-broken_settled (d ∷ ds) a e = broken_by (is_wanting (wants a)) (is_broken a) (record a { todo = while_wanting (is_wanting (wants a)) (d ∷ ds) }) (settled ds (deed_taken d a)) e
+broken_settled (d ∷ ds) a e = broken_by (is_wanting (wants a)) (is_broken a) (record a { todo = while_wanting (is_wanting (wants a)) (d ∷ ds) }) (settle ds (take_action d a)) e
     (broken_todo a (while_wanting (is_wanting (wants a)) (d ∷ ds)) ∙ e)
 
 never_first : (a : Actor) (rs : List Record) → NeverBroken a rs → is_broken a ≡ false
@@ -703,46 +696,46 @@ unfolding NeverBroken
 never_first a [] h = h
 never_first a (r ∷ rs) h = h.0
 
-nothing_due : (todo : List Deed) → todo ≡ [] → Owes [] 0 todo []
+nothing_due : (todo : List Action) → todo ≡ [] → Owes [] 0 todo []
 unfolding AreResults
-nothing_due todo e = record { due = []; rest = []; all = refl; count = refl; are_results = subst (λ (ds : List Deed). AreResults ds []) (sym e) refl }
+nothing_due todo e = record { due = []; rest = []; all = refl; count = refl; are_results = subst (λ (ds : List Action). AreResults ds []) (sym e) refl }
 
 -- the actor once it has heard a line
 abbrev after_line : Record → Actor → Actor
 after_line r a = moved_on r (record a { past = a.past ++ r ∷ [] })
 
-line_owes : (r : Record) (rs : List Record) (a : Actor) (l : Live a) → AreDeeds true a.todo → NeverBroken (settled (after_line r a).todo (after_line r a)) rs
-    → ((z : Live (settled (after_line r a).todo (after_line r a))) → AreDeeds true (settled (after_line r a).todo (after_line r a)).todo
-    → (is_wanting (wants (settled (after_line r a).todo (after_line r a))) ≡ false → (settled (after_line r a).todo (after_line r a)).todo ≡ [])
-    → OwesBy (settled (after_line r a).todo (after_line r a)) z (settled (after_line r a).todo (after_line r a)).todo (results_in rs))
+line_owes : (r : Record) (rs : List Record) (a : Actor) (l : Live a) → AreActions true a.todo → NeverBroken (settle (after_line r a).todo (after_line r a)) rs
+    → ((z : Live (settle (after_line r a).todo (after_line r a))) → AreActions true (settle (after_line r a).todo (after_line r a)).todo
+    → (is_wanting (wants (settle (after_line r a).todo (after_line r a))) ≡ false → (settle (after_line r a).todo (after_line r a)).todo ≡ [])
+    → OwesBy (settle (after_line r a).todo (after_line r a)) z (settle (after_line r a).todo (after_line r a)).todo (results_in rs))
     → (is_broken (after_line r a) ≡ true) ⊎ LineSaid r a l (after_line r a) → OwesBy a l a.todo (results_in (r ∷ rs))
 line_owes r rs a l d whole go (inl broken) =
     let b : Actor = after_line r a in
-    absurd (cc (broken_settled b.todo b broken, never_first (settled b.todo b) rs whole))
+    absurd (cc (broken_settled b.todo b broken, never_first (settle b.todo b) rs whole))
 line_owes r rs a l d whole go (inr x) =
     let b : Actor = after_line r a in
     let same : b.todo ≡ a.todo = (moved_keeps r (record a { past = a.past ++ r ∷ [] })).0 in
-    let s : Settled b.todo b x.live (settled b.todo b) = settled_so b.todo b x.live (subst (AreDeeds true) (sym same) d) in
-    x.owes rs (subst (λ (ds : List Deed). OwesBy b x.live ds (results_in rs)) same (s.owes (results_in rs) (go s.live s.deeds s.done)))
+    let s : Settled b.todo b x.live (settle b.todo b) = settled_so b.todo b x.live (subst (AreActions true) (sym same) d) in
+    x.owes rs (subst (λ (ds : List Action). OwesBy b x.live ds (results_in rs)) same (s.owes (results_in rs) (go s.live s.actions s.done)))
 
-led_owes : (rs : List Record) (a : Actor) (l : Live a) → AreDeeds true a.todo → (is_wanting (wants a) ≡ false → a.todo ≡ []) → IsLed a rs → NeverBroken a rs → wants (actor_after a rs) ≡ Rests → OwesBy a l a.todo (results_in rs)
-unfolding IsLed actor_after results_in NeverBroken goes_on resettled
+led_owes : (rs : List Record) (a : Actor) (l : Live a) → AreActions true a.todo → (is_wanting (wants a) ≡ false → a.todo ≡ []) → IsLed a rs → NeverBroken a rs → wants (actor_after a rs) ≡ Rests → OwesBy a l a.todo (results_in rs)
+unfolding IsLed actor_after results_in NeverBroken goes_on settle_again
 led_owes [] a l d done h whole e =
     let off : is_wanting (wants a) ≡ false = rests_is (wants a) e in
     let i : Idle a = idle_of a l off in
     idle_owes a l i a.todo [] (held_work l.holding i.live.holding a.holds l.holds i.live.holds ∙ i.free) (nothing_due a.todo (done off))
 led_owes (r ∷ rs) a l d done h whole e =
-    line_owes r rs a l d whole.1 (λ z ds over. led_owes rs (settled (moved_on r (record a { past = a.past ++ r ∷ [] })).todo (moved_on r (record a { past = a.past ++ r ∷ [] }))) z ds over h.1 whole.1 e) (line_said r a l h.0)
+    line_owes r rs a l d whole.1 (λ z ds over. led_owes rs (settle (moved_on r (record a { past = a.past ++ r ∷ [] })).todo (moved_on r (record a { past = a.past ++ r ∷ [] }))) z ds over h.1 whole.1 e) (line_said r a l h.0)
 
 fresh_live : (n : ℕ) → 1 ≤ n → Live (fresh_actor true n)
 unfolding fresh_actor
 fresh_live n h = record { holding = new_holding; holds = refl; kind = aim.Takeover; course = new_course n h; stage = tt }
 
-pub each_named_result : (n : ℕ) (ds : List Deed) (rs : List Record) → 1 ≤ n → AreDeeds true ds → IsLed (settled ds (fresh_actor true n)) rs → NeverBroken (settled ds (fresh_actor true n)) rs
-    → wants (actor_after (settled ds (fresh_actor true n)) rs) ≡ Rests → AreResults ds (results_in rs)
+pub each_named_result : (n : ℕ) (ds : List Action) (rs : List Record) → 1 ≤ n → AreActions true ds → IsLed (settle ds (fresh_actor true n)) rs → NeverBroken (settle ds (fresh_actor true n)) rs
+    → wants (actor_after (settle ds (fresh_actor true n)) rs) ≡ Rests → AreResults ds (results_in rs)
 unfolding fresh_actor fresh_live
 each_named_result n ds rs h d led whole e =
     let new : Actor = fresh_actor true n in
-    let s : Settled ds new (fresh_live n h) (settled ds new) = settled_so ds new (fresh_live n h) d in
-    let o : Owes [] 0 ds (results_in rs) = s.owes (results_in rs) (led_owes rs (settled ds new) s.live s.deeds s.done led whole e) in
+    let s : Settled ds new (fresh_live n h) (settle ds new) = settled_so ds new (fresh_live n h) d in
+    let o : Owes [] 0 ds (results_in rs) = s.owes (results_in rs) (led_owes rs (settle ds new) s.live s.actions s.done led whole e) in
     subst (AreResults ds) (sym (o.all ∙ ap (λ (x : List (List ℕ)). x ++ o.rest) (nil_from_length o.due o.count))) o.are_results

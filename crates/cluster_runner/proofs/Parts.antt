@@ -9,51 +9,51 @@ use Rattle.node_history.specs.declared.record.Record.{Record}
 use Rattle.node_history.specs.Cell.{Cell, fresh_cell, cell_takes, IsLocalRun, cell_after}
 use Rattle.node_history.specs.Moving.{Placed}
 use Rattle.mesh.specs.Matches.{IsWithin}
-use Rattle.script_actor.specs.Lines.{Deed, Line, Declares, Acts, Operates, deeds_of, IsDeed, AreDeeds, HasNodes}
-use Rattle.script_actor.specs.Actor.{Actor, fresh_actor, settled, handed, wants, goes_on, Fits, actor_after, IsLed}
+use Rattle.script_actor.specs.Lines.{Action, Line, Declares, Acts, Operates, actions_of, IsAction, AreActions, HasNodes}
+use Rattle.script_actor.specs.Actor.{Actor, fresh_actor, settle, hand_action, wants, goes_on, Fits, actor_after, IsLed}
 use Rattle.cluster_runner.specs.Plays.{history_of}
 use Rattle.mesh.proofs.Lists.{cond_true, cond_false, Alike, alike, append_none}
 use Rattle.cluster_runner.proofs.Led.{led_snoc, after_snoc, settled_more, handed_after, handed_led}
 use Rattle.cluster_runner.proofs.Goes.{IsTold}
-use Rattle.cluster_runner.proofs.Sound.{Sound, deeds_snoc, goes_past, goes_sound, handed_past, handed_sound, fresh_sound}
+use Rattle.cluster_runner.proofs.Sound.{Sound, actions_snoc, goes_past, goes_sound, handed_past, handed_sound, fresh_sound}
 use Rattle.mesh.proofs.Tied.{history_at, history_off, local_snoc, cell_snoc}
 
 -- ## An actor
-pub record ActorOk (named : Bool) (n : ℕ) (ds : List Deed) (a : Actor) : Type 0 where
-  pub led : IsLed (settled ds (fresh_actor named n)) a.past
-  pub is : actor_after (settled ds (fresh_actor named n)) a.past ≡ a
+pub record ActorOk (named : Bool) (n : ℕ) (ds : List Action) (a : Actor) : Type 0 where
+  pub led : IsLed (settle ds (fresh_actor named n)) a.past
+  pub is : actor_after (settle ds (fresh_actor named n)) a.past ≡ a
   pub sound : Sound named n a
-  pub deeds : AreDeeds named ds
+  pub actions : AreActions named ds
 
-ok_more : (named : Bool) (n : ℕ) (ds : List Deed) (a : Actor) (r : Record) → ActorOk named n ds a → Fits (wants a) r → IsTold a r → IsWithin n r → ActorOk named n ds (goes_on a r)
+ok_more : (named : Bool) (n : ℕ) (ds : List Action) (a : Actor) (r : Record) → ActorOk named n ds a → Fits (wants a) r → IsTold a r → IsWithin n r → ActorOk named n ds (goes_on a r)
 ok_more named n ds a r ok f t w = record {
-  led = subst (λ (l : List Record). IsLed (settled ds (fresh_actor named n)) l) (sym (goes_past a r))
-      (led_snoc (settled ds (fresh_actor named n)) a.past r ok.led (subst (λ (b : Actor). Fits (wants b) r) (sym ok.is) f));
-  is = ap (actor_after (settled ds (fresh_actor named n))) (goes_past a r) ∙ (after_snoc (settled ds (fresh_actor named n)) a.past r ∙ ap (λ (b : Actor). goes_on b r) ok.is);
+  led = subst (λ (l : List Record). IsLed (settle ds (fresh_actor named n)) l) (sym (goes_past a r))
+      (led_snoc (settle ds (fresh_actor named n)) a.past r ok.led (subst (λ (b : Actor). Fits (wants b) r) (sym ok.is) f));
+  is = ap (actor_after (settle ds (fresh_actor named n))) (goes_past a r) ∙ (after_snoc (settle ds (fresh_actor named n)) a.past r ∙ ap (λ (b : Actor). goes_on b r) ok.is);
   sound = goes_sound named n a r f t w ok.sound;
-  deeds = ok.deeds;
+  actions = ok.actions;
 }
 
-ok_handed : (named : Bool) (n : ℕ) (ds : List Deed) (a : Actor) (e : Deed) → IsDeed named e → ActorOk named n ds a → ActorOk named n (ds ++ e ∷ []) (handed e a)
+ok_handed : (named : Bool) (n : ℕ) (ds : List Action) (a : Actor) (e : Action) → IsAction named e → ActorOk named n ds a → ActorOk named n (ds ++ e ∷ []) (hand_action e a)
 ok_handed named n ds a e d ok =
-    let same : settled (ds ++ e ∷ []) (fresh_actor named n) ≡ handed e (settled ds (fresh_actor named n)) = settled_more ds (fresh_actor named n) e in
+    let same : settle (ds ++ e ∷ []) (fresh_actor named n) ≡ hand_action e (settle ds (fresh_actor named n)) = settled_more ds (fresh_actor named n) e in
     record {
-      led = subst (λ (l : List Record). IsLed (settled (ds ++ e ∷ []) (fresh_actor named n)) l) (sym (handed_past e a))
-          (subst (λ (b : Actor). IsLed b a.past) (sym same) (handed_led (settled ds (fresh_actor named n)) a.past e ok.led));
-      is = ap (actor_after (settled (ds ++ e ∷ []) (fresh_actor named n))) (handed_past e a)
-          ∙ (ap (λ (b : Actor). actor_after b a.past) same ∙ (handed_after (settled ds (fresh_actor named n)) a.past e ok.led ∙ ap (handed e) ok.is));
+      led = subst (λ (l : List Record). IsLed (settle (ds ++ e ∷ []) (fresh_actor named n)) l) (sym (handed_past e a))
+          (subst (λ (b : Actor). IsLed b a.past) (sym same) (handed_led (settle ds (fresh_actor named n)) a.past e ok.led));
+      is = ap (actor_after (settle (ds ++ e ∷ []) (fresh_actor named n))) (handed_past e a)
+          ∙ (ap (λ (b : Actor). actor_after b a.past) same ∙ (handed_after (settle ds (fresh_actor named n)) a.past e ok.led ∙ ap (hand_action e) ok.is));
       sound = handed_sound named n e a d ok.sound;
-      deeds = deeds_snoc named ds e ok.deeds d;
+      actions = actions_snoc named ds e ok.actions d;
     }
 
 ok_fresh : (named : Bool) (n : ℕ) → HasNodes named n → ActorOk named n [] (fresh_actor named n)
-unfolding IsLed actor_after settled fresh_actor AreDeeds
-ok_fresh named n some = record { led = tt; is = refl; sound = fresh_sound named n some; deeds = tt }
+unfolding IsLed actor_after settle fresh_actor AreActions
+ok_fresh named n some = record { led = tt; is = refl; sound = fresh_sound named n some; actions = tt }
 
 -- ## All actors
 pub record Actors (named : Bool) (n : ℕ) (taken : List Line) (as_ : List Actor) : Type 0 where
-  pub each : (c : ℕ) → c < length as_ → ActorOk named n (deeds_of c taken) (get_or as_ c (fresh_actor named n))
-  pub none : (c : ℕ) → length as_ ≤ c → deeds_of c taken ≡ []
+  pub each : (c : ℕ) → c < length as_ → ActorOk named n (actions_of c taken) (get_or as_ c (fresh_actor named n))
+  pub none : (c : ℕ) → length as_ ≤ c → actions_of c taken ≡ []
 
 pub actors_noted : (named : Bool) (n : ℕ) (taken : List Line) (as_ : List Actor) (a : ℕ) (r : Record) → Actors named n taken as_ → a < length as_
     → Fits (wants (get_or as_ a (fresh_actor named n))) r → IsTold (get_or as_ a (fresh_actor named n)) r → IsWithin n r
@@ -64,84 +64,84 @@ actors_noted named n taken as_ a r h in_ f t w = record {
   none = λ c above. h.none c (subst (λ (x : ℕ). x ≤ c) (length-set as_ a _) above);
 }
   where
-    each : (c : ℕ) → c < length as_ → Alike c a → ActorOk named n (deeds_of c taken) (get_or (set as_ a (goes_on (get_or as_ a (fresh_actor named n)) r)) c (fresh_actor named n))
-    each c below (inl e) = subst (λ (x : ℕ). ActorOk named n (deeds_of x taken) (get_or (set as_ a (goes_on (get_or as_ a (fresh_actor named n)) r)) x (fresh_actor named n))) (sym e.1)
-        (subst (λ (b : Actor). ActorOk named n (deeds_of a taken) b) (sym (get_or-set_same as_ a (goes_on (get_or as_ a (fresh_actor named n)) r) (fresh_actor named n) in_))
-        (ok_more named n (deeds_of a taken) (get_or as_ a (fresh_actor named n)) r (h.each a in_) f t w))
-    each c below (inr e) = subst (λ (b : Actor). ActorOk named n (deeds_of c taken) b) (sym (get_or-set_other as_ a c (goes_on (get_or as_ a (fresh_actor named n)) r) (fresh_actor named n) e.1)) (h.each c below)
+    each : (c : ℕ) → c < length as_ → Alike c a → ActorOk named n (actions_of c taken) (get_or (set as_ a (goes_on (get_or as_ a (fresh_actor named n)) r)) c (fresh_actor named n))
+    each c below (inl e) = subst (λ (x : ℕ). ActorOk named n (actions_of x taken) (get_or (set as_ a (goes_on (get_or as_ a (fresh_actor named n)) r)) x (fresh_actor named n))) (sym e.1)
+        (subst (λ (b : Actor). ActorOk named n (actions_of a taken) b) (sym (get_or-set_same as_ a (goes_on (get_or as_ a (fresh_actor named n)) r) (fresh_actor named n) in_))
+        (ok_more named n (actions_of a taken) (get_or as_ a (fresh_actor named n)) r (h.each a in_) f t w))
+    each c below (inr e) = subst (λ (b : Actor). ActorOk named n (actions_of c taken) b) (sym (get_or-set_other as_ a c (goes_on (get_or as_ a (fresh_actor named n)) r) (fresh_actor named n) e.1)) (h.each c below)
 
-deeds_acted : (c a : ℕ) (d : Deed) (ls : List Line) → deeds_of c (ls ++ Acts a d ∷ []) ≡ cond (a == c) (deeds_of c ls ++ d ∷ []) (deeds_of c ls)
-unfolding deeds_of
-deeds_acted c a d [] = refl
-deeds_acted c a d (Declares x ∷ ls) = deeds_acted c a d ls
-deeds_acted c a d (Operates k ask ∷ ls) = deeds_acted c a d ls
-deeds_acted c a d (Acts b e ∷ ls) = by (b == c) (a == c) (deeds_acted c a d ls)
+actions_acted : (c a : ℕ) (d : Action) (ls : List Line) → actions_of c (ls ++ Acts a d ∷ []) ≡ cond (a == c) (actions_of c ls ++ d ∷ []) (actions_of c ls)
+unfolding actions_of
+actions_acted c a d [] = refl
+actions_acted c a d (Declares x ∷ ls) = actions_acted c a d ls
+actions_acted c a d (Operates k ask ∷ ls) = actions_acted c a d ls
+actions_acted c a d (Acts b e ∷ ls) = by (b == c) (a == c) (actions_acted c a d ls)
   where
-    by : (x y : Bool) → deeds_of c (ls ++ Acts a d ∷ []) ≡ cond y (deeds_of c ls ++ d ∷ []) (deeds_of c ls)
-        → cond x (e ∷ deeds_of c (ls ++ Acts a d ∷ [])) (deeds_of c (ls ++ Acts a d ∷ [])) ≡ cond y (cond x (e ∷ deeds_of c ls) (deeds_of c ls) ++ d ∷ []) (cond x (e ∷ deeds_of c ls) (deeds_of c ls))
-    by true true h = ap (λ (l : List Deed). e ∷ l) h
-    by true false h = ap (λ (l : List Deed). e ∷ l) h
+    by : (x y : Bool) → actions_of c (ls ++ Acts a d ∷ []) ≡ cond y (actions_of c ls ++ d ∷ []) (actions_of c ls)
+        → cond x (e ∷ actions_of c (ls ++ Acts a d ∷ [])) (actions_of c (ls ++ Acts a d ∷ [])) ≡ cond y (cond x (e ∷ actions_of c ls) (actions_of c ls) ++ d ∷ []) (cond x (e ∷ actions_of c ls) (actions_of c ls))
+    by true true h = ap (λ (l : List Action). e ∷ l) h
+    by true false h = ap (λ (l : List Action). e ∷ l) h
     by false true h = h
     by false false h = h
 
--- a line that is no deed
-pub deeds_append : (c : ℕ) (ls ms : List Line) → deeds_of c (ls ++ ms) ≡ deeds_of c ls ++ deeds_of c ms
-unfolding deeds_of
-deeds_append c [] ms = refl
-deeds_append c (Declares x ∷ ls) ms = deeds_append c ls ms
-deeds_append c (Operates k ask ∷ ls) ms = deeds_append c ls ms
-deeds_append c (Acts b e ∷ ls) ms = by (b == c) (deeds_append c ls ms)
+-- a line that is no action
+pub actions_append : (c : ℕ) (ls ms : List Line) → actions_of c (ls ++ ms) ≡ actions_of c ls ++ actions_of c ms
+unfolding actions_of
+actions_append c [] ms = refl
+actions_append c (Declares x ∷ ls) ms = actions_append c ls ms
+actions_append c (Operates k ask ∷ ls) ms = actions_append c ls ms
+actions_append c (Acts b e ∷ ls) ms = by (b == c) (actions_append c ls ms)
   where
-    by : (z : Bool) → deeds_of c (ls ++ ms) ≡ deeds_of c ls ++ deeds_of c ms → cond z (e ∷ deeds_of c (ls ++ ms)) (deeds_of c (ls ++ ms)) ≡ cond z (e ∷ deeds_of c ls) (deeds_of c ls) ++ deeds_of c ms
-    by true h = ap (λ (l : List Deed). e ∷ l) h
+    by : (z : Bool) → actions_of c (ls ++ ms) ≡ actions_of c ls ++ actions_of c ms → cond z (e ∷ actions_of c (ls ++ ms)) (actions_of c (ls ++ ms)) ≡ cond z (e ∷ actions_of c ls) (actions_of c ls) ++ actions_of c ms
+    by true h = ap (λ (l : List Action). e ∷ l) h
     by false h = h
 
-deeds_declared : (c : ℕ) (x : List ℕ) (ls : List Line) → deeds_of c (ls ++ Declares x ∷ []) ≡ deeds_of c ls
-unfolding deeds_of
-deeds_declared c x ls = deeds_append c ls (Declares x ∷ []) ∙ append_none (deeds_of c ls)
+actions_declared : (c : ℕ) (x : List ℕ) (ls : List Line) → actions_of c (ls ++ Declares x ∷ []) ≡ actions_of c ls
+unfolding actions_of
+actions_declared c x ls = actions_append c ls (Declares x ∷ []) ∙ append_none (actions_of c ls)
 
-deeds_operated : (c k : ℕ) (ask : NodeAsk) (ls : List Line) → deeds_of c (ls ++ Operates k ask ∷ []) ≡ deeds_of c ls
-unfolding deeds_of
-deeds_operated c k ask ls = deeds_append c ls (Operates k ask ∷ []) ∙ append_none (deeds_of c ls)
+actions_operated : (c k : ℕ) (ask : NodeAsk) (ls : List Line) → actions_of c (ls ++ Operates k ask ∷ []) ≡ actions_of c ls
+unfolding actions_of
+actions_operated c k ask ls = actions_append c ls (Operates k ask ∷ []) ∙ append_none (actions_of c ls)
 
-pub actors_handed : (named : Bool) (n : ℕ) (taken : List Line) (as_ : List Actor) (a : ℕ) (d : Deed) → Actors named n taken as_ → a < length as_ → IsDeed named d
-    → Actors named n (taken ++ Acts a d ∷ []) (set as_ a (handed d (get_or as_ a (fresh_actor named n))))
+pub actors_handed : (named : Bool) (n : ℕ) (taken : List Line) (as_ : List Actor) (a : ℕ) (d : Action) → Actors named n taken as_ → a < length as_ → IsAction named d
+    → Actors named n (taken ++ Acts a d ∷ []) (set as_ a (hand_action d (get_or as_ a (fresh_actor named n))))
 unfolding Alike
 actors_handed named n taken as_ a d h in_ is = record {
   each = λ c below. each c (subst (λ (x : ℕ). c < x) (length-set as_ a _) below) (alike a c);
   none = λ c above. none c (subst (λ (x : ℕ). x ≤ c) (length-set as_ a _) above) (alike a c);
 }
   where
-    each : (c : ℕ) → c < length as_ → Alike a c → ActorOk named n (deeds_of c (taken ++ Acts a d ∷ [])) (get_or (set as_ a (handed d (get_or as_ a (fresh_actor named n)))) c (fresh_actor named n))
-    each c below (inl e) = subst (λ (x : ℕ). ActorOk named n (deeds_of x (taken ++ Acts a d ∷ [])) (get_or (set as_ a (handed d (get_or as_ a (fresh_actor named n)))) x (fresh_actor named n))) e.1
-        (subst (λ (ds : List Deed). ActorOk named n ds (get_or (set as_ a (handed d (get_or as_ a (fresh_actor named n)))) a (fresh_actor named n))) (sym (deeds_acted a a d taken ∙ cond_true (a == a) _ _ (subst (λ (x : ℕ). (a == x) ≡ true) (sym e.1) e.0)))
-        (subst (λ (b : Actor). ActorOk named n (deeds_of a taken ++ d ∷ []) b) (sym (get_or-set_same as_ a (handed d (get_or as_ a (fresh_actor named n))) (fresh_actor named n) in_))
-        (ok_handed named n (deeds_of a taken) (get_or as_ a (fresh_actor named n)) d is (h.each a in_))))
-    each c below (inr e) = subst (λ (ds : List Deed). ActorOk named n ds (get_or (set as_ a (handed d (get_or as_ a (fresh_actor named n)))) c (fresh_actor named n))) (sym (deeds_acted c a d taken ∙ cond_false (a == c) _ _ e.0))
-        (subst (λ (b : Actor). ActorOk named n (deeds_of c taken) b) (sym (get_or-set_other as_ a c (handed d (get_or as_ a (fresh_actor named n))) (fresh_actor named n) (λ (x : c ≡ a). e.1 (sym x)))) (h.each c below))
+    each : (c : ℕ) → c < length as_ → Alike a c → ActorOk named n (actions_of c (taken ++ Acts a d ∷ [])) (get_or (set as_ a (hand_action d (get_or as_ a (fresh_actor named n)))) c (fresh_actor named n))
+    each c below (inl e) = subst (λ (x : ℕ). ActorOk named n (actions_of x (taken ++ Acts a d ∷ [])) (get_or (set as_ a (hand_action d (get_or as_ a (fresh_actor named n)))) x (fresh_actor named n))) e.1
+        (subst (λ (ds : List Action). ActorOk named n ds (get_or (set as_ a (hand_action d (get_or as_ a (fresh_actor named n)))) a (fresh_actor named n))) (sym (actions_acted a a d taken ∙ cond_true (a == a) _ _ (subst (λ (x : ℕ). (a == x) ≡ true) (sym e.1) e.0)))
+        (subst (λ (b : Actor). ActorOk named n (actions_of a taken ++ d ∷ []) b) (sym (get_or-set_same as_ a (hand_action d (get_or as_ a (fresh_actor named n))) (fresh_actor named n) in_))
+        (ok_handed named n (actions_of a taken) (get_or as_ a (fresh_actor named n)) d is (h.each a in_))))
+    each c below (inr e) = subst (λ (ds : List Action). ActorOk named n ds (get_or (set as_ a (hand_action d (get_or as_ a (fresh_actor named n)))) c (fresh_actor named n))) (sym (actions_acted c a d taken ∙ cond_false (a == c) _ _ e.0))
+        (subst (λ (b : Actor). ActorOk named n (actions_of c taken) b) (sym (get_or-set_other as_ a c (hand_action d (get_or as_ a (fresh_actor named n))) (fresh_actor named n) (λ (x : c ≡ a). e.1 (sym x)))) (h.each c below))
 
-    none : (c : ℕ) → length as_ ≤ c → Alike a c → deeds_of c (taken ++ Acts a d ∷ []) ≡ []
+    none : (c : ℕ) → length as_ ≤ c → Alike a c → actions_of c (taken ++ Acts a d ∷ []) ≡ []
     none c above (inl e) = absurd (omega (arith, e.1, in_, above))
-    none c above (inr e) = deeds_acted c a d taken ∙ (cond_false (a == c) _ _ e.0 ∙ h.none c above)
+    none c above (inr e) = actions_acted c a d taken ∙ (cond_false (a == c) _ _ e.0 ∙ h.none c above)
 
 pub actors_declared : (named : Bool) (n : ℕ) (taken : List Line) (as_ : List Actor) (x : List ℕ) → HasNodes named n → Actors named n taken as_ → Actors named n (taken ++ Declares x ∷ []) (as_ ++ fresh_actor named n ∷ [])
 unfolding Alike
 actors_declared named n taken as_ x some h = record {
-  each = λ c below. subst (λ (ds : List Deed). ActorOk named n ds (get_or (as_ ++ fresh_actor named n ∷ []) c (fresh_actor named n))) (sym (deeds_declared c x taken)) (each c (alike c (length as_)) (omega (arith, length-append as_ (fresh_actor named n ∷ []), below)));
-  none = λ c above. deeds_declared c x taken ∙ h.none c (omega (arith, length-append as_ (fresh_actor named n ∷ []), above));
+  each = λ c below. subst (λ (ds : List Action). ActorOk named n ds (get_or (as_ ++ fresh_actor named n ∷ []) c (fresh_actor named n))) (sym (actions_declared c x taken)) (each c (alike c (length as_)) (omega (arith, length-append as_ (fresh_actor named n ∷ []), below)));
+  none = λ c above. actions_declared c x taken ∙ h.none c (omega (arith, length-append as_ (fresh_actor named n ∷ []), above));
 }
   where
-    each : (c : ℕ) → Alike c (length as_) → c < length as_ + 1 → ActorOk named n (deeds_of c taken) (get_or (as_ ++ fresh_actor named n ∷ []) c (fresh_actor named n))
-    each c (inl e) below = subst (λ (ds : List Deed). ActorOk named n ds (get_or (as_ ++ fresh_actor named n ∷ []) c (fresh_actor named n))) (sym (h.none c (omega (arith, e.1))))
+    each : (c : ℕ) → Alike c (length as_) → c < length as_ + 1 → ActorOk named n (actions_of c taken) (get_or (as_ ++ fresh_actor named n ∷ []) c (fresh_actor named n))
+    each c (inl e) below = subst (λ (ds : List Action). ActorOk named n ds (get_or (as_ ++ fresh_actor named n ∷ []) c (fresh_actor named n))) (sym (h.none c (omega (arith, e.1))))
         (subst (λ (b : Actor). ActorOk named n [] b) (sym (ap (λ (k : ℕ). get_or (as_ ++ fresh_actor named n ∷ []) k (fresh_actor named n)) e.1 ∙ get_or-append_seam as_ (fresh_actor named n) [] (fresh_actor named n))) (ok_fresh named n some))
     each c (inr e) below =
         let in_ : c < length as_ = grind (arith, e.1, below) in
-        subst (λ (b : Actor). ActorOk named n (deeds_of c taken) b) (sym (get_or_append_left as_ (fresh_actor named n ∷ []) (fresh_actor named n) c in_)) (h.each c in_)
+        subst (λ (b : Actor). ActorOk named n (actions_of c taken) b) (sym (get_or_append_left as_ (fresh_actor named n ∷ []) (fresh_actor named n) c in_)) (h.each c in_)
 
 pub actors_operated : (named : Bool) (n : ℕ) (taken : List Line) (as_ : List Actor) (k : ℕ) (ask : NodeAsk) → Actors named n taken as_ → Actors named n (taken ++ Operates k ask ∷ []) as_
 actors_operated named n taken as_ k ask h = record {
-  each = λ c below. subst (λ (ds : List Deed). ActorOk named n ds (get_or as_ c (fresh_actor named n))) (sym (deeds_operated c k ask taken)) (h.each c below);
-  none = λ c above. deeds_operated c k ask taken ∙ h.none c above;
+  each = λ c below. subst (λ (ds : List Action). ActorOk named n ds (get_or as_ c (fresh_actor named n))) (sym (actions_operated c k ask taken)) (h.each c below);
+  none = λ c above. actions_operated c k ask taken ∙ h.none c above;
 }
 
 -- ## The nodes

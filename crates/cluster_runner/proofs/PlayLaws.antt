@@ -12,10 +12,10 @@ use Rattle.script_text.specs.declared.script_line.ScriptLine.{ScriptLine}
 use Rattle.script_text.specs.declared.script_line.ScriptLine.TheVariants as line
 use Rattle.node_history.specs.NodeCells.{new_cell}
 use Rattle.script_text.specs.Views.{ScriptView}
-use Rattle.script_actor.specs.Lines.{Line, Declares, Acts, Operates, line_of, lines_of, declared, AreEdits, IsTask, WithNames, ArePlayable, AreInRange, IsPlayable, NumbersFit}
+use Rattle.script_actor.specs.Lines.{Line, Declares, Acts, Operates, line_of, lines_of, count_actors, AreEdits, IsTask, WithNames, ArePlayable, AreInRange, IsPlayable, NumbersFit}
 use Rattle.script_actor.specs.Actor.{holding_if}
 use Rattle.script_actor.specs.KeptActor.{KeptActor, new_actor}
-use Rattle.script_actor.specs.Deeds.{IsIdleHolding}
+use Rattle.script_actor.specs.Actions.{IsIdleHolding}
 use Rattle.cluster_runner.specs.Plays.{Play, play_begins}
 use Rattle.cluster_runner.specs.Kept.{Kept, actor_of, with_actor, new_kept, mesh_kept, ends_kept, IsAtRest, IsPlayed, Leads}
 use Rattle.cluster_runner.specs.Ready.{IsIdleIn, IsIdle, TakesLine}
@@ -145,12 +145,12 @@ under_way_more named nodes lines l ls old new u t =
     }
 
 pub under_way_first : (s : ScriptView) (named : Bool) (n operator : ℕ) (ls : List ScriptLine) (k : Kept) → IsPlayable s → NumbersFit s → named ≡ s.named → n ≡ s.nodes → ls ≡ s.lines
-    → operator ≡ declared (map line_of ls) → k ≡ new_kept named n operator → IsUnderWay s.named s.nodes (lines_of s) ls k
+    → operator ≡ count_actors (map line_of ls) → k ≡ new_kept named n operator → IsUnderWay s.named s.nodes (lines_of s) ls k
 under_way_first s named n operator ls k playable fits kind same are o e =
     let P : Kept → Type 0 = λ x. IsUnderWay s.named s.nodes (lines_of s) ls x in
-    let Q : List ScriptLine → Type 0 = λ xs. IsUnderWay s.named s.nodes (lines_of s) xs (new_kept s.named s.nodes (declared (lines_of s))) in
-    let first : k ≡ new_kept s.named s.nodes (declared (lines_of s)) =
-    e ∙ ap (λ b. new_kept b n operator) kind ∙ ap (λ m. new_kept s.named m operator) same ∙ ap (new_kept s.named s.nodes) (o ∙ ap (λ xs. declared (map line_of xs)) are) in
+    let Q : List ScriptLine → Type 0 = λ xs. IsUnderWay s.named s.nodes (lines_of s) xs (new_kept s.named s.nodes (count_actors (lines_of s))) in
+    let first : k ≡ new_kept s.named s.nodes (count_actors (lines_of s)) =
+    e ∙ ap (λ b. new_kept b n operator) kind ∙ ap (λ m. new_kept s.named m operator) same ∙ ap (new_kept s.named s.nodes) (o ∙ ap (λ xs. count_actors (map line_of xs)) are) in
     subst P (sym first) (subst Q (sym are) (record {
       idle = record {
         some = let m = length-replicate s.nodes new_cell in let some = playable.nodes in omega (arith, some, m);
@@ -178,24 +178,24 @@ none_left [] = refl
 none_left (x ∷ xs) = none_left xs
 
 -- ## How many actors are declared
-declared_more : (l : Line) (ls : List Line) → declared (l ∷ ls) ≡ declared (l ∷ []) + declared ls
-unfolding declared
+declared_more : (l : Line) (ls : List Line) → count_actors (l ∷ ls) ≡ count_actors (l ∷ []) + count_actors ls
+unfolding count_actors
 declared_more (Declares name) ls = omega arith
-declared_more (Acts actor deed) ls = omega arith
+declared_more (Acts actor action) ls = omega arith
 declared_more (Operates node ask) ls = omega arith
 
-pub count_more : (ls : List ScriptLine) (i n m total : ℕ) (x : ScriptLine) → i < length ls → x ≡ get_or ls i x → m ≡ declared (line_of x ∷ []) → n + declared (map line_of (drop i ls)) ≡ total
-    → (n + m) + declared (map line_of (drop (i + 1) ls)) ≡ total
+pub count_more : (ls : List ScriptLine) (i n m total : ℕ) (x : ScriptLine) → i < length ls → x ≡ get_or ls i x → m ≡ count_actors (line_of x ∷ []) → n + count_actors (map line_of (drop i ls)) ≡ total
+    → (n + m) + count_actors (map line_of (drop (i + 1) ls)) ≡ total
 count_more ls i n m total x l is e h =
-    let all : declared (map line_of (drop i ls)) ≡ declared (line_of x ∷ []) + declared (map line_of (drop (i + 1) ls)) =
-    ap (λ ys. declared (map line_of ys)) (drop_more ls i x l) ∙ declared_more (line_of (get_or ls i x)) (map line_of (drop (i + 1) ls))
-    ∙ ap (λ y. declared (line_of y ∷ []) + declared (map line_of (drop (i + 1) ls))) (sym is) in
+    let all : count_actors (map line_of (drop i ls)) ≡ count_actors (line_of x ∷ []) + count_actors (map line_of (drop (i + 1) ls)) =
+    ap (λ ys. count_actors (map line_of ys)) (drop_more ls i x l) ∙ declared_more (line_of (get_or ls i x)) (map line_of (drop (i + 1) ls))
+    ∙ ap (λ y. count_actors (line_of y ∷ []) + count_actors (map line_of (drop (i + 1) ls))) (sym is) in
     omega (arith, all, e, h)
 
-pub count_all : (ls : List ScriptLine) (i n total : ℕ) → i ≡ length ls → n + declared (map line_of (drop i ls)) ≡ total → n ≡ total
-unfolding declared
+pub count_all : (ls : List ScriptLine) (i n total : ℕ) → i ≡ length ls → n + count_actors (map line_of (drop i ls)) ≡ total → n ≡ total
+unfolding count_actors
 count_all ls i n total e h =
-    let none : declared (map line_of (drop i ls)) ≡ 0 = ap (λ k. declared (map line_of (drop k ls))) e ∙ ap (λ xs. declared (map line_of xs)) (none_left ls) in
+    let none : count_actors (map line_of (drop i ls)) ≡ 0 = ap (λ k. count_actors (map line_of (drop k ls))) e ∙ ap (λ xs. count_actors (map line_of xs)) (none_left ls) in
     omega (arith, none, h)
 
 pub under_way_on : (named : Bool) (nodes : ℕ) (lines : List Line) (ls : List ScriptLine) (i : ℕ) (d : ScriptLine) (old new : Kept) → i < length ls → IsUnderWay named nodes lines (drop i ls) old

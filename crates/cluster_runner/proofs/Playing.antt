@@ -14,9 +14,9 @@ use Rattle.node_history.specs.Moving.{Placed}
 use Rattle.mesh.specs.Marks.{next_number, IsAsMarked}
 use Rattle.mesh.specs.Makers.{IsOperators}
 use Rattle.mesh.specs.Matches.{reaches, IsSame, IsWithin, AreWithin}
-use Rattle.script_actor.specs.Lines.{Line, declared, names_in, operations_in, ArePlayable, HasNodes}
+use Rattle.script_actor.specs.Lines.{Line, count_actors, names_in, operations_in, ArePlayable, HasNodes}
 use Rattle.script_actor.specs.Actor.{Actor, fresh_actor, Want, WantsCall, WantsCopy, Says, Rests, wants, goes_on, Fits}
-use Rattle.cluster_runner.specs.Plays.{Play, actor_at, taken_at, node_asked, noted, Delivery, Delivered, ReplyLost, NotDelivered, delivery, told_of, call_made, copy_made, wanted}
+use Rattle.cluster_runner.specs.Plays.{Play, actor_at, taken_at, node_asked, note_record, Delivery, Delivered, ReplyLost, NotDelivered, delivery, told_of, call_made, copy_made, meet_want}
 use Rattle.cluster_runner.specs.Follows.{AreOperations}
 use Rattle.mesh.proofs.Lists.{Alike, alike}
 use Rattle.caller_seats.proofs.MarkLaws.{delivery_marked}
@@ -39,11 +39,11 @@ pub record Holds (named : Bool) (n : ℕ) (lines : List Line) (p : Play) : Type 
   pub named_is : p.named ≡ named
   pub nodes : p.nodes ≡ n
   pub some : HasNodes p.named p.nodes
-  pub operator : p.operator ≡ declared lines
+  pub operator : p.operator ≡ count_actors lines
   pub actors : Actors p.named p.nodes taken p.actors
   pub cells : Nodes p.nodes p.cells p.trace
   pub links : Links p.nodes p.operator (fresh_actor p.named p.nodes) p.actors p.operated p.trace
-  pub counted : length p.actors ≡ declared taken
+  pub counted : length p.actors ≡ count_actors taken
   pub names : p.names ≡ names_in taken
   pub operated : Operated p.nodes taken p.operated
   pub playable : ArePlayable p.named p.nodes (length p.actors) p.lines
@@ -63,8 +63,8 @@ others_rest p a x e rests c below off =
 
 -- ## A line of an actor's record that reached no node
 noted_quiet : (named : Bool) (n : ℕ) (lines : List Line) (p : Play) (a : ℕ) (r : Record) → Holds named n lines p → p.turn ≡ Some a
-    → Fits (wants (actor_at p a)) r → IsTold (actor_at p a) r → IsWithin p.nodes r → ((k : ℕ) → reaches k r ≡ false) → Holds named n lines (noted a r p)
-unfolding noted actor_at
+    → Fits (wants (actor_at p a)) r → IsTold (actor_at p a) r → IsWithin p.nodes r → ((k : ℕ) → reaches k r ≡ false) → Holds named n lines (note_record a r p)
+unfolding note_record actor_at
 noted_quiet named n lines p a r h e f t w off =
     let in_ : a < length p.actors = h.turn a e in
     let b : Actor = goes_on (get_or p.actors a (fresh_actor p.named p.nodes)) r in
@@ -93,8 +93,8 @@ asked_as k a m ask p = record { node = k; line = record { caller = a; ask = ask;
 
 noted_loud : (named : Bool) (n : ℕ) (lines : List Line) (p : Play) (a k : ℕ) (m : Bool) (ask : NodeAsk) (r : Record) → Holds named n lines p → p.turn ≡ Some a
     → Fits (wants (actor_at p a)) r → IsTold (actor_at p a) r → IsWithin p.nodes r → (1 ≤ k) × (k ≤ p.nodes)
-    → IsEvent r (asked_as k a m ask p) → Holds named n lines (noted a r (node_asked k a m ask p))
-unfolding noted actor_at node_asked
+    → IsEvent r (asked_as k a m ask p) → Holds named n lines (note_record a r (node_asked k a m ask p))
+unfolding note_record actor_at node_asked
 noted_loud named n lines p a k m ask r h e f t w range event =
     let in_ : a < length p.actors = h.turn a e in
     let b : Actor = goes_on (get_or p.actors a (fresh_actor p.named p.nodes)) r in
@@ -152,8 +152,8 @@ copied_holds named n lines p a k q h e w =
     let range : (1 ≤ k) × (k ≤ p.nodes) = unfold actor_at in wants_copy_within p.named p.nodes k q (get_or p.actors a (fresh_actor p.named p.nodes)) (h.actors.each a (h.turn a e)).sound w in
     noted_loud named n lines p a k false (Act true q) (Late k q) h e (subst (λ (x : Want). Fits x (Late k q)) (sym w) (refl, refl)) tt range range (record { reach = λ i. refl; same = refl; muted = refl })
 
-pub wanted_holds : (named : Bool) (n : ℕ) (lines : List Line) (p : Play) (a : ℕ) (x : Want) → Holds named n lines p → p.turn ≡ Some a → wants (actor_at p a) ≡ x → Holds named n lines (wanted x a p)
-unfolding wanted Fits IsTold reaches Alike
+pub wanted_holds : (named : Bool) (n : ℕ) (lines : List Line) (p : Play) (a : ℕ) (x : Want) → Holds named n lines p → p.turn ≡ Some a → wants (actor_at p a) ≡ x → Holds named n lines (meet_want x a p)
+unfolding meet_want Fits IsTold reaches Alike
 wanted_holds named n lines p a Rests h e w = record {
   taken = h.taken;
   all = h.all;

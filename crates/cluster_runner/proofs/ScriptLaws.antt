@@ -13,7 +13,7 @@ use Rattle.script_text.specs.declared.script_line.ScriptLine.TheVariants as line
 use Rattle.script_text.specs.Views.{ScriptView, SaidView}
 use Rattle.script_text.specs.Edits.{IsSayable}
 use Rattle.script_text.specs.Grammar.{AreLines, IsScript, said_after, nothing_said}
-use Rattle.script_actor.specs.Lines.{line_of, lines_of, declared, AreEdits, IsNamesTask, IsTask, WithNames, ArePlayable, IsPlayable, AreInRange, NumbersFit}
+use Rattle.script_actor.specs.Lines.{line_of, lines_of, count_actors, AreEdits, IsNamesTask, IsTask, WithNames, ArePlayable, IsPlayable, AreInRange, NumbersFit}
 
 -- ## Lines that stand in scripts with names, without them, or in both
 common_task : (named : Bool) (t : Task) → IsNamesTask t → HasBody t → IsTask named t
@@ -83,12 +83,12 @@ lines_fit said (line.Arm i calls (stop.Effects keep) ∷ lines) h = (tt, lines_f
 lines_fit said (line.Arm i calls (stop.DiskCalls after cut) ∷ lines) h = (tt, lines_fit said lines h.1)
 
 -- a script declares at most eight actors
-few_declared : (said : SaidView) (lines : List ScriptLine) → AreLines said lines → length said.names ≤ 8 → declared (map line_of lines) + length said.names ≤ 8
-unfolding AreLines declared
+few_declared : (said : SaidView) (lines : List ScriptLine) → AreLines said lines → length said.names ≤ 8 → count_actors (map line_of lines) + length said.names ≤ 8
+unfolding AreLines count_actors
 few_declared said [] h l = omega (arith, l)
 few_declared said (line.Declare name ∷ lines) h l =
     let e : length (said.names ++ name ∷ []) ≡ length said.names + 1 = length-append said.names (name ∷ []) in
-    let more : declared (map line_of lines) + length (said.names ++ name ∷ []) ≤ 8 =
+    let more : count_actors (map line_of lines) + length (said.names ++ name ∷ []) ≤ 8 =
     few_declared (said_after said (line.Declare name)) lines h.1 (omega (arith, e, h.0.sense.1)) in
     omega (arith, e, more)
 few_declared said (line.Takeover actor ∷ lines) h l = few_declared said lines h.1 l
@@ -111,5 +111,5 @@ few_declared said (line.Arm i calls (stop.DiskCalls after cut) ∷ lines) h l = 
 
 pub numbers_fit : (s : ScriptView) → IsScript s → NumbersFit s
 numbers_fit s h =
-    let few : declared (lines_of s) + 0 ≤ 8 = few_declared (nothing_said s.named s.nodes) s.lines h.lines (omega arith) in
+    let few : count_actors (lines_of s) + 0 ≤ 8 = few_declared (nothing_said s.named s.nodes) s.lines h.lines (omega arith) in
     record { operator = omega (arith, few); lines = lines_fit (nothing_said s.named s.nodes) s.lines h.lines }

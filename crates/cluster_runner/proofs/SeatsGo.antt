@@ -1,4 +1,4 @@
--- The seats of a play while an actor acts: each call of theirs, and a whole deed.
+-- The seats of a play while an actor acts: each call of theirs, and a whole action.
 use Rattle.std.proofs.Common.{◌≡◌, ◌≢◌, ◌==◌, ◌⊎◌, ℕ, zero, suc, ◌-◌, ◌<◌, ◌≤◌, List, [], ◌∷◌, ◌++◌, length, Bool, false, true, refl, sym, ap, ◌∙◌, subst, arith, inl, inr, append_assoc, append-nil, set, get_or}
 use Rattle.std.proofs.lemmas.List.{length-map, length-set, map-set, get_or-map, get_or-set_same, get_or-set_other, append_cancel_left, get_or_default}
 use Rattle.std.proofs.lemmas.List.Elements.{All-append}
@@ -15,20 +15,20 @@ use Rattle.mesh.specs.Makers.{heard_of}
 use Rattle.mesh.specs.Marks.{next_number, IsAsMarked, IsMarked}
 use Rattle.caller_seats.specs.declared.delivery.Delivery.{Delivery}
 use Rattle.caller_seats.specs.Deliveries.{delivery}
-use Rattle.caller_seats.specs.Logs.{LogView, with_line, copying, IsCalled}
+use Rattle.caller_seats.specs.Logs.{LogView, with_line, copy_call, IsCalled}
 use Rattle.caller_seats.proofs.MarkLaws.{delivery_marked, marked_after}
 use Rattle.script_text.specs.declared.script_line.ScriptLine.{ScriptLine}
 use Rattle.cluster_runner.specs.declared.player.Player.{Player}
-use Rattle.script_actor.specs.Lines.{Line, Deed, Acts}
-use Rattle.script_actor.specs.Actor.{Actor, IsLed, handed, goes_on, actor_after}
-use Rattle.script_actor.specs.Deeds.{IsIdleActor, TakesDeed, TakesIf, deed_of, MayCome, has_names, kept_by}
+use Rattle.script_actor.specs.Lines.{Line, Action, Acts}
+use Rattle.script_actor.specs.Actor.{Actor, IsLed, hand_action, goes_on, actor_after}
+use Rattle.script_actor.specs.Actions.{IsIdleActor, TakesAction, TakesIf, action_of, MayCome, has_names, kept_by}
 use Rattle.script_actor.specs.KeptActor.{KeptActor, new_actor, resting}
-use Rattle.cluster_runner.specs.Kept.{Kept, actor_of, listed, answer_to, reached_by, told_by}
+use Rattle.cluster_runner.specs.Kept.{Kept, actor_of, list_ask, answer_to, reached_by, told_by}
 use Rattle.cluster_runner.specs.PlaySeats.{SeatsView, cell_at, AreLater}
 use Rattle.cluster_runner.specs.Ready.{IsIdleIn, IsIdle, TakesLine}
 use Rattle.cluster_runner.specs.SeatLaws.{later_one}
 use Rattle.cluster_runner.specs.Shown.{keeps, kept, AreSeated}
-use Rattle.cluster_runner.proofs.LineTaken.{takes_deed}
+use Rattle.cluster_runner.proofs.LineTaken.{takes_action}
 use Rattle.cluster_runner.proofs.Sound.{goes_past, handed_past}
 
 abbrev pub view : ℕ → List CellView → LogView → SeatsView
@@ -65,7 +65,7 @@ call_later s caller cells log new node r told d v w e low high is told_is cell l
     }))
 
 pub copy_later : (s : SeatsView) (caller : ℕ) (cells : List CellView) (log new : LogView) (node number : ℕ) (r : Request) (v w : CellView) → view caller cells log ≡ s
-    → 1 ≤ node → node ≤ length cells → v ≡ get_or cells (node - 1) v → w ≡ listed v caller (Act true r) → new ≡ copying log node number r
+    → 1 ≤ node → node ≤ length cells → v ≡ get_or cells (node - 1) v → w ≡ list_ask v caller (Act true r) → new ≡ copy_call log node number r
     → AreLater s (view caller (set cells (node - 1) w) new)
 copy_later s caller cells log new node number r v w e low high is cell copied =
     let h : cell_at cells node ≡ v = here cells node v low high is in
@@ -73,7 +73,7 @@ copy_later s caller cells log new node number r v w e low high is cell copied =
     (later_one (view caller cells log) (view caller (set cells (node - 1) w) new) (Late node r) refl (ap (λ (l : LogView). l.nodes) copied) (ap (λ (l : LogView). l.past) copied) (record {
       low = low;
       high = high;
-      cells = ap (λ z. set cells (node - 1) z) (cell ∙ ap (λ z. listed z caller (Act true r)) (sym h));
+      cells = ap (λ z. set cells (node - 1) z) (cell ∙ ap (λ z. list_ask z caller (Act true r)) (sym h));
     }))
 
 pub say_later : (s : SeatsView) (caller : ℕ) (cells : List CellView) (log new : LogView) (text : List ℕ) → view caller cells log ≡ s → new ≡ with_line log (Outcome text)
@@ -82,7 +82,7 @@ say_later s caller cells log new text e said =
     subst (λ (x : SeatsView). AreLater x (view caller cells new)) e
     (later_one (view caller cells log) (view caller cells new) (Outcome text) refl (ap (λ (l : LogView). l.nodes) said) (ap (λ (l : LogView). l.past) said) refl)
 
--- ## A deed
+-- ## An action
 players_there : (named : Bool) (cells : List CellView) (players : List Player) (o : ℕ) (os : List Record) (k : Kept) (c : ℕ) → kept named cells players o os ≡ k → c < length k.actors → c < length players
 players_there named cells players o os k c e l =
     let n : length k.actors ≡ length players = ap (λ (x : Kept). length x.actors) (sym e) ∙ length-map players keeps in omega (arith, l, n)
@@ -125,9 +125,9 @@ unfolding actor_after
 led_past x [] = sym (append-nil x.past)
 led_past x (r ∷ rs) = led_past (goes_on x r) rs ∙ ap (λ l. l ++ rs) (goes_past x r) ∙ append_assoc x.past (r ∷ []) rs
 
-pub act_takes : (named : Bool) (cells : List CellView) (players : List Player) (o : ℕ) (os : List Record) (k : Kept) (c : ℕ) (p q : Player) (log last : LogView) (caller : ℕ) (more : List CellView) (d : Deed) (line : Line) (new : SeatsView)
+pub act_takes : (named : Bool) (cells : List CellView) (players : List Player) (o : ℕ) (os : List Record) (k : Kept) (c : ℕ) (p q : Player) (log last : LogView) (caller : ℕ) (more : List CellView) (d : Action) (line : Line) (new : SeatsView)
     → kept named cells players o os ≡ k → AreSeated (length cells) players → p ≡ get_or players c p → c < length k.actors → log ≡ p.log → IsIdle k → line ≡ Acts c d
-    → view caller more last ≡ new → TakesIf log.nodes (deed_of line) (kept_by p.actor log) (kept_by q.actor new.log) → has_names q.actor ≡ has_names p.actor → AreLater (view c cells log) new
+    → view caller more last ≡ new → TakesIf log.nodes (action_of line) (kept_by p.actor log) (kept_by q.actor new.log) → has_names q.actor ≡ has_names p.actor → AreLater (view c cells log) new
     → IsMarked last.marks [] last.past → q.name ≡ p.name → q.log ≡ last → TakesLine (Acts c d) (length k.actors) k (kept named more (set players c q) o os)
 act_takes named cells players o os k c p q log last caller more d line new e seated is l own idle says back takes as_before later marked name after =
     let there : c < length players = players_there named cells players o os k c e l in
@@ -136,30 +136,30 @@ act_takes named cells players o os k c p q log last caller more d line new e sea
     let m : c < length j.actors = let y = length-map players keeps in omega (arith, there, y) in
     let still : IsIdle j = subst (λ (x : Kept). IsIdle x) (sym e) idle in
     let a : actor_of j c ≡ keeps p = actor_is named cells players o os c p is there in
-    let t : TakesDeed p.log.nodes d (kept_by p.actor p.log) (keeps q) =
-    subst (λ (x : LogView). TakesDeed p.log.nodes d (kept_by p.actor p.log) (record { name = q.name; writer = q.actor.writer; holds = q.actor.holds; past = x.past; marks = x.marks })) (sym after)
-    (renamed (subst (λ (x : SeatsView). TakesDeed p.log.nodes d (kept_by p.actor p.log) (kept_by q.actor x.log)) (sym back)
-    (subst (λ (x : LogView). TakesDeed x.nodes d (kept_by p.actor x) (kept_by q.actor new.log)) own (subst (λ (x : Line). TakesIf log.nodes (deed_of x) (kept_by p.actor log) (kept_by q.actor new.log)) says takes)))) in
+    let t : TakesAction p.log.nodes d (kept_by p.actor p.log) (keeps q) =
+    subst (λ (x : LogView). TakesAction p.log.nodes d (kept_by p.actor p.log) (record { name = q.name; writer = q.actor.writer; holds = q.actor.holds; past = x.past; marks = x.marks })) (sym after)
+    (renamed (subst (λ (x : SeatsView). TakesAction p.log.nodes d (kept_by p.actor p.log) (kept_by q.actor x.log)) (sym back)
+    (subst (λ (x : LogView). TakesAction x.nodes d (kept_by p.actor x) (kept_by q.actor new.log)) own (subst (λ (x : Line). TakesIf log.nodes (action_of x) (kept_by p.actor log) (kept_by q.actor new.log)) says takes)))) in
     let g : AreLater (view c cells p.log) (view caller more last) =
     subst (λ (x : SeatsView). AreLater (view c cells p.log) x) (sym back) (subst (λ (x : LogView). AreLater (view c cells x) new) own later) in
-    let x : Actor = handed d (resting (keeps p)) in
+    let x : Actor = hand_action d (resting (keeps p)) in
     let whole : x.past ++ t.leads.lines ≡ p.log.past ++ g.lines = sym (led_past x t.leads.lines) ∙ ap (λ (y : Actor). y.past) t.leads.after ∙ ap (λ (y : LogView). y.past) after ∙ g.past in
     let same : t.leads.lines ≡ g.lines = append_cancel_left p.log.past t.leads.lines g.lines (ap (λ ps. ps ++ t.leads.lines) (sym (handed_past d (resting (keeps p)))) ∙ whole) in
     let split : IsMarked last.marks [] (p.log.past ++ g.lines) = subst (λ ps. IsMarked last.marks [] ps) g.past marked in
     let own_marks : IsMarked (keeps q).marks p.log.past g.lines = subst (λ (y : LogView). IsMarked y.marks p.log.past g.lines) (sym after) (marked_after last.marks [] p.log.past g.lines split) in
     let b : KeptActor = actor_of j c in
     let taken : TakesLine (Acts c d) (length j.actors) j (record { named = named; nodes = more; actors = set j.actors c (keeps q); operator = o; operated = os }) =
-    takes_deed j c d g.lines (keeps q) more m still
-    (subst (λ (y : KeptActor). IsLed (handed d (resting y)) g.lines) (sym a) (subst (λ rs. IsLed x rs) same t.leads.led))
-    (subst (λ (y : KeptActor). actor_after (handed d (resting y)) g.lines ≡ resting (keeps q)) (sym a) (subst (λ rs. actor_after x rs ≡ resting (keeps q)) same t.leads.after))
+    takes_action j c d g.lines (keeps q) more m still
+    (subst (λ (y : KeptActor). IsLed (hand_action d (resting y)) g.lines) (sym a) (subst (λ rs. IsLed x rs) same t.leads.led))
+    (subst (λ (y : KeptActor). actor_after (hand_action d (resting y)) g.lines ≡ resting (keeps q)) (sym a) (subst (λ rs. actor_after x rs ≡ resting (keeps q)) same t.leads.after))
     (record { idle = subst (λ y. IsIdleActor y (keeps q)) n t.idle; holds_if = as_before ∙ (player_idle named cells players o os k c p e is l idle).holds_if })
     (name ∙ ap (λ (y : KeptActor). y.name) (sym a))
     (subst (λ (y : KeptActor). IsMarked (keeps q).marks y.past g.lines) (sym a) own_marks) g.went in
     subst (λ (y : Kept). TakesLine (Acts c d) (length y.actors) y (kept named more (set players c q) o os)) e
     (subst (λ xs. TakesLine (Acts c d) (length j.actors) j (record { named = named; nodes = more; actors = xs; operator = o; operated = os })) (sym (map-set keeps players c q)) taken)
   where
-    renamed : TakesDeed p.log.nodes d (kept_by p.actor p.log) (kept_by q.actor last)
-        → TakesDeed p.log.nodes d (kept_by p.actor p.log) (record { name = q.name; writer = q.actor.writer; holds = q.actor.holds; past = last.past; marks = last.marks })
+    renamed : TakesAction p.log.nodes d (kept_by p.actor p.log) (kept_by q.actor last)
+        → TakesAction p.log.nodes d (kept_by p.actor p.log) (record { name = q.name; writer = q.actor.writer; holds = q.actor.holds; past = last.past; marks = last.marks })
     renamed h = record { idle = record { some = h.idle.some; ready = h.idle.ready; rests = h.idle.rests; holds = h.idle.holds }; leads = record { lines = h.leads.lines; led = h.leads.led; after = h.leads.after } }
 
 pub still_seated : (cells : List CellView) (players : List Player) (c : ℕ) (q : Player) (log last : LogView) (caller : ℕ) (more : List CellView) (new : SeatsView) → view caller more last ≡ new → AreLater (view c cells log) new

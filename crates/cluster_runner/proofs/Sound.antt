@@ -1,4 +1,4 @@
--- What holds of an actor from its first deed on: its writer calls nodes that there are, its record speaks of these, and it goes by its marks.
+-- What holds of an actor from its first action on: its writer calls nodes that there are, its record speaks of these, and it goes by its marks.
 use Rattle.std.proofs.Common.{◌≡◌, ℕ, ◌-◌, ◌≤◌, List, [], ◌∷◌, ◌++◌, Bool, true, false, cond, refl, sym, ◌∙◌, subst, inl, inr}
 use Rattle.std.specs.Prelude.{Option, Some, None, slice_get, ◌==◌, ◌||◌}
 use Rattle.journal_core.specs.declared.request.Request.{Request}
@@ -13,9 +13,9 @@ use Rattle.mesh.specs.Marks.{calls_to, IsCopy}
 use Rattle.mesh.specs.Makers.{heard_of}
 use Rattle.mesh.specs.Matches.{IsWithin, AreWithin}
 use Rattle.name_node.specs.Holding.{Holding, Work, Free, Tails, Logs, Broken}
-use Rattle.script_actor.specs.Lines.{Deed, Does, DoDrop, DoMute, DoLate, Submits, Trims, DoTail, Saves, Reloads, IsDeed, AreDeeds, HasNodes}
+use Rattle.script_actor.specs.Lines.{Action, Does, DoDrop, DoMute, DoLate, Submits, Trims, DoTail, Saves, Reloads, IsAction, AreActions, HasNodes}
 use Rattle.cluster_runner.specs.EditResults.{IsRaw, AreRaw}
-use Rattle.script_actor.specs.Actor.{Actor, WantsCall, WantsCopy, fresh_actor, call_wanted, work_read, read_first, wants, is_wanting, is_broken, task_begun, copied, held_deed, deed_taken, while_wanting, settled, handed, moved_on, resettled, goes_on, Fits}
+use Rattle.script_actor.specs.Actor.{Actor, WantsCall, WantsCopy, fresh_actor, call_wanted, work_read, read_first, wants, is_wanting, is_broken, task_begun, make_copy, take_named_action, take_action, while_wanting, settle, hand_action, moved_on, settle_again, goes_on, Fits}
 use Rattle.script_actor.proofs.Framed.{framed_keeps, held_framed}
 use Rattle.cluster_runner.proofs.Led.{moved_keeps}
 use Rattle.cluster_runner.proofs.Holds.{AsksNode, AsksIn, HoldsWell, Well, taken_well, moved_well, raw_taken, raw_moved, raw_writer}
@@ -24,16 +24,16 @@ use Rattle.cluster_runner.proofs.Wanting.{Calling, Resting, calling, copying, re
 use Rattle.run_safety.proofs.WriterRange.{Sized, heard_sized, begun_sized, new_sized, call_within}
 use Rattle.cluster_runner.proofs.Goes.{GoesBy, fresh_goes, taken_goes, IsTold, moved_goes}
 
-pub deeds_snoc : (named : Bool) (ds : List Deed) (d : Deed) → AreDeeds named ds → IsDeed named d → AreDeeds named (ds ++ d ∷ [])
-unfolding AreDeeds
-deeds_snoc named [] d h e = (e, tt)
-deeds_snoc named (x ∷ ds) d h e = (h.0, deeds_snoc named ds d h.1 e)
+pub actions_snoc : (named : Bool) (ds : List Action) (d : Action) → AreActions named ds → IsAction named d → AreActions named (ds ++ d ∷ [])
+unfolding AreActions
+actions_snoc named [] d h e = (e, tt)
+actions_snoc named (x ∷ ds) d h e = (h.0, actions_snoc named ds d h.1 e)
 
 pub record Sound (named : Bool) (n : ℕ) (a : Actor) : Type 0 where
   pub sized : Sized n a.writer
   pub within : AreWithin n a.past
   pub goes : GoesBy a
-  pub deeds : AreDeeds named a.todo
+  pub actions : AreActions named a.todo
   pub holds : HoldsWell named n a.holds
 
 pub within_snoc : (n : ℕ) (rs : List Record) (r : Record) → AreWithin n rs → IsWithin n r → AreWithin n (rs ++ r ∷ [])
@@ -41,26 +41,26 @@ unfolding AreWithin
 within_snoc n [] r h e = (e, tt)
 within_snoc n (x ∷ rs) r h e = (h.0, within_snoc n rs r h.1 e)
 
--- ## A deed
+-- ## An action
 begun_keeps : (t : Task) (v : WriterView) (a : Actor) (b : Begun) → ((task_begun t v a b).todo ≡ a.todo) × ((task_begun t v a b).past ≡ a.past)
 unfolding task_begun
 begun_keeps t v a begun.Going = (refl, refl)
 begun_keeps t v a begun.NotActive = (refl, refl)
 begun_keeps t v a (begun.TooLong n) = (refl, refl)
 
-copied_keeps : (k n : ℕ) (o : Option Request) (a : Actor) → ((copied k n o a).todo ≡ a.todo) × ((copied k n o a).past ≡ a.past)
-unfolding copied
+copied_keeps : (k n : ℕ) (o : Option Request) (a : Actor) → ((make_copy k n o a).todo ≡ a.todo) × ((make_copy k n o a).past ≡ a.past)
+unfolding make_copy
 copied_keeps k n None a = (refl, refl)
 copied_keeps k n (Some q) a = (refl, refl)
 
-held_keeps : (d : Deed) (o : Option Holding) (a : Actor) → ((held_deed d o a).todo ≡ a.todo) × ((held_deed d o a).past ≡ a.past)
+held_keeps : (d : Action) (o : Option Holding) (a : Actor) → ((take_named_action d o a).todo ≡ a.todo) × ((take_named_action d o a).past ≡ a.past)
 held_keeps d o a =
-    let e : ((held_deed d o a).todo ≡ a.todo) × ((held_deed d o a).past ≡ a.past) × ((held_deed d o a).marks ≡ a.marks) × ((held_deed d o a).copies ≡ a.copies) =
-    framed_keeps (held_deed d o) (held_framed d o) a in
+    let e : ((take_named_action d o a).todo ≡ a.todo) × ((take_named_action d o a).past ≡ a.past) × ((take_named_action d o a).marks ≡ a.marks) × ((take_named_action d o a).copies ≡ a.copies) =
+    framed_keeps (take_named_action d o) (held_framed d o) a in
     (e.0, e.1)
 
-pub taken_keeps : (d : Deed) (a : Actor) → ((deed_taken d a).todo ≡ a.todo) × ((deed_taken d a).past ≡ a.past)
-unfolding deed_taken
+pub taken_keeps : (d : Action) (a : Actor) → ((take_action d a).todo ≡ a.todo) × ((take_action d a).past ≡ a.past)
+unfolding take_action
 taken_keeps (Does t) a = begun_keeps t (writer_begun a.writer t).writer a (writer_begun a.writer t).begun
 taken_keeps (DoDrop k n) a = (refl, refl)
 taken_keeps (DoMute k n) a = (refl, refl)
@@ -77,13 +77,13 @@ task_sized n t v a begun.Going g h = g
 task_sized n t v a begun.NotActive g h = h
 task_sized n t v a (begun.TooLong k) g h = h
 
-copied_sized : (n k i : ℕ) (o : Option Request) (a : Actor) → Sized n a.writer → Sized n (copied k i o a).writer
-unfolding copied
+copied_sized : (n k i : ℕ) (o : Option Request) (a : Actor) → Sized n a.writer → Sized n (make_copy k i o a).writer
+unfolding make_copy
 copied_sized n k i None a h = h
 copied_sized n k i (Some q) a h = h
 
-raw_sized : (n : ℕ) (d : Deed) (a : Actor) → IsRaw d → Sized n a.writer → Sized n (deed_taken d a).writer
-unfolding deed_taken
+raw_sized : (n : ℕ) (d : Action) (a : Actor) → IsRaw d → Sized n a.writer → Sized n (take_action d a).writer
+unfolding take_action
 raw_sized n (Does t) a r h = task_sized n t (writer_begun a.writer t).writer a (writer_begun a.writer t).begun (begun_sized n a.writer t h) h
 raw_sized n (DoDrop k i) a r h = h
 raw_sized n (DoMute k i) a r h = h
@@ -94,32 +94,32 @@ raw_sized n DoTail a r h = absurd r
 raw_sized n Saves a r h = absurd r
 raw_sized n Reloads a r h = absurd r
 
-pub deed_raw : (d : Deed) → IsDeed false d → IsRaw d
-deed_raw (Does t) e = tt
-deed_raw (DoDrop k i) e = tt
-deed_raw (DoMute k i) e = tt
-deed_raw (DoLate k i) e = tt
-deed_raw (Submits es) e = absurd e
-deed_raw (Trims extra) e = absurd e
-deed_raw DoTail e = absurd e
-deed_raw Saves e = absurd e
-deed_raw Reloads e = absurd e
+pub action_raw : (d : Action) → IsAction false d → IsRaw d
+action_raw (Does t) e = tt
+action_raw (DoDrop k i) e = tt
+action_raw (DoMute k i) e = tt
+action_raw (DoLate k i) e = tt
+action_raw (Submits es) e = absurd e
+action_raw (Trims extra) e = absurd e
+action_raw DoTail e = absurd e
+action_raw Saves e = absurd e
+action_raw Reloads e = absurd e
 
-pub deeds_raw : (ds : List Deed) → AreDeeds false ds → AreRaw ds
-unfolding AreDeeds
-deeds_raw [] e = tt
-deeds_raw (d ∷ ds) e = (deed_raw d e.0, deeds_raw ds e.1)
+pub actions_raw : (ds : List Action) → AreActions false ds → AreRaw ds
+unfolding AreActions
+actions_raw [] e = tt
+actions_raw (d ∷ ds) e = (action_raw d e.0, actions_raw ds e.1)
 
-taken_held : (named : Bool) (n : ℕ) (d : Deed) (a : Actor) → IsDeed named d → Sized n a.writer → HoldsWell named n a.holds → Sized n (deed_taken d a).writer × HoldsWell named n (deed_taken d a).holds
-taken_held true n d a e s h = let w : Well n (deed_taken d a) = taken_well n d a h.0 (s, h.1) in (w.0, (h.0, w.1))
-taken_held false n d a e s h = (raw_sized n d a (deed_raw d e) s, raw_taken d a (deed_raw d e) ∙ h)
+taken_held : (named : Bool) (n : ℕ) (d : Action) (a : Actor) → IsAction named d → Sized n a.writer → HoldsWell named n a.holds → Sized n (take_action d a).writer × HoldsWell named n (take_action d a).holds
+taken_held true n d a e s h = let w : Well n (take_action d a) = taken_well n d a h.0 (s, h.1) in (w.0, (h.0, w.1))
+taken_held false n d a e s h = (raw_sized n d a (action_raw d e) s, raw_taken d a (action_raw d e) ∙ h)
 
-taken_sound : (named : Bool) (n : ℕ) (d : Deed) (a : Actor) → IsDeed named d → Resting a → Sound named n a → Sound named n (deed_taken d a)
+taken_sound : (named : Bool) (n : ℕ) (d : Action) (a : Actor) → IsAction named d → Resting a → Sound named n a → Sound named n (take_action d a)
 taken_sound named n d a e r h = record {
   sized = (taken_held named n d a e h.sized h.holds).0;
   within = subst (λ (l : List Record). AreWithin n l) (sym (taken_keeps d a).1) h.within;
   goes = taken_goes named d a e r.copies h.goes;
-  deeds = subst (AreDeeds named) (sym (taken_keeps d a).0) h.deeds;
+  actions = subst (AreActions named) (sym (taken_keeps d a).0) h.actions;
   holds = (taken_held named n d a e h.sized h.holds).1;
 }
 
@@ -127,40 +127,40 @@ pub or_false : (b c : Bool) → (b || c) ≡ false → b ≡ false
 or_false true c e = absurd (cc e)
 or_false false c e = refl
 
-pub waiting_deeds : (named w : Bool) (ds : List Deed) → AreDeeds named ds → AreDeeds named (while_wanting w ds)
-unfolding AreDeeds
-waiting_deeds named true ds e = e
-waiting_deeds named false ds e = tt
+pub waiting_actions : (named w : Bool) (ds : List Action) → AreActions named ds → AreActions named (while_wanting w ds)
+unfolding AreActions
+waiting_actions named true ds e = e
+waiting_actions named false ds e = tt
 
-settled_by : (named : Bool) (n : ℕ) (b : Bool) (d : Deed) (ds : List Deed) (a : Actor) → (is_wanting (wants a) || is_broken a) ≡ b → AreDeeds named (d ∷ ds) → Sound named n a
-    → (Sound named n (deed_taken d a) → Sound named n (settled ds (deed_taken d a))) → Sound named n (cond b (record a { todo = while_wanting (is_wanting (wants a)) (d ∷ ds) }) (settled ds (deed_taken d a)))
-unfolding GoesBy AreDeeds
+settled_by : (named : Bool) (n : ℕ) (b : Bool) (d : Action) (ds : List Action) (a : Actor) → (is_wanting (wants a) || is_broken a) ≡ b → AreActions named (d ∷ ds) → Sound named n a
+    → (Sound named n (take_action d a) → Sound named n (settle ds (take_action d a))) → Sound named n (cond b (record a { todo = while_wanting (is_wanting (wants a)) (d ∷ ds) }) (settle ds (take_action d a)))
+unfolding GoesBy AreActions
 settled_by named n true d ds a is e h go =
-    record { sized = h.sized; within = h.within; goes = h.goes; deeds = waiting_deeds named (is_wanting (wants a)) (d ∷ ds) e; holds = h.holds }
+    record { sized = h.sized; within = h.within; goes = h.goes; actions = waiting_actions named (is_wanting (wants a)) (d ∷ ds) e; holds = h.holds }
 settled_by named n false d ds a is e h go = go (taken_sound named n d a e.0 (resting a (or_false (is_wanting (wants a)) (is_broken a) is)) h)
 
-pub settled_sound : (named : Bool) (n : ℕ) (ds : List Deed) (a : Actor) → AreDeeds named ds → Sound named n a → Sound named n (settled ds a)
-unfolding settled AreDeeds GoesBy
-settled_sound named n [] a e h = record { sized = h.sized; within = h.within; goes = h.goes; deeds = tt; holds = h.holds }
-settled_sound named n (d ∷ ds) a e h = settled_by named n (is_wanting (wants a) || is_broken a) d ds a refl e h (λ g. settled_sound named n ds (deed_taken d a) e.1 g)
+pub settled_sound : (named : Bool) (n : ℕ) (ds : List Action) (a : Actor) → AreActions named ds → Sound named n a → Sound named n (settle ds a)
+unfolding settle AreActions GoesBy
+settled_sound named n [] a e h = record { sized = h.sized; within = h.within; goes = h.goes; actions = tt; holds = h.holds }
+settled_sound named n (d ∷ ds) a e h = settled_by named n (is_wanting (wants a) || is_broken a) d ds a refl e h (λ g. settled_sound named n ds (take_action d a) e.1 g)
 
-settled_past_by : (b : Bool) (d : Deed) (ds left : List Deed) (a : Actor) → (settled ds (deed_taken d a)).past ≡ (deed_taken d a).past
-    → (cond b (record a { todo = left }) (settled ds (deed_taken d a))).past ≡ a.past
+settled_past_by : (b : Bool) (d : Action) (ds left : List Action) (a : Actor) → (settle ds (take_action d a)).past ≡ (take_action d a).past
+    → (cond b (record a { todo = left }) (settle ds (take_action d a))).past ≡ a.past
 settled_past_by true d ds left a h = refl
 settled_past_by false d ds left a h = h ∙ (taken_keeps d a).1
 
-pub settled_past : (ds : List Deed) (a : Actor) → (settled ds a).past ≡ a.past
-unfolding settled
+pub settled_past : (ds : List Action) (a : Actor) → (settle ds a).past ≡ a.past
+unfolding settle
 settled_past [] a = refl
-settled_past (d ∷ ds) a = settled_past_by (is_wanting (wants a) || is_broken a) d ds (while_wanting (is_wanting (wants a)) (d ∷ ds)) a (settled_past ds (deed_taken d a))
+settled_past (d ∷ ds) a = settled_past_by (is_wanting (wants a) || is_broken a) d ds (while_wanting (is_wanting (wants a)) (d ∷ ds)) a (settled_past ds (take_action d a))
 
-pub handed_past : (d : Deed) (a : Actor) → (handed d a).past ≡ a.past
-unfolding handed
+pub handed_past : (d : Action) (a : Actor) → (hand_action d a).past ≡ a.past
+unfolding hand_action
 handed_past d a = settled_past (a.todo ++ d ∷ []) a
 
-pub handed_sound : (named : Bool) (n : ℕ) (d : Deed) (a : Actor) → IsDeed named d → Sound named n a → Sound named n (handed d a)
-unfolding handed
-handed_sound named n d a e h = settled_sound named n (a.todo ++ d ∷ []) a (deeds_snoc named a.todo d h.deeds e) h
+pub handed_sound : (named : Bool) (n : ℕ) (d : Action) (a : Actor) → IsAction named d → Sound named n a → Sound named n (hand_action d a)
+unfolding hand_action
+handed_sound named n d a e h = settled_sound named n (a.todo ++ d ∷ []) a (actions_snoc named a.todo d h.actions e) h
 
 -- a script has a node
 pub has_nodes : (named : Bool) (n : ℕ) → 1 ≤ n → HasNodes named n
@@ -173,8 +173,8 @@ fresh_holds true n some = (some, tt)
 fresh_holds false n some = refl
 
 pub fresh_sound : (named : Bool) (n : ℕ) → HasNodes named n → Sound named n (fresh_actor named n)
-unfolding fresh_actor AreWithin AreDeeds GoesBy
-fresh_sound named n some = record { sized = new_sized n; within = tt; goes = fresh_goes; deeds = tt; holds = fresh_holds named n some }
+unfolding fresh_actor AreWithin AreActions GoesBy
+fresh_sound named n some = record { sized = new_sized n; within = tt; goes = fresh_goes; actions = tt; holds = fresh_holds named n some }
 
 -- ## A line of its record
 raw_moved_sized : (n : ℕ) (r : Record) (a : Actor) → a.holds ≡ None → Sized n a.writer → Sized n (moved_on r a).writer
@@ -189,22 +189,22 @@ moved_held true n r a s h = let w : Well n (moved_on r a) = moved_well n r a h.0
 moved_held false n r a s h = (raw_moved_sized n r a h s, raw_moved r a h)
 
 pub goes_past : (a : Actor) (r : Record) → (goes_on a r).past ≡ a.past ++ r ∷ []
-unfolding goes_on resettled
+unfolding goes_on settle_again
 goes_past a r = let b : Actor = record a { past = a.past ++ r ∷ [] } in settled_past (moved_on r b).todo (moved_on r b) ∙ (moved_keeps r b).1
 
 pub goes_sound : (named : Bool) (n : ℕ) (a : Actor) (r : Record) → Fits (wants a) r → IsTold a r → IsWithin n r → Sound named n a → Sound named n (goes_on a r)
-unfolding goes_on resettled
+unfolding goes_on settle_again
 goes_sound named n a r f t w h =
     let b : Actor = record a { past = a.past ++ r ∷ [] } in
     let keeps : ((moved_on r b).todo ≡ b.todo) × ((moved_on r b).past ≡ b.past) × ((moved_on r b).marks ≡ b.marks) = moved_keeps r b in
-    let todo : AreDeeds named (moved_on r b).todo = subst (AreDeeds named) (sym keeps.0) h.deeds in
+    let todo : AreActions named (moved_on r b).todo = subst (AreActions named) (sym keeps.0) h.actions in
     let held : Sized n (moved_on r b).writer × HoldsWell named n (moved_on r b).holds = moved_held named n r b h.sized h.holds in
     settled_sound named n (moved_on r b).todo (moved_on r b) todo
     (record {
       sized = held.0;
       within = subst (λ (l : List Record). AreWithin n l) (sym keeps.1) (within_snoc n a.past r h.within w);
       goes = moved_goes r a f t h.goes;
-      deeds = todo;
+      actions = todo;
       holds = held.1;
     })
 

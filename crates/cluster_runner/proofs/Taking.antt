@@ -9,9 +9,9 @@ use Rattle.node_history.specs.declared.record.Record.TheVariants.{Call, Late, Op
 use Rattle.node_history.specs.Cell.{fresh_cell, IsLocalRun, cell_after}
 use Rattle.mesh.specs.Makers.{IsOperation, IsOperators}
 use Rattle.mesh.specs.Matches.{reaches, IsSame, AreWithin}
-use Rattle.script_actor.specs.Lines.{Deed, Line, Declares, Acts, Operates, Operation, declared, names_in, operations_in, deeds_of, IsDeed, ArePlayable, HasNodes}
-use Rattle.script_actor.specs.Actor.{Actor, fresh_actor, handed, Rests, wants, says_first, copy_first, read_first, call_wanted}
-use Rattle.cluster_runner.specs.Plays.{Play, play_begins, actor_at, taken_at, node_asked, is_done, line_taken, next_line, turned, play_step, play_steps, history_of}
+use Rattle.script_actor.specs.Lines.{Action, Line, Declares, Acts, Operates, Operation, count_actors, names_in, operations_in, actions_of, IsAction, ArePlayable, HasNodes}
+use Rattle.script_actor.specs.Actor.{Actor, fresh_actor, hand_action, Rests, wants, say_first, copy_first, read_first, call_wanted}
+use Rattle.cluster_runner.specs.Plays.{Play, play_begins, actor_at, taken_at, node_asked, is_done, line_taken, next_line, take_turn, play_step, play_steps, history_of}
 use Rattle.cluster_runner.specs.Follows.{AreOperations}
 use Rattle.mesh.proofs.Lists.{Alike, alike, append_none, contains_none}
 use Rattle.cluster_runner.proofs.Sound.{handed_past, within_snoc}
@@ -22,8 +22,8 @@ use Rattle.cluster_runner.proofs.Answers.{operation_answer}
 use Rattle.cluster_runner.proofs.Playing.{Operated, Holds, asked_as, wanted_holds}
 
 -- ## What lines declare and operate, line by line
-declared_append : (ls ms : List Line) → declared (ls ++ ms) ≡ declared ls + declared ms
-unfolding declared
+declared_append : (ls ms : List Line) → count_actors (ls ++ ms) ≡ count_actors ls + count_actors ms
+unfolding count_actors
 declared_append [] ms = omega arith
 declared_append (Declares x ∷ ls) ms = omega (arith, declared_append ls ms)
 declared_append (Acts a d ∷ ls) ms = declared_append ls ms
@@ -46,27 +46,27 @@ operations_append (Operates k ask ∷ ls) ms = ap (λ (l : List Operation). reco
 none_more : (k : ℕ) → k + 0 ≡ k
 none_more k = omega arith
 
-declared_declares : (ls : List Line) (x : List ℕ) → declared (ls ++ Declares x ∷ []) ≡ declared ls + 1
-unfolding declared
+declared_declares : (ls : List Line) (x : List ℕ) → count_actors (ls ++ Declares x ∷ []) ≡ count_actors ls + 1
+unfolding count_actors
 declared_declares ls x = declared_append ls (Declares x ∷ [])
 
-declared_acts : (ls : List Line) (a : ℕ) (d : Deed) → declared (ls ++ Acts a d ∷ []) ≡ declared ls
-unfolding declared
-declared_acts ls a d = declared_append ls (Acts a d ∷ []) ∙ none_more (declared ls)
+declared_acts : (ls : List Line) (a : ℕ) (d : Action) → count_actors (ls ++ Acts a d ∷ []) ≡ count_actors ls
+unfolding count_actors
+declared_acts ls a d = declared_append ls (Acts a d ∷ []) ∙ none_more (count_actors ls)
 
-declared_operates : (ls : List Line) (k : ℕ) (ask : NodeAsk) → declared (ls ++ Operates k ask ∷ []) ≡ declared ls
-unfolding declared
-declared_operates ls k ask = declared_append ls (Operates k ask ∷ []) ∙ none_more (declared ls)
+declared_operates : (ls : List Line) (k : ℕ) (ask : NodeAsk) → count_actors (ls ++ Operates k ask ∷ []) ≡ count_actors ls
+unfolding count_actors
+declared_operates ls k ask = declared_append ls (Operates k ask ∷ []) ∙ none_more (count_actors ls)
 
-declared_next : (ls : List Line) (x : List ℕ) (ms : List Line) → declared (ls ++ Declares x ∷ ms) ≡ declared ls + suc (declared ms)
-unfolding declared
+declared_next : (ls : List Line) (x : List ℕ) (ms : List Line) → count_actors (ls ++ Declares x ∷ ms) ≡ count_actors ls + suc (count_actors ms)
+unfolding count_actors
 declared_next ls x ms = declared_append ls (Declares x ∷ ms)
 
 names_declares : (ls : List Line) (x : List ℕ) → names_in (ls ++ Declares x ∷ []) ≡ names_in ls ++ x ∷ []
 unfolding names_in
 names_declares ls x = names_append ls (Declares x ∷ [])
 
-names_acts : (ls : List Line) (a : ℕ) (d : Deed) → names_in (ls ++ Acts a d ∷ []) ≡ names_in ls
+names_acts : (ls : List Line) (a : ℕ) (d : Action) → names_in (ls ++ Acts a d ∷ []) ≡ names_in ls
 unfolding names_in
 names_acts ls a d = names_append ls (Acts a d ∷ []) ∙ append_none (names_in ls)
 
@@ -108,7 +108,7 @@ operated_same n taken rs l e h = record {
 }
 
 fresh_rests : (named : Bool) (n : ℕ) → wants (fresh_actor named n) ≡ Rests
-unfolding wants fresh_actor says_first copy_first read_first call_wanted
+unfolding wants fresh_actor say_first copy_first read_first call_wanted
 fresh_rests true n = refl
 fresh_rests false n = refl
 
@@ -120,8 +120,8 @@ declares_holds : (named : Bool) (n : ℕ) (lines : List Line) (p : Play) (x : Li
 unfolding line_taken ArePlayable Alike operations_in actor_at
 declares_holds named n lines p x ls h e is =
     let long : length (p.actors ++ fresh_actor p.named p.nodes ∷ []) ≡ length p.actors + 1 = length-append p.actors (fresh_actor p.named p.nodes ∷ []) in
-    let count : declared (h.taken ++ Declares x ∷ []) ≡ declared h.taken + 1 = declared_declares h.taken x in
-    let whole : declared lines ≡ declared h.taken + suc (declared ls) = ap declared (h.all ∙ ap (λ (z : List Line). h.taken ++ z) is) ∙ declared_next h.taken x ls in
+    let count : count_actors (h.taken ++ Declares x ∷ []) ≡ count_actors h.taken + 1 = declared_declares h.taken x in
+    let whole : count_actors lines ≡ count_actors h.taken + suc (count_actors ls) = ap count_actors (h.all ∙ ap (λ (z : List Line). h.taken ++ z) is) ∙ declared_next h.taken x ls in
     record {
       taken = h.taken ++ Declares x ∷ [];
       all = more_lines lines h.taken (Declares x) ls p.lines h.all is;
@@ -151,11 +151,11 @@ some_is : (a b : ℕ) → Some a ≡ Some b → a ≡ b
 some_is a b e = cc e
 
 -- ## An actor's line
-acts_holds : (named : Bool) (n : ℕ) (lines : List Line) (p : Play) (a : ℕ) (d : Deed) (ls : List Line) → Holds named n lines p → p.turn ≡ None → p.lines ≡ Acts a d ∷ ls → Holds named n lines (line_taken (Acts a d) (record p { lines = ls }))
+acts_holds : (named : Bool) (n : ℕ) (lines : List Line) (p : Play) (a : ℕ) (d : Action) (ls : List Line) → Holds named n lines p → p.turn ≡ None → p.lines ≡ Acts a d ∷ ls → Holds named n lines (line_taken (Acts a d) (record p { lines = ls }))
 unfolding line_taken ArePlayable actor_at operations_in
 acts_holds named n lines p a d ls h e is =
-    let can : (a < length p.actors) × IsDeed p.named d × ArePlayable p.named p.nodes (length p.actors) ls = subst (λ (z : List Line). ArePlayable p.named p.nodes (length p.actors) z) is h.playable in
-    let b : Actor = handed d (get_or p.actors a (fresh_actor p.named p.nodes)) in
+    let can : (a < length p.actors) × IsAction p.named d × ArePlayable p.named p.nodes (length p.actors) ls = subst (λ (z : List Line). ArePlayable p.named p.nodes (length p.actors) z) is h.playable in
+    let b : Actor = hand_action d (get_or p.actors a (fresh_actor p.named p.nodes)) in
     let long : length (set p.actors a b) ≡ length p.actors = length-set p.actors a b in
     record {
       taken = h.taken ++ Acts a d ∷ [];
@@ -213,8 +213,8 @@ unfolding next_line
 next_holds named n lines p [] h e is = h
 next_holds named n lines p (l ∷ ls) h e is = line_holds named n lines p l ls h e is
 
-turned_holds : (named : Bool) (n : ℕ) (lines : List Line) (p : Play) (o : Option ℕ) → Holds named n lines p → p.turn ≡ o → Holds named n lines (turned o p)
-unfolding turned
+turned_holds : (named : Bool) (n : ℕ) (lines : List Line) (p : Play) (o : Option ℕ) → Holds named n lines p → p.turn ≡ o → Holds named n lines (take_turn o p)
+unfolding take_turn
 turned_holds named n lines p None h e = next_holds named n lines p p.lines h e refl
 turned_holds named n lines p (Some a) h e = wanted_holds named n lines p a (wants (actor_at p a)) h e refl
 
@@ -233,7 +233,7 @@ unfolding fresh_actor
 first_step named n c = begins
 
 pub begins_hold : (named : Bool) (n : ℕ) (lines : List Line) → HasNodes named n → ArePlayable named n 0 lines → Holds named n lines (play_begins named n lines)
-unfolding play_begins history_of IsLocalRun cell_after names_in declared operations_in AreOperations IsOperators AreWithin deeds_of actor_at
+unfolding play_begins history_of IsLocalRun cell_after names_in count_actors operations_in AreOperations IsOperators AreWithin actions_of actor_at
 begins_hold named n lines some can = record {
   taken = [];
   all = refl;

@@ -6,14 +6,14 @@ use Rattle.node_history.specs.declared.record.Record.TheVariants.{Call, Late, Op
 use Rattle.node_history.specs.declared.record.Told.{Told}
 use Rattle.script_actor.specs.Lines.{Line}
 use Rattle.script_actor.specs.Actor.{Actor, Want, WantsCall, WantsCopy, Says, Rests, wants, goes_on, Fits, actor_after, IsLed}
-use Rattle.cluster_runner.specs.Plays.{Play, next_line, turned, play_step, play_steps, play_begins, has_ended, IsPlay}
+use Rattle.cluster_runner.specs.Plays.{Play, next_line, take_turn, play_step, play_steps, play_begins, has_ended, IsPlay}
 use Rattle.cluster_runner.specs.Told.{told_in}
 use Rattle.cluster_runner.proofs.Final.{ended_lines, ended_turn}
 
 -- ## A play that has ended stays as it is
-still_by : (p : Play) (o : Option ℕ) (ls : List Line) → o ≡ None → p.lines ≡ ls → ls ≡ [] → turned o p ≡ p
-unfolding turned next_line
-still_by p o ls e l n = subst (λ (x : Option ℕ). turned x p ≡ p) (sym e) (subst (λ (x : List Line). next_line x p ≡ p) (sym (l ∙ n)) refl)
+still_by : (p : Play) (o : Option ℕ) (ls : List Line) → o ≡ None → p.lines ≡ ls → ls ≡ [] → take_turn o p ≡ p
+unfolding take_turn next_line
+still_by p o ls e l n = subst (λ (x : Option ℕ). take_turn x p ≡ p) (sym e) (subst (λ (x : List Line). next_line x p ≡ p) (sym (l ∙ n)) refl)
 
 still : (p : Play) → has_ended p ≡ true → play_step p ≡ p
 unfolding play_step

@@ -7,7 +7,7 @@ use Rattle.node_history.specs.declared.node_ask.NodeAsk.{NodeAsk}
 use Rattle.node_history.specs.declared.record.Record.TheVariants.{Call, Late, Operator, Outcome}
 use Rattle.node_history.specs.declared.record.Told.{Told}
 use Rattle.name_node.specs.Holding.{Holding, Work, Free, Tails, Logs, Broken}
-use Rattle.script_actor.specs.Actor.{Actor, Want, WantsCall, WantsCopy, Says, Rests, wants, is_wanting, call_wanted, work_read, read_first, copy_first, says_first, Fits}
+use Rattle.script_actor.specs.Actor.{Actor, Want, WantsCall, WantsCopy, Says, Rests, wants, is_wanting, call_wanted, work_read, read_first, copy_first, say_first, Fits}
 
 -- what an actor wants that has nothing to say and no copy to send: a read of its tail, or its writer's call
 abbrev pub reads_or_calls : Actor → Want
@@ -90,37 +90,37 @@ no_text_first None o t e = no_text_in o t e
 no_text_first (Some h) o t e = no_text_read h.work h.position o t e
 
 pub calling : (a : Actor) (k : ℕ) (q : Request) → wants a ≡ WantsCall k q → Calling k q a
-unfolding wants says_first copy_first
+unfolding wants say_first copy_first
 calling a k q e = by a.says a.copies refl refl e
   where
-    by : (s : List (List ℕ)) (o : Option (ℕ × Request)) → a.says ≡ s → a.copies ≡ o → says_first s (copy_first o (reads_or_calls a)) ≡ WantsCall k q → Calling k q a
+    by : (s : List (List ℕ)) (o : Option (ℕ × Request)) → a.says ≡ s → a.copies ≡ o → say_first s (copy_first o (reads_or_calls a)) ≡ WantsCall k q → Calling k q a
     by [] None f g h = record { says = f; copies = g; want = h }
     by [] (Some c) f g h = absurd (cc h)
     by (t ∷ ts) o f g h = absurd (cc h)
 
 pub copying : (a : Actor) (k : ℕ) (q : Request) → wants a ≡ WantsCopy k q → Copying k q a
-unfolding wants says_first copy_first
+unfolding wants say_first copy_first
 copying a k q e = by a.says a.copies refl refl e
   where
-    by : (s : List (List ℕ)) (o : Option (ℕ × Request)) → a.says ≡ s → a.copies ≡ o → says_first s (copy_first o (reads_or_calls a)) ≡ WantsCopy k q → Copying k q a
+    by : (s : List (List ℕ)) (o : Option (ℕ × Request)) → a.says ≡ s → a.copies ≡ o → say_first s (copy_first o (reads_or_calls a)) ≡ WantsCopy k q → Copying k q a
     by [] None f g h = absurd (no_copy_first a.holds (next_call a.writer) k q h)
     by [] (Some c) f g h = let first : c.0 ≡ k = cc h in let second : c.1 ≡ q = cc h in let whole : c ≡ (k, q) = pair_is c k q first second in record { says = f; copies = g ∙ ap (λ (x : ℕ × Request). Some x) whole }
     by (t ∷ ts) o f g h = absurd (cc h)
 
 pub resting : (a : Actor) → is_wanting (wants a) ≡ false → Resting a
-unfolding wants says_first copy_first is_wanting
+unfolding wants say_first copy_first is_wanting
 resting a e = by a.says a.copies refl refl e
   where
-    by : (s : List (List ℕ)) (o : Option (ℕ × Request)) → a.says ≡ s → a.copies ≡ o → is_wanting (says_first s (copy_first o (reads_or_calls a))) ≡ false → Resting a
+    by : (s : List (List ℕ)) (o : Option (ℕ × Request)) → a.says ≡ s → a.copies ≡ o → is_wanting (say_first s (copy_first o (reads_or_calls a))) ≡ false → Resting a
     by [] None f g h = record { says = f; copies = g; want = h }
     by [] (Some c) f g h = absurd (cc h)
     by (t ∷ ts) o f g h = absurd (cc h)
 
 pub saying : (a : Actor) (t : List ℕ) → wants a ≡ Says t → Saying t a
-unfolding wants says_first copy_first
+unfolding wants say_first copy_first
 saying a t e = by a.says a.copies refl e
   where
-    by : (s : List (List ℕ)) (o : Option (ℕ × Request)) → a.says ≡ s → says_first s (copy_first o (reads_or_calls a)) ≡ Says t → Saying t a
+    by : (s : List (List ℕ)) (o : Option (ℕ × Request)) → a.says ≡ s → say_first s (copy_first o (reads_or_calls a)) ≡ Says t → Saying t a
     by [] None f h = absurd (no_text_first a.holds (next_call a.writer) t h)
     by [] (Some x) f h = absurd (cc h)
     by (x ∷ xs) o f h = let same : x ≡ t = cc h in record { rest = xs; says = f ∙ ap (λ (z : List ℕ). z ∷ xs) same }

@@ -3,7 +3,7 @@ use Rattle.std.specs.Prelude.{◌≡◌, ℕ, ◌≤◌, false, List, [], ◌∷
 use Rattle.writer_core.specs.declared.task.Task.{Task}
 use Rattle.writer_core.specs.declared.task.Task.TheVariants as task
 use Rattle.node_history.specs.declared.record.Record.{Record}
-use Rattle.script_actor.specs.Lines.{Deed, Does, DoDrop, DoMute, DoLate, Submits, Trims, DoTail, Saves, Reloads}
+use Rattle.script_actor.specs.Lines.{Action, Does, DoDrop, DoMute, DoLate, Submits, Trims, DoTail, Saves, Reloads}
 use Rattle.script_actor.specs.Actor.{Actor, is_broken, goes_on}
 
 abbrev pub results_due : Task → ℕ
@@ -14,7 +14,7 @@ results_due task.Close = 1
 results_due (task.Purge min) = 1
 
 -- a late copy has a result only where there is no such call
-abbrev pub AreResultsOf : Deed → List (List ℕ) → Type 0
+abbrev pub AreResultsOf : Action → List (List ℕ) → Type 0
 AreResultsOf (Does t) texts = length texts ≡ results_due t
 AreResultsOf (DoDrop node call) texts = texts ≡ []
 AreResultsOf (DoMute node call) texts = texts ≡ []
@@ -25,20 +25,20 @@ AreResultsOf DoTail texts = length texts ≡ 1
 AreResultsOf Saves texts = length texts ≡ 1
 AreResultsOf Reloads texts = length texts ≡ 1
 
--- the result lines, deed by deed, in order
-unfoldable pub AreResults : List Deed → List (List ℕ) → Type 0
+-- the result lines, action by action, in order
+unfoldable pub AreResults : List Action → List (List ℕ) → Type 0
 AreResults [] texts = texts ≡ []
 AreResults (d ∷ ds) texts = (first rest : List (List ℕ)) × (texts ≡ first ++ rest) × AreResultsOf d first × AreResults ds rest
 
--- the deeds of a script without names
-abbrev pub IsRaw : Deed → Type 0
+-- the actions of a script without names
+abbrev pub IsRaw : Action → Type 0
 IsRaw (Does t) = Unit {0}
 IsRaw (DoDrop node call) = Unit {0}
 IsRaw (DoMute node call) = Unit {0}
 IsRaw (DoLate node call) = Unit {0}
 IsRaw _ = ⊥
 
-abbrev pub AreRaw : List Deed → Type 0
+abbrev pub AreRaw : List Action → Type 0
 AreRaw [] = Unit {0}
 AreRaw (d ∷ ds) = IsRaw d × AreRaw ds
 

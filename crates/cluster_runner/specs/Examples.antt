@@ -28,7 +28,7 @@ played nodes lines = play_steps 150 (play_begins false nodes lines)
 unfoldable pub results_at : Play → ℕ → List (List ℕ)
 results_at p actor = results_in (actor_at p actor).past
 
--- what a node lists behind its first lines
+-- what a node lists after its first lines
 unfoldable pub listed : Play → ℕ → ℕ → List HistoryLine
 listed p node skipped = drop skipped (history_of node p.trace)
 
@@ -66,7 +66,7 @@ does operator ask = record { caller = operator; ask = ask; answer = Done }
 unfoldable pub dropped_call : List Line
 dropped_call = Declares (codes "a") ∷ Acts 0 (Does Takeover) ∷ Acts 0 (DoDrop 1 1) ∷ Acts 0 (Does (Log (edit 10))) ∷ []
 
--- ## Nine nodes, four of them down before the takeover, and a fifth behind it
+-- ## Nine nodes, four of them down before the takeover, and a fifth after it
 unfoldable pub killed_nodes : List Line
 killed_nodes =
     Declares (codes "a") ∷ Operates 6 Kill ∷ Operates 7 Kill ∷ Operates 8 Kill ∷ Operates 9 Kill ∷ Acts 0 (Does Takeover) ∷ Operates 5 Kill
@@ -128,7 +128,7 @@ second_fetch_lines =
     ∷ tells 1 (request.Journal (head 2 7 1) 2 (batch 2 (edit 24))) reply.Ok
     ∷ []
 
--- ## A copy that comes late: behind a restart, to the node as it was, and of a call that was never made
+-- ## A copy that comes late: after a restart, to the node as it was, and of a call that was never made
 unfoldable pub late_copies : List Line
 late_copies =
     Declares (codes "a") ∷ Acts 0 (Does Takeover) ∷ Acts 0 (DoLate 1 3) ∷ Operates 1 Kill ∷ Operates 1 Restart ∷ Acts 0 (DoLate 1 3)
@@ -182,7 +182,7 @@ stopping_lines =
     ∷ refuses 1 (request.Start (head 2 2 0) 1) refusal.Down
     ∷ []
 
--- ## A node that is cut off inside an acceptance, behind so many disk calls
+-- ## A node that is cut off inside an acceptance, after so many disk calls
 unfoldable pub cut_in_accept : ℕ → List Line
 cut_in_accept calls =
     Declares (codes "a") ∷ Declares (codes "b") ∷ Acts 0 (Does Takeover) ∷ Operates 1 (Arm 5 (DiskCalls calls Old)) ∷ Acts 1 (Does Takeover)

@@ -1,4 +1,4 @@
--- What no node over a disk that holds shows: a fault of the disk, a want of memory, a file that no node wrote.
+-- What no node over a disk that holds shows: a fault of the disk, a lack of memory, a file that no node wrote.
 use Rattle.std.specs.List.{All}
 use Rattle.journal_core.specs.Answers.{IsOwn}
 use Rattle.node_history.specs.declared.node_ask.NodeAnswer.{NodeAnswer}

@@ -3,7 +3,7 @@ use Rattle.std.specs.Prelude.{◌≡◌, ℕ, ◌+◌, ◌<◌, Bool, List, leng
 use Rattle.script_text.specs.declared.script_line.ScriptLine.{ScriptLine}
 use Rattle.script_text.specs.declared.script_line.ScriptLine.TheVariants as line
 use Rattle.script_actor.specs.Lines.{Line, Declares, Acts, Operates, line_of, ArePlayable, AreInRange}
-use Rattle.script_actor.specs.Deeds.{MayCome}
+use Rattle.script_actor.specs.Actions.{MayCome}
 use Rattle.cluster_runner.specs.Plays.{Play, play_begins}
 use Rattle.cluster_runner.specs.Kept.{Kept, IsAtRest, Leads}
 use Rattle.cluster_runner.specs.Ready.{IsIdle}
@@ -11,7 +11,7 @@ use Rattle.cluster_runner.specs.Ready.{IsIdle}
 -- the actor of a line
 abbrev pub IsDeclared : ℕ → Line → Type 0
 IsDeclared actors (Declares name) = Unit {0}
-IsDeclared actors (Acts actor deed) = actor < actors
+IsDeclared actors (Acts actor action) = actor < actors
 IsDeclared actors (Operates node ask) = Unit {0}
 
 -- the line may come in a script with names or without, where there are so many nodes and so many actors are declared

@@ -37,16 +37,16 @@ abbrev pub answer_to : CellView → NodeAsk → NodeAnswer
 answer_to v ask = (cell_takes v.cell ask).answer
 
 -- the node once it has taken and listed what this caller asked
-abbrev pub listed : CellView → ℕ → NodeAsk → CellView
-listed v c ask =
+abbrev pub list_ask : CellView → ℕ → NodeAsk → CellView
+list_ask v c ask =
     record { cell = (cell_takes v.cell ask).cell; history = v.history ++ record { caller = c; ask = ask; answer = answer_to v ask } ∷ [] }
 
 -- ## One call
 -- a call that isn't delivered reaches no node
 abbrev pub reached_by : Delivery → CellView → ℕ → Request → CellView
 reached_by NotDelivered v c r = v
-reached_by ReplyLost v c r = listed v c (Act false r)
-reached_by Delivered v c r = listed v c (Act false r)
+reached_by ReplyLost v c r = list_ask v c (Act false r)
+reached_by Delivered v c r = list_ask v c (Act false r)
 
 abbrev pub told_by : Delivery → CellView → Request → Told
 told_by d v r = told_of d (answer_to v (Act false r))
@@ -58,7 +58,7 @@ with_actor_at k c a = record k { actors = slice_set k.actors c a }
 abbrev pub operates : Kept → ℕ → NodeAsk → Kept
 operates k node ask =
     record k {
-      nodes = slice_set k.nodes (node - 1) (listed (node_at k node) k.operator ask);
+      nodes = slice_set k.nodes (node - 1) (list_ask (node_at k node) k.operator ask);
       operated = k.operated ++ Operator node ask (is_done (answer_to (node_at k node) ask)) ∷ [];
     }
 
@@ -119,8 +119,8 @@ abbrev pub states_kept : Kept → List (Option NodeState)
 states_kept k = map (λ v. Some v.cell.state) k.nodes
 
 -- the states that nodes tell after these histories
-abbrev pub states_behind : List (List HistoryLine) → List (Option NodeState)
-states_behind histories = map (λ h. Some (cell_after fresh_cell h).state) histories
+abbrev pub states_after : List (List HistoryLine) → List (Option NodeState)
+states_after histories = map (λ h. Some (cell_after fresh_cell h).state) histories
 
 -- This is what some play of a script with these lines, with names or without, is known by at its end.
 pub record IsPlayed (named : Bool) (nodes : ℕ) (lines : List Line) (m : Mesh) (ends : List End) : Type 0 where

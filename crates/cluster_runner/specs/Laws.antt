@@ -10,8 +10,8 @@ use Rattle.ns_tree.specs.declared.end.End.{End}
 use Rattle.mesh.specs.Agree.{Agrees}
 use Rattle.mesh.specs.Order.{placed_at, entries_at, epoch_order}
 use Rattle.script_text.specs.Views.{ScriptView}
-use Rattle.script_actor.specs.Lines.{Deed, AreDeeds, Line, ArePlayable, HasNodes, IsPlayable}
-use Rattle.script_actor.specs.Actor.{Actor, Rests, wants, settled, handed, actor_after, IsLed}
+use Rattle.script_actor.specs.Lines.{Action, AreActions, Line, ArePlayable, HasNodes, IsPlayable}
+use Rattle.script_actor.specs.Actor.{Actor, Rests, wants, settle, hand_action, actor_after, IsLed}
 use Rattle.cluster_runner.specs.Plays.{Play, IsPlay, Plays, play_steps, play_begins, history_of, mesh_of, ends_of}
 use Rattle.cluster_runner.specs.Safe.{IsSafeWithEnds, HoldNothing}
 use Rattle.cluster_runner.specs.Follows.{actor_with, FollowsLines, FollowsScript, Follows}
@@ -66,22 +66,22 @@ LocalRuns =
 
 -- ## Actors. Lines that are handed over together, or one after the other
 abbrev pub LinesOneByOne : Type 0
-LinesOneByOne = (ds : List Deed) → (d : Deed) → (a : Actor) → settled (ds ++ d ∷ []) a ≡ handed d (settled ds a)
+LinesOneByOne = (ds : List Action) → (d : Action) → (a : Actor) → settle (ds ++ d ∷ []) a ≡ hand_action d (settle ds a)
 
 -- one more line leaves what the actor did before, and is taken where it left off
 abbrev pub LineLater : Type 0
 LineLater =
-    (a : Actor) → (rs : List Record) → (d : Deed) → IsLed a rs
-    → IsLed (handed d a) rs × (actor_after (handed d a) rs ≡ handed d (actor_after a rs))
+    (a : Actor) → (rs : List Record) → (d : Action) → IsLed a rs
+    → IsLed (hand_action d a) rs × (actor_after (hand_action d a) rs ≡ hand_action d (actor_after a rs))
 
 -- an actor's calls are those of its tasks and its tails
 abbrev pub LedIsMade : Type 0
 LedIsMade =
-    (named : Bool) → (nodes : ℕ) → (ds : List Deed) → (rs : List Record) → AreDeeds named ds → IsLed (actor_with named nodes ds) rs → IsOfChores nodes rs
+    (named : Bool) → (nodes : ℕ) → (ds : List Action) → (rs : List Record) → AreActions named ds → IsLed (actor_with named nodes ds) rs → IsOfChores nodes rs
 
 -- and without names of its tasks alone
 abbrev pub LedIsOfTasks : Type 0
-LedIsOfTasks = (nodes : ℕ) → (ds : List Deed) → (rs : List Record) → AreDeeds false ds → IsLed (actor_with false nodes ds) rs → IsOfTasks nodes rs
+LedIsOfTasks = (nodes : ℕ) → (ds : List Action) → (rs : List Record) → AreActions false ds → IsLed (actor_with false nodes ds) rs → IsOfTasks nodes rs
 
 -- what its calls were told fixes an actor's whole record
 abbrev pub OneRecord : Type 0
@@ -92,11 +92,11 @@ OneRecord =
 -- an actor that follows its lines says each line's results in order: one for each edit of a log line
 abbrev pub EachResult : Type 0
 EachResult =
-    (nodes : ℕ) → (ds : List Deed) → (rs : List Record) → (plan : List Mark) → (e : End) → 1 ≤ nodes → AreRaw ds → Follows false nodes ds rs plan e
+    (nodes : ℕ) → (ds : List Action) → (rs : List Record) → (plan : List Mark) → (e : End) → 1 ≤ nodes → AreRaw ds → Follows false nodes ds rs plan e
     → AreResults ds (results_in rs)
 
 -- and with names, unless it meets a bad entry: one for each edit that is submitted
 abbrev pub EachNamedResult : Type 0
 EachNamedResult =
-    (nodes : ℕ) → (ds : List Deed) → (rs : List Record) → (plan : List Mark) → (e : End) → 1 ≤ nodes → AreDeeds true ds → Follows true nodes ds rs plan e
+    (nodes : ℕ) → (ds : List Action) → (rs : List Record) → (plan : List Mark) → (e : End) → 1 ≤ nodes → AreActions true ds → Follows true nodes ds rs plan e
     → NeverBroken (actor_with true nodes ds) rs → AreResults ds (results_in rs)

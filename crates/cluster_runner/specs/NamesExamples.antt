@@ -9,7 +9,7 @@ use Rattle.ns_tree.specs.Space.{pair}
 use Rattle.ns_replay.specs.Examples.{plain, called, mkdir_u}
 use Rattle.writer_core.specs.declared.task.Task.TheVariants as task
 use Rattle.node_history.specs.declared.node_ask.NodeAsk.TheVariants.{Kill, Restart}
-use Rattle.script_actor.specs.Lines.{Line, Declares, Acts, Operates, Deed, Does, DoDrop, Submits, Trims, DoTail, Saves, Reloads}
+use Rattle.script_actor.specs.Lines.{Line, Declares, Acts, Operates, Action, Does, DoDrop, Submits, Trims, DoTail, Saves, Reloads}
 use Rattle.script_actor.specs.Actor.{last_of}
 use Rattle.cluster_runner.specs.Plays.{Play, play_begins, play_steps, actor_at}
 
@@ -25,13 +25,13 @@ abbrev pub left : ℕ → List Row → Option LastSpace
 left position rows = Some (record { position = position; rows = rows })
 
 -- ## Words to write them in
-abbrev pub one : Op → Deed
+abbrev pub one : Op → Action
 one op = Submits (plain op ∷ [])
 
-abbrev pub takes_over : Deed
+abbrev pub takes_over : Action
 takes_over = Does task.Takeover
 
--- ## A standby that tails behind the writer, saves, and begins again from what it saved
+-- ## A standby that tails after the writer, saves, and begins again from what it saved
 unfoldable pub standby_lines : List Line
 standby_lines =
     Declares (codes "a") ∷ Declares (codes "s") ∷ Acts 0 takes_over

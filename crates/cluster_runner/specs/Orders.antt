@@ -32,7 +32,7 @@ came_about =
     ∷ at 1 (says 1 (request.Journal (head 1 2 0) 1 (batch 1 (edit 24))) reply.Ok) ∷ at 2 (says 1 (request.Journal (head 1 2 0) 1 (batch 1 (edit 24))) reply.Ok)
     ∷ at 3 (says 1 (request.Journal (head 1 2 0) 1 (batch 1 (edit 24))) reply.Ok) ∷ at 2 entry.Kill ∷ []
 
--- by promises: the kill stands behind its node's last entry
+-- by promises: the kill stands after its node's last entry
 unfoldable pub by_promise : List Entry
 by_promise =
     at 1 entry.Kill ∷ at 1 entry.Restart ∷ at 1 (entry.Answer 0 entry.Muted (request.NewEpoch 1) (reply.NewEpoch None))

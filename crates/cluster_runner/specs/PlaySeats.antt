@@ -8,7 +8,7 @@ use Rattle.node_history.specs.declared.record.Told.{Told}
 use Rattle.node_history.specs.NodeCells.{CellView, new_cell}
 use Rattle.caller_seats.specs.declared.delivery.Delivery.{Delivery}
 use Rattle.caller_seats.specs.Logs.{LogView}
-use Rattle.cluster_runner.specs.Kept.{listed, reached_by, told_by}
+use Rattle.cluster_runner.specs.Kept.{list_ask, reached_by, told_by}
 
 pub record SeatsView : Type 0 where
   pub caller : ℕ
@@ -30,7 +30,7 @@ pub record Reaches (caller node : ℕ) (request : Request) (told : Told) (old ne
 pub record CopyReaches (caller node : ℕ) (request : Request) (old new : List CellView) : Type 0 where
   pub low : 1 ≤ node
   pub high : node ≤ length old
-  pub cells : new ≡ slice_set old (node - 1) (listed (cell_at old node) caller (Act true request))
+  pub cells : new ≡ slice_set old (node - 1) (list_ask (cell_at old node) caller (Act true request))
 
 -- one line of the caller's record, and what it did at the nodes
 abbrev pub LineGoes : ℕ → Record → List CellView → List CellView → Type 0

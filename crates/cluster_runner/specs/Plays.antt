@@ -17,14 +17,14 @@ use Rattle.script_text.specs.Views.{ScriptView}
 pub use Rattle.caller_seats.specs.declared.delivery.Delivery.{Delivery}
 pub use Rattle.caller_seats.specs.declared.delivery.Delivery.TheVariants.{Delivered, ReplyLost, NotDelivered}
 unfoldable pub use Rattle.caller_seats.specs.Deliveries.{same_kind, is_marked, delivery, told_of, is_done}
-use Rattle.script_actor.specs.Lines.{Line, Declares, Acts, Operates, lines_of, declared}
-use Rattle.script_actor.specs.Actor.{Actor, fresh_actor, handed, Want, WantsCall, WantsCopy, Says, Rests, wants, goes_on, last_of}
+use Rattle.script_actor.specs.Lines.{Line, Declares, Acts, Operates, lines_of, count_actors}
+use Rattle.script_actor.specs.Actor.{Actor, fresh_actor, hand_action, Want, WantsCall, WantsCopy, Says, Rests, wants, goes_on, last_of}
 
 pub record Play : Type 0 where
   -- with names or without
   pub named : Bool
   pub nodes : ℕ
-  -- the operator's number, behind those of all actors
+  -- the operator's number, after those of all actors
   pub operator : ℕ
   -- the lines still to come, and the actor whose line is under way
   pub lines : List Line
@@ -38,7 +38,7 @@ pub record Play : Type 0 where
 
 unfoldable pub play_begins : Bool → ℕ → List Line → Play
 play_begins named nodes lines =
-    record { named = named; nodes = nodes; operator = declared lines; lines = lines; turn = None; names = []; cells = replicate nodes fresh_cell; actors = []; trace = []; operated = [] }
+    record { named = named; nodes = nodes; operator = count_actors lines; lines = lines; turn = None; names = []; cells = replicate nodes fresh_cell; actors = []; trace = []; operated = [] }
 
 unfoldable pub actor_at : Play → ℕ → Actor
 actor_at p c = slice_index_or p.actors c (fresh_actor p.named p.nodes)
@@ -55,28 +55,28 @@ node_asked node caller muted ask p =
     }
 
 -- the actor goes on by one line of its record
-unfoldable pub noted : ℕ → Record → Play → Play
-noted c r p = record p { actors = slice_set p.actors c (goes_on (actor_at p c) r) }
+unfoldable pub note_record : ℕ → Record → Play → Play
+note_record c r p = record p { actors = slice_set p.actors c (goes_on (actor_at p c) r) }
 
 -- ## How a call goes, by the actor's marks
 unfoldable pub call_made : Delivery → ℕ → ℕ → Request → Play → Play
-call_made NotDelivered c node r p = noted c (Call node r told.Dropped) p
-call_made ReplyLost c node r p = noted c (Call node r told.Muted) (node_asked node c true (Act false r) p)
-call_made Delivered c node r p = noted c (Call node r (told_of Delivered (taken_at node (Act false r) p).answer)) (node_asked node c false (Act false r) p)
+call_made NotDelivered c node r p = note_record c (Call node r told.Dropped) p
+call_made ReplyLost c node r p = note_record c (Call node r told.Muted) (node_asked node c true (Act false r) p)
+call_made Delivered c node r p = note_record c (Call node r (told_of Delivered (taken_at node (Act false r) p).answer)) (node_asked node c false (Act false r) p)
 
 unfoldable pub copy_made : ℕ → ℕ → Request → Play → Play
-copy_made c node r p = noted c (Late node r) (node_asked node c false (Act true r) p)
+copy_made c node r p = note_record c (Late node r) (node_asked node c false (Act true r) p)
 
 -- ## One step: what the actor in turn wants, or the end of its turn; else the next line
-unfoldable pub wanted : Want → ℕ → Play → Play
-wanted Rests c p = record p { turn = None }
-wanted (Says text) c p = noted c (Outcome text) p
-wanted (WantsCall node r) c p = call_made (delivery (actor_at p c).marks node (next_number node (actor_at p c).past)) c node r p
-wanted (WantsCopy node r) c p = copy_made c node r p
+unfoldable pub meet_want : Want → ℕ → Play → Play
+meet_want Rests c p = record p { turn = None }
+meet_want (Says text) c p = note_record c (Outcome text) p
+meet_want (WantsCall node r) c p = call_made (delivery (actor_at p c).marks node (next_number node (actor_at p c).past)) c node r p
+meet_want (WantsCopy node r) c p = copy_made c node r p
 
 unfoldable pub line_taken : Line → Play → Play
 line_taken (Declares name) p = record p { names = p.names ++ name ∷ []; actors = p.actors ++ fresh_actor p.named p.nodes ∷ [] }
-line_taken (Acts c d) p = record p { turn = Some c; actors = slice_set p.actors c (handed d (actor_at p c)) }
+line_taken (Acts c d) p = record p { turn = Some c; actors = slice_set p.actors c (hand_action d (actor_at p c)) }
 line_taken (Operates node ask) p =
     record (node_asked node p.operator false ask p) { operated = p.operated ++ Operator node ask (is_done (taken_at node ask p).answer) ∷ [] }
 
@@ -84,12 +84,12 @@ unfoldable pub next_line : List Line → Play → Play
 next_line [] p = p
 next_line (l ∷ ls) p = line_taken l (record p { lines = ls })
 
-unfoldable pub turned : Option ℕ → Play → Play
-turned None p = next_line p.lines p
-turned (Some c) p = wanted (wants (actor_at p c)) c p
+unfoldable pub take_turn : Option ℕ → Play → Play
+take_turn None p = next_line p.lines p
+take_turn (Some c) p = meet_want (wants (actor_at p c)) c p
 
 unfoldable pub play_step : Play → Play
-play_step p = turned p.turn p
+play_step p = take_turn p.turn p
 
 unfoldable pub play_steps : ℕ → Play → Play
 play_steps zero p = p

@@ -2,7 +2,7 @@
 use Rattle.std.specs.Prelude.{◌≡◌, ℕ, ◌≤◌, ◌<◌, Bool, List, ◌∷◌, length, is_some}
 use Rattle.script_actor.specs.Lines.{Line}
 use Rattle.script_actor.specs.KeptActor.{KeptActor}
-use Rattle.script_actor.specs.Deeds.{IsIdleActor}
+use Rattle.script_actor.specs.Actions.{IsIdleActor}
 use Rattle.cluster_runner.specs.Kept.{Kept, actor_of, IsAtRest, LeadsTo}
 
 -- an idle actor, which holds something in a play with names alone

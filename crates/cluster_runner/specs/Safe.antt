@@ -6,7 +6,7 @@ use Rattle.ns_replay.specs.Replay.{IsReplay}
 use Rattle.node_history.specs.Entries.{Entry}
 use Rattle.run_safety.specs.Safe.{IsOnLine, IsSafe}
 
--- bodies that stand behind so many others
+-- bodies that stand after so many others
 abbrev pub AllOn : (ℕ → List ℕ → Type 0) → ℕ → List (List ℕ) → Type 0
 AllOn L t [] = Unit {0}
 AllOn L t (body ∷ bodies) = L (t + 1) body × AllOn L (t + 1) bodies

@@ -3,9 +3,9 @@ ghost use Rattle.std.specs.List.{All};
 ghost use Rattle.std.specs.Prelude.{◌≡◌, ◌≤◌, ◌<◌, OnOk, IfOk, Some, length, ℕ, map, replicate};
 ghost use Rattle.journal_core.specs.Step.{fresh_state};
 ghost use Rattle.node_history.specs.NodeCells.{new_cell};
-ghost use Rattle.script_actor.specs.Deeds.{MayCome};
+ghost use Rattle.script_actor.specs.Actions.{MayCome};
 ghost use Rattle.cluster_runner.specs.Kept.{new_kept, with_actor, operates, mesh_kept, end_of, ends_kept, states_kept};
-ghost use Rattle.script_actor.specs.Lines.{Acts, Deed, line_of};
+ghost use Rattle.script_actor.specs.Lines.{Acts, Action, line_of};
 ghost use Rattle.cluster_runner.specs.Ready.{IsIdle, TakesLine};
 ghost use Rattle.cluster_runner.specs.Shown.{keeps};
 
@@ -143,7 +143,7 @@ impl<N: CutNode + Drop> Cluster<N> {
         Ok(self)
     }
 
-    /// The deed of a line of this actor: its calls, and its results.
+    /// The action of a line of this actor: its calls, and its results.
     pub(crate) fn act(
         self,
         alloc: Global,
@@ -153,7 +153,7 @@ impl<N: CutNode + Drop> Cluster<N> {
         requires there { actor < length self.actors }
         requires idle { IsIdle self }
         requires may { MayCome self.named (length self.nodes) line.now }
-        ensures { IfOk result (λ new. (d : Deed) → line_of line.now ≡ Acts actor d → TakesLine (Acts actor d) (length self.actors) self new) }
+        ensures { IfOk result (λ new. (d : Action) → line_of line.now ≡ Acts actor d → TakesLine (Acts actor d) (length self.actors) self new) }
     {
         let Cluster {
             named,

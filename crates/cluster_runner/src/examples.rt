@@ -52,7 +52,7 @@ pub fn shows_lost_fetch()
     ensures node { listed (played 3 lost_fetch) 2 7 ≡ second_fetch_lines }
 {}
 
-/// Late copies are refused by serial, or behind a restart by the segment; a copy of no call isn't sent.
+/// Late copies are refused by serial, or after a restart by the segment; a copy of no call isn't sent.
 pub fn shows_late_copies()
     ensures ends { has_ended (played 1 late_copies) ≡ true }
     ensures results { results_at (played 1 late_copies) 0 ≡ codes "takeover 1 1" ∷ codes "late none" ∷ [] }

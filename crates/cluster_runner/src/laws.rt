@@ -35,7 +35,7 @@ pub fn a_mesh_that_agrees_is_safe()
     ensures { MeshesAreSafe }
 {}
 
-/// No history and no record of a mesh that agrees shows a fault of a disk, a want of memory or a bad file.
+/// No history and no record of a mesh that agrees shows a fault of a disk, a lack of memory or a bad file.
 pub fn a_mesh_that_agrees_shows_no_fault()
     ensures { MeshesShowNoFault }
 {}

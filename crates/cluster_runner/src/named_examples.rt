@@ -11,7 +11,7 @@ pub fn shows_refused_edits()
     ensures results { results_at (played_named 60 3 refused_lines) 0 ≡ codes "takeover 1 1" ∷ codes "acked 2" ∷ codes "refused 2 Exists" ∷ codes "refused 1 NoParent" ∷ codes "close 3" ∷ codes "inactive" ∷ [] }
 {}
 
-/// A standby one batch behind, its image, and what it begins again from.
+/// A standby one batch after, its image, and what it begins again from.
 pub fn shows_standby()
     ensures ends { has_ended (played_named 120 1 standby_lines) ≡ true }
     ensures writer { results_at (played_named 120 1 standby_lines) 0 ≡ codes "takeover 1 1" ∷ codes "acked 2" ∷ codes "acked 3" ∷ codes "acked 4" ∷ codes "acked 5" ∷ codes "acked 6" ∷ codes "acked 7" ∷ codes "acked 8" ∷ codes "roll 10" ∷ [] }

@@ -3,7 +3,7 @@ ghost use Rattle.std.specs.Prelude.{◌≡◌, true, OnOk, IfOk};
 ghost use Rattle.journal_core.specs.Peers.{FitsHeard};
 ghost use Rattle.mesh.specs.Makers.{heard_of};
 ghost use Rattle.node_history.specs.declared.node_ask.NodeAsk.TheVariants.{Act};
-ghost use Rattle.cluster_runner.specs.Kept.{listed, reached_by, told_by};
+ghost use Rattle.cluster_runner.specs.Kept.{list_ask, reached_by, told_by};
 
 use caller_seats::{CallerLog, Delivery, Seats, heard_of, told_of};
 use journal_core::{Bytes, CutNode, Heard, OutOfMemory, SharedRequest};
@@ -64,7 +64,7 @@ fn deliver_late<N: CutNode + Drop>(
     caller: u32,
     request: &SharedRequest,
 ) -> Result<(), OutOfMemory>
-    ensures { OnOk result (cell.new ≡ listed cell.old caller (Act true request.now)) }
+    ensures { OnOk result (cell.new ≡ list_ask cell.old caller (Act true request.now)) }
 {
     let ask = NodeAsk::Act {
         late: true,

@@ -3,13 +3,14 @@ ghost use Rattle.std.specs.Prelude.{◌≡◌, ◌≤◌, ◌<◌, ◌^◌, ◌�
 ghost use Rattle.std.specs.List.{All};
 ghost use Rattle.journal_core.specs.Step.{fresh_state};
 ghost use Rattle.script_text.specs.declared.script_line.ScriptLine.{ScriptLine};
-ghost use Rattle.script_actor.specs.Lines.{line_of, lines_of, declared, IsPlayable, NumbersFit};
-ghost use Rattle.cluster_runner.specs.Kept.{IsPlayed, mesh_kept, ends_kept, states_kept, states_behind};
+ghost use Rattle.script_actor.specs.Lines.{line_of, lines_of, count_actors, IsPlayable, NumbersFit};
+ghost use Rattle.cluster_runner.specs.Kept.{IsPlayed, mesh_kept, ends_kept, states_kept, states_after};
 ghost use Rattle.cluster_runner.specs.Ready.{IsIdle, TakesLine};
 ghost use Rattle.cluster_runner.specs.Goal.{MayTake, actors_after, IsUnderWay};
 
 use crate::cluster::Cluster;
-use journal_core::{CutNode, OutOfMemory, PlainNode};
+use journal_core::{CutNode, OutOfMemory};
+use memory_node::PlainNode;
 use mesh::Mesh;
 use node_history::NodeAsk;
 use ns_tree::EndList;
@@ -63,9 +64,9 @@ fn take_line<N: CutNode + Drop>(
 }
 
 /// How many actors the line declares.
-#[tactic(auto, unfolding(script_actor::specs::Lines::declared))]
+#[tactic(auto, unfolding(script_actor::specs::Lines::count_actors))]
 fn declarations(line: &ScriptLine) -> u32
-    ensures { result ≡ declared (line_of line.now ∷ []) }
+    ensures { result ≡ count_actors (line_of line.now ∷ []) }
 {
     match line {
         ScriptLine::Declare { name: _ } => 1,
@@ -90,8 +91,8 @@ fn declarations(line: &ScriptLine) -> u32
 
 /// How many actors the lines declare.
 pub fn actors_in(lines: &[ScriptLine]) -> u32
-    requires { declared (map line_of lines.now) < 2 ^ 32 }
-    ensures { result ≡ declared (map line_of lines.now) }
+    requires { count_actors (map line_of lines.now) < 2 ^ 32 }
+    ensures { result ≡ count_actors (map line_of lines.now) }
 {
     let mut actors = 0;
     for line in lines {
@@ -114,7 +115,7 @@ pub fn play_on<N: CutNode + Drop>(
     requires fresh { All (λ n. N.state n ≡ Some fresh_state) nodes.items }
     requires steady { All (λ n. N.steady n) nodes.items }
     ensures played { IfOk result (λ played. IsPlayed script.now.named script.now.nodes (lines_of script.now) played.mesh played.ends) }
-    ensures states { IfOk result (λ played. map (λ n. N.state n) played.nodes.items ≡ states_behind played.mesh.histories) }
+    ensures states { IfOk result (λ played. map (λ n. N.state n) played.nodes.items ≡ states_after played.mesh.histories) }
     ensures steady { IfOk result (λ played. All (λ n. N.steady n) played.nodes.items) }
 {
     let operator = actors_in(script.lines());

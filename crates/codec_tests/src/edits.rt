@@ -59,7 +59,7 @@ fn record_of_text(alloc: Global, script: &[u8]) -> Option<Bytes> {
     body.ok()
 }
 
-// The line in a script of a record's edit, behind a byte.
+// The line in a script of a record's edit, after a byte.
 fn script_of_record(alloc: Global, record: &[u8]) -> Option<Vec<u8>> {
     let edit = edit_of_record(alloc, record)?;
     let mut out = Vec::new(alloc);
@@ -81,7 +81,7 @@ fn listing_of_record(alloc: Global, record: &[u8]) -> Option<Vec<u8>> {
     Some(out)
 }
 
-// Whether a text of a script is the one of a record, where it stands behind a byte.
+// Whether a text of a script is the one of a record, where it stands after a byte.
 fn is_text_of(alloc: Global, script: &[u8], record: &[u8]) -> bool {
     let Some(text) = script_of_record(alloc, record) else {
         return false;
@@ -334,7 +334,7 @@ const FAULTS: &[(&[u8], Told)] = &[
         ],
         Told::Short(37),
     ),
-    // Bytes behind the record.
+    // Bytes after the record.
     (&[24, 0], Told::Trailing(1)),
     (
         &[2, 0, 1, 97, 0, 0, 0, 0, 0, 0, 0, 1, 9, 9, 9],

@@ -1,7 +1,7 @@
 //! Frames with the gate open, closed and cut short, each fault once, and frames in a row.
 use crate::rows::is_so;
 use batch_frame::{
-    Checked, Entries, FrameCause, Framed, Header, Scanned, check_frame, frame_of, header_of,
+    Checked, Entries, FrameCause, Framed, Header, Scanned, check_frame, frame_after, header_of,
     put_header, read_header, scan,
 };
 use journal_core::{Batch, BodyList};
@@ -197,7 +197,7 @@ fn framed(
     if batch.last_within(1000).is_none() {
         return Ok(None);
     }
-    Ok(Some(frame_of(alloc, &batch)))
+    Ok(Some(frame_after(alloc, &[], &batch)))
 }
 
 // The known frame, one of two bodies after it, and a closed gate.
@@ -270,7 +270,7 @@ fn headers_are_read(rt: HostRuntime) {
     assert!(rt; read_header(&HEADER) == Some(Header { start: 2, epoch: 1 }));
 }
 
-/// A start, an epoch, and the header that is read behind its writing.
+/// A start, an epoch, and the header that is read after its writing.
 const HEADERS: &[(u64, u64, Option<Header>)] = &[
     (2, 1, Some(Header { start: 2, epoch: 1 })),
     (0, 1, None),

@@ -151,7 +151,7 @@ const CUT: [u8; 26] = [
     102,
 ];
 
-/// Frames behind the known file's, each with its txid and its entry.
+/// Frames after the known file's, each with its txid and its entry.
 type Frames = &'static [(u8, &'static [u8])];
 
 const EDITS: Frames = &[(2, &MKDIR), (3, &CALL), (4, &MKDIR), (5, &RENAME)];
@@ -190,7 +190,7 @@ const FRAMED: &[(Frames, Tool, Want)] = &[
     ),
 ];
 
-// The known file with these frames behind it.
+// The known file with these frames after it.
 fn with_frames(alloc: Global, frames: &[(u8, &[u8])]) -> Result<Vec<u8>, OutOfMemory> {
     let mut file = front(alloc)?;
     for (txid, body) in frames {

@@ -45,7 +45,7 @@ fn a_script_with_namespaces_is_read(rt: HostRuntime) -> Result<(), Fail> {
     Ok(())
 }
 
-/// A line behind two names, and the rule that it breaks.
+/// A line after two names, and the rule that it breaks.
 const BROKEN: &[(&[u8], u32)] = &[
     (b"writer c", 2),
     (b"purge a 1", 2),
@@ -76,8 +76,8 @@ const BROKEN: &[(&[u8], u32)] = &[
     ),
 ];
 
-/// The line behind two names.
-fn behind_names(alloc: Global, line: &[u8]) -> Result<Vec<u8>, OutOfMemory> {
+/// The line after two names.
+fn after_names(alloc: Global, line: &[u8]) -> Result<Vec<u8>, OutOfMemory> {
     let mut text = Vec::from_slice(alloc, b"names 2\nname a\nname b\n")?;
     text.extend_from_slice(line)?;
     text.push(b'\n')?;
@@ -87,7 +87,7 @@ fn behind_names(alloc: Global, line: &[u8]) -> Result<Vec<u8>, OutOfMemory> {
 #[test]
 fn the_first_broken_rule_with_namespaces_is_told(rt: HostRuntime) -> Result<(), Fail> {
     for (row, (line, rule)) in BROKEN.iter().enumerate() {
-        let text = behind_names(rt.alloc(), *line)?;
+        let text = after_names(rt.alloc(), *line)?;
         is_so(&rt, row, is_broken(rt.alloc(), &text, 4, *rule));
     }
     Ok(())

@@ -113,7 +113,7 @@ fn octal_numbers_are_read(rt: HostRuntime) {
     }
 }
 
-// Numbers in a row, decimal and octal, behind a word.
+// Numbers in a row, decimal and octal, after a word.
 fn printed(alloc: Global) -> Result<Vec<u8>, OutOfMemory> {
     let mut out = Vec::from_slice(alloc, b"txid ")?;
     put_decimal(&mut out, u64::MAX)?;

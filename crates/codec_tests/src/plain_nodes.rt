@@ -1,8 +1,9 @@
 //! A node in memory: each call that takes memory once, and the limits of sizes.
 use journal_core::{
-    Batch, BodyList, Bytes, Cut, CutNode, Head, Node, PlainNode, Refusal, Reply, Request,
-    SegmentInfo, SegmentLine, SegmentLines, SharedRequest, ToldSegment,
+    Batch, BodyList, Bytes, Cut, CutNode, Head, Node, Refusal, Reply, Request, SegmentInfo,
+    SegmentLine, SegmentLines, SharedRequest, ToldSegment,
 };
+use memory_node::PlainNode;
 use qj_num::OutOfMemory;
 use std::alloc::Global;
 use std::process::Abort;
@@ -22,7 +23,7 @@ fn bodies(alloc: Global, doublings: u32, bytes: usize) -> Result<BodyList, OutOf
     Ok(list)
 }
 
-/// Edits from a txid on, behind the start 1 of a segment; none where there is no body.
+/// Edits from a txid on, after the start 1 of a segment; none where there is no body.
 fn journal(serial: u64, first: u64, bodies: BodyList) -> Option<Request> {
     if bodies.is_empty() {
         return None;
@@ -178,7 +179,7 @@ fn requests_have_limits(rt: HostRuntime) -> Result<(), Fail> {
     Ok(())
 }
 
-/// The reply to a prepare behind an acceptance of two bodies.
+/// The reply to a prepare after an acceptance of two bodies.
 fn prepared(alloc: Global) -> Result<Option<Reply>, OutOfMemory> {
     let two = bodies(alloc, 1, 1)?;
     let (Some(mut node), Some(request)) = (opened(alloc), accept(1, two)) else {
@@ -245,7 +246,7 @@ fn segments_are_listed(rt: HostRuntime) -> Result<(), Fail> {
     Ok(())
 }
 
-/// Whether a node is stopped behind one effect, is down, and comes up.
+/// Whether a node is stopped after one effect, is down, and comes up.
 fn comes_up(alloc: Global) -> Result<bool, OutOfMemory> {
     let one = bodies(alloc, 0, 1)?;
     let (Some(mut node), Some(request)) = (opened(alloc), journal(2, 1, one)) else {
@@ -263,7 +264,7 @@ fn a_node_is_stopped_and_comes_up(rt: HostRuntime) -> Result<(), Fail> {
     Ok(())
 }
 
-/// How many effects of an acceptance stand behind a cut.
+/// How many effects of an acceptance stand after a cut.
 fn standing(alloc: Global) -> Result<Option<u64>, OutOfMemory> {
     let one = bodies(alloc, 0, 1)?;
     let (Some(mut node), Some(request)) = (opened(alloc), accept(1, one)) else {

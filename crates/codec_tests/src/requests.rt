@@ -1,8 +1,9 @@
 //! Sessions of a node through the texts of its requests and replies.
 use journal_core::{
-    Cut, CutNode, Node, NodeState, PlainNode, Refusal, Reply, Request, Segment, SegmentInfo,
-    SegmentLine, SegmentLines, ToldSegment,
+    Cut, CutNode, Node, NodeState, Refusal, Reply, Request, Segment, SegmentInfo, SegmentLine,
+    SegmentLines, ToldSegment,
 };
+use memory_node::PlainNode;
 use qj_num::{OutOfMemory, put_decimal};
 use request_text::{ReadRequest, print_cause, print_reply, print_request, read_request};
 use std::alloc::{AllocError, Global};
@@ -253,7 +254,7 @@ const ROLLED: Front = &[
     "journal 1 8 2 3 3 18",
 ];
 
-/// A node that is stopped in a request behind so many effects; none where it has another number of them.
+/// A node that is stopped in a request after so many effects; none where it has another number of them.
 fn stopped(
     alloc: Global,
     before: &[&str],
@@ -274,7 +275,7 @@ fn is_down(alloc: Global, node: &mut PlainNode) -> Result<bool, OutOfMemory> {
     Ok(reply_to(alloc, node, "state")?.as_slice() == b"refused 1 Down".as_slice())
 }
 
-/// What is stored where a node is stopped in a request behind so many effects, and comes up again.
+/// What is stored where a node is stopped in a request after so many effects, and comes up again.
 fn left_by_stop(
     alloc: Global,
     before: &[&str],

@@ -19,7 +19,7 @@ const PRINTED: &[(&[u8], &[u8])] = &[
         b"raw 15\nwriter a\nwriter b1\ndrop b1 2 3\nmute a 15 1\nstop 2 1 0\ntakeover a\nlog a 0a ff00\nroll a\n\
 purge a 4611686018427387904\nkill 3\nrestart 3\nlate a 1 10\ncut 15 2 0 a5\nclose a\n",
     ),
-    // The first script, behind a comment.
+    // The first script, after a comment.
     (
         b"# Three nodes and one writer.\nraw 3\nwriter a\ntakeover a\nlog a 0a\nlog a 0b\nlog a 0c\n",
         b"raw 3\nwriter a\ntakeover a\nlog a 0a\nlog a 0b\nlog a 0c\n",

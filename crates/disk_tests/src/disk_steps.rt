@@ -38,7 +38,7 @@ pub enum DiskWant<'a> {
     Count(usize),
 }
 
-/// Whether a call was done; want of memory is no answer.
+/// Whether a call was done; lack of memory is no answer.
 fn is_done(answer: Result<(), DiskFail>) -> Result<bool, DiskFail> {
     match answer {
         Ok(()) => Ok(true),

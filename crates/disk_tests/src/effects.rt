@@ -77,7 +77,7 @@ const APPEND: &Stopping<'static> = &Stopping {
 };
 
 #[test]
-fn an_append_stands_behind_its_gate(rt: HostRuntime) -> Result<(), Fail> {
+fn an_append_stands_after_its_gate(rt: HostRuntime) -> Result<(), Fail> {
     stop_at_each(&rt, rt.alloc(), APPEND)
 }
 
@@ -170,7 +170,7 @@ const MOVED: &[Stopping<'static>] = &[
 ];
 
 #[test]
-fn a_record_goes_behind_its_segment(rt: HostRuntime) -> Result<(), Fail> {
+fn a_record_goes_after_its_segment(rt: HostRuntime) -> Result<(), Fail> {
     for stopping in MOVED {
         stop_at_each(&rt, rt.alloc(), stopping)?;
     }

@@ -2,13 +2,12 @@
 ghost use Rattle.std.specs.Prelude.{◌≡◌, ◌≤◌, ◌<◌, ◌^◌, length};
 
 use crate::disks::{line, one};
-use qj_disk::UntoldDisk;
+use qj_disk::{DiskFail, UntoldDisk};
 use segment_file::{
-    Appended, ReadyFrame, append, append_behind_gate, create, discard, finalize, replace,
-    replace_again,
+    ReadyFrame, append, append_after_gate, create, discard, finalize, replace, replace_again,
 };
 use segment_opening::{Completed, complete_half_done, sync_segments};
-use small_files::{NumberFile, PaxosFile, Put, put_bytes};
+use small_files::{NumberFile, PaxosFile, put_bytes};
 use std::alloc::Global;
 use std::process::Abort;
 use std::test::Fail;
@@ -34,7 +33,7 @@ pub enum SegmentStep<'a> {
     /// A segment's start, an offset, and a body of the txid `first`.
     Append(u64, u64, u64, &'a [u8]),
     /// A file's name, an offset, and what stands after the gate.
-    AppendBehindGate(&'a str, u64, &'a [u8]),
+    AppendAfterGate(&'a str, u64, &'a [u8]),
     /// A segment's start and end.
     Finalize(u64, u64),
     /// The segment from txid 1 to that end, final or not.
@@ -77,24 +76,29 @@ fn short<'a>(rt: &impl Abort, name: &'a str) -> &'a str
 }
 
 /// Whether a put is done; memory is ample.
-pub fn is_put(rt: &impl Abort, put: Put) -> bool {
+pub fn is_put(rt: &impl Abort, put: Result<(), DiskFail>) -> bool {
     match put {
-        Put::Done => true,
-        Put::DiskFault => false,
-        Put::OutOfMemory => panic!(rt; "memory is ample"),
+        Ok(()) => true,
+        Err(DiskFail::Failed) => false,
+        Err(DiskFail::OutOfMemory) => panic!(rt; "memory is ample"),
     }
 }
 
 /// Whether an append at that offset is done, of one body of so many bytes; memory is ample. The next frame goes after
 /// this one, of 19 bytes and the body.
-pub fn is_appended(rt: &impl Abort, appended: Appended, at: u64, count: usize) -> bool {
+pub fn is_appended(
+    rt: &impl Abort,
+    appended: Result<u64, DiskFail>,
+    at: u64,
+    count: usize,
+) -> bool {
     match appended {
-        Appended::Done { at: next } => {
+        Ok(next) => {
             assert_eq!(rt; next, at.saturating_add(19).saturating_add(count as u64));
             true
         }
-        Appended::DiskFault => false,
-        Appended::OutOfMemory => panic!(rt; "memory is ample"),
+        Err(DiskFail::Failed) => false,
+        Err(DiskFail::OutOfMemory) => panic!(rt; "memory is ample"),
     }
 }
 
@@ -146,8 +150,8 @@ pub fn change_segment(
             let done = append(disk, number(rt, *start), offset(rt, *at), &batch, &frame);
             is_appended(rt, done, *at, body.len())
         }
-        SegmentStep::AppendBehindGate(name, at, bytes) => {
-            append_behind_gate(disk, name, offset(rt, *at), bytes).is_ok()
+        SegmentStep::AppendAfterGate(name, at, bytes) => {
+            append_after_gate(disk, name, offset(rt, *at), bytes).is_ok()
         }
         SegmentStep::Finalize(start, end) => {
             is_put(rt, finalize(disk, number(rt, *start), number(rt, *end)))

@@ -45,7 +45,7 @@ fn names_are_listed_in_byte_order(rt: HostRuntime) -> Result<(), Fail> {
     take_anew(&rt, rt.alloc(), LISTED)
 }
 
-// Two bytes are synced, then one is written over and two are put behind.
+// Two bytes are synced, then one is written over and two are put after.
 const UNSYNCED: &[Step<'static>] = &[
     Disk(Write("a", 0, b"ab")),
     Disk(Sync("a")),

@@ -3,7 +3,7 @@ use crate::disk_steps::DiskStep::{Sync, Write};
 use crate::disk_steps::DiskWant::{Count, IsNot, IsThere, Length, Part};
 use crate::disks::PROGRESS;
 use crate::file_steps::SegmentStep::{
-    Append, AppendBehindGate, Create, Discard, Finalize, Replace, ReplaceAgain, SyncSegments,
+    Append, AppendAfterGate, Create, Discard, Finalize, Replace, ReplaceAgain, SyncSegments,
 };
 use crate::steps::Fault::{Crash, FailAt};
 use crate::steps::Stage::{self, Crashed, Done, Fails, Lost};
@@ -31,7 +31,7 @@ pub const TWO_EDITS: &[Step<'static>] = &[
 
 const GATED: &Stopping<'static> = &Stopping {
     before: &[Done(&[Disk(Write("a", 0, b"ab\x00")), Disk(Sync("a"))])],
-    line: Segment(AppendBehindGate("a", 2, b"cd\x00")),
+    line: Segment(AppendAfterGate("a", 2, b"cd\x00")),
     calls: 4,
     decided: 4,
     by_choice: true,
@@ -40,7 +40,7 @@ const GATED: &Stopping<'static> = &Stopping {
 };
 
 #[test]
-fn an_append_behind_a_gate_is_all_or_nothing(rt: HostRuntime) -> Result<(), Fail> {
+fn an_append_after_a_gate_is_all_or_nothing(rt: HostRuntime) -> Result<(), Fail> {
     stop_at_each(&rt, rt.alloc(), GATED)
 }
 
@@ -70,7 +70,7 @@ const APPENDED: &Stopping<'static> = &Stopping {
 };
 
 #[test]
-fn an_append_stands_behind_its_gate(rt: HostRuntime) -> Result<(), Fail> {
+fn an_append_stands_after_its_gate(rt: HostRuntime) -> Result<(), Fail> {
     stop_at_each(&rt, rt.alloc(), APPENDED)
 }
 

@@ -1,7 +1,7 @@
 //! Sessions at a node in memory, with ends that fail and without.
 use crate::disks::are_bytes;
 use crate::paired::{Asker, Listener};
-use journal_core::PlainNode;
+use memory_node::PlainNode;
 use node_session::{Served, serve};
 use qj_outside::{MemSink, MemSource};
 use std::alloc::{AllocError, Global};
@@ -139,7 +139,7 @@ fn a_sink_that_fails_ends_the_session(rt: HostRuntime) -> Result<(), Fail> {
     Ok(())
 }
 
-/// How many bytes the second line has, what comes behind it, and how the session ends.
+/// How many bytes the second line has, what comes after it, and how the session ends.
 const LONG_LINES: &[(usize, &[u8], Served)] = &[
     (LONGEST, b"\n", Served::BadLine { line: 2, rule: 2 }),
     (LONGEST, b"", Served::BadLine { line: 2, rule: 2 }),
@@ -147,7 +147,7 @@ const LONG_LINES: &[(usize, &[u8], Served)] = &[
     (LONGEST + 1, b"\nstate\n", Served::LongLine),
 ];
 
-// A line of so many bytes behind the line `state`.
+// A line of so many bytes after the line `state`.
 fn long_input(alloc: Global, count: usize, end: &[u8]) -> Result<Vec<u8>, AllocError> {
     let mut input = b"state\n".to_vec(alloc)?;
     input.extend_from_slice(&vec![in alloc; b'a'; count]?)?;

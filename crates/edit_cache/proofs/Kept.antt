@@ -2,7 +2,7 @@
 use Rattle.std.proofs.Common.{◌≡◌, ℕ, suc, ◌+◌, ◌-◌, ◌<◌, ◌≤◌, List, [], ◌∷◌, ◌++◌, length, drop, refl, ap, sym, subst, ◌∙◌, arith}
 use Rattle.std.specs.Prelude.{Bool, true, false, ◌==◌, nat_le, if◌then◌else◌, Some, None}
 use Rattle.std.proofs.lemmas.Bool.Decides.{nat_tests}
-use Rattle.edit_cache.specs.Edits.{Edit, Follows, kept, last_txid, numbered, since, size_of}
+use Rattle.edit_cache.specs.Edits.{Edit, Follows, kept_edits, last_txid, number_edits, since, size_of}
 use Rattle.edit_cache.specs.Laws.{AreNewest, KeepInTurn, KeepTheLast, KeepWhatFits, TakeNoMore}
 use Rattle.edit_cache.proofs.Numbered.{last-numbered, numbered-drops, size_of-append}
 
@@ -11,9 +11,9 @@ chosen : (P : List Edit → Type 0) (c : Bool) (n most : ℕ) (xs ys : List Edit
 chosen P true n most xs ys e all less = all (grind (arith, nat_tests))
 chosen P false n most xs ys e all less = less (grind (arith, nat_tests))
 
-by_size : (P : List Edit → Type 0) (most : ℕ) (d f : Edit) (es : List Edit) → (size_of (d ∷ f ∷ es) ≤ most → P (d ∷ f ∷ es)) → (most < size_of (d ∷ f ∷ es) → P (kept most (f ∷ es))) → P (kept most (d ∷ f ∷ es))
+by_size : (P : List Edit → Type 0) (most : ℕ) (d f : Edit) (es : List Edit) → (size_of (d ∷ f ∷ es) ≤ most → P (d ∷ f ∷ es)) → (most < size_of (d ∷ f ∷ es) → P (kept_edits most (f ∷ es))) → P (kept_edits most (d ∷ f ∷ es))
 by_size P most d f es all less =
-    chosen P (nat_le (size_of (d ∷ f ∷ es)) most) (size_of (d ∷ f ∷ es)) most (d ∷ f ∷ es) (kept most (f ∷ es)) refl all less
+    chosen P (nat_le (size_of (d ∷ f ∷ es)) most) (size_of (d ∷ f ∷ es)) most (d ∷ f ∷ es) (kept_edits most (f ∷ es)) refl all less
 
 pub kept-drop : AreNewest
 kept-drop most [] = (0, refl)
@@ -23,15 +23,15 @@ kept-drop most (d ∷ f ∷ es) =
     by_size (λ (ks : List Edit). (n : ℕ) × (ks ≡ drop n (d ∷ f ∷ es))) most d f es (λ _. (0, refl)) (λ _. (suc rest.0, rest.1))
 
 -- without the first of too many
-pub kept-cons : (most : ℕ) (d : Edit) (es : List Edit) → 0 < length es → most < size_of (d ∷ es) → kept most (d ∷ es) ≡ kept most es
+pub kept-cons : (most : ℕ) (d : Edit) (es : List Edit) → 0 < length es → most < size_of (d ∷ es) → kept_edits most (d ∷ es) ≡ kept_edits most es
 kept-cons most d [] some h = absurd (omega arith)
-kept-cons most d (f ∷ es) some h = by_size (λ (ks : List Edit). ks ≡ kept most (f ∷ es)) most d f es (λ le. absurd (omega arith)) (λ _. refl)
+kept-cons most d (f ∷ es) some h = by_size (λ (ks : List Edit). ks ≡ kept_edits most (f ∷ es)) most d f es (λ le. absurd (omega arith)) (λ _. refl)
 
 pub kept_in_turn : KeepInTurn
 kept_in_turn most [] e = refl
 kept_in_turn most (d ∷ []) e = refl
 kept_in_turn most (d ∷ f ∷ es) e =
-    by_size (λ (ks : List Edit). kept most (ks ++ e ∷ []) ≡ kept most ((d ∷ f ∷ es) ++ e ∷ [])) most d f es (λ _. refl)
+    by_size (λ (ks : List Edit). kept_edits most (ks ++ e ∷ []) ≡ kept_edits most ((d ∷ f ∷ es) ++ e ∷ [])) most d f es (λ _. refl)
     (λ over. kept_in_turn most (f ∷ es) e ∙ sym (kept-cons most d ((f ∷ es) ++ e ∷ []) (omega arith) (omega (arith, size_of-append es e))))
 
 since_over : (c : Bool) (txid most : ℕ) (d : Edit) (es : List Edit) → most < size_of (d ∷ es) → size_of (if c then d ∷ es else since txid es) ≤ most → (if c then d ∷ es else since txid es) ≡ since txid es
@@ -69,8 +69,8 @@ last-append [] e = refl
 last-append (d ∷ []) e = refl
 last-append (d ∷ f ∷ es) e = last-append (f ∷ es) e
 
-pub follows_kept : (most : ℕ) (es : List Edit) (e : Edit) → Follows (kept most (es ++ e ∷ [])) (e.txid + 1)
-follows_kept most es e = follows_last (kept most (es ++ e ∷ [])) e.txid (kept_last most (es ++ e ∷ []) ∙ last-append es e)
+pub follows_kept : (most : ℕ) (es : List Edit) (e : Edit) → Follows (kept_edits most (es ++ e ∷ [])) (e.txid + 1)
+follows_kept most es e = follows_last (kept_edits most (es ++ e ∷ [])) e.txid (kept_last most (es ++ e ∷ []) ∙ last-append es e)
 
 pub follows_none : (es : List Edit) (txid : ℕ) → last_txid es ≡ None → Follows es txid
 follows_none [] txid e = tt
@@ -78,12 +78,12 @@ follows_none (d ∷ []) txid e = cc
 follows_none (d ∷ f ∷ es) txid e = follows_none (f ∷ es) txid e
 
 -- of consecutive edits
-pub kept-numbered : (most t : ℕ) (bs : List (List ℕ)) → (i : ℕ) × (kept most (numbered t bs) ≡ numbered (t + i) (drop i bs))
-kept-numbered most t bs = let k = kept-drop most (numbered t bs) in (k.0, k.1 ∙ numbered-drops k.0 t bs)
+pub kept-numbered : (most t : ℕ) (bs : List (List ℕ)) → (i : ℕ) × (kept_edits most (number_edits t bs) ≡ number_edits (t + i) (drop i bs))
+kept-numbered most t bs = let k = kept-drop most (number_edits t bs) in (k.0, k.1 ∙ numbered-drops k.0 t bs)
 
-pub follows_numbered : (most t : ℕ) (bs : List (List ℕ)) → Follows (kept most (numbered t bs)) (t + length bs)
+pub follows_numbered : (most t : ℕ) (bs : List (List ℕ)) → Follows (kept_edits most (number_edits t bs)) (t + length bs)
 follows_numbered most t [] = tt
 follows_numbered most t (b ∷ bs) =
-    let last : last_txid (kept most (numbered t (b ∷ bs))) ≡ Some (t + (length (b ∷ bs) - 1)) = kept_last most (numbered t (b ∷ bs)) ∙ last-numbered t (b ∷ bs) (omega arith) in
+    let last : last_txid (kept_edits most (number_edits t (b ∷ bs))) ≡ Some (t + (length (b ∷ bs) - 1)) = kept_last most (number_edits t (b ∷ bs)) ∙ last-numbered t (b ∷ bs) (omega arith) in
     let e : t + (length (b ∷ bs) - 1) + 1 ≡ t + length (b ∷ bs) = omega arith in
-    subst (λ (n : ℕ). Follows (kept most (numbered t (b ∷ bs))) n) e (follows_last (kept most (numbered t (b ∷ bs))) (t + (length (b ∷ bs) - 1)) last)
+    subst (λ (n : ℕ). Follows (kept_edits most (number_edits t (b ∷ bs))) n) e (follows_last (kept_edits most (number_edits t (b ∷ bs))) (t + (length (b ∷ bs) - 1)) last)

@@ -5,9 +5,9 @@ use Rattle.std.proofs.lemmas.List.{take_at, drop_at, drop-drop, map-append, leng
 use Rattle.std.proofs.lemmas.Bool.Decides.{nat_tests}
 use Rattle.edit_cache.proofs.Windows.{length-put, window_at, window_before, window_after}
 use Rattle.std.proofs.Math.Seq.{take-add}
-use Rattle.edit_cache.specs.Edits.{framed, stored}
-use Rattle.edit_cache.specs.Places.{put, values, length_at, parsed, begins, marked}
-use Rattle.edit_cache.specs.Ring.{Holds, Laid, IsRing, HasWay, held, bodies_in}
+use Rattle.edit_cache.specs.Edits.{with_length, stored_bytes}
+use Rattle.edit_cache.specs.Places.{put_at, values, length_at, parse_bodies, begins, every_sixteenth}
+use Rattle.edit_cache.specs.Ring.{Holds, Laid, IsRing, HasWay, held_bodies, bodies_in}
 use Rattle.edit_cache.specs.declared.run.Run.{Run}
 use Rattle.edit_cache.specs.declared.ring.Ring.{Ring}
 
@@ -15,37 +15,37 @@ pub values-map : (xs : List ℕ) → values (map Some xs) ≡ xs
 values-map [] = refl
 values-map (x ∷ xs) = ap (λ l. x ∷ l) (values-map xs)
 
-pub length_at-framed : (b rest : List ℕ) → length_at (framed b ++ rest) ≡ length b
+pub length_at-framed : (b rest : List ℕ) → length_at (with_length b ++ rest) ≡ length b
 length_at-framed b rest = omega arith
 
-pub parsed-stored : (bs : List (List ℕ)) → parsed (length bs) (stored bs) ≡ bs
+pub parsed-stored : (bs : List (List ℕ)) → parse_bodies (length bs) (stored_bytes bs) ≡ bs
 parsed-stored [] = refl
 parsed-stored (b ∷ bs) =
-    let n : length_at (stored (b ∷ bs)) ≡ length b = length_at-framed b (stored bs) in
+    let n : length_at (stored_bytes (b ∷ bs)) ≡ length b = length_at-framed b (stored_bytes bs) in
     let e : 2 + length b ≡ suc (suc (length b)) = omega arith in
-    rw n (rw (take_at b (stored bs) (length b) refl) (ap (λ l. b ∷ l) (ap (λ k. parsed (length bs) (drop k (stored (b ∷ bs)))) e ∙ (ap (λ l. parsed (length bs) l) (drop_at b (stored bs) (length b) refl) ∙ parsed-stored bs))))
+    rw n (rw (take_at b (stored_bytes bs) (length b) refl) (ap (λ l. b ∷ l) (ap (λ k. parse_bodies (length bs) (drop k (stored_bytes (b ∷ bs)))) e ∙ (ap (λ l. parse_bodies (length bs) l) (drop_at b (stored_bytes bs) (length b) refl) ∙ parsed-stored bs))))
 
-pub stored-append : (xs ys : List (List ℕ)) → stored (xs ++ ys) ≡ stored xs ++ stored ys
+pub stored-append : (xs ys : List (List ℕ)) → stored_bytes (xs ++ ys) ≡ stored_bytes xs ++ stored_bytes ys
 stored-append [] ys = refl
-stored-append (x ∷ xs) ys = rw (stored-append xs ys) (sym (append_assoc (framed x) (stored xs) (stored ys)))
+stored-append (x ∷ xs) ys = rw (stored-append xs ys) (sym (append_assoc (with_length x) (stored_bytes xs) (stored_bytes ys)))
 
 pub bodies-held : (cs : List (Option ℕ)) (r : Run) (bs : List (List ℕ)) → Holds cs r bs → bodies_in cs r ≡ bs
-bodies-held cs r bs h = rw (h.lies, values-map (stored bs), h.counted) (parsed-stored bs)
+bodies-held cs r bs h = rw (h.lies, values-map (stored_bytes bs), h.counted) (parsed-stored bs)
 
-pub sized : (cs : List (Option ℕ)) (r : Run) (bs : List (List ℕ)) → Holds cs r bs → r.size ≡ length (stored bs)
-sized cs r bs h = omega (arith, h.within, ap length h.lies, length-map (stored bs) (λ (x : ℕ). Some x), length-take r.size (drop r.begin cs), length-drop r.begin cs)
+pub sized : (cs : List (Option ℕ)) (r : Run) (bs : List (List ℕ)) → Holds cs r bs → r.size ≡ length (stored_bytes bs)
+sized cs r bs h = omega (arith, h.within, ap length h.lies, length-map (stored_bytes bs) (λ (x : ℕ). Some x), length-take r.size (drop r.begin cs), length-drop r.begin cs)
 
 pub is_ring : (r : Ring) (os ns : List (List ℕ)) → Laid r os ns → IsRing r
 is_ring r os ns l = subst (λ (p : List (List ℕ) × List (List ℕ)). Laid r p.0 p.1) (λ i. (sym (bodies-held r.block r.older os l.older) i, sym (bodies-held r.block r.newer ns l.newer) i)) l
 
-pub held_is : (r : Ring) (os ns : List (List ℕ)) → Laid r os ns → held r ≡ os ++ ns
+pub held_is : (r : Ring) (os ns : List (List ℕ)) → Laid r os ns → held_bodies r ≡ os ++ ns
 held_is r os ns l = rw (bodies-held r.block r.older os l.older, bodies-held r.block r.newer ns l.newer) refl
 
-pub length-stored : (bs : List (List ℕ)) → length bs * 2 ≤ length (stored bs)
+pub length-stored : (bs : List (List ℕ)) → length bs * 2 ≤ length (stored_bytes bs)
 length-stored [] = omega arith
-length-stored (b ∷ bs) = omega (arith, length-stored bs, length-append b (stored bs))
+length-stored (b ∷ bs) = omega (arith, length-stored bs, length-append b (stored_bytes bs))
 
-stored_none : (bs : List (List ℕ)) → length bs ≡ 0 → length (stored bs) ≡ 0
+stored_none : (bs : List (List ℕ)) → length bs ≡ 0 → length (stored_bytes bs) ≡ 0
 stored_none [] e = refl
 stored_none (b ∷ bs) e = absurd (omega arith)
 
@@ -62,10 +62,10 @@ all_sizes r os ns l = by_count r.older.count refl
     by_count (suc n) e = omega (arith, l.apart, l.older.within)
 
 module _ where
-  pub begins-append : (at : ℕ) (xs ys : List (List ℕ)) → begins at (xs ++ ys) ≡ begins at xs ++ begins (at + length (stored xs)) ys
+  pub begins-append : (at : ℕ) (xs ys : List (List ℕ)) → begins at (xs ++ ys) ≡ begins at xs ++ begins (at + length (stored_bytes xs)) ys
   begins-append at [] ys = let e : at + 0 ≡ at = omega arith in rw e refl
   begins-append at (x ∷ xs) ys =
-      let e : at + (length x + 2) + length (stored xs) ≡ at + length (stored (x ∷ xs)) = omega (arith, length-append x (stored xs)) in
+      let e : at + (length x + 2) + length (stored_bytes xs) ≡ at + length (stored_bytes (x ∷ xs)) = omega (arith, length-append x (stored_bytes xs)) in
       ap (λ l. at ∷ l) (begins-append (at + (length x + 2)) xs ys ∙ ap (λ k. begins (at + (length x + 2)) xs ++ begins k ys) e)
 
   pub length-begins : (at : ℕ) (xs : List (List ℕ)) → length (begins at xs) ≡ length xs
@@ -76,20 +76,20 @@ module _ where
   chosen true p xs ys = refl
   chosen false p xs ys = refl
 
-  pub marked-append : (t : ℕ) (ps qs : List ℕ) → marked t (ps ++ qs) ≡ marked t ps ++ marked (t + length ps) qs
+  pub marked-append : (t : ℕ) (ps qs : List ℕ) → every_sixteenth t (ps ++ qs) ≡ every_sixteenth t ps ++ every_sixteenth (t + length ps) qs
   marked-append t [] qs = let e : t + 0 ≡ t = omega arith in rw e refl
   marked-append t (p ∷ ps) qs =
       let e : t + 1 + length ps ≡ t + suc (length ps) = omega arith in
-      let on : marked (t + 1) (ps ++ qs) ≡ marked (t + 1) ps ++ marked (t + suc (length ps)) qs = marked-append (t + 1) ps qs ∙ ap (λ k. marked (t + 1) ps ++ marked k qs) e in
-      ap (λ (l : List ℕ). if (t % 16) == 0 then p ∷ l else l) on ∙ chosen ((t % 16) == 0) p (marked (t + 1) ps) (marked (t + suc (length ps)) qs)
+      let on : every_sixteenth (t + 1) (ps ++ qs) ≡ every_sixteenth (t + 1) ps ++ every_sixteenth (t + suc (length ps)) qs = marked-append (t + 1) ps qs ∙ ap (λ k. every_sixteenth (t + 1) ps ++ every_sixteenth k qs) e in
+      ap (λ (l : List ℕ). if (t % 16) == 0 then p ∷ l else l) on ∙ chosen ((t % 16) == 0) p (every_sixteenth (t + 1) ps) (every_sixteenth (t + suc (length ps)) qs)
 
   counted_one : (t p : ℕ) (xs : List ℕ) (c : Bool) → c ≡ ((t % 16) == 0) → length (if c then p ∷ xs else xs) + (t + 15) / 16 ≡ length xs + (t + 16) / 16
   counted_one t p xs true e = grind (arith, nat_tests)
   counted_one t p xs false e = grind (arith, nat_tests)
 
-  pub length-marked : (t : ℕ) (ps : List ℕ) → length (marked t ps) + (t + 15) / 16 ≡ (t + length ps + 15) / 16
+  pub length-marked : (t : ℕ) (ps : List ℕ) → length (every_sixteenth t ps) + (t + 15) / 16 ≡ (t + length ps + 15) / 16
   length-marked t [] = omega arith
-  length-marked t (p ∷ ps) = omega (arith, counted_one t p (marked (t + 1) ps) ((t % 16) == 0) refl, length-marked (t + 1) ps)
+  length-marked t (p ∷ ps) = omega (arith, counted_one t p (every_sixteenth (t + 1) ps) ((t % 16) == 0) refl, length-marked (t + 1) ps)
 
 -- how many entries there are at most
 pub all_counts : (r : Ring) (os ns : List (List ℕ)) → Laid r os ns → (length os + length ns) * 2 ≤ length r.block
@@ -112,54 +112,54 @@ module _ (r : Ring) (os ns : List (List ℕ)) (l : Laid r os ns) (b : List ℕ) 
   place = r.newer.begin + r.newer.size
 
   abbrev written : List (Option ℕ)
-  written = put r.block place (framed b)
+  written = put_at r.block place (with_length b)
 
   abbrev longer : Run
   longer = record { begin = r.newer.begin; size = r.newer.size + (length b + 2); count = r.newer.count + 1 }
 
-  length-framed : length (framed b) ≡ length b + 2
+  length-framed : length (with_length b) ≡ length b + 2
   length-framed = omega arith
 
-  fits : place + length (framed b) ≤ length r.block
+  fits : place + length (with_length b) ≤ length r.block
   fits = omega (arith, length-framed)
 
   older_stays : Holds written r.older os
-  older_stays = holds_same r.block written r.older os l.older (length-put r.block place (framed b) fits) (by_count r.older.count refl)
+  older_stays = holds_same r.block written r.older os l.older (length-put r.block place (with_length b) fits) (by_count r.older.count refl)
     where
       by_count : (n : ℕ) → r.older.count ≡ n → take r.older.size (drop r.older.begin written) ≡ take r.older.size (drop r.older.begin r.block)
       by_count zero e = let none : r.older.size ≡ 0 = none_sized r.block r.older os l.older e in rw none refl
-      by_count (suc n) e = window_after r.block place (framed b) fits r.older.begin r.older.size (omega (arith, l.start, way.1, length-framed))
+      by_count (suc n) e = window_after r.block place (with_length b) fits r.older.begin r.older.size (omega (arith, l.start, way.1, length-framed))
 
   newer_holds : Holds written longer (ns ++ b ∷ [])
   newer_holds = record {
     counted = omega (arith, l.newer.counted, length-append ns (b ∷ []));
-    within = omega (arith, length-put r.block place (framed b) fits);
+    within = omega (arith, length-put r.block place (with_length b) fits);
     lies =
         let m : ℕ = length b + 2 in let X : List (Option ℕ) = drop r.newer.begin written in
-        let left : take r.newer.size X ≡ map Some (stored ns) = window_before r.block place (framed b) fits r.newer.begin r.newer.size (omega arith) ∙ l.newer.lies in
-        let right : take m (drop r.newer.size X) ≡ map Some (framed b) =
-        ap (λ (k : ℕ). take k (drop r.newer.size X)) (sym length-framed) ∙ (ap (λ (xs : List (Option ℕ)). take (length (framed b)) xs) (drop-drop r.newer.size r.newer.begin written) ∙ window_at r.block place (framed b) fits) in
-        let all : map Some (stored ns) ++ map Some (framed b) ≡ map Some (stored (ns ++ b ∷ [])) =
-        sym (map-append (λ (x : ℕ). Some x) (stored ns) (framed b)) ∙ ap (λ (xs : List ℕ). map Some xs) (ap (λ (xs : List ℕ). stored ns ++ xs) (sym (append-nil (framed b))) ∙ sym (stored-append ns (b ∷ []))) in
-        take-add r.newer.size m X ∙ (ap (λ (xs : List (Option ℕ)). xs ++ take m (drop r.newer.size X)) left ∙ (ap (λ (xs : List (Option ℕ)). map Some (stored ns) ++ xs) right ∙ all));
+        let left : take r.newer.size X ≡ map Some (stored_bytes ns) = window_before r.block place (with_length b) fits r.newer.begin r.newer.size (omega arith) ∙ l.newer.lies in
+        let right : take m (drop r.newer.size X) ≡ map Some (with_length b) =
+        ap (λ (k : ℕ). take k (drop r.newer.size X)) (sym length-framed) ∙ (ap (λ (xs : List (Option ℕ)). take (length (with_length b)) xs) (drop-drop r.newer.size r.newer.begin written) ∙ window_at r.block place (with_length b) fits) in
+        let all : map Some (stored_bytes ns) ++ map Some (with_length b) ≡ map Some (stored_bytes (ns ++ b ∷ [])) =
+        sym (map-append (λ (x : ℕ). Some x) (stored_bytes ns) (with_length b)) ∙ ap (λ (xs : List ℕ). map Some xs) (ap (λ (xs : List ℕ). stored_bytes ns ++ xs) (sym (append-nil (with_length b))) ∙ sym (stored-append ns (b ∷ []))) in
+        take-add r.newer.size m X ∙ (ap (λ (xs : List (Option ℕ)). xs ++ take m (drop r.newer.size X)) left ∙ (ap (λ (xs : List (Option ℕ)). map Some (stored_bytes ns) ++ xs) right ∙ all));
   }
 
-  more_marks : r.marks.items ++ marked (r.first + (length os + length ns)) (place ∷ []) ≡ marked r.first (begins r.older.begin os ++ begins r.newer.begin (ns ++ b ∷ []))
+  more_marks : r.marks.items ++ every_sixteenth (r.first + (length os + length ns)) (place ∷ []) ≡ every_sixteenth r.first (begins r.older.begin os ++ begins r.newer.begin (ns ++ b ∷ []))
   more_marks =
       let first : List ℕ = begins r.older.begin os in let second : List ℕ = begins r.newer.begin ns in
       let count : length (first ++ second) ≡ length os + length ns = omega (arith, length-append first second, length-begins r.older.begin os, length-begins r.newer.begin ns) in
-      let at : r.newer.begin + length (stored ns) ≡ place = omega (arith, sized r.block r.newer ns l.newer) in
+      let at : r.newer.begin + length (stored_bytes ns) ≡ place = omega (arith, sized r.block r.newer ns l.newer) in
       let last : begins r.newer.begin (ns ++ b ∷ []) ≡ second ++ place ∷ [] = begins-append r.newer.begin ns (b ∷ []) ∙ ap (λ (k : ℕ). second ++ k ∷ []) at in
       let all : (first ++ second) ++ place ∷ [] ≡ first ++ begins r.newer.begin (ns ++ b ∷ []) = append_assoc first second (place ∷ []) ∙ ap (λ (ps : List ℕ). first ++ ps) (sym last) in
-      ap (λ (ms : List ℕ). ms ++ marked (r.first + (length os + length ns)) (place ∷ [])) l.marks ∙
-      (ap (λ (k : ℕ). marked r.first (first ++ second) ++ marked (r.first + k) (place ∷ [])) (sym count) ∙
-      (sym (marked-append r.first (first ++ second) (place ∷ [])) ∙ ap (λ (ps : List ℕ). marked r.first ps) all))
+      ap (λ (ms : List ℕ). ms ++ every_sixteenth (r.first + (length os + length ns)) (place ∷ [])) l.marks ∙
+      (ap (λ (k : ℕ). every_sixteenth r.first (first ++ second) ++ every_sixteenth (r.first + k) (place ∷ [])) (sym count) ∙
+      (sym (marked-append r.first (first ++ second) (place ∷ [])) ∙ ap (λ (ps : List ℕ). every_sixteenth r.first ps) all))
 
   -- one more entry
   pub laid_put : (s : Ring) → s.block ≡ written → s.older ≡ r.older → s.newer ≡ longer → s.first ≡ r.first → s.marks.capacity ≡ r.marks.capacity
-      → s.marks.items ≡ r.marks.items ++ marked (r.first + (length os + length ns)) (place ∷ []) → r.first + length os + length ns < 2 ^ 64 → Laid s os (ns ++ b ∷ [])
+      → s.marks.items ≡ r.marks.items ++ every_sixteenth (r.first + (length os + length ns)) (place ∷ []) → r.first + length os + length ns < 2 ^ 64 → Laid s os (ns ++ b ∷ [])
   laid_put s eb eo en ef ec em number =
-      let n : length s.block ≡ length r.block = ap length eb ∙ length-put r.block place (framed b) fits in
+      let n : length s.block ≡ length r.block = ap length eb ∙ length-put r.block place (with_length b) fits in
       let older : Holds s.block s.older os = subst (λ (p : List (Option ℕ) × Run). Holds p.0 p.1 os) (λ i. (sym eb i, sym eo i)) older_stays in
       let newer : Holds s.block s.newer (ns ++ b ∷ []) = subst (λ (p : List (Option ℕ) × Run). Holds p.0 p.1 (ns ++ b ∷ [])) (λ i. (sym eb i, sym en i)) newer_holds in
       let co : s.older.count ≡ r.older.count = ap (λ (q : Run). q.count) eo in
@@ -175,7 +175,7 @@ module _ (r : Ring) (os ns : List (List ℕ)) (l : Laid r os ns) (b : List ℕ) 
         start = λ h. omega (arith, l.start);
         apart = λ h. omega (arith, way.1);
         gap = λ h. omega (arith, l.gap);
-        marks = em ∙ (more_marks ∙ ap (λ (p : ℕ × ℕ × ℕ). marked p.0 (begins p.1 os ++ begins p.2 (ns ++ b ∷ []))) (λ i. (sym ef i, sym bo i, sym bn i)));
+        marks = em ∙ (more_marks ∙ ap (λ (p : ℕ × ℕ × ℕ). every_sixteenth p.0 (begins p.1 os ++ begins p.2 (ns ++ b ∷ []))) (λ i. (sym ef i, sym bo i, sym bn i)));
         room = omega (arith, l.room);
         numbers = omega (arith, length-append ns (b ∷ []));
       }
@@ -203,20 +203,16 @@ laid_turn r ns size l small full s eb em ef eo en =
       numbers = omega (arith, l.numbers);
     }
 
--- a run with entries
-old_some : (r : Ring) (os ns : List (List ℕ)) → Laid r os ns → 0 < r.older.count → 0 < length os
-old_some r os ns l h = omega (arith, l.older.counted)
-
 -- where an entry doesn't fit at the end of the block, there is no older run
-pub no_older : (r : Ring) (os ns : List (List ℕ)) (size : ℕ) → Laid r os ns → length (stored (os ++ ns)) + size + 4098 ≤ length r.block
+pub no_older : (r : Ring) (os ns : List (List ℕ)) (size : ℕ) → Laid r os ns → length (stored_bytes (os ++ ns)) + size + 4098 ≤ length r.block
     → length r.block < r.newer.begin + r.newer.size + size → os ≡ []
 no_older r [] ns size l fits full = refl
 no_older r (o ∷ os) ns size l fits full =
     let some : 0 < r.older.count = omega (arith, l.older.counted) in
-    absurd (omega (arith, l.start some, l.apart some, l.gap some, l.older.within, ap length (stored-append (o ∷ os) ns), length-append (stored (o ∷ os)) (stored ns), sized r.block r.older (o ∷ os) l.older, sized r.block r.newer ns l.newer))
+    absurd (omega (arith, l.start some, l.apart some, l.gap some, l.older.within, ap length (stored-append (o ∷ os) ns), length-append (stored_bytes (o ∷ os)) (stored_bytes ns), sized r.block r.older (o ∷ os) l.older, sized r.block r.newer ns l.newer))
 
 -- the way at the end of the block
-pub way_at_end : (r : Ring) (os ns : List (List ℕ)) (size : ℕ) → Laid r os ns → length (stored (os ++ ns)) + size + 4098 ≤ length r.block
+pub way_at_end : (r : Ring) (os ns : List (List ℕ)) (size : ℕ) → Laid r os ns → length (stored_bytes (os ++ ns)) + size + 4098 ≤ length r.block
     → r.newer.begin + r.newer.size + size ≤ length r.block → HasWay r size
 way_at_end r os ns size l fits free =
-    (free, λ some. omega (arith, l.start some, l.apart some, l.gap some, l.older.within, ap length (stored-append os ns), length-append (stored os) (stored ns), sized r.block r.older os l.older, sized r.block r.newer ns l.newer))
+    (free, λ some. omega (arith, l.start some, l.apart some, l.gap some, l.older.within, ap length (stored-append os ns), length-append (stored_bytes os) (stored_bytes ns), sized r.block r.older os l.older, sized r.block r.newer ns l.newer))

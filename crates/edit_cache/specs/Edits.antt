@@ -15,17 +15,17 @@ abbrev pub bodies_of : List Edit → List (List ℕ)
 bodies_of es = map (λ (e : Edit). e.body) es
 
 -- a body with its length before it, in two bytes, the greater first
-abbrev pub framed : List ℕ → List ℕ
-framed b = length b / 256 ∷ length b % 256 ∷ b
+abbrev pub with_length : List ℕ → List ℕ
+with_length b = length b / 256 ∷ length b % 256 ∷ b
 
 -- bodies as they are stored
-abbrev pub stored : List (List ℕ) → List ℕ
-stored [] = []
-stored (b ∷ bs) = framed b ++ stored bs
+abbrev pub stored_bytes : List (List ℕ) → List ℕ
+stored_bytes [] = []
+stored_bytes (b ∷ bs) = with_length b ++ stored_bytes bs
 
 -- the bytes are those of one or more of the bodies, from the first on
 abbrev pub IsStored : List (List ℕ) → List ℕ → Type 0
-IsStored bs xs = (n : ℕ) × (0 < n) × (n ≤ length bs) × (xs ≡ stored (take n bs))
+IsStored bs xs = (n : ℕ) × (0 < n) × (n ≤ length bs) × (xs ≡ stored_bytes (take n bs))
 
 -- the bytes that edits take where they are stored
 abbrev pub size_of : List Edit → ℕ
@@ -33,10 +33,10 @@ size_of [] = 0
 size_of (e ∷ es) = length e.body + 2 + size_of es
 
 -- the last edit is kept, and each other for which it and all later ones take at most that many bytes
-abbrev pub kept : ℕ → List Edit → List Edit
-kept most [] = []
-kept most (e ∷ []) = e ∷ []
-kept most (e ∷ f ∷ es) = if nat_le (size_of (e ∷ f ∷ es)) most then e ∷ f ∷ es else kept most (f ∷ es)
+abbrev pub kept_edits : ℕ → List Edit → List Edit
+kept_edits most [] = []
+kept_edits most (e ∷ []) = e ∷ []
+kept_edits most (e ∷ f ∷ es) = if nat_le (size_of (e ∷ f ∷ es)) most then e ∷ f ∷ es else kept_edits most (f ∷ es)
 
 -- the edits from the one with that txid on
 abbrev pub since : ℕ → List Edit → List Edit
@@ -59,6 +59,6 @@ Follows (e ∷ []) txid = txid ≡ e.txid + 1
 Follows (e ∷ f ∷ es) txid = Follows (f ∷ es) txid
 
 -- these bodies, from that txid on
-abbrev pub numbered : ℕ → List (List ℕ) → List Edit
-numbered txid [] = []
-numbered txid (b ∷ bs) = record { txid = txid; body = b } ∷ numbered (txid + 1) bs
+abbrev pub number_edits : ℕ → List (List ℕ) → List Edit
+number_edits txid [] = []
+number_edits txid (b ∷ bs) = record { txid = txid; body = b } ∷ number_edits (txid + 1) bs

@@ -1,7 +1,7 @@
 //! One allocation of bytes that is given back when it is dropped.
 ghost use Rattle.std.specs.Prelude.{◌≡◌, ℕ, ◌+◌, ◌^◌, ◌<◌, ◌≤◌, List, Option, Some, None, map, length, take, drop, replicate, IfOk};
 ghost use Rattle.edit_cache.specs.Owned.{IsWritten};
-ghost use Rattle.edit_cache.specs.Places.{put};
+ghost use Rattle.edit_cache.specs.Places.{put_at};
 
 use crate::raw::{Ownership, RawBytes, allocate, deallocate};
 use qj_num::OutOfMemory;
@@ -52,7 +52,7 @@ impl Block {
     /// Writes bytes from a place on.
     pub(crate) fn write(&mut self, at: usize, bytes: &[u8])
         requires { at + length bytes.now ≤ length self.old }
-        ensures { self.new ≡ put self.old at bytes.now }
+        ensures { self.new ≡ put_at self.old at bytes.now }
     {
         self.bytes.write_all(at, bytes);
     }

@@ -1,6 +1,6 @@
 //! The newest edits of a segment, in a ring of bytes.
 ghost use Rattle.std.specs.Prelude.{◌≡◌, ℕ, ◌+◌, ◌-◌, ◌<◌, ◌≤◌, ◌↔◌, ◌==◌, [], ◌∷◌, ◌++◌, length, drop, IfOk, IfSome, IsNone};
-ghost use Rattle.edit_cache.specs.Edits.{Edit, Follows, IsStored, bodies_of, first_txid, kept, last_txid, numbered, since, size_of};
+ghost use Rattle.edit_cache.specs.Edits.{Edit, Follows, IsStored, bodies_of, first_txid, kept_edits, last_txid, number_edits, since, size_of};
 
 use crate::entry::Entry;
 use crate::ring::Ring;
@@ -18,13 +18,13 @@ pub struct EditCache {
 // Clauses see the bytes of the ring and the edits, oldest first.
 impl Model for EditCache {
     ghost use Rattle.std.specs.Prelude.{length};
-    ghost use Rattle.edit_cache.specs.Edits.{Cached, numbered};
+    ghost use Rattle.edit_cache.specs.Edits.{Cached, number_edits};
 
     ghost Value = { Cached };
 
-    ghost use Rattle.edit_cache.specs.Ring.{IsRing, held};
+    ghost use Rattle.edit_cache.specs.Ring.{IsRing, held_bodies};
 
-    ghost view = { λ c. record { bytes = length c.ring.block; edits = numbered c.ring.first (held c.ring) } };
+    ghost view = { λ c. record { bytes = length c.ring.block; edits = number_edits c.ring.first (held_bodies c.ring) } };
 
     ghost invariant = { λ c. IsRing c.ring };
 }
@@ -47,7 +47,7 @@ impl EditCache {
         requires follows { Follows self.old.edits entry.now.txid }
         requires short { length entry.now.body.now ≤ 4096 }
         ensures bytes { self.new.bytes ≡ self.old.bytes }
-        ensures kept { self.new.edits ≡ kept (self.old.bytes - 4098) (self.old.edits ++ record { txid = entry.now.txid; body = entry.now.body.now } ∷ []) }
+        ensures kept { self.new.edits ≡ kept_edits (self.old.bytes - 4098) (self.old.edits ++ record { txid = entry.now.txid; body = entry.now.body.now } ∷ []) }
         ensures next { Follows self.new.edits (entry.now.txid + 1) }
     {
         let size = entry.body.len() + 2;
@@ -67,7 +67,7 @@ impl EditCache {
     /// The txid of the oldest edit.
     pub fn first(&self) -> Option<u64>
         ensures first { result ≡ first_txid self.now.edits }
-        ensures consecutive { IfSome result (λ first. self.now.edits ≡ numbered first (bodies_of self.now.edits)) }
+        ensures consecutive { IfSome result (λ first. self.now.edits ≡ number_edits first (bodies_of self.now.edits)) }
     {
         if self.ring.count() == 0 {
             return None;
@@ -132,7 +132,7 @@ impl EditCache {
         requires { size ≤ 4098 }
         ensures bytes { self.new.bytes ≡ self.old.bytes }
         ensures follows { (t : ℕ) → Follows self.old.edits t → Follows self.new.edits t }
-        ensures kept { (e : Edit) → length e.body + 2 ≡ size → kept (self.old.bytes - 4098) (self.new.edits ++ e ∷ []) ≡ kept (self.old.bytes - 4098) (self.old.edits ++ e ∷ []) }
+        ensures kept { (e : Edit) → length e.body + 2 ≡ size → kept_edits (self.old.bytes - 4098) (self.new.edits ++ e ∷ []) ≡ kept_edits (self.old.bytes - 4098) (self.old.edits ++ e ∷ []) }
         ensures fits { 0 < length self.new.edits → size_of self.new.edits + size + 4098 ≤ self.new.bytes }
     {
         let most = self.bytes() - 4098;

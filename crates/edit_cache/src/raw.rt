@@ -3,7 +3,7 @@ ghost use Rattle.std.specs.Prelude.{◌≡◌, ℕ, ◌+◌, ◌≤◌, ◌<◌,
 ghost use base.Fml.{ftrue};
 ghost use denote.RawPtr.{Ptr};
 ghost use Rattle.edit_cache.specs.Owned.{bytes_own, bytes_lent, room_owned, IsWritten};
-ghost use Rattle.edit_cache.specs.Places.{put};
+ghost use Rattle.edit_cache.specs.Places.{put_at};
 
 use std::alloc::{AllocError, Allocator};
 use std::marker::{Model, PhantomData, Send, Sync};
@@ -85,7 +85,7 @@ impl RawBytes {
     pub(crate) fn write_all(&mut self, at: usize, bytes: &[u8])
         requires within { at + length bytes.now ≤ length self.old.places }
         requires few { length self.old.places < 2 ^ 63 }
-        ensures { (self.new.at ≡ self.old.at) × (self.new.places ≡ put self.old.places at bytes.now) }
+        ensures { (self.new.at ≡ self.old.at) × (self.new.places ≡ put_at self.old.places at bytes.now) }
     {
         let mut place = at;
         for byte in bytes {

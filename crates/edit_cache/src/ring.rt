@@ -1,6 +1,6 @@
 //! The fields of the cache, and the steps that keep them a ring.
 ghost use Rattle.std.specs.Prelude.{◌≡◌, ℕ, ◌+◌, ◌-◌, ◌*◌, ◌^◌, ◌<◌, ◌≤◌, Option, Some, List, [], ◌∷◌, ◌++◌, length, map, take, drop, get_or, IfOk, IsSome, IfSome, ◌↔◌, ◌%◌};
-ghost use Rattle.edit_cache.specs.Edits.{stored, IsStored};
+ghost use Rattle.edit_cache.specs.Edits.{stored_bytes, IsStored};
 ghost use Rattle.edit_cache.specs.Owned.{IsWritten};
 ghost use Rattle.edit_cache.specs.Places.{length_at};
 
@@ -24,13 +24,13 @@ pub(crate) struct Ring {
 }
 
 impl Ring {
-    ghost use Rattle.edit_cache.specs.Ring.{IsRing, HasWay, Holds, ArePlaces, bodies_in, places_of, held};
+    ghost use Rattle.edit_cache.specs.Ring.{IsRing, HasWay, Holds, ArePlaces, bodies_in, places_of, held_bodies};
 
     pub(crate) fn new(alloc: Global, bytes: usize) -> Result<Ring, OutOfMemory>
         requires low { 8192 ≤ bytes }
         requires high { bytes ≤ 16777216 }
         ensures ring { IfOk result IsRing }
-        ensures empty { IfOk result (λ r. held r ≡ []) }
+        ensures empty { IfOk result (λ r. held_bodies r ≡ []) }
         ensures bytes { IfOk result (λ r. length r.block ≡ bytes) }
     {
         let block = Block::new(alloc, bytes)?;
@@ -47,7 +47,7 @@ impl Ring {
     /// How many bytes the entries take.
     pub(crate) fn size(&self) -> usize
         requires { IsRing self.now }
-        ensures { result ≡ length (stored (held self.now)) }
+        ensures { result ≡ length (stored_bytes (held_bodies self.now)) }
     {
         self.older.size + self.newer.size
     }
@@ -55,7 +55,7 @@ impl Ring {
     /// How many entries there are.
     pub(crate) fn count(&self) -> usize
         requires { IsRing self.now }
-        ensures { result ≡ length (held self.now) }
+        ensures { result ≡ length (held_bodies self.now) }
     {
         self.older.count + self.newer.count
     }
@@ -64,7 +64,7 @@ impl Ring {
     pub(crate) fn restart(&mut self, txid: u64)
         requires { IsRing self.old }
         ensures ring { IsRing self.new }
-        ensures held { held self.new ≡ [] }
+        ensures held { held_bodies self.new ≡ [] }
         ensures first { self.new.first ≡ txid }
         ensures way { HasWay self.new 4098 }
         ensures bytes { length self.new.block ≡ length self.old.block }
@@ -79,9 +79,9 @@ impl Ring {
     pub(crate) fn make_way(&mut self, size: usize)
         requires ring { IsRing self.old }
         requires size { size ≤ 4098 }
-        requires fits { length (stored (held self.old)) + size + 4098 ≤ length self.old.block }
+        requires fits { length (stored_bytes (held_bodies self.old)) + size + 4098 ≤ length self.old.block }
         ensures ring { IsRing self.new }
-        ensures held { held self.new ≡ held self.old }
+        ensures held { held_bodies self.new ≡ held_bodies self.old }
         ensures first { self.new.first ≡ self.old.first }
         ensures way { HasWay self.new size }
         ensures bytes { length self.new.block ≡ length self.old.block }
@@ -97,9 +97,9 @@ impl Ring {
         requires ring { IsRing self.old }
         requires short { length body.now ≤ 4096 }
         requires way { HasWay self.old (length body.now + 2) }
-        requires number { self.old.first + length (held self.old) < 2 ^ 64 }
+        requires number { self.old.first + length (held_bodies self.old) < 2 ^ 64 }
         ensures ring { IsRing self.new }
-        ensures held { held self.new ≡ held self.old ++ body.now ∷ [] }
+        ensures held { held_bodies self.new ≡ held_bodies self.old ++ body.now ∷ [] }
         ensures first { self.new.first ≡ self.old.first }
         ensures bytes { length self.new.block ≡ length self.old.block }
     {
@@ -126,9 +126,9 @@ impl Ring {
     fn drop_older(&mut self)
         requires ring { IsRing self.old }
         requires some { 0 < self.old.older.count }
-        requires more { 1 < length (held self.old) }
+        requires more { 1 < length (held_bodies self.old) }
         ensures ring { IsRing self.new }
-        ensures held { held self.new ≡ drop 1 (held self.old) }
+        ensures held { held_bodies self.new ≡ drop 1 (held_bodies self.old) }
         ensures first { self.new.first ≡ self.old.first + 1 }
         ensures bytes { length self.new.block ≡ length self.old.block }
     {
@@ -142,9 +142,9 @@ impl Ring {
     fn drop_newer(&mut self)
         requires ring { IsRing self.old }
         requires none { self.old.older.count ≡ 0 }
-        requires more { 1 < length (held self.old) }
+        requires more { 1 < length (held_bodies self.old) }
         ensures ring { IsRing self.new }
-        ensures held { held self.new ≡ drop 1 (held self.old) }
+        ensures held { held_bodies self.new ≡ drop 1 (held_bodies self.old) }
         ensures first { self.new.first ≡ self.old.first + 1 }
         ensures bytes { length self.new.block ≡ length self.old.block }
     {
@@ -157,10 +157,10 @@ impl Ring {
     /// Drops the oldest entry.
     pub(crate) fn drop_oldest(&mut self)
         requires ring { IsRing self.old }
-        requires some { 0 < length (held self.old) }
+        requires some { 0 < length (held_bodies self.old) }
         ensures ring { IsRing self.new }
-        ensures held { held self.new ≡ drop 1 (held self.old) }
-        ensures first { 1 < length (held self.old) → self.new.first ≡ self.old.first + 1 }
+        ensures held { held_bodies self.new ≡ drop 1 (held_bodies self.old) }
+        ensures first { 1 < length (held_bodies self.old) → self.new.first ≡ self.old.first + 1 }
         ensures bytes { length self.new.block ≡ length self.old.block }
     {
         if self.count() == 1 {
@@ -177,7 +177,7 @@ impl Ring {
         requires ring { IsRing self.now }
         requires marked { txid % 16 ≡ 0 }
         requires first { self.now.first ≤ txid }
-        requires last { txid < self.now.first + length (held self.now) }
+        requires last { txid < self.now.first + length (held_bodies self.now) }
         ensures { result ≡ get_or (places_of self.now) (txid - self.now.first) 0 }
     {
         let number = ((txid - self.first) / STEP) as usize;
@@ -190,11 +190,11 @@ impl Ring {
     /// The place of the entry of a run with that index, from the one with an index before it.
     fn walk(&self, run: Run, start: usize, from: usize, index: usize) -> usize
         requires holds { Holds self.now.block run (bodies_in self.now.block run) }
-        requires start { start ≡ run.begin + length (stored (take from (bodies_in self.now.block run))) }
+        requires start { start ≡ run.begin + length (stored_bytes (take from (bodies_in self.now.block run))) }
         requires small { length self.now.block ≤ 16777216 }
         requires from { from ≤ index }
         requires index { index < run.count }
-        ensures { result ≡ run.begin + length (stored (take index (bodies_in self.now.block run))) }
+        ensures { result ≡ run.begin + length (stored_bytes (take index (bodies_in self.now.block run))) }
     {
         let mut place = start;
         for _ in from..index {
@@ -211,8 +211,8 @@ impl Ring {
         requires first { self.now.first ≤ first }
         requires from { first ≤ txid }
         requires to { txid < first + run.count }
-        requires last { first + run.count ≤ self.now.first + length (held self.now) }
-        ensures { result ≡ run.begin + length (stored (take (txid - first) (bodies_in self.now.block run))) }
+        requires last { first + run.count ≤ self.now.first + length (held_bodies self.now) }
+        ensures { result ≡ run.begin + length (stored_bytes (take (txid - first) (bodies_in self.now.block run))) }
     {
         let index = (txid - first) as usize;
         let marked = txid - txid % STEP;
@@ -231,8 +231,8 @@ impl Ring {
         requires first { self.now.first ≤ first }
         requires from { first ≤ txid }
         requires to { txid < first + run.count }
-        requires last { first + run.count ≤ self.now.first + length (held self.now) }
-        ensures { result.now ≡ stored (drop (txid - first) (bodies_in self.now.block run)) }
+        requires last { first + run.count ≤ self.now.first + length (held_bodies self.now) }
+        ensures { result.now ≡ stored_bytes (drop (txid - first) (bodies_in self.now.block run)) }
     {
         let place = self.place_of(run, first, txid);
         self.block.slice(place, run.end() - place)
@@ -241,8 +241,8 @@ impl Ring {
     /// The bytes of one or more entries from the one with that txid on, if it is held.
     pub(crate) fn slice_from(&self, txid: u64) -> Option<&[u8]>
         requires { IsRing self.now }
-        ensures held { IsSome result ↔ ((self.now.first ≤ txid) × (txid < self.now.first + length (held self.now))) }
-        ensures run { IfSome result (λ s. IsStored (drop (txid - self.now.first) (held self.now)) s.now) }
+        ensures held { IsSome result ↔ ((self.now.first ≤ txid) × (txid < self.now.first + length (held_bodies self.now))) }
+        ensures run { IfSome result (λ s. IsStored (drop (txid - self.now.first) (held_bodies self.now)) s.now) }
     {
         if txid < self.first {
             return None;

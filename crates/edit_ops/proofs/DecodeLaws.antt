@@ -13,11 +13,12 @@ use Rattle.edit_ops.specs.Fields.{Kind, Field, client, call_number, IsGood, fiel
 use Rattle.edit_ops.specs.Records.{EditView, kind_of, layout, full_layout, opcode, called, edit_fields, record_of}
 use Rattle.edit_ops.specs.Grammar.{MayCall, IsEdit, IsRecord}
 use Rattle.edit_ops.specs.Decoding.{least, Matches, Begins, EndsInside, BreaksRule, HasTrailing, IsDecoded}
-use Rattle.edit_ops.specs.Reading.{◌>>=◌, Fails, field_at, fields_at, op_at}
-use Rattle.edit_ops.proofs.ReadItems.{with_front}
+use Rattle.edit_ops.specs.Sources.{Fails}
+use Rattle.edit_ops.specs.Reading.{field_at, group_at, fields_at}
+use Rattle.edit_ops.proofs.SourceLaws.{with_front, ok_is, fields-append}
 use Rattle.edit_ops.proofs.ReadFields.{broken_field, short_field}
-use Rattle.edit_ops.proofs.FieldLaws.{IsBytes, ok_is, is_wrong, least_bound}
-use Rattle.edit_ops.proofs.WalkLaws.{runs, fields_at-append, Outcome, outcome, Stops, Ends, matches_good}
+use Rattle.edit_ops.proofs.FieldLaws.{IsBytes, is_wrong, least_bound}
+use Rattle.edit_ops.proofs.WalkLaws.{runs, Outcome, outcome, Stops, Ends, matches_good}
 use Rattle.edit_ops.proofs.EditLaws.{edit_matches, same_edit, same_opcode}
 
 abbrev Read : Type 0
@@ -178,7 +179,7 @@ one_answer body p q (inr (inr n)) (inl k) = let e = sym k.whole ∙ n.0 in absur
 one_answer body p q (inr (inr n)) (inr (inl u)) = let e = sym u.whole ∙ n.0 in absurd cc
 one_answer body p q (inr (inr m)) (inr (inr n)) = m.1 ∙ sym n.1
 
--- a body has one right answer beside want of memory
+-- a body has one right answer beside lack of memory
 pub one_right_answer : (body : List ℕ) (a b : Decoded) → IsDecoded body a → IsDecoded body b → a ≢ OutOfMemory → b ≢ OutOfMemory → a ≡ b
 one_right_answer body a b p q not_a not_b = same_shape a b (one_answer body (shape a) (shape b) (says body a p not_a) (says body b q not_b))
 
@@ -203,29 +204,6 @@ no_prefix a b x y p q e =
 
 -- ---- what was read says what the body is
 
--- the fields with their kind, as op_at has them
-abbrev kinded : OpKind → List Field × List ℕ → Result ((OpKind × List Field) × List ℕ) Fault
-kinded kind x = Ok ((kind, x.0), x.1)
-
-pub op_read : (kind : OpKind) (bytes : List ℕ) (k : OpKind) (fields : List Field) (rest : List ℕ) → op_at kind bytes ≡ Ok ((k, fields), rest) → (fields_at (layout kind) bytes ≡ Ok (fields, rest)) × (k ≡ kind)
-unfolding op_at
-op_read kind bytes k fields rest e = by (fields_at (layout kind) bytes) e
-  where
-    by : (r : Read) → (r >>= λ x. kinded kind x) ≡ Ok ((k, fields), rest) → (r ≡ Ok (fields, rest)) × (k ≡ kind)
-    by (Err f) is = absurd cc
-    by (Ok x) is =
-        let same = ok_is ((kind, x.0), x.1) ((k, fields), rest) is in
-        ((λ i. Ok ((same i).0.1, (same i).1)), sym (λ i. (same i).0.0))
-
-pub op_fails : (kind : OpKind) (bytes : List ℕ) (e : ReadError) → Fails e (op_at kind bytes) → Fails e (fields_at (layout kind) bytes)
-unfolding op_at
-op_fails kind bytes errors.Memory fails = tt
-op_fails kind bytes (errors.Fault f) fails = by (fields_at (layout kind) bytes) fails
-  where
-    by : (r : Read) → (r >>= λ x. kinded kind x) ≡ Err f → r ≡ Err f
-    by (Ok x) is = absurd cc
-    by (Err g) is = let same : g ≡ f = cc in ap (λ (h : Fault). Err h) same
-
 pub fields_good : (kinds : List Kind) (bytes : List ℕ) (fields : List Field) (rest : List ℕ) → IsBytes bytes → fields_at kinds bytes ≡ Ok (fields, rest) → Ends kinds bytes fields rest
 fields_good kinds bytes fields rest fits e = subst (Outcome kinds bytes) e (outcome (suc (length bytes)) kinds bytes fits (omega arith))
 
@@ -237,11 +215,11 @@ fields_all_good kinds bytes fields rest fits e = matches_good kinds fields [] (f
 
 -- a call, and then the fields of its edit
 pub both_read : (kind : OpKind) (bytes : List ℕ) (front fields : List Field) (after rest : List ℕ) → fields_at (client ∷ call_number ∷ []) bytes ≡ Ok (front, after) → fields_at (layout kind) after ≡ Ok (fields, rest) → fields_at (full_layout kind true) bytes ≡ Ok (front ++ fields, rest)
-both_read kind bytes front fields after rest p q = fields_at-append (client ∷ call_number ∷ []) (layout kind) bytes ∙ rw (p, q) refl
+both_read kind bytes front fields after rest p q = fields-append group_at (client ∷ call_number ∷ []) (layout kind) bytes ∙ rw (p, q) refl
 
-pub second_fails : (kind : OpKind) (bytes : List ℕ) (front : List Field) (after : List ℕ) (e : ReadError) → fields_at (client ∷ call_number ∷ []) bytes ≡ Ok (front, after) → Fails e (fields_at (layout kind) after) → Fails e (fields_at (full_layout kind true) bytes)
+pub second_fails : (kind : OpKind) (bytes : List ℕ) (front : List Field) (after : List ℕ) (e : ReadError Fault) → fields_at (client ∷ call_number ∷ []) bytes ≡ Ok (front, after) → Fails e (fields_at (layout kind) after) → Fails e (fields_at (full_layout kind true) bytes)
 second_fails kind bytes front after errors.Memory p fails = tt
-second_fails kind bytes front after (errors.Fault f) p fails = fields_at-append (client ∷ call_number ∷ []) (layout kind) bytes ∙ rw (p, fails) refl
+second_fails kind bytes front after (errors.Fault f) p fails = fields-append group_at (client ∷ call_number ∷ []) (layout kind) bytes ∙ rw (p, fails) refl
 
 module _ (kind : OpKind) (c : Bool) (body bytes : List ℕ) (byte : ℕ) (may : MayCall kind c) (code_is : opcode kind c ≡ byte) (whole : body ≡ byte ∷ bytes) (fits : IsBytes bytes) where
   begins_at : (left : List Kind) (fields : List Field) (rest : List ℕ) → Matches (full_layout kind c) fields left → bytes ≡ flat_map field_bytes fields ++ rest → Begins body left rest

@@ -11,6 +11,7 @@ use Rattle.edit_ops.specs.declared.fault.Fault.TheVariants.{Short, Bad}
 use Rattle.edit_ops.specs.Fields.{Kind, Field, Text, path, owner, new_owner, text, small, number, flag, client, call_number, Text_, Small_, Number_, Flag_, Client_, Call_, kind_of_field, limit, IsGood, field_bytes}
 use Rattle.edit_ops.specs.Decoding.{told_length, least, broken_rule}
 use Rattle.edit_ops.specs.Reading.{field_at, judged, value_at}
+use Rattle.edit_ops.proofs.SourceLaws.{ok_is}
 use Rattle.edit_ops.proofs.ReadFields.{whole_field, least_text, good_text}
 
 abbrev pub IsBytes : List ℕ → Type 0
@@ -27,12 +28,6 @@ IsBytes-take n bytes h i =
     ]
 
 -- ---- what a reading that went well says
-
-abbrev done : {A : Type 0} → A → Result A Fault
-done x = Ok x
-
-pub ok_is : {A : Type 0} (x y : A) → done x ≡ done y → x ≡ y
-ok_is x y e = cc
 
 picked : (cut : Bool) (rule : Option ℕ) (short : Fault) (kind : Kind) (bytes : List ℕ) (x : Field × List ℕ) → cond cut (Err short) (judged kind bytes rule) ≡ Ok x → (cut ≡ false) × (rule ≡ None) × ((value_at kind bytes, drop (least kind bytes) bytes) ≡ x)
 picked true rule short kind bytes x e = absurd cc

@@ -1,3 +1,4 @@
+pub mod SourceLaws
 pub mod Goods
 pub mod ReadFields
 pub mod ReadItems

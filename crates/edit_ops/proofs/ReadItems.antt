@@ -6,11 +6,9 @@ use Rattle.edit_ops.specs.declared.fault.Fault.{Fault}
 use Rattle.edit_ops.specs.declared.fault.ReadError.{ReadError}
 use Rattle.edit_ops.specs.declared.fault.ReadError.TheVariants as errors
 use Rattle.edit_ops.specs.Fields.{Kind, Field}
-use Rattle.edit_ops.specs.Reading.{◌>>=◌, Fails, field_at, items_at}
-
--- what was read before, and what is still read
-abbrev pub with_front : List Field → Result (List Field × List ℕ) Fault → Result (List Field × List ℕ) Fault
-with_front front read = read >>= λ x. Ok (front ++ x.0, x.1)
+use Rattle.edit_ops.specs.Sources.{◌>>=◌, Fails}
+use Rattle.edit_ops.specs.Reading.{field_at, items_at}
+use Rattle.edit_ops.proofs.SourceLaws.{with_front}
 
 regroup : (front : List Field) (f : Field) (read : Result (List Field × List ℕ) Fault) → with_front front (read >>= λ x. Ok (f ∷ x.0, x.1)) ≡ with_front (front ++ f ∷ []) read
 regroup front f (Ok x) = ap (λ (fs : List Field). Ok (fs, x.1)) (simp append_assoc)
@@ -24,7 +22,7 @@ module _ (kind : Kind) where
       let one : with_front front (items_at (replicate (count - i) kind) bytes) ≡ with_front (front ++ f ∷ []) (items_at (replicate (count - (i + 1)) kind) after) = rw (k, h) (regroup front f (items_at (replicate (count - (i + 1)) kind) after)) in
       sym one ∙ so_far
 
-  pub ends : (e : ReadError) (front : List Field) (count i : ℕ) (bytes : List ℕ) (total : Result (List Field × List ℕ) Fault) → i < count → Fails e (field_at kind bytes)
+  pub ends : (e : ReadError Fault) (front : List Field) (count i : ℕ) (bytes : List ℕ) (total : Result (List Field × List ℕ) Fault) → i < count → Fails e (field_at kind bytes)
       → with_front front (items_at (replicate (count - i) kind) bytes) ≡ total → Fails e total
   ends errors.Memory front count i bytes total lt h so_far = tt
   ends (errors.Fault f) front count i bytes total lt h so_far =

@@ -1,5 +1,5 @@
 -- Whole texts: each has one edit or none.
-use Rattle.std.proofs.Common.{◌≡◌, ◌≢◌, ◌⊎◌, ℕ, suc, ◌+◌, ◌<◌, Bool, true, false, cond, eqb, drop, List, [], ◌∷◌, ◌++◌, length, Option, Some, None, Err, refl, sym, ap, subst, ◌∙◌, append_assoc, arith, inl, inr}
+use Rattle.std.proofs.Common.{◌≡◌, ◌≢◌, ◌⊎◌, ℕ, suc, ◌+◌, ◌<◌, Bool, true, false, cond, eqb, drop, List, [], ◌∷◌, ◌++◌, length, Option, Some, None, Ok, Err, refl, sym, ap, subst, ◌∙◌, append_assoc, arith, inl, inr}
 use Rattle.std.specs.Prelude.{codes, not, ◌==◌}
 use Rattle.std.specs.List.{flat_map, AllByRecursion, position_or_len}
 use Rattle.std.proofs.lemmas.Bool.{eqb-true}
@@ -9,21 +9,21 @@ use Rattle.edit_ops.specs.declared.op.Op.{Op}
 use Rattle.edit_ops.specs.declared.edit.Call.{Call}
 use Rattle.edit_ops.specs.declared.said_text.ReadText.{ReadText}
 use Rattle.edit_ops.specs.declared.said_text.ReadText.TheVariants as answers
-use Rattle.edit_ops.specs.declared.fault.TextError.{TextError}
-use Rattle.edit_ops.specs.declared.fault.TextError.TheVariants as errors
+use Rattle.edit_ops.specs.declared.fault.BadText.{BadText}
+use Rattle.edit_ops.specs.declared.fault.ReadError.{ReadError}
+use Rattle.edit_ops.specs.declared.fault.ReadError.TheVariants as errors
 use Rattle.edit_ops.specs.Kinds.{is_mark}
 use Rattle.edit_ops.specs.Words.{verb}
 use Rattle.edit_ops.specs.Fields.{Field, client, call_number, IsGood}
 use Rattle.edit_ops.specs.Records.{EditView, kind_of, fields_of, layout, call_fields}
 use Rattle.edit_ops.specs.Texts.{spaced, IsText}
 use Rattle.edit_ops.specs.ReadTexts.{IsLine, IsReadLine, IsReadEdit, IsReadText}
-use Rattle.edit_ops.specs.Saying.{◌>>=◌, Misses, Boundary, split_word, fields_said, op_said}
+use Rattle.edit_ops.specs.Sources.{Fails, op_read}
+use Rattle.edit_ops.specs.Saying.{Boundary, split_word, words_group, fields_said}
+use Rattle.edit_ops.proofs.SourceLaws.{ok_is, op_is_read, op_fails}
 use Rattle.edit_ops.proofs.EditLaws.{same_op}
 use Rattle.edit_ops.proofs.SayWords.{NoSpace, split_again}
-use Rattle.edit_ops.proofs.SayLaws.{runs, fields_taken, op_says, op_bound, same_verb, verb_plain, no_call_verb, some_is}
-
-abbrev Read : Type 0
-Read = Option (List Field × List ℕ)
+use Rattle.edit_ops.proofs.SayLaws.{runs, fields_taken, op_says, op_bound, same_verb, verb_plain, no_call_verb}
 
 abbrev flat : List Field → List ℕ
 flat fields = flat_map (spaced false) fields
@@ -39,39 +39,11 @@ line_word words op line = ap (λ (p : List ℕ × List ℕ). p.0) (line_split wo
 pub line_rest : (words : List ℕ) (op : Op) → IsLine words op → (split_word words).1 ≡ flat (fields_of op)
 line_rest words op line = ap (λ (p : List ℕ × List ℕ). p.1) (line_split words op line)
 
-pub line_says : (words : List ℕ) (op : Op) → IsLine words op → fields_said (layout (kind_of op)) (flat (fields_of op)) ≡ Some (fields_of op, [])
+pub line_says : (words : List ℕ) (op : Op) → IsLine words op → fields_said (layout (kind_of op)) (flat (fields_of op)) ≡ Ok (fields_of op, [])
 line_says words op line = op_says op line.good line.said line.no_mark
 
--- what was read as an edit of a kind
-abbrev kinded : OpKind → List Field × List ℕ → Option ((OpKind × List Field) × List ℕ)
-kinded kind x = Some ((kind, x.0), x.1)
-
-abbrev some_kinded : (OpKind × List Field) × List ℕ → Option ((OpKind × List Field) × List ℕ)
-some_kinded x = Some x
-
-kinded_is : (x y : (OpKind × List Field) × List ℕ) → some_kinded x ≡ some_kinded y → x ≡ y
-kinded_is x y e = cc
-
-pub op_read : (kind : OpKind) (words : List ℕ) (k : OpKind) (fields : List Field) (rest : List ℕ) → op_said kind words ≡ Some ((k, fields), rest) → (fields_said (layout kind) words ≡ Some (fields, rest)) × (k ≡ kind)
-unfolding op_said
-op_read kind words k fields rest e = by (fields_said (layout kind) words) e
-  where
-    by : (r : Read) → (r >>= λ x. kinded kind x) ≡ Some ((k, fields), rest) → (r ≡ Some (fields, rest)) × (k ≡ kind)
-    by None is = absurd cc
-    by (Some x) is =
-        let same = kinded_is ((kind, x.0), x.1) ((k, fields), rest) is in
-        ((λ i. Some ((same i).0.1, (same i).1)), sym (λ i. (same i).0.0))
-
-pub op_missed : (kind : OpKind) (words : List ℕ) → op_said kind words ≡ None → fields_said (layout kind) words ≡ None
-unfolding op_said
-op_missed kind words e = by (fields_said (layout kind) words) e
-  where
-    by : (r : Read) → (r >>= λ x. kinded kind x) ≡ None → r ≡ None
-    by None is = refl
-    by (Some x) is = absurd cc
-
 -- the words of a line under the kind that its first word tells
-line_under : (words : List ℕ) (kind : OpKind) (op : Op) → verb kind ≡ (split_word words).0 → IsLine words op → fields_said (layout kind) (split_word words).1 ≡ Some (fields_of op, [])
+line_under : (words : List ℕ) (kind : OpKind) (op : Op) → verb kind ≡ (split_word words).0 → IsLine words op → fields_said (layout kind) (split_word words).1 ≡ Ok (fields_of op, [])
 line_under words kind op told line =
     let kind_is : kind ≡ kind_of op = same_verb kind (kind_of op) (told ∙ line_word words op line) in
     (λ i. fields_said (layout (kind_is i)) (line_rest words op line i)) ∙ line_says words op line
@@ -79,19 +51,19 @@ line_under words kind op told line =
 pub no_verb : (words : List ℕ) → ((kind : OpKind) → is_mark kind ≡ false → verb kind ≢ (split_word words).0) → (op : Op) → IsLine words op → ⊥
 no_verb words none op line = none (kind_of op) line.no_mark (sym (line_word words op line))
 
-pub no_fields : (words : List ℕ) (kind : OpKind) → verb kind ≡ (split_word words).0 → op_said kind (split_word words).1 ≡ None → (op : Op) → IsLine words op → ⊥
-no_fields words kind told missed op line = let p = op_missed kind (split_word words).1 missed in let q = line_under words kind op told line in let e = sym p ∙ q in absurd cc
+pub no_fields : (words : List ℕ) (kind : OpKind) (f : BadText) → verb kind ≡ (split_word words).0 → op_read words_group kind (split_word words).1 ≡ Err f → (op : Op) → IsLine words op → ⊥
+no_fields words kind f told missed op line = let p = op_fails words_group kind (split_word words).1 (errors.Fault f) missed in let q = line_under words kind op told line in let e = sym p ∙ q in absurd cc
 
-pub no_more : (words : List ℕ) (kind : OpKind) (k : OpKind) (fields : List Field) (rest : List ℕ) → verb kind ≡ (split_word words).0 → op_said kind (split_word words).1 ≡ Some ((k, fields), rest) → 0 < length rest → (op : Op) → IsLine words op → ⊥
+pub no_more : (words : List ℕ) (kind : OpKind) (k : OpKind) (fields : List Field) (rest : List ℕ) → verb kind ≡ (split_word words).0 → op_read words_group kind (split_word words).1 ≡ Ok ((k, fields), rest) → 0 < length rest → (op : Op) → IsLine words op → ⊥
 no_more words kind k fields rest told read some op line =
-    let p = (op_read kind (split_word words).1 k fields rest read).0 in
+    let p = (op_is_read words_group kind (split_word words).1 k fields rest read).0 in
     let q = line_under words kind op told line in
-    let same = some_is (fields, rest) (fields_of op, []) (sym p ∙ q) in
+    let same = ok_is (fields, rest) (fields_of op, []) (sym p ∙ q) in
     omega (arith, some, ap (λ (x : List Field × List ℕ). length x.1) same)
 
-pub is_line : (words : List ℕ) (kind : OpKind) (op : Op) (rest : List ℕ) → is_mark kind ≡ false → verb kind ≡ (split_word words).0 → (split_word words).0 ++ (split_word words).1 ≡ words → op_said kind (split_word words).1 ≡ Some ((kind_of op, fields_of op), rest) → length rest ≡ 0 → IsLine words op
+pub is_line : (words : List ℕ) (kind : OpKind) (op : Op) (rest : List ℕ) → is_mark kind ≡ false → verb kind ≡ (split_word words).0 → (split_word words).0 ++ (split_word words).1 ≡ words → op_read words_group kind (split_word words).1 ≡ Ok ((kind_of op, fields_of op), rest) → length rest ≡ 0 → IsLine words op
 is_line words kind op rest mark told parts read none =
-    let r = op_read kind (split_word words).1 (kind_of op) (fields_of op) rest read in
+    let r = op_is_read words_group kind (split_word words).1 (kind_of op) (fields_of op) rest read in
     let t = fields_taken (layout kind) (split_word words).1 (fields_of op, rest) r.0 in
     let nothing : rest ≡ [] = nil_from_length rest none in
     record {
@@ -106,12 +78,12 @@ one_line words a b p q =
     let kinds_same : kind_of a ≡ kind_of b = same_verb (kind_of a) (kind_of b) (sym (line_word words a p) ∙ line_word words b q) in
     let read_a = line_under words (kind_of a) a (sym (line_word words a p)) p in
     let read_b = line_under words (kind_of b) b (sym (line_word words b q)) q in
-    let same = some_is (fields_of a, []) (fields_of b, []) (sym read_a ∙ (λ i. fields_said (layout (kinds_same i)) (split_word words).1) ∙ read_b) in
+    let same = ok_is (fields_of a, []) (fields_of b, []) (sym read_a ∙ (λ i. fields_said (layout (kinds_same i)) (split_word words).1) ∙ read_b) in
     same_op a b kinds_same (ap (λ (x : List Field × List ℕ). x.0) same)
 
 -- ---- calls
 
--- a text that a call stands before: the words behind `call`
+-- a text that a call stands before: the words after `call`
 pub record IsCalled (text : List ℕ) (call : Call) (op : Op) : Type 0 where
   pub line : List ℕ
   pub parts : text ≡ codes "call" ++ (flat (call_fields (Some call)) ++ 32 ∷ line)
@@ -146,7 +118,7 @@ not_line words op bound line = no_call_verb (kind_of op) (sym (line_word (codes 
 pub call_bound : (call : Call) (line : List ℕ) → Boundary (flat (call_fields (Some call)) ++ 32 ∷ line)
 call_bound call line = refl
 
-pub call_says : (call : Call) (line : List ℕ) → AllByRecursion IsGood (call_fields (Some call)) → fields_said (client ∷ call_number ∷ []) (flat (call_fields (Some call)) ++ 32 ∷ line) ≡ Some (call_fields (Some call), 32 ∷ line)
+pub call_says : (call : Call) (line : List ℕ) → AllByRecursion IsGood (call_fields (Some call)) → fields_said (client ∷ call_number ∷ []) (flat (call_fields (Some call)) ++ 32 ∷ line) ≡ Ok (call_fields (Some call), 32 ∷ line)
 call_says call line good = runs (call_fields (Some call)) [] (32 ∷ line) ((tt, (tt, tt)), good, (tt, (tt, tt))) refl
 
 same_call : (a b : Call) → call_fields (Some a) ≡ call_fields (Some b) → a ≡ b
@@ -155,7 +127,7 @@ same_call a b e = let x : a.client ≡ b.client = cc in let y : a.number ≡ b.n
 tails : (a b : ℕ) (x y : List ℕ) → a ∷ x ≡ b ∷ y → x ≡ y
 tails a b x y e = cc
 
--- the words behind `call` and a call that a text has
+-- the words after `call` and a call that a text has
 behind : (text words : List ℕ) (call : Call) (op : Op) → text ≡ codes "call" ++ words → (t : IsCalled text call op) → words ≡ flat (call_fields (Some call)) ++ 32 ∷ t.line
 behind text words call op whole t = append_cancel_left (codes "call") words (flat (call_fields (Some call)) ++ 32 ∷ t.line) (sym whole ∙ t.parts)
 
@@ -167,7 +139,7 @@ one_edit_by text (Some c) (Some d) a b p q =
     let t = called_text text c a p in
     let u = called_text text d b q in
     let words = append_cancel_left (codes "call") (flat (call_fields (Some c)) ++ 32 ∷ t.line) (flat (call_fields (Some d)) ++ 32 ∷ u.line) (sym t.parts ∙ u.parts) in
-    let same = some_is (call_fields (Some c), 32 ∷ t.line) (call_fields (Some d), 32 ∷ u.line) (sym (call_says c t.line t.good) ∙ ap (fields_said (client ∷ call_number ∷ [])) words ∙ call_says d u.line u.good) in
+    let same = ok_is (call_fields (Some c), 32 ∷ t.line) (call_fields (Some d), 32 ∷ u.line) (sym (call_says c t.line t.good) ∙ ap (fields_said (client ∷ call_number ∷ [])) words ∙ call_says d u.line u.good) in
     let line_same : t.line ≡ u.line = tails 32 32 t.line u.line (ap (λ (x : List Field × List ℕ). x.1) same) in
     (ap (λ (k : Call). Some k) (same_call c d (ap (λ (x : List Field × List ℕ). x.0) same)), one_line u.line a b (subst (λ (w : List ℕ). IsLine w a) line_same t.is_line) u.is_line)
 
@@ -180,33 +152,33 @@ one_edit a b text p q = let r = one_edit_by text a.call b.call a.op b.op p q in 
 no_plain : (text words : List ℕ) (op : Op) → text ≡ codes "call" ++ words → Boundary words → IsText text (record { op = op; call = None }) → ⊥
 no_plain text words op whole bound is = not_line words op bound (subst (λ (w : List ℕ). IsLine w op) whole (plain_text text op is))
 
--- behind the word `call` only an edit with a call stands
+-- after the word `call` only an edit with a call stands
 only_called : (text words : List ℕ) (c : Option Call) (op : Op) → text ≡ codes "call" ++ words → Boundary words → IsText text (record { op = op; call = c }) → (call : Call) × IsCalled text call op
 only_called text words None op whole bound is = absurd (no_plain text words op whole bound is)
 only_called text words (Some call) op whole bound is = (call, called_text text call op is)
 
-says_behind : (text words : List ℕ) (e : EditView) → text ≡ codes "call" ++ words → Boundary words → IsText text e → (call : Call) × (line : List ℕ) × IsLine line e.op × (fields_said (client ∷ call_number ∷ []) words ≡ Some (call_fields (Some call), 32 ∷ line))
-says_behind text words e whole bound is =
+says_after : (text words : List ℕ) (e : EditView) → text ≡ codes "call" ++ words → Boundary words → IsText text e → (call : Call) × (line : List ℕ) × IsLine line e.op × (fields_said (client ∷ call_number ∷ []) words ≡ Ok (call_fields (Some call), 32 ∷ line))
+says_after text words e whole bound is =
     let t = only_called text words e.call e.op whole bound is in
     (t.0, t.1.line, t.1.is_line, ap (fields_said (client ∷ call_number ∷ [])) (behind text words t.0 e.op whole t.1) ∙ call_says t.0 t.1.line t.1.good)
 
-pub no_call : (text words : List ℕ) → text ≡ codes "call" ++ words → Boundary words → fields_said (client ∷ call_number ∷ []) words ≡ None → (e : EditView) → IsText text e → ⊥
-no_call text words whole bound missed e is = let s = says_behind text words e whole bound is in let both = sym missed ∙ s.3 in absurd cc
+pub no_call : (text words : List ℕ) (f : BadText) → text ≡ codes "call" ++ words → Boundary words → fields_said (client ∷ call_number ∷ []) words ≡ Err f → (e : EditView) → IsText text e → ⊥
+no_call text words f whole bound missed e is = let s = says_after text words e whole bound is in let both = sym missed ∙ s.3 in absurd cc
 
-pub no_space : (text words : List ℕ) (fields : List Field) (rest : List ℕ) → text ≡ codes "call" ++ words → Boundary words → fields_said (client ∷ call_number ∷ []) words ≡ Some (fields, rest) → ((line : List ℕ) → rest ≢ 32 ∷ line) → (e : EditView) → IsText text e → ⊥
+pub no_space : (text words : List ℕ) (fields : List Field) (rest : List ℕ) → text ≡ codes "call" ++ words → Boundary words → fields_said (client ∷ call_number ∷ []) words ≡ Ok (fields, rest) → ((line : List ℕ) → rest ≢ 32 ∷ line) → (e : EditView) → IsText text e → ⊥
 no_space text words fields rest whole bound read none e is =
-    let s = says_behind text words e whole bound is in
-    let same = some_is (fields, rest) (call_fields (Some s.0), 32 ∷ s.1) (sym read ∙ s.3) in
+    let s = says_after text words e whole bound is in
+    let same = ok_is (fields, rest) (call_fields (Some s.0), 32 ∷ s.1) (sym read ∙ s.3) in
     none s.1 (ap (λ (x : List Field × List ℕ). x.1) same)
 
-pub no_line : (text words line : List ℕ) (fields : List Field) → text ≡ codes "call" ++ words → Boundary words → fields_said (client ∷ call_number ∷ []) words ≡ Some (fields, 32 ∷ line) → ((op : Op) → IsLine line op → ⊥) → (e : EditView) → IsText text e → ⊥
+pub no_line : (text words line : List ℕ) (fields : List Field) → text ≡ codes "call" ++ words → Boundary words → fields_said (client ∷ call_number ∷ []) words ≡ Ok (fields, 32 ∷ line) → ((op : Op) → IsLine line op → ⊥) → (e : EditView) → IsText text e → ⊥
 no_line text words line fields whole bound read none e is =
-    let s = says_behind text words e whole bound is in
-    let same = some_is (fields, 32 ∷ line) (call_fields (Some s.0), 32 ∷ s.1) (sym read ∙ s.3) in
+    let s = says_after text words e whole bound is in
+    let same = ok_is (fields, 32 ∷ line) (call_fields (Some s.0), 32 ∷ s.1) (sym read ∙ s.3) in
     let line_is : line ≡ s.1 = tails 32 32 line s.1 (ap (λ (x : List Field × List ℕ). x.1) same) in
     none e.op (subst (λ (w : List ℕ). IsLine w e.op) (sym line_is) s.2)
 
-pub called_edit : (text words line : List ℕ) (call : Call) (op : Op) → text ≡ codes "call" ++ words → fields_said (client ∷ call_number ∷ []) words ≡ Some (call_fields (Some call), 32 ∷ line) → IsLine line op → IsText text (record { op = op; call = Some call })
+pub called_edit : (text words line : List ℕ) (call : Call) (op : Op) → text ≡ codes "call" ++ words → fields_said (client ∷ call_number ∷ []) words ≡ Ok (call_fields (Some call), 32 ∷ line) → IsLine line op → IsText text (record { op = op; call = Some call })
 called_edit text words line call op whole read is =
     let t = fields_taken (client ∷ call_number ∷ []) words (call_fields (Some call), 32 ∷ line) read in
     record {
@@ -236,21 +208,21 @@ read_only text answers.OutOfMemory e p q = inl refl
 
 -- ---- errors, whichever they are
 
-pub line_misses : (words : List ℕ) (kind : OpKind) (e : TextError) → verb kind ≡ (split_word words).0 → Misses e (op_said kind (split_word words).1) → IsReadLine words (Err e)
+pub line_misses : (words : List ℕ) (kind : OpKind) (e : ReadError BadText) → verb kind ≡ (split_word words).0 → Fails e (op_read words_group kind (split_word words).1) → IsReadLine words (Err e)
 line_misses words kind errors.Memory told missed = tt
-line_misses words kind errors.Bad told missed = no_fields words kind told missed
+line_misses words kind (errors.Fault f) told missed = no_fields words kind f told missed
 
-pub call_misses : (text words : List ℕ) (e : TextError) → text ≡ codes "call" ++ words → Boundary words → Misses e (fields_said (client ∷ call_number ∷ []) words) → IsReadEdit text (Err e)
+pub call_misses : (text words : List ℕ) (e : ReadError BadText) → text ≡ codes "call" ++ words → Boundary words → Fails e (fields_said (client ∷ call_number ∷ []) words) → IsReadEdit text (Err e)
 call_misses text words errors.Memory whole bound missed = tt
-call_misses text words errors.Bad whole bound missed = no_call text words whole bound missed
+call_misses text words (errors.Fault f) whole bound missed = no_call text words f whole bound missed
 
-pub line_fails : (text words line : List ℕ) (fields : List Field) (e : TextError) → text ≡ codes "call" ++ words → Boundary words → fields_said (client ∷ call_number ∷ []) words ≡ Some (fields, 32 ∷ line) → IsReadLine line (Err e) → IsReadEdit text (Err e)
+pub line_fails : (text words line : List ℕ) (fields : List Field) (e : ReadError BadText) → text ≡ codes "call" ++ words → Boundary words → fields_said (client ∷ call_number ∷ []) words ≡ Ok (fields, 32 ∷ line) → IsReadLine line (Err e) → IsReadEdit text (Err e)
 line_fails text words line fields errors.Memory whole bound read none = tt
-line_fails text words line fields errors.Bad whole bound read none = no_line text words line fields whole bound read none
+line_fails text words line fields (errors.Fault f) whole bound read none = no_line text words line fields whole bound read none
 
-pub plain_fails : (text : List ℕ) (e : TextError) → (split_word text).0 ≢ codes "call" → IsReadLine text (Err e) → IsReadEdit text (Err e)
+pub plain_fails : (text : List ℕ) (e : ReadError BadText) → (split_word text).0 ≢ codes "call" → IsReadLine text (Err e) → IsReadEdit text (Err e)
 plain_fails text errors.Memory other none = tt
-plain_fails text errors.Bad other none = no_edit text other none
+plain_fails text (errors.Fault f) other none = no_edit text other none
 
 pub split_bound : (words : List ℕ) → Boundary (split_word words).1
 split_bound [] = tt

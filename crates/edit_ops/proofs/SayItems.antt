@@ -1,8 +1,9 @@
 -- Reading items to the end of a text, as a loop does.
 use Rattle.std.proofs.Common.{◌≡◌, ℕ, zero, suc, ◌-◌, ◌+◌, ◌≤◌, ◌<◌, List, [], ◌∷◌, ◌++◌, length, Option, Some, None, refl, sym, ap, ◌∙◌, append_assoc, arith}
 use Rattle.std.proofs.lemmas.List.{append-nil}
-use Rattle.edit_ops.specs.declared.fault.TextError.{TextError}
-use Rattle.edit_ops.specs.declared.fault.TextError.TheVariants as errors
+use Rattle.edit_ops.specs.declared.fault.BadText.{BadText}
+use Rattle.edit_ops.specs.declared.fault.ReadError.{ReadError}
+use Rattle.edit_ops.specs.declared.fault.ReadError.TheVariants as errors
 use Rattle.edit_ops.specs.Fields.{Kind, Field}
 use Rattle.edit_ops.specs.Saying.{◌>>=◌, Misses, field_said, items_said}
 
@@ -32,10 +33,10 @@ module _ (kind : Kind) where
       let one : with_items front (items_said (count - i) kind words) ≡ with_items (front ++ f ∷ []) (items_said (count - (i + 1)) kind after) = rw k (ap (with_items front) (one_item kind (count - (i + 1)) words f after some h) ∙ regroup front f (items_said (count - (i + 1)) kind after)) in
       sym one ∙ so_far
 
-  pub ends : (e : TextError) (front : List Field) (count i : ℕ) (words : List ℕ) (total : Option (List Field)) → i < count → 0 < length words → Misses e (field_said kind words)
+  pub ends : (e : ReadError BadText) (front : List Field) (count i : ℕ) (words : List ℕ) (total : Option (List Field)) → i < count → 0 < length words → Misses e (field_said kind words)
       → with_items front (items_said (count - i) kind words) ≡ total → Misses e total
   ends errors.Memory front count i words total lt some h so_far = tt
-  ends errors.Bad front count i words total lt some h so_far =
+  ends (errors.Fault f) front count i words total lt some h so_far =
       let k : count - i ≡ suc (count - (i + 1)) = omega arith in
       let one : with_items front (items_said (count - i) kind words) ≡ None = rw k (ap (with_items front) (no_item kind (count - (i + 1)) words some h)) in
       sym so_far ∙ one

@@ -1,9 +1,10 @@
 -- Texts: what is read of the words is what they say, and what is said is read.
-use Rattle.std.proofs.Common.{◌≡◌, ◌≢◌, ℕ, zero, suc, ◌≤◌, false, List, [], ◌∷◌, ◌++◌, length, map, Option, Some, None, refl, sym, ap, subst, ◌∙◌, append_assoc, arith}
-use Rattle.std.specs.Prelude.{codes, if◌then◌else◌}
+use Rattle.std.proofs.Common.{◌≡◌, ◌≢◌, ℕ, zero, suc, ◌≤◌, false, List, [], ◌∷◌, ◌++◌, length, map, Option, Some, None, Result, Ok, Err, refl, sym, ap, subst, ◌∙◌, append_assoc, arith}
+use Rattle.std.specs.Prelude.{codes, ok_or, if◌then◌else◌}
 use Rattle.std.specs.Str.{bytes_eq}
 use Rattle.std.specs.List.{flat_map, AllByRecursion}
 use Rattle.std.proofs.lemmas.List.{append-nil, length-map}
+use Rattle.edit_ops.specs.declared.fault.BadText.{BadText}
 use Rattle.edit_ops.specs.declared.kind.OpKind.{OpKind}
 use Rattle.edit_ops.specs.declared.kind.OpKind.TheVariants as kinds
 use Rattle.edit_ops.specs.declared.op.Op.{Op}
@@ -13,19 +14,19 @@ use Rattle.edit_ops.specs.Words.{verb}
 use Rattle.edit_ops.specs.Records.{kind_of, fields_of, layout}
 use Rattle.edit_ops.specs.Fields.{Kind, Field, path, replication, permission, numbers, paths, text, small, number, flag, client, call_number, Text_, Small_, Number_, Flag_, Client_, Call_, kind_of_field, IsGood}
 use Rattle.edit_ops.specs.Texts.{spaced, CanSay}
-use Rattle.edit_ops.specs.Saying.{◌>>=◌, Boundary, field_said, items_said, listed_said, group_said, fields_said}
+use Rattle.edit_ops.specs.Saying.{◌>>=◌, Boundary, field_said, items_said, listed_said, group_said, bad_text, fields_said}
+use Rattle.edit_ops.proofs.SourceLaws.{ok_is, with_front, with_front-append, with_front-nil, and_then}
 use Rattle.edit_ops.proofs.SayWords.{NoSpace, HasWord, word_in, spaced_is, Says, field_said_takes, field_said_again}
 
+abbrev pub Group : Type 0
+Group = Option (List Field × List ℕ)
+
 abbrev Read : Type 0
-Read = Option (List Field × List ℕ)
+Read = Result (List Field × List ℕ) BadText
 
--- what was read before, and what is still read
-abbrev pub prefixed : List Field → Read → Read
-prefixed front o = o >>= λ x. Some (front ++ x.0, x.1)
-
-pub prefixed-append : (front more : List Field) (r : Read) → prefixed front (prefixed more r) ≡ prefixed (front ++ more) r
-prefixed-append front more None = refl
-prefixed-append front more (Some x) = ap (λ (fs : List Field). Some (fs, x.1)) (sym (append_assoc front more x.0))
+-- a group of words, and then what is read of the rest
+abbrev pub group_then : Group → (List ℕ → Read) → Read
+group_then group next = and_then (ok_or group bad_text) next
 
 -- ---- what is said is read
 
@@ -39,7 +40,7 @@ boundary (f ∷ fs) rest has bound = subst Boundary (ap (λ (w : List ℕ). (w +
 abbrev One : Type 0
 One = Option (Field × List ℕ)
 
-abbrev single : One → Read
+abbrev single : One → Group
 single o = o >>= λ f. Some (f.0 ∷ [], f.1)
 
 -- a field with a word is its group
@@ -54,22 +55,15 @@ word_group (Flag_ b) words h = refl
 word_group (Client_ bytes) words h = refl
 word_group (Call_ n) words h = refl
 
-abbrev and_then : Read → (List ℕ → Read) → Read
-and_then first next = first >>= λ a. prefixed a.0 (next a.1)
-
-pub runs : (fields : List Field) (kinds : List Kind) (rest : List ℕ) → CanSayAll fields → Boundary rest → fields_said (map kind_of_field fields ++ kinds) (flat_map (spaced false) fields ++ rest) ≡ prefixed fields (fields_said kinds rest)
-runs [] kinds rest can bound = by (fields_said kinds rest)
-  where
-    by : (r : Read) → r ≡ prefixed [] r
-    by None = refl
-    by (Some x) = refl
+pub runs : (fields : List Field) (kinds : List Kind) (rest : List ℕ) → CanSayAll fields → Boundary rest → fields_said (map kind_of_field fields ++ kinds) (flat_map (spaced false) fields ++ rest) ≡ with_front fields (fields_said kinds rest)
+runs [] kinds rest can bound = sym (with_front-nil (fields_said kinds rest))
 runs (f ∷ fs) kinds rest can bound =
     let more : List ℕ = flat_map (spaced false) fs ++ rest in
     let regrouped : (spaced false f ++ flat_map (spaced false) fs) ++ rest ≡ spaced false f ++ (flat_map (spaced false) fs ++ rest) = append_assoc (spaced false f) (flat_map (spaced false) fs) rest in
     ap (fields_said (kind_of_field f ∷ (map kind_of_field fs ++ kinds))) regrouped
-    ∙ ap (λ (g : Read). and_then g (fields_said (map kind_of_field fs ++ kinds))) (word_group f (spaced false f ++ (flat_map (spaced false) fs ++ rest)) can.0.0 ∙ ap single (field_said_again f (flat_map (spaced false) fs ++ rest) can.0.0 can.1.0 can.2.0 (boundary fs rest can.0.1 bound)))
-    ∙ ap (prefixed (f ∷ [])) (runs fs kinds rest (can.0.1, can.1.1, can.2.1) bound)
-    ∙ prefixed-append (f ∷ []) fs (fields_said kinds rest)
+    ∙ ap (λ (g : Group). group_then g (fields_said (map kind_of_field fs ++ kinds))) (word_group f (spaced false f ++ (flat_map (spaced false) fs ++ rest)) can.0.0 ∙ ap single (field_said_again f (flat_map (spaced false) fs ++ rest) can.0.0 can.1.0 can.2.0 (boundary fs rest can.0.1 bound)))
+    ∙ ap (with_front (f ∷ [])) (runs fs kinds rest (can.0.1, can.1.1, can.2.1) bound)
+    ∙ with_front-append (f ∷ []) fs (fields_said kinds rest)
 
 pub items_again : (most : ℕ) (kind : Kind) (fields : List Field) → AllByRecursion (λ f. kind_of_field f ≡ kind) fields → CanSayAll fields → length fields ≤ most → items_said most kind (flat_map (spaced false) fields) ≡ Some fields
 unfolding items_said
@@ -107,10 +101,10 @@ taken_then a xs b ys c p q = record {
 one_taken : (kind : Kind) (words : List ℕ) (f : Field) (rest : List ℕ) → Says kind words f rest → Taken words (f ∷ []) rest
 one_taken kind words f rest s = record { good = (s.good, tt); can = (s.can, tt); parts = s.parts ∙ ap (λ (w : List ℕ). w ++ rest) (sym (append-nil (spaced false f))) }
 
-abbrev pub some_read : List Field × List ℕ → Read
-some_read x = Some x
+abbrev pub some_group : List Field × List ℕ → Group
+some_group x = Some x
 
-pub some_is : (x y : List Field × List ℕ) → some_read x ≡ some_read y → x ≡ y
+pub some_is : (x y : List Field × List ℕ) → some_group x ≡ some_group y → x ≡ y
 some_is x y e = cc
 
 single_taken : (kind : Kind) (words : List ℕ) (x : List Field × List ℕ) → single (field_said kind words) ≡ Some x → Taken words x.0 x.1
@@ -150,7 +144,7 @@ items_taken (suc most) kind (b ∷ words) fields e = step_taken kind (b ∷ word
 listed_taken : (count : ℕ → Field) (kind : Kind) (words : List ℕ) (x : List Field × List ℕ) → ((n : ℕ) → n ≤ 65535 → IsGood (count n) × CanSay (count n) × (spaced false (count n) ≡ [])) → listed_said count kind words ≡ Some x → Taken words x.0 x.1
 listed_taken count kind words x of_count e = by (items_said 65535 kind words) refl e
   where
-    by : (o : Option (List Field)) → items_said 65535 kind words ≡ o → (o >>= λ items. some_read (count (length items) ∷ items, [])) ≡ Some x → Taken words x.0 x.1
+    by : (o : Option (List Field)) → items_said 65535 kind words ≡ o → (o >>= λ items. some_group (count (length items) ∷ items, [])) ≡ Some x → Taken words x.0 x.1
     by None is e = absurd cc
     by (Some items) is e =
         let r = items_taken 65535 kind words items is in
@@ -169,21 +163,21 @@ group_taken flag words x e = single_taken flag words x e
 group_taken client words x e = single_taken client words x e
 group_taken call_number words x e = single_taken call_number words x e
 
-pub fields_taken : (kinds : List Kind) (words : List ℕ) (x : List Field × List ℕ) → fields_said kinds words ≡ Some x → Taken words x.0 x.1
-fields_taken [] words x e = subst (λ (y : List Field × List ℕ). Taken words y.0 y.1) (some_is ([], words) x e) (record { good = tt; can = tt; parts = refl })
+pub fields_taken : (kinds : List Kind) (words : List ℕ) (x : List Field × List ℕ) → fields_said kinds words ≡ Ok x → Taken words x.0 x.1
+fields_taken [] words x e = subst (λ (y : List Field × List ℕ). Taken words y.0 y.1) (ok_is ([], words) x e) (record { good = tt; can = tt; parts = refl })
 fields_taken (k ∷ ks) words x e = by (λ more y is. fields_taken ks more y is) (group_said k words) refl e
   where
-    by : ((more : List ℕ) (y : List Field × List ℕ) → fields_said ks more ≡ Some y → Taken more y.0 y.1) → (g : Read) → group_said k words ≡ g → and_then g (fields_said ks) ≡ Some x → Taken words x.0 x.1
+    by : ((more : List ℕ) (y : List Field × List ℕ) → fields_said ks more ≡ Ok y → Taken more y.0 y.1) → (g : Group) → group_said k words ≡ g → group_then g (fields_said ks) ≡ Ok x → Taken words x.0 x.1
     by rec None is e = absurd cc
     by rec (Some a) is e = last (fields_said ks a.1) refl e
       where
-        last : (o : Read) → fields_said ks a.1 ≡ o → prefixed a.0 o ≡ Some x → Taken words x.0 x.1
-        last None others e = absurd cc
-        last (Some b) others e = subst (λ (y : List Field × List ℕ). Taken words y.0 y.1) (some_is (a.0 ++ b.0, b.1) x e) (taken_then words a.0 a.1 b.0 b.1 (group_taken k words a is) (rec a.1 b others))
+        last : (r : Read) → fields_said ks a.1 ≡ r → with_front a.0 r ≡ Ok x → Taken words x.0 x.1
+        last (Err f) others e = absurd cc
+        last (Ok b) others e = subst (λ (y : List Field × List ℕ). Taken words y.0 y.1) (ok_is (a.0 ++ b.0, b.1) x e) (taken_then words a.0 a.1 b.0 b.1 (group_taken k words a is) (rec a.1 b others))
 
 -- ---- the fields of an edit
 
-plain_says : (fields : List Field) → CanSayAll fields → fields_said (map kind_of_field fields ++ []) (flat_map (spaced false) fields) ≡ Some (fields ++ [], [])
+plain_says : (fields : List Field) → CanSayAll fields → fields_said (map kind_of_field fields ++ []) (flat_map (spaced false) fields) ≡ Ok (fields ++ [], [])
 plain_says fields can = ap (fields_said (map kind_of_field fields ++ [])) (sym (append-nil (flat_map (spaced false) fields))) ∙ runs fields [] [] can tt
 
 number_kinds : (ns : List ℕ) → AllByRecursion (λ f. kind_of_field f ≡ number) (map Number_ ns)
@@ -205,7 +199,7 @@ path_words (p ∷ ps) = (tt, path_words ps)
 bound_of : (fields : List Field) → AllByRecursion HasWord fields → Boundary (flat_map (spaced false) fields)
 bound_of fields has = subst Boundary (append-nil (flat_map (spaced false) fields)) (boundary fields [] has tt)
 
-pub op_says : (op : Op) → AllByRecursion IsGood (fields_of op) → AllByRecursion CanSay (fields_of op) → is_mark (kind_of op) ≡ false → fields_said (layout (kind_of op)) (flat_map (spaced false) (fields_of op)) ≡ Some (fields_of op, [])
+pub op_says : (op : Op) → AllByRecursion IsGood (fields_of op) → AllByRecursion CanSay (fields_of op) → is_mark (kind_of op) ≡ false → fields_said (layout (kind_of op)) (flat_map (spaced false) (fields_of op)) ≡ Ok (fields_of op, [])
 op_says (Add p r m a b s u g) good can mark = plain_says (fields_of (Add p r m a b s u g)) ((tt, (tt, (tt, (tt, (tt, (tt, (tt, (tt, tt)))))))), good, can)
 op_says (RenameOld s d t) good can mark = plain_says (fields_of (RenameOld s d t)) ((tt, (tt, (tt, tt))), good, can)
 op_says (Delete p t) good can mark = plain_says (fields_of (Delete p t)) ((tt, (tt, tt)), good, can)
@@ -222,18 +216,18 @@ op_says (Close p m a ls) good can mark =
     let few : length (map Number_ ls) ≤ 65535 = omega (arith, length-map ls Number_, good.1.1.1.0) in
     let read : items_said 65535 number (flat_map (spaced false) (map Number_ ls)) ≡ Some (map Number_ ls) = items_again 65535 number (map Number_ ls) (number_kinds ls) (number_words ls, good.1.1.1.1, can.1.1.1.1) few in
     let same : length (map Number_ ls) ≡ length ls = length-map ls Number_ in
-    let grouped : fields_said (small numbers ∷ []) (flat_map (spaced false) (map Number_ ls)) ≡ Some (Small_ numbers (length ls) ∷ map Number_ ls, []) = rw (read, same, append-nil (map Number_ ls)) refl in
+    let grouped : fields_said (small numbers ∷ []) (flat_map (spaced false) (map Number_ ls)) ≡ Ok (Small_ numbers (length ls) ∷ map Number_ ls, []) = rw (read, same, append-nil (map Number_ ls)) refl in
     let parts : flat_map (spaced false) (fields_of (Close p m a ls)) ≡ flat_map (spaced false) (Text_ path p ∷ Number_ m ∷ Number_ a ∷ []) ++ flat_map (spaced false) (map Number_ ls) = flat-append (Text_ path p ∷ Number_ m ∷ Number_ a ∷ []) (map Number_ ls) in
     ap (fields_said (layout kinds.Close)) parts ∙ runs (Text_ path p ∷ Number_ m ∷ Number_ a ∷ []) (small numbers ∷ []) (flat_map (spaced false) (map Number_ ls)) ((tt, (tt, (tt, tt))), (good.0, (good.1.0, (good.1.1.0, tt))), (can.0, (can.1.0, (can.1.1.0, tt)))) (bound_of (map Number_ ls) (number_words ls))
-    ∙ ap (prefixed (Text_ path p ∷ Number_ m ∷ Number_ a ∷ [])) grouped
+    ∙ ap (with_front (Text_ path p ∷ Number_ m ∷ Number_ a ∷ [])) grouped
 op_says (ConcatDelete p t ss) good can mark =
     let few : length (map (Text_ path) ss) ≤ 65535 = omega (arith, length-map ss (Text_ path), good.1.1.0) in
     let read : items_said 65535 (text path) (flat_map (spaced false) (map (Text_ path) ss)) ≡ Some (map (Text_ path) ss) = items_again 65535 (text path) (map (Text_ path) ss) (path_kinds ss) (path_words ss, good.1.1.1, can.1.1.1) few in
     let same : length (map (Text_ path) ss) ≡ length ss = length-map ss (Text_ path) in
-    let grouped : fields_said (small paths ∷ []) (flat_map (spaced false) (map (Text_ path) ss)) ≡ Some (Small_ paths (length ss) ∷ map (Text_ path) ss, []) = rw (read, same, append-nil (map (Text_ path) ss)) refl in
+    let grouped : fields_said (small paths ∷ []) (flat_map (spaced false) (map (Text_ path) ss)) ≡ Ok (Small_ paths (length ss) ∷ map (Text_ path) ss, []) = rw (read, same, append-nil (map (Text_ path) ss)) refl in
     let parts : flat_map (spaced false) (fields_of (ConcatDelete p t ss)) ≡ flat_map (spaced false) (Text_ path p ∷ Number_ t ∷ []) ++ flat_map (spaced false) (map (Text_ path) ss) = flat-append (Text_ path p ∷ Number_ t ∷ []) (map (Text_ path) ss) in
     ap (fields_said (layout kinds.ConcatDelete)) parts ∙ runs (Text_ path p ∷ Number_ t ∷ []) (small paths ∷ []) (flat_map (spaced false) (map (Text_ path) ss)) ((tt, (tt, tt)), (good.0, (good.1.0, tt)), (can.0, (can.1.0, tt))) (bound_of (map (Text_ path) ss) (path_words ss))
-    ∙ ap (prefixed (Text_ path p ∷ Number_ t ∷ [])) grouped
+    ∙ ap (with_front (Text_ path p ∷ Number_ t ∷ [])) grouped
 op_says EndLogSegment good can mark = absurd cc
 op_says StartLogSegment good can mark = absurd cc
 

@@ -1,10 +1,11 @@
 -- The test of texts passes the texts of edits, and no others.
-use Rattle.std.proofs.Common.{◌≡◌, ℕ, zero, suc, Bool, true, false, cond, List, [], ◌∷◌, ◌++◌, length, map, Option, Some, None, refl, sym, ap, subst, ◌∙◌, arith}
+use Rattle.std.proofs.Common.{◌≡◌, ℕ, zero, suc, Bool, true, false, cond, List, [], ◌∷◌, ◌++◌, length, map, Option, Some, None, Result, Ok, Err, refl, sym, ap, subst, ◌∙◌, arith}
 use Rattle.std.specs.Prelude.{codes, ◌==◌}
 use Rattle.std.specs.Str.{bytes_eq}
 use Rattle.std.specs.List.{find, flat_map, AllByRecursion}
 use Rattle.std.proofs.lemmas.Bool.{eqb-true, false≢true, and_parts}
 use Rattle.std.proofs.lemmas.List.{append-nil, nil_from_length}
+use Rattle.edit_ops.specs.declared.fault.BadText.{BadText}
 use Rattle.edit_ops.specs.declared.kind.OpKind.{OpKind}
 use Rattle.edit_ops.specs.declared.kind.OpKind.TheVariants as kinds
 use Rattle.edit_ops.specs.declared.op.Op.{Op}
@@ -17,15 +18,16 @@ use Rattle.edit_ops.specs.Records.{EditView, kind_of, fields_of, layout, call_fi
 use Rattle.edit_ops.specs.Texts.{spaced, CanSay, IsText}
 use Rattle.edit_ops.specs.ReadTexts.{IsLine}
 use Rattle.edit_ops.specs.Saying.{◌>>=◌, Boundary, split_word, field_said, items_said, group_said, fields_said}
-use Rattle.edit_ops.specs.SaidTexts.{said_kinds, kind_said, says_all, says_fields, is_line_text, is_line_behind, is_called_text, is_edit_text}
+use Rattle.edit_ops.specs.SaidTexts.{said_kinds, kind_said, says_all, says_fields, is_line_text, is_line_after, is_called_text, is_edit_text}
 use Rattle.edit_ops.proofs.SayNumbers.{same_bytes}
 use Rattle.edit_ops.proofs.SayWords.{split_again, field_said_takes}
-use Rattle.edit_ops.proofs.SayLaws.{prefixed, fields_taken, some_read, some_is, no_call_verb}
+use Rattle.edit_ops.proofs.SourceLaws.{ok_is, with_front}
+use Rattle.edit_ops.proofs.SayLaws.{Group, group_then, fields_taken, some_group, some_is, no_call_verb}
 use Rattle.edit_ops.proofs.SayEdits.{line_says, line_word, line_rest, called_text, plain_text, call_plain, call_bound, call_says, called_edit, plain_edit, split_whole}
 use Rattle.std.proofs.lemmas.Slice.Eq.{bytes_eq-Decides}
 
 abbrev Read : Type 0
-Read = Option (List Field × List ℕ)
+Read = Result (List Field × List ℕ) BadText
 
 abbrev One : Type 0
 One = Option (Field × List ℕ)
@@ -88,8 +90,8 @@ single_own (Call_ n) = (n, refl)
 single_is : (kind : Kind) (f : Field) → kind_of_field f ≡ kind → IsSingle kind f
 single_is kind f e = subst (λ (k : Kind). IsSingle k f) e (single_own f)
 
-abbrev one : One → Read
-one o = o >>= λ f. some_read (f.0 ∷ [], f.1)
+abbrev one : One → Group
+one o = o >>= λ f. some_group (f.0 ∷ [], f.1)
 
 single_read : (kind : Kind) (words : List ℕ) (x : List Field × List ℕ) → one (field_said kind words) ≡ Some x → (f : Field) × IsSingle kind f × (x.0 ≡ f ∷ [])
 single_read kind words x e = by (field_said kind words) refl e
@@ -135,11 +137,11 @@ are_paths (f ∷ fs) h =
     let rest = are_paths fs h.1 in
     (first.0 ∷ rest.0, (λ i. first.1 i ∷ rest.1 i), omega (arith, rest.2))
 
-listed_read : (count : ℕ → Field) (kind : Kind) (words : List ℕ) (x : List Field × List ℕ) → (items_said 65535 kind words >>= λ items. some_read (count (length items) ∷ items, [])) ≡ Some x
+listed_read : (count : ℕ → Field) (kind : Kind) (words : List ℕ) (x : List Field × List ℕ) → (items_said 65535 kind words >>= λ items. some_group (count (length items) ∷ items, [])) ≡ Some x
     → (items : List Field) × AllByRecursion (λ f. kind_of_field f ≡ kind) items × (x.0 ≡ count (length items) ∷ items)
 listed_read count kind words x e = by (items_said 65535 kind words) refl e
   where
-    by : (o : Option (List Field)) → items_said 65535 kind words ≡ o → (o >>= λ items. some_read (count (length items) ∷ items, [])) ≡ Some x → (items : List Field) × AllByRecursion (λ f. kind_of_field f ≡ kind) items × (x.0 ≡ count (length items) ∷ items)
+    by : (o : Option (List Field)) → items_said 65535 kind words ≡ o → (o >>= λ items. some_group (count (length items) ∷ items, [])) ≡ Some x → (items : List Field) × AllByRecursion (λ f. kind_of_field f ≡ kind) items × (x.0 ≡ count (length items) ∷ items)
     by None is e = absurd cc
     by (Some items) is e =
         let same = some_is (count (length items) ∷ items, []) x e in
@@ -162,23 +164,20 @@ group_read flag words x e = let r = single_read flag words x e in (r.1.0, r.2 �
 group_read client words x e = let r = single_read client words x e in (r.1.0, r.2 ∙ ap (λ (f : Field). f ∷ []) r.1.1)
 group_read call_number words x e = let r = single_read call_number words x e in (r.1.0, r.2 ∙ ap (λ (f : Field). f ∷ []) r.1.1)
 
-abbrev and_then : Read → (List ℕ → Read) → Read
-and_then first next = first >>= λ a. prefixed a.0 (next a.1)
-
-groups_read : (kinds : List Kind) (words : List ℕ) (x : List Field × List ℕ) → fields_said kinds words ≡ Some x → AreGroups kinds x.0
-groups_read [] words x e = (tt, sym (ap (λ (y : List Field × List ℕ). y.0) (some_is ([], words) x e)))
+groups_read : (kinds : List Kind) (words : List ℕ) (x : List Field × List ℕ) → fields_said kinds words ≡ Ok x → AreGroups kinds x.0
+groups_read [] words x e = (tt, sym (ap (λ (y : List Field × List ℕ). y.0) (ok_is ([], words) x e)))
 groups_read (k ∷ ks) words x e = by (λ more y is. groups_read ks more y is) (group_said k words) refl e
   where
-    by : ((more : List ℕ) (y : List Field × List ℕ) → fields_said ks more ≡ Some y → AreGroups ks y.0) → (g : Read) → group_said k words ≡ g → and_then g (fields_said ks) ≡ Some x → AreGroups (k ∷ ks) x.0
+    by : ((more : List ℕ) (y : List Field × List ℕ) → fields_said ks more ≡ Ok y → AreGroups ks y.0) → (g : Group) → group_said k words ≡ g → group_then g (fields_said ks) ≡ Ok x → AreGroups (k ∷ ks) x.0
     by rec None is e = absurd cc
     by rec (Some a) is e = last (fields_said ks a.1) refl e
       where
-        last : (o : Read) → fields_said ks a.1 ≡ o → prefixed a.0 o ≡ Some x → AreGroups (k ∷ ks) x.0
-        last None others e = absurd cc
-        last (Some b) others e =
+        last : (r : Read) → fields_said ks a.1 ≡ r → with_front a.0 r ≡ Ok x → AreGroups (k ∷ ks) x.0
+        last (Err f) others e = absurd cc
+        last (Ok b) others e =
             let first = group_read k words a is in
             let rest = rec a.1 b others in
-            let front : a.0 ++ b.0 ≡ x.0 = ap (λ (y : List Field × List ℕ). y.0) (some_is (a.0 ++ b.0, b.1) x e) in
+            let front : a.0 ++ b.0 ≡ x.0 = ap (λ (y : List Field × List ℕ). y.0) (ok_is (a.0 ++ b.0, b.1) x e) in
             ((first.0, rest.0), sym front ∙ (λ i. first.1 i ++ rest.1 i))
 
 -- ## The edit that has these fields
@@ -203,7 +202,7 @@ made_from kinds.ConcatDelete vs =
 made_from kinds.EndLogSegment vs = (EndLogSegment, refl, refl)
 made_from kinds.StartLogSegment vs = (StartLogSegment, refl, refl)
 
-made : (kind : OpKind) (words : List ℕ) (x : List Field × List ℕ) → fields_said (layout kind) words ≡ Some x → Made kind x.0
+made : (kind : OpKind) (words : List ℕ) (x : List Field × List ℕ) → fields_said (layout kind) words ≡ Ok x → Made kind x.0
 made kind words x e =
     let groups = groups_read (layout kind) words x e in
     let m = made_from kind groups.0 in
@@ -265,8 +264,8 @@ line_from words e = by (kind_said (split_word words).0) refl e
     by (Some kind) told e = last (fields_said (layout kind) (split_word words).1) refl e
       where
         last : (r : Read) → fields_said (layout kind) (split_word words).1 ≡ r → says_all r ≡ true → (op : Op) × IsLine words op
-        last None read e = absurd (false≢true e)
-        last (Some x) read e =
+        last (Err f) read e = absurd (false≢true e)
+        last (Ok x) read e =
             let k = kind_told (split_word words).0 kind told in
             let m = made kind (split_word words).1 x read in
             let t = fields_taken (layout kind) (split_word words).1 x read in
@@ -311,13 +310,13 @@ passes_by bytes (Some call) op is =
 pub passes : (bytes : List ℕ) (e : EditView) → IsText bytes e → is_edit_text bytes ≡ true
 passes bytes e is = passes_by bytes e.call e.op is
 
--- a space, and a line behind it
+-- a space, and a line after it
 abbrev Behind : List ℕ → Type 0
 Behind words = (line : List ℕ) × (words ≡ 32 ∷ line) × (is_line_text line ≡ true)
 
-behind_from : (words : List ℕ) → is_line_behind words ≡ true → Behind words
-behind_from [] e = absurd (false≢true e)
-behind_from (b ∷ words) e = let p = and_parts (b == 32) (is_line_text words) e in (words, ap (λ (c : ℕ). c ∷ words) (eqb-true _ _ p.0), p.1)
+after_from : (words : List ℕ) → is_line_after words ≡ true → Behind words
+after_from [] e = absurd (false≢true e)
+after_from (b ∷ words) e = let p = and_parts (b == 32) (is_line_text words) e in (words, ap (λ (c : ℕ). c ∷ words) (eqb-true _ _ p.0), p.1)
 
 pub edit_from : (bytes : List ℕ) → is_edit_text bytes ≡ true → (e : EditView) × IsText bytes e
 unfolding is_edit_text
@@ -328,12 +327,12 @@ edit_from bytes e = by (bytes_eq (split_word bytes).0 (codes "call")) refl e
     by true first e = last (fields_said (client ∷ call_number ∷ []) (split_word bytes).1) refl e
       where
         last : (r : Read) → fields_said (client ∷ call_number ∷ []) (split_word bytes).1 ≡ r → is_called_text r ≡ true → (d : EditView) × IsText bytes d
-        last None read e = absurd (false≢true e)
-        last (Some x) read e =
-            let line = behind_from x.1 e in
+        last (Err f) read e = absurd (false≢true e)
+        last (Ok x) read e =
+            let line = after_from x.1 e in
             let op = line_from line.0 line.2 in
             let groups = groups_read (client ∷ call_number ∷ []) (split_word bytes).1 x read in
             let call : Call = record { client = groups.0.0; number = groups.0.1.0 } in
             let whole : bytes ≡ codes "call" ++ (split_word bytes).1 = sym (split_whole bytes) ∙ ap (λ (w : List ℕ). w ++ (split_word bytes).1) (same_bytes _ _ first) in
-            let spelled : fields_said (client ∷ call_number ∷ []) (split_word bytes).1 ≡ Some (call_fields (Some call), 32 ∷ line.0) = read ∙ (λ i. Some (groups.1 i, line.1 i)) in
+            let spelled : fields_said (client ∷ call_number ∷ []) (split_word bytes).1 ≡ Ok (call_fields (Some call), 32 ∷ line.0) = read ∙ (λ i. Ok (groups.1 i, line.1 i)) in
             (record { op = op.0; call = Some call }, called_edit bytes (split_word bytes).1 line.0 call op.0 whole spelled op.1)

@@ -37,7 +37,7 @@ number_graphic base low high n lt =
 client_graphic : (bytes : List ℕ) → length bytes ≡ 16 → AllByRecursion (λ b. b < 256) bytes → IsGraphic (hex_text bytes)
 client_graphic bytes len fit = record { some = omega (arith, len, length-hex_text bytes); graphic = hex_graphic bytes fit }
 
--- ## Words behind spaces
+-- ## Words after spaces
 abbrev spelled_by : List (List ℕ) → List ℕ
 spelled_by words = flat_map (λ word. 32 ∷ word) words
 

@@ -5,41 +5,13 @@ use Rattle.std.specs.List.{flat_map, AllByRecursion}
 use Rattle.edit_ops.specs.declared.fault.Fault.{Fault}
 use Rattle.edit_ops.specs.Fields.{Kind, Field, path, numbers, paths, replication, permission, text, small, number, flag, client, call_number, Text_, Small_, Number_, Flag_, Client_, Call_, kind_of_field, IsGood, field_bytes, follow}
 use Rattle.edit_ops.specs.Decoding.{Matches}
-use Rattle.edit_ops.specs.Reading.{◌>>=◌, value_at, field_at, items_at, group_at, fields_at}
-use Rattle.edit_ops.proofs.ReadItems.{with_front}
+use Rattle.edit_ops.specs.Sources.{◌>>=◌}
+use Rattle.edit_ops.specs.Reading.{value_at, field_at, items_at, group_at, fields_at}
+use Rattle.edit_ops.proofs.SourceLaws.{with_front, with_front-append, with_front-nil, and_then, and_then-front, fields-append}
 use Rattle.edit_ops.proofs.FieldLaws.{IsBytes, is_read, Takes, field_takes, field_again, some_byte}
 
 abbrev Read : Type 0
 Read = Result (List Field × List ℕ) Fault
-
-with_front-append : (front more : List Field) (r : Read) → with_front front (with_front more r) ≡ with_front (front ++ more) r
-with_front-append front more (Err e) = refl
-with_front-append front more (Ok x) = ap (λ (fs : List Field). Ok (fs, x.1)) (sym (append_assoc front more x.0))
-
--- a reading, and then another of the rest
-abbrev pub and_then : Read → (List ℕ → Read) → Read
-and_then first next = first >>= λ a. with_front a.0 (next a.1)
-
-and_then-front : (front : List Field) (s : Read) (third : List ℕ → Read) → and_then (with_front front s) third ≡ with_front front (and_then s third)
-and_then-front front (Err e) third = refl
-and_then-front front (Ok b) third = sym (with_front-append front b.0 (third b.1))
-
-and_then-assoc : (first : Read) (second third : List ℕ → Read) → and_then (and_then first second) third ≡ and_then first (λ bytes. and_then (second bytes) third)
-and_then-assoc (Err e) second third = refl
-and_then-assoc (Ok a) second third = and_then-front a.0 (second a.1) third
-
-with_front-nil : (r : Read) → with_front [] r ≡ r
-with_front-nil (Ok x) = refl
-with_front-nil (Err e) = refl
-
--- fields of some kinds, and then of others
-pub fields_at-append : (ks ls : List Kind) (bytes : List ℕ) → fields_at (ks ++ ls) bytes ≡ and_then (fields_at ks bytes) (fields_at ls)
-fields_at-append [] ls bytes = sym (with_front-nil (fields_at ls bytes))
-fields_at-append (k ∷ ks) ls bytes = ap_next (λ more. fields_at-append ks ls more) (group_at k bytes) ∙ sym (and_then-assoc (group_at k bytes) (fields_at ks) (fields_at ls))
-  where
-    ap_next : ((more : List ℕ) → fields_at (ks ++ ls) more ≡ and_then (fields_at ks more) (fields_at ls)) → (g : Read) → and_then g (fields_at (ks ++ ls)) ≡ and_then g (λ more. and_then (fields_at ks more) (fields_at ls))
-    ap_next rec (Err e) = refl
-    ap_next rec (Ok a) = ap (λ (r : Read). with_front a.0 r) (rec a.1)
 
 -- ---- kinds that ask for no others
 
@@ -127,7 +99,7 @@ one_field k ks bytes = by (field_at k bytes)
   where
     by : (r : One) → and_then (grouped r) (fields_at ks) ≡ stepped ks r
     by (Err e) = refl
-    by (Ok f) = and_then-front (f.0 ∷ []) (items_at (follow f.0) f.1) (fields_at ks) ∙ ap (λ (x : Read). with_front (f.0 ∷ []) x) (ap (λ (x : Read). and_then x (fields_at ks)) (plain_items (follow f.0) f.1 (follow_plain f.0)) ∙ sym (fields_at-append (follow f.0) ks f.1))
+    by (Ok f) = and_then-front (f.0 ∷ []) (items_at (follow f.0) f.1) (fields_at ks) ∙ ap (λ (x : Read). with_front (f.0 ∷ []) x) (ap (λ (x : Read). and_then x (fields_at ks)) (plain_items (follow f.0) f.1 (follow_plain f.0)) ∙ sym (fields-append group_at (follow f.0) ks f.1))
 
 -- ---- what matches is read
 

@@ -86,7 +86,7 @@ pub record HasTrailing (body : List ℕ) (count : ℕ) : Type 0 where
   pub some : 0 < length rest
   pub all : count ≡ length rest
 
--- the right answer for the bytes; want of memory is one everywhere
+-- the right answer for the bytes; lack of memory is one everywhere
 abbrev pub IsDecoded : List ℕ → Decoded → Type 0
 IsDecoded body (Edit e) = IsRecord body e
 IsDecoded body (UnknownOpcode byte) = HasUnknownOpcode body byte

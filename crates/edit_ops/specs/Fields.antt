@@ -58,7 +58,7 @@ IsGood (Flag_ b) = Unit {0}
 IsGood (Client_ bytes) = (length bytes ≡ 16) × AllByRecursion (λ b. b < 256) bytes
 IsGood (Call_ n) = n < 2 ^ 32
 
--- a field as bytes: numbers with their greatest byte first, a text behind its length of two bytes
+-- a field as bytes: numbers with their greatest byte first, a text after its length of two bytes
 abbrev pub field_bytes : Field → List ℕ
 field_bytes (Text_ t bytes) = to_be_bytes w16 (length bytes) ++ bytes
 field_bytes (Small_ s n) = to_be_bytes w16 n

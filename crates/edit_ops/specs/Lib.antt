@@ -7,6 +7,7 @@ pub mod Words
 pub mod Texts
 pub mod Forms
 pub mod Decoding
+pub mod Sources
 pub mod Reading
 pub mod FromFields
 pub mod Saying

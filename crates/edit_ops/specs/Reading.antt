@@ -1,28 +1,11 @@
--- The fields at the front of bytes, with the first fault, as the readers of fields answer them.
-use Rattle.std.specs.Prelude.{◌≡◌, ℕ, ◌-◌, List, [], ◌∷◌, ◌++◌, length, take, drop, slice_index, Option, Some, None, Result, Ok, Err, nat_lt, ◌==◌, if◌then◌else◌}
+-- The fields at the front of bytes, with the first fault, as a source of bytes gives them.
+use Rattle.std.specs.Prelude.{ℕ, ◌-◌, List, [], ◌∷◌, length, take, drop, slice_index, Option, Some, None, Result, Ok, Err, nat_lt, ◌==◌, if◌then◌else◌}
 use Rattle.std.specs.Int.{w16, w32, w64, from_be_bytes}
 use Rattle.edit_ops.specs.declared.fault.Fault.{Fault}
 use Rattle.edit_ops.specs.declared.fault.Fault.TheVariants.{Short, Bad}
-use Rattle.edit_ops.specs.declared.fault.ReadError.{ReadError}
-use Rattle.edit_ops.specs.declared.fault.ReadError.TheVariants as errors
 use Rattle.edit_ops.specs.Fields.{Kind, Field, text, small, number, flag, client, call_number, Text_, Small_, Number_, Flag_, Client_, Call_, follow}
-use Rattle.edit_ops.specs.declared.kind.OpKind.{OpKind}
-use Rattle.edit_ops.specs.Records.{layout}
 use Rattle.edit_ops.specs.Decoding.{told_length, least, broken_rule}
-
-infixl 10 ◌>>=◌
-abbrev pub ◌>>=◌ : {A B : Type 0} → Result A Fault → (A → Result B Fault) → Result B Fault
-(Ok x) >>= f = f x
-(Err e) >>= f = Err e
-
--- what a reader returned, seen by view, is this reading, unless memory ran out
-abbrev pub Fails : {Y : Type 0} → ReadError → Result Y Fault → Type 0
-Fails errors.Memory read = Unit {0}
-Fails (errors.Fault f) read = read ≡ Err f
-
-abbrev pub Gives : {X Y : Type 0} → (X → Y) → Result X ReadError → Result Y Fault → Type 0
-Gives view (Ok x) read = read ≡ Ok (view x)
-Gives view (Err e) read = Fails e read
+use Rattle.edit_ops.specs.Sources.{◌>>=◌, fields_read}
 
 -- the field of this kind at the front, where it is whole and good
 abbrev pub value_at : Kind → List ℕ → Field
@@ -56,14 +39,4 @@ group_at kind bytes = do
   Ok (field.0 ∷ items.0, items.1)
 
 abbrev pub fields_at : List Kind → List ℕ → Result (List Field × List ℕ) Fault
-fields_at [] bytes = Ok ([], bytes)
-fields_at (kind ∷ kinds) bytes = do
-  group ← group_at kind bytes
-  others ← fields_at kinds group.1
-  Ok (group.0 ++ others.0, others.1)
-
--- the fields of an edit of this kind
-unfoldable pub op_at : OpKind → List ℕ → Result ((OpKind × List Field) × List ℕ) Fault
-op_at kind bytes = do
-  fields ← fields_at (layout kind) bytes
-  Ok ((kind, fields.0), fields.1)
+fields_at = fields_read group_at

@@ -1,8 +1,9 @@
 -- Which texts are those of edits, by a test; and the words of such a text.
-use Rattle.std.specs.Prelude.{◌≡◌, ℕ, ◌<◌, List, [], ◌∷◌, ◌++◌, length, Bool, true, false, Option, Some, None, ◌==◌, ◌&&◌, if◌then◌else◌, codes}
+use Rattle.std.specs.Prelude.{◌≡◌, ℕ, ◌<◌, List, [], ◌∷◌, ◌++◌, length, Bool, true, false, Option, Some, None, Result, Ok, Err, ◌==◌, ◌&&◌, if◌then◌else◌, codes}
 use Rattle.std.specs.List.{find, flat_map, list_all, AllByRecursion}
 use Rattle.std.specs.Char.{is_ascii_graphic}
 use Rattle.std.specs.Str.{bytes_eq}
+use Rattle.edit_ops.specs.declared.fault.BadText.{BadText}
 use Rattle.edit_ops.specs.declared.kind.OpKind.{OpKind}
 use Rattle.edit_ops.specs.declared.kind.OpKind.TheVariants as kinds
 use Rattle.edit_ops.specs.Words.{verb}
@@ -22,9 +23,9 @@ unfoldable pub kind_said : List ℕ → Option OpKind
 kind_said word = find (λ kind. bytes_eq word (verb kind)) said_kinds
 
 -- fields were said, and no word is left
-abbrev pub says_all : Option (List Field × List ℕ) → Bool
-says_all None = false
-says_all (Some x) = length x.1 == 0
+abbrev pub says_all : Result (List Field × List ℕ) BadText → Bool
+says_all (Err f) = false
+says_all (Ok x) = length x.1 == 0
 
 abbrev pub says_fields : Option OpKind → List ℕ → Bool
 says_fields None words = false
@@ -34,15 +35,15 @@ says_fields (Some kind) words = says_all (fields_said (layout kind) words)
 unfoldable pub is_line_text : List ℕ → Bool
 is_line_text words = says_fields (kind_said (split_word words).0) (split_word words).1
 
--- a space, and such words behind it
-abbrev pub is_line_behind : List ℕ → Bool
-is_line_behind [] = false
-is_line_behind (b ∷ words) = (b == 32) && is_line_text words
+-- a space, and such words after it
+abbrev pub is_line_after : List ℕ → Bool
+is_line_after [] = false
+is_line_after (b ∷ words) = (b == 32) && is_line_text words
 
--- a call was said, and what it asked for stands behind it
-abbrev pub is_called_text : Option (List Field × List ℕ) → Bool
-is_called_text None = false
-is_called_text (Some x) = is_line_behind x.1
+-- a call was said, and what it asked for stands after it
+abbrev pub is_called_text : Result (List Field × List ℕ) BadText → Bool
+is_called_text (Err f) = false
+is_called_text (Ok x) = is_line_after x.1
 
 -- the text is that of an edit in a script
 unfoldable pub is_edit_text : List ℕ → Bool
@@ -54,7 +55,7 @@ pub record IsGraphic (word : List ℕ) : Type 0 where
   pub some : 0 < length word
   pub graphic : list_all is_ascii_graphic word ≡ true
 
--- a first word, and the others each behind one space
+-- a first word, and the others each after one space
 pub record IsWorded (text : List ℕ) : Type 0 where
   pub first : List ℕ
   pub others : List (List ℕ)

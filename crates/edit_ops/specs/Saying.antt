@@ -1,5 +1,5 @@
--- The fields at the front of a text, as the readers of words answer them.
-use Rattle.std.specs.Prelude.{◌≡◌, ℕ, zero, suc, ◌-◌, ◌^◌, List, [], ◌∷◌, ◌++◌, length, take, drop, Bool, true, false, ◌&&◌, Option, Some, None, Result, Ok, Err, option_and_then, nat_lt, nat_le, ◌==◌, if◌then◌else◌, codes}
+-- The fields at the front of a text, as a source of words gives them.
+use Rattle.std.specs.Prelude.{◌≡◌, ℕ, zero, suc, ◌-◌, ◌^◌, List, [], ◌∷◌, length, take, drop, Bool, true, false, ◌&&◌, Option, Some, None, Result, Ok, Err, ok_or, option_and_then, nat_lt, nat_le, ◌==◌, if◌then◌else◌, codes}
 use Rattle.std.specs.List.{position_or_len, list_all}
 use Rattle.std.specs.Char.{is_ascii_graphic}
 use Rattle.std.specs.Fmt.{digits}
@@ -7,22 +7,22 @@ use Rattle.std.specs.Str.{bytes_eq}
 use Rattle.std.specs.Str.Parse.{digits_value}
 use Rattle.line_words.specs.Words.{is_space}
 use Rattle.line_words.specs.Hex.{bytes_in}
-use Rattle.edit_ops.specs.declared.fault.TextError.{TextError}
-use Rattle.edit_ops.specs.declared.fault.TextError.TheVariants as errors
-use Rattle.edit_ops.specs.declared.kind.OpKind.{OpKind}
+use Rattle.edit_ops.specs.declared.fault.BadText.{BadText}
+use Rattle.edit_ops.specs.declared.fault.ReadError.{ReadError}
+use Rattle.edit_ops.specs.declared.fault.ReadError.TheVariants as errors
 use Rattle.edit_ops.specs.Fields.{Kind, Field, Text, path, owner, new_owner, replication, permission, numbers, paths, text, small, number, flag, client, call_number, Text_, Small_, Number_, Flag_, Client_, Call_, limit}
-use Rattle.edit_ops.specs.Records.{layout}
+use Rattle.edit_ops.specs.Sources.{fields_read}
 
 infixl 10 ◌>>=◌
 abbrev pub ◌>>=◌ : {A B : Type 0} → Option A → (A → Option B) → Option B
 o >>= f = option_and_then f o
 
--- what a reader returned, seen by view, is this, unless memory ran out
-abbrev pub Misses : {Y : Type 0} → TextError → Option Y → Type 0
+-- what a reader of words returned, seen by view, is this, unless memory ran out
+abbrev pub Misses : {Y : Type 0} → ReadError BadText → Option Y → Type 0
 Misses errors.Memory said = Unit {0}
-Misses errors.Bad said = said ≡ None
+Misses (errors.Fault f) said = said ≡ None
 
-abbrev pub Tells : {X Y : Type 0} → (X → Y) → Result X TextError → Option Y → Type 0
+abbrev pub Tells : {X Y : Type 0} → (X → Y) → Result X (ReadError BadText) → Option Y → Type 0
 Tells view (Ok x) said = said ≡ Some (view x)
 Tells view (Err e) said = Misses e said
 
@@ -35,7 +35,7 @@ Boundary (b ∷ words) = b ≡ 32
 abbrev pub split_word : List ℕ → List ℕ × List ℕ
 split_word words = (take (position_or_len is_space words) words, drop (position_or_len is_space words) words)
 
--- the word behind a space
+-- the word after a space
 unfoldable pub word_at : List ℕ → Option (List ℕ × List ℕ)
 word_at [] = None
 word_at (b ∷ words) = if is_space b then Some (split_word words) else None
@@ -115,15 +115,13 @@ group_said flag words = field_said flag words >>= λ f. Some (f.0 ∷ [], f.1)
 group_said client words = field_said client words >>= λ f. Some (f.0 ∷ [], f.1)
 group_said call_number words = field_said call_number words >>= λ f. Some (f.0 ∷ [], f.1)
 
-abbrev pub fields_said : List Kind → List ℕ → Option (List Field × List ℕ)
-fields_said [] words = Some ([], words)
-fields_said (kind ∷ kinds) words = do
-  group ← group_said kind words
-  others ← fields_said kinds group.1
-  Some (group.0 ++ others.0, others.1)
+-- what is wrong with all other words
+abbrev pub bad_text : BadText
+bad_text = record {}
 
--- the fields of an edit of this kind
-unfoldable pub op_said : OpKind → List ℕ → Option ((OpKind × List Field) × List ℕ)
-op_said kind words = do
-  fields ← fields_said (layout kind) words
-  Some ((kind, fields.0), fields.1)
+-- as a source of words gives it
+abbrev pub words_group : Kind → List ℕ → Result (List Field × List ℕ) BadText
+words_group kind words = ok_or (group_said kind words) bad_text
+
+abbrev pub fields_said : List Kind → List ℕ → Result (List Field × List ℕ) BadText
+fields_said = fields_read words_group

@@ -23,7 +23,7 @@ text_word false new_owner [] = 45 ∷ []
 text_word false path [] = []
 text_word false owner [] = []
 
--- the word of a field behind a space; a count has none
+-- the word of a field after a space; a count has none
 abbrev pub spaced : Bool → Field → List ℕ
 spaced listing (Text_ t bytes) = 32 ∷ text_word listing t bytes
 spaced listing (Small_ replication n) = 32 ∷ decimal n

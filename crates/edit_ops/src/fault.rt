@@ -13,52 +13,29 @@ pub enum Fault {
     Bad { left: usize, rule: u32 },
 }
 
-/// Why a field could not be read.
+/// What is wrong with a text: it is that of no edit.
+#[derive(Clone, Copy, Debug)]
+pub struct BadText;
+
+/// Why a field could not be read: memory was wanted and not there, or the fault of what was to be read.
 #[derive(Debug, Drop)]
-pub enum ReadError {
+pub enum ReadError<F> {
     Memory,
-    Fault(Fault),
+    Fault(F),
 }
 
-impl From<AllocError> for ReadError {
+impl<F> From<AllocError> for ReadError<F> {
     ghost from_gives = { λ _ e. e ≡ Memory };
 
-    fn from(_e: AllocError) -> ReadError {
+    fn from(_e: AllocError) -> ReadError<F> {
         ReadError::Memory
     }
 }
 
-impl<T: Drop> From<AllocFailed<T>> for ReadError {
+impl<F, T: Drop> From<AllocFailed<T>> for ReadError<F> {
     ghost from_gives = { λ _ e. e ≡ Memory };
 
-    fn from(_e: AllocFailed<T>) -> ReadError {
+    fn from(_e: AllocFailed<T>) -> ReadError<F> {
         ReadError::Memory
-    }
-}
-
-/// Why a text could not be read.
-#[derive(Debug, Drop)]
-pub enum TextError {
-    Memory,
-    Bad,
-}
-
-impl From<AllocError> for TextError {
-    ghost use Rattle.edit_ops.specs.declared.fault.TextError.TheVariants as errors;
-
-    ghost from_gives = { λ _ e. e ≡ errors.Memory };
-
-    fn from(_e: AllocError) -> TextError {
-        TextError::Memory
-    }
-}
-
-impl<T: Drop> From<AllocFailed<T>> for TextError {
-    ghost use Rattle.edit_ops.specs.declared.fault.TextError.TheVariants as errors;
-
-    ghost from_gives = { λ _ e. e ≡ errors.Memory };
-
-    fn from(_e: AllocFailed<T>) -> TextError {
-        TextError::Memory
     }
 }

@@ -36,7 +36,7 @@ pub enum Form {
     Listing,
 }
 
-// Appends a text behind its length; an `Err` changes nothing.
+// Appends a text after its length; an `Err` changes nothing.
 fn put_text(out: &mut Vec<u8>, text: &[u8]) -> Result<(), OutOfMemory>
     requires { length text.now < 2 ^ 16 }
     ensures ok { OnOk result (out.new.items ≡ out.old.items ++ (to_be_bytes w16 (length text.now) ++ text.now)) }
@@ -70,7 +70,7 @@ fn put_bytes(out: &mut Vec<u8>, field: Field<'_>) -> Result<(), OutOfMemory>
     }
 }
 
-// Appends a word behind a space; an `Err` changes nothing.
+// Appends a word after a space; an `Err` changes nothing.
 fn put_word(out: &mut Vec<u8>, word: &[u8]) -> Result<(), OutOfMemory>
     ensures ok { OnOk result (out.new.items ≡ out.old.items ++ 32 ∷ word.now) }
     ensures err { OnErr result (out.new.items ≡ out.old.items) }
@@ -84,7 +84,7 @@ fn put_word(out: &mut Vec<u8>, word: &[u8]) -> Result<(), OutOfMemory>
     added
 }
 
-// Appends a number in a base behind a space; an `Err` changes nothing.
+// Appends a number in a base after a space; an `Err` changes nothing.
 fn put_number(out: &mut Vec<u8>, number: u64) -> Result<(), OutOfMemory>
     ensures ok { OnOk result (out.new.items ≡ out.old.items ++ 32 ∷ decimal number) }
     ensures err { OnErr result (out.new.items ≡ out.old.items) }
@@ -98,7 +98,7 @@ fn put_number(out: &mut Vec<u8>, number: u64) -> Result<(), OutOfMemory>
     added
 }
 
-// Appends a permission as octal digits behind a space; an `Err` changes nothing.
+// Appends a permission as octal digits after a space; an `Err` changes nothing.
 fn put_permission(out: &mut Vec<u8>, permission: u16) -> Result<(), OutOfMemory>
     ensures ok { OnOk result (out.new.items ≡ out.old.items ++ 32 ∷ digits 8 false permission) }
     ensures err { OnErr result (out.new.items ≡ out.old.items) }
@@ -112,7 +112,7 @@ fn put_permission(out: &mut Vec<u8>, permission: u16) -> Result<(), OutOfMemory>
     added
 }
 
-// Appends a client's id as hexadecimal digits behind a space; an `Err` changes nothing.
+// Appends a client's id as hexadecimal digits after a space; an `Err` changes nothing.
 #[tactic(auto, using(line_words::proofs::AppendLaws::cuts))]
 fn put_client(out: &mut Vec<u8>, client: &[u8; 16]) -> Result<(), OutOfMemory>
     ensures ok { OnOk result (out.new.items ≡ out.old.items ++ 32 ∷ hex_text client.now) }
@@ -127,7 +127,7 @@ fn put_client(out: &mut Vec<u8>, client: &[u8; 16]) -> Result<(), OutOfMemory>
     added
 }
 
-// Appends the word of a field behind a space; an `Err` changes nothing.
+// Appends the word of a field after a space; an `Err` changes nothing.
 fn put_said(out: &mut Vec<u8>, listing: bool, field: Field<'_>) -> Result<(), OutOfMemory>
     ensures ok { OnOk result (out.new.items ≡ out.old.items ++ spaced listing (shown field.entry)) }
     ensures err { OnErr result (out.new.items ≡ out.old.items) }

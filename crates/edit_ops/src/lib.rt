@@ -11,11 +11,12 @@ mod kind;
 mod laws;
 mod lists;
 mod op;
-mod reading;
 mod reading_text;
+mod record_source;
 mod said_text;
+mod source;
 mod text;
-mod words;
+mod word_source;
 mod writing;
 
 pub use decoded::Decoded;

@@ -35,7 +35,7 @@ fn put_call(out: &mut Vec<u8>, call: &Call) -> Result<(), OutOfMemory>
     added
 }
 
-// Appends a word, and the fields of an edit behind it; an `Err` changes nothing.
+// Appends a word, and the fields of an edit after it; an `Err` changes nothing.
 fn put_line(out: &mut Vec<u8>, form: Form, word: &str, op: &Op) -> Result<(), OutOfMemory>
     requires { AllByRecursion IsGood (fields_of op.now) }
     ensures ok { OnOk result (out.new.items ≡ out.old.items ++ (word.now ++ flat_map (written form) (fields_of op.now))) }

@@ -1,7 +1,6 @@
 //! Images in a folder: whole ones in both layouts, alone, with another digest, and with other bytes.
 use crate::folders::{Case, disk_of, expect_all, expect_report_of};
 use image_store::save_bytes;
-use small_files::Put;
 use std::alloc::Global;
 use std::process::Abort;
 use std::test::Fail;
@@ -20,7 +19,7 @@ fn expect_image(
     findings: u64,
 ) -> Result<(), Fail> {
     let mut disk = disk_of(alloc, &[])?;
-    assert_eq!(rt; save_bytes(alloc, &mut disk, 9, bytes), Put::Done);
+    assert_eq!(rt; save_bytes(alloc, &mut disk, 9, bytes), Ok(()));
     expect_report_of(rt, alloc, &mut disk, want, findings)
 }
 

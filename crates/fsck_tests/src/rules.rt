@@ -108,7 +108,7 @@ fn bytes_are_judged_first(rt: HostRuntime) -> Result<(), Fail> {
     expect_all(&rt, rt.alloc(), &BYTES)
 }
 
-// A final segment behind another: at its end, by its name alone, and where its own end is wrong too.
+// A final segment after another: at its end, by its name alone, and where its own end is wrong too.
 const BEHIND: [Case; 3] = [
     Case {
         files: &[

@@ -114,15 +114,3 @@ module _ {X : Type 0} (f : X → List ℕ) where
   is_there xs i x files lt is lists = lists.there (f x) (i, omega (arith, lt, length-map xs f), index_at xs i x lt is)
 
 -- ## The whole report
-pub reported : (tells : Type 0) (files : Files) (names : List (List ℕ)) (s : SoFar) (text : List ℕ) → IsSoFar tells files names s → (tells → Lists names files)
-    → text ≡ s.text.items ++ (codes "findings " ++ (decimal s.findings ++ 10 ∷ [])) → IsReport tells files text s.findings
-reported tells files names s text so_far lists spelled = record {
-  verdicts = so_far.verdicts;
-  spelled = spelled ∙ (λ i. so_far.text i ++ (codes "findings " ++ (decimal (so_far.findings i) ++ 10 ∷ [])));
-  counted = so_far.findings;
-  right = λ t. record {
-    all = subst (λ (l : List (List ℕ)). Lists l files) (sym so_far.names_are) (lists t);
-    end = s.before;
-    each = so_far.right t;
-  };
-}

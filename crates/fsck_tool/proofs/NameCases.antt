@@ -23,17 +23,6 @@ no_number name promised writer committed Promised = promised
 no_number name promised writer committed Writer = writer
 no_number name promised writer committed Committed = committed
 
--- a known role is a role
-pub known_role : (name : List ℕ) (r : FileRole) → IsKnownAs name r → HasRole name r
-known_role name (role.Number n) is = is
-known_role name (role.Record start) is = is
-known_role name (role.InProgress start) is = is
-known_role name (role.Final start last) is = is
-known_role name (role.Image txid) is = is
-known_role name (role.Digest txid) is = is
-known_role name role.Passing is = is
-known_role name role.Unknown is = absurd is
-
 module _ (name : List ℕ) (numbers : (n : NodeNumber) → name ≢ number_name n) (segments : (start : ℕ) (kind : Kind) → IsTold kind → IsNamed name start kind → ⊥)
     (images : (rest : List ℕ) (txid : ℕ) → IsOfImage rest → IsImageName name rest txid → ⊥) where
   module _ (left : ((front : List ℕ) → name ≢ front ++ codes ".tmp") × ((txid : ℕ) → txid ≤ 2 ^ 62 → name ≢ codes "fsimage.ckpt_" ++ padded 19 txid)) where

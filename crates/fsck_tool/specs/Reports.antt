@@ -41,7 +41,7 @@ abbrev pub text_of : List Verdict → List ℕ
 text_of vs = lines_of vs ++ (codes "findings " ++ (decimal (count_of vs) ++ 10 ∷ []))
 
 -- ## What is right
--- Each verdict is that on its file, name by name, where a final segment ended at the first number before them, and at the last behind
+-- Each verdict is that on its file, name by name, where a final segment ended at the first number before them, and at the last after
 -- them.
 abbrev pub AreVerdicts : Files → ℕ → List Verdict → ℕ → Type 0
 AreVerdicts files before [] after = after ≡ before

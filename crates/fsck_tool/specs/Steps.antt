@@ -23,7 +23,7 @@ use Rattle.fsck_tool.specs.Rules.{front_number, IsVerdict}
 use Rattle.fsck_tool.specs.Reports.{Verdict, line_of, lines_of, one_if, count_of, AreVerdicts}
 
 -- ## Names
--- what stands behind the txid in the name of an image, or of the file of its digest
+-- what stands after the txid in the name of an image, or of the file of its digest
 abbrev pub IsOfImage : List ℕ → Type 0
 IsOfImage rest = (rest ≡ []) ⊎ (rest ≡ codes ".md5")
 

@@ -1,6 +1,7 @@
 //! The files of a folder are checked, name by name.
-ghost use Rattle.std.specs.Prelude.{◌≡◌, ◌↔◌, ◌<◌, ◌+◌, ◌-◌, ◌^◌, Some, IfOk, OnOk, IsErrOf, IsSome, map, string_bytes};
-ghost use Rattle.qj_disk.specs.Calls.{HasCause, Rests, Lists};
+ghost use Rattle.std.specs.Prelude.{◌≡◌, ◌<◌, ◌+◌, ◌-◌, ◌^◌, Some, IfOk, OnOk, IsErrOf, map, string_bytes};
+ghost use Rattle.qj_disk.specs.Calls.{Rests, Lists};
+ghost use Rattle.qj_disk.specs.DiskCalls.{HasFile, IfTold, IsDiskRun};
 ghost use Rattle.fsck_tool.specs.Roles.{HasRole};
 ghost use Rattle.fsck_tool.specs.Rules.{IsVerdict};
 ghost use Rattle.fsck_tool.specs.Reports.{IsReport};
@@ -26,12 +27,12 @@ fn check_file<D: Disk>(
     before: u64,
 ) -> Result<Option<Finding>, DiskFail>
     requires named { HasRole name.now role }
-    requires there { D.tells disk.old → IsSome ((D.view disk.old).seen name.now) }
+    requires there { HasFile D.DiskModel disk.old name.now }
 
-    ensures tells { D.tells disk.old ↔ D.tells disk.new }
-    ensures found { D.tells disk.old → IfOk result (IsVerdict (D.view disk.old).seen before name.now role) }
-    ensures disk { D.tells disk.old → Rests (D.view disk.old) (D.view disk.new) }
-    ensures cause { HasCause (D.faults disk.old) (D.faults disk.new) (D.steady disk.old) (D.steady disk.new) result }
+    ensures call { IsDiskRun D.DiskModel disk.old disk.new result }
+    ensures found { D.tells disk.old
+        → IfOk result (IsVerdict (D.view disk.old).seen before name.now role) }
+    ensures disk { IfTold D.DiskModel disk.old disk.new Rests }
 {
     match role {
         FileRole::Number(number) => check_number(alloc, disk, number),
@@ -62,13 +63,12 @@ fn check_one<D: Disk>(
     name: &str,
     so_far: &mut SoFar,
 ) -> Result<(), DiskFail>
-    requires there { D.tells disk.old → IsSome ((D.view disk.old).seen name.now) }
+    requires there { HasFile D.DiskModel disk.old name.now }
     requires room { so_far.old.findings < 2 ^ 64 - 1 }
 
-    ensures tells { D.tells disk.old ↔ D.tells disk.new }
+    ensures call { IsDiskRun D.DiskModel disk.old disk.new result }
     ensures adds { OnOk result (AddsVerdict (D.tells disk.old) (D.view disk.old).seen name.now so_far.old so_far.new) }
-    ensures disk { D.tells disk.old → Rests (D.view disk.old) (D.view disk.new) }
-    ensures cause { HasCause (D.faults disk.old) (D.faults disk.new) (D.steady disk.old) (D.steady disk.new) result }
+    ensures disk { IfTold D.DiskModel disk.old disk.new Rests }
 {
     let role = role_of(name.as_bytes());
     let found = check_file(alloc, disk, name, role, so_far.before)?;
@@ -82,10 +82,9 @@ fn check_one<D: Disk>(
 fn check_names<D: Disk>(alloc: Global, disk: &mut D, names: &[String]) -> Result<SoFar, DiskFail>
     requires { D.tells disk.old → Lists (map string_bytes names.now) (D.view disk.old).seen }
 
-    ensures tells { D.tells disk.old ↔ D.tells disk.new }
+    ensures call { IsDiskRun D.DiskModel disk.old disk.new result }
     ensures checked { IfOk result (IsSoFar (D.tells disk.old) (D.view disk.old).seen (map string_bytes names.now)) }
-    ensures disk { D.tells disk.old → Rests (D.view disk.old) (D.view disk.new) }
-    ensures cause { HasCause (D.faults disk.old) (D.faults disk.new) (D.steady disk.old) (D.steady disk.new) result }
+    ensures disk { IfTold D.DiskModel disk.old disk.new Rests }
 {
     let mut so_far = SoFar::new(alloc);
     for name in names {
@@ -97,11 +96,10 @@ fn check_names<D: Disk>(alloc: Global, disk: &mut D, names: &[String]) -> Result
 /// The report of a folder, and how many findings it tells. Every file is read once, one after the other; that of the
 /// promised epoch once more.
 pub fn report_of<D: Disk>(alloc: Global, disk: &mut D) -> Result<(Vec<u8>, u64), DiskFail>
-    ensures tells { D.tells disk.old ↔ D.tells disk.new }
+    ensures call { IsDiskRun D.DiskModel disk.old disk.new result }
     ensures report { IfOk result (λ r. IsReport (D.tells disk.old) (D.view disk.old).seen r.0.items r.1) }
     ensures stopped { D.left disk.old ≡ Some 0 → IsErrOf result DiskFail.Failed }
-    ensures disk { D.tells disk.old → Rests (D.view disk.old) (D.view disk.new) }
-    ensures cause { HasCause (D.faults disk.old) (D.faults disk.new) (D.steady disk.old) (D.steady disk.new) result }
+    ensures disk { IfTold D.DiskModel disk.old disk.new Rests }
 {
     let names = disk.list()?;
     let SoFar {

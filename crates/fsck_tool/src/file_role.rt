@@ -26,7 +26,7 @@ pub enum FileRole {
 }
 
 impl FileRole {
-    /// The end of the last final segment behind this file, by the names, where `before` is the one before it.
+    /// The end of the last final segment after this file, by the names, where `before` is the one before it.
     pub fn end_after(self, before: u64) -> u64
         ensures { result ≡ end_after self before }
     {

@@ -1,6 +1,7 @@
 //! Images and the files of their digests are checked.
-ghost use Rattle.std.specs.Prelude.{◌≡◌, ◌↔◌, ◌≤◌, ◌^◌, List, ℕ, Some, IfOk, IsSome};
-ghost use Rattle.qj_disk.specs.Calls.{HasCause, Rests};
+ghost use Rattle.std.specs.Prelude.{◌≡◌, ◌≤◌, ◌^◌, List, ℕ, Some, IfOk};
+ghost use Rattle.qj_disk.specs.Calls.{Rests};
+ghost use Rattle.qj_disk.specs.DiskCalls.{HasFile, IfTold, IsDiskRun};
 ghost use Rattle.image_store.specs.Names.{name_of, Itself, Digest};
 ghost use Rattle.fsck_tool.specs.Rules.{IsVerdict, front_number};
 ghost use Rattle.fsck_tool.specs.Steps.{finding_of};
@@ -59,12 +60,12 @@ pub fn check_image<D: Disk>(
     txid: u64,
 ) -> Result<Option<Finding>, DiskFail>
     requires small { txid ≤ 2 ^ 62 }
-    requires there { D.tells disk.old → IsSome ((D.view disk.old).seen (name_of txid Itself)) }
+    requires there { HasFile D.DiskModel disk.old (name_of txid Itself) }
 
-    ensures tells { D.tells disk.old ↔ D.tells disk.new }
-    ensures found { D.tells disk.old → IfOk result (λ found. (before : ℕ) (name : List ℕ) → IsVerdict (D.view disk.old).seen before name (FileRole.Image txid) found) }
-    ensures disk { D.tells disk.old → Rests (D.view disk.old) (D.view disk.new) }
-    ensures cause { HasCause (D.faults disk.old) (D.faults disk.new) (D.steady disk.old) (D.steady disk.new) result }
+    ensures call { IsDiskRun D.DiskModel disk.old disk.new result }
+    ensures found { D.tells disk.old
+        → IfOk result (λ found. (before : ℕ) (name : List ℕ) → IsVerdict (D.view disk.old).seen before name (FileRole.Image txid) found) }
+    ensures disk { IfTold D.DiskModel disk.old disk.new Rests }
 {
     let loaded = load(alloc, disk, txid)?;
     Ok(judge_loaded(loaded))
@@ -74,10 +75,10 @@ pub fn check_image<D: Disk>(
 pub fn check_digest<D: Disk>(disk: &mut D, txid: u64) -> Result<Option<Finding>, DiskFail>
     requires { txid ≤ 2 ^ 62 }
 
-    ensures tells { D.tells disk.old ↔ D.tells disk.new }
-    ensures found { D.tells disk.old → IfOk result (λ found. (before : ℕ) (name : List ℕ) → IsVerdict (D.view disk.old).seen before name (FileRole.Digest txid) found) }
-    ensures disk { D.tells disk.old → Rests (D.view disk.old) (D.view disk.new) }
-    ensures cause { HasCause (D.faults disk.old) (D.faults disk.new) (D.steady disk.old) (D.steady disk.new) result }
+    ensures call { IsDiskRun D.DiskModel disk.old disk.new result }
+    ensures found { D.tells disk.old
+        → IfOk result (λ found. (before : ℕ) (name : List ℕ) → IsVerdict (D.view disk.old).seen before name (FileRole.Digest txid) found) }
+    ensures disk { IfTold D.DiskModel disk.old disk.new Rests }
 {
     let names = ImageNames::new(txid);
     match disk.length(names.itself())? {

@@ -64,8 +64,8 @@ fn image_role(name: &[u8]) -> Option<FileRole>
     }
 }
 
-// What stands behind the front of the name of an image that is being saved.
-fn behind_front(name: &[u8]) -> Option<&[u8]>
+// What stands after the front of the name of an image that is being saved.
+fn step_after_front(name: &[u8]) -> Option<&[u8]>
     ensures { MatchOption result ((rest : List ℕ) → name.now ≢ codes "fsimage.ckpt_" ++ rest) (λ rest. name.now ≡ codes "fsimage.ckpt_" ++ rest.now) }
 {
     name.strip_prefix(b"fsimage.ckpt_".as_slice())
@@ -75,7 +75,7 @@ fn behind_front(name: &[u8]) -> Option<&[u8]>
 fn is_checkpoint(name: &[u8]) -> bool
     ensures { MatchBool result ((txid : ℕ) × (txid ≤ 2 ^ 62) × (name.now ≡ codes "fsimage.ckpt_" ++ padded 19 txid)) ((txid : ℕ) → txid ≤ 2 ^ 62 → name.now ≢ codes "fsimage.ckpt_" ++ padded 19 txid) }
 {
-    match behind_front(name) {
+    match step_after_front(name) {
         Some(digits) => match read19(digits) {
             Some(_) => true,
             None => false,

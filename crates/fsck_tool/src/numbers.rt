@@ -1,6 +1,7 @@
 //! The files of a node's numbers and of acceptances are checked.
-ghost use Rattle.std.specs.Prelude.{◌≡◌, ◌↔◌, ◌≤◌, ◌^◌, List, ℕ, Some, IfOk, MatchBool};
-ghost use Rattle.qj_disk.specs.Calls.{HasCause, Rests};
+ghost use Rattle.std.specs.Prelude.{◌≡◌, ◌≤◌, ◌^◌, List, ℕ, Some, IfOk, MatchBool};
+ghost use Rattle.qj_disk.specs.Calls.{Rests};
+ghost use Rattle.qj_disk.specs.DiskCalls.{IfTold, IsDiskRun};
 ghost use Rattle.small_files.specs.Records.{IsNumber};
 ghost use Rattle.segment_file.specs.Names.{name_of, Record};
 ghost use Rattle.segment_file.specs.Stands.{IsRecordFile};
@@ -59,10 +60,10 @@ fn read_held<D: Disk>(
     disk: &mut D,
     number: NodeNumber,
 ) -> Result<Option<u64>, DiskFail>
-    ensures tells { D.tells disk.old ↔ D.tells disk.new }
-    ensures held { D.tells disk.old → IfOk result (HeldIn ((D.view disk.old).seen (number_name number))) }
-    ensures disk { D.tells disk.old → Rests (D.view disk.old) (D.view disk.new) }
-    ensures cause { HasCause (D.faults disk.old) (D.faults disk.new) (D.steady disk.old) (D.steady disk.new) result }
+    ensures call { IsDiskRun D.DiskModel disk.old disk.new result }
+    ensures held { D.tells disk.old
+        → IfOk result (HeldIn ((D.view disk.old).seen (number_name number))) }
+    ensures disk { IfTold D.DiskModel disk.old disk.new Rests }
 {
     held_of(NumberFile::get(alloc, disk, number.name()))
 }
@@ -73,12 +74,13 @@ fn check_writer<D: Disk>(
     disk: &mut D,
     writer: u64,
 ) -> Result<Option<Finding>, DiskFail>
-    requires { D.tells disk.old → IsNumber ((D.view disk.old).seen (number_name NodeNumber.Writer)) writer }
+    requires { D.tells disk.old
+        → IsNumber ((D.view disk.old).seen (number_name NodeNumber.Writer)) writer }
 
-    ensures tells { D.tells disk.old ↔ D.tells disk.new }
-    ensures found { D.tells disk.old → IfOk result (λ found. (before : ℕ) (name : List ℕ) → IsVerdict (D.view disk.old).seen before name (FileRole.Number NodeNumber.Writer) found) }
-    ensures disk { D.tells disk.old → Rests (D.view disk.old) (D.view disk.new) }
-    ensures cause { HasCause (D.faults disk.old) (D.faults disk.new) (D.steady disk.old) (D.steady disk.new) result }
+    ensures call { IsDiskRun D.DiskModel disk.old disk.new result }
+    ensures found { D.tells disk.old
+        → IfOk result (λ found. (before : ℕ) (name : List ℕ) → IsVerdict (D.view disk.old).seen before name (FileRole.Number NodeNumber.Writer) found) }
+    ensures disk { IfTold D.DiskModel disk.old disk.new Rests }
 {
     match read_held(alloc, disk, NodeNumber::Promised)? {
         Some(promised) => Ok(above_promise(writer, promised)),
@@ -95,10 +97,10 @@ fn check_held<D: Disk>(
 ) -> Result<Option<Finding>, DiskFail>
     requires { D.tells disk.old → IsNumber ((D.view disk.old).seen (number_name number)) held }
 
-    ensures tells { D.tells disk.old ↔ D.tells disk.new }
-    ensures found { D.tells disk.old → IfOk result (λ found. (before : ℕ) (name : List ℕ) → IsVerdict (D.view disk.old).seen before name (FileRole.Number number) found) }
-    ensures disk { D.tells disk.old → Rests (D.view disk.old) (D.view disk.new) }
-    ensures cause { HasCause (D.faults disk.old) (D.faults disk.new) (D.steady disk.old) (D.steady disk.new) result }
+    ensures call { IsDiskRun D.DiskModel disk.old disk.new result }
+    ensures found { D.tells disk.old
+        → IfOk result (λ found. (before : ℕ) (name : List ℕ) → IsVerdict (D.view disk.old).seen before name (FileRole.Number number) found) }
+    ensures disk { IfTold D.DiskModel disk.old disk.new Rests }
 {
     match number {
         NodeNumber::Writer => check_writer(alloc, disk, held),
@@ -113,10 +115,10 @@ pub fn check_number<D: Disk>(
     disk: &mut D,
     number: NodeNumber,
 ) -> Result<Option<Finding>, DiskFail>
-    ensures tells { D.tells disk.old ↔ D.tells disk.new }
-    ensures found { D.tells disk.old → IfOk result (λ found. (before : ℕ) (name : List ℕ) → IsVerdict (D.view disk.old).seen before name (FileRole.Number number) found) }
-    ensures disk { D.tells disk.old → Rests (D.view disk.old) (D.view disk.new) }
-    ensures cause { HasCause (D.faults disk.old) (D.faults disk.new) (D.steady disk.old) (D.steady disk.new) result }
+    ensures call { IsDiskRun D.DiskModel disk.old disk.new result }
+    ensures found { D.tells disk.old
+        → IfOk result (λ found. (before : ℕ) (name : List ℕ) → IsVerdict (D.view disk.old).seen before name (FileRole.Number number) found) }
+    ensures disk { IfTold D.DiskModel disk.old disk.new Rests }
 {
     match read_held(alloc, disk, number)? {
         Some(held) => check_held(alloc, disk, number, held),
@@ -141,10 +143,10 @@ fn is_fine(got: GotRecord) -> Result<bool, DiskFail>
 fn is_good_record<D: Disk>(alloc: Global, disk: &mut D, start: u64) -> Result<bool, DiskFail>
     requires { start ≤ 2 ^ 62 }
 
-    ensures tells { D.tells disk.old ↔ D.tells disk.new }
-    ensures good { D.tells disk.old → IfOk result (λ good. MatchBool good (IsRecordFile ((D.view disk.old).seen (name_of start Record))) (IsRecordFile ((D.view disk.old).seen (name_of start Record)) → ⊥)) }
-    ensures disk { D.tells disk.old → Rests (D.view disk.old) (D.view disk.new) }
-    ensures cause { HasCause (D.faults disk.old) (D.faults disk.new) (D.steady disk.old) (D.steady disk.new) result }
+    ensures call { IsDiskRun D.DiskModel disk.old disk.new result }
+    ensures good { D.tells disk.old
+        → IfOk result (λ good. MatchBool good (IsRecordFile ((D.view disk.old).seen (name_of start Record))) (IsRecordFile ((D.view disk.old).seen (name_of start Record)) → ⊥)) }
+    ensures disk { IfTold D.DiskModel disk.old disk.new Rests }
 {
     is_fine(PaxosFile::get(alloc, disk, start))
 }
@@ -157,10 +159,10 @@ pub fn check_record<D: Disk>(
 ) -> Result<Option<Finding>, DiskFail>
     requires { start ≤ 2 ^ 62 }
 
-    ensures tells { D.tells disk.old ↔ D.tells disk.new }
-    ensures found { D.tells disk.old → IfOk result (λ found. (before : ℕ) → IsVerdict (D.view disk.old).seen before (name_of start Record) (FileRole.Record start) found) }
-    ensures disk { D.tells disk.old → Rests (D.view disk.old) (D.view disk.new) }
-    ensures cause { HasCause (D.faults disk.old) (D.faults disk.new) (D.steady disk.old) (D.steady disk.new) result }
+    ensures call { IsDiskRun D.DiskModel disk.old disk.new result }
+    ensures found { D.tells disk.old
+        → IfOk result (λ found. (before : ℕ) → IsVerdict (D.view disk.old).seen before (name_of start Record) (FileRole.Record start) found) }
+    ensures disk { IfTold D.DiskModel disk.old disk.new Rests }
 {
     if is_good_record(alloc, disk, start)? {
         return Ok(None);

@@ -17,7 +17,7 @@ pub enum Rule {
     Start,
     /// A final segment ends where its name says.
     Last,
-    /// A final segment begins behind the one before it, by their names.
+    /// A final segment begins after the one before it, by their names.
     Apart,
     /// An image and the file of its digest are both there.
     Paired,

@@ -14,8 +14,8 @@ pub enum SegmentBytes {
     Whole { start: u64, next: u64 },
 }
 
-// What stands behind the header that bytes have.
-fn frames_behind(alloc: Global, bytes: &[u8], header: Header) -> SegmentBytes
+// What stands after the header that bytes have.
+fn frames_after(alloc: Global, bytes: &[u8], header: Header) -> SegmentBytes
     requires { HasHeader bytes.now header.start header.epoch }
     ensures { IsReadAs bytes.now result }
 {
@@ -38,7 +38,7 @@ pub fn read_segment_bytes(alloc: Global, bytes: &[u8]) -> SegmentBytes
     ensures { IsReadAs bytes.now result }
 {
     match read_header(bytes) {
-        Some(header) => frames_behind(alloc, bytes, header),
+        Some(header) => frames_after(alloc, bytes, header),
         None => SegmentBytes::Bad { place: 0 },
     }
 }

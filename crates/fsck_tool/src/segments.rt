@@ -1,7 +1,8 @@
 //! The files of segments are checked.
-ghost use Rattle.std.specs.Prelude.{◌≡◌, ◌↔◌, Some, IfOk};
+ghost use Rattle.std.specs.Prelude.{◌≡◌, Some, IfOk};
 ghost use Rattle.qj_disk.specs.Files.{bytes_of};
-ghost use Rattle.qj_disk.specs.Calls.{HasCause, Rests};
+ghost use Rattle.qj_disk.specs.Calls.{Rests};
+ghost use Rattle.qj_disk.specs.DiskCalls.{IfTold, IsDiskRun};
 ghost use Rattle.fsck_tool.specs.Segments.{IsReadAs};
 ghost use Rattle.fsck_tool.specs.Steps.{judged_progress, judged_whole, judged_final};
 
@@ -14,10 +15,10 @@ use std::alloc::Global;
 
 // All bytes of a file, and none of one that isn't there.
 fn read_file<D: Disk>(alloc: Global, disk: &mut D, name: &str) -> Result<Vec<u8>, DiskFail>
-    ensures tells { D.tells disk.old ↔ D.tells disk.new }
-    ensures bytes { D.tells disk.old → IfOk result (λ v. v.items ≡ bytes_of ((D.view disk.old).seen name.now)) }
-    ensures disk { D.tells disk.old → Rests (D.view disk.old) (D.view disk.new) }
-    ensures cause { HasCause (D.faults disk.old) (D.faults disk.new) (D.steady disk.old) (D.steady disk.new) result }
+    ensures call { IsDiskRun D.DiskModel disk.old disk.new result }
+    ensures bytes { D.tells disk.old
+        → IfOk result (λ v. v.items ≡ bytes_of ((D.view disk.old).seen name.now)) }
+    ensures disk { IfTold D.DiskModel disk.old disk.new Rests }
 {
     match disk.length(name)? {
         Some(size) => read_bytes(alloc, disk, name, size),
@@ -31,10 +32,10 @@ pub fn read_segment<D: Disk>(
     disk: &mut D,
     name: &str,
 ) -> Result<SegmentBytes, DiskFail>
-    ensures tells { D.tells disk.old ↔ D.tells disk.new }
-    ensures read { D.tells disk.old → IfOk result (IsReadAs (bytes_of ((D.view disk.old).seen name.now))) }
-    ensures disk { D.tells disk.old → Rests (D.view disk.old) (D.view disk.new) }
-    ensures cause { HasCause (D.faults disk.old) (D.faults disk.new) (D.steady disk.old) (D.steady disk.new) result }
+    ensures call { IsDiskRun D.DiskModel disk.old disk.new result }
+    ensures read { D.tells disk.old
+        → IfOk result (IsReadAs (bytes_of ((D.view disk.old).seen name.now))) }
+    ensures disk { IfTold D.DiskModel disk.old disk.new Rests }
 {
     let bytes = read_file(alloc, disk, name)?;
     Ok(read_segment_bytes(alloc, &bytes))

@@ -7,7 +7,7 @@ use Rattle.node_history.specs.declared.node_ask.NodeAsk.TheVariants.{Act, Kill, 
 use Rattle.node_history.specs.declared.node_ask.NodeAnswer.{NodeAnswer}
 use Rattle.node_history.specs.declared.history_line.HistoryLine.{HistoryLine}
 use Rattle.node_history.specs.declared.arming.Arming.{Arming}
-use Rattle.node_history.specs.Cell.{Cell, Taken, fresh_cell, cell_takes, requested, counted, replies, stops, kept_by, killed, started_again, armed, IsLocalRun, cell_after}
+use Rattle.node_history.specs.Cell.{Cell, Taken, fresh_cell, cell_takes, take_request, count_request, replies, stops, kept_by, take_kill, started_again, take_arming, IsLocalRun, cell_after}
 use Rattle.node_history.specs.NodeCells.{CellView, IsTaken, AnswerFits}
 use Rattle.mesh.proofs.Tied.{local_snoc, cell_snoc}
 use Rattle.gate_seats.specs.Entries.{IsReplyOrStop, IsDoneOrIdle, FitsAsk}
@@ -35,15 +35,15 @@ counted_fits : (c : Cell) (r : Request) (a : Arming) (b : Bool) → IsReplyOrSto
 counted_fits c r a true = tt
 counted_fits c r a false = tt
 
-armed_fits : (c : Cell) (r : Request) (o : Option Arming) → IsReplyOrStop (counted c.state r o).answer
+armed_fits : (c : Cell) (r : Request) (o : Option Arming) → IsReplyOrStop (count_request c.state r o).answer
 armed_fits c r None = tt
 armed_fits c r (Some a) = counted_fits c r a (nat_lt 1 a.calls)
 
-request_fits : (c : Cell) (r : Request) (up : Bool) → IsReplyOrStop (requested up c r).answer
+request_fits : (c : Cell) (r : Request) (up : Bool) → IsReplyOrStop (take_request up c r).answer
 request_fits c r true = armed_fits c r c.arming
 request_fits c r false = tt
 
-kill_fits : (c : Cell) (up : Bool) → IsDoneOrIdle (killed up c).answer
+kill_fits : (c : Cell) (up : Bool) → IsDoneOrIdle (take_kill up c).answer
 kill_fits c true = tt
 kill_fits c false = tt
 
@@ -51,7 +51,7 @@ restart_fits : (c : Cell) (up : Bool) → IsDoneOrIdle (started_again up c).answ
 restart_fits c true = tt
 restart_fits c false = tt
 
-arm_fits : (c : Cell) (a : Arming) (up : Bool) → IsDoneOrIdle (armed up c a).answer
+arm_fits : (c : Cell) (a : Arming) (up : Bool) → IsDoneOrIdle (take_arming up c a).answer
 arm_fits c a true = tt
 arm_fits c a false = tt
 

@@ -29,7 +29,7 @@ use Rattle.caller_seats.specs.declared.delivery.Delivery.TheVariants.{Delivered,
 use Rattle.caller_seats.specs.Deliveries.{told_of, is_done}
 use Rattle.caller_seats.specs.Logs.{LogView, with_line}
 use Rattle.caller_seats.proofs.Fitting.{hears_fits}
-use Rattle.gate_seats.specs.Seated.{Seat, AreSeated, IsTold, Tied, Goes}
+use Rattle.gate_seats.specs.Seated.{Seat, AreSeated, IsTold, IsTied, Goes}
 
 -- ## Answers
 pub if_ok : {A E : Type 0} {P Q : A → Type 0} (r : Result A E) → ((a : A) → P a → Q a) → IfOk r P → IfOk r Q
@@ -87,11 +87,11 @@ not_acted c seen seen2 places places2 p q b e =
     ap (own_lines c) (sym b.1) ∙ own_same c seen b.0 (ap (λ l. length (places_of c l)) b.1 ∙ ap length (q ∙ e ∙ sym p))
 
 -- ## A line of the record
-pub tied_one : (k : ℕ) (r : Record) (h : HistoryLine) (own own2 : List HistoryLine) → reaches k r ≡ true → IsSame r h → own2 ≡ own ++ h ∷ [] → Tied k r own own2
+pub tied_one : (k : ℕ) (r : Record) (h : HistoryLine) (own own2 : List HistoryLine) → reaches k r ≡ true → IsSame r h → own2 ≡ own ++ h ∷ [] → IsTied k r own own2
 tied_one k r h own own2 e s is rs a =
     subst (λ l. AreSame l own2) (sym (reached_at k rs r e)) (subst (AreSame (reached k rs ++ r ∷ [])) (sym is) (same_snoc (reached k rs) own r h a s))
 
-pub tied_none : (k : ℕ) (r : Record) (own own2 : List HistoryLine) → reaches k r ≡ false → own2 ≡ own → Tied k r own own2
+pub tied_none : (k : ℕ) (r : Record) (own own2 : List HistoryLine) → reaches k r ≡ false → own2 ≡ own → IsTied k r own own2
 tied_none k r own own2 e is rs a = subst (λ l. AreSame l own2) (sym (reached_off k rs r e)) (subst (AreSame (reached k rs)) (sym is) a)
 
 -- what reaches a node, by its kind
@@ -118,21 +118,21 @@ plain_stands Done f = absurd f
 plain_stands Idle f = absurd f
 plain_stands (NotOpened x) f = absurd f
 
-pub tied_dropped : (k : ℕ) (r : Request) (own : List HistoryLine) → Tied k (Call k r told.Dropped) own own
+pub tied_dropped : (k : ℕ) (r : Request) (own : List HistoryLine) → IsTied k (Call k r told.Dropped) own own
 unfolding reaches
 tied_dropped k r own = tied_none k (Call k r told.Dropped) own own refl refl
 
-pub tied_muted : (k c : ℕ) (r : Request) (a : NodeAnswer) (own own2 : List HistoryLine) → own2 ≡ own ++ record { caller = c; ask = Act false r; answer = a } ∷ [] → Tied k (Call k r told.Muted) own own2
+pub tied_muted : (k c : ℕ) (r : Request) (a : NodeAnswer) (own own2 : List HistoryLine) → own2 ≡ own ++ record { caller = c; ask = Act false r; answer = a } ∷ [] → IsTied k (Call k r told.Muted) own own2
 unfolding IsSame
 tied_muted k c r a own own2 is =
     tied_one k (Call k r told.Muted) (record { caller = c; ask = Act false r; answer = a }) own own2 (call_reaches k k r told.Muted (λ e. cc e) ∙ same_test k k refl) (refl, tt) is
 
 pub tied_heard : (k c : ℕ) (r : Request) (a : NodeAnswer) (t : Told) (own own2 : List HistoryLine) → t ≡ told_of Delivered a → IsReplyOrStop a → own2 ≡ own ++ record { caller = c; ask = Act false r; answer = a } ∷ []
-    → Tied k (Call k r t) own own2
+    → IsTied k (Call k r t) own own2
 unfolding IsSame
 tied_heard k c r a t own own2 e f is =
     let p = plain_stands a f in
-    subst (λ (x : Told). Tied k (Call k r x) own own2) (sym e)
+    subst (λ (x : Told). IsTied k (Call k r x) own own2) (sym e)
     (tied_one k (Call k r (told_of Delivered a)) (record { caller = c; ask = Act false r; answer = a }) own own2 (call_reaches k k r (told_of Delivered a) p.1 ∙ same_test k k refl) (refl, p.0) is)
 
 pub told_dropped : IsTold NotDelivered told.Dropped
@@ -146,7 +146,7 @@ told_muted = record { answer = Done; is = refl }
 pub told_heard : (a : NodeAnswer) (t : Told) → t ≡ told_of Delivered a → IsTold Delivered t
 told_heard a t e = record { answer = a; is = e }
 
-pub tied_late : (k c : ℕ) (r : Request) (a : NodeAnswer) (own own2 : List HistoryLine) → own2 ≡ own ++ record { caller = c; ask = Act true r; answer = a } ∷ [] → Tied k (Late k r) own own2
+pub tied_late : (k c : ℕ) (r : Request) (a : NodeAnswer) (own own2 : List HistoryLine) → own2 ≡ own ++ record { caller = c; ask = Act true r; answer = a } ∷ [] → IsTied k (Late k r) own own2
 unfolding IsSame reaches
 tied_late k c r a own own2 is = tied_one k (Late k r) (record { caller = c; ask = Act true r; answer = a }) own own2 (same_test k k refl) refl is
 
@@ -165,7 +165,7 @@ operated Restart a o f = f
 operated (Arm calls stop) a o f = f
 
 pub tied_operated : (k c : ℕ) (ask : NodeAsk) (a : NodeAnswer) (own own2 : List HistoryLine) → IsOperation ask → FitsAsk ask a → own2 ≡ own ++ record { caller = c; ask = ask; answer = a } ∷ []
-    → Tied k (Operator k ask (is_done a)) own own2
+    → IsTied k (Operator k ask (is_done a)) own own2
 unfolding IsSame reaches
 tied_operated k c ask a own own2 o f is =
     tied_one k (Operator k ask (is_done a)) (record { caller = c; ask = ask; answer = a }) own own2 (same_test k k refl) (refl, done_is a (operated ask a o f)) is
@@ -173,14 +173,14 @@ tied_operated k c ask a own own2 o f is =
 -- ## The log and the lines of one node
 -- a line that reached this node alone
 pub goes_line : (node : ℕ) (old new : LogView) (own own2 : List HistoryLine) (line : Record) → new.nodes ≡ old.nodes → new.whole ≡ old.whole → new.past ≡ old.past ++ line ∷ []
-    → Tied node line own own2 → ((k : ℕ) → (k ≡ node → ⊥) → reaches k line ≡ false) → Goes node old own new own2
+    → IsTied node line own own2 → ((k : ℕ) → (k ≡ node → ⊥) → reaches k line ≡ false) → Goes node old own new own2
 goes_line node old new own own2 line n w more tied off = record {
   nodes = n;
   same = λ x. (sym w ∙ x, λ a. subst (λ l. AreSame (reached node l) own2) (sym more) (tied old.past a));
   others = λ x k apart. ap (reached k) more ∙ reached_off k old.past line (off k apart);
 }
 
-pub goes_with : (node : ℕ) (old new : LogView) (own own2 : List HistoryLine) (line : Record) → new ≡ with_line old line → Tied node line own own2 → ((k : ℕ) → (k ≡ node → ⊥) → reaches k line ≡ false)
+pub goes_with : (node : ℕ) (old new : LogView) (own own2 : List HistoryLine) (line : Record) → new ≡ with_line old line → IsTied node line own own2 → ((k : ℕ) → (k ≡ node → ⊥) → reaches k line ≡ false)
     → Goes node old own new own2
 goes_with node old new own own2 line e tied off = goes_line node old new own own2 line (ap (λ l. l.nodes) e) (ap (λ l. l.whole) e) (ap (λ l. l.past) e) tied off
 

@@ -46,8 +46,8 @@ pub record IsTold (delivery : Delivery) (told : Told) : Type 0 where
   pub is : told ≡ told_of delivery answer
 
 -- with this line in the record the caller's own lines of the node go on so
-abbrev pub Tied : ℕ → Record → List HistoryLine → List HistoryLine → Type 0
-Tied node line old new = (rs : List Record) → AreSame (reached node rs) old → AreSame (reached node (rs ++ line ∷ [])) new
+abbrev pub IsTied : ℕ → Record → List HistoryLine → List HistoryLine → Type 0
+IsTied node line old new = (rs : List Record) → AreSame (reached node rs) old → AreSame (reached node (rs ++ line ∷ [])) new
 
 -- the log and the caller's own lines of one node went on together, and no other node was reached
 pub record Goes (node : ℕ) (old : LogView) (own : List HistoryLine) (new : LogView) (own2 : List HistoryLine) : Type 0 where

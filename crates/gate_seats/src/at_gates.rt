@@ -8,9 +8,9 @@ ghost use Rattle.node_history.specs.NodeCells.{AnswerFits};
 ghost use Rattle.mesh.specs.Makers.{IsOperation, heard_of};
 ghost use Rattle.mesh.specs.Marks.{IsMarked, AreCopied};
 ghost use Rattle.mesh.specs.Matches.{AreWithin};
-ghost use Rattle.caller_seats.specs.Logs.{new_log, with_line, losing, copying, earlier_call, mark_kind, IsCalled, IsCopied};
+ghost use Rattle.caller_seats.specs.Logs.{new_log, with_line, lose_call, copy_call, earlier_call, mark_kind, IsCalled, IsCopied};
 ghost use Rattle.gate_seats.specs.Entries.{own_lines, IsReplyOrStop, FitsAsk};
-ghost use Rattle.gate_seats.specs.Seated.{seat_of, AreSeated, AreLater, IsTold, Tied, Goes};
+ghost use Rattle.gate_seats.specs.Seated.{seat_of, AreSeated, AreLater, IsTold, IsTied, Goes};
 
 use crate::gated_node::NodeGate;
 use crate::pass::Pass;
@@ -74,7 +74,7 @@ fn deliver<R: Wait, C: NodeGate>(
     ensures same { (seat.new.seat.table_id ≡ seat.old.seat.table_id) × (seat.new.caller ≡ seat.old.caller) }
     ensures told { IfOk result (λ told. IsTold delivery told) }
     ensures fits { IfOk result (λ told. FitsHeard request.now (heard_of told)) }
-    ensures tied { IfOk result (λ told. (k : ℕ) → Tied k (Call k request.now told) (own_lines seat.old.caller seat.old.seat.me.0.seen) (own_lines seat.new.caller seat.new.seat.me.0.seen)) }
+    ensures tied { IfOk result (λ told. (k : ℕ) → IsTied k (Call k request.now told) (own_lines seat.old.caller seat.old.seat.me.0.seen) (own_lines seat.new.caller seat.new.seat.me.0.seen)) }
     ensures err { OnErr result (own_lines seat.new.caller seat.new.seat.me.0.seen ≡ own_lines seat.old.caller seat.old.seat.me.0.seen) }
 {
     match delivery {
@@ -138,7 +138,7 @@ fn copy_through<R: Wait, C: NodeGate>(
     requires whole { log.old.whole ≡ true }
     ensures same { (seat.new.seat.table_id ≡ seat.old.seat.table_id) × (seat.new.caller ≡ seat.old.caller) }
     ensures goes { Goes node log.old (own_lines seat.old.caller seat.old.seat.me.0.seen) log.new (own_lines seat.new.caller seat.new.seat.me.0.seen) }
-    ensures ok { OnOk result (log.new ≡ copying log.old node number request) }
+    ensures ok { OnOk result (log.new ≡ copy_call log.old node number request) }
 {
     let _ = ask_request(rt, gate, seat, true, &request)?;
     log.copy(node, number, request)?;

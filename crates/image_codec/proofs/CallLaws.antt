@@ -18,9 +18,6 @@ use Rattle.image_codec.specs.Laws.{IsBytes, IsSent}
 use Rattle.image_codec.proofs.FieldLaws.{bind_ok, ok_is, wanted_ok, Takes, Takes-then, IsBytes-drop, wide32, wide64, whole_takes, whole_again, number_takes, number_again}
 use Rattle.image_codec.proofs.Items.{AreNext, OneTaken, many_take, many_again}
 
-abbrev pub noted_as : List ℕ → ℕ → ℕ → Noted
-noted_as client number txid = record { call = record { client = client; number = number }; txid = txid }
-
 -- ## Clients
 client_takes : {bytes : List ℕ} {x : List ℕ × List ℕ} → IsBytes bytes → client_at bytes ≡ Ok x → Takes bytes x.0 x.1 × (length x.0 ≡ 16)
 unfolding client_at

@@ -215,10 +215,6 @@ file_again replication mtime atime block_size permission user group lengths flag
     ) (after_again replication mtime atime block_size permission user group lengths flag rest good.0 good.2 good.3 good.7 good.8)
 
 -- ## Inodes
--- what the kind tells
-kind_byte : Inode → ℕ
-kind_byte (Dir mtime permission user group names space) = 0
-kind_byte (File replication mtime atime block_size permission user group lengths under_construction) = 1
 
 by_kind : (byte : ℕ) (bytes : List ℕ) (x : Inode × List ℕ) → byte ≤ 1 → IsBytes bytes → cond (byte == 0) (dir_at bytes) (file_at bytes) ≡ Ok x
     → Takes (byte ∷ bytes) (inode_bytes x.0) x.1 × IsInode x.0

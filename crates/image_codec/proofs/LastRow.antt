@@ -14,7 +14,7 @@ use Rattle.ns_tree.proofs.Order.{same_text_is, same_text_self}
 use Rattle.ns_tree.proofs.Finds.{or_in, find_append}
 use Rattle.ns_tree.proofs.Walks.{each_imp}
 use Rattle.ns_tree.proofs.Place.{find_gap}
-use Rattle.ns_tree.proofs.Pairs.{Below, below_root, slash_behind, stem_same}
+use Rattle.ns_tree.proofs.Pairs.{Below, below_root, slash_after, stem_same}
 use Rattle.ns_tree.proofs.Subtree.{under_between}
 use Rattle.ns_tree.proofs.Ancestors.{no_dir_empty}
 use Rattle.ns_tree.proofs.Last.{some_rows, gap_at_end}
@@ -31,7 +31,7 @@ parent_above p good below = ap (begins_with (stem (parent_of p) ++ 47 ∷ [])) (
     parts = below_root p good below
 
     behind : begins_with (before_last_slash p ++ 47 ∷ []) p ≡ true
-    behind = slash_behind p parts.slash
+    behind = slash_after p parts.slash
 
     one_less : (c : ℕ) (q : List ℕ) → (c == 47) ≡ true → begins_with (c ∷ 47 ∷ []) q ≡ true → begins_with (47 ∷ []) q ≡ true
     one_less c [] s h = absurd (cc h)
@@ -156,8 +156,6 @@ module _ (rows : List Row) (h : IsTree (record { pairs = rows; calls = [] })) (p
       by false is = same_bool (has_parent p rows) (is_under (parent_of p) (last_path rows)) (last_below is) above_there
 
 -- ## One row more
-pub ends_first : (root : Inode) → IsInode root → is_dir root ≡ true → EndsAt (root_row root ∷ []) (47 ∷ []) true
-ends_first root good dir = record { tree = root_alone root good dir; last = refl; kind = dir }
 
 pub ends_next : (rows : List Row) (path : List ℕ) (directory : Bool) (row : Row) → EndsAt rows path directory → MayStand rows row → EndsAt (rows ++ row ∷ []) row.path (is_dir row.inode)
 ends_next rows path directory row ends may = record {

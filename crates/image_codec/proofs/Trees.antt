@@ -18,7 +18,7 @@ use Rattle.ns_tree.proofs.Finds.{or_in, find_append}
 use Rattle.ns_tree.proofs.Walks.{each_imp}
 use Rattle.ns_tree.proofs.Place.{each_right, order_right}
 use Rattle.ns_tree.proofs.Last.{sound_append}
-use Rattle.ns_tree.proofs.Pairs.{Below, below_root, slash_behind}
+use Rattle.ns_tree.proofs.Pairs.{Below, below_root, slash_after}
 use Rattle.ns_tree.proofs.Tails.{begins_split}
 use Rattle.image_codec.specs.Rows.{MayStand}
 use Rattle.image_codec.proofs.RowLaws.{root_row, MayGoOn}
@@ -74,7 +74,7 @@ parent_less p good below = by (before_last_slash p) refl
     parts = below_root p good below
 
     split : p ≡ (before_last_slash p ++ 47 ∷ []) ++ drop (length (before_last_slash p ++ 47 ∷ [])) p
-    split = begins_split (before_last_slash p ++ 47 ∷ []) p (slash_behind p parts.slash)
+    split = begins_split (before_last_slash p ++ 47 ∷ []) p (slash_after p parts.slash)
 
     first_slash : (q : List ℕ) → is_path q ≡ true → (b : ℕ) (c : ℕ) (bs : List ℕ) → q ≡ b ∷ c ∷ bs → q ≡ 47 ∷ c ∷ bs
     first_slash q good b c bs is =

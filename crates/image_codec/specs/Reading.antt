@@ -1,5 +1,5 @@
 -- Images from bytes, from left to right: what stands at the front and what is left, or the first fault.
-use Rattle.std.specs.Prelude.{◌≡◌, ℕ, zero, suc, ◌+◌, ◌-◌, ◌^◌, Bool, ◌&&◌, ◌==◌, nat_le, List, [], ◌∷◌, ◌++◌, length, take, drop, is_none, Result, Ok, Err, if◌then◌else◌}
+use Rattle.std.specs.Prelude.{◌≡◌, ℕ, zero, suc, ◌+◌, ◌-◌, ◌^◌, Bool, true, false, ◌&&◌, ◌==◌, nat_le, List, [], ◌∷◌, ◌++◌, length, take, drop, is_none, Result, Ok, Err, if◌then◌else◌}
 use Rattle.std.specs.Int.{Width, w16, w32, w64, byte_len, from_be_bytes}
 use Rattle.edit_ops.specs.declared.edit.Call.{Call}
 use Rattle.ns_tree.specs.declared.inode.Inode.{Inode}
@@ -31,6 +31,12 @@ Fails (errors.Fault f) read = read ≡ Err f
 abbrev pub Gives : {X Y : Type 0} → (X → Y) → Result X ReadError → Result Y Fault → Type 0
 Gives view (Ok x) read = read ≡ Ok (view x)
 Gives view (Err e) read = Fails e read
+
+-- a reader found no memory
+abbrev pub wants_memory : {X : Type 0} → Result X ReadError → Bool
+wants_memory (Ok x) = false
+wants_memory (Err errors.Memory) = true
+wants_memory (Err (errors.Fault f)) = false
 
 -- this is wrong with what stands at the front of these bytes
 abbrev pub fault_at : ImageCause → List ℕ → Fault

@@ -1,10 +1,10 @@
 //! The fields of an image, from bytes.
-ghost use Rattle.std.specs.Prelude.{◌≡◌, ◌∷◌, [], ◌^◌, ◌+◌, ◌≤◌, true, length, IfOk};
+ghost use Rattle.std.specs.Prelude.{◌≡◌, ◌∷◌, [], ◌^◌, ◌+◌, ◌≤◌, true, false, length, IfOk};
 ghost use Rattle.std.specs.Int.{w16, w32, w64};
 ghost use Rattle.ns_tree.specs.Path.{is_path, is_owner};
 ghost use Rattle.ns_tree.specs.Space.{AreLengths};
 ghost use Rattle.image_codec.specs.declared.image_cause.ImageCause.TheVariants as causes;
-ghost use Rattle.image_codec.specs.Reading.{Gives, byte_at, whole_at, number_at, text_at, path_at, owner_at, amount_at, size_at, permission_at, repeated, length_at, blocks_at, client_at};
+ghost use Rattle.image_codec.specs.Reading.{Gives, wants_memory, byte_at, whole_at, number_at, text_at, path_at, owner_at, amount_at, size_at, permission_at, repeated, length_at, blocks_at, client_at};
 
 use crate::fault::{ReadError, wrong_at};
 use crate::image_cause::ImageCause;
@@ -52,7 +52,8 @@ fn whole16_of(bytes: &[u8]) -> Result<(u16, &[u8]), ReadError>
 
 #[tactic(auto, unfolding(crate::specs::Reading::whole_at))]
 pub(crate) fn whole32_of(bytes: &[u8]) -> Result<(u32, &[u8]), ReadError>
-    ensures { Gives (λ x. (x.0, x.1.now)) result (whole_at w32 bytes.now) }
+    ensures read { Gives (λ x. (x.0, x.1.now)) result (whole_at w32 bytes.now) }
+    ensures memory { wants_memory result ≡ false }
 {
     if bytes.len() < 4 {
         return Err(wrong_at(ImageCause::Short, bytes));
@@ -64,7 +65,8 @@ pub(crate) fn whole32_of(bytes: &[u8]) -> Result<(u32, &[u8]), ReadError>
 
 #[tactic(auto, unfolding(crate::specs::Reading::whole_at))]
 fn whole64_of(bytes: &[u8]) -> Result<(u64, &[u8]), ReadError>
-    ensures { Gives (λ x. (x.0, x.1.now)) result (whole_at w64 bytes.now) }
+    ensures read { Gives (λ x. (x.0, x.1.now)) result (whole_at w64 bytes.now) }
+    ensures memory { wants_memory result ≡ false }
 {
     if bytes.len() < 8 {
         return Err(wrong_at(ImageCause::Short, bytes));
@@ -102,6 +104,7 @@ pub(crate) fn word_of(
 ) -> Result<(u32, &[u8]), ReadError>
     ensures read { Gives (λ x. (x.0, x.1.now)) result (number_at w32 low high cause bytes.now) }
     ensures good { IfOk result (λ x. (low ≤ x.0) × (x.0 ≤ high)) }
+    ensures memory { wants_memory result ≡ false }
 {
     let (number, rest) = whole32_of(bytes)?;
     if number < low {
@@ -118,6 +121,7 @@ pub(crate) fn word_of(
 pub(crate) fn long_of(bytes: &[u8], low: u64, high: u64) -> Result<(u64, &[u8]), ReadError>
     ensures read { Gives (λ x. (x.0, x.1.now)) result (number_at w64 low high causes.Field bytes.now) }
     ensures good { IfOk result (λ x. (low ≤ x.0) × (x.0 ≤ high)) }
+    ensures memory { wants_memory result ≡ false }
 {
     let (number, rest) = whole64_of(bytes)?;
     if number < low {
@@ -133,6 +137,7 @@ pub(crate) fn long_of(bytes: &[u8], low: u64, high: u64) -> Result<(u64, &[u8]),
 pub(crate) fn amount_of(bytes: &[u8]) -> Result<(u64, &[u8]), ReadError>
     ensures read { Gives (λ x. (x.0, x.1.now)) result (amount_at bytes.now) }
     ensures good { IfOk result (λ x. x.0 ≤ 2 ^ 62) }
+    ensures memory { wants_memory result ≡ false }
 {
     long_of(bytes, 0, MAX)
 }

@@ -1,8 +1,8 @@
 //! Images from bytes.
-ghost use Rattle.std.specs.Prelude.{◌≡◌, ◌-◌, ◌^◌, ◌≤◌, ◌==◌, true, false, length, IfOk, IfErr, OnOk, OnErr};
+ghost use Rattle.std.specs.Prelude.{◌≡◌, ◌-◌, ◌^◌, ◌≤◌, ◌==◌, true, false, is_ok, length, IfOk, IfErr, IsErrOf, OnOk, OnErr};
 ghost use Rattle.image_codec.specs.declared.image_cause.ImageCause.TheVariants as causes;
 ghost use Rattle.image_codec.specs.declared.fault.ReadError.TheVariants as errors;
-ghost use Rattle.image_codec.specs.Reading.{Gives, Told, fault_at, head_at, told, reading_of};
+ghost use Rattle.image_codec.specs.Reading.{Gives, wants_memory, Told, fault_at, head_at, told, reading_of};
 ghost use Rattle.image_codec.specs.Rows.{GivesSome, HasRead};
 ghost use Rattle.image_codec.specs.Laws.{IsWithin};
 
@@ -28,10 +28,12 @@ struct Parts {
     txid: u64,
 }
 
+/// The layout and the txid with which an image begins. Takes no memory.
 #[tactic(auto, unfolding(crate::specs::Reading::head_at))]
 fn head_of(bytes: &[u8]) -> Result<((u32, u64), &[u8]), ReadError>
     ensures read { Gives (λ x. ((x.0.0, x.0.1), x.1.now)) result (head_at bytes.now) }
     ensures txid { IfOk result (λ x. x.0.1 ≤ 2 ^ 62) }
+    ensures memory { wants_memory result ≡ false }
 {
     let (_, rest) = word_of(bytes, MAGIC, MAGIC, ImageCause::Magic)?;
     let (layout, rest) = word_of(rest, 1, 2, ImageCause::Layout)?;
@@ -53,7 +55,8 @@ fn end_of(rest: &[u8]) -> Result<(), ReadError>
 
 #[tactic(auto, unfolding(crate::specs::Reading::told))]
 fn parts_of(alloc: Global, bytes: &[u8]) -> Result<Parts, ReadError>
-    ensures { Gives (λ x. record { layout = x.layout; space = x.namespace; txid = x.txid }) result (told bytes.now) }
+    ensures told { Gives (λ x. record { layout = x.layout; space = x.namespace; txid = x.txid }) result (told bytes.now) }
+    ensures head { wants_memory result ≡ true → is_ok (head_at bytes.now) ≡ true }
 {
     let ((layout, txid), rest) = head_of(bytes)?;
     let (mut namespace, rest) = tree_of(alloc, rest)?;
@@ -66,10 +69,11 @@ fn parts_of(alloc: Global, bytes: &[u8]) -> Result<Parts, ReadError>
     })
 }
 
-// What has taken the rows of an image; the calls behind them are read and not kept.
+// What has taken the rows of an image; the calls after them are read and not kept.
 #[tactic(auto, unfolding(crate::specs::Reading::told))]
 fn sink_of<S: RowSink>(alloc: Global, bytes: &[u8]) -> Result<S, ReadError>
-    ensures { GivesSome (λ sink image. S.has_taken sink image.space.pairs) result (told bytes.now) }
+    ensures told { GivesSome (λ sink image. S.has_taken sink image.space.pairs) result (told bytes.now) }
+    ensures head { wants_memory result ≡ true → is_ok (head_at bytes.now) ≡ true }
 {
     let ((layout, txid), rest) = head_of(bytes)?;
     let (sink, rest) = rows_of::<S>(alloc, rest)?;
@@ -87,7 +91,8 @@ fn place_of(bytes: &[u8], fault: Fault) -> usize
 }
 
 fn reading_in(alloc: Global, bytes: &[u8]) -> Result<ReadImage, OutOfMemory>
-    ensures { IfOk result (λ read. read ≡ reading_of bytes.now) }
+    ensures reading { IfOk result (λ read. read ≡ reading_of bytes.now) }
+    ensures head { OnErr result (is_ok (head_at bytes.now) ≡ true) }
 {
     match parts_of(alloc, bytes) {
         Ok(
@@ -106,18 +111,21 @@ fn reading_in(alloc: Global, bytes: &[u8]) -> Result<ReadImage, OutOfMemory>
 }
 
 /// What the bytes tell: an image of layout 1 or 2, all of them, or the first fault from the left. An `Err` is
-/// want of memory alone. The txid of an image is at most 2^62, and no call that its namespace remembers is above it.
+/// lack of memory alone, which is taken only where the magic, the layout and the txid in front are right. The txid of an image is at
+/// most 2^62, and no call that its namespace remembers is above it.
 pub fn read_image(alloc: Global, bytes: &[u8]) -> Result<ReadImage, OutOfMemory>
     ensures reading { IfOk result (λ read. read ≡ reading_of bytes.now) }
     ensures within { IfOk result (λ read. IsWithin read) }
+    ensures head { OnErr result (is_ok (head_at bytes.now) ≡ true) }
 {
     reading_in(alloc, bytes)
 }
 
 /// What has taken the rows of the image that all of the bytes are, one by one: no more of them is kept. Of other
-/// bytes it is the first fault from the left, as `read_image` tells it.
+/// bytes it is the first fault from the left, as `read_image` tells it; a fault before the rows takes no memory.
 pub fn read_rows<S: RowSink>(alloc: Global, bytes: &[u8]) -> Result<S, Unread>
-    ensures { HasRead S.has_taken (reading_of bytes.now) result }
+    ensures read { HasRead S.has_taken (reading_of bytes.now) result }
+    ensures head { IsErrOf result Unread.OutOfMemory → is_ok (head_at bytes.now) ≡ true }
 {
     match sink_of::<S>(alloc, bytes) {
         Ok(sink) => Ok(sink),

@@ -55,15 +55,6 @@ txid_added name rest t old new named updates = record { each = λ q. (to q (case
     from q (inr ne) (inl old_has) = subst (λ (b : Bool). IsTrue b) (sym (updates.2 q (other_at t q ne))) old_has
     from q (inr ne) (inr is) = absurd (ne (one_txid name rest t q named is))
 
--- one name more
-pub none_named : (rest : List ℕ) (txids : BTreeSet ℕ) → ((q : ℕ) → contains nat_cmp txids q ≡ false) → AreTxids [] rest txids
-none_named rest txids empty = record {
-  each = λ q. (λ is. let e = empty q in absurd (cc), λ has. absurd (no_name has.name has.among));
-}
-  where
-    no_name : (name : List ℕ) → Contains [] name → ⊥
-    no_name name among = let lt : among.0 < 0 = among.1 in omega (arith, lt)
-
 pub one_name_more : (names next : List (List ℕ)) (name rest : List ℕ) (old new : BTreeSet ℕ) → next ≡ names ++ name ∷ [] → AreTxids names rest old → AddsTxid name rest old new → AreTxids next rest new
 one_name_more names next name rest old new is are adds = subst (λ (l : List (List ℕ)). AreTxids l rest new) (sym is) record { each = λ q. (to q, from q) }
   where

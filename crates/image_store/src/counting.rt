@@ -1,9 +1,10 @@
 //! The images that count.
-ghost use Rattle.std.specs.Prelude.{◌≡◌, ◌↔◌, IfOk, OnOk, map, string_bytes};
+ghost use Rattle.std.specs.Prelude.{◌≡◌, IfOk, OnOk, map, string_bytes};
 ghost use Rattle.std.specs.List.Sorted.{IsStrictlySortedBy};
 ghost use Rattle.std.specs.Ordering.{nat_cmp};
 ghost use Rattle.std.specs.BTreeSet.{IsIntersection};
-ghost use Rattle.qj_disk.specs.Calls.{HasCause, Rests};
+ghost use Rattle.qj_disk.specs.Calls.{Rests};
+ghost use Rattle.qj_disk.specs.DiskCalls.{IfTold, IsDiskRun};
 ghost use Rattle.image_store.specs.Images.{ListsImages};
 ghost use Rattle.image_store.specs.Lists.{AddsTxid, AllSmall, AreTxids, ListsNamed};
 
@@ -59,11 +60,11 @@ fn txids_in(alloc: Global, names: &[String]) -> Result<Vec<u64>, AllocError>
 
 /// The txids of the images that count, in order and each once.
 pub fn counting<D: Disk>(alloc: Global, disk: &mut D) -> Result<Vec<u64>, DiskFail>
-    ensures tells { D.tells disk.old ↔ D.tells disk.new }
-    ensures images { D.tells disk.old → IfOk result (λ txids. ListsImages txids.items (D.view disk.old).seen) }
+    ensures call { IsDiskRun D.DiskModel disk.old disk.new result }
+    ensures images { D.tells disk.old
+        → IfOk result (λ txids. ListsImages txids.items (D.view disk.old).seen) }
     ensures small { IfOk result (λ txids. AllSmall txids.items) }
-    ensures disk { D.tells disk.old → Rests (D.view disk.old) (D.view disk.new) }
-    ensures cause { HasCause (D.faults disk.old) (D.faults disk.new) (D.steady disk.old) (D.steady disk.new) result }
+    ensures disk { IfTold D.DiskModel disk.old disk.new Rests }
 {
     let names = disk.list()?;
     Ok(txids_in(alloc, &names)?)

@@ -1,6 +1,7 @@
 //! What the images that count tell of the log.
-ghost use Rattle.std.specs.Prelude.{◌≡◌, ◌≢◌, ◌↔◌, ◌≤◌, ◌^◌, [], IfSome, MatchOption};
-ghost use Rattle.qj_disk.specs.Calls.{HasCause, Rests};
+ghost use Rattle.std.specs.Prelude.{◌≡◌, ◌≢◌, ◌≤◌, ◌^◌, [], IfSome, MatchOption};
+ghost use Rattle.qj_disk.specs.Calls.{Rests};
+ghost use Rattle.qj_disk.specs.DiskCalls.{IfTold, IsDiskRun};
 ghost use Rattle.image_store.specs.Lists.{AllSmall, second_newest};
 ghost use Rattle.image_store.specs.Answers.{newest_result, kept_result, IsNewest, IsKeptFrom, IsNewestIn, IsKeptIn};
 
@@ -22,10 +23,9 @@ fn newest_in(txids: &[u64]) -> Newest
 
 /// The newest image that counts. Nothing changes.
 pub fn newest<D: Disk>(alloc: Global, disk: &mut D) -> Newest
-    ensures tells { D.tells disk.old ↔ D.tells disk.new }
+    ensures call { IsDiskRun D.DiskModel disk.old disk.new (newest_result result) }
     ensures newest { D.tells disk.old → IsNewest (D.view disk.old).seen result }
-    ensures disk { D.tells disk.old → Rests (D.view disk.old) (D.view disk.new) }
-    ensures cause { HasCause (D.faults disk.old) (D.faults disk.new) (D.steady disk.old) (D.steady disk.new) (newest_result result) }
+    ensures disk { IfTold D.DiskModel disk.old disk.new Rests }
 {
     match counting(alloc, disk) {
         Ok(txids) => newest_in(&txids),
@@ -62,10 +62,9 @@ fn kept_in(txids: &[u64], extra: u64) -> MinToKeep
 /// The first txid that the log has to keep so that it goes on from the older of the two newest images, or
 /// from the only one, with so many more before it: 1 at least. Nothing changes.
 pub fn min_to_keep<D: Disk>(alloc: Global, disk: &mut D, extra: u64) -> MinToKeep
-    ensures tells { D.tells disk.old ↔ D.tells disk.new }
+    ensures call { IsDiskRun D.DiskModel disk.old disk.new (kept_result result) }
     ensures kept { D.tells disk.old → IsKeptFrom (D.view disk.old).seen extra result }
-    ensures disk { D.tells disk.old → Rests (D.view disk.old) (D.view disk.new) }
-    ensures cause { HasCause (D.faults disk.old) (D.faults disk.new) (D.steady disk.old) (D.steady disk.new) (kept_result result) }
+    ensures disk { IfTold D.DiskModel disk.old disk.new Rests }
 {
     match counting(alloc, disk) {
         Ok(txids) => kept_in(&txids, extra),

@@ -1,6 +1,7 @@
 //! An image is read.
-ghost use Rattle.std.specs.Prelude.{◌≡◌, ◌↔◌, ◌≤◌, ◌^◌, List, ℕ, Some, option_map, length, IfOk};
-ghost use Rattle.qj_disk.specs.Calls.{HasCause, Rests};
+ghost use Rattle.std.specs.Prelude.{◌≡◌, ◌≤◌, ◌^◌, Some, option_map, length, IfOk};
+ghost use Rattle.qj_disk.specs.Calls.{Rests};
+ghost use Rattle.qj_disk.specs.DiskCalls.{IfTold, IsDiskRun};
 ghost use Rattle.image_store.specs.Names.{name_of, Itself};
 ghost use Rattle.image_store.specs.Images.{image_in};
 ghost use Rattle.image_store.specs.Digests.{IsStored};
@@ -38,12 +39,13 @@ fn load_sized<D: Disk>(
     names: &ImageNames,
     size: u64,
 ) -> Result<LoadedBytes, DiskFail>
-    requires { D.tells disk.old → Some size ≡ option_map length ((D.view disk.old).seen (name_of names.now Itself)) }
+    requires { D.tells disk.old
+        → Some size ≡ option_map length ((D.view disk.old).seen (name_of names.now Itself)) }
 
-    ensures tells { D.tells disk.old ↔ D.tells disk.new }
-    ensures loaded { D.tells disk.old → IfOk result (IsLoadedOf names.now (image_in (D.view disk.old).seen names.now)) }
-    ensures disk { D.tells disk.old → Rests (D.view disk.old) (D.view disk.new) }
-    ensures cause { HasCause (D.faults disk.old) (D.faults disk.new) (D.steady disk.old) (D.steady disk.new) result }
+    ensures call { IsDiskRun D.DiskModel disk.old disk.new result }
+    ensures loaded { D.tells disk.old
+        → IfOk result (IsLoadedOf names.now (image_in (D.view disk.old).seen names.now)) }
+    ensures disk { IfTold D.DiskModel disk.old disk.new Rests }
 {
     match read_stored(alloc, disk, names)? {
         Stored::Digest(stored) => {
@@ -61,10 +63,10 @@ fn load_named<D: Disk>(
     disk: &mut D,
     names: &ImageNames,
 ) -> Result<LoadedBytes, DiskFail>
-    ensures tells { D.tells disk.old ↔ D.tells disk.new }
-    ensures loaded { D.tells disk.old → IfOk result (IsLoadedOf names.now (image_in (D.view disk.old).seen names.now)) }
-    ensures disk { D.tells disk.old → Rests (D.view disk.old) (D.view disk.new) }
-    ensures cause { HasCause (D.faults disk.old) (D.faults disk.new) (D.steady disk.old) (D.steady disk.new) result }
+    ensures call { IsDiskRun D.DiskModel disk.old disk.new result }
+    ensures loaded { D.tells disk.old
+        → IfOk result (IsLoadedOf names.now (image_in (D.view disk.old).seen names.now)) }
+    ensures disk { IfTold D.DiskModel disk.old disk.new Rests }
 {
     match disk.length(names.itself())? {
         Some(size) => load_sized(alloc, disk, names, size),
@@ -76,10 +78,9 @@ fn load_named<D: Disk>(
 /// exactly where none counts, also for a txid above 2^62. A file that is too long for the memory is
 /// answered as want of it. Nothing changes.
 pub fn load_bytes<D: Disk>(alloc: Global, disk: &mut D, txid: u64) -> Result<LoadedBytes, DiskFail>
-    ensures tells { D.tells disk.old ↔ D.tells disk.new }
+    ensures call { IsDiskRun D.DiskModel disk.old disk.new result }
     ensures loaded { D.tells disk.old → IfOk result (IsLoaded (D.view disk.old).seen txid) }
-    ensures disk { D.tells disk.old → Rests (D.view disk.old) (D.view disk.new) }
-    ensures cause { HasCause (D.faults disk.old) (D.faults disk.new) (D.steady disk.old) (D.steady disk.new) result }
+    ensures disk { IfTold D.DiskModel disk.old disk.new Rests }
 {
     if txid > MAX {
         return Ok(LoadedBytes::NoImage);
@@ -122,11 +123,10 @@ fn answer(alloc: Global, found: LoadedBytes) -> Result<Loaded, OutOfMemory>
 /// where none counts, also for a txid above 2^62. A file that is too long for the memory is answered as want
 /// of it. Nothing changes.
 pub fn load<D: Disk>(alloc: Global, disk: &mut D, txid: u64) -> Result<Loaded, DiskFail>
-    ensures tells { D.tells disk.old ↔ D.tells disk.new }
+    ensures call { IsDiskRun D.DiskModel disk.old disk.new result }
     ensures loaded { D.tells disk.old → IfOk result (IsAnswer (D.view disk.old).seen txid) }
     ensures within { IfOk result (λ answer. IsWithin answer) }
-    ensures disk { D.tells disk.old → Rests (D.view disk.old) (D.view disk.new) }
-    ensures cause { HasCause (D.faults disk.old) (D.faults disk.new) (D.steady disk.old) (D.steady disk.new) result }
+    ensures disk { IfTold D.DiskModel disk.old disk.new Rests }
 {
     let found = load_bytes(alloc, disk, txid)?;
     Ok(answer(alloc, found)?)

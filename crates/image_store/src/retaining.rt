@@ -1,8 +1,7 @@
 //! Older images are removed.
-ghost use Rattle.std.specs.Prelude.{◌≡◌, ◌↔◌, ◌≤◌, ◌^◌, OnOk};
-ghost use Rattle.qj_disk.specs.Calls.{HasCause};
+ghost use Rattle.std.specs.Prelude.{◌≡◌, ◌≤◌, ◌^◌, OnOk};
 ghost use Rattle.qj_disk.specs.Runs.{Quiet};
-ghost use Rattle.small_files.specs.Answers.{put_result};
+ghost use Rattle.qj_disk.specs.DiskCalls.{IfTold, IsDiskCall, IsDiskRun};
 ghost use Rattle.image_store.specs.Lists.{AllSmall, older_than};
 ghost use Rattle.image_store.specs.Saves.{Removes, Thins, IsRemoved, AreRemoved, Retains};
 
@@ -10,15 +9,13 @@ use crate::clearing::clear;
 use crate::counting::counting;
 use crate::image_names::ImageNames;
 use qj_disk::{Disk, DiskFail};
-use small_files::Put;
 use std::alloc::Global;
 
 // Removes the files of an image, its own first.
 fn remove_named<D: Disk>(disk: &mut D, names: &ImageNames) -> Result<(), DiskFail>
-    ensures tells { D.tells disk.old ↔ D.tells disk.new }
-    ensures quiet { D.tells disk.old → Quiet (Removes names.now) (D.view disk.old) (D.view disk.new) }
+    ensures call { IsDiskCall D.DiskModel disk.old disk.new result }
+    ensures quiet { IfTold D.DiskModel disk.old disk.new (Quiet (Removes names.now)) }
     ensures removed { D.tells disk.old → OnOk result (IsRemoved names.now (D.view disk.new).seen) }
-    ensures cause { HasCause (D.faults disk.old) (D.faults disk.new) (D.steady disk.old) (D.steady disk.new) result }
 {
     clear(disk, names.itself())?;
     clear(disk, names.digest())
@@ -28,10 +25,9 @@ fn remove_named<D: Disk>(disk: &mut D, names: &ImageNames) -> Result<(), DiskFai
 fn remove_image<D: Disk>(disk: &mut D, txid: u64) -> Result<(), DiskFail>
     requires { txid ≤ 2 ^ 62 }
 
-    ensures tells { D.tells disk.old ↔ D.tells disk.new }
-    ensures quiet { D.tells disk.old → Quiet (Removes txid) (D.view disk.old) (D.view disk.new) }
+    ensures call { IsDiskCall D.DiskModel disk.old disk.new result }
+    ensures quiet { IfTold D.DiskModel disk.old disk.new (Quiet (Removes txid)) }
     ensures removed { D.tells disk.old → OnOk result (IsRemoved txid (D.view disk.new).seen) }
-    ensures cause { HasCause (D.faults disk.old) (D.faults disk.new) (D.steady disk.old) (D.steady disk.new) result }
 {
     let names = ImageNames::new(txid);
     remove_named(disk, &names)
@@ -41,10 +37,9 @@ fn remove_image<D: Disk>(disk: &mut D, txid: u64) -> Result<(), DiskFail>
 fn remove_all<D: Disk>(disk: &mut D, txids: &[u64]) -> Result<(), DiskFail>
     requires { AllSmall txids.now }
 
-    ensures tells { D.tells disk.old ↔ D.tells disk.new }
-    ensures quiet { D.tells disk.old → Quiet (Thins txids.now) (D.view disk.old) (D.view disk.new) }
+    ensures call { IsDiskRun D.DiskModel disk.old disk.new result }
+    ensures quiet { IfTold D.DiskModel disk.old disk.new (Quiet (Thins txids.now)) }
     ensures removed { D.tells disk.old → OnOk result (AreRemoved txids.now (D.view disk.new).seen) }
-    ensures cause { HasCause (D.faults disk.old) (D.faults disk.new) (D.steady disk.old) (D.steady disk.new) result }
 {
     for txid in txids {
         remove_image(disk, *txid)?;
@@ -60,24 +55,14 @@ fn older(txids: &[u64], count: u64) -> &[u64]
     &txids[..txids.len() - kept]
 }
 
-// Removes all but so many of the images that count.
-fn retain_by<D: Disk>(alloc: Global, disk: &mut D, count: u64) -> Result<(), DiskFail>
-    ensures tells { D.tells disk.old ↔ D.tells disk.new }
-    ensures retains { D.tells disk.old → Retains count result (D.view disk.old) (D.view disk.new) }
-    ensures cause { HasCause (D.faults disk.old) (D.faults disk.new) (D.steady disk.old) (D.steady disk.new) result }
+/// Removes all but the `count` newest of the images that count, the oldest first, and of each its own
+/// file before that of its digest. A crash at any moment leaves the newest ones as they were, and each
+/// other one as it was or not counting; once this answered Ok, none of these is there. On an error
+/// some may be removed.
+pub fn retain<D: Disk>(alloc: Global, disk: &mut D, count: u64) -> Result<(), DiskFail>
+    ensures call { IsDiskRun D.DiskModel disk.old disk.new result }
+    ensures retains { IfTold D.DiskModel disk.old disk.new (Retains count result) }
 {
     let txids = counting(alloc, disk)?;
     remove_all(disk, older(&txids, count))
-}
-
-/// Removes all but the `count` newest of the images that count, the oldest first, and of each its own
-/// file before that of its digest. A crash at any moment leaves the newest ones as they were, and each
-/// other one as it was or not counting; once this answered Done, none of these is there. On an error
-/// some may be removed.
-pub fn retain<D: Disk>(alloc: Global, disk: &mut D, count: u64) -> Put
-    ensures tells { D.tells disk.old ↔ D.tells disk.new }
-    ensures retains { D.tells disk.old → Retains count (put_result result) (D.view disk.old) (D.view disk.new) }
-    ensures cause { HasCause (D.faults disk.old) (D.faults disk.new) (D.steady disk.old) (D.steady disk.new) (put_result result) }
-{
-    Put::from(retain_by(alloc, disk, count))
 }

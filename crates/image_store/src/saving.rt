@@ -1,8 +1,8 @@
 //! An image is saved.
-ghost use Rattle.std.specs.Prelude.{◌≡◌, ◌↔◌, ◌≤◌, ◌^◌, IfOk, OnOk, string_bytes};
+ghost use Rattle.std.specs.Prelude.{◌≡◌, ◌≤◌, ◌^◌, IfOk, OnOk, string_bytes};
 ghost use Rattle.qj_disk.specs.View.{AllLeave};
-ghost use Rattle.qj_disk.specs.Calls.{Effect, HasCause};
-ghost use Rattle.small_files.specs.Answers.{put_result};
+ghost use Rattle.qj_disk.specs.Calls.{Effect};
+ghost use Rattle.qj_disk.specs.DiskCalls.{IfTold, IsDiskRun};
 ghost use Rattle.md5.specs.Md5.{md5};
 ghost use Rattle.image_store.specs.Digests.{digest_line};
 ghost use Rattle.image_store.specs.Saves.{Prepares, Saves};
@@ -16,7 +16,6 @@ use crate::storing::store;
 use image_codec::image_of;
 use ns_tree::Namespace;
 use qj_disk::{Disk, DiskFail};
-use small_files::Put;
 use std::alloc::{AllocError, Global};
 
 // The names of the files of an image, and the line of its digest.
@@ -40,9 +39,9 @@ fn save_by<D: Disk>(
     line: &[u8],
     bytes: &[u8],
 ) -> Result<(), DiskFail>
-    ensures tells { D.tells disk.old ↔ D.tells disk.new }
-    ensures save { D.tells disk.old → Effect (Prepares names.now) (Saves names.now bytes.now line.now) result (D.view disk.old) (D.view disk.new) }
-    ensures cause { HasCause (D.faults disk.old) (D.faults disk.new) (D.steady disk.old) (D.steady disk.new) result }
+    ensures call { IsDiskRun D.DiskModel disk.old disk.new result }
+    ensures save { IfTold D.DiskModel disk.old disk.new
+        (Effect (Prepares names.now) (Saves names.now bytes.now line.now) result) }
 {
     store(disk, names, bytes)?;
     make_way(disk, names, line)?;
@@ -53,34 +52,41 @@ fn save_by<D: Disk>(
 /// checkpoint file is written and synced, the file of the digest is put, and the checkpoint file is renamed
 /// to the image. An image of this txid that stands there without that digest is removed before the
 /// digest is put. A crash at any moment leaves each other image as it was, and this one as it was, not
-/// counting, or as saved; once this answered Done, as saved.
-pub fn save_bytes<D: Disk>(alloc: Global, disk: &mut D, txid: u64, bytes: &[u8]) -> Put
+/// counting, or as saved; once this answered Ok, as saved.
+pub fn save_bytes<D: Disk>(
+    alloc: Global,
+    disk: &mut D,
+    txid: u64,
+    bytes: &[u8],
+) -> Result<(), DiskFail>
     requires { txid ≤ 2 ^ 62 }
 
-    ensures tells { D.tells disk.old ↔ D.tells disk.new }
-    ensures save { D.tells disk.old → Effect (Prepares txid) (Saves txid bytes.now (digest_line txid (md5 bytes.now))) (put_result result) (D.view disk.old) (D.view disk.new) }
-    ensures cause { HasCause (D.faults disk.old) (D.faults disk.new) (D.steady disk.old) (D.steady disk.new) (put_result result) }
+    ensures call { IsDiskRun D.DiskModel disk.old disk.new result }
+    ensures save { IfTold D.DiskModel disk.old disk.new
+        (Effect (Prepares txid) (Saves txid bytes.now (digest_line txid (md5 bytes.now))) result) }
 {
-    match names_and_line(alloc, txid, bytes) {
-        Ok((names, line)) => Put::from(save_by(disk, &names, line.as_bytes(), bytes)),
-        Err(_) => Put::OutOfMemory,
-    }
+    let (names, line) = names_and_line(alloc, txid, bytes)?;
+    save_by(disk, &names, line.as_bytes(), bytes)
 }
 
 /// Saves the image of a namespace at a txid of at most 2^62, above which is no call that it remembers, as
-/// `save_bytes` does. Where there is no memory for the image, the disk isn't called. Once this answered Done,
+/// `save_bytes` does. Where there is no memory for the image, the disk isn't called. Once this answered Ok,
 /// what is loaded of the txid is this namespace, whatever crashes.
-pub fn save<D: Disk>(alloc: Global, disk: &mut D, namespace: &Namespace, txid: u64) -> Put
+pub fn save<D: Disk>(
+    alloc: Global,
+    disk: &mut D,
+    namespace: &Namespace,
+    txid: u64,
+) -> Result<(), DiskFail>
     requires txid { txid ≤ 2 ^ 62 }
     requires calls { AreRising 0 txid namespace.now.calls }
 
-    ensures tells { D.tells disk.old ↔ D.tells disk.new }
-    ensures save { D.tells disk.old → Effect (Prepares txid) (SavesImage txid namespace.now) (put_result result) (D.view disk.old) (D.view disk.new) }
-    ensures loads { D.tells disk.old → OnOk (put_result result) (AllLeave (D.view disk.new) (LoadsAs txid namespace.now)) }
-    ensures cause { HasCause (D.faults disk.old) (D.faults disk.new) (D.steady disk.old) (D.steady disk.new) (put_result result) }
+    ensures call { IsDiskRun D.DiskModel disk.old disk.new result }
+    ensures save { IfTold D.DiskModel disk.old disk.new
+        (Effect (Prepares txid) (SavesImage txid namespace.now) result) }
+    ensures loads { D.tells disk.old
+        → OnOk result (AllLeave (D.view disk.new) (LoadsAs txid namespace.now)) }
 {
-    match image_of(alloc, namespace, txid) {
-        Ok(bytes) => save_bytes(alloc, disk, txid, &bytes),
-        Err(_) => Put::OutOfMemory,
-    }
+    let bytes = image_of(alloc, namespace, txid)?;
+    save_bytes(alloc, disk, txid, &bytes)
 }

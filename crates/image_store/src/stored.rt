@@ -1,6 +1,7 @@
 //! The digest that is stored of an image.
-ghost use Rattle.std.specs.Prelude.{◌≡◌, ◌≢◌, ◌↔◌, ◌≤◌, List, ℕ, Some, option_map, length, take, IfOk, MatchBool, MatchOption};
-ghost use Rattle.qj_disk.specs.Calls.{HasCause, Rests};
+ghost use Rattle.std.specs.Prelude.{◌≡◌, ◌≢◌, ◌≤◌, List, ℕ, Some, option_map, length, take, IfOk, MatchBool, MatchOption};
+ghost use Rattle.qj_disk.specs.Calls.{Rests};
+ghost use Rattle.qj_disk.specs.DiskCalls.{IfTold, IsDiskRun};
 ghost use Rattle.image_store.specs.Names.{name_of, Digest};
 ghost use Rattle.image_store.specs.Answers.{IsStoredIn};
 ghost use Rattle.image_store.specs.Digests.{IsDigits, IsStored};
@@ -95,12 +96,13 @@ fn stored_in<D: Disk>(
     names: &ImageNames,
     size: u64,
 ) -> Result<Stored, DiskFail>
-    requires { D.tells disk.old → Some size ≡ option_map length ((D.view disk.old).seen (name_of names.now Digest)) }
+    requires { D.tells disk.old
+        → Some size ≡ option_map length ((D.view disk.old).seen (name_of names.now Digest)) }
 
-    ensures tells { D.tells disk.old ↔ D.tells disk.new }
-    ensures stored { D.tells disk.old → IfOk result (IsStoredIn names.now ((D.view disk.old).seen (name_of names.now Digest))) }
-    ensures disk { D.tells disk.old → Rests (D.view disk.old) (D.view disk.new) }
-    ensures cause { HasCause (D.faults disk.old) (D.faults disk.new) (D.steady disk.old) (D.steady disk.new) result }
+    ensures call { IsDiskRun D.DiskModel disk.old disk.new result }
+    ensures stored { D.tells disk.old
+        → IfOk result (IsStoredIn names.now ((D.view disk.old).seen (name_of names.now Digest))) }
+    ensures disk { IfTold D.DiskModel disk.old disk.new Rests }
 {
     if size > LONGEST {
         return Ok(Stored::Bad);
@@ -118,10 +120,10 @@ pub fn read_stored<D: Disk>(
     disk: &mut D,
     names: &ImageNames,
 ) -> Result<Stored, DiskFail>
-    ensures tells { D.tells disk.old ↔ D.tells disk.new }
-    ensures stored { D.tells disk.old → IfOk result (IsStoredIn names.now ((D.view disk.old).seen (name_of names.now Digest))) }
-    ensures disk { D.tells disk.old → Rests (D.view disk.old) (D.view disk.new) }
-    ensures cause { HasCause (D.faults disk.old) (D.faults disk.new) (D.steady disk.old) (D.steady disk.new) result }
+    ensures call { IsDiskRun D.DiskModel disk.old disk.new result }
+    ensures stored { D.tells disk.old
+        → IfOk result (IsStoredIn names.now ((D.view disk.old).seen (name_of names.now Digest))) }
+    ensures disk { IfTold D.DiskModel disk.old disk.new Rests }
 {
     match disk.length(names.digest())? {
         Some(size) => stored_in(alloc, disk, names, size),

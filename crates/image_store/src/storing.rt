@@ -1,8 +1,8 @@
 //! The checkpoint file of an image that is being saved.
-ghost use Rattle.std.specs.Prelude.{◌≡◌, ◌↔◌, ◌∷◌, [], None, Some, OnOk};
+ghost use Rattle.std.specs.Prelude.{◌≡◌, ◌∷◌, [], None, Some, OnOk};
 ghost use Rattle.qj_disk.specs.View.{AllLeave};
-ghost use Rattle.qj_disk.specs.Calls.{HasCause};
 ghost use Rattle.qj_disk.specs.Runs.{Quiet};
+ghost use Rattle.qj_disk.specs.DiskCalls.{IfTold, IsDiskCall, LacksFile};
 ghost use Rattle.small_files.specs.Puts.{Disturbs};
 ghost use Rattle.image_store.specs.Names.{name_of, Checkpoint, FreshDigest};
 ghost use Rattle.image_store.specs.Saves.{OnlyOf};
@@ -13,11 +13,13 @@ use qj_disk::{Disk, DiskFail};
 
 /// Removes what an earlier save left, and writes and syncs the checkpoint file.
 pub fn store<D: Disk>(disk: &mut D, names: &ImageNames, bytes: &[u8]) -> Result<(), DiskFail>
-    ensures tells { D.tells disk.old ↔ D.tells disk.new }
-    ensures quiet { D.tells disk.old → Quiet (OnlyOf names.now (Checkpoint ∷ FreshDigest ∷ [])) (D.view disk.old) (D.view disk.new) }
-    ensures stored { D.tells disk.old → OnOk result (AllLeave (D.view disk.new) (λ c. c (name_of names.now Checkpoint) ≡ Some bytes.now)) }
-    ensures fresh { D.tells disk.old → OnOk result ((D.view disk.new).seen (name_of names.now FreshDigest) ≡ None) }
-    ensures cause { HasCause (D.faults disk.old) (D.faults disk.new) (D.steady disk.old) (D.steady disk.new) result }
+    ensures call { IsDiskCall D.DiskModel disk.old disk.new result }
+    ensures quiet { IfTold D.DiskModel disk.old disk.new
+        (Quiet (OnlyOf names.now (Checkpoint ∷ FreshDigest ∷ []))) }
+    ensures stored { D.tells disk.old
+        → OnOk result (AllLeave (D.view disk.new) (λ c. c (name_of names.now Checkpoint) ≡ Some bytes.now)) }
+    ensures fresh { D.tells disk.old
+        → OnOk result ((D.view disk.new).seen (name_of names.now FreshDigest) ≡ None) }
 {
     clear(disk, names.checkpoint())?;
     clear(disk, names.fresh())?;
@@ -26,12 +28,12 @@ pub fn store<D: Disk>(disk: &mut D, names: &ImageNames, bytes: &[u8]) -> Result<
 
 // Writes a file that isn't there, and syncs it.
 fn write_whole<D: Disk>(disk: &mut D, name: &str, bytes: &[u8]) -> Result<(), DiskFail>
-    requires { D.tells disk.old → (D.view disk.old).seen name.now ≡ None }
+    requires { LacksFile D.DiskModel disk.old name.now }
 
-    ensures tells { D.tells disk.old ↔ D.tells disk.new }
-    ensures quiet { D.tells disk.old → Quiet (Disturbs name.now) (D.view disk.old) (D.view disk.new) }
-    ensures stored { D.tells disk.old → OnOk result (AllLeave (D.view disk.new) (λ c. c name.now ≡ Some bytes.now)) }
-    ensures cause { HasCause (D.faults disk.old) (D.faults disk.new) (D.steady disk.old) (D.steady disk.new) result }
+    ensures call { IsDiskCall D.DiskModel disk.old disk.new result }
+    ensures quiet { IfTold D.DiskModel disk.old disk.new (Quiet (Disturbs name.now)) }
+    ensures stored { D.tells disk.old
+        → OnOk result (AllLeave (D.view disk.new) (λ c. c name.now ≡ Some bytes.now)) }
 {
     disk.write_at(name, 0, bytes)?;
     disk.sync(name)

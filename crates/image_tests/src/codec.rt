@@ -139,7 +139,7 @@ fn the_empty_image_is_known(rt: HostRuntime) -> Result<(), Fail> {
     Ok(())
 }
 
-/// The layout of the empty image, how many of its bytes are read, and how many zeros behind them.
+/// The layout of the empty image, how many of its bytes are read, and how many zeros after them.
 const EMPTY_READ: &[(u8, usize, usize, Seen)] = &[
     (2, 72, 0, Seen::Image),
     (2, 72, 1, Seen::Bad(72, ImageCause::Trailing)),
@@ -148,7 +148,7 @@ const EMPTY_READ: &[(u8, usize, usize, Seen)] = &[
     (1, 68, 1, Seen::Bad(68, ImageCause::Trailing)),
 ];
 
-/// The empty image in that layout, cut and with zeros behind it.
+/// The empty image in that layout, cut and with zeros after it.
 pub fn empty_image(
     alloc: Global,
     layout: u8,

@@ -73,7 +73,7 @@ fn tells(alloc: Global, tool: Tool, bytes: &[u8], want: Want) -> bool {
     }
 }
 
-/// The layout of the empty image, how many of its bytes are listed, and how many zeros behind them.
+/// The layout of the empty image, how many of its bytes are listed, and how many zeros after them.
 const EMPTY_LISTED: &[(u8, usize, usize, Tool, Want)] = &[
     (2, 72, 0, Tool::Delimited, Want::Text(HEADER)),
     (2, 72, 0, Tool::Sizes, Want::Text(SIZES)),

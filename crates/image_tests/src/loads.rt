@@ -10,7 +10,6 @@ use image_store::{Loaded, load, save};
 use ns_tree::Namespace;
 use qj_disk::{Choice, DiskFail, UntoldDisk};
 use qj_num::OutOfMemory;
-use small_files::Put;
 use std::alloc::Global;
 use std::process::Abort;
 use std::test::Fail;
@@ -65,7 +64,7 @@ fn tree_with_call(alloc: Global) -> Result<Namespace, OutOfMemory>
     Ok(space)
 }
 
-fn save_tree(alloc: Global, disk: &mut UntoldDisk) -> Result<Put, OutOfMemory> {
+fn save_tree(alloc: Global, disk: &mut UntoldDisk) -> Result<Result<(), DiskFail>, OutOfMemory> {
     let space = tree_with_call(alloc)?;
     Ok(save(alloc, disk, &space, 9))
 }
@@ -73,7 +72,7 @@ fn save_tree(alloc: Global, disk: &mut UntoldDisk) -> Result<Put, OutOfMemory> {
 #[test]
 fn a_saved_namespace_is_loaded(rt: HostRuntime) -> Result<(), Fail> {
     let mut disk = new_disk(rt.alloc());
-    assert!(rt; save_tree(rt.alloc(), &mut disk)? == Put::Done);
+    assert!(rt; save_tree(rt.alloc(), &mut disk)? == Ok(()));
     assert!(rt; file_count(&mut disk) == Some(2));
     assert!(rt; seen_at(rt.alloc(), &mut disk, 9) == Seen::Tree(9));
     Ok(())
@@ -92,7 +91,7 @@ const SAVED: &[(&[u8], usize, u64, Seen)] = &[
 
 fn seen_saved(rt: &impl Abort, alloc: Global, bytes: &[u8], calls: u64) -> Seen {
     let mut disk = new_disk(alloc);
-    assert!(rt; save_image(rt, alloc, &mut disk, 4, bytes) == Put::Done);
+    assert!(rt; save_image(rt, alloc, &mut disk, 4, bytes) == Ok(()));
     disk.disk.stop_after(calls);
     seen_at(alloc, &mut disk, 4)
 }
@@ -150,8 +149,12 @@ fn the_digest_is_judged_before_the_bytes(rt: HostRuntime) {
     }
 }
 
-// What becomes of a save of the tree that is stopped after so many calls, and what is loaded behind a crash.
-fn stop_save(alloc: Global, calls: u64, choice: Choice) -> Result<(Put, Seen), OutOfMemory> {
+// What becomes of a save of the tree that is stopped after so many calls, and what is loaded after a crash.
+fn stop_save(
+    alloc: Global,
+    calls: u64,
+    choice: Choice,
+) -> Result<(Result<(), DiskFail>, Seen), OutOfMemory> {
     let mut disk = new_disk(alloc);
     disk.disk.stop_after(calls);
     let put = save_tree(alloc, &mut disk)?;
@@ -159,7 +162,7 @@ fn stop_save(alloc: Global, calls: u64, choice: Choice) -> Result<(Put, Seen), O
     Ok((put, seen_at(alloc, &mut disk, 9)))
 }
 
-// The image is whole behind the last call, and there is none before it, for each choice of the crash.
+// The image is whole after the last call, and there is none before it, for each choice of the crash.
 fn stop_by_choice(rt: &impl Abort, alloc: Global, calls: u64) -> Result<(), OutOfMemory> {
     let is_whole = calls > 9;
     let wanted = if is_whole {
@@ -169,7 +172,7 @@ fn stop_by_choice(rt: &impl Abort, alloc: Global, calls: u64) -> Result<(), OutO
     };
     for (row, choice) in CHOICES.iter().enumerate() {
         let (put, seen) = stop_save(alloc, calls, *choice)?;
-        is_so(rt, row, (put == Put::Done) == is_whole && seen == wanted);
+        is_so(rt, row, (put == Ok(())) == is_whole && seen == wanted);
     }
     Ok(())
 }

@@ -3,9 +3,8 @@ use crate::rows::is_so;
 use crate::store_disk::{
     CHOICES, Found, Step, found_of, new_disk, play_each, save, take_all, writes,
 };
-use qj_disk::Choice;
+use qj_disk::{Choice, DiskFail};
 use qj_num::OutOfMemory;
-use small_files::Put;
 use std::alloc::Global;
 use std::process::Abort;
 use std::test::Fail;
@@ -26,7 +25,7 @@ const EMPTY_FILE: &[Step] = &[
 
 /// The file of a digest is written as a line.
 const DIGEST_LINE: &[Step] = &[
-    Step::Save(4, b"", Put::Done),
+    Step::Save(4, b"", Ok(())),
     Step::Holds(
         DIGEST,
         b"d41d8cd98f00b204e9800998ecf8427e *fsimage_0000000000000000004\n",
@@ -40,7 +39,7 @@ const LEFT_OVER: &[Step] = &[
     Step::Write("fsimage_0000000000000000004.md5.tmp", b"left over"),
     Step::Write("fsimage_0000000000000000004", b"without a digest"),
     Step::Loads(4, b"four", Found::NoImage),
-    Step::Save(4, b"four", Put::Done),
+    Step::Save(4, b"four", Ok(())),
     Step::Loads(4, b"four", Found::These),
     Step::Files(2),
 ];
@@ -106,7 +105,7 @@ struct Stop {
     /// The save is stopped after so many calls, from the first number on and below the second.
     from: u64,
     below: u64,
-    /// How the image is read behind a crash.
+    /// How the image is read after a crash.
     found: Found,
 }
 
@@ -153,22 +152,22 @@ const STOPS: &[Stop] = &[
 ];
 
 /// Another image, which stays.
-const ONE: &[Step] = &[Step::Save(1, b"one", Put::Done)];
+const ONE: &[Step] = &[Step::Save(1, b"one", Ok(()))];
 
 const ONE_STAYS: &[Step] = &[Step::Loads(1, b"one", Found::These)];
 
-// What becomes of the save that is stopped after so many calls, and how the image is read behind a crash.
+// What becomes of the save that is stopped after so many calls, and how the image is read after a crash.
 fn stop_save(
     rt: &impl Abort,
     alloc: Global,
     old: &[u8],
     calls: u64,
     choice: Choice,
-) -> Result<(Put, Found), OutOfMemory> {
+) -> Result<(Result<(), DiskFail>, Found), OutOfMemory> {
     let mut disk = new_disk(alloc);
     take_all(rt, alloc, &mut disk, ONE)?;
     if !old.is_empty() {
-        assert!(rt; save(rt, alloc, &mut disk, 2, old) == Put::Done);
+        assert!(rt; save(rt, alloc, &mut disk, 2, old) == Ok(()));
     }
     disk.disk.stop_after(calls);
     let put = save(rt, alloc, &mut disk, 2, b"two");
@@ -184,7 +183,7 @@ fn stop_after(rt: &impl Abort, alloc: Global, stop: &Stop, calls: u64) -> Result
         is_so(
             rt,
             row,
-            found == stop.found && (put != Put::Done || found == Found::These),
+            found == stop.found && (put != Ok(()) || found == Found::These),
         );
     }
     Ok(())
@@ -207,10 +206,10 @@ fn a_save_that_is_stopped_leaves_an_image_or_none(rt: HostRuntime) -> Result<(),
 
 /// One call of the first save here fails.
 const AFTER_A_FAILURE: &[Step] = &[
-    Step::Save(2, b"two", Put::DiskFault),
+    Step::Save(2, b"two", Err(DiskFail::Failed)),
     Step::Loads(1, b"one", Found::These),
     Step::Loads(2, b"two", Found::NoImage),
-    Step::Save(2, b"two", Put::Done),
+    Step::Save(2, b"two", Ok(())),
     Step::Loads(2, b"two", Found::These),
     Step::Files(4),
 ];

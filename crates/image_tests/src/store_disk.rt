@@ -3,9 +3,8 @@ use crate::rows::is_so;
 use image_store::{
     LoadedBytes, MinToKeep, Newest, load_bytes, min_to_keep, newest, retain, save_bytes,
 };
-use qj_disk::{Choice, Disk, MemDisk, UntoldDisk};
+use qj_disk::{Choice, Disk, DiskFail, MemDisk, UntoldDisk};
 use qj_num::OutOfMemory;
-use small_files::Put;
 use std::alloc::Global;
 use std::process::Abort;
 
@@ -35,9 +34,9 @@ pub enum Step {
     /// A file of these bytes is written.
     Write(&'static str, &'static [u8]),
     /// What becomes of an image of these bytes that is saved, at a txid of at most 1,000.
-    Save(u64, &'static [u8], Put),
+    Save(u64, &'static [u8], Result<(), DiskFail>),
     /// What becomes of the removal of all but so many of the newest images.
-    Retain(u64, Put),
+    Retain(u64, Result<(), DiskFail>),
     /// The disk fails after so many more calls.
     StopAfter(u64),
     /// How an image is read where these bytes are looked for.
@@ -65,13 +64,19 @@ pub fn writes(disk: &mut UntoldDisk, name: &str, bytes: &[u8]) -> bool {
 }
 
 /// What becomes of an image of these bytes that is saved.
-pub fn save(rt: &impl Abort, alloc: Global, disk: &mut UntoldDisk, txid: u64, bytes: &[u8]) -> Put {
+pub fn save(
+    rt: &impl Abort,
+    alloc: Global,
+    disk: &mut UntoldDisk,
+    txid: u64,
+    bytes: &[u8],
+) -> Result<(), DiskFail> {
     assert!(rt; txid <= 1000);
     save_bytes(alloc, disk, txid, bytes)
 }
 
 /// What becomes of the removal of all but so many of the newest images.
-pub fn retained(alloc: Global, disk: &mut UntoldDisk, count: u64) -> Put {
+pub fn retained(alloc: Global, disk: &mut UntoldDisk, count: u64) -> Result<(), DiskFail> {
     retain(alloc, disk, count)
 }
 

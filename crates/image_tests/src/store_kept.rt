@@ -4,9 +4,8 @@ use crate::store_disk::{
     CHOICES, Found, Step, found_of, new_disk, play_each, retained, save, take_all,
 };
 use image_store::{MinToKeep, Newest};
-use qj_disk::{Choice, UntoldDisk};
+use qj_disk::{Choice, DiskFail, UntoldDisk};
 use qj_num::OutOfMemory;
-use small_files::Put;
 use std::alloc::Global;
 use std::process::Abort;
 use std::test::Fail;
@@ -14,7 +13,7 @@ use std::test::Fail;
 // Images of these txids are saved.
 fn save_each(rt: &impl Abort, alloc: Global, disk: &mut UntoldDisk, txids: &[u64]) {
     for (row, txid) in txids.iter().enumerate() {
-        is_so(rt, row, save(rt, alloc, disk, *txid, b"image") == Put::Done);
+        is_so(rt, row, save(rt, alloc, disk, *txid, b"image") == Ok(()));
     }
 }
 
@@ -83,11 +82,11 @@ fn the_log_is_kept_from_the_older_of_two_images(rt: HostRuntime) -> Result<(), F
 
 /// The txids of images, and what is left where all but so many of the newest are removed: the newest stays.
 const RETAINED: &[(&[u64], &[Step])] = &[
-    (&[], &[Step::Retain(2, Put::Done), Step::Files(0)]),
+    (&[], &[Step::Retain(2, Ok(())), Step::Files(0)]),
     (
         &[12],
         &[
-            Step::Retain(2, Put::Done),
+            Step::Retain(2, Ok(())),
             Step::Files(2),
             Step::Newest(Newest::Image { txid: 12 }),
         ],
@@ -95,7 +94,7 @@ const RETAINED: &[(&[u64], &[Step])] = &[
     (
         &[9, 12],
         &[
-            Step::Retain(2, Put::Done),
+            Step::Retain(2, Ok(())),
             Step::Files(4),
             Step::Newest(Newest::Image { txid: 12 }),
         ],
@@ -103,7 +102,7 @@ const RETAINED: &[(&[u64], &[Step])] = &[
     (
         &[12, 5, 9],
         &[
-            Step::Retain(2, Put::Done),
+            Step::Retain(2, Ok(())),
             Step::Files(4),
             Step::Newest(Newest::Image { txid: 12 }),
         ],
@@ -111,16 +110,16 @@ const RETAINED: &[(&[u64], &[Step])] = &[
     (
         &[12, 5, 9],
         &[
-            Step::Retain(1, Put::Done),
+            Step::Retain(1, Ok(())),
             Step::Files(2),
             Step::Newest(Newest::Image { txid: 12 }),
         ],
     ),
-    (&[12, 5, 9], &[Step::Retain(0, Put::Done), Step::Files(0)]),
+    (&[12, 5, 9], &[Step::Retain(0, Ok(())), Step::Files(0)]),
     (
         &[12, 5, 9],
         &[
-            Step::Retain(1000, Put::Done),
+            Step::Retain(1000, Ok(())),
             Step::Files(6),
             Step::Newest(Newest::Image { txid: 12 }),
         ],
@@ -136,8 +135,13 @@ fn the_newest_images_are_retained(rt: HostRuntime) -> Result<(), Fail> {
 }
 
 // What becomes of the removal of the images 5 and 9 beside 12 that is stopped after so many calls, and how the images 12 and 5
-// are read behind a crash.
-fn stop_removal(rt: &impl Abort, alloc: Global, calls: u64, choice: Choice) -> (Put, Found, Found) {
+// are read after a crash.
+fn stop_removal(
+    rt: &impl Abort,
+    alloc: Global,
+    calls: u64,
+    choice: Choice,
+) -> (Result<(), DiskFail>, Found, Found) {
     let mut disk = new_disk(alloc);
     save_each(rt, alloc, &mut disk, &[5, 9, 12]);
     disk.disk.stop_after(calls);
@@ -156,7 +160,7 @@ fn stop_by_choice(rt: &impl Abort, alloc: Global, calls: u64) {
     };
     for (row, choice) in CHOICES.iter().enumerate() {
         let (put, last, first) = stop_removal(rt, alloc, calls, *choice);
-        let is_done = put == Put::Done;
+        let is_done = put == Ok(());
         is_so(
             rt,
             row,
@@ -174,7 +178,7 @@ fn a_removal_that_is_stopped_leaves_the_newest(rt: HostRuntime) {
 
 /// An image counts with both of its files.
 const BOTH_FILES: &[Step] = &[
-    Step::Save(5, b"image", Put::Done),
+    Step::Save(5, b"image", Ok(())),
     Step::Write("fsimage_0000000000000000007", b""),
     Step::Write("fsimage_0000000000000000008.md5", b""),
     Step::Write("fsimage.ckpt_0000000000000000009", b""),
@@ -196,12 +200,12 @@ const BOTH_FILES: &[Step] = &[
 
 /// A disk that fails is told.
 const FAILING: &[Step] = &[
-    Step::Save(5, b"image", Put::Done),
-    Step::Save(9, b"image", Put::Done),
+    Step::Save(5, b"image", Ok(())),
+    Step::Save(9, b"image", Ok(())),
     Step::StopAfter(0),
     Step::Newest(Newest::DiskFault),
     Step::Kept(0, MinToKeep::DiskFault),
-    Step::Retain(1, Put::DiskFault),
+    Step::Retain(1, Err(DiskFail::Failed)),
     Step::Loads(5, b"image", Found::Fails),
 ];
 

@@ -14,7 +14,7 @@ quota_text (Some n) = decimal n
 abbrev pub tabbed : List ℕ → List ℕ
 tabbed text = 9 ∷ text
 
--- the columns behind the path
+-- the columns after the path
 abbrev pub texts : ColumnsView → List (List ℕ)
 texts c =
     decimal c.replication ∷ decimal c.mtime ∷ decimal c.atime ∷ decimal c.block_size ∷ decimal c.block_count ∷ decimal c.size

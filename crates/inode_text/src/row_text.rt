@@ -49,7 +49,7 @@ fn put_text(out: &mut Vec<u8>, column: Column<'_>) -> Result<(), OutOfMemory>
     }
 }
 
-// Appends a column behind a tab.
+// Appends a column after a tab.
 fn put_column(out: &mut Vec<u8>, column: Column<'_>) -> Result<(), OutOfMemory>
     ensures { OnOk result (out.new.items ≡ out.old.items ++ tabbed (column_text column.entry)) }
 {
@@ -57,7 +57,7 @@ fn put_column(out: &mut Vec<u8>, column: Column<'_>) -> Result<(), OutOfMemory>
     put_text(out, column)
 }
 
-// Appends columns, each behind a tab.
+// Appends columns, each after a tab.
 fn put_columns(out: &mut Vec<u8>, columns: &[Column<'_>]) -> Result<(), OutOfMemory>
     ensures { OnOk result (out.new.items ≡ out.old.items ++ flat_map tabbed (map column_text columns.now)) }
 {
@@ -103,7 +103,7 @@ fn put_all(out: &mut Vec<u8>, columns: &Columns<'_>) -> Result<(), OutOfMemory>
 
 /// Appends the text of a row: its path, replication, times of modification and access, block size, how many blocks it
 /// has, its size, its quotas of names and space, its permission, user and group, between tabs. A directory has 0 in
-/// the columns that only a file has, and -1 for no quota; a file has 0 for both quotas. No line end stands behind it.
+/// the columns that only a file has, and -1 for no quota; a file has 0 for both quotas. No line end stands after it.
 pub fn put_row(out: &mut Vec<u8>, row: &Row) -> Result<(), OutOfMemory>
     ensures { OnOk result (out.new.items ≡ out.old.items ++ row_text row.now) }
 {

@@ -9,7 +9,7 @@ use Rattle.journal_core.specs.Limits.{head_of}
 use Rattle.journal_core.specs.Effects.{Effect, Promise, after_effects}
 use Rattle.journal_core.specs.Step.{node_step, refused_at_once, front_effects, fronted, row_refused, row_effects, stopped, crashed, restarted}
 use Rattle.journal_core.specs.Laws.{Event, Asked, Stopped, Killed, Restarted, after_event, after_events, front, one_effect, follow, down, up, Parts, none, more, IsKept, EventsAreParts}
-use Rattle.journal_core.proofs.StopLaws.{take_nil, front_crash, take_behind}
+use Rattle.journal_core.proofs.StopLaws.{take_nil, front_crash, take_after}
 use Rattle.journal_core.proofs.NodeLaws.{after-append}
 use Rattle.journal_core.proofs.Steps.{Acted, at_once, by_row, done, acted, append_nil, front_passed}
 
@@ -51,7 +51,7 @@ unfolding after_effects
 stop_from_front s r ys a k =
     let front = front_effects s (head_of r) in
     let short : length front ≤ 1 = front_short s (head_of r) in
-    let after : take (suc k) (front ++ ys) ≡ front ++ take (suc k - length front) ys = take_behind front ys (suc k) (omega arith) in (
+    let after : take (suc k) (front ++ ys) ≡ front ++ take (suc k - length front) ys = take_after front ys (suc k) (omega arith) in (
       suc k - length front,
       ap (λ es. crashed (after_effects s es)) after ∙ sym (front_crash s (fronted s r) (head_of r) (take (suc k - length front) ys) (front_passed s r a) refl refl refl refl),
     )

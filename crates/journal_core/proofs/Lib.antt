@@ -2,11 +2,9 @@ pub mod PlaceLaws
 pub mod PurgeLaws
 pub mod FrontLaws
 pub mod Within
-pub mod TableLaws
 pub mod ServingLaws
 pub mod StepLaws
 pub mod StopLaws
-pub mod BudgetLaws
 pub mod CutLaws
 pub mod NodeLaws
 pub mod SegmentLists

@@ -8,7 +8,7 @@ use Rattle.journal_core.specs.declared.request.Request.{Request}
 use Rattle.journal_core.specs.Views.{HeadView}
 use Rattle.journal_core.specs.Limits.{head_of}
 use Rattle.journal_core.specs.Effects.{Effect, after_effects, after_effect, promised_after, writer_after, committed_after, segments_after}
-use Rattle.journal_core.specs.Step.{node_step, unless_refused, behind_front, refused_at_once, front_refused, front_effects, front_promised, fronted, row_refused, effects_of, effects_unless, effects_behind, stopped, crashed}
+use Rattle.journal_core.specs.Step.{node_step, unless_refused, step_after_front, refused_at_once, front_refused, front_effects, front_promised, fronted, row_refused, effects_of, effects_unless, effects_after, stopped, crashed}
 use Rattle.journal_core.specs.Laws.{SameDurable}
 use Rattle.journal_core.proofs.StopLaws.{same_crash}
 use Rattle.journal_core.proofs.Steps.{front_passed, promise_le}
@@ -47,10 +47,10 @@ front_durable s t (Some h) n p w c g =
       | inr q ↦ rw q.0 ((let l : h.epoch < suc s.promised = q.1 in omega (arith, promise_le s h n)), w, c, g)
     ]
 
-behind_durable : (t : NodeState) (r : Request) (o : Option Refusal) → SameDurable (behind_front t r o).state (after_effects t (effects_behind t r o))
+after_durable : (t : NodeState) (r : Request) (o : Option Refusal) → SameDurable (step_after_front t r o).state (after_effects t (effects_after t r o))
 unfolding after_effects
-behind_durable t r (Some refusal) = (refl, refl, refl, refl)
-behind_durable t r None = (refl, refl, refl, refl)
+after_durable t r (Some refusal) = (refl, refl, refl, refl)
+after_durable t r None = (refl, refl, refl, refl)
 
 join : (a b c : NodeState) → SameDurable a b → SameDurable b c → SameDurable a c
 join a b c p q = (p.0 ∙ q.0, p.1 ∙ q.1, p.2 ∙ q.2, p.3 ∙ q.3)
@@ -60,18 +60,18 @@ unfolding after_effects
 unless_durable s r (Some refusal) e = (refl, refl, refl, refl)
 unless_durable s r None e =
     let t = fronted s r in
-    let es : List Effect = effects_behind t r (row_refused t r) in
+    let es : List Effect = effects_after t r (row_refused t r) in
     let front : SameDurable t (after_effects s (front_effects s (head_of r))) = front_durable s t (head_of r) (front_passed s r e) refl refl refl refl in
-    let P : NodeState → Type 0 = λ x. SameDurable (behind_front t r (row_refused t r)).state x in
+    let P : NodeState → Type 0 = λ x. SameDurable (step_after_front t r (row_refused t r)).state x in
     subst P (sym (after-append (front_effects s (head_of r)) es s))
-    (join (behind_front t r (row_refused t r)).state (after_effects t es) (after_effects (after_effects s (front_effects s (head_of r))) es)
-    (behind_durable t r (row_refused t r)) (same_after es t (after_effects s (front_effects s (head_of r))) front))
+    (join (step_after_front t r (row_refused t r)).state (after_effects t es) (after_effects (after_effects s (front_effects s (head_of r))) es)
+    (after_durable t r (row_refused t r)) (same_after es t (after_effects s (front_effects s (head_of r))) front))
 
 pub step_durable : (s : NodeState) (r : Request) → SameDurable (node_step s r).state (after_effects s (effects_of s r))
 unfolding node_step effects_of
 step_durable s r = unless_durable s r (refused_at_once s r) refl
 
--- a stop behind all effects
+-- a stop after all effects
 crash_same : (s t : NodeState) → SameDurable s t → crashed s ≡ crashed t
 unfolding after_effects
 crash_same s t d = same_crash [] s t d.0 d.1 d.2 d.3

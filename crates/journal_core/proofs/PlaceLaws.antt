@@ -213,19 +213,19 @@ unfolding newest
 newest_above [] a m p = λ h. cc
 newest_above (g ∷ gs) a m p = above_step a m g (has_edit g) (newest gs) p.0 (λ k. newest_above gs a k p.1)
 
-behind_step : (m : ℕ) (g : Segment) (b : Bool) (n : Option ℕ) → n ≡ Some m → g.start < m → cond b (Some (max_or g.start n)) n ≡ Some m
-behind_step m g true None e l = absurd (cc)
-behind_step m g true (Some x) e l = let f : x ≡ m = cc in ap (λ k. let o : Option ℕ = Some k in o) (omega arith)
-behind_step m g false n e l = e
+after_step : (m : ℕ) (g : Segment) (b : Bool) (n : Option ℕ) → n ≡ Some m → g.start < m → cond b (Some (max_or g.start n)) n ≡ Some m
+after_step m g true None e l = absurd (cc)
+after_step m g true (Some x) e l = let f : x ≡ m = cc in ap (λ k. let o : Option ℕ = Some k in o) (omega arith)
+after_step m g false n e l = e
 
-newest_behind : (gs : List Segment) (i m : ℕ) → AreRising gs → newest (drop i gs) ≡ Some m → newest gs ≡ Some m
+newest_after : (gs : List Segment) (i m : ℕ) → AreRising gs → newest (drop i gs) ≡ Some m → newest gs ≡ Some m
 unfolding newest
-newest_behind [] zero m r h = h
-newest_behind [] (suc i) m r h = h
-newest_behind (g ∷ gs) zero m r h = h
-newest_behind (g ∷ gs) (suc i) m r h =
-    let e : newest gs ≡ Some m = newest_behind gs i m r.1 h in
-    behind_step m g (has_edit g) (newest gs) e (newest_above gs g.start m r.0 e)
+newest_after [] zero m r h = h
+newest_after [] (suc i) m r h = h
+newest_after (g ∷ gs) zero m r h = h
+newest_after (g ∷ gs) (suc i) m r h =
+    let e : newest gs ≡ Some m = newest_after gs i m r.1 h in
+    after_step m g (has_edit g) (newest gs) e (newest_above gs g.start m r.0 e)
 
 newest_here : (g : Segment) (gs : List Segment) → has_edit g ≡ true → newest gs ≡ None → newest (g ∷ gs) ≡ Some g.start
 unfolding newest
@@ -237,7 +237,7 @@ newest_skips g gs e = rw e refl
 
 pub newest_at : (gs : List Segment) (i : ℕ) (d : Segment) → AreSound gs → i < length gs → d ≡ get_or gs i d → has_edit d ≡ true → newest (drop (i + 1) gs) ≡ None → newest gs ≡ Some d.start
 newest_at gs i d s l e h n =
-    newest_behind gs i d.start s.rising (ap newest (drop_more gs i d l ∙ ap (λ x. x ∷ drop (i + 1) gs) (sym e)) ∙ newest_here d (drop (i + 1) gs) h n)
+    newest_after gs i d.start s.rising (ap newest (drop_more gs i d l ∙ ap (λ x. x ∷ drop (i + 1) gs) (sym e)) ∙ newest_here d (drop (i + 1) gs) h n)
 
 pub newest_less : (gs : List Segment) (i : ℕ) (d : Segment) → i < length gs → d ≡ get_or gs i d → has_edit d ≡ false → newest (drop (i + 1) gs) ≡ None → newest (drop i gs) ≡ None
 newest_less gs i d l e h n =

@@ -113,9 +113,6 @@ counts_full p most count i d gs h l t e =
     let left = h.left in
     (omega arith, sym (ap (λ xs. start_of_place xs (most - count)) f ∙ ap (start_of_place (get_or gs i d ∷ filter p (drop (i + 1) gs))) zero_left) ∙ h.next)
 
-start_of_none : (k : ℕ) → start_of_place [] k ≡ None
-start_of_none k = refl
-
 pub counts_end : (p : Segment → Bool) (most count i : ℕ) (gs : List Segment) → StillCounts p most count (drop i gs) gs → length gs ≤ i
     → (count ≡ min most (length (filter p gs))) × (None ≡ start_of_place (filter p gs) most)
 counts_end p most count i gs h l =
@@ -158,3 +155,11 @@ pub first-without : (p : Segment → Bool) (gs : List Segment) (k : ℕ) (next :
 first-without p gs k next s e =
     let first : filter (λ g. p g && lies_before next g) gs ≡ take k (filter p gs) = rw e (first_old p gs k s.rising) in
     without-filter (λ g. p g && lies_before next g) gs s ∙ ap (λ xs. without xs gs) first
+
+-- to remove a start is to keep the others
+pub removes_start : (start : ℕ) (gs : List Segment) → filter (λ g. not (g.start == start)) gs ≡ remove_segment start gs
+unfolding remove_segment
+removes_start start [] = refl
+removes_start start (g ∷ gs) =
+    elim (g.start == start) as (λ b. cond (not b) (g ∷ filter (λ x. not (x.start == start)) gs) (filter (λ x. not (x.start == start)) gs) ≡ cond b (remove_segment start gs) (g ∷ remove_segment start gs))
+    [ true ↦ removes_start start gs | false ↦ ap (λ xs. g ∷ xs) (removes_start start gs) ]

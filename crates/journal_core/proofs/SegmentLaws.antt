@@ -11,7 +11,7 @@ use Rattle.journal_core.specs.Limits.{head_of}
 use Rattle.journal_core.specs.Segments.{find_segment, has_edit, any_body, newest}
 use Rattle.journal_core.specs.Effects.{after_effects}
 use Rattle.journal_core.specs.Step.{node_step, refused_at_once, effects_of, front_effects, fronted, front_promised, row_effects, row_then, crashed, stopped, fresh_state}
-use Rattle.journal_core.specs.Laws.{Event, Asked, Stopped, Killed, Restarted, after_event, IsStored, OpenIsLed, IsSound, SoundStays, OpenSegmentIsLed, PromiseNeverFalls, epoch_of, AnsweredIsPromised, IsPurge, FinalStays, HeaderNeverFalls, HasEdit, NewestNeverFalls, RefusedBehindLeavesFront, IsQuestion, QuestionsAreIdle}
+use Rattle.journal_core.specs.Laws.{Event, Asked, Stopped, Killed, Restarted, after_event, IsStored, OpenIsLed, IsSound, SoundStays, OpenSegmentIsLed, PromiseNeverFalls, epoch_of, AnsweredIsPromised, IsPurge, FinalStays, HeaderNeverFalls, HasEdit, NewestNeverFalls, RefusedAfterLeavesFront, IsQuestion, QuestionsAreIdle}
 use Rattle.journal_core.proofs.SegmentLists.{newest-above, newest-found}
 use Rattle.journal_core.proofs.Steps.{Acted, at_once, by_row, done, acted, append_nil, front_le, none≢some, segments_all, segments-after}
 use Rattle.journal_core.proofs.KeptLaws.{rows_kept, stop_from_front, event_kept, all_events}
@@ -219,8 +219,8 @@ newest_never_falls s Killed m x brings n = (m, n, omega arith)
 newest_never_falls s Restarted m x brings n = (m, n, omega arith)
 
 -- ## Requests that change nothing, or only what the front changes
-pub refused_behind : RefusedBehindLeavesFront
-refused_behind s r x e f = go (acted s r)
+pub refused_after : RefusedAfterLeavesFront
+refused_after s r x e f = go (acted s r)
   where
     go : Acted s r → node_step s r ≡ record { state = fronted s r; reply = Refused x }
     go (at_once y a n t) = none≢some y (sym e ∙ a)

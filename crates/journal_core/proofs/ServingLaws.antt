@@ -206,7 +206,3 @@ edits_served s from g count p =
     let low : g.start ≤ from = p.low in
     let high : from < g.start + count = p.high in
     rw (p.piece, p.prefix) (ap (λ (piece : List (List ℕ)). let r : Reply = Edits (record { first = from; bodies = piece }) in r) (piece_in_front g.bodies (from - g.start) count (omega arith)))
-
-pub not_serving : (s : NodeState) (from : ℕ) → serving s from s.segments ≡ None → edits_from s from ≡ not_served s from (least_served s s.segments)
-unfolding edits_from
-not_serving s from e = rw e refl

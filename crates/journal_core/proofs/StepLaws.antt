@@ -12,7 +12,7 @@ use Rattle.journal_core.specs.declared.reply.Reply.TheVariants as reply
 use Rattle.journal_core.specs.Segments.{find_segment, has_edit, end_of}
 use Rattle.journal_core.specs.Limits.{limit_of, head_of}
 use Rattle.journal_core.specs.Reads.{edits_from, answer_from, serving, least_served, last_below}
-use Rattle.journal_core.specs.Step.{Stepped, node_step, unless_refused, behind_front, refused_at_once, unless_limited, front_refused, fronted, row_refused, start_refused, open_refused, finalize_refused, fetch_refused, accept_refused, row_reply, bodies_in}
+use Rattle.journal_core.specs.Step.{Stepped, node_step, unless_refused, step_after_front, refused_at_once, unless_limited, front_refused, fronted, row_refused, start_refused, open_refused, finalize_refused, fetch_refused, accept_refused, row_reply, bodies_in}
 use Rattle.journal_core.specs.Answers.{IsOwn, IsOwnRefusal, row}
 
 abbrev Own : Option Refusal → Type 0
@@ -107,12 +107,12 @@ reply_own (Purge head min) s = tt
 reply_own (Read from) s = answer_own s from (serving s from s.segments)
 reply_own Manifest s = tt
 
-behind_own : (s : NodeState) (r : Request) (o : Option Refusal) → Own o → IsOwn (behind_front s r o).reply
-behind_own s r (Some refusal) h = h
-behind_own s r None h = reply_own r s
+after_own : (s : NodeState) (r : Request) (o : Option Refusal) → Own o → IsOwn (step_after_front s r o).reply
+after_own s r (Some refusal) h = h
+after_own s r None h = reply_own r s
 
 pub row_own : (s : NodeState) (r : Request) → IsOwn (row s r).reply
-row_own s r = behind_own s r (row_refused s r) (row_refused_own r s).own
+row_own s r = after_own s r (row_refused s r) (row_refused_own r s).own
 
 unless_own : (s : NodeState) (r : Request) (o : Option Refusal) → Own o → IsOwn (unless_refused s r o).reply
 unless_own s r (Some refusal) h = h
@@ -135,10 +135,6 @@ step_answer s t r a e = own_answer (node_step s r) t a (step_own s r) e
 pub own_not_memory : (a : Reply) → IsOwn a → a ≡ reply.Refused OutOfMemory → ⊥
 own_not_memory a o e = subst IsOwn e o
 
--- a row's own reply isn't want of memory, nor is a refusal before the front
-pub row_not_memory : (s t : NodeState) (r : Request) (a : Reply) → row s r ≡ record { state = t; reply = a } → a ≡ reply.Refused OutOfMemory → ⊥
-row_not_memory s t r a e = own_not_memory a (row_answer s t r a e)
-
 pub at_once_not_memory : (s : NodeState) (r : Request) (refusal : Refusal) → Some refusal ≡ refused_at_once s r → reply.Refused refusal ≡ reply.Refused OutOfMemory → ⊥
 at_once_not_memory s r refusal h = own_not_memory (reply.Refused refusal) (subst Own (sym h) (at_once_own s r).own)
 
@@ -147,13 +143,7 @@ pub passed_row : (s : NodeState) (r : Request) → refused_at_once s r ≡ None 
 unfolding node_step
 passed_row s r e = ap (unless_refused s r) e
 
-pub own_not_fault : (a : Reply) → IsOwn a → a ≡ reply.Refused DiskFault → ⊥
-own_not_fault a o e = subst IsOwn e o
-
-pub own_not_bad : (a : Reply) → IsOwn a → a ≡ reply.Refused BadFile → ⊥
-own_not_bad a o e = subst IsOwn e o
-
--- what no step's answer is, an answer that is a step's but for want of memory isn't
+-- what no step's answer is, an answer that is a step's but for lack of memory isn't
 pub step_not : (s t : NodeState) (r : Request) (a : Reply) (refusal : Refusal) → (IsOwnRefusal refusal → ⊥) → (reply.Refused refusal ≡ reply.Refused OutOfMemory → ⊥)
     → ((a ≡ reply.Refused OutOfMemory → ⊥) → node_step s r ≡ record { state = t; reply = a }) → a ≡ reply.Refused refusal → ⊥
 step_not s t r a refusal foreign other step e =

@@ -3,7 +3,7 @@ use Rattle.std.proofs.Common.{◌≡◌, ℕ, zero, suc, ◌≤◌, ◌⊎◌, L
 use Rattle.std.proofs.lemmas.Bool.{cond_both, cases_Bool, ltb-false, cond-true}
 use Rattle.journal_core.specs.Effects.{Effect, Promise, WriterEpoch, Commit, NewSegment, Append, Replace, MakeFinal, Remove, after_effect, after_effects, segments_after}
 use Rattle.journal_core.specs.Limits.{limit_of, head_of}
-use Rattle.journal_core.specs.Step.{node_step, unless_refused, behind_front, effects_of, effects_unless, effects_behind, refused_at_once, unless_limited, front_refused, row_refused, row_effects, row_reply, row_then, front_effects, fronted}
+use Rattle.journal_core.specs.Step.{node_step, unless_refused, step_after_front, effects_of, effects_unless, effects_after, refused_at_once, unless_limited, front_refused, row_refused, row_effects, row_reply, row_then, front_effects, fronted}
 use Rattle.journal_core.specs.Views.{HeadView}
 use Rattle.journal_core.specs.declared.node_state.NodeState.{NodeState}
 use Rattle.journal_core.specs.declared.refusal.Refusal.{Refusal}
@@ -28,11 +28,11 @@ append_nil (x ∷ xs) = ap (λ ys. x ∷ ys) (append_nil xs)
 acted_row : (s : NodeState) (r : Request) → refused_at_once s r ≡ None → (o : Option Refusal) → row_refused (fronted s r) r ≡ o → Acted s r
 unfolding node_step effects_of
 acted_row s r e (Some x) f = by_row x e f
-    (ap (λ o. unless_refused s r o) e ∙ ap (λ o. behind_front (fronted s r) r o) f)
-    (ap (λ o. effects_unless s r o) e ∙ (ap (λ o. front_effects s (head_of r) ++ effects_behind (fronted s r) r o) f ∙ append_nil (front_effects s (head_of r))))
+    (ap (λ o. unless_refused s r o) e ∙ ap (λ o. step_after_front (fronted s r) r o) f)
+    (ap (λ o. effects_unless s r o) e ∙ (ap (λ o. front_effects s (head_of r) ++ effects_after (fronted s r) r o) f ∙ append_nil (front_effects s (head_of r))))
 acted_row s r e None f = done e f
-    (ap (λ o. unless_refused s r o) e ∙ ap (λ o. behind_front (fronted s r) r o) f)
-    (ap (λ o. effects_unless s r o) e ∙ ap (λ o. front_effects s (head_of r) ++ effects_behind (fronted s r) r o) f)
+    (ap (λ o. unless_refused s r o) e ∙ ap (λ o. step_after_front (fronted s r) r o) f)
+    (ap (λ o. effects_unless s r o) e ∙ ap (λ o. front_effects s (head_of r) ++ effects_after (fronted s r) r o) f)
 
 acted_front : (s : NodeState) (r : Request) → (o : Option Refusal) → refused_at_once s r ≡ o → Acted s r
 unfolding node_step effects_of

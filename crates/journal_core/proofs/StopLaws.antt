@@ -7,14 +7,12 @@ use Rattle.journal_core.specs.declared.segment.Segment.{Segment}
 use Rattle.journal_core.specs.declared.node_state.NodeState.{NodeState}
 use Rattle.journal_core.specs.declared.refusal.Refusal.{Refusal}
 use Rattle.journal_core.specs.declared.request.Request.{Request}
-use Rattle.journal_core.specs.declared.request.Request.TheVariants.{Fetch, Purge}
+use Rattle.journal_core.specs.declared.request.Request.TheVariants.{Purge}
 use Rattle.journal_core.specs.Limits.{head_of}
 use Rattle.journal_core.specs.Effects.{Effect, Promise, Remove, after_effects, after_effect, promised_after, writer_after, committed_after, segments_after}
-use Rattle.journal_core.specs.Step.{refused_at_once, may_go, front_effects, fronted, front_promised, front_refused, effects_of, effects_unless, effects_behind, crashed}
+use Rattle.journal_core.specs.Step.{refused_at_once, may_go, front_effects, fronted, front_promised, front_refused, effects_of, effects_unless, crashed}
 use Rattle.journal_core.specs.Stops.{IsRowStop, IsStop, effects_of_row, raises_promise}
-use Rattle.journal_core.proofs.Within.{journal_within}
 use Rattle.journal_core.proofs.PurgeLaws.{removed_each}
-pub use Rattle.journal_core.proofs.FrontLaws.{start_fits, journal_fits, accept_fits}
 use Rattle.journal_core.specs.Places.{without}
 use Rattle.journal_core.proofs.Steps.{front_passed, promise_le}
 
@@ -30,8 +28,6 @@ take_first zero e es h = absurd (omega arith)
 take_first (suc k) e es h = let n : suc k - 1 ≡ k = omega arith in rw n refl
 
 pub ruleset takes = (take_none, take_nil, take_first)
-
-pub ruleset journal_takes = (take_none, take_nil, take_first, journal_within)
 
 -- what the volatile part was makes no difference to what a stop leaves
 pub same_crash : (es : List Effect) (s t : NodeState) → s.promised ≡ t.promised → s.writer ≡ t.writer → s.committed ≡ t.committed → s.segments ≡ t.segments
@@ -59,21 +55,10 @@ pub stop_first : (s : NodeState) (r : Request) (keep : ℕ) → keep ≡ 0 → I
 unfolding effects_of after_effects
 stop_first s r keep e = record { count = omega arith; state = rw (take_none keep (effects_of s r) e) refl }
 
--- nothing to do
-pub idle : (s : NodeState) (r : Request) (keep : ℕ) → effects_of_row s r ≡ [] → IsRowStop s r keep 0 s
-unfolding after_effects
-idle s r keep e = record { count = rw e (count_none keep); state = rw (e, take_nil keep) refl }
-
-pub idle_fetch : (s : NodeState) (h : HeadView) (start from : ℕ) (o : Option Refusal) → effects_behind s (Fetch h start from) o ≡ []
-idle_fetch s h start from (Some refusal) = refl
-idle_fetch s h start from None = refl
-
 -- less than one
 pub none_of : (b : Bool) (k first : ℕ) → first ≡ (if b then 1 else 0) → k < first → k ≡ 0
 none_of true k first e l = omega arith
 none_of false k first e l = absurd (omega arith)
-
-pub ruleset rows = (idle, start_fits, journal_fits, accept_fits)
 
 -- the front's effect is what the front does to what is durable
 pub front_crash : (s t : NodeState) (h : Option HeadView) (es : List Effect) → front_refused s h ≡ None → t.promised ≡ front_promised s.promised h → t.writer ≡ s.writer → t.committed ≡ s.committed
@@ -90,33 +75,33 @@ front_length : (s : NodeState) (h : Option HeadView) → length (front_effects s
 front_length s None = refl
 front_length s (Some h) = elim (nat_lt s.promised h.epoch) as (λ b. length (cond b (Promise h.epoch ∷ []) (let es : List Effect = [] in es)) ≡ cond b 1 0) [ true ↦ refl | false ↦ refl ]
 
-pub take_behind : (xs ys : List Effect) (k : ℕ) → length xs ≤ k → take k (xs ++ ys) ≡ xs ++ take (k - length xs) ys
-take_behind [] ys k l = let e : k - 0 ≡ k = omega arith in rw e refl
-take_behind (x ∷ xs) ys k l =
-    take_first k x (xs ++ ys) (omega arith) ∙ ap (λ zs. x ∷ zs) (take_behind xs ys (k - 1) (omega arith) ∙ ap (λ n. xs ++ take n ys) (omega arith))
+pub take_after : (xs ys : List Effect) (k : ℕ) → length xs ≤ k → take k (xs ++ ys) ≡ xs ++ take (k - length xs) ys
+take_after [] ys k l = let e : k - 0 ≡ k = omega arith in rw e refl
+take_after (x ∷ xs) ys k l =
+    take_first k x (xs ++ ys) (omega arith) ∙ ap (λ zs. x ∷ zs) (take_after xs ys (k - 1) (omega arith) ∙ ap (λ n. xs ++ take n ys) (omega arith))
 
 pub unless_all : (s : NodeState) (r : Request) (o : Option Refusal) → o ≡ None → effects_unless s r o ≡ front_effects s (head_of r) ++ effects_of_row (fronted s r) r
 unless_all s r o e = rw e refl
 
--- the front's effect, and the first effects behind it
-pub stop_behind : (s : NodeState) (r : Request) (keep first done : ℕ) (t : NodeState) → refused_at_once s r ≡ None → first ≡ (if raises_promise s.promised (head_of r) then 1 else 0) → first ≤ keep
+-- the front's effect, and the first effects after it
+pub stop_in_request : (s : NodeState) (r : Request) (keep first done : ℕ) (t : NodeState) → refused_at_once s r ≡ None → first ≡ (if raises_promise s.promised (head_of r) then 1 else 0) → first ≤ keep
     → IsRowStop (fronted s r) r (keep - first) done t → IsStop s r keep (first + done) (crashed t)
 unfolding effects_of
-stop_behind s r keep first done t n f l p =
+stop_in_request s r keep first done t n f l p =
     let front = front_effects s (head_of r) in
     let rest = effects_of_row (fronted s r) r in
     let long : length front ≡ first = front_length s (head_of r) ∙ sym f in
     let all : effects_unless s r (refused_at_once s r) ≡ front ++ rest = unless_all s r (refused_at_once s r) n in
     let count : done ≡ min (keep - first) (length rest) = p.count in
     let both : length (front ++ rest) ≡ first + length rest = length-append front rest ∙ ap (λ k. k + length rest) long in
-    let taken : take keep (front ++ rest) ≡ front ++ take (keep - first) rest = take_behind front rest keep (omega arith) ∙ ap (λ k. front ++ take (keep - k) rest) long in
+    let taken : take keep (front ++ rest) ≡ front ++ take (keep - first) rest = take_after front rest keep (omega arith) ∙ ap (λ k. front ++ take (keep - k) rest) long in
     record {
       count = rw (all, both) (omega arith);
       state = ap crashed p.state ∙ front_crash s (fronted s r) (head_of r) (take (keep - first) rest) (front_passed s r n) refl refl refl refl
           ∙ ap (λ es. crashed (after_effects s es)) (sym taken ∙ ap (take keep) (sym all));
     }
 
-pub ruleset stops = (stop_refused, stop_first, stop_behind)
+pub ruleset stops = (stop_refused, stop_first, stop_in_request)
 
 -- the first of a purge
 pub stop_purged : (s : NodeState) (h : HeadView) (least keep done : ℕ) (gs : List Segment) → done ≡ min keep (length (filter (may_go s h.committed least) s.segments))
@@ -128,5 +113,3 @@ stop_purged s h least keep done gs n e =
       count = n ∙ ap (min keep) (sym (length-map old remove));
       state = ap (λ (xs : List Segment). let t : NodeState = record s { segments = xs } in t) e ∙ sym (removed_each (take keep old) s) ∙ ap (after_effects s) (sym (take-map remove keep old));
     }
-
-pub ruleset purges = (stop_purged)

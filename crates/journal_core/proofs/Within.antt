@@ -17,21 +17,11 @@ find_start start (g ∷ gs) =
 first_there : (opened start first expected : ℕ) → open_refused (Some opened) start first expected ≡ None → first ≡ expected
 first_there opened start first expected h = grind (arith, nat_tests)
 
-owner_here : (s : NodeState) (h : HeadView) (start : ℕ) (batch : BatchView) → journal_refused s h start batch ≡ None
-    → open_refused s.opened start batch.first (start + bodies_in (find_segment start s.segments)) ≡ None
-owner_here s h start batch none = grind (arith, nat_tests)
-
 pub first_is : (o : Option ℕ) (start first expected : ℕ) → open_refused o start first expected ≡ None → first ≡ expected
 first_is None start first expected h = cc
 first_is (Some opened) start first expected h = first_there opened start first expected h
 
-grown_within : (found : Option Segment) (start : ℕ) (batch : BatchView) → IfSome found (λ g. g.start ≡ start)
+pub grown_within : (found : Option Segment) (start : ℕ) (batch : BatchView) → IfSome found (λ g. g.start ≡ start)
     → batch.first ≡ start + bodies_in found → last_txid batch ≤ max_number → IfSome found (λ g. IsWithin (record g { bodies = g.bodies ++ batch.bodies }))
 grown_within None start batch h e l = tt
 grown_within (Some g) start batch h e l = omega (arith, length-append g.bodies batch.bodies)
-
-pub journal_within : (s : NodeState) (h : HeadView) (start : ℕ) (batch : BatchView) → journal_refused s h start batch ≡ None
-    → last_txid batch ≤ max_number → IfSome (find_segment start s.segments) (λ g. IsWithin (record g { bodies = g.bodies ++ batch.bodies }))
-journal_within s h start batch none fits =
-    grown_within (find_segment start s.segments) start batch (find_start start s.segments)
-    (first_is s.opened start batch.first _ (owner_here s h start batch none)) fits

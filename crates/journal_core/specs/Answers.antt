@@ -12,17 +12,17 @@ use Rattle.journal_core.specs.declared.reply.Reply.TheVariants as reply
 use Rattle.journal_core.specs.Segments.{find_segment, any_body, IsWithin}
 use Rattle.journal_core.specs.Limits.{max_number}
 use Rattle.journal_core.specs.Reads.{served, serving, piece_of}
-use Rattle.journal_core.specs.Step.{Stepped, node_step, behind_front, row_refused, fetch_refused, stopped}
+use Rattle.journal_core.specs.Step.{Stepped, node_step, step_after_front, row_refused, fetch_refused, stopped}
 
--- the request behind the front
+-- the request after the front
 abbrev pub row : NodeState → Request → Stepped
-row s r = behind_front s r (row_refused s r)
+row s r = step_after_front s r (row_refused s r)
 
 -- a stop inside the request may have left this state
 abbrev pub IsStopOf : NodeState → Request → NodeState → Type 0
 IsStopOf old request new = (keep : ℕ) × (new ≡ stopped old request keep)
 
--- The answer is the node step's. A fault of the disk leaves what a stop inside the request may leave, and want of memory that or the state as it was.
+-- The answer is the node step's. A fault of the disk leaves what a stop inside the request may leave, and lack of memory that or the state as it was.
 pub record IsAnswer (old : NodeState) (request : Request) (answer : Reply) (new : NodeState) : Type 0 where
   pub step : answer ≢ reply.Refused OutOfMemory → answer ≢ reply.Refused DiskFault → node_step old request ≡ record { state = new; reply = answer }
   pub memory : answer ≡ reply.Refused OutOfMemory → (new ≡ old) ⊎ IsStopOf old request new
@@ -120,9 +120,6 @@ abbrev pub fetched : Option Refusal → ℕ → List (List ℕ) → Reply
 fetched (Some refusal) from piece = reply.Refused refusal
 fetched None from piece = reply.Edits (record { first = from; bodies = piece })
 
-abbrev pub behind_fetch : NodeState → ℕ → ℕ → Reply
-behind_fetch s start from = fetched (fetch_refused from (find_segment start s.segments)) from (piece_of (find_segment start s.segments) from)
-
 -- a refusal by the step's own tests
 abbrev pub IsOwnRefusal : Refusal → Type 0
 IsOwnRefusal DiskFault = ⊥
@@ -130,7 +127,7 @@ IsOwnRefusal OutOfMemory = ⊥
 IsOwnRefusal BadFile = ⊥
 IsOwnRefusal _ = Unit {0}
 
--- an answer of the step: no fault of the disk, no want of memory, no bad file
+-- an answer of the step: no fault of the disk, no lack of memory, no bad file
 abbrev pub IsOwn : Reply → Type 0
 IsOwn (reply.Refused refusal) = IsOwnRefusal refusal
 IsOwn _ = Unit {0}

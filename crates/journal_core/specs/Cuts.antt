@@ -23,7 +23,7 @@ number_cost = record { calls = 3; decides = 3 }
 abbrev pub segment_cost : Cost
 segment_cost = record { calls = 3; decides = 3 }
 
--- An append is written behind a closed gate, synced, and then the gate is written and synced.
+-- An append is written after a closed gate, synced, and then the gate is written and synced.
 abbrev pub append_cost : Cut → Cost
 append_cost Old = record { calls = 4; decides = 4 }
 append_cost New = record { calls = 4; decides = 3 }
@@ -34,7 +34,7 @@ abbrev pub accept_cost : Bool → Cost
 accept_cost true = record { calls = 3; decides = 3 }
 accept_cost false = record { calls = 6; decides = 5 }
 
--- A rename or a removal, behind which the record of an acceptance is removed.
+-- A rename or a removal, after which the record of an acceptance is removed.
 abbrev pub name_cost : Bool → Cost
 name_cost true = record { calls = 2; decides = 1 }
 name_cost false = record { calls = 1; decides = 1 }
@@ -67,7 +67,7 @@ standing calls (c ∷ cs) = if nat_le c.decides calls then suc (standing (calls 
 abbrev pub costs_of : Cut → NodeState → Request → List Cost
 costs_of cut s r = map (cost_of cut s.segments) (effects_of s r)
 
--- how many effects of a request stand after a cut behind so many disk calls
+-- how many effects of a request stand after a cut after so many disk calls
 abbrev pub effects_standing : Cut → NodeState → Request → ℕ → ℕ
 effects_standing cut s r calls = standing calls (costs_of cut s r)
 

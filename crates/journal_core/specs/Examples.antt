@@ -15,7 +15,7 @@ abbrev pub replies_of : NodeState → List Request → List Reply
 replies_of s [] = []
 replies_of s (r ∷ rs) = let stepped = node_step s r in stepped.reply ∷ replies_of stepped.state rs
 
--- the state behind them
+-- the state after them
 abbrev pub state_after : NodeState → List Request → NodeState
 state_after s [] = s
 state_after s (r ∷ rs) = state_after (node_step s r).state rs

@@ -17,7 +17,7 @@ use Rattle.journal_core.specs.Step.{node_step, refused_at_once, row_refused, row
 pub data Event : Type 0 where
   -- it answers a request
   Asked : (request : Request) → Event
-  -- it is stopped inside a request, behind the first of its effects
+  -- it is stopped inside a request, after the first of its effects
   Stopped : (request : Request) (keep : ℕ) → Event
   Killed : Event
   Restarted : Event
@@ -147,9 +147,9 @@ abbrev pub RefusedAtOnceIsIdle : Type 0
 RefusedAtOnceIsIdle = (s : NodeState) (r : Request) (refusal : Refusal) → refused_at_once s r ≡ Some refusal
     → node_step s r ≡ record { state = s; reply = Refused refusal }
 
--- what is refused behind the front leaves what the front did
-abbrev pub RefusedBehindLeavesFront : Type 0
-RefusedBehindLeavesFront = (s : NodeState) (r : Request) (refusal : Refusal) → refused_at_once s r ≡ None → row_refused (fronted s r) r ≡ Some refusal
+-- what is refused after the front leaves what the front did
+abbrev pub RefusedAfterLeavesFront : Type 0
+RefusedAfterLeavesFront = (s : NodeState) (r : Request) (refusal : Refusal) → refused_at_once s r ≡ None → row_refused (fronted s r) r ≡ Some refusal
     → node_step s r ≡ record { state = fronted s r; reply = Refused refusal }
 
 abbrev pub IsQuestion : Request → Type 0
@@ -170,9 +170,9 @@ SameDurable s t = (s.promised ≡ t.promised) × (s.writer ≡ t.writer) × (s.c
 abbrev pub StepIsItsEffects : Type 0
 StepIsItsEffects = (s : NodeState) (r : Request) → SameDurable (node_step s r).state (after_effects s (effects_of s r))
 
-abbrev pub StopBehindNothingIsKill : Type 0
-StopBehindNothingIsKill = (s : NodeState) (r : Request) → stopped s r 0 ≡ crashed s
+abbrev pub StopAfterNothingIsKill : Type 0
+StopAfterNothingIsKill = (s : NodeState) (r : Request) → stopped s r 0 ≡ crashed s
 
--- a stop behind all effects is the step, and a node that goes down
-abbrev pub StopBehindAllIsStep : Type 0
-StopBehindAllIsStep = (s : NodeState) (r : Request) (keep : ℕ) → length (effects_of s r) ≤ keep → stopped s r keep ≡ crashed (node_step s r).state
+-- a stop after all effects is the step, and a node that goes down
+abbrev pub StopAfterAllIsStep : Type 0
+StopAfterAllIsStep = (s : NodeState) (r : Request) (keep : ℕ) → length (effects_of s r) ≤ keep → stopped s r keep ≡ crashed (node_step s r).state

@@ -10,6 +10,5 @@ pub mod Answers
 pub mod Examples
 pub mod Stops
 pub mod Cuts
-pub mod Budgets
 pub mod Laws
 pub mod Peers

@@ -14,12 +14,12 @@ pub record IsPermitted (nodes : ℕ) : Type 0 where
   pub some : 1 ≤ nodes
   pub few : nodes ≤ 15
 
--- what may be heard of a request: nothing, or an answer that fits it and isn't want of memory
+-- what may be heard of a request: nothing, or an answer that fits it and isn't lack of memory
 abbrev pub FitsHeard : Request → Heard → Type 0
 FitsHeard r Silent = Unit {0}
 FitsHeard r (Answer reply) = FitsRequest r reply × (reply ≢ Refused OutOfMemory)
 
--- a call is listed behind those before it, with what was heard; where memory was wanting there is none
+-- a call is listed after those before it, with what was heard; where memory was wanting there is none
 abbrev pub Lists : List PeerCall → ℕ → Request → Result Heard AllocError → List PeerCall → Type 0
 Lists before node r (Ok heard) after = after ≡ before ++ record { node = node; request = r; heard = heard } ∷ []
 Lists before node r (Err e) after = after ≡ before

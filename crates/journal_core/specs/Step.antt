@@ -1,5 +1,5 @@
 -- One request at a node: the tests before all else, the front of a request with a head, and the table of requests:
--- what is refused behind the front, the durable effects in order, what follows them, and the reply.
+-- what is refused after the front, the durable effects in order, what follows them, and the reply.
 use Rattle.std.specs.Prelude.{ℕ, ◌+◌, ◌==◌, ◌&&◌, ◌||◌, Bool, true, false, not, max, nat_lt, nat_le, List, [], ◌∷◌, ◌++◌, length, map, take, Option, Some, None, if◌then◌else◌}
 use Rattle.std.specs.List.{filter}
 use Rattle.journal_core.specs.Views.{HeadView, BatchView, last_txid}
@@ -63,7 +63,7 @@ abbrev pub front_known : ℕ → Option HeadView → ℕ
 front_known k None = k
 front_known k (Some h) = max k h.committed
 
--- the state behind the front
+-- the state after the front
 abbrev pub fronted : NodeState → Request → NodeState
 fronted s r =
     record s {
@@ -73,7 +73,7 @@ fronted s r =
       serial = front_serial s.serial (head_of r);
     }
 
--- ## The table: what is refused behind the front
+-- ## The table: what is refused after the front
 abbrev pub start_refused : Option Segment → Option Refusal
 start_refused None = None
 start_refused (Some g) =
@@ -197,26 +197,26 @@ row_reply s (Read from) = edits_from s from
 row_reply s Manifest = reply.Segments (manifest_of s.segments)
 
 -- ## The step
-abbrev pub behind_front : NodeState → Request → Option Refusal → Stepped
-behind_front s r (Some refusal) = record { state = s; reply = reply.Refused refusal }
-behind_front s r None = record { state = row_then (after_effects s (row_effects s r)) r; reply = row_reply s r }
+abbrev pub step_after_front : NodeState → Request → Option Refusal → Stepped
+step_after_front s r (Some refusal) = record { state = s; reply = reply.Refused refusal }
+step_after_front s r None = record { state = row_then (after_effects s (row_effects s r)) r; reply = row_reply s r }
 
 abbrev pub unless_refused : NodeState → Request → Option Refusal → Stepped
 unless_refused s r (Some refusal) = record { state = s; reply = reply.Refused refusal }
-unless_refused s r None = behind_front (fronted s r) r (row_refused (fronted s r) r)
+unless_refused s r None = step_after_front (fronted s r) r (row_refused (fronted s r) r)
 
 -- what a node answers, and the state that it is left in
 unfoldable pub node_step : NodeState → Request → Stepped
 node_step s r = unless_refused s r (refused_at_once s r)
 
--- ## The effects of a request, and a stop behind the first of them
-abbrev pub effects_behind : NodeState → Request → Option Refusal → List Effect
-effects_behind s r (Some refusal) = []
-effects_behind s r None = row_effects s r
+-- ## The effects of a request, and a stop after the first of them
+abbrev pub effects_after : NodeState → Request → Option Refusal → List Effect
+effects_after s r (Some refusal) = []
+effects_after s r None = row_effects s r
 
 abbrev pub effects_unless : NodeState → Request → Option Refusal → List Effect
 effects_unless s r (Some refusal) = []
-effects_unless s r None = front_effects s (head_of r) ++ effects_behind (fronted s r) r (row_refused (fronted s r) r)
+effects_unless s r None = front_effects s (head_of r) ++ effects_after (fronted s r) r (row_refused (fronted s r) r)
 
 -- the durable effects of a request, in order
 unfoldable pub effects_of : NodeState → Request → List Effect
@@ -226,7 +226,7 @@ effects_of s r = effects_unless s r (refused_at_once s r)
 abbrev pub crashed : NodeState → NodeState
 crashed s = record s { known = s.committed; opened = None; serial = 0; up = false }
 
--- a node that was stopped behind the first effects of a request
+-- a node that was stopped after the first effects of a request
 abbrev pub stopped : NodeState → Request → ℕ → NodeState
 stopped s r keep = crashed (after_effects s (take keep (effects_of s r)))
 

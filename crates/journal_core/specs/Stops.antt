@@ -6,7 +6,7 @@ use Rattle.journal_core.specs.declared.node_fail.NodeFail.{NodeFail}
 use Rattle.journal_core.specs.declared.node_fail.NodeFail.TheVariants.{DiskFault, BadFile, OutOfMemory}
 use Rattle.journal_core.specs.declared.request.Request.{Request}
 use Rattle.journal_core.specs.Effects.{Effect, Commit, after_effects}
-use Rattle.journal_core.specs.Step.{effects_of, effects_behind, row_refused, stopped, crashed, restarted}
+use Rattle.journal_core.specs.Step.{effects_of, effects_after, row_refused, stopped, crashed, restarted}
 use Rattle.journal_core.specs.Answers.{IsStopOf}
 
 -- a front that has its effect
@@ -14,15 +14,11 @@ abbrev pub raises_promise : ℕ → Option HeadView → Bool
 raises_promise promised None = false
 raises_promise promised (Some h) = nat_lt promised h.epoch
 
--- the last effect of a finalise
-abbrev pub commit_effects : NodeState → List Effect
-commit_effects s = if nat_lt s.committed s.known then Commit s.known ∷ [] else []
-
--- the effects behind the front
+-- the effects after the front
 abbrev pub effects_of_row : NodeState → Request → List Effect
-effects_of_row s r = effects_behind s r (row_refused s r)
+effects_of_row s r = effects_after s r (row_refused s r)
 
--- the first effects behind the front were done, so many of them
+-- the first effects after the front were done, so many of them
 pub record IsRowStop (old : NodeState) (request : Request) (keep done : ℕ) (new : NodeState) : Type 0 where
   pub count : done ≡ min keep (length (effects_of_row old request))
   pub state : new ≡ after_effects old (take keep (effects_of_row old request))

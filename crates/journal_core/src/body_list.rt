@@ -68,7 +68,7 @@ impl BodyList {
         Ok(())
     }
 
-    /// Drops what stands behind the first bodies; takes no memory.
+    /// Drops what stands after the first bodies; takes no memory.
     pub fn truncate(&mut self, most: usize)
         ensures { self.new ≡ take most self.old }
     {
@@ -108,7 +108,7 @@ impl BodyList {
         Ok(BodyList { items })
     }
 
-    /// At most `most` bodies behind the first `skip`; their bytes are shared.
+    /// At most `most` bodies after the first `skip`; their bytes are shared.
     pub fn share_piece(
         &self,
         alloc: Global,

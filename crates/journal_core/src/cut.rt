@@ -1,7 +1,7 @@
 // What a cut may leave of an append.
 
 /// What stands of an append that was written whole and not closed: nothing, all of it, or all of it
-/// behind a byte that says so.
+/// after a byte that says so.
 #[derive(Clone, Copy, Debug, PartialEq, Eq)]
 pub enum Cut {
     /// The bytes that stood there before.

@@ -8,15 +8,6 @@ use crate::node_state::NodeState;
 use crate::refusal::Refusal;
 use crate::request::Request;
 
-/// What the front of a request may change.
-#[derive(Clone, Copy)]
-pub(crate) struct Front {
-    promised: u64,
-    known: u64,
-    opened: Option<u64>,
-    serial: u64,
-}
-
 impl NodeState {
     /// The refusal of the front's two tests.
     fn front_refused(&self, head: &Head) -> Option<Refusal>
@@ -64,27 +55,5 @@ impl NodeState {
         self.promised = self.promised.max(head.epoch());
         self.known = self.known.max(head.committed());
         self.serial = head.serial();
-    }
-
-    /// What the front of a request may change.
-    pub(crate) fn front(&self) -> Front
-        ensures { result ≡ record { promised = self.now.promised; known = self.now.known; opened = self.now.opened; serial = self.now.serial } }
-    {
-        Front {
-            promised: self.promised,
-            known: self.known,
-            opened: self.opened,
-            serial: self.serial,
-        }
-    }
-
-    /// As it was before the front.
-    pub(crate) fn restore(&mut self, front: Front)
-        ensures { self.new ≡ record self.old { promised = front.promised; known = front.known; opened = front.opened; serial = front.serial } }
-    {
-        self.promised = front.promised;
-        self.known = front.known;
-        self.opened = front.opened;
-        self.serial = front.serial;
     }
 }

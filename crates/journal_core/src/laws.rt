@@ -1,5 +1,5 @@
 // Laws of the node step, of stops, kills and restarts, each proved for every state and every request.
-ghost use Rattle.journal_core.specs.Laws.{EventsAreParts, SoundStays, OpenSegmentIsLed, PromiseNeverFalls, AnsweredIsPromised, FinalStays, HeaderNeverFalls, NewestNeverFalls, RefusedAtOnceIsIdle, RefusedBehindLeavesFront, QuestionsAreIdle, StepIsItsEffects, StopBehindNothingIsKill, StopBehindAllIsStep};
+ghost use Rattle.journal_core.specs.Laws.{EventsAreParts, SoundStays, OpenSegmentIsLed, PromiseNeverFalls, AnsweredIsPromised, FinalStays, HeaderNeverFalls, NewestNeverFalls, RefusedAtOnceIsIdle, RefusedAfterLeavesFront, QuestionsAreIdle, StepIsItsEffects, StopAfterNothingIsKill, StopAfterAllIsStep};
 
 /// All that happens to a node is done in parts: the front of a request, single durable effects, what
 /// follows the last of them, going down, and coming up. So what each part keeps is kept by every
@@ -49,9 +49,9 @@ pub fn refused_at_once_is_idle()
     ensures { RefusedAtOnceIsIdle }
 {}
 
-/// What is refused behind the front leaves what the front did, and nothing else.
-pub fn refused_behind_leaves_front()
-    ensures { RefusedBehindLeavesFront }
+/// What is refused after the front leaves what the front did, and nothing else.
+pub fn refused_after_leaves_front()
+    ensures { RefusedAfterLeavesFront }
 {}
 
 /// State, read and manifest change nothing.
@@ -64,12 +64,12 @@ pub fn step_is_its_effects()
     ensures { StepIsItsEffects }
 {}
 
-/// A stop behind no effect is a kill.
-pub fn stop_behind_nothing_is_kill()
-    ensures { StopBehindNothingIsKill }
+/// A stop after no effect is a kill.
+pub fn stop_after_nothing_is_kill()
+    ensures { StopAfterNothingIsKill }
 {}
 
-/// A stop behind all effects is the step, and a node that goes down.
-pub fn stop_behind_all_is_step()
-    ensures { StopBehindAllIsStep }
+/// A stop after all effects is the step, and a node that goes down.
+pub fn stop_after_all_is_step()
+    ensures { StopAfterAllIsStep }
 {}

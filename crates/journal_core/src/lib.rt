@@ -3,9 +3,7 @@
 
 mod batch;
 mod body_list;
-mod budget;
 mod cut;
-mod cuts;
 mod examples;
 mod front;
 mod head;
@@ -17,7 +15,6 @@ mod node_fail;
 mod node_state;
 mod peer_call;
 mod peers;
-mod plain_node;
 mod refusal;
 mod reply;
 mod request;
@@ -25,10 +22,7 @@ mod segment;
 mod segment_info;
 mod segment_line;
 mod segment_list;
-mod serving;
 mod shared_request;
-mod stops;
-mod table;
 mod told_segment;
 
 pub use batch::Batch;
@@ -42,9 +36,9 @@ pub use head::Head;
 pub use heard::Heard;
 pub use laws::{
     answered_is_promised, events_are_parts, final_stays, header_never_falls, newest_never_falls,
-    open_segment_is_led, promise_never_falls, questions_are_idle, refused_at_once_is_idle,
-    refused_behind_leaves_front, sound_stays, step_is_its_effects, stop_behind_all_is_step,
-    stop_behind_nothing_is_kill,
+    open_segment_is_led, promise_never_falls, questions_are_idle, refused_after_leaves_front,
+    refused_at_once_is_idle, sound_stays, step_is_its_effects, stop_after_all_is_step,
+    stop_after_nothing_is_kill,
 };
 pub use limits::{MAX_BATCH, MAX_BODY, MAX_NUMBER, MAX_SEGMENT};
 pub use node::{CutNode, Node};
@@ -52,7 +46,6 @@ pub use node_fail::NodeFail;
 pub use node_state::NodeState;
 pub use peer_call::PeerCall;
 pub use peers::{MAX_NODES, Peers, permitted_nodes};
-pub use plain_node::PlainNode;
 pub use qj_num::{Bytes, Name, OutOfMemory};
 pub use refusal::Refusal;
 pub use reply::Reply;

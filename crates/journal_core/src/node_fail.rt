@@ -8,6 +8,6 @@ pub enum NodeFail {
     DiskFault,
     /// A file isn't in its format.
     BadFile { name: Name },
-    /// Want of memory.
+    /// Out of memory.
     OutOfMemory,
 }

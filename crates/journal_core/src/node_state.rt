@@ -1,6 +1,6 @@
 // What a node keeps.
 ghost use Rattle.std.specs.Prelude.{◌≡◌};
-ghost use Rattle.journal_core.specs.Step.{fresh_state};
+ghost use Rattle.journal_core.specs.Step.{fresh_state, crashed, restarted};
 
 use crate::segment_list::SegmentList;
 use std::alloc::Global;
@@ -42,5 +42,25 @@ impl NodeState {
             serial: 0,
             up: true,
         }
+    }
+
+    /// Goes down: forgets what isn't durable.
+    pub fn crash(&mut self)
+        ensures { self.new ≡ crashed self.old }
+    {
+        self.known = self.committed;
+        self.opened = None;
+        self.serial = 0;
+        self.up = false;
+    }
+
+    /// Comes up.
+    pub fn restart(&mut self)
+        ensures { self.new ≡ restarted self.old }
+    {
+        self.known = self.committed;
+        self.opened = None;
+        self.serial = 0;
+        self.up = true;
     }
 }

@@ -18,7 +18,7 @@ pub fn permitted_nodes(nodes: usize) -> bool
     1 <= nodes && nodes <= MAX_NODES
 }
 
-/// The nodes of a journal as one caller has them: in memory, behind locks, or in a world that lists
+/// The nodes of a journal as one caller has them: in memory, after locks, or in a world that lists
 /// its events. They are numbered from 1.
 pub trait Peers {
     /// The calls made so far, in order, with what was heard of each.

@@ -37,7 +37,7 @@ pub enum Refusal {
     NotHere { last: u64 },
     /// The node's disk failed.
     DiskFault,
-    /// Want of memory.
+    /// Out of memory.
     OutOfMemory,
     /// A file of the node isn't in its format.
     BadFile,

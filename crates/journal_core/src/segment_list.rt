@@ -1,7 +1,7 @@
 // The segments of a node.
 ghost use Rattle.std.specs.Prelude.{◌≡◌, ◌++◌, [], List, length, take, min as least, not, filter, Option, Some, None, IfOk, IfErr, OnOk, OnErr, IfSome};
 ghost use Rattle.std.specs.Option.{option_copied};
-ghost use Rattle.journal_core.specs.Segments.{find_segment, put_segment, newest, AreSound, AreRising, IsWithin};
+ghost use Rattle.journal_core.specs.Segments.{find_segment, put_segment, remove_segment, newest, AreSound, AreRising, IsWithin};
 ghost use Rattle.journal_core.specs.Effects.{appended, finalized};
 ghost use Rattle.journal_core.specs.Places.{IsAt, IsGap, is_old, without, start_of_place, lies_before};
 
@@ -160,6 +160,13 @@ impl SegmentList {
         }
     }
 
+    /// Removes the segment with that start.
+    pub fn remove(&mut self, start: u64)
+        ensures { self.new ≡ remove_segment start self.old }
+    {
+        self.items.retain(|segment| segment.start != start);
+    }
+
     /// Removes what isn't open, isn't the newest that holds an edit, and ends below `min` and at
     /// most at `committed`. For an empty segment its start stands in place of its end.
     #[tactic(auto, using(crate::proofs::PurgeLaws::purges))]
@@ -227,7 +234,7 @@ fn lies_before(segment: &Segment, next: Option<u64>) -> bool
 }
 
 /// A purge may remove the segment.
-pub(crate) fn is_old(
+fn is_old(
     segment: &Segment,
     opened: Option<u64>,
     newest: Option<u64>,

@@ -63,9 +63,6 @@ accept_whole : (b : BatchView) (o : Option Segment) → accept_refused b o ≢ S
 accept_whole b None = λ e. cc
 accept_whole b (Some x) = λ e. grind (arith, nat_tests)
 
-none_whole : (x : Option Refusal) → x ≡ None → x ≢ Some BadFile
-none_whole x none = λ e. cc
-
 unless_whole : (b : Bool) (o : Option Refusal) (refusal : Refusal) → o ≢ Some BadFile → refusal ≢ BadFile → cond b o (Some refusal) ≢ Some BadFile
 unless_whole true o refusal h k = h
 unless_whole false o refusal h k = λ e. k (same_Some refusal BadFile e)
@@ -202,16 +199,6 @@ caused f0 f1 s0 s1 result reply failed cause = record {
   steady = λ was. (cause.steady was, λ e. cause.no_fault was (failed e));
 }
 
-pub caused_then : {T : Type 0} (f0 f1 f2 : ℕ) (s0 s1 s2 : Type 0) (result : Result T DiskFail) (reply : Reply) → HasCause f0 f1 s0 s1 result → IsCaused f1 f2 s1 s2 reply → IsCaused f0 f2 s0 s2 reply
-caused_then f0 f1 f2 s0 s1 s2 result reply cause more = record {
-  later = omega (arith, cause.later, more.later);
-  fault = λ e. omega (arith, cause.later, more.fault e);
-  steady = λ was. more.steady (cause.steady was);
-}
-
-pub caused_same : (f : ℕ) (s : Type 0) (reply : Reply) → reply ≢ Refused DiskFault → IsCaused f f s s reply
-caused_same f s reply no_fault = record { later = omega arith; fault = λ e. absurd (no_fault e); steady = λ was. (was, no_fault) }
-
 -- ## A node that is up, and its front
 pub front_same : (m s front : NodeState) (r : Request) → m ≡ without_segments s → front ≡ state_with (fronted m r) [] → state_with front s.segments ≡ fronted s r
 front_same m s front r memory front_is =
@@ -223,7 +210,7 @@ foretold_by m s r front refusal reply memory front_is refused is =
     let same : state_with front s.segments ≡ fronted s r = front_same m s front r memory front_is in
     is ∙ ap (λ (o : Option Refusal). foretold o (state_with front s.segments) r) refused ∙ ap (λ (x : NodeState). foretold (row_refused x r) x r) same
 
--- a refusal by memory behind the front
+-- a refusal by memory after the front
 pub refused_by : (m front : NodeState) (r : Request) (rows : List SegmentRow) (refusal : Option Refusal) → front ≡ state_with (fronted m r) [] → ((gs : List Segment) → Tells gs rows → refusal ≡ row_refused (state_with front gs) r)
     → (gs : List Segment) → Tells gs rows → refusal ≡ row_refused (state_with (fronted m r) gs) r
 refused_by m front r rows refusal is refused gs tells = refused gs tells ∙ ap (λ (x : NodeState). row_refused (state_with x gs) r) is

@@ -12,7 +12,7 @@ use Rattle.journal_core.specs.declared.request.Request.{Request}
 use Rattle.journal_core.specs.declared.request.Request.TheVariants.{State, NewEpoch, Start, Journal, Finalize, Prepare, Fetch, Accept, Purge, Read, Manifest}
 use Rattle.journal_core.specs.Limits.{head_of, limit_of, max_number}
 use Rattle.journal_core.specs.Effects.{Effect, after_effects}
-use Rattle.journal_core.specs.Step.{refused_at_once, row_refused, fronted, front_opened, front_effects, front_known, open_refused, effects_of, effects_behind, crashed, front_refused, unless_limited}
+use Rattle.journal_core.specs.Step.{refused_at_once, row_refused, fronted, front_opened, front_effects, front_known, open_refused, effects_of, effects_after, crashed, front_refused, unless_limited}
 use Rattle.journal_core.proofs.Steps.{test_passed}
 use Rattle.segment_file.specs.Rows.{RowsRise}
 use Rattle.segment_file.specs.declared.segment_row.SegmentRow.{SegmentRow}
@@ -27,7 +27,7 @@ use Rattle.node_files.specs.Durable.{AreFilled}
 use Rattle.journal_node.proofs.Filled.{stopped_filled}
 use Rattle.journal_node.specs.Node.{BringsEdits, IsUp, IsDown, HasState, IsNode, IsStoppedIn, settled, state_behind}
 use Rattle.node_deeds.specs.declared.deed.Deed.{Deed}
-use Rattle.node_deeds.proofs.LimitLaws.{head_fits}
+use Rattle.request_decision.proofs.LimitLaws.{head_fits}
 use Rattle.node_deeds.proofs.DueLaws.{known_fits}
 use Rattle.journal_node.proofs.DoneAppends.{AllFit, deeds_fit, front_fits, appends_within}
 use Rattle.journal_node.proofs.DoneLaws.{SameRest, rest_noted}
@@ -53,9 +53,6 @@ was_open s r h start is = by (cond_of (front_opened s r (Some h)) refl) is
     by : Option ℕ → front_opened s r (Some h) ≡ Some start → s.opened ≡ Some start
     by o e = grind (arith, nat_tests)
 
-nothing_fits : AllFit None []
-nothing_fits = tt
-
 -- the segment to which the request appends is open, or nothing is appended
 data Appends (s : NodeState) (r : Request) : Type 0 where
   to_none : AllFit None (effects_of s r) → Appends s r
@@ -66,7 +63,7 @@ journal_appends s h start b none = by (row_refused (fronted s (Journal h start b
   where
     by : (o : Option Refusal) → row_refused (fronted s (Journal h start b)) (Journal h start b) ≡ o → Appends s (Journal h start b)
     by None row = to_open start refl (was_open s (Journal h start b) h start (opened_is (front_opened s (Journal h start b) (Some h)) start b.first _ (test_passed _ _ _ row)))
-    by (Some refusal) row = to_none (subst (λ (es : List Effect). AllFit None es) (sym (effects_are s (Journal h start b) none ∙ ap (λ (o : Option Refusal). front_effects s (Some h) ++ effects_behind (fronted s (Journal h start b)) (Journal h start b) o) row)) (front_fits None s (Some h) [] tt))
+    by (Some refusal) row = to_none (subst (λ (es : List Effect). AllFit None es) (sym (effects_are s (Journal h start b) none ∙ ap (λ (o : Option Refusal). front_effects s (Some h) ++ effects_after (fronted s (Journal h start b)) (Journal h start b) o) row)) (front_fits None s (Some h) [] tt))
 
 module _ (v : View) (m : NodeState) (rows : List SegmentRow) (s : NodeState) (r : Request) (ds : List Deed) (up : IsUp v m rows s) (due : AreDue s.segments rows r ds) (are : effects_by r ds ≡ effects_of s r) where
   can_none : append_start r ≡ None → CanDoAll v m rows s r ds
@@ -102,10 +99,6 @@ opened_same s r (Some h) = refl
 
 pub fronted_apart : (s : NodeState) (r : Request) (gs : List Segment) → state_with (fronted (without_segments s) r) gs ≡ record (fronted s r) { segments = gs }
 fronted_apart s r gs = ap (λ (o : Option ℕ). record (fronted s r) { segments = gs; opened = o }) (opened_same s r (head_of r))
-
-settled_apart : (o : Option Refusal) (x front : NodeState) (r : Request) → settled o (without_segments x) front r ≡ without_segments (settled o x front r)
-settled_apart None x front r = refl
-settled_apart (Some refusal) x front r = refl
 
 settled_front : (o : Option Refusal) (x a b : NodeState) (r : Request) → a ≡ b → settled o x a r ≡ settled o x b r
 settled_front o x a b r same = ap (λ (f : NodeState). settled o x f r) same
@@ -150,7 +143,7 @@ pub settled_segments : (o : Option Refusal) (x front : NodeState) (r : Request) 
 settled_segments None x front r = refl
 settled_segments (Some refusal) x front r = refl
 
--- ## Behind the deeds
+-- ## After the deeds
 pub up_behind : (v0 v1 : View) (m0 m1 m2 front : NodeState) (rows0 rows1 : List SegmentRow) (s : NodeState) (r : Request) (ds : List Deed) (refusal : Option Refusal) → IsUp v0 m0 rows0 s → refused_at_once s r ≡ None
     → effects_by r ds ≡ effects_of s r → refusal ≡ row_refused (state_with (fronted m0 r) s.segments) r → front ≡ state_with (fronted m0 r) [] → m2 ≡ settled refusal m1 front r
     → IsHeld v1 m1 rows1 (after_effects s (effects_by r ds))

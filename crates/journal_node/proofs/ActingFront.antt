@@ -1,4 +1,4 @@
--- What follows the deeds of a request, and which segment is open behind it.
+-- What follows the deeds of a request, and which segment is open after it.
 use Rattle.std.proofs.Common.{inl, inr, ℕ, ◌≡◌, ◌≢◌, ◌⊎◌, ◌≤◌, ◌<◌, ◌++◌, ◌==◌, ◌&&◌, ◌||◌, Bool, true, false, not, max, nat_lt, cond, List, [], ◌∷◌, map, filter, Option, Some, None, refl, sym, ap, subst, ◌∙◌, arith}
 use Rattle.std.proofs.lemmas.Bool.Decides.{nat_tests}
 use Rattle.std.proofs.lemmas.Option.{same_Some}
@@ -13,7 +13,7 @@ use Rattle.journal_core.specs.declared.request.Request.{Request}
 use Rattle.journal_core.specs.declared.request.Request.TheVariants.{State, NewEpoch, Start, Journal, Finalize, Prepare, Fetch, Accept, Purge, Read, Manifest}
 use Rattle.journal_core.specs.Limits.{head_of}
 use Rattle.journal_core.specs.Effects.{Effect, Promise, WriterEpoch, Commit, NewSegment, Append, Replace, MakeFinal, Remove, after_effects}
-use Rattle.journal_core.specs.Step.{Stepped, node_step, refused_at_once, row_refused, row_effects, row_then, row_reply, fronted, front_effects, front_promised, front_opened, closes_segment, opened_then, effects_of, effects_behind, is_one, may_go, finalize_effects, is_final_one}
+use Rattle.journal_core.specs.Step.{Stepped, node_step, refused_at_once, row_refused, row_effects, row_then, row_reply, fronted, front_effects, front_promised, front_opened, closes_segment, opened_then, effects_of, effects_after, is_one, may_go, finalize_effects, is_final_one}
 use Rattle.journal_core.specs.Segments.{find_segment}
 use Rattle.journal_core.proofs.NodeLaws.{after-append}
 use Rattle.journal_node.specs.Node.{carried, settled, state_behind, foretold}
@@ -24,7 +24,7 @@ use Rattle.node_deeds.specs.declared.deed.Deed.{Deed}
 use Rattle.node_deeds.specs.declared.deed.Deed.TheVariants as deed
 use Rattle.node_deeds.proofs.StepLaws.{front_done, unless_none, step_deeds, refused_front}
 
--- ## The front's part in memory comes behind the effects
+-- ## The front's part in memory comes after the effects
 carried_kept : (es : List Effect) (a b : NodeState) → after_effects (carried a b) es ≡ carried (after_effects a es) b
 unfolding after_effects
 carried_kept [] a b = refl
@@ -51,15 +51,15 @@ raised_same s h rest =
     ∙ sym (after-append (front_effects s h) rest s)
 
 abbrev rest_of : NodeState → Request → List Effect
-rest_of s r = effects_behind (fronted s r) r (row_refused (fronted s r) r)
+rest_of s r = effects_after (fronted s r) r (row_refused (fronted s r) r)
 
 pub effects_are : (s : NodeState) (r : Request) → refused_at_once s r ≡ None → effects_of s r ≡ front_effects s (head_of r) ++ rest_of s r
 unfolding effects_of
 effects_are s r none = unless_none s r (refused_at_once s r) none
 
-front_behind : (s : NodeState) (r : Request) → refused_at_once s r ≡ None → after_effects (fronted s r) (effects_of s r) ≡ carried (after_effects s (effects_of s r)) (fronted s r)
+front_after : (s : NodeState) (r : Request) → refused_at_once s r ≡ None → after_effects (fronted s r) (effects_of s r) ≡ carried (after_effects s (effects_of s r)) (fronted s r)
 unfolding raised
-front_behind s r none =
+front_after s r none =
     carried_kept (effects_of s r) (raised s (head_of r)) (fronted s r)
     ∙ ap (λ (t : NodeState). carried t (fronted s r))
     (ap (after_effects (raised s (head_of r))) (effects_are s r none) ∙ raised_same s (head_of r) (rest_of s r) ∙ sym (ap (after_effects s) (effects_are s r none)))
@@ -69,8 +69,8 @@ pub step_done : (s : NodeState) (r : Request) → refused_at_once s r ≡ None �
 step_done s r none = by (row_refused (fronted s r) r) refl
   where
     by : (o : Option Refusal) → row_refused (fronted s r) r ≡ o → node_step s r ≡ record { state = settled o (after_effects s (effects_of s r)) (fronted s r) r; reply = foretold o (fronted s r) r }
-    by None row = step_deeds s r none row ∙ ap (λ (t : NodeState). let x : Stepped = record { state = row_then t r; reply = row_reply (fronted s r) r } in x) (front_behind s r none)
-    by (Some refusal) row = refused_front s r refusal none row ∙ ap (λ (t : NodeState). let x : Stepped = record { state = t; reply = foretold (Some refusal) (fronted s r) r } in x) (front_behind s r none)
+    by None row = step_deeds s r none row ∙ ap (λ (t : NodeState). let x : Stepped = record { state = row_then t r; reply = row_reply (fronted s r) r } in x) (front_after s r none)
+    by (Some refusal) row = refused_front s r refusal none row ∙ ap (λ (t : NodeState). let x : Stepped = record { state = t; reply = foretold (Some refusal) (fronted s r) r } in x) (front_after s r none)
 
 -- ## The open segment
 -- the effect leaves the segment open
@@ -132,7 +132,7 @@ new_open r opened [] now ends = absurd ends
 new_open r opened (d ∷ []) now ends = inl (new_opens r opened d ends)
 new_open r opened (d ∷ e ∷ ds) now ends = new_open r opened (e ∷ ds) (Opens (Some opened) d ⊎ (Spares (Some opened) d × now)) ends
 
--- Behind a request no segment is open, or the one that was open still is, or the last effect begins it.
+-- After a request no segment is open, or the one that was open still is, or the last effect begins it.
 data Leads (before after : Option ℕ) (es : List Effect) : Type 0 where
   closed : after ≡ None → Leads before after es
   stays : after ≡ before → ((opened : ℕ) → before ≡ Some opened → AllSpare opened es) → Leads before after es
@@ -208,7 +208,7 @@ purge_spares t committed least opened (g ∷ gs) is = by (may_go t committed lea
     by true goes more = (other_start g.start opened t.opened (not_open (is_one g.start t.opened) _ goes) is, more)
     by false other more = more
 
--- which segment is open behind a request that isn't refused
+-- which segment is open after a request that isn't refused
 row_leads : (s : NodeState) (r : Request) → Leads s.opened (opened_then (front_opened s r (head_of r)) r) (front_effects s (head_of r) ++ row_effects (fronted s r) r)
 row_leads s State = kept s State [] (λ opened is same. tt)
 row_leads s (NewEpoch epoch) = closed refl
@@ -228,7 +228,7 @@ row_leads s (Purge h least) = kept s (Purge h least) (row_effects (fronted s (Pu
 row_leads s (Read from) = kept s (Read from) [] (λ opened is same. tt)
 row_leads s Manifest = kept s Manifest [] (λ opened is same. tt)
 
-leads_by : (s : NodeState) (r : Request) (o : Option Refusal) (x : NodeState) → Leads s.opened (settled o x (fronted s r) r).opened (front_effects s (head_of r) ++ effects_behind (fronted s r) r o)
+leads_by : (s : NodeState) (r : Request) (o : Option Refusal) (x : NodeState) → Leads s.opened (settled o x (fronted s r) r).opened (front_effects s (head_of r) ++ effects_after (fronted s r) r o)
 leads_by s r (Some refusal) x = kept s r [] (λ opened is same. tt)
 leads_by s r None x = row_leads s r
 

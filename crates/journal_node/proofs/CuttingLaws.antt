@@ -21,7 +21,7 @@ use Rattle.journal_core.specs.Effects.{Effect, Promise, WriterEpoch, Commit, New
 use Rattle.journal_core.specs.Step.{refused_at_once, effects_of, crashed, stopped}
 use Rattle.journal_core.specs.Cuts.{Cost, number_cost, append_cost, accept_cost, name_cost, has_record, cost_of, standing, effects_standing, IsCut}
 use Rattle.journal_core.proofs.CutLaws.{cut_refused}
-use Rattle.journal_core.proofs.BudgetLaws.{standing_one, standing_stop}
+use Rattle.journal_core.proofs.CutLaws.{standing_one, standing_stop}
 use Rattle.journal_core.proofs.NodeLaws.{stop_nothing}
 use Rattle.segment_file.specs.Effects.{choice_of, IsCounted}
 use Rattle.segment_file.specs.Effects as effects
@@ -66,7 +66,7 @@ costs_are cut gs rows r (d ∷ ds) due keep =
     let rest : map (deed_cost cut) ds ≡ map (cost_of cut gs) (effects_by r ds) = costs_are cut (segments_after gs (effect_of r d)) (rows_after r d 0 rows) r ds (due.1 0) keep.1 ∙ keep.0 cut in
     λ i. first i ∷ rest i
 
--- each effect of the request leaves the costs of those behind it
+-- each effect of the request leaves the costs of those after it
 pub kept_of : (s : NodeState) (r : Request) (ds : List Deed) → AreSound s.segments → effects_by r ds ≡ effects_of s r → KeepCosts s.segments (effects_by r ds)
 kept_of s r ds sound are = subst (λ (es : List Effect). KeepCosts s.segments es) (sym are) (costs_kept s r sound)
 

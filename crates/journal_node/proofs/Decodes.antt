@@ -29,9 +29,9 @@ by_parts most byte rest b more is batch behind =
     cond-true (byte == gate) (bodies_of (batch_in (take (told_length (byte ∷ rest)) (drop 4 rest))) ++ frames_in most (drop (4 + told_length (byte ∷ rest)) rest)) [] (eq-eqb byte gate is)
     ∙ (λ i. bodies_of (batch i) ++ frames_in most (behind i))
 
-behind_frame : (byte : ℕ) (rest : List ℕ) (b : BatchView) (more : List ℕ) → byte ∷ rest ≡ frame_bytes b ++ more → told_length (byte ∷ rest) ≡ length (inner_bytes b) → drop (4 + told_length (byte ∷ rest)) rest ≡ more
+after_frame : (byte : ℕ) (rest : List ℕ) (b : BatchView) (more : List ℕ) → byte ∷ rest ≡ frame_bytes b ++ more → told_length (byte ∷ rest) ≡ length (inner_bytes b) → drop (4 + told_length (byte ∷ rest)) rest ≡ more
 unfolding frame_bytes
-behind_frame byte rest b more e told =
+after_frame byte rest b more e told =
     sym (drop-drop (told_length (byte ∷ rest)) 4 rest)
     ∙ ap (λ (x : List ℕ). drop (told_length (byte ∷ rest)) (drop 5 x)) e
     ∙ drop_at (inner_bytes b) more (told_length (byte ∷ rest)) (sym told)
@@ -41,7 +41,7 @@ one_frame most [] b more fits e = absurd (omega (arith, ap length e, length-appe
 one_frame most (byte ∷ rest) b more fits e =
     let spells : Spells (byte ∷ rest) b = record { fits = fits; rest = more; spelled = e } in
     let tells : Tells (byte ∷ rest) b = spelled_tells (byte ∷ rest) b spells in
-    by_parts most byte rest b more tells.gate_is (spelled_batch (byte ∷ rest) b spells) (behind_frame byte rest b more e tells.told)
+    by_parts most byte rest b more tells.gate_is (spelled_batch (byte ∷ rest) b spells) (after_frame byte rest b more e tells.told)
 
 frames_decoded : (most next : ℕ) (bs : List BatchView) (tail : List ℕ) → AreInOrder next bs → IsTail tail → length bs ≤ most → frames_in most (flat_map frame_bytes bs ++ tail) ≡ flat_map (λ b. b.bodies) bs
 unfolding frames_in

@@ -24,9 +24,6 @@ use Rattle.segment_file.specs.Names.{InProgress, Final, Record, name_of, kind_of
 use Rattle.segment_file.specs.Stands.{Holds, slot_of}
 use Rattle.segment_file.specs.Effects.{AppendsAt, IsCounted}
 use Rattle.segment_file.specs.Calls.{NotFinal, CanAppend, CanFinalize, CanDiscard}
-use Rattle.segment_file.specs.Answers.{appended_result}
-use Rattle.segment_file.specs.declared.appended.Appended.{Appended}
-use Rattle.segment_file.specs.declared.appended.Appended.TheVariants as appended
 use Rattle.segment_file.specs.Rows.{AreSoundRows}
 use Rattle.segment_file.specs.declared.segment_row.SegmentRow.{SegmentRow}
 use Rattle.segment_file.specs.RowsTell.{AreStarts}
@@ -144,7 +141,7 @@ module _ (v : View) (rows : List SegmentRow) (s : NodeState) (r : Request) where
     remove_record has = accepted_there v sound s info.start can.due.segment can.held.files can.due.known (remove_accepted ∙ has)
 
 -- ## What the calls do
-module _ (s : NodeState) (r : Request) (result : Result (Unit {0}) DiskFail) (v0 v1 : View) (l0 l1 : Option ℕ) where
+module _ {T : Type 0} (s : NodeState) (r : Request) (result : Result T DiskFail) (v0 v1 : View) (l0 l1 : Option ℕ) where
   pub number_does : (number : NodeNumber) (value : ℕ) → Does s (after_effect s (number_effect number value)) result v0 v1 → ((g : Segment) (at : ℕ) → AppendsAt v0 g at → AppendsAt v1 g at) → IsCounted 3 l0 l1 result
       → IsCutAt (λ _. number_cost) s (after_effect s (number_effect number value)) l0 result v1 → DoesDeed s r (deed.Number number value) result v0 v1 l0 l1
   number_does Promised value effect appends counts cut =
@@ -214,26 +211,32 @@ module _ (s : NodeState) (r : Request) (result : Result (Unit {0}) DiskFail) (v0
       }
 
 -- ## Where the table is noted
-pub appended_ok : (answer : Appended) (place : ℕ) → answer ≡ appended.Done place → IsOk (appended_result answer)
-appended_ok (appended.Done at) place is = refl
-appended_ok appended.DiskFault place is = absurd (cc)
-appended_ok appended.OutOfMemory place is = absurd (cc)
-
 module _ (s : NodeState) (r : Request) (d : Deed) (v0 v1 : View) (l0 l1 : Option ℕ) where
-  pub does_as : (told result : Result (Unit {0}) DiskFail) → result ≡ told → DoesDeed s r d told v0 v1 l0 l1 → DoesDeed s r d result v0 v1 l0 l1
-  does_as told result is does = subst (λ (x : Result (Unit {0}) DiskFail). DoesDeed s r d x v0 v1 l0 l1) (sym is) does
+  never_ok : (x : Result (Unit {0}) DiskFail) (P : Type 0) → IsErr x → OnOk x P
+  never_ok (Ok y) P err = absurd (cc)
+  never_ok (Err e) P err = tt
+
+  -- the calls failed, and so does the deed
+  pub does_failed : {T : Type 0} (calls : Result T DiskFail) (result : Result (Unit {0}) DiskFail) → IsErr result → (IsErrOf result Failed → IsErrOf calls Failed) → DoesDeed s r d calls v0 v1 l0 l1 → DoesDeed s r d result v0 v1 l0 l1
+  does_failed calls result err passes does = record {
+    effect = record { any_moment = does.effect.any_moment; done = never_ok result (HoldsState v1 (after_effect s (effect_of r d))) err };
+    others = does.others;
+    appends = never_ok result _ err;
+    counts = λ cut. record { stops = λ k is few. err; counts = λ k is. (λ failed. ((does.counts cut).counts k is).0 (passes failed), never_ok result (l1 ≡ Some k) err) };
+    cut = record { stands = λ k is failed cut c chosen. does.cut.stands k is (passes failed) cut c chosen };
+  }
 
   ok_or_err : {T : Type 0} (x : Result T DiskFail) → IsOk x → IsErr x → ⊥
   ok_or_err (Ok y) ok err = absurd (cc)
   ok_or_err (Err e) ok err = absurd (cc)
 
-  on_ok_of : (x : Result (Unit {0}) DiskFail) (P : Type 0) → IsOk x → OnOk x P → P
+  on_ok_of : {T : Type 0} (x : Result T DiskFail) (P : Type 0) → IsOk x → OnOk x P → P
   on_ok_of (Ok y) P ok is = is
   on_ok_of (Err e) P ok is = absurd (cc)
 
   -- the calls were done, and the note in the table is or isn't
-  pub noted_behind : (calls result : Result (Unit {0}) DiskFail) → IsOk calls → (IsErrOf result Failed → ⊥) → DoesDeed s r d calls v0 v1 l0 l1 → DoesDeed s r d result v0 v1 l0 l1
-  noted_behind calls result ok fine does = record {
+  pub noted_after : {T : Type 0} (calls : Result T DiskFail) (result : Result (Unit {0}) DiskFail) → IsOk calls → (IsErrOf result Failed → ⊥) → DoesDeed s r d calls v0 v1 l0 l1 → DoesDeed s r d result v0 v1 l0 l1
+  noted_after calls result ok fine does = record {
     effect = record { any_moment = does.effect.any_moment; done = on_ok_always result (HoldsState v1 (after_effect s (effect_of r d))) (on_ok_of calls _ ok does.effect.done) };
     others = does.others;
     appends = on_ok_always result _ (on_ok_of calls _ ok does.appends);
@@ -243,20 +246,3 @@ module _ (s : NodeState) (r : Request) (d : Deed) (v0 v1 : View) (l0 l1 : Option
     };
     cut = record { stands = λ k is failed cut c chosen. absurd (fine failed) };
   }
-
--- the table couldn't be noted before the calls
-pub not_begun : (s : NodeState) (r : Request) (d : Deed) (v : View) (left : Option ℕ) (result : Result (Unit {0}) DiskFail) → IsSound v → HoldsState v s → IsErr result → (IsErrOf result Failed → ⊥) → DoesDeed s r d result v v left left
-not_begun s r d v left result sound holds err fine = record {
-  effect = record {
-    any_moment = started v (λ c. StandsAs c s ⊎ StandsAs c (after_effect s (effect_of r d))) sound (λ c now. inl record { numbers = holds.numbers c now; segments = holds.segments.stands c now });
-    done = never result _ err;
-  };
-  others = λ g at passes was. was;
-  appends = never result _ err;
-  counts = λ cut. record { stops = λ k is few. err; counts = λ k is. (fine, never result _ err) };
-  cut = record { stands = λ k is failed cut c chosen. absurd (fine failed) };
-}
-  where
-    never : (x : Result (Unit {0}) DiskFail) (P : Type 0) → IsErr x → OnOk x P
-    never (Ok y) P is = absurd (cc)
-    never (Err e) P is = tt

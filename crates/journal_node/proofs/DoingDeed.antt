@@ -26,12 +26,12 @@ use Rattle.node_deeds.specs.Told.{Tells, state_with}
 use Rattle.journal_node.specs.FileState.{Covers, without_segments}
 use Rattle.node_deeds.specs.Due.{batch_of, effect_of, IsDue, IsAppendDue, begun_row, appended_row, final_row, changed, rows_after}
 use Rattle.journal_node.specs.Held.{IsHeld, AppendsTo, OpenedAt, MayLeave, numbers_after, Opens, Spares}
-use Rattle.journal_node.specs.Doing.{place_after, CanDo, Passes, AppendsBehind, DoesDeed, NotedAtFault}
+use Rattle.journal_node.specs.Doing.{place_after, CanDo, Passes, AppendsAfter, DoesDeed, NotedAtFault}
 use Rattle.node_deeds.specs.declared.deed.Deed.{Deed}
 use Rattle.node_deeds.specs.declared.deed.Deed.TheVariants as deed
 use Rattle.node_deeds.proofs.ToldLaws.{start_told}
 use Rattle.node_deeds.proofs.ApplyLaws.{after_told}
-use Rattle.journal_node.proofs.DoingRows.{find_put_same, find_put_other, find_remove_other, row_of, tells_covers, IsNotedBehind, IsNotedBefore, number_same, covers_behind, covers_before, sound_after}
+use Rattle.journal_node.proofs.DoingRows.{find_put_same, find_put_other, find_remove_other, row_of, tells_covers, IsNotedAfter, IsNotedBefore, number_same, covers_after, covers_before, sound_after}
 
 -- ## What a crash leaves
 pub stands_now : (v : View) (s : NodeState) → HoldsState v s → AllLeave v (λ c. StandsAs c s)
@@ -66,31 +66,31 @@ module _ (v0 : View) (rows : List SegmentRow) (s : NodeState) (r : Request) (d :
         (tells_covers (segments_after s.segments (effect_of r d)) new (tells_then new is))
 
     -- the calls were not done, or not noted
-    pub left_behind : IsNotedBehind d → new ≡ rows → AllLeave v1 (MayLeave new s (after_effect s (effect_of r d)))
-    left_behind behind same = left_either new s (after_effect s (effect_of r d)) v0 v1 sound1 leaves can.held.sound sound_then
+    pub left_after : IsNotedAfter d → new ≡ rows → AllLeave v1 (MayLeave new s (after_effect s (effect_of r d)))
+    left_after behind same = left_either new s (after_effect s (effect_of r d)) v0 v1 sound1 leaves can.held.sound sound_then
         (subst (λ (xs : List SegmentRow). Covers xs s.segments) (sym same) (tells_covers s.segments rows can.held.told))
-        (subst (λ (xs : List SegmentRow). Covers xs (segments_after s.segments (effect_of r d))) (sym same) (covers_behind r d s.segments rows behind can.held.told can.due))
+        (subst (λ (xs : List SegmentRow). Covers xs (segments_after s.segments (effect_of r d))) (sym same) (covers_after r d s.segments rows behind can.held.told can.due))
 
     -- the calls were done, and noted or not
-    pub left_noted : HoldsState v1 (after_effect s (effect_of r d)) → (result : Result (Unit {0}) DiskFail) → IsNotedBehind d → OnOk result (new ≡ rows_after r d (place_after r d) rows) → OnErr result (new ≡ rows)
+    pub left_noted : HoldsState v1 (after_effect s (effect_of r d)) → (result : Result (Unit {0}) DiskFail) → IsNotedAfter d → OnOk result (new ≡ rows_after r d (place_after r d) rows) → OnErr result (new ≡ rows)
         → AllLeave v1 (MayLeave new s (after_effect s (effect_of r d)))
     left_noted holds (Ok x) behind is same = λ c now. inr record {
       stands = stands_now v1 (after_effect s (effect_of r d)) holds c now;
       sound = sound_then;
       covers = tells_covers (segments_after s.segments (effect_of r d)) new (tells_then new is);
     }
-    left_noted holds (Err e) behind is same = left_behind behind same
+    left_noted holds (Err e) behind is same = left_after behind same
 
   -- the same of what the calls did
-  module _ (v1 : View) (sound1 : IsSound v1) (l0 l1 : Option ℕ) (calls : Result (Unit {0}) DiskFail) (does : DoesDeed s r d calls v0 v1 l0 l1) (new : List SegmentRow) where
+  module _ {T : Type 0} (v1 : View) (sound1 : IsSound v1) (l0 l1 : Option ℕ) (calls : Result T DiskFail) (does : DoesDeed s r d calls v0 v1 l0 l1) (new : List SegmentRow) where
     pub done_before : IsNotedBefore d → new ≡ rows_after r d (place_after r d) rows → AllLeave v1 (MayLeave new s (after_effect s (effect_of r d)))
     done_before before is = left_before v1 sound1 does.effect.any_moment new before is
 
-    pub done_behind : IsNotedBehind d → IsOk calls → (result : Result (Unit {0}) DiskFail) → OnOk result (new ≡ rows_after r d (place_after r d) rows) → OnErr result (new ≡ rows) → AllLeave v1 (MayLeave new s (after_effect s (effect_of r d)))
-    done_behind behind ok result is same = left_noted v1 sound1 does.effect.any_moment new (on_ok calls (HoldsState v1 (after_effect s (effect_of r d))) ok does.effect.done) result behind is same
+    pub done_after : IsNotedAfter d → IsOk calls → (result : Result (Unit {0}) DiskFail) → OnOk result (new ≡ rows_after r d (place_after r d) rows) → OnErr result (new ≡ rows) → AllLeave v1 (MayLeave new s (after_effect s (effect_of r d)))
+    done_after behind ok result is same = left_noted v1 sound1 does.effect.any_moment new (on_ok calls (HoldsState v1 (after_effect s (effect_of r d))) ok does.effect.done) result behind is same
 
-    pub failed_behind : IsNotedBehind d → new ≡ rows → AllLeave v1 (MayLeave new s (after_effect s (effect_of r d)))
-    failed_behind behind same = left_behind v1 sound1 does.effect.any_moment new behind same
+    pub failed_after : IsNotedAfter d → new ≡ rows → AllLeave v1 (MayLeave new s (after_effect s (effect_of r d)))
+    failed_after behind same = left_after v1 sound1 does.effect.any_moment new behind same
 
 -- ## The table
 pub rows_then : (r : Request) (d : Deed) (gs : List Segment) (rows new : List SegmentRow) → Tells gs rows → IsDue gs rows r d → new ≡ rows_after r d (place_after r d) rows → Tells (segments_after gs (effect_of r d)) new
@@ -101,10 +101,10 @@ pub told_either : (r : Request) (d : Deed) (gs : List Segment) (rows new : List 
 told_either r d gs rows new (inl same) t due = inl (subst (λ (xs : List SegmentRow). Tells gs xs) (sym same) t)
 told_either r d gs rows new (inr is) t due = inr (rows_then r d gs rows new t due is)
 
-covers_same : (r : Request) (d : Deed) (gs : List Segment) (rows new : List SegmentRow) → IsNotedBehind d → new ≡ rows → Tells gs rows → IsDue gs rows r d → Covers new gs × Covers new (segments_after gs (effect_of r d))
+covers_same : (r : Request) (d : Deed) (gs : List Segment) (rows new : List SegmentRow) → IsNotedAfter d → new ≡ rows → Tells gs rows → IsDue gs rows r d → Covers new gs × Covers new (segments_after gs (effect_of r d))
 covers_same r d gs rows new behind same t due = (
   subst (λ (xs : List SegmentRow). Covers xs gs) (sym same) (tells_covers gs rows t),
-  subst (λ (xs : List SegmentRow). Covers xs (segments_after gs (effect_of r d))) (sym same) (covers_behind r d gs rows behind t due),
+  subst (λ (xs : List SegmentRow). Covers xs (segments_after gs (effect_of r d))) (sym same) (covers_after r d gs rows behind t due),
 )
 
 covers_noted : (r : Request) (d : Deed) (gs : List Segment) (rows new : List SegmentRow) → IsNotedBefore d → new ≡ rows_after r d 0 rows → Tells gs rows → IsDue gs rows r d → Covers new gs × Covers new (segments_after gs (effect_of r d))
@@ -190,7 +190,7 @@ module _ (r : Request) (v0 v1 : View) (gs : List Segment) (rows : List SegmentRo
     unfolding lengthened
     rows_are = ap (λ (o : Option SegmentRow). changed (appended_row (last_txid (batch_of r)) (at + length (frame_bytes (batch_of r)))) o rows) (sym due.told)
 
-    appended_opens : AppendsBehind v1 gs r (deed.Append start at) → AppendsTo v1 (put_segment longer gs) (put_row lengthened rows) start
+    appended_opens : AppendsAfter v1 gs r (deed.Append start at) → AppendsTo v1 (put_segment longer gs) (put_row lengthened rows) start
     unfolding longer lengthened
     appended_opens behind = record {
       segment = longer;
@@ -201,7 +201,7 @@ module _ (r : Request) (v0 v1 : View) (gs : List Segment) (rows : List SegmentRo
       appends = behind due.segment due.known;
     }
 
-    append_keeps : AppendsBehind v1 gs r (deed.Append start at) → ((g : Segment) (place : ℕ) → g.start ≢ start → AppendsAt v0 g place → AppendsAt v1 g place) → AppendsTo v0 gs rows opened
+    append_keeps : AppendsAfter v1 gs r (deed.Append start at) → ((g : Segment) (place : ℕ) → g.start ≢ start → AppendsAt v0 g place → AppendsAt v1 g place) → AppendsTo v0 gs rows opened
         → AppendsTo v1 (appended (batch_of r).bodies (find_segment start gs) gs) (changed (appended_row (last_txid (batch_of r)) (at + length (frame_bytes (batch_of r)))) (find_row start rows) rows) opened
     unfolding longer lengthened
     append_keeps behind others o =
@@ -229,7 +229,7 @@ module _ (r : Request) (v0 v1 : View) (gs : List Segment) (rows : List SegmentRo
         (find_put_other opened (final_row there.0) rows (λ same. ne (sym row_start ∙ same)))
         (others o.segment o.row.whole_length (λ same. ne (sym same ∙ find-start opened gs o.segment o.known)) o.appends)))
 
-  spared : (d : Deed) → IsDue gs rows r d → Spares (Some opened) d → ((g : Segment) (at : ℕ) → Passes g.start r d → AppendsAt v0 g at → AppendsAt v1 g at) → AppendsBehind v1 gs r d → AppendsTo v0 gs rows opened
+  spared : (d : Deed) → IsDue gs rows r d → Spares (Some opened) d → ((g : Segment) (at : ℕ) → Passes g.start r d → AppendsAt v0 g at → AppendsAt v1 g at) → AppendsAfter v1 gs r d → AppendsTo v0 gs rows opened
       → AppendsTo v1 (segments_after gs (effect_of r d)) (rows_after r d (place_after r d) rows) opened
   spared (deed.Number number value) due spares others behind o =
       subst (λ (hs : List Segment). AppendsTo v1 hs rows opened) (sym (number_same number value gs)) (passed_by opened v0 v1 gs gs rows rows o refl refl (others o.segment o.row.whole_length tt o.appends))
@@ -245,7 +245,7 @@ module _ (r : Request) (v0 v1 : View) (gs : List Segment) (rows : List SegmentRo
       (find-remove_other opened info.start gs ne) (find_remove_other info.start opened rows (λ same. ne (sym same)))
       (others o.segment o.row.whole_length (λ same. ne (sym same ∙ find-start opened gs o.segment o.known)) o.appends)
 
-  opens_now : (d : Deed) → Opens (Some opened) d → AppendsBehind v1 gs r d → AppendsTo v1 (segments_after gs (effect_of r d)) (rows_after r d (place_after r d) rows) opened
+  opens_now : (d : Deed) → Opens (Some opened) d → AppendsAfter v1 gs r d → AppendsTo v1 (segments_after gs (effect_of r d)) (rows_after r d (place_after r d) rows) opened
   opens_now (deed.Number number value) opens behind = absurd opens
   opens_now (deed.Begin start epoch) is behind =
       subst (λ (m : ℕ). AppendsTo v1 (put_segment (empty_segment start epoch) gs) (put_row (begun_row start epoch) rows) m) is (begun_opens start epoch v1 gs rows behind)
@@ -255,7 +255,7 @@ module _ (r : Request) (v0 v1 : View) (gs : List Segment) (rows : List SegmentRo
   opens_now (deed.Remove info) opens behind = absurd opens
 
 pub opened_then : (r : Request) (d : Deed) (v0 v1 : View) (gs : List Segment) (rows new : List SegmentRow) → Tells gs rows → IsDue gs rows r d → new ≡ rows_after r d (place_after r d) rows
-    → ((g : Segment) (at : ℕ) → Passes g.start r d → AppendsAt v0 g at → AppendsAt v1 g at) → AppendsBehind v1 gs r d
+    → ((g : Segment) (at : ℕ) → Passes g.start r d → AppendsAt v0 g at → AppendsAt v1 g at) → AppendsAfter v1 gs r d
     → (o : Option ℕ) → Opens o d ⊎ (Spares o d × OpenedAt v0 gs rows o) → OpenedAt v1 (segments_after gs (effect_of r d)) new o
 opened_then r d v0 v1 gs rows new t due is others behind None how = tt
 opened_then r d v0 v1 gs rows new t due is others behind (Some opened) (inl opens) =

@@ -1,4 +1,4 @@
--- A table that covers segments, before a deed and behind it.
+-- A table that covers segments, before a deed and after it.
 use Rattle.std.proofs.Common.{inl, inr, ◌≡◌, ◌≢◌, ℕ, ◌==◌, true, false, List, [], ◌∷◌, ◌++◌, Option, Some, None, refl, sym, ap, subst, ◌∙◌, arith, cond, nat_lt, length-append}
 use Rattle.std.proofs.lemmas.Bool.{cases_eq, cond_both, cond-true, cond-false, eq-eqb, eqb-true, ne_eqb}
 use Rattle.std.proofs.lemmas.Option.{same_Some}
@@ -103,14 +103,14 @@ covers_remove gone rows gs covers = record {
   ];
 }
 
--- A deed that is noted behind its calls: the table as it was covers what it leaves.
-abbrev pub IsNotedBehind : Deed → Type 0
-IsNotedBehind (deed.Number number value) = Unit {0}
-IsNotedBehind (deed.Begin start epoch) = ⊥
-IsNotedBehind (deed.Append start at) = Unit {0}
-IsNotedBehind (deed.Accept epoch again) = ⊥
-IsNotedBehind (deed.Finalize start end accepted) = Unit {0}
-IsNotedBehind (deed.Remove info) = Unit {0}
+-- A deed that is noted after its calls: the table as it was covers what it leaves.
+abbrev pub IsNotedAfter : Deed → Type 0
+IsNotedAfter (deed.Number number value) = Unit {0}
+IsNotedAfter (deed.Begin start epoch) = ⊥
+IsNotedAfter (deed.Append start at) = Unit {0}
+IsNotedAfter (deed.Accept epoch again) = ⊥
+IsNotedAfter (deed.Finalize start end accepted) = Unit {0}
+IsNotedAfter (deed.Remove info) = Unit {0}
 
 -- one that is noted before them: the table with it covers what was
 abbrev pub IsNotedBefore : Deed → Type 0
@@ -141,13 +141,13 @@ finalize_covers start end gs rows g t known =
     (covers_put_segment new rows gs there.0 (tells_covers gs rows t) (subst (λ (m : ℕ). find_row m rows ≡ Some there.0) (sym (find-start start gs g known)) there.1)
     (λ final. end_told g there.0 there.2))
 
-pub covers_behind : (r : Request) (d : Deed) (gs : List Segment) (rows : List SegmentRow) → IsNotedBehind d → Tells gs rows → IsDue gs rows r d → Covers rows (segments_after gs (effect_of r d))
-covers_behind r (deed.Number number value) gs rows behind t due = subst (λ (hs : List Segment). Covers rows hs) (sym (number_same number value gs)) (tells_covers gs rows t)
-covers_behind r (deed.Begin start epoch) gs rows behind t due = absurd behind
-covers_behind r (deed.Append start at) gs rows behind t due = append_covers start at r gs rows t due
-covers_behind r (deed.Accept epoch again) gs rows behind t due = absurd behind
-covers_behind r (deed.Finalize start end accepted) gs rows behind t due = finalize_covers start end gs rows due.segment t due.known
-covers_behind r (deed.Remove info) gs rows behind t due = covers_remove info.start rows gs (tells_covers gs rows t)
+pub covers_after : (r : Request) (d : Deed) (gs : List Segment) (rows : List SegmentRow) → IsNotedAfter d → Tells gs rows → IsDue gs rows r d → Covers rows (segments_after gs (effect_of r d))
+covers_after r (deed.Number number value) gs rows behind t due = subst (λ (hs : List Segment). Covers rows hs) (sym (number_same number value gs)) (tells_covers gs rows t)
+covers_after r (deed.Begin start epoch) gs rows behind t due = absurd behind
+covers_after r (deed.Append start at) gs rows behind t due = append_covers start at r gs rows t due
+covers_after r (deed.Accept epoch again) gs rows behind t due = absurd behind
+covers_after r (deed.Finalize start end accepted) gs rows behind t due = finalize_covers start end gs rows due.segment t due.known
+covers_after r (deed.Remove info) gs rows behind t due = covers_remove info.start rows gs (tells_covers gs rows t)
 
 pub covers_before : (r : Request) (d : Deed) (place : ℕ) (gs : List Segment) (rows : List SegmentRow) → IsNotedBefore d → Tells gs rows → IsDue gs rows r d → Covers (rows_after r d place rows) gs
 covers_before r (deed.Number number value) place gs rows before t due = absurd before

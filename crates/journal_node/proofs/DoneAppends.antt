@@ -8,7 +8,7 @@ use Rattle.journal_core.specs.declared.request.Request.{Request}
 use Rattle.journal_core.specs.declared.request.Request.TheVariants.{State, NewEpoch, Start, Journal, Finalize, Prepare, Fetch, Accept, Purge, Read, Manifest}
 use Rattle.journal_core.specs.Limits.{head_of}
 use Rattle.journal_core.specs.Effects.{Effect, Promise, WriterEpoch, Commit, NewSegment, Append, Replace, MakeFinal, Remove}
-use Rattle.journal_core.specs.Step.{refused_at_once, front_effects, fronted, row_refused, may_go, row_effects, effects_behind, effects_unless, effects_of}
+use Rattle.journal_core.specs.Step.{refused_at_once, front_effects, fronted, row_refused, may_go, row_effects, effects_after, effects_unless, effects_of}
 use Rattle.node_deeds.specs.Due.{effect_of}
 use Rattle.journal_node.specs.Held.{Spares}
 use Rattle.journal_node.specs.Done.{effects_by, GoesTo, AppendWithin, append_start, AppendsAreWithin}
@@ -90,9 +90,9 @@ rows_fit s (Purge h least) = removals_fit (filter (may_go s h.committed least) s
 rows_fit s (Read from) = tt
 rows_fit s Manifest = tt
 
-behind_fits : (s : NodeState) (r : Request) (o : Option Refusal) → AllFit (append_start r) (effects_behind s r o)
-behind_fits s r (Some refusal) = tt
-behind_fits s r None = rows_fit s r
+after_fits : (s : NodeState) (r : Request) (o : Option Refusal) → AllFit (append_start r) (effects_after s r o)
+after_fits s r (Some refusal) = tt
+after_fits s r None = rows_fit s r
 
 raised_fits : (o : Option ℕ) (epoch : ℕ) (rest : List Effect) (raised : Bool) → AllFit o rest → AllFit o (cond raised (Promise epoch ∷ []) [] ++ rest)
 raised_fits o epoch rest true fit = (tt, fit)
@@ -104,7 +104,7 @@ front_fits o s (Some h) rest fit = raised_fits o h.epoch rest _ fit
 
 unless_fits : (s : NodeState) (r : Request) (o : Option Refusal) → AllFit (append_start r) (effects_unless s r o)
 unless_fits s r (Some refusal) = tt
-unless_fits s r None = front_fits (append_start r) s (head_of r) _ (behind_fits (fronted s r) r (row_refused (fronted s r) r))
+unless_fits s r None = front_fits (append_start r) s (head_of r) _ (after_fits (fronted s r) r (row_refused (fronted s r) r))
 
 pub appends_within : AppendsAreWithin
 unfolding effects_of

@@ -1,4 +1,4 @@
--- The effects of a request leave the costs of those behind them as they are.
+-- The effects of a request leave the costs of those after them as they are.
 use Rattle.std.proofs.Common.{◌≡◌, ◌≢◌, ℕ, ◌++◌, Bool, true, false, List, [], ◌∷◌, map, filter, Option, Some, None, refl, cond, arith}
 use Rattle.journal_core.specs.Views.{HeadView}
 use Rattle.journal_core.specs.declared.cut.Cut.{Cut}
@@ -10,7 +10,7 @@ use Rattle.journal_core.specs.declared.request.Request.TheVariants.{State, NewEp
 use Rattle.journal_core.specs.Limits.{head_of}
 use Rattle.journal_core.specs.Segments.{remove_segment, AreAbove, AreRising, AreSound}
 use Rattle.journal_core.specs.Effects.{Effect, Promise, WriterEpoch, Commit, NewSegment, Replace, MakeFinal, Remove}
-use Rattle.journal_core.specs.Step.{refused_at_once, front_effects, fronted, row_refused, may_go, row_effects, effects_behind, effects_unless, effects_of}
+use Rattle.journal_core.specs.Step.{refused_at_once, front_effects, fronted, row_refused, may_go, row_effects, effects_after, effects_unless, effects_of}
 use Rattle.journal_core.specs.Cuts.{name_cost, has_record, cost_of}
 use Rattle.journal_core.proofs.SegmentLists.{find-remove_other}
 use Rattle.journal_core.proofs.PurgeLaws.{filter_sound}
@@ -59,10 +59,10 @@ rows_keep s (Purge h least) sound = removals_keep s.segments (filter (may_go s h
 rows_keep s (Read from) sound = tt
 rows_keep s Manifest sound = tt
 
--- ## Behind the front
-behind_keeps : (s : NodeState) (r : Request) (o : Option Refusal) → AreSound s.segments → KeepCosts s.segments (effects_behind s r o)
-behind_keeps s r (Some refusal) sound = tt
-behind_keeps s r None sound = rows_keep s r sound
+-- ## After the front
+after_keeps : (s : NodeState) (r : Request) (o : Option Refusal) → AreSound s.segments → KeepCosts s.segments (effects_after s r o)
+after_keeps s r (Some refusal) sound = tt
+after_keeps s r None sound = rows_keep s r sound
 
 raised_keeps : (gs : List Segment) (epoch : ℕ) (rest : List Effect) (raised : Bool) → KeepCosts gs rest → KeepCosts gs (cond raised (Promise epoch ∷ []) [] ++ rest)
 raised_keeps gs epoch rest true keep = (λ cut. refl, keep)
@@ -74,7 +74,7 @@ front_keeps gs s (Some h) rest keep = raised_keeps gs h.epoch rest _ keep
 
 unless_keeps : (s : NodeState) (r : Request) (o : Option Refusal) → AreSound s.segments → KeepCosts s.segments (effects_unless s r o)
 unless_keeps s r (Some refusal) sound = tt
-unless_keeps s r None sound = front_keeps s.segments s (head_of r) _ (behind_keeps (fronted s r) r (row_refused (fronted s r) r) sound)
+unless_keeps s r None sound = front_keeps s.segments s (head_of r) _ (after_keeps (fronted s r) r (row_refused (fronted s r) r) sound)
 
 pub costs_kept : CostsAreKept
 unfolding effects_of

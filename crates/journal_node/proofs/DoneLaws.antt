@@ -38,7 +38,7 @@ pub record CostSoFar (s t : NodeState) (r : Request) (done later : List Deed) (l
   pub same : (cut : Cut) → map (cost_of cut t.segments) (effects_by r later) ≡ map (cost_of cut s.segments) (effects_by r later)
   pub passed : (cut : Cut) → Passed (calls_of (map (cost_of cut s.segments) (effects_by r done))) left0 left
 
--- a disk that tells its bytes, behind the deeds that are done
+-- a disk that tells its bytes, after the deeds that are done
 pub record SoFar (v0 v : View) (m : NodeState) (rows0 rows : List SegmentRow) (s : NodeState) (r : Request) (ds done later : List Deed) (open_ : Option ℕ) (left0 left : Option ℕ) : Type 0 where
   pub state : NodeState
   pub state_is : state ≡ after_effects s (effects_by r done)

@@ -11,7 +11,7 @@ use Rattle.journal_core.specs.declared.request.Request.{Request}
 use Rattle.journal_core.specs.declared.request.Request.TheVariants.{State, NewEpoch, Start, Journal, Finalize, Prepare, Fetch, Accept, Purge, Read, Manifest}
 use Rattle.journal_core.specs.Limits.{head_of}
 use Rattle.journal_core.specs.Effects.{Effect, Promise, WriterEpoch, Commit, NewSegment, Append, Replace, MakeFinal, Remove}
-use Rattle.journal_core.specs.Step.{refused_at_once, front_effects, fronted, row_refused, may_go, row_effects, effects_behind, effects_unless, effects_of}
+use Rattle.journal_core.specs.Step.{refused_at_once, front_effects, fronted, row_refused, may_go, row_effects, effects_after, effects_unless, effects_of}
 use Rattle.node_deeds.specs.Due.{effect_of, puts_row}
 use Rattle.journal_node.specs.Done.{effects_by, HasRoom}
 use Rattle.node_deeds.specs.declared.deed.Deed.{Deed}
@@ -73,15 +73,15 @@ any_here : (a b : Bool) → a ≡ true → (a || b) ≡ true
 any_here true b is = refl
 any_here false b is = absurd (cc)
 
-any_behind : (a b : Bool) → b ≡ true → (a || b) ≡ true
-any_behind true b is = refl
-any_behind false b is = is
+any_after : (a b : Bool) → b ≡ true → (a || b) ≡ true
+any_after true b is = refl
+any_after false b is = is
 
 room_by : (r : Request) (ds : List Deed) (count room : ℕ) → AreLast (effects_by r ds) → (list_any puts_row ds ≡ true → count < room) → HasRoom ds count room
 room_by r [] count room last fits = tt
 room_by r (d ∷ ds) count room last fits = (
   λ puts. (fits (any_here (puts_row d) (list_any puts_row ds) puts), none_of r ds (last.0 (puts_same r d puts))),
-  room_by r ds count room last.1 (λ any. fits (any_behind (puts_row d) (list_any puts_row ds) any)),
+  room_by r ds count room last.1 (λ any. fits (any_after (puts_row d) (list_any puts_row ds) any)),
 )
 
 -- ## The effects of a request
@@ -116,9 +116,9 @@ rows_last s (Purge h least) = removals_last (filter (may_go s h.committed least)
 rows_last s (Read from) = tt
 rows_last s Manifest = tt
 
-behind_last : (s : NodeState) (r : Request) (o : Option Refusal) → AreLast (effects_behind s r o)
-behind_last s r (Some refusal) = tt
-behind_last s r None = rows_last s r
+after_last : (s : NodeState) (r : Request) (o : Option Refusal) → AreLast (effects_after s r o)
+after_last s r (Some refusal) = tt
+after_last s r None = rows_last s r
 
 raised_last : (epoch : ℕ) (rest : List Effect) (raised : Bool) → AreLast rest → AreLast (cond raised (Promise epoch ∷ []) [] ++ rest)
 raised_last epoch rest true last = (λ puts. absurd (cc), last)
@@ -130,7 +130,7 @@ front_last s (Some h) rest last = raised_last h.epoch rest _ last
 
 unless_last : (s : NodeState) (r : Request) (o : Option Refusal) → AreLast (effects_unless s r o)
 unless_last s r (Some refusal) = tt
-unless_last s r None = front_last s (head_of r) _ (behind_last (fronted s r) r (row_refused (fronted s r) r))
+unless_last s r None = front_last s (head_of r) _ (after_last (fronted s r) r (row_refused (fronted s r) r))
 
 pub room_made : (s : NodeState) (r : Request) (ds : List Deed) (count room : ℕ) → effects_by r ds ≡ effects_of s r → (list_any puts_row ds ≡ true → count < room) → HasRoom ds count room
 unfolding effects_of

@@ -114,7 +114,7 @@ standing_front f all r (x ∷ done) d later j few =
     ∙ ap (λ (n : ℕ). suc n) (standing_front f all r done d later j few)
     ∙ (let e : suc (length done + one_if (nat_le (f (effect_of r d)).decides j)) ≡ suc (length done) + one_if (nat_le (f (effect_of r d)).decides j) = omega arith in e)
 
--- the state behind the deeds that are done, or behind one more
+-- the state after the deeds that are done, or after one more
 either_front : (P : NodeState → Type 0) (s : NodeState) (r : Request) (ds done : List Deed) (d : Deed) (later : List Deed) → ds ≡ done ++ (d ∷ later) → (t : NodeState) → t ≡ after_effects s (effects_by r done) → (b : Bool)
     → P (if b then after_effect t (effect_of r d) else t) → P (after_effects s (take (length done + one_if b) (effects_by r ds)))
 either_front P s r ds done d later all t is true p =
@@ -220,7 +220,7 @@ module _ (told : Type 0) (v0 : View) (m0 : NodeState) (rows0 : List SegmentRow) 
           (either_front (λ (x : NodeState). held.IsLeft c rows1 x) s r ds done d later way.all so.state so.state_is both is_left);
     }
 
--- ## Behind the last
+-- ## After the last
 module _ (told tells : Type 0) (v0 v : View) (m0 m : NodeState) (rows0 rows : List SegmentRow) (r : Request) (ds done later : List Deed) (f0 f : ℕ) (was_steady is_steady : Type 0) (left0 left : Option ℕ)
     (way : IsUnderWay told tells v0 v m0 m rows0 rows r ds done later f0 f was_steady is_steady left0 left) (none : later ≡ []) where
   done_all : done ≡ ds

@@ -10,7 +10,7 @@ use Rattle.journal_core.specs.declared.request.Request.TheVariants.{State, NewEp
 use Rattle.journal_core.specs.Limits.{head_of}
 use Rattle.journal_core.specs.Segments.{find_segment, any_body}
 use Rattle.journal_core.specs.Effects.{Effect, Promise, WriterEpoch, Commit, NewSegment, Append, Replace, MakeFinal, Remove, after_effect, after_effects, segments_after, appended, finalized, empty_segment, accepted_segment}
-use Rattle.journal_core.specs.Step.{refused_at_once, front_effects, fronted, row_refused, may_go, row_effects, effects_behind, effects_unless, effects_of}
+use Rattle.journal_core.specs.Step.{refused_at_once, front_effects, fronted, row_refused, may_go, row_effects, effects_after, effects_unless, effects_of}
 use Rattle.journal_core.proofs.Stored.{any_body_append}
 use Rattle.node_files.specs.Durable.{AreFilled}
 use Rattle.node_files.proofs.Lists.{filled_put, filled_remove, filled_of}
@@ -84,9 +84,9 @@ rows_fill s (Purge h least) brings = removals_fill (filter (may_go s h.committed
 rows_fill s (Read from) brings = tt
 rows_fill s Manifest brings = tt
 
-behind_fills : (s : NodeState) (r : Request) (o : Option Refusal) → BringsEdits r → AllFill (effects_behind s r o)
-behind_fills s r (Some refusal) brings = tt
-behind_fills s r None brings = rows_fill s r brings
+after_fills : (s : NodeState) (r : Request) (o : Option Refusal) → BringsEdits r → AllFill (effects_after s r o)
+after_fills s r (Some refusal) brings = tt
+after_fills s r None brings = rows_fill s r brings
 
 raised_fills : (epoch : ℕ) (rest : List Effect) (raised : Bool) → AllFill rest → AllFill (cond raised (Promise epoch ∷ []) [] ++ rest)
 raised_fills epoch rest true fill = (tt, fill)
@@ -98,7 +98,7 @@ front_fills s (Some h) rest fill = raised_fills h.epoch rest _ fill
 
 unless_fills : (s : NodeState) (r : Request) (o : Option Refusal) → BringsEdits r → AllFill (effects_unless s r o)
 unless_fills s r (Some refusal) brings = tt
-unless_fills s r None brings = front_fills s (head_of r) _ (behind_fills (fronted s r) r (row_refused (fronted s r) r) brings)
+unless_fills s r None brings = front_fills s (head_of r) _ (after_fills (fronted s r) r (row_refused (fronted s r) r) brings)
 
 all_fill : (s : NodeState) (r : Request) → BringsEdits r → AllFill (effects_of s r)
 unfolding effects_of

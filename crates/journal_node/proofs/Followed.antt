@@ -18,8 +18,8 @@ use Rattle.node_files.specs.declared.node_number.NodeNumber.{NodeNumber}
 use Rattle.node_deeds.specs.declared.deed.Deed.{Deed}
 use Rattle.node_deeds.specs.declared.deed.Deed.TheVariants as deed
 use Rattle.node_deeds.specs.Due.{batch_of, effect_of, rows_after, IsDue, AreDue}
-use Rattle.edit_cache.specs.Edits.{kept}
-use Rattle.recent_edits.specs.Recent.{Recent, IsRecent, cached_after, cached_behind, most_stored, nothing}
+use Rattle.edit_cache.specs.Edits.{kept_edits}
+use Rattle.recent_edits.specs.Recent.{Recent, IsRecent, cached_after, cached_then, most_stored, nothing}
 use Rattle.recent_edits.proofs.Following.{appended_to, begun, replaced, removed, finalized_too}
 use Rattle.journal_node.specs.Done.{effects_by}
 use Rattle.journal_node.proofs.DoingRows.{number_same}
@@ -72,11 +72,11 @@ remove_held recent new gs r d info is same gone held = subst (λ (x : Deed). IsR
 pub none_appended : (r : Recent) (gs : List Segment) (start first : ℕ) (g : Segment) (bodies : List (List ℕ)) → bodies ≡ [] → find_segment start gs ≡ Some g → first ≡ start + length g.bodies → IsRecent r gs → IsRecent r (appended bodies (find_segment start gs) gs)
 none_appended r gs start first g bodies none known next recent =
     subst (λ (bs : List (List ℕ)). IsRecent r (appended bs (find_segment start gs) gs)) (sym none)
-    (appended_to r r gs start first [] g known next refl (λ other. refl) (λ before is e follows. e ∙ ap (kept most_stored) (sym (append-nil before))) recent)
+    (appended_to r r gs start first [] g known next refl (λ other. refl) (λ before is e follows. e ∙ ap (kept_edits most_stored) (sym (append-nil before))) recent)
 
 -- ## One deed after the other
-pub cached_goes : (r : Request) (cached new : Option ℕ) (d : Deed) (ds left : List Deed) → ds ≡ d ∷ left → new ≡ cached_after cached (effect_of r d) → cached_behind cached (effects_by r ds) ≡ cached_behind new (effects_by r left)
-cached_goes r cached new d ds left is next = ap (λ (xs : List Deed). cached_behind cached (effects_by r xs)) is ∙ ap (λ (c : Option ℕ). cached_behind c (effects_by r left)) (sym next)
+pub cached_goes : (r : Request) (cached new : Option ℕ) (d : Deed) (ds left : List Deed) → ds ≡ d ∷ left → new ≡ cached_after cached (effect_of r d) → cached_then cached (effects_by r ds) ≡ cached_then new (effects_by r left)
+cached_goes r cached new d ds left is next = ap (λ (xs : List Deed). cached_then cached (effects_by r xs)) is ∙ ap (λ (c : Option ℕ). cached_then c (effects_by r left)) (sym next)
 
 -- the deeds that are left are due, the newest edits are held, and the deeds lead to that state
 pub record IsFollowed (r : Request) (recent : Recent) (left : List Deed) (whole : NodeState) : Type 0 where

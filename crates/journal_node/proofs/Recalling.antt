@@ -35,9 +35,9 @@ recalls_rests A v0 v1 m rows recent node told now rests recalls s up there =
     let is : IsUp v0 m rows was.0 = up_of v0 m rows was.0 up was.1 in
     recalls_of v1 m rows recent was.0 now (λ u. rests_up v0 v1 rests m rows was.0 is) (recalls was.0 up is) s up there
 
--- the segments behind a request are those behind its deeds
-pub behind_recent : (recent : Recent) (s : NodeState) (r : Request) (ds : List Deed) → effects_by r ds ≡ effects_of s r → IsRecent recent (after_effects s (effects_by r ds)).segments → IsRecent recent (state_behind s r).segments
-behind_recent recent s r ds are held =
+-- the segments after a request are those after its deeds
+pub after_recent : (recent : Recent) (s : NodeState) (r : Request) (ds : List Deed) → effects_by r ds ≡ effects_of s r → IsRecent recent (after_effects s (effects_by r ds)).segments → IsRecent recent (state_behind s r).segments
+after_recent recent s r ds are held =
     subst (λ (gs : List Segment). IsRecent recent gs) (ap (λ (es : List Effect). (after_effects s es).segments) are ∙ sym (settled_segments (row_refused (fronted s r) r) (after_effects s (effects_of s r)) (fronted s r) r)) held
 
 pub recalls_down : (v : View) (m : NodeState) (rows : List SegmentRow) (recent : Recent) → m.up ≡ false → Recalls v m rows recent

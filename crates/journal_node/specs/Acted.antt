@@ -9,7 +9,7 @@ use Rattle.journal_node.specs.Held.{StandsStopped}
 use Rattle.journal_node.specs.Node.{NodeParts, IsUp, HasState}
 
 -- Of a disk that tells its bytes: the node goes by the step from each state that it has, and a crash at any moment of the call leaves
--- files that stand for the state behind the first effects of the request, some number of them.
+-- files that stand for the state after the first effects of the request, some number of them.
 pub record IsActed {D : Type 0} (tells : D → Type 0) (view : D → View) (old : NodeParts D) (r : Request) (a : Reply) (new : NodeParts D) : Type 0 where
   pub tells_still : tells old.disk → tells new.disk
   pub sound : tells new.disk → IsSound (view new.disk)

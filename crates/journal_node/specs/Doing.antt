@@ -19,7 +19,7 @@ use Rattle.journal_node.specs.Held.{IsHeld, AppendsTo}
 use Rattle.node_deeds.specs.declared.deed.Deed.{Deed}
 use Rattle.node_deeds.specs.declared.deed.Deed.TheVariants as deed
 
--- where the frames of the segment's file end behind an append
+-- where the frames of the segment's file end after an append
 abbrev pub place_after : Request → Deed → ℕ
 place_after r (deed.Number number value) = 0
 place_after r (deed.Begin start epoch) = 0
@@ -56,21 +56,21 @@ Passes other r (deed.Accept epoch again) = other ≢ (batch_of r).first
 Passes other r (deed.Finalize start end accepted) = other ≢ start
 Passes other r (deed.Remove info) = other ≢ info.start
 
--- frames can be appended to a segment that begins, and behind those that were appended
-abbrev pub AppendsBehind : View → List Segment → Request → Deed → Type 0
-AppendsBehind v gs r (deed.Number number value) = Unit {0}
-AppendsBehind v gs r (deed.Begin start epoch) = AppendsAt v (empty_segment start epoch) 24
-AppendsBehind v gs r (deed.Append start at) =
+-- frames can be appended to a segment that begins, and after those that were appended
+abbrev pub AppendsAfter : View → List Segment → Request → Deed → Type 0
+AppendsAfter v gs r (deed.Number number value) = Unit {0}
+AppendsAfter v gs r (deed.Begin start epoch) = AppendsAt v (empty_segment start epoch) 24
+AppendsAfter v gs r (deed.Append start at) =
     (g : Segment) → find_segment start gs ≡ Some g → AppendsAt v (record g { bodies = g.bodies ++ (batch_of r).bodies }) (at + length (frame_bytes (batch_of r)))
-AppendsBehind v gs r (deed.Accept epoch again) = Unit {0}
-AppendsBehind v gs r (deed.Finalize start end accepted) = Unit {0}
-AppendsBehind v gs r (deed.Remove info) = Unit {0}
+AppendsAfter v gs r (deed.Accept epoch again) = Unit {0}
+AppendsAfter v gs r (deed.Finalize start end accepted) = Unit {0}
+AppendsAfter v gs r (deed.Remove info) = Unit {0}
 
 -- the disk calls of a deed
 pub record DoesDeed {T : Type 0} (s : NodeState) (r : Request) (d : Deed) (result : Result T DiskFail) (old new : View) (left now : Option ℕ) : Type 0 where
   pub effect : Does s (after_effect s (effect_of r d)) result old new
   pub others : (g : Segment) (at : ℕ) → Passes g.start r d → AppendsAt old g at → AppendsAt new g at
-  pub appends : OnOk result (AppendsBehind new s.segments r d)
+  pub appends : OnOk result (AppendsAfter new s.segments r d)
   pub counts : (cut : Cut) → IsCounted (cost_of cut s.segments (effect_of r d)).calls left now result
   pub cut : IsCutAt (λ cut. cost_of cut s.segments (effect_of r d)) s (after_effect s (effect_of r d)) left result new
 

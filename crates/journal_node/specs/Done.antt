@@ -51,7 +51,7 @@ pub record CanDoAll (v : View) (m : NodeState) (rows : List SegmentRow) (s : Nod
   pub is_open : OpenedAt v s.segments rows open_
   pub within : AppendWithin open_ ds
 
--- the segment is open behind the deeds: where it is now and each leaves it so, or where one begins it and those behind it leave it so
+-- the segment is open after the deeds: where it is now and each leaves it so, or where one begins it and those after it leave it so
 abbrev pub EndOpen : Type 0 → Option ℕ → List Deed → Type 0
 EndOpen now open_ [] = now
 EndOpen now open_ (d ∷ ds) = EndOpen (Opens open_ d ⊎ (Spares open_ d × now)) open_ ds
@@ -62,7 +62,7 @@ pub record LeftStopped (files : Files) (rows : List SegmentRow) (s : NodeState) 
   pub within : count ≤ length es
   pub left : held.IsLeft files rows (after_effects s (take count es))
 
--- an effect leaves the costs of those behind it as they are
+-- an effect leaves the costs of those after it as they are
 abbrev pub KeepCosts : List Segment → List Effect → Type 0
 KeepCosts gs [] = Unit {0}
 KeepCosts gs (e ∷ es) = ((cut : Cut) → map (cost_of cut (segments_after gs e)) es ≡ map (cost_of cut gs) es) × KeepCosts (segments_after gs e) es
@@ -78,7 +78,7 @@ pub record IsCutAmong {T : Type 0} (s : NodeState) (es : List Effect) (left : Op
       → held.IsLeft c rows (after_effects s (take (standing k (map (cost_of cut s.segments) es)) es))
 
 -- ## The deeds of a request
--- each effect of a request leaves the costs of those behind it
+-- each effect of a request leaves the costs of those after it
 abbrev pub CostsAreKept : Type 0
 CostsAreKept = (s : NodeState) (r : Request) → AreSound s.segments → KeepCosts s.segments (effects_of s r)
 

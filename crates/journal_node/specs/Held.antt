@@ -45,7 +45,7 @@ pub record IsLeft (files : Files) (rows : List SegmentRow) (s : NodeState) : Typ
 abbrev pub MayLeave : List SegmentRow → NodeState → NodeState → Files → Type 0
 MayLeave rows before after files = IsLeft files rows before ⊎ IsLeft files rows after
 
--- the files stand for the state behind the first effects, some number of them
+-- the files stand for the state after the first effects, some number of them
 pub record StandsStopped (s : NodeState) (es : List Effect) (files : Files) : Type 0 where
   pub count : ℕ
   pub within : count ≤ length es

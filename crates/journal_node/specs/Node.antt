@@ -74,7 +74,7 @@ abbrev pub BringsEdits : Request → Type 0
 BringsEdits (Accept head batch) = any_body batch.bodies ≡ true
 BringsEdits _ = Unit {0}
 
--- ## Behind the deeds of a request
+-- ## After the deeds of a request
 -- what the front changes in memory alone
 abbrev pub carried : NodeState → NodeState → NodeState
 carried s front = record s { known = front.known; opened = front.opened; serial = front.serial }
@@ -88,12 +88,12 @@ settled None s front r = row_then (carried s front) r
 abbrev pub state_behind : NodeState → Request → NodeState
 state_behind s r = settled (row_refused (fronted s r) r) (after_effects s (effects_of s r)) (fronted s r) r
 
--- the reply, by the state behind the front
+-- the reply, by the state after the front
 abbrev pub foretold : Option Refusal → NodeState → Request → Reply
 foretold (Some refusal) s r = Refused refusal
 foretold None s r = row_reply s r
 
--- no fault of the disk, and no want of memory
+-- no fault of the disk, and no lack of memory
 pub record IsNoFault (reply : Reply) : Type 0 where
   pub disk : reply ≢ Refused DiskFault
   pub memory : reply ≢ Refused OutOfMemory
@@ -111,7 +111,7 @@ pub record IsUnchanged (tells : Type 0) (old_view new_view : View) (old_memory n
   pub rows : new_rows ≡ old_rows
   pub recent : new_recent ≡ old_recent
 
--- a node went down behind the first effects of a request, some number of them
+-- a node went down after the first effects of a request, some number of them
 pub record IsStoppedIn (v : View) (m : NodeState) (rows : List SegmentRow) (s : NodeState) (r : Request) : Type 0 where
   pub keep : ℕ
   pub down : IsDown v m rows (crashed (after_effects s (take keep (effects_of s r))))

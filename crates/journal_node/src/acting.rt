@@ -1,7 +1,8 @@
 //! A request is answered: its reply is found, its deeds are done, and memory follows.
 ghost use Rattle.std.specs.Prelude.{◌≡◌, ◌≢◌, ◌≤◌, ◌↔◌, ◌⊎◌, None, Some, List, Option, length, true, false, [], IfOk, OnOk, OnErr};
 ghost use Rattle.qj_disk.specs.View.{LeavesOnly, AllLeave};
-ghost use Rattle.qj_disk.specs.Calls.{HasCause, HasShortage, Rests};
+ghost use Rattle.qj_disk.specs.Calls.{Rests};
+ghost use Rattle.qj_disk.specs.DiskCalls.{IfTold, IsDiskCall, IsDiskRun};
 ghost use Rattle.journal_core.specs.declared.segment.Segment.{Segment};
 ghost use Rattle.journal_core.specs.declared.node_state.NodeState.{NodeState as AnyState};
 ghost use Rattle.journal_core.specs.Limits.{limit_of};
@@ -14,7 +15,7 @@ ghost use Rattle.segment_file.specs.Rows.{RowsRise};
 ghost use Rattle.node_files.specs.Durable.{StandsAs};
 ghost use Rattle.node_deeds.specs.Told.{Tells, state_with};
 ghost use Rattle.node_deeds.specs.Due.{AreDue};
-ghost use Rattle.recent_edits.specs.Recent.{AsksRecent, IsRecent, cached_behind};
+ghost use Rattle.recent_edits.specs.Recent.{AsksRecent, IsRecent, cached_then};
 ghost use Rattle.journal_node.specs.Doing.{HasFrame};
 ghost use Rattle.journal_node.specs.Done.{effects_by, HasRoom};
 ghost use Rattle.journal_node.specs.Held.{StandsStopped};
@@ -25,7 +26,7 @@ use crate::deeds_done::do_deeds;
 use crate::following::follow_deeds;
 use crate::readying::{Ready, ready_deeds};
 use journal_core::{NodeState, Refusal, Reply, Request};
-use node_deeds::{Deed, behind_front, follow, plain_reply, row_refusal};
+use node_deeds::{Deed, follow, plain_reply, row_refusal, step_after_front};
 use qj_disk::{Disk, DiskFail};
 use recent_edits::RecentEdits;
 use segment_file::SegmentTable;
@@ -50,7 +51,7 @@ pub(crate) fn go_down(memory: &mut NodeState, table: &SegmentTable)
     memory.crash();
 }
 
-// What follows the deeds of a request. `front` is memory behind the request's front.
+// What follows the deeds of a request. `front` is memory after the request's front.
 fn settle(memory: &mut NodeState, front: &NodeState, request: &Request, refusal: Option<Refusal>)
     ensures { memory.new ≡ settled refusal memory.old front.now request.now }
 {
@@ -62,7 +63,7 @@ fn settle(memory: &mut NodeState, front: &NodeState, request: &Request, refusal:
     }
 }
 
-// The reply, before anything is done. `front` is memory behind the request's front.
+// The reply, before anything is done. `front` is memory after the request's front.
 fn foretell<D: Disk>(
     alloc: Global,
     disk: &mut D,
@@ -75,13 +76,12 @@ fn foretell<D: Disk>(
     requires told { (gs : List Segment) × Tells gs table.now }
     requires refused { (gs : List Segment) → Tells gs table.now → refusal ≡ row_refused (state_with front.now gs) request.now }
 
-    ensures tells { D.tells disk.old ↔ D.tells disk.new }
+    ensures call { IsDiskRun D.DiskModel disk.old disk.new result }
     ensures reply { D.tells disk.old → (gs : List Segment) → IsReady (D.view disk.old) gs → AreSound gs → Tells gs table.now → IsRecent recent.now gs → IfOk result (λ reply. reply ≡ foretold refusal (state_with front.now gs) request.now) }
     ensures fits { IfOk result (FitsRequest request.now) }
     ensures own { IfOk result IsNoFault }
-    ensures disk { D.tells disk.old → Rests (D.view disk.old) (D.view disk.new) }
+    ensures disk { IfTold D.DiskModel disk.old disk.new Rests }
     ensures unread { (gs : List Segment) → Tells gs table.now → IsRecent recent.now gs → AsksRecent recent.now.start (state_with front.now gs) request.now → D.reads disk.new ≡ D.reads disk.old }
-    ensures cause { HasCause (D.faults disk.old) (D.faults disk.new) (D.steady disk.old) (D.steady disk.new) result }
     ensures shortages { D.shortages disk.old ≤ D.shortages disk.new }
 {
     if let Some(refusal) = refusal {
@@ -120,7 +120,7 @@ pub(crate) fn carry_out<D: Disk>(
     requires frame { HasFrame request.now ready.old.frame }
     requires room { HasRoom deeds.now (length table.old) ready.old.room }
 
-    ensures tells { D.tells disk.old ↔ D.tells disk.new }
+    ensures call { IsDiskCall D.DiskModel disk.old disk.new result }
     ensures node { IsNode (D.tells disk.new) (D.view disk.new) memory.new table.new }
     ensures recalls { D.tells disk.old → Recalls (D.view disk.new) memory.new table.new recent.new }
     ensures up { OnOk result (memory.new.up ≡ true) }
@@ -128,12 +128,9 @@ pub(crate) fn carry_out<D: Disk>(
     ensures done { D.tells disk.old → (s : AnyState) → IsUp (D.view disk.old) memory.old table.old s → OnOk result (IsUp (D.view disk.new) memory.new table.new (state_behind s request.now)) }
     ensures stopped { D.tells disk.old → (s : AnyState) → IsUp (D.view disk.old) memory.old table.old s → OnErr result (IsStoppedIn (D.view disk.new) memory.new table.new s request.now) }
     ensures moments { D.tells disk.old → (s : AnyState) → IsUp (D.view disk.old) memory.old table.old s → LeavesOnly (D.view disk.old) (D.view disk.new) (StandsStopped s (effects_of s request.now)) }
-    ensures cached { D.tells disk.old → (s : AnyState) → IsUp (D.view disk.old) memory.old table.old s → OnOk result (recent.new.start ≡ cached_behind recent.old.start (effects_of s request.now)) }
-    ensures reads { D.reads disk.new ≡ D.reads disk.old }
-    ensures cause { HasCause (D.faults disk.old) (D.faults disk.new) (D.steady disk.old) (D.steady disk.new) result }
-    ensures shortage { HasShortage (D.shortages disk.old) (D.shortages disk.new) result }
+    ensures cached { D.tells disk.old → (s : AnyState) → IsUp (D.view disk.old) memory.old table.old s → OnOk result (recent.new.start ≡ cached_then recent.old.start (effects_of s request.now)) }
 {
-    let front = behind_front(alloc, memory, request);
+    let front = step_after_front(alloc, memory, request);
     match do_deeds(disk, memory, table, ready, request, deeds) {
         Ok(()) => {
             follow_deeds(recent, request, deeds);
@@ -181,7 +178,7 @@ fn finish<D: Disk>(
     ensures fits { FitsRequest request.now result }
     ensures moments { D.tells disk.old → (s : AnyState) → IsUp (D.view disk.old) memory.old table.old s → LeavesOnly (D.view disk.old) (D.view disk.new) (StandsStopped s (effects_of s request.now)) }
     ensures stable { D.tells disk.old → (s : AnyState) → IsUp (D.view disk.old) memory.old table.old s → IsNoFault result → AllLeave (D.view disk.new) (λ c. StandsAs c (after_effects s (effects_of s request.now))) }
-    ensures cached { D.tells disk.old → (s : AnyState) → IsUp (D.view disk.old) memory.old table.old s → IsNoFault result → recent.new.start ≡ cached_behind recent.old.start (effects_of s request.now) }
+    ensures cached { D.tells disk.old → (s : AnyState) → IsUp (D.view disk.old) memory.old table.old s → IsNoFault result → recent.new.start ≡ cached_then recent.old.start (effects_of s request.now) }
     ensures reads { D.reads disk.new ≡ D.reads disk.old }
     ensures cause { IsCaused (D.faults disk.old) (D.faults disk.new) (D.steady disk.old) (D.steady disk.new) result }
     ensures short { result ≡ Reply.Refused Refusal.OutOfMemory → Rose (D.shortages disk.old) (D.shortages disk.new) }
@@ -224,12 +221,12 @@ fn answer_by<D: Disk>(
     ensures fits { FitsRequest request.now result }
     ensures moments { D.tells disk.old → (s : AnyState) → IsUp (D.view disk.old) memory.old table.old s → LeavesOnly (D.view disk.old) (D.view disk.new) (StandsStopped s (effects_of s request.now)) }
     ensures stable { D.tells disk.old → (s : AnyState) → IsUp (D.view disk.old) memory.old table.old s → IsNoFault result → AllLeave (D.view disk.new) (λ c. StandsAs c (after_effects s (effects_of s request.now))) }
-    ensures cached { D.tells disk.old → (s : AnyState) → IsUp (D.view disk.old) memory.old table.old s → IsNoFault result → recent.new.start ≡ cached_behind recent.old.start (effects_of s request.now) }
+    ensures cached { D.tells disk.old → (s : AnyState) → IsUp (D.view disk.old) memory.old table.old s → IsNoFault result → recent.new.start ≡ cached_then recent.old.start (effects_of s request.now) }
     ensures unread { D.tells disk.old → (s : AnyState) → IsUp (D.view disk.old) memory.old table.old s → AsksRecent recent.old.start s request.now → D.reads disk.new ≡ D.reads disk.old }
     ensures cause { IsCaused (D.faults disk.old) (D.faults disk.new) (D.steady disk.old) (D.steady disk.new) result }
     ensures spared { result ≡ Reply.Refused Refusal.OutOfMemory → Rose (D.shortages disk.old) (D.shortages disk.new) ⊎ IsUnchanged (D.tells disk.old) (D.view disk.old) (D.view disk.new) memory.old memory.new table.old table.new recent.old recent.new }
 {
-    let front = behind_front(alloc, memory, request);
+    let front = step_after_front(alloc, memory, request);
     let refusal = row_refusal(&front, table, request);
     match foretell(alloc, disk, &front, table, recent, request, refusal) {
         Ok(reply) => finish(
@@ -265,7 +262,7 @@ pub(crate) fn answer<D: Disk>(
     ensures moments { D.tells disk.old → (s : AnyState) → IsUp (D.view disk.old) memory.old table.old s → LeavesOnly (D.view disk.old) (D.view disk.new) (StandsStopped s (effects_of s request.now)) }
     ensures stable { D.tells disk.old → (s : AnyState) → IsUp (D.view disk.old) memory.old table.old s → IsNoFault result → AllLeave (D.view disk.new) (λ c. StandsAs c (after_effects s (effects_of s request.now))) }
     ensures idle { memory.old.up ≡ false → disk.new ≡ disk.old }
-    ensures cached { D.tells disk.old → (s : AnyState) → IsUp (D.view disk.old) memory.old table.old s → IsNoFault result → recent.new.start ≡ cached_behind recent.old.start (effects_of s request.now) }
+    ensures cached { D.tells disk.old → (s : AnyState) → IsUp (D.view disk.old) memory.old table.old s → IsNoFault result → recent.new.start ≡ cached_then recent.old.start (effects_of s request.now) }
     ensures unread { D.tells disk.old → (s : AnyState) → IsUp (D.view disk.old) memory.old table.old s → AsksRecent recent.old.start s request.now → D.reads disk.new ≡ D.reads disk.old }
     ensures cause { IsCaused (D.faults disk.old) (D.faults disk.new) (D.steady disk.old) (D.steady disk.new) result }
     ensures spared { result ≡ Reply.Refused Refusal.OutOfMemory → Rose (D.shortages disk.old) (D.shortages disk.new) ⊎ IsUnchanged (D.tells disk.old) (D.view disk.old) (D.view disk.new) memory.old memory.new table.old table.new recent.old recent.new }

@@ -1,6 +1,7 @@
 //! The replies with edits, from memory or from the file of a segment.
-ghost use Rattle.std.specs.Prelude.{◌≡◌, ◌≢◌, ◌≤◌, ◌<◌, ◌-◌, ◌↔◌, [], None, Some, List, take, drop, IfOk};
-ghost use Rattle.qj_disk.specs.Calls.{HasCause, Rests};
+ghost use Rattle.std.specs.Prelude.{◌≡◌, ◌≢◌, ◌≤◌, ◌<◌, ◌-◌, [], None, Some, List, take, drop, IfOk};
+ghost use Rattle.qj_disk.specs.Calls.{Rests};
+ghost use Rattle.qj_disk.specs.DiskCalls.{IfTold, IsDiskRun};
 ghost use Rattle.journal_core.specs.Views.{last_txid};
 ghost use Rattle.journal_core.specs.declared.segment.Segment.{Segment};
 ghost use Rattle.journal_core.specs.Limits.{max_number};
@@ -54,14 +55,13 @@ fn edits_of<D: Disk>(
     requires end_within { line.now.end ≤ max_number }
     requires most { 0 < most }
 
-    ensures tells { D.tells disk.old ↔ D.tells disk.new }
+    ensures call { IsDiskRun D.DiskModel disk.old disk.new result }
     ensures edits { D.tells disk.old → (gs : List Segment) (g : Segment) → IsReady (D.view disk.old) gs → AreSound gs → IsRecent recent.now gs → 1 ≤ line.now.start → find_segment line.now.start gs ≡ Some g → line.now ≡ line_of g
         → IfOk result (λ reply. reply ≡ Reply.Edits (record { first = from; bodies = take most (take 256 (drop (from - g.start) g.bodies)) })) }
     ensures fits { IfOk result (AreEdits from) }
     ensures own { IfOk result IsNoFault }
-    ensures disk { D.tells disk.old → Rests (D.view disk.old) (D.view disk.new) }
+    ensures disk { IfTold D.DiskModel disk.old disk.new Rests }
     ensures unread { held_from recent.now line.now.start from ≢ [] → D.reads disk.new ≡ D.reads disk.old }
-    ensures cause { HasCause (D.faults disk.old) (D.faults disk.new) (D.steady disk.old) (D.steady disk.new) result }
     ensures shortages { D.shortages disk.old ≤ D.shortages disk.new }
 {
     if let Some(batch) = recent.edits_from(alloc, line.start, from)? {
@@ -87,13 +87,12 @@ pub(crate) fn read_served<D: Disk>(
 ) -> Result<Reply, DiskFail>
     requires told { (gs : List Segment) × Tells gs table.now }
 
-    ensures tells { D.tells disk.old ↔ D.tells disk.new }
+    ensures call { IsDiskRun D.DiskModel disk.old disk.new result }
     ensures reply { D.tells disk.old → (gs : List Segment) → IsReady (D.view disk.old) gs → AreSound gs → Tells gs table.now → IsRecent recent.now gs → IfOk result (λ reply. reply ≡ edits_from (state_with memory.now gs) from) }
     ensures fits { IfOk result (AreEdits from) }
     ensures own { IfOk result IsNoFault }
-    ensures disk { D.tells disk.old → Rests (D.view disk.old) (D.view disk.new) }
+    ensures disk { IfTold D.DiskModel disk.old disk.new Rests }
     ensures unread { (gs : List Segment) → Tells gs table.now → IsRecent recent.now gs → AsksRecent recent.now.start (state_with memory.now gs) (Request.Read from) → D.reads disk.new ≡ D.reads disk.old }
-    ensures cause { HasCause (D.faults disk.old) (D.faults disk.new) (D.steady disk.old) (D.steady disk.new) result }
     ensures shortages { D.shortages disk.old ≤ D.shortages disk.new }
 {
     match serving_row(memory, table, from) {
@@ -117,13 +116,12 @@ pub(crate) fn fetch<D: Disk>(
     requires told { (gs : List Segment) × Tells gs table.now }
     requires refused { (gs : List Segment) → Tells gs table.now → fetch_refused from (find_segment start gs) ≡ None }
 
-    ensures tells { D.tells disk.old ↔ D.tells disk.new }
+    ensures call { IsDiskRun D.DiskModel disk.old disk.new result }
     ensures reply { D.tells disk.old → (gs : List Segment) → IsReady (D.view disk.old) gs → AreSound gs → Tells gs table.now → IsRecent recent.now gs → IfOk result (λ reply. reply ≡ Reply.Edits (record { first = from; bodies = piece_of (find_segment start gs) from })) }
     ensures fits { IfOk result (AreEdits from) }
     ensures own { IfOk result IsNoFault }
-    ensures disk { D.tells disk.old → Rests (D.view disk.old) (D.view disk.new) }
+    ensures disk { IfTold D.DiskModel disk.old disk.new Rests }
     ensures unread { (gs : List Segment) → Tells gs table.now → IsRecent recent.now gs → ((g : Segment) → find_segment start gs ≡ Some g → FitsRing recent.now.start g from) → D.reads disk.new ≡ D.reads disk.old }
-    ensures cause { HasCause (D.faults disk.old) (D.faults disk.new) (D.steady disk.old) (D.steady disk.new) result }
     ensures shortages { D.shortages disk.old ≤ D.shortages disk.new }
 {
     match line_at(table, start) {

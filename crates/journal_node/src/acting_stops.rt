@@ -1,7 +1,7 @@
-//! A node is stopped inside a request, behind the first of its effects.
+//! A node is stopped inside a request, after the first of its effects.
 ghost use Rattle.std.specs.Prelude.{◌≡◌, ◌≢◌, ◌≤◌, ◌↔◌, None, Some, List, length, take, false, OnOk, OnErr};
 ghost use Rattle.qj_disk.specs.View.{LeavesOnly};
-ghost use Rattle.qj_disk.specs.Calls.{HasCause};
+ghost use Rattle.qj_disk.specs.DiskCalls.{IsDiskRun};
 ghost use Rattle.journal_core.specs.declared.segment.Segment.{Segment};
 ghost use Rattle.journal_core.specs.declared.node_state.NodeState.{NodeState as AnyState};
 ghost use Rattle.journal_core.specs.Limits.{limit_of};
@@ -25,7 +25,7 @@ use segment_file::SegmentTable;
 use std::alloc::Global;
 
 // Does the first `count` deeds of a request, and goes down.
-fn stop_behind<D: Disk>(
+fn stop_in_request<D: Disk>(
     disk: &mut D,
     memory: &mut NodeState,
     table: &mut SegmentTable,
@@ -44,14 +44,13 @@ fn stop_behind<D: Disk>(
     requires frame { HasFrame request.now ready.old.frame }
     requires room { HasRoom deeds.now (length table.old) ready.old.room }
 
-    ensures tells { D.tells disk.old ↔ D.tells disk.new }
+    ensures call { IsDiskRun D.DiskModel disk.old disk.new result }
     ensures node { IsNode (D.tells disk.new) (D.view disk.new) memory.new table.new }
     ensures down { memory.new.up ≡ false }
     ensures done { D.tells disk.old → (s : AnyState) → IsUp (D.view disk.old) memory.old table.old s → OnOk result (IsDown (D.view disk.new) memory.new table.new (stopped s request.now count)) }
     ensures stopped { D.tells disk.old → (s : AnyState) → IsUp (D.view disk.old) memory.old table.old s → OnErr result (IsStoppedIn (D.view disk.new) memory.new table.new s request.now) }
     ensures moments { D.tells disk.old → (s : AnyState) → IsUp (D.view disk.old) memory.old table.old s → LeavesOnly (D.view disk.old) (D.view disk.new) (StandsStopped s (take count (effects_of s request.now))) }
     ensures reads { D.reads disk.new ≡ D.reads disk.old }
-    ensures cause { HasCause (D.faults disk.old) (D.faults disk.new) (D.steady disk.old) (D.steady disk.new) result }
 {
     let done = do_deeds(disk, memory, table, ready, request, &deeds[..count]);
     go_down(memory, table);
@@ -59,7 +58,7 @@ fn stop_behind<D: Disk>(
 }
 
 /// Does the first durable effects of a request, at most `keep`, at a node over a disk of which memory and
-/// the table are given, and goes down; answers how many it did. Want of memory before the first of them
+/// the table are given, and goes down; answers how many it did. Lack of memory before the first of them
 /// changes nothing. No file is read.
 pub(crate) fn stop<D: Disk>(
     alloc: Global,
@@ -91,7 +90,7 @@ pub(crate) fn stop<D: Disk>(
         None => match ready_deeds(alloc, memory, table, request) {
             Ok((deeds, mut ready)) => {
                 let count = keep.min(deeds.len() as u64);
-                match stop_behind(
+                match stop_in_request(
                     disk,
                     memory,
                     table,

@@ -91,7 +91,7 @@ fn deed_cost(deed: Deed, cut: Cut) -> DeedCost
     }
 }
 
-// How many of the deeds stand after a cut behind so many disk calls.
+// How many of the deeds stand after a cut after so many disk calls.
 fn deeds_standing(deeds: &[Deed], cut: Cut, calls: u64) -> u64
     ensures { result ≡ standing calls (map (deed_cost cut) deeds.now) }
 {
@@ -131,7 +131,7 @@ fn crash_down(disk: &mut MemDisk, memory: &mut NodeState, table: &SegmentTable, 
     go_down(memory, table);
 }
 
-// A disk that failed was cut, as it was to be. Want of memory is told.
+// A disk that failed was cut, as it was to be. Lack of memory is told.
 fn cut_short(done: Result<(), DiskFail>) -> Result<(), OutOfMemory>
     ensures ok { OnOk result (done ≢ Err DiskFail.OutOfMemory) }
     ensures err { OnErr result (done ≡ Err DiskFail.OutOfMemory) }
@@ -179,7 +179,7 @@ fn cut_deeds(
 }
 
 // The node of that disk, of which memory and the table are given, is cut in a request and is down; answers
-// how many of the request's effects stand. Want of memory before the first disk call changes nothing.
+// how many of the request's effects stand. Lack of memory before the first disk call changes nothing.
 fn cut_in(
     alloc: Global,
     disk: &mut MemDisk,
@@ -249,7 +249,7 @@ impl JournalNode<MemDisk> {
     /// Is cut after that many disk calls of the request, or after all if there are fewer: its disk crashes by
     /// the choice of `cut`, so that each later crash leaves the same files, and the node is down. Answers how
     /// many of the request's durable effects stand. The node is up before, and no disk call is set to fail,
-    /// nor is one after it. `OutOfMemory` comes for want of memory: before the first disk call it leaves all
+    /// nor is one after it. `OutOfMemory` comes for lack of memory: before the first disk call it leaves all
     /// as it was but that no segment is cached any more, and after that the node is down with the first
     /// effects, some number of them.
     pub fn act_cut(

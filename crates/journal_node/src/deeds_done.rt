@@ -1,7 +1,7 @@
 //! The deeds of a request are done at a node's disk.
-ghost use Rattle.std.specs.Prelude.{◌≡◌, ◌↔◌, ℕ, None, List, Option, length, map, OnOk, OnErr};
+ghost use Rattle.std.specs.Prelude.{◌≡◌, ℕ, None, List, Option, length, map, OnOk, OnErr};
 ghost use Rattle.qj_disk.specs.View.{LeavesOnly, AllLeave};
-ghost use Rattle.qj_disk.specs.Calls.{HasCause, HasShortage};
+ghost use Rattle.qj_disk.specs.DiskCalls.{IsDiskCall};
 ghost use Rattle.journal_core.specs.declared.cut.Cut.{Cut};
 ghost use Rattle.journal_core.specs.declared.segment.Segment.{Segment};
 ghost use Rattle.journal_core.specs.declared.node_state.NodeState.{NodeState as AnyState};
@@ -25,8 +25,8 @@ use segment_file::SegmentTable;
 /// Does the deeds of a request at the disk in order, and stops at the first that fails. Each is due where
 /// those before it were done, and the request passes no limit. On a disk that tells its bytes, its files,
 /// memory and the table hold a state, and frames can be appended to the segment of an append. A crash at
-/// any moment leaves files that stand for the state behind the first deeds, some number of them, and once
-/// this answered Ok only behind all, which memory and the table then tell too. An `Err` leaves a table that
+/// any moment leaves files that stand for the state after the first deeds, some number of them, and once
+/// this answered Ok only after all, which memory and the table then tell too. An `Err` leaves a table that
 /// has a row of each segment of which the files tell. `Failed` comes where the disk failed, `OutOfMemory`
 /// where the disk wanted memory: what the deeds themselves want was taken before. Nothing is read.
 pub fn do_deeds<D: Disk>(
@@ -43,7 +43,7 @@ pub fn do_deeds<D: Disk>(
     requires frame { HasFrame request.now ready.old.frame }
     requires room { HasRoom deeds.now (length table.old) ready.old.room }
 
-    ensures tells { D.tells disk.old ↔ D.tells disk.new }
+    ensures call { IsDiskCall D.DiskModel disk.old disk.new result }
     ensures rows { (gs : List Segment) × Tells gs table.new }
     ensures memory { OnOk result (memory.new ≡ state_with (after_effects memory.old (effects_by request.now deeds.now)) memory.old.segments) }
     ensures rest { (memory.new.known ≡ memory.old.known) × (memory.new.opened ≡ memory.old.opened) × (memory.new.serial ≡ memory.old.serial) × (memory.new.up ≡ memory.old.up) }
@@ -62,9 +62,6 @@ pub fn do_deeds<D: Disk>(
         → (cut : Cut) → IsCounted (calls_of (map (cost_of cut s.segments) (effects_by request.now deeds.now))) (D.left disk.old) (D.left disk.new) result }
     ensures cut { D.tells disk.old → (s : AnyState) → CanDoAll (D.view disk.old) memory.old table.old s request.now deeds.now → KeepCosts s.segments (effects_by request.now deeds.now)
         → IsCutAmong s (effects_by request.now deeds.now) (D.left disk.old) result (D.view disk.new) table.new }
-    ensures reads { D.reads disk.new ≡ D.reads disk.old }
-    ensures cause { HasCause (D.faults disk.old) (D.faults disk.new) (D.steady disk.old) (D.steady disk.new) result }
-    ensures shortage { HasShortage (D.shortages disk.old) (D.shortages disk.new) result }
 {
     for deed in deeds {
         do_deed(disk, memory, table, ready, request, *deed)?;

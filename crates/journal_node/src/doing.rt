@@ -1,8 +1,7 @@
 //! A deed is done at a node's disk.
-ghost use Rattle.std.specs.Prelude.{◌≡◌, ◌⊎◌, ◌↔◌, ◌≤◌, ◌<◌, ℕ, [], None, List, Option, MatchOption, length, true, false, IsErrOf, OnOk, OnErr};
+ghost use Rattle.std.specs.Prelude.{◌≡◌, ◌⊎◌, ◌≤◌, ◌<◌, ℕ, [], None, List, Option, MatchOption, length, true, false, IsErrOf, OnOk, OnErr};
 ghost use Rattle.qj_disk.specs.View.{AllLeave};
-ghost use Rattle.qj_disk.specs.Calls.{HasCause, HasShortage};
-ghost use Rattle.small_files.specs.Answers.{put_result};
+ghost use Rattle.qj_disk.specs.DiskCalls.{IsDiskCall};
 ghost use Rattle.journal_core.specs.declared.cut.Cut.{Cut};
 ghost use Rattle.journal_core.specs.declared.segment.Segment.{Segment};
 ghost use Rattle.journal_core.specs.declared.node_state.NodeState.{NodeState as AnyState};
@@ -25,19 +24,7 @@ use node_files::{
     remove_segment,
 };
 use qj_disk::{Disk, DiskFail};
-use segment_file::{Appended, RowRoom, SegmentTable};
-use small_files::Put;
-
-// A put as the result of a disk call.
-fn outcome(put: Put) -> Result<(), DiskFail>
-    ensures { result ≡ put_result put }
-{
-    match put {
-        Put::Done => Ok(()),
-        Put::DiskFault => Err(DiskFail::Failed),
-        Put::OutOfMemory => Err(DiskFail::OutOfMemory),
-    }
-}
+use segment_file::{RowRoom, SegmentTable};
 
 /// The batch of a request that has one.
 pub(crate) fn batch_in(request: &Request) -> Option<&Batch>
@@ -82,7 +69,7 @@ fn do_number<D: Disk>(
     requires due { (gs : List Segment) × Tells gs table.old × IsDue gs table.old request.now (Deed.Number number value) }
     requires can { D.tells disk.old → (s : AnyState) × CanDo (D.view disk.old) (without_segments s) table.old s request.now (Deed.Number number value) }
 
-    ensures tells { D.tells disk.old ↔ D.tells disk.new }
+    ensures call { IsDiskCall D.DiskModel disk.old disk.new result }
     ensures noted { IsNoted request.now (Deed.Number number value) result table.old table.new }
     ensures fault { IsErrOf result DiskFail.Failed → NotedAtFault request.now (Deed.Number number value) table.old table.new }
     ensures does { D.tells disk.old → (s : AnyState) → CanDo (D.view disk.old) (without_segments s) table.old s request.now (Deed.Number number value)
@@ -90,12 +77,9 @@ fn do_number<D: Disk>(
     ensures left { D.tells disk.old → (s : AnyState) → CanDo (D.view disk.old) (without_segments s) table.old s request.now (Deed.Number number value)
         → AllLeave (D.view disk.new) (MayLeave table.new s (after_effect s (effect_of request.now (Deed.Number number value)))) }
     ensures fewer { length table.new ≤ length table.old }
-    ensures reads { D.reads disk.new ≡ D.reads disk.old }
-    ensures cause { HasCause (D.faults disk.old) (D.faults disk.new) (D.steady disk.old) (D.steady disk.new) result }
-    ensures shortage { HasShortage (D.shortages disk.old) (D.shortages disk.new) result }
 {
     let (_, _) = (table, request);
-    outcome(put_number(disk, number, value))
+    put_number(disk, number, value)
 }
 
 fn do_begin<D: Disk>(
@@ -110,19 +94,16 @@ fn do_begin<D: Disk>(
     requires due { (gs : List Segment) × Tells gs table.old × IsDue gs table.old request.now (Deed.Begin start epoch) }
     requires room { length table.old < room.old }
 
-    ensures tells { D.tells disk.old ↔ D.tells disk.new }
+    ensures call { IsDiskCall D.DiskModel disk.old disk.new result }
     ensures noted { IsNoted request.now (Deed.Begin start epoch) result table.old table.new }
     ensures fault { IsErrOf result DiskFail.Failed → NotedAtFault request.now (Deed.Begin start epoch) table.old table.new }
     ensures does { D.tells disk.old → (s : AnyState) → CanDo (D.view disk.old) (without_segments s) table.old s request.now (Deed.Begin start epoch)
         → DoesDeed s request.now (Deed.Begin start epoch) result (D.view disk.old) (D.view disk.new) (D.left disk.old) (D.left disk.new) }
     ensures left { D.tells disk.old → (s : AnyState) → CanDo (D.view disk.old) (without_segments s) table.old s request.now (Deed.Begin start epoch)
         → AllLeave (D.view disk.new) (MayLeave table.new s (after_effect s (effect_of request.now (Deed.Begin start epoch)))) }
-    ensures reads { D.reads disk.new ≡ D.reads disk.old }
-    ensures cause { HasCause (D.faults disk.old) (D.faults disk.new) (D.steady disk.old) (D.steady disk.new) result }
-    ensures shortage { HasShortage (D.shortages disk.old) (D.shortages disk.new) result }
 {
     note_row(table, room, request, Deed::Begin { start, epoch }, 0)?;
-    outcome(begin_segment(disk, start, epoch))
+    begin_segment(disk, start, epoch)
 }
 
 // The batch is that of the request.
@@ -141,7 +122,7 @@ fn append_batch<D: Disk>(
     requires can { D.tells disk.old → (s : AnyState) × CanDo (D.view disk.old) (without_segments s) table.old s request.now (Deed.Append start at) }
     requires frame { HasFrame request.now ready.old.frame }
 
-    ensures tells { D.tells disk.old ↔ D.tells disk.new }
+    ensures call { IsDiskCall D.DiskModel disk.old disk.new result }
     ensures frame { HasFrame request.now ready.new.frame }
     ensures noted { IsNoted request.now (Deed.Append start at) result table.old table.new }
     ensures fault { IsErrOf result DiskFail.Failed → NotedAtFault request.now (Deed.Append start at) table.old table.new }
@@ -151,23 +132,15 @@ fn append_batch<D: Disk>(
         → AllLeave (D.view disk.new) (MayLeave table.new s (after_effect s (effect_of request.now (Deed.Append start at)))) }
     ensures room { ready.new.room ≡ ready.old.room }
     ensures fewer { length table.new ≤ length table.old }
-    ensures reads { D.reads disk.new ≡ D.reads disk.old }
-    ensures cause { HasCause (D.faults disk.old) (D.faults disk.new) (D.steady disk.old) (D.steady disk.new) result }
-    ensures shortage { HasShortage (D.shortages disk.old) (D.shortages disk.new) result }
 {
-    match append_edits(disk, start, at, batch, &ready.frame) {
-        Appended::Done { at: place } => {
-            note_row(
-                table,
-                &mut ready.room,
-                request,
-                Deed::Append { start, at },
-                place,
-            )
-        }
-        Appended::DiskFault => Err(DiskFail::Failed),
-        Appended::OutOfMemory => Err(DiskFail::OutOfMemory),
-    }
+    let place = append_edits(disk, start, at, batch, &ready.frame)?;
+    note_row(
+        table,
+        &mut ready.room,
+        request,
+        Deed::Append { start, at },
+        place,
+    )
 }
 
 // A deed without its batch isn't due.
@@ -184,7 +157,7 @@ fn do_append<D: Disk>(
     requires can { D.tells disk.old → (s : AnyState) × CanDo (D.view disk.old) (without_segments s) table.old s request.now (Deed.Append start at) }
     requires frame { HasFrame request.now ready.old.frame }
 
-    ensures tells { D.tells disk.old ↔ D.tells disk.new }
+    ensures call { IsDiskCall D.DiskModel disk.old disk.new result }
     ensures frame { HasFrame request.now ready.new.frame }
     ensures noted { IsNoted request.now (Deed.Append start at) result table.old table.new }
     ensures fault { IsErrOf result DiskFail.Failed → NotedAtFault request.now (Deed.Append start at) table.old table.new }
@@ -194,9 +167,6 @@ fn do_append<D: Disk>(
         → AllLeave (D.view disk.new) (MayLeave table.new s (after_effect s (effect_of request.now (Deed.Append start at)))) }
     ensures room { ready.new.room ≡ ready.old.room }
     ensures fewer { length table.new ≤ length table.old }
-    ensures reads { D.reads disk.new ≡ D.reads disk.old }
-    ensures cause { HasCause (D.faults disk.old) (D.faults disk.new) (D.steady disk.old) (D.steady disk.new) result }
-    ensures shortage { HasShortage (D.shortages disk.old) (D.shortages disk.new) result }
 {
     match batch_in(request) {
         Some(batch) => append_batch(disk, table, ready, request, start, at, batch),
@@ -221,7 +191,7 @@ fn accept_batch<D: Disk>(
     requires frame { HasFrame request.now ready.old.frame }
     requires room { length table.old < ready.old.room }
 
-    ensures tells { D.tells disk.old ↔ D.tells disk.new }
+    ensures call { IsDiskCall D.DiskModel disk.old disk.new result }
     ensures frame { HasFrame request.now ready.new.frame }
     ensures noted { IsNoted request.now (Deed.Accept epoch again) result table.old table.new }
     ensures fault { IsErrOf result DiskFail.Failed → NotedAtFault request.now (Deed.Accept epoch again) table.old table.new }
@@ -229,9 +199,6 @@ fn accept_batch<D: Disk>(
         → DoesDeed s request.now (Deed.Accept epoch again) result (D.view disk.old) (D.view disk.new) (D.left disk.old) (D.left disk.new) }
     ensures left { D.tells disk.old → (s : AnyState) → CanDo (D.view disk.old) (without_segments s) table.old s request.now (Deed.Accept epoch again)
         → AllLeave (D.view disk.new) (MayLeave table.new s (after_effect s (effect_of request.now (Deed.Accept epoch again)))) }
-    ensures reads { D.reads disk.new ≡ D.reads disk.old }
-    ensures cause { HasCause (D.faults disk.old) (D.faults disk.new) (D.steady disk.old) (D.steady disk.new) result }
-    ensures shortage { HasShortage (D.shortages disk.old) (D.shortages disk.new) result }
 {
     note_row(
         table,
@@ -240,7 +207,7 @@ fn accept_batch<D: Disk>(
         Deed::Accept { epoch, again },
         0,
     )?;
-    outcome(accept_edits(disk, epoch, batch, again, &mut ready.frame))
+    accept_edits(disk, epoch, batch, again, &mut ready.frame)
 }
 
 // A deed without its batch isn't due.
@@ -258,7 +225,7 @@ fn do_accept<D: Disk>(
     requires frame { HasFrame request.now ready.old.frame }
     requires room { length table.old < ready.old.room }
 
-    ensures tells { D.tells disk.old ↔ D.tells disk.new }
+    ensures call { IsDiskCall D.DiskModel disk.old disk.new result }
     ensures frame { HasFrame request.now ready.new.frame }
     ensures noted { IsNoted request.now (Deed.Accept epoch again) result table.old table.new }
     ensures fault { IsErrOf result DiskFail.Failed → NotedAtFault request.now (Deed.Accept epoch again) table.old table.new }
@@ -266,9 +233,6 @@ fn do_accept<D: Disk>(
         → DoesDeed s request.now (Deed.Accept epoch again) result (D.view disk.old) (D.view disk.new) (D.left disk.old) (D.left disk.new) }
     ensures left { D.tells disk.old → (s : AnyState) → CanDo (D.view disk.old) (without_segments s) table.old s request.now (Deed.Accept epoch again)
         → AllLeave (D.view disk.new) (MayLeave table.new s (after_effect s (effect_of request.now (Deed.Accept epoch again)))) }
-    ensures reads { D.reads disk.new ≡ D.reads disk.old }
-    ensures cause { HasCause (D.faults disk.old) (D.faults disk.new) (D.steady disk.old) (D.steady disk.new) result }
-    ensures shortage { HasShortage (D.shortages disk.old) (D.shortages disk.new) result }
 {
     match batch_in(request) {
         Some(batch) => accept_batch(disk, table, ready, request, epoch, batch, again),
@@ -289,7 +253,7 @@ fn do_finalize<D: Disk>(
     requires due { (gs : List Segment) × Tells gs table.old × IsDue gs table.old request.now (Deed.Finalize start end accepted) }
     requires can { D.tells disk.old → (s : AnyState) × CanDo (D.view disk.old) (without_segments s) table.old s request.now (Deed.Finalize start end accepted) }
 
-    ensures tells { D.tells disk.old ↔ D.tells disk.new }
+    ensures call { IsDiskCall D.DiskModel disk.old disk.new result }
     ensures noted { IsNoted request.now (Deed.Finalize start end accepted) result table.old table.new }
     ensures fault { IsErrOf result DiskFail.Failed → NotedAtFault request.now (Deed.Finalize start end accepted) table.old table.new }
     ensures does { D.tells disk.old → (s : AnyState) → CanDo (D.view disk.old) (without_segments s) table.old s request.now (Deed.Finalize start end accepted)
@@ -298,19 +262,14 @@ fn do_finalize<D: Disk>(
         → AllLeave (D.view disk.new) (MayLeave table.new s (after_effect s (effect_of request.now (Deed.Finalize start end accepted)))) }
     ensures room { room.new ≡ room.old }
     ensures fewer { length table.new ≤ length table.old }
-    ensures reads { D.reads disk.new ≡ D.reads disk.old }
-    ensures cause { HasCause (D.faults disk.old) (D.faults disk.new) (D.steady disk.old) (D.steady disk.new) result }
-    ensures shortage { HasShortage (D.shortages disk.old) (D.shortages disk.new) result }
 {
     let deed = Deed::Finalize {
         start,
         end,
         accepted,
     };
-    match finalize_segment(disk, start, end, accepted) {
-        Put::Done => note_row(table, room, request, deed, 0),
-        failed => outcome(failed),
-    }
+    finalize_segment(disk, start, end, accepted)?;
+    note_row(table, room, request, deed, 0)
 }
 
 fn do_remove<D: Disk>(
@@ -324,7 +283,7 @@ fn do_remove<D: Disk>(
     requires due { (gs : List Segment) × Tells gs table.old × IsDue gs table.old request.now (Deed.Remove info) }
     requires can { D.tells disk.old → (s : AnyState) × CanDo (D.view disk.old) (without_segments s) table.old s request.now (Deed.Remove info) }
 
-    ensures tells { D.tells disk.old ↔ D.tells disk.new }
+    ensures call { IsDiskCall D.DiskModel disk.old disk.new result }
     ensures noted { IsNoted request.now (Deed.Remove info) result table.old table.new }
     ensures fault { IsErrOf result DiskFail.Failed → NotedAtFault request.now (Deed.Remove info) table.old table.new }
     ensures does { D.tells disk.old → (s : AnyState) → CanDo (D.view disk.old) (without_segments s) table.old s request.now (Deed.Remove info)
@@ -333,9 +292,6 @@ fn do_remove<D: Disk>(
         → AllLeave (D.view disk.new) (MayLeave table.new s (after_effect s (effect_of request.now (Deed.Remove info)))) }
     ensures room { room.new ≡ room.old }
     ensures fewer { length table.new ≤ length table.old }
-    ensures reads { D.reads disk.new ≡ D.reads disk.old }
-    ensures cause { HasCause (D.faults disk.old) (D.faults disk.new) (D.steady disk.old) (D.steady disk.new) result }
-    ensures shortage { HasShortage (D.shortages disk.old) (D.shortages disk.new) result }
 {
     let _rows = table.as_slice();
     let line = SegmentLine {
@@ -344,10 +300,8 @@ fn do_remove<D: Disk>(
         is_final: info.is_final,
         epoch: info.epoch,
     };
-    match remove_segment(disk, &line, info.accepted) {
-        Put::Done => note_row(table, room, request, Deed::Remove { info }, 0),
-        failed => outcome(failed),
-    }
+    remove_segment(disk, &line, info.accepted)?;
+    note_row(table, room, request, Deed::Remove { info }, 0)
 }
 
 // The calls of a deed, which is noted in the table.
@@ -364,7 +318,7 @@ fn do_calls<D: Disk>(
     requires frame { HasFrame request.now ready.old.frame }
     requires room { puts_row deed ≡ true → length table.old < ready.old.room }
 
-    ensures tells { D.tells disk.old ↔ D.tells disk.new }
+    ensures call { IsDiskCall D.DiskModel disk.old disk.new result }
     ensures frame { HasFrame request.now ready.new.frame }
     ensures noted { IsNoted request.now deed result table.old table.new }
     ensures fault { IsErrOf result DiskFail.Failed → NotedAtFault request.now deed table.old table.new }
@@ -374,9 +328,6 @@ fn do_calls<D: Disk>(
         → AllLeave (D.view disk.new) (MayLeave table.new s (after_effect s (effect_of request.now deed))) }
     ensures room { puts_row deed ≡ false → ready.new.room ≡ ready.old.room }
     ensures fewer { puts_row deed ≡ false → length table.new ≤ length table.old }
-    ensures reads { D.reads disk.new ≡ D.reads disk.old }
-    ensures cause { HasCause (D.faults disk.old) (D.faults disk.new) (D.steady disk.old) (D.steady disk.new) result }
-    ensures shortage { HasShortage (D.shortages disk.old) (D.shortages disk.new) result }
 {
     match deed {
         Deed::Number { number, value } => do_number(disk, table, request, number, value),
@@ -420,7 +371,7 @@ pub fn do_deed<D: Disk>(
     requires frame { HasFrame request.now ready.old.frame }
     requires room { puts_row deed ≡ true → length table.old < ready.old.room }
 
-    ensures tells { D.tells disk.old ↔ D.tells disk.new }
+    ensures call { IsDiskCall D.DiskModel disk.old disk.new result }
     ensures frame { HasFrame request.now ready.new.frame }
     ensures noted { IsNoted request.now deed result table.old table.new }
     ensures rows { (gs : List Segment) → Tells gs table.old → IsDue gs table.old request.now deed → OnOk result (Tells (segments_after gs (effect_of request.now deed)) table.new) }
@@ -444,9 +395,6 @@ pub fn do_deed<D: Disk>(
         → IsCutAt (λ cut. cost_of cut s.segments (effect_of request.now deed)) s (after_effect s (effect_of request.now deed)) (D.left disk.old) result (D.view disk.new) }
     ensures room { puts_row deed ≡ false → ready.new.room ≡ ready.old.room }
     ensures fewer { puts_row deed ≡ false → length table.new ≤ length table.old }
-    ensures reads { D.reads disk.new ≡ D.reads disk.old }
-    ensures cause { HasCause (D.faults disk.old) (D.faults disk.new) (D.steady disk.old) (D.steady disk.new) result }
-    ensures shortage { HasShortage (D.shortages disk.old) (D.shortages disk.new) result }
 {
     do_calls(disk, table, ready, request, deed)?;
     note(memory, deed);

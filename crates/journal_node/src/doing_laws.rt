@@ -1,7 +1,7 @@
 //! Laws of the deeds of a request, for every state and every request.
 ghost use Rattle.journal_node.specs.Done.{CostsAreKept, AppendsAreWithin};
 
-/// Each durable effect of a request leaves the numbers of disk calls of those behind it as they are.
+/// Each durable effect of a request leaves the numbers of disk calls of those after it as they are.
 pub fn costs_are_kept()
     ensures { CostsAreKept }
 {}

@@ -6,7 +6,7 @@ ghost use Rattle.journal_core.specs.Limits.{limit_of};
 ghost use Rattle.journal_core.specs.Effects.{segments_after, after_effects};
 ghost use Rattle.segment_file.specs.declared.segment_row.SegmentRow.{SegmentRow};
 ghost use Rattle.node_deeds.specs.Due.{batch_of, effect_of, IsDue, AreDue};
-ghost use Rattle.recent_edits.specs.Recent.{IsRecent, cached_after, cached_behind};
+ghost use Rattle.recent_edits.specs.Recent.{IsRecent, cached_after, cached_then};
 ghost use Rattle.journal_node.specs.Done.{effects_by};
 
 use crate::doing::batch_in;
@@ -46,7 +46,7 @@ fn follow(recent: &mut RecentEdits, request: &Request, deed: Deed)
 /// The deeds of a request were done, each of which was due where those before it were done.
 pub(crate) fn follow_deeds(recent: &mut RecentEdits, request: &Request, deeds: &[Deed])
     requires limits { limit_of request.now ≡ None }
-    ensures start { recent.new.start ≡ cached_behind recent.old.start (effects_by request.now deeds.now) }
+    ensures start { recent.new.start ≡ cached_then recent.old.start (effects_by request.now deeds.now) }
     ensures held { (s : AnyState) (rows : List SegmentRow) → AreDue s.segments rows request.now deeds.now → IsRecent recent.old s.segments → IsRecent recent.new (after_effects s (effects_by request.now deeds.now)).segments }
 {
     for deed in deeds {

@@ -7,7 +7,7 @@ ghost use Rattle.journal_core.specs.Step.{effects_of};
 ghost use Rattle.journal_core.specs.Answers.{Answers, FitsRequest, Rose};
 ghost use Rattle.journal_core.specs.Stops.{Stops, Kills, Restarts};
 ghost use Rattle.node_files.specs.Durable.{StandsAs};
-ghost use Rattle.recent_edits.specs.Recent.{AsksRecent, cached_behind, nothing};
+ghost use Rattle.recent_edits.specs.Recent.{AsksRecent, cached_then, nothing};
 ghost use Rattle.journal_node.specs.Acted.{IsActed};
 ghost use Rattle.journal_node.specs.FileState.{state_of};
 ghost use Rattle.journal_node.specs.Held.{StandsStopped};
@@ -57,8 +57,8 @@ impl<D: Disk> JournalNode<D> {
 
     /// Answers one request. The reply is found before anything is done, and what the durable effects want of
     /// memory is taken before the first of them: want of it is answered OutOfMemory and changes nothing. Where
-    /// the disk fails, or a disk call of the effects wants memory, the node goes down. A crash at any moment of the call leaves files that stand for the state behind the first of
-    /// the request's effects, some number of them, and one behind an answer that is neither DiskFault nor
+    /// the disk fails, or a disk call of the effects wants memory, the node goes down. A crash at any moment of the call leaves files that stand for the state after the first of
+    /// the request's effects, some number of them, and one after an answer that is neither DiskFault nor
     /// OutOfMemory leaves all of them. Of a node that is down no disk call is made, and a read or a fetch of
     /// the cached segment's newest edits reads no file.
     pub fn act(&mut self, alloc: Global, request: &Request) -> Reply
@@ -68,7 +68,7 @@ impl<D: Disk> JournalNode<D> {
         ensures moments { D.tells self.old.disk → (s : AnyState) → IsUp (D.view self.old.disk) self.old.memory self.old.rows s → LeavesOnly (D.view self.old.disk) (D.view self.new.disk) (StandsStopped s (effects_of s request.now)) }
         ensures stable { D.tells self.old.disk → (s : AnyState) → IsUp (D.view self.old.disk) self.old.memory self.old.rows s → IsNoFault result → AllLeave (D.view self.new.disk) (λ c. StandsAs c (after_effects s (effects_of s request.now))) }
         ensures idle { self.old.memory.up ≡ false → self.new.disk ≡ self.old.disk }
-        ensures cached { D.tells self.old.disk → (s : AnyState) → IsUp (D.view self.old.disk) self.old.memory self.old.rows s → IsNoFault result → self.new.recent.start ≡ cached_behind self.old.recent.start (effects_of s request.now) }
+        ensures cached { D.tells self.old.disk → (s : AnyState) → IsUp (D.view self.old.disk) self.old.memory self.old.rows s → IsNoFault result → self.new.recent.start ≡ cached_then self.old.recent.start (effects_of s request.now) }
         ensures unread { D.tells self.old.disk → (s : AnyState) → IsUp (D.view self.old.disk) self.old.memory self.old.rows s → AsksRecent self.old.recent.start s request.now → D.reads self.new.disk ≡ D.reads self.old.disk }
         ensures later { D.faults self.old.disk ≤ D.faults self.new.disk }
         ensures fault { result ≡ Reply.Refused Refusal.DiskFault → Rose (D.faults self.old.disk) (D.faults self.new.disk) }
@@ -86,8 +86,8 @@ impl<D: Disk> JournalNode<D> {
     }
 
     /// Does the first durable effects of a request, at most `keep`, and goes down; answers how many it did.
-    /// Want of memory before the first of them changes nothing but that no segment is cached any more. A crash
-    /// at any moment of the call leaves files that stand for the state behind the first of these, some number
+    /// Lack of memory before the first of them changes nothing but that no segment is cached any more. A crash
+    /// at any moment of the call leaves files that stand for the state after the first of these, some number
     /// of them. Of a node that is down no disk call is made, and no file is read.
     pub fn act_stopped(
         &mut self,
@@ -127,7 +127,7 @@ impl<D: Disk> JournalNode<D> {
     }
 
     /// Comes up; false where it already was, and then nothing changes. What a crash left half done in its
-    /// files is repaired. `DiskFault` comes where the disk failed, `OutOfMemory` for want of memory, and
+    /// files is repaired. `DiskFault` comes where the disk failed, `OutOfMemory` for lack of memory, and
     /// `BadFile` only on a disk that doesn't tell its bytes; each leaves the node down. A crash at any moment
     /// of the call leaves files that stand for what a crash before it could have left. Of a node that is up
     /// no disk call is made; one that comes up has no cached segment.

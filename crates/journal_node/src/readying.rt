@@ -16,7 +16,7 @@ use node_deeds::{Deed, deeds_of};
 use segment_file::{ReadyFrame, RowRoom, SegmentTable};
 use std::alloc::Global;
 
-/// What the deeds of a request want of memory: the bytes of its batch, and room for a new row.
+/// What the deeds of a request lack of memory: the bytes of its batch, and room for a new row.
 #[derive(Drop)]
 pub struct Ready {
     pub frame: ReadyFrame,

@@ -9,7 +9,7 @@ joined words = join_with_byte 32 words
 abbrev pub is_space : ℕ → Bool
 is_space b = b == 32
 
--- what stands before, between and behind the spaces; a double, leading or trailing space makes an empty word
+-- what stands before, between and after the spaces; a double, leading or trailing space makes an empty word
 unfoldable pub words_of : List ℕ → List (List ℕ)
 words_of line = slice_split is_space line
 

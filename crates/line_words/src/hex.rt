@@ -41,7 +41,7 @@ pub fn read_hex(word: &[u8], bytes: &mut [u8]) -> bool
     rest.is_empty()
 }
 
-/// Adds bytes. An `Err` is want of memory; what stood there still stands at the front.
+/// Adds bytes. An `Err` is lack of memory; what stood there still stands at the front.
 #[tactic(auto, using(crate::proofs::AppendLaws::keeps))]
 pub fn put(out: &mut Vec<u8>, bytes: &[u8]) -> Result<(), OutOfMemory>
     ensures ok { OnOk result (out.new.items ≡ out.old.items ++ bytes.now) }
@@ -80,7 +80,7 @@ fn hex_digits(bytes: &[u8]) -> [u8; 64]
     digits
 }
 
-/// Adds two digits for each byte. An `Err` is want of memory; what stood there still stands at the front.
+/// Adds two digits for each byte. An `Err` is lack of memory; what stood there still stands at the front.
 #[tactic(auto, using(crate::proofs::HexLaws::prints))]
 pub fn put_hex(out: &mut Vec<u8>, bytes: &[u8]) -> Result<(), OutOfMemory>
     ensures ok { OnOk result (out.new.items ≡ out.old.items ++ hex_text bytes.now) }

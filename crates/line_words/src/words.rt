@@ -47,7 +47,7 @@ pub fn word_len(text: &[u8]) -> usize
     near.len() + far_len(far)
 }
 
-/// The first word, and what follows the space behind it; `None` where there is no space.
+/// The first word, and what follows the space after it; `None` where there is no space.
 #[tactic(auto, using(crate::proofs::WordLaws::splits))]
 pub fn split_word(text: &[u8]) -> Option<(&[u8], &[u8])>
     ensures words { MatchOption result (words_of text.now ≡ text.now ∷ []) (λ p. words_of text.now ≡ p.0.now ∷ words_of p.1.now) }

@@ -10,7 +10,7 @@ use Rattle.journal_core.specs.Step.{node_step, effects_of}
 use Rattle.journal_core.specs.Cuts.{standing}
 use Rattle.writer_core.specs.declared.task.Task.TheVariants as task
 use Rattle.writer_core.specs.Best.{best_from, greatest_promise, greatest_newest}
-use Rattle.writer_core.specs.Rounds.{judged, fetched}
+use Rattle.writer_core.specs.Rounds.{judgment, after_fetch}
 use Rattle.writer_core.specs.Writer.{log_limit, writer_begun, writer_heard}
 use Rattle.node_history.specs.declared.history_line.HistoryLine.{HistoryLine}
 use Rattle.node_history.specs.declared.record.Record.{Record}
@@ -43,7 +43,7 @@ local_of (suc zero) l = (refl, (refl, (refl, (refl, tt))))
 local_of (suc (suc i)) l = absurd (omega (arith, l))
 
 made_of : (c : ℕ) → c < 2 → IsOfChores 2 (record_of crossed c)
-unfolding crossed HaveBodies IsMade find_segment newest limit_of best_from greatest_promise greatest_newest judged fetched log_limit writer_begun writer_heard maker_of maker_hears
+unfolding crossed HaveBodies IsMade find_segment newest limit_of best_from greatest_promise greatest_newest judgment after_fetch log_limit writer_begun writer_heard maker_of maker_hears
 made_of zero l = (Writes task.Takeover ∷ [], (tt, tt), (refl, (refl, (refl, (refl, tt)))))
 made_of (suc zero) l = (Writes task.Takeover ∷ [], (tt, tt), (refl, (refl, (refl, (refl, tt)))))
 made_of (suc (suc c)) l = absurd (omega (arith, l))

@@ -4,7 +4,7 @@ use Rattle.std.specs.Prelude.{filter_map}
 use Rattle.journal_core.specs.declared.node_state.NodeState.{NodeState}
 use Rattle.node_history.specs.declared.history_line.HistoryLine.{HistoryLine}
 use Rattle.node_history.specs.Cell.{Cell, cell_takes, fresh_cell, IsLocalRun}
-use Rattle.node_history.specs.Entries.{Move, Entry, moved, node_after}
+use Rattle.node_history.specs.Entries.{Move, Entry, after_move, node_after}
 use Rattle.node_history.specs.Moving.{Placed, move_of, entry_at, entry_of, moving_of}
 use Rattle.run_safety.proofs.Entering.{Did, still, gone, line_did}
 use Rattle.mesh.specs.declared.whole.Mesh.{Mesh}
@@ -17,7 +17,7 @@ use Rattle.mesh.proofs.OrderLaws.{back_onto}
 -- ## One node: from this state on
 unfoldable pub SoundFrom : NodeState → List Entry → Type 0
 SoundFrom s [] = Unit {0}
-SoundFrom s (e ∷ es) = IsDue s e.move × (moved s e.move ≢ s) × SoundFrom (moved s e.move) es
+SoundFrom s (e ∷ es) = IsDue s e.move × (after_move s e.move ≢ s) × SoundFrom (after_move s e.move) es
 
 first_sound : (s : NodeState) (x : Placed) (o : Option Entry) (xs : List Placed) → entry_of x ≡ o
     → (o ≡ None → SoundFrom s (filter_map entry_of xs)) → ((e : Entry) → o ≡ Some e → SoundFrom s (e ∷ filter_map entry_of xs)) → SoundFrom s (filter_map entry_of (x ∷ xs))
@@ -56,7 +56,7 @@ history_sound m k cell past (h ∷ hs) run =
         (λ e some. absurd (none_entry k _ e (told ∙ is) some))
     by (gone v is due same off) s = first_sound cell.state (record { node = k; line = h; muted = is_muted (line_of_caller m k past h) }) _ (placed_from m k (past ++ h ∷ []) hs) refl
         (λ none. absurd (some_entry k _ v (told ∙ is) none))
-        (λ e some. subst (λ (w : Move). IsDue cell.state w × (moved cell.state w ≢ cell.state) × SoundFrom (moved cell.state w) (filter_map entry_of (placed_from m k (past ++ h ∷ []) hs)))
+        (λ e some. subst (λ (w : Move). IsDue cell.state w × (after_move cell.state w ≢ cell.state) × SoundFrom (after_move cell.state w) (filter_map entry_of (placed_from m k (past ++ h ∷ []) hs)))
         (move_entry k _ v e (told ∙ is) some)
         (due, (λ f. off (same ∙ f)), subst (λ (z : NodeState). SoundFrom z (filter_map entry_of (placed_from m k (past ++ h ∷ []) hs))) same s))
 
@@ -88,7 +88,7 @@ sounds_on n (e ∷ es) past w s h = sounds_on n es (e ∷ past) w.2 (here, s) (�
     next : (i : ℕ) → i < n → Alike e.node (i + 1) → SoundFrom (node_after (i + 1) (e ∷ past)) (entries_at (i + 1) es)
     next i l (inl f) =
         subst (λ (k : ℕ). SoundFrom (node_after k (e ∷ past)) (entries_at k es)) f.1
-        (subst (λ (z : NodeState). SoundFrom z (entries_at e.node es)) (sym (cond_true (e.node == e.node) (moved (node_after e.node past) e.move) (node_after e.node past) (same_test e.node e.node refl))) first.2)
+        (subst (λ (z : NodeState). SoundFrom z (entries_at e.node es)) (sym (cond_true (e.node == e.node) (after_move (node_after e.node past) e.move) (node_after e.node past) (same_test e.node e.node refl))) first.2)
     next i l (inr f) =
-        subst (λ (z : NodeState). SoundFrom z (entries_at (i + 1) es)) (sym (cond_false (e.node == i + 1) (moved (node_after (i + 1) past) e.move) (node_after (i + 1) past) f.0))
+        subst (λ (z : NodeState). SoundFrom z (entries_at (i + 1) es)) (sym (cond_false (e.node == i + 1) (after_move (node_after (i + 1) past) e.move) (node_after (i + 1) past) f.0))
         (subst (SoundFrom (node_after (i + 1) past)) (cond_false (e.node == i + 1) (e ∷ entries_at (i + 1) es) (entries_at (i + 1) es) f.0) (h i l))

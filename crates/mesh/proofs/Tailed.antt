@@ -8,7 +8,7 @@ use Rattle.journal_core.specs.Step.{node_step, effects_of}
 use Rattle.journal_core.specs.Cuts.{standing}
 use Rattle.writer_core.specs.declared.task.Task.TheVariants as task
 use Rattle.writer_core.specs.Best.{best_from, greatest_promise, greatest_newest}
-use Rattle.writer_core.specs.Rounds.{judged, fetched}
+use Rattle.writer_core.specs.Rounds.{judgment, after_fetch}
 use Rattle.writer_core.specs.Writer.{log_limit, writer_begun, writer_heard}
 use Rattle.node_history.specs.Cell.{cell_takes, fresh_cell, IsLocalRun}
 use Rattle.node_history.specs.Moving.{epoch_of, moves, move_of, entry_of, moving_of}
@@ -32,7 +32,7 @@ local_of zero l = (refl, (refl, (refl, (refl, (refl, (refl, (refl, tt)))))))
 local_of (suc i) l = absurd (omega (arith, l))
 
 made_of : (c : ℕ) → c < 2 → IsOfChores 1 (record_of tailed c)
-unfolding tailed HaveBodies IsMade find_segment newest limit_of best_from greatest_promise greatest_newest judged fetched log_limit writer_begun writer_heard maker_of maker_hears
+unfolding tailed HaveBodies IsMade find_segment newest limit_of best_from greatest_promise greatest_newest judgment after_fetch log_limit writer_begun writer_heard maker_of maker_hears
 made_of zero l = (Writes task.Takeover ∷ Writes (task.Log logged) ∷ [], (tt, ((λ e. cc e), tt)), (refl, (refl, (refl, (refl, (refl, tt))))))
 made_of (suc zero) l = (Tails 0 1 ∷ [], tt, (refl, (refl, tt)))
 made_of (suc (suc c)) l = absurd (omega (arith, l))

@@ -252,7 +252,7 @@ module _ (n e : ℕ) where
   none_some : {B : Type 0} (o : Option B) (c : B) → o ≡ None → o ≡ Some c → ⊥
   none_some o c e f = let both : None ≡ Some c = sym e ∙ f in cc both
 
-  -- the call was the writer's; so many were counted behind it
+  -- the call was the writer's; so many were counted after it
   wrote : (m : Maker) (ks ls : List ℕ) (k : ℕ) (x : Request) (t : TellsOf) → Standing ks m → asks m.reading m.writer ≡ Some (k, x) → next_call m.writer ≡ Some (k, x)
       → Runs ls (writer_heard m.writer k (heard_of t)).writer → Standing ls (maker_hears m k t)
   wrote m ks ls k x t h e c r = hears_stands Runs task_runs ls m k x t h.bodies h.rests e (λ f. r) (λ from is none. absurd (none_some (next_call m.writer) (k, x) none c))

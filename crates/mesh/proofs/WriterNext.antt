@@ -1,4 +1,4 @@
--- What an answer leaves a writer in: the same round, the round of proposals behind that of states, a later one, or none.
+-- What an answer leaves a writer in: the same round, the round of proposals after that of states, a later one, or none.
 use Rattle.std.proofs.Common.{◌≡◌, ℕ, ◌+◌, ◌-◌, List, ◌++◌, Bool, true, false, cond, refl, ◌∙◌, length, take, ◌⊎◌, inl, inr}
 use Rattle.std.proofs.lemmas.Bool.{and_parts}
 use Rattle.std.specs.Prelude.{Option, Some, None, ◌≢◌, ◌&&◌, nat_lt}
@@ -17,8 +17,8 @@ use Rattle.writer_core.specs.declared.phase.Aim.TheVariants as aim
 use Rattle.writer_core.specs.Views.{WriterView}
 use Rattle.writer_core.specs.Answers.{is_waiting, has_majority, fits_edits}
 use Rattle.writer_core.specs.Best.{Best, best_of, greatest_promise, greatest_newest}
-use Rattle.writer_core.specs.Rounds.{numbers_fit, going, stopped, proposing, done_in, with_causes, judged_by, judged, taken_out, fetched, after_propose, recovering, after_finalize, after_open, after_write, edits_fetched, not_fetched, next_serial, missed, to_all, asking_all, batch_from}
-use Rattle.writer_core.specs.Writer.{with_answer, judged_when, heard_in, heard_at, writer_heard}
+use Rattle.writer_core.specs.Rounds.{numbers_fit, keep_going, stops_with, begin_propose, after_round, with_causes, judgment_by, judgment, without_answer_of, after_fetch, after_propose, begin_recovery, after_finalize, after_open, after_write, after_edits, after_no_edits, next_serial, left_out_after, to_all, asks_all, batch_from}
+use Rattle.writer_core.specs.Writer.{with_answer, judgment_when, heard_in, heard_at, writer_heard}
 use Rattle.writer_core.specs.declared.turn.Turn.TheVariants as turn
 
 -- a round with a head
@@ -56,7 +56,7 @@ propose_later : (o : Option ℕ) (w : WriterView) → Later w (after_propose o w
 propose_later None w = record { epoch = refl; phase = tt }
 propose_later (Some start) w = record { epoch = refl; phase = tt }
 
-recovering_later : (start : ℕ) (o : Option Best) (w : WriterView) → Later w (recovering start o w)
+recovering_later : (start : ℕ) (o : Option Best) (w : WriterView) → Later w (begin_recovery start o w)
 recovering_later start None w = record { epoch = refl; phase = tt }
 recovering_later start (Some b) w = record { epoch = refl; phase = tt }
 
@@ -84,7 +84,7 @@ write_later aim.Purge first last w = record { epoch = refl; phase = tt }
 along : (w u v : WriterView) → u.epoch ≡ w.epoch → Later u v → Later w v
 along w u v e l = record { epoch = l.epoch ∙ e; phase = l.phase }
 
-done_later : (r : Round) (w : WriterView) → r ≢ round.State → Later w (done_in r w).writer
+done_later : (r : Round) (w : WriterView) → r ≢ round.State → Later w (after_round r w).writer
 done_later round.State w off = absurd (off refl)
 done_later round.Propose w off = along w (next_serial w) _ refl (propose_later (greatest_newest w.slots) (next_serial w))
 done_later (round.Prepare start) w off = along w (next_serial w) _ refl (recovering_later start (best_of start w.slots) (next_serial w))
@@ -93,56 +93,56 @@ done_later (round.Accept batch) w off = record { epoch = refl; phase = tt }
 done_later (round.Finalize start end) w off = along w (next_serial w) _ refl (finalize_later w.aim end (next_serial w))
 done_later round.Start w off = record { epoch = refl; phase = tt }
 done_later round.Open w off =
-    let u : WriterView = record (next_serial w) { committed = w.start; next = w.start + 1; left = missed round.Open w.slots } in
+    let u : WriterView = record (next_serial w) { committed = w.start; next = w.start + 1; left = left_out_after round.Open w.slots } in
     along w u _ refl (open_later w.aim u)
 done_later (round.Write bodies) w off =
     let last : ℕ = w.next + length bodies - 1 in
-    let u : WriterView = record (next_serial w) { committed = last; next = last + 1; left = missed (round.Write bodies) w.slots } in
+    let u : WriterView = record (next_serial w) { committed = last; next = last + 1; left = left_out_after (round.Write bodies) w.slots } in
     along w u _ refl (write_later w.aim w.next last u)
 done_later (round.Purge min) w off = record { epoch = refl; phase = tt }
 
 -- ## A round that was heard whole
-state_by : (b : Bool) (told : ℕ) (w u : WriterView) (k : ℕ) (h : Heard) → w.phase ≡ phase.InRound round.State → Next w k h (cond b (going (proposing told u)) (stopped (turn.EpochLimit told) u)).writer
+state_by : (b : Bool) (told : ℕ) (w u : WriterView) (k : ℕ) (h : Heard) → w.phase ≡ phase.InRound round.State → Next w k h (cond b (keep_going (begin_propose told u)) (stops_with (turn.EpochLimit told) u)).writer
 state_by true told w u k h p = Proposes _ p refl refl
 state_by false told w u k h p = Stops _ refl
 
-state_next : (b : Bool) (w : WriterView) (k : ℕ) (h : Heard) → w.phase ≡ phase.InRound round.State → Next w k h (judged_by b round.State (with_answer w k h)).writer
+state_next : (b : Bool) (w : WriterView) (k : ℕ) (h : Heard) → w.phase ≡ phase.InRound round.State → Next w k h (judgment_by b round.State (with_answer w k h)).writer
 state_next true w k h p = let u : WriterView = with_causes round.State (with_answer w k h) in state_by (nat_lt (greatest_promise u.slots) max_number) (greatest_promise u.slots) w u k h p
 state_next false w k h p = Stops _ refl
 
-judged_next : (b : Bool) (r s : Round) (w u : WriterView) (k : ℕ) (h : Heard) → w.phase ≡ phase.InRound s → r ≢ round.State → u.epoch ≡ w.epoch → (b ≡ true → IsLaterRound s ⊎ IsDone w k h s) → Next w k h (judged_by b r u).writer
+judged_next : (b : Bool) (r s : Round) (w u : WriterView) (k : ℕ) (h : Heard) → w.phase ≡ phase.InRound s → r ≢ round.State → u.epoch ≡ w.epoch → (b ≡ true → IsLaterRound s ⊎ IsDone w k h s) → Next w k h (judgment_by b r u).writer
 judged_next true r s w u k h p off e d = later w k h _ s p (d refl) (along w (with_causes r u) _ e (done_later r (with_causes r u) off))
 judged_next false r s w u k h p off e d = Stops _ refl
 
-round_next : (b : Bool) (r : Round) (w : WriterView) (k : ℕ) (h : Heard) → w.phase ≡ phase.InRound r → r ≢ round.State → (has_majority r (with_answer w k h).slots ≡ true → IsLaterRound r ⊎ IsDone w k h r) → Next w k h (judged_when b r (with_answer w k h)).writer
-unfolding judged
+round_next : (b : Bool) (r : Round) (w : WriterView) (k : ℕ) (h : Heard) → w.phase ≡ phase.InRound r → r ≢ round.State → (has_majority r (with_answer w k h).slots ≡ true → IsLaterRound r ⊎ IsDone w k h r) → Next w k h (judgment_when b r (with_answer w k h)).writer
+unfolding judgment
 round_next true r w k h p off d = Stays r p
 round_next false r w k h p off d =
     judged_next (numbers_fit (with_answer w k h) r && has_majority r (with_answer w k h).slots) r r w (with_answer w k h) k h p off refl (λ e. d (and_parts (numbers_fit (with_answer w k h) r) (has_majority r (with_answer w k h).slots) e).1)
 
-state_round : (b : Bool) (w : WriterView) (k : ℕ) (h : Heard) → w.phase ≡ phase.InRound round.State → Next w k h (judged_when b round.State (with_answer w k h)).writer
-unfolding judged
+state_round : (b : Bool) (w : WriterView) (k : ℕ) (h : Heard) → w.phase ≡ phase.InRound round.State → Next w k h (judgment_when b round.State (with_answer w k h)).writer
+unfolding judgment
 state_round true w k h p = Stays round.State p
 state_round false w k h p = state_next (numbers_fit (with_answer w k h) round.State && has_majority round.State (with_answer w k h).slots) w k h p
 
 -- ## A piece that was fetched
 pieced_by : (b : Bool) (node start end : ℕ) (bodies : List (List ℕ)) (u w : WriterView) → u.epoch ≡ w.epoch
-    → Later w (cond b (asking_all (round.Accept (batch_from start bodies)) u) (record u { phase = phase.InRound (round.Fetch node start end bodies) }))
+    → Later w (cond b (asks_all (round.Accept (batch_from start bodies)) u) (record u { phase = phase.InRound (round.Fetch node start end bodies) }))
 pieced_by true node start end bodies u w e = record { epoch = e; phase = tt }
 pieced_by false node start end bodies u w e = record { epoch = e; phase = tt }
 
-missing_next : (node start : ℕ) (heard : Heard) (w : WriterView) (k : ℕ) (h : Heard) (s : Round) → w.phase ≡ phase.InRound s → IsLaterRound s → Next w k h (not_fetched node start heard w).writer
+missing_next : (node start : ℕ) (heard : Heard) (w : WriterView) (k : ℕ) (h : Heard) (s : Round) → w.phase ≡ phase.InRound s → IsLaterRound s → Next w k h (after_no_edits node start heard w).writer
 missing_next node start heard w k h s p l =
-    judged_next (has_majority (round.Prepare start) (taken_out node heard w).slots) (round.Prepare start) s w (taken_out node heard w) k h p (λ (x : round.Prepare start ≡ round.State). cc x) refl (λ e. inl l)
+    judged_next (has_majority (round.Prepare start) (without_answer_of node heard w).slots) (round.Prepare start) s w (without_answer_of node heard w) k h p (λ (x : round.Prepare start ≡ round.State). cc x) refl (λ e. inl l)
 
-edits_next : (b : Bool) (node start end : ℕ) (bodies : List (List ℕ)) (batch : BatchView) (w : WriterView) (k : ℕ) (h : Heard) (s : Round) → w.phase ≡ phase.InRound s → IsLaterRound s → Next w k h (edits_fetched b node start end bodies batch w).writer
+edits_next : (b : Bool) (node start end : ℕ) (bodies : List (List ℕ)) (batch : BatchView) (w : WriterView) (k : ℕ) (h : Heard) (s : Round) → w.phase ≡ phase.InRound s → IsLaterRound s → Next w k h (after_edits b node start end bodies batch w).writer
 edits_next true node start end bodies batch w k h s p l =
     let more : List (List ℕ) = bodies ++ take (end + 1 - (start + length bodies)) batch.bodies in
     later w k h _ s p (inl l) (pieced_by (nat_lt end (start + length more)) node start end more (next_serial w) w refl)
 edits_next false node start end bodies batch w k h s p l = missing_next node start Silent w k h s p l
 
-fetched_next : (node start end : ℕ) (bodies : List (List ℕ)) (w : WriterView) (k : ℕ) (h : Heard) (s : Round) → w.phase ≡ phase.InRound s → IsLaterRound s → Next w k h (fetched node start end bodies h w).writer
-unfolding fetched
+fetched_next : (node start end : ℕ) (bodies : List (List ℕ)) (w : WriterView) (k : ℕ) (h : Heard) (s : Round) → w.phase ≡ phase.InRound s → IsLaterRound s → Next w k h (after_fetch node start end bodies h w).writer
+unfolding after_fetch
 fetched_next node start end bodies w k (Answer (reply.Edits batch)) s p l = edits_next (numbers_fit w (round.Fetch node start end bodies) && fits_edits (start + length bodies) batch) node start end bodies batch w k (Answer (reply.Edits batch)) s p l
 fetched_next node start end bodies w k (Answer reply.Ok) s p l = missing_next node start (Answer reply.Ok) w k (Answer reply.Ok) s p l
 fetched_next node start end bodies w k (Answer (reply.State promised)) s p l = missing_next node start (Answer (reply.State promised)) w k (Answer (reply.State promised)) s p l

@@ -1,5 +1,5 @@
 -- The moving entries of all histories in one order: by the promise that the node has after the entry; under one promise first the
--- proposals of callers that don't own it, by node, and then the owner's entries in the order of its record. Kills, restarts and stops behind
+-- proposals of callers that don't own it, by node, and then the owner's entries in the order of its record. Kills, restarts and stops after
 -- no effect stay behind the moving entry of their node before them, or at the front.
 use Rattle.std.specs.Prelude.{ℕ, zero, suc, ◌+◌, ◌==◌, ◌&&◌, ◌||◌, nat_lt, Bool, true, false, List, [], ◌∷◌, ◌++◌, length, filter, slice_get, Option, Some, None, if◌then◌else◌}
 use Rattle.node_history.specs.declared.history_line.HistoryLine.{HistoryLine}
@@ -37,7 +37,7 @@ placed_from m node before (h ∷ hs) =
 abbrev pub placed_at : Mesh → ℕ → List Placed
 placed_at m index = placed_from m (index + 1) [] (history_at m index)
 
--- the place in a record, counted on from this one, of the line that is behind so many others that reached the node
+-- the place in a record, counted on from this one, of the line that is after so many others that reached the node
 unfoldable pub place_of : ℕ → ℕ → ℕ → List Record → ℕ
 place_of node others place [] = place
 place_of node zero place (r ∷ rs) = if reaches node r then place else place_of node zero (place + 1) rs

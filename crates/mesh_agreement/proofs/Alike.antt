@@ -160,12 +160,6 @@ live_push : (us : List Stand) (s : Stand) → AllLive us → AllLive (s ∷ []) 
 live_push [] s a b = b
 live_push (u ∷ us) s a b = (a.0, live_push us s a.1 b)
 
-pub none_alike : MakeAlike [] []
-none_alike = record { on = λ rs h. h; back = λ rs h. h; live = λ h. h }
-
-pub same_alike : (ss : List Stand) → MakeAlike ss ss
-same_alike ss = record { on = λ rs h. h; back = λ rs h. h; live = λ h. h }
-
 pub skip_alike : (those these : List Stand) (s : Stand) → EndAlike these s → MakeAlike those these → MakeAlike (those ++ s ∷ []) these
 skip_alike those these s a m = record {
   on = λ rs h. by rs (some_split those (s ∷ []) rs h);

@@ -13,7 +13,7 @@ use Rattle.node_history.specs.declared.record.Told.{Told}
 use Rattle.node_history.specs.declared.record.Told.TheVariants as told
 use Rattle.mesh.specs.Makers.{Chore, Writes, Tails, Reading, Maker, heard_of, maker_of, maker_hears, read_heard, IsMade, HaveBodies}
 use Rattle.mesh_agreement.specs.declared.making.Pass.{Pass}
-use Rattle.mesh_agreement.specs.Leading.{between, in_pass, reading_of, maker_at, CanMake, passed}
+use Rattle.mesh_agreement.specs.Leading.{between, in_pass, reading_of, maker_at, CanMake, after_pass}
 
 pub call_there : (o : Option (ℕ × Request)) (node : ℕ) (r : Request) → o ≡ Some (node, r) → is_some o ≡ true
 call_there o node r e = subst (λ x. is_some x ≡ true) (sym e) refl
@@ -66,7 +66,7 @@ at_next : (cs : List Chore) (w : WriterView) (p : Pass) (b : Bool)
 at_next cs w p true = refl
 at_next cs w p false = refl
 
-pub read_passes : (cs : List Chore) (w : WriterView) (p : Pass) (t : Told) → maker_at cs (passed w p t) ≡ read_heard (reading_of p) t (tailing cs w (reading_of p))
+pub read_passes : (cs : List Chore) (w : WriterView) (p : Pass) (t : Told) → maker_at cs (after_pass w p t) ≡ read_heard (reading_of p) t (tailing cs w (reading_of p))
 read_passes cs w p (told.Reply (reply.Edits batch)) = refl
 read_passes cs w p (told.Reply reply.Ok) = at_next cs w p (nat_lt p.node (length w.left))
 read_passes cs w p (told.Reply (reply.State promised)) = at_next cs w p (nat_lt p.node (length w.left))
@@ -78,7 +78,7 @@ read_passes cs w p told.Dropped = at_next cs w p (nat_lt p.node (length w.left))
 read_passes cs w p told.Muted = at_next cs w p (nat_lt p.node (length w.left))
 read_passes cs w p told.Silent = at_next cs w p (nat_lt p.node (length w.left))
 
-pub makes_read : (w : WriterView) (p : Pass) (node : ℕ) (r : Request) (t : Told) (rs : List Record) → p.node ≡ node → Read (p.position + 1) ≡ r → CanMake (passed w p t) rs → CanMake (in_pass w p) (Call node r t ∷ rs)
+pub makes_read : (w : WriterView) (p : Pass) (node : ℕ) (r : Request) (t : Told) (rs : List Record) → p.node ≡ node → Read (p.position + 1) ≡ r → CanMake (after_pass w p t) rs → CanMake (in_pass w p) (Call node r t ∷ rs)
 unfolding IsMade maker_hears
 makes_read w p node r t rs e f (cs, bodies, made) =
     (cs, bodies, (ap (λ n. Some (n, Read (p.position + 1))) e ∙ ap (λ q. Some (node, q)) f, subst (λ m. IsMade m rs) (read_passes cs w p t) made))
@@ -96,7 +96,7 @@ request_called (Some x) = x.1
 pub record Read_by (w : WriterView) (p : Pass) (node : ℕ) (r : Request) (t : Told) (rs : List Record) : Type 0 where
   pub node_is : p.node ≡ node
   pub request_is : Read (p.position + 1) ≡ r
-  pub rest : CanMake (passed w p t) rs
+  pub rest : CanMake (after_pass w p t) rs
 
 pub read_made : (w : WriterView) (p : Pass) (node : ℕ) (r : Request) (t : Told) (rs : List Record) → CanMake (in_pass w p) (Call node r t ∷ rs) → Read_by w p node r t rs
 unfolding IsMade maker_hears
@@ -112,7 +112,7 @@ shorter_next w rs p more cs later bodies true h = later (record p { node = p.nod
 shorter_next w rs p more cs later bodies false h = (cs, bodies, h)
 
 shorter_read : (w : WriterView) (rs : List Record) (p : Pass) (more : ℕ) (cs : List Chore) (t : Told) → is_some (next_call w) ≡ false → Shorter w rs → HaveBodies cs
-    → IsMade (read_heard (record { position = p.position; node = p.node; more = more }) t (tailing cs w (record { position = p.position; node = p.node; more = more }))) rs → CanMake (passed w p t) rs
+    → IsMade (read_heard (record { position = p.position; node = p.node; more = more }) t (tailing cs w (record { position = p.position; node = p.node; more = more }))) rs → CanMake (after_pass w p t) rs
 shorter_read w rs p zero cs (told.Reply (reply.Edits batch)) rests later b h = (cs, b, h)
 shorter_read w rs p (suc more) cs (told.Reply (reply.Edits batch)) rests later b h =
     let next : Pass = record { position = p.position + length batch.bodies; node = 1 } in

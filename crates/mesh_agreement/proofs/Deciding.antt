@@ -32,8 +32,6 @@ pub from_ends : {A : Type 0} (P : List A → Type 0) (Q : A → Type 0) → ByLi
 from_ends P Q b i xs l f = f.0 (subst P (sym (drop_all i xs l)) b.none)
 
 -- ## Numbers below a bound
-pub below_none : (P : ℕ → Type 0) → (k : ℕ) → k < 0 → P k
-below_none P k l = absurd (omega (arith, l))
 
 pub below_more : (P : ℕ → Type 0) (i : ℕ) → P i → ((k : ℕ) → k < i → P k) → (k : ℕ) → k < i + 1 → P k
 below_more P i p h k l = by (cases_lt k i)

@@ -76,9 +76,6 @@ only : (nodes : ℕ) (rs : List Record) → SomeMake (between (new_writer nodes)
 only nodes rs (inl h) = h
 only nodes rs (inr h) = absurd h
 
-pub led_begins : (nodes : ℕ) (rs : List Record) (ss : List Stand) → ss ≡ between (new_writer nodes) ∷ [] → Led nodes rs 0 ss
-led_begins nodes rs ss e = subst (Led nodes rs 0) (sym e) (record { on = λ h. inl h; back = only nodes rs; live = λ z. (new_live nodes z, tt) })
-
 pub led_more : (nodes i : ℕ) (rs : List Record) (r : Record) (those these : List Stand) → i < length rs → r ≡ get_or rs i r → Follows nodes those r these → Led nodes rs i those → Led nodes rs (i + 1) these
 led_more nodes i rs r those these l is f h =
     let e = front i rs r l is in

@@ -19,7 +19,7 @@ use Rattle.node_history.specs.declared.record.Told.{Told}
 use Rattle.node_history.specs.declared.record.Told.TheVariants as told
 use Rattle.mesh.specs.Makers.{Chore, Writes, Tails, heard_of, maker_of, maker_hears, IsMade, HaveBodies}
 use Rattle.mesh_agreement.specs.declared.making.Pass.{Pass}
-use Rattle.mesh_agreement.specs.Leading.{Stand, between, in_pass, CanMake, SomeMake, AllLive, log_of, tasks_for, is_call, hears, hear_begun, is_read, passed, next_pass, reads, pass_from, begins, goes_on_in, goes_on, all_go_on}
+use Rattle.mesh_agreement.specs.Leading.{Stand, between, in_pass, CanMake, SomeMake, AllLive, log_of, tasks_for, is_call, hears, hear_begun, is_read, after_pass, next_pass, reads, pass_from, begins, goes_on_in, goes_on, all_go_on}
 use Rattle.mesh_agreement.proofs.Chores.{call_there, waits, passes, tails, heard, begun, makes_call, makes_begun, makes_tail, makes_read, read_made, Read_by, request_called, shorter}
 
 -- ## Lists of stands
@@ -132,10 +132,6 @@ among_log : (bodies : List (List ℕ)) (xs : List Task) → bodies ≢ [] → Am
 among_log [] xs h = absurd (h refl)
 among_log (b ∷ bs) xs h = inl refl
 
-among_right : (x : Task) (xs ys : List Task) → Among x ys → Among x (xs ++ ys)
-among_right x [] ys h = h
-among_right x (y ∷ xs) ys h = inr (among_right x xs ys h)
-
 -- where a task begins, its request is that of its first round; else the writer has no call to make
 if_found : (b : Bool) (began : Began) (w : WriterView) (node : ℕ) (r : Request) (P : Type 0) → is_some (next_call w) ≡ false
     → (next_call began.writer ≡ Some (node, r) → P) → next_call (if_writing b began w).writer ≡ Some (node, r) → P
@@ -225,11 +221,11 @@ begun_back w node r t rs (x ∷ xs) h = by (some_split (hears (begun w x) node r
     by (inr g) rec = later (rec g)
 
 -- ## One read
-reads_more : (w : WriterView) (p : Pass) (from : ℕ) (t : Told) (rs : List Record) → from ≡ p.position + 1 → CanMake (passed w p t) rs → SomeMake (reads w p p.node (request.Read from) t) rs
+reads_more : (w : WriterView) (p : Pass) (from : ℕ) (t : Told) (rs : List Record) → from ≡ p.position + 1 → CanMake (after_pass w p t) rs → SomeMake (reads w p p.node (request.Read from) t) rs
 reads_more w p from t rs e h =
     let some : nat_lt 0 from ≡ true = lt-ltb 0 from (omega (arith, e)) in
     let at : (from - 1 == p.position) ≡ true = eq-eqb (from - 1) p.position (omega (arith, e)) in
-    subst (λ b. SomeMake (cond b (passed w p t ∷ []) []) rs)
+    subst (λ b. SomeMake (cond b (after_pass w p t ∷ []) []) rs)
     (sym (and_from ((p.node == p.node) && nat_lt 0 from) (from - 1 == p.position) (and_from (p.node == p.node) (nat_lt 0 from) (eq-eqb p.node p.node refl) some) at)) (inl h)
 
 read_more : (w : WriterView) (p : Pass) (node : ℕ) (r : Request) (t : Told) (rs : List Record) → Read_by w p node r t rs → SomeMake (reads w p node r t) rs
@@ -260,7 +256,7 @@ read_tells p node request.Manifest e = absurd (true≢false (sym e))
 reads_back : (w : WriterView) (p : Pass) (node : ℕ) (r : Request) (t : Told) (rs : List Record) → SomeMake (reads w p node r t) rs → CanMake (in_pass w p) (Call node r t ∷ rs)
 reads_back w p node r t rs h = by (is_read p node r) refl h
   where
-    by : (b : Bool) → is_read p node r ≡ b → SomeMake (cond b (passed w p t ∷ []) []) rs → CanMake (in_pass w p) (Call node r t ∷ rs)
+    by : (b : Bool) → is_read p node r ≡ b → SomeMake (cond b (after_pass w p t ∷ []) []) rs → CanMake (in_pass w p) (Call node r t ∷ rs)
     by true e (inl g) = let k = read_tells p node r e in makes_read w p node r t rs k.0 k.1 g
     by true e (inr g) = absurd g
     by false e g = absurd g
@@ -366,7 +362,7 @@ live_next w p l = by (nat_lt p.node (length w.left))
     by true = l
     by false = l
 
-live_passed : (w : WriterView) (p : Pass) (t : Told) → IsLive w → IsLive (passed w p t).writer
+live_passed : (w : WriterView) (p : Pass) (t : Told) → IsLive w → IsLive (after_pass w p t).writer
 live_passed w p (told.Reply (reply.Edits batch)) l = l
 live_passed w p (told.Reply reply.Ok) l = live_next w p l
 live_passed w p (told.Reply (reply.State promised)) l = live_next w p l
@@ -381,7 +377,7 @@ live_passed w p told.Silent l = live_next w p l
 live_reads : (w : WriterView) (p : Pass) (node : ℕ) (r : Request) (t : Told) → IsLive w → AllLive (reads w p node r t)
 live_reads w p node r t l = by (is_read p node r)
   where
-    by : (b : Bool) → AllLive (cond b (passed w p t ∷ []) [])
+    by : (b : Bool) → AllLive (cond b (after_pass w p t ∷ []) [])
     by true = (live_passed w p t l, tt)
     by false = tt
 

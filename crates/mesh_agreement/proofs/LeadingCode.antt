@@ -12,11 +12,11 @@ some_log : (bodies : List (List ℕ)) → bodies ≢ [] → log_of bodies ≡ ta
 some_log [] h = absurd (h refl)
 some_log (b ∷ bs) h = refl
 
--- the stands behind one task
+-- the stands after one task
 pub one_begun : (w : WriterView) (node : ℕ) (r : Request) (t : Told) (x : Task) (us a : List Stand) → a ≡ us ++ hears (writer_begun w x).writer node r t → a ≡ us ++ hear_begun w node r t (x ∷ [])
 one_begun w node r t x us a e = e ∙ ap (λ l. us ++ l) (sym (append-nil (hears (writer_begun w x).writer node r t)))
 
--- the stands behind each of three tasks, one list after the other
+-- the stands after each of three tasks, one list after the other
 pub log_begun : (w : WriterView) (node : ℕ) (r : Request) (t : Told) (bodies : List (List ℕ)) (us a b c : List Stand) → bodies ≢ []
     → a ≡ us ++ hears (writer_begun w (task.Log bodies)).writer node r t → b ≡ a ++ hears (writer_begun w task.Roll).writer node r t
     → c ≡ b ++ hears (writer_begun w task.Close).writer node r t → c ≡ us ++ hear_begun w node r t (log_of bodies ++ task.Roll ∷ task.Close ∷ [])

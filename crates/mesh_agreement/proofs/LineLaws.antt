@@ -68,9 +68,6 @@ operators_by_line = record { none = tt; first = one; rest = others; more = both 
 abbrev pub LocalFrom : Cell → ℕ → List HistoryLine → Type 0
 LocalFrom c i hs = (IsLocalRun c (drop i hs) → IsLocalRun fresh_cell hs) × (IsLocalRun fresh_cell hs → IsLocalRun c (drop i hs))
 
-pub local_begin : (hs : List HistoryLine) → LocalFrom fresh_cell 0 hs
-local_begin hs = (λ h. h, λ h. h)
-
 -- one more line, whose answer is the cell's
 pub local_more : (c d : Cell) (i : ℕ) (hs : List HistoryLine) (h : HistoryLine) (answer : NodeAnswer) → i < length hs → h ≡ get_or hs i h
     → cell_takes c h.ask ≡ record { answer = answer; cell = d } → answer ≡ h.answer → LocalFrom c i hs → LocalFrom d (i + 1) hs

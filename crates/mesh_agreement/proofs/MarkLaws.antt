@@ -109,9 +109,6 @@ told_marked plan k n (told.Reply reply) = heard_marked plan k n (told.Reply repl
 told_marked plan k n told.Silent = heard_marked plan k n told.Silent (λ (f : told.Silent ≡ told.Dropped). cc f) (λ (f : told.Silent ≡ told.Muted). cc f)
 
 -- ## One mark more
-more_marked : (ms : List Mark) (m : Mark) (k n : ℕ) (kd : MarkKind) → is_marked (ms ++ m ∷ []) k n kd ≡ (is_marked ms k n kd || (test m k n kd || false))
-more_marked ms m k n kd = list_any-append (λ x. test x k n kd) ms (m ∷ [])
-
 or_none : (b : Bool) → (b || (false || false)) ≡ b
 or_none true = refl
 or_none false = refl
@@ -122,67 +119,11 @@ turned true false = refl
 turned false true = refl
 turned false false = refl
 
-not_tested : (m : Mark) (k n : ℕ) (kd : MarkKind) → (m ≡ mark k n kd → ⊥) → test m k n kd ≡ false
-not_tested m k n kd off = by (test m k n kd) refl
-  where
-    by : (b : Bool) → test m k n kd ≡ b → test m k n kd ≡ false
-    by true e = absurd (off (test_is m k n kd e))
-    by false e = e
-
 abbrev IsOf : Mark → MarkKind → ℕ → Type 0
 IsOf m kd nodes = (m.kind ≡ kd) × (1 ≤ m.node) × (m.node ≤ nodes)
 
 one_mark : (i : ℕ) (plan : List Mark) (m : Mark) → i < length plan → m ≡ get_or plan i m → take (i + 1) plan ≡ take i plan ++ m ∷ []
 one_mark i plan m l is = take_more plan i m l ∙ ap (λ x. take i plan ++ x ∷ []) (sym is)
-
-pub marks_skip : (nodes i : ℕ) (plan : List Mark) (m : Mark) (kd : MarkKind) (lists : List Numbers) → i < length plan → m ≡ get_or plan i m → (IsOf m kd nodes → ⊥)
-    → KnowsMarks nodes (take i plan) kd lists → KnowsMarks nodes (take (i + 1) plan) kd lists
-marks_skip nodes i plan m kd lists l is off h = record {
-  count = h.count;
-  each = λ k q d low. h.each k q d low ∙ sym (
-      ap (λ ms. is_marked ms (k + 1) q kd) (one_mark i plan m l is) ∙ more_marked (take i plan) m (k + 1) q kd
-      ∙ ap (λ b. is_marked (take i plan) (k + 1) q kd || (b || false)) (not_tested m (k + 1) q kd (no_mark k q low))
-      ∙ or_none (is_marked (take i plan) (k + 1) q kd));
-}
-  where
-    no_mark : (k q : ℕ) → k < nodes → m ≡ mark (k + 1) q kd → ⊥
-    no_mark k q low e = let n : m.node ≡ k + 1 = ap (λ (x : Mark). x.node) e in off (ap (λ (x : Mark). x.kind) e, omega (arith, n), omega (arith, n, low))
-
-pub marks_add : (nodes i : ℕ) (plan : List Mark) (m : Mark) (kd : MarkKind) (lists : List Numbers) (old new : Numbers) → i < length plan → m ≡ get_or plan i m → IsOf m kd nodes
-    → ((d : Numbers) → old ≡ get_or lists (m.node - 1) d) → ((q : ℕ) → contains nat_cmp new.set q ≡ ((m.number == q) || contains nat_cmp old.set q))
-    → KnowsMarks nodes (take i plan) kd lists → KnowsMarks nodes (take (i + 1) plan) kd (set lists (m.node - 1) new)
-unfolding Alike
-marks_add nodes i plan m kd lists old new l is of there grown h = record {
-  count = length-set lists (m.node - 1) new ∙ h.count;
-  each = λ k q d low. by k q d low (alike m.node (k + 1));
-}
-  where
-    tells : (k q : ℕ) → is_marked (take (i + 1) plan) (k + 1) q kd ≡ (is_marked (take i plan) (k + 1) q kd || (test m (k + 1) q kd || false))
-    tells k q = ap (λ ms. is_marked ms (k + 1) q kd) (one_mark i plan m l is) ∙ more_marked (take i plan) m (k + 1) q kd
-
-    tested : (k q : ℕ) → m.node ≡ k + 1 → test m (k + 1) q kd ≡ (m.number == q)
-    tested k q e = by (m.number == q) refl
-      where
-        by : (b : Bool) → (m.number == q) ≡ b → test m (k + 1) q kd ≡ b
-        by true f = subst (λ x. test x (k + 1) q kd ≡ true) (sym (ap (λ x. mark x m.number m.kind) e ∙ (ap (λ x. mark (k + 1) x m.kind) (eqb-true m.number q f) ∙ ap (λ x. mark (k + 1) q x) of.0))) (test_self (k + 1) q kd)
-        by false f = not_tested m (k + 1) q kd (λ g. true≢false (sym (eq-eqb m.number q (ap (λ (x : Mark). x.number) g)) ∙ f))
-
-    by : (k q : ℕ) (d : Numbers) → k < nodes → Alike m.node (k + 1) → contains nat_cmp (get_or (set lists (m.node - 1) new) k d).set q ≡ is_marked (take (i + 1) plan) (k + 1) q kd
-    by k q d low (inl f) =
-        let at : m.node - 1 ≡ k = omega (arith, f.1) in
-        let inside : m.node - 1 < length lists = omega (arith, of.1, of.2, h.count) in
-        let here : get_or (set lists (m.node - 1) new) k d ≡ new = subst (λ x. get_or (set lists (m.node - 1) new) x d ≡ new) at (get_or-set_same lists (m.node - 1) new d inside) in
-        ap (λ (x : Numbers). contains nat_cmp x.set q) here ∙ grown q
-        ∙ ap (λ b. (m.number == q) || b) (ap (λ (x : Numbers). contains nat_cmp x.set q) (there d ∙ ap (λ x. get_or lists x d) at) ∙ h.each k q d low)
-        ∙ turned (m.number == q) (is_marked (take i plan) (k + 1) q kd)
-        ∙ ap (λ b. is_marked (take i plan) (k + 1) q kd || (b || false)) (sym (tested k q f.1)) ∙ sym (tells k q)
-    by k q d low (inr f) =
-        ap (λ (x : Numbers). contains nat_cmp x.set q) (get_or-set_other lists (m.node - 1) k new d (λ g. f.1 (omega (arith, g, of.1)))) ∙ h.each k q d low
-        ∙ sym (tells k q ∙ ap (λ b. is_marked (take i plan) (k + 1) q kd || (b || false)) (not_tested m (k + 1) q kd (λ g. f.1 (ap (λ (x : Mark). x.node) g)))
-        ∙ or_none (is_marked (take i plan) (k + 1) q kd))
-
-pub no_marks : (nodes : ℕ) (kd : MarkKind) (lists : List Numbers) → length lists ≡ nodes → ((i q : ℕ) (d : Numbers) → i < nodes → contains nat_cmp (get_or lists i d).set q ≡ false) → KnowsMarks nodes [] kd lists
-no_marks nodes kd lists l e = record { count = l; each = λ i q d low. e i q d low }
 
 -- ## Calls so far
 -- no more than there are lines
@@ -206,7 +147,7 @@ other_call : (k node : ℕ) (q : Request) (t : Told) → (node == k) ≡ false �
 unfolding calls_to
 other_call k node q t e = ap (λ b. cond b (q ∷ []) []) e
 
--- the number of the next call, behind a call to this node, and behind a line that is none
+-- the number of the next call, after a call to this node, and after a line that is none
 number_more : (k node : ℕ) (before : List Record) (q : Request) (t : Told) → node ≡ k → next_number k (before ++ Call node q t ∷ []) ≡ next_number k before + 1
 number_more k node before q t e =
     ap (λ l. length l + 1) (calls_append k before (Call node q t ∷ []) ∙ ap (λ l. calls_to k before ++ l) (own_call k node q t e)) ∙ ap (λ n. n + 1) (length-append (calls_to k before) (q ∷ []))
@@ -275,7 +216,7 @@ marked_at nodes node number n plan kd lists x low known is e =
     ap (λ (y : Numbers). contains nat_cmp y.set number) is ∙ known.each (node - 1) number x a.0 ∙ ap (λ k. is_marked plan k number kd) a.1 ∙ ap (λ m. is_marked plan node m kd) e
 
 -- ## One more line
--- behind a call, whose request is kept where it is marked as late
+-- after a call, whose request is kept where it is marked as late
 late_more : (plan : List Mark) (before : List Record) (n : ℕ) (p : Request) (t : Told) (k : ℕ) (q : Request) (b x y : Bool) → b ≡ is_marked plan n (next_number n before) kind.Late → y ≡ ((b && is_ask k q n p) || x)
     → Decides x (IsCopy plan before k q) → Decides y (IsCopy plan (before ++ Call n p t ∷ []) k q)
 late_more plan before n p t k q b x y marked is d = (λ e. forth (or_cases (b && is_ask k q n p) x (sym is ∙ e)), λ h. is ∙ back (copy_from plan before (Call n p t) k q h))

@@ -22,17 +22,6 @@ pub plan_is : (m : Mesh) (c : ℕ) (table : List (List Mark)) (d marks : List Ma
 plan_is m c table d marks whole low at is = is ∙ at ∙ ap (λ (t : List (List Mark)). get_or t c d) whole ∙ get_or_default m.plan c d [] (let e = ap length whole in omega (arith, low, e))
 
 -- ## What a mesh that agrees keeps
-pub sized_of : (m : Mesh) → Agrees m → IsSized m
-sized_of m a = record { histories = a.histories; records = a.records }
-
-pub records_of : (m : Mesh) → Agrees m → RecordsWithin m
-records_of m a = a.lists.within
-
-pub histories_of : (m : Mesh) → Agrees m → HistoriesWithin m
-histories_of m a = a.lists.callers
-
-pub operated_of : (m : Mesh) → Agrees m → IsOperators (record_of m (operator_of m))
-operated_of m a = a.lists.operated
 
 pub local_of : (m : Mesh) → Agrees m → AreLocal m
 local_of m a = a.lists.local

@@ -81,7 +81,7 @@ is_call (Some (k, q)) node r = (k == node) && same_request q r
 abbrev pub hears : WriterView → ℕ → Request → Told → List Stand
 hears w node r t = if is_call (next_call w) node r then between (writer_heard w node (heard_of t)).writer ∷ [] else []
 
--- the same behind the beginning of each of these tasks
+-- the same after the beginning of each of these tasks
 abbrev pub hear_begun : WriterView → ℕ → Request → Told → List Task → List Stand
 hear_begun w node r t [] = []
 hear_begun w node r t (x ∷ xs) = hears (writer_begun w x).writer node r t ++ hear_begun w node r t xs
@@ -95,12 +95,12 @@ is_read p node _ = false
 abbrev pub next_pass : WriterView → Pass → Stand
 next_pass w p = if nat_lt p.node (length w.left) then in_pass w (record p { node = p.node + 1 }) else between w
 
-abbrev pub passed : WriterView → Pass → Told → Stand
-passed w p (told.Reply (reply.Edits batch)) = between w
-passed w p _ = next_pass w p
+abbrev pub after_pass : WriterView → Pass → Told → Stand
+after_pass w p (told.Reply (reply.Edits batch)) = between w
+after_pass w p _ = next_pass w p
 
 abbrev pub reads : WriterView → Pass → ℕ → Request → Told → List Stand
-reads w p node r t = if is_read p node r then passed w p t ∷ [] else []
+reads w p node r t = if is_read p node r then after_pass w p t ∷ [] else []
 
 -- the pass that may begin with a read from this txid on
 abbrev pub pass_from : ℕ → Pass
@@ -136,7 +136,7 @@ pub record MakeAlike (those these : List Stand) : Type 0 where
   pub back : (rs : List Record) → SomeMake these rs → SomeMake those rs
   pub live : AllLive those → AllLive these
 
--- these are what those are behind the line
+-- these are what those are after the line
 pub record Follows (nodes : ℕ) (those : List Stand) (line : Record) (these : List Stand) : Type 0 where
   pub on : (rs : List Record) → SomeMake those (line ∷ rs) → SomeMake these rs
   pub back : (rs : List Record) → SomeMake these rs → SomeMake those (line ∷ rs)

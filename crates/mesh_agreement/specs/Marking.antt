@@ -50,7 +50,7 @@ pub record KnowsPlan (nodes : ℕ) (plan : List Mark) (marks : MarkTable) : Type
   pub muted : KnowsMarks nodes plan kind.Muted marks.muted.items
   pub late : KnowsMarks nodes plan kind.Late marks.late.items
 
--- node by node, the number of the call that comes behind these lines; and the requests of those calls among them that are marked as late
+-- node by node, the number of the call that comes after these lines; and the requests of those calls among them that are marked as late
 pub record KnowsCalls (nodes : ℕ) (plan : List Mark) (before : List Record) (calls : CallTable) : Type 0 where
   pub count : length calls.next.items ≡ nodes
   pub next : (i : ℕ) → i < nodes → slice_index calls.next.items i ≡ next_number (i + 1) before
@@ -60,7 +60,7 @@ pub record KnowsCalls (nodes : ℕ) (plan : List Mark) (before : List Record) (c
 abbrev pub HasCopies : List Record → RequestSet → Type 0
 HasCopies rs copies = (node : ℕ) (r : Request) → Decides (has copies node r) (Contains rs (Late node r))
 
--- the line goes by the plan, behind these lines
+-- the line goes by the plan, after these lines
 abbrev pub LineIsMarked : List Mark → List Record → Record → Type 0
 LineIsMarked plan before (Call k r t) = IsAsMarked plan k (next_number k before) t
 LineIsMarked plan before (Late k r) = IsCopy plan before k r

@@ -3,7 +3,8 @@ ghost use Rattle.std.specs.Prelude.{Decides, IfOk};
 ghost use Rattle.node_history.specs.Cell.{fresh_cell, IsLocalRun};
 
 use crate::equality::same_answer;
-use journal_core::{OutOfMemory, PlainNode};
+use journal_core::OutOfMemory;
+use memory_node::PlainNode;
 use node_history::{HistoryLine, NodeCell};
 use std::alloc::Global;
 

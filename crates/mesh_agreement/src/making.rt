@@ -3,14 +3,14 @@ ghost use Rattle.std.specs.Prelude.{◌≡◌, ◌++◌, ◌∷◌, ◌<◌, [],
 ghost use Rattle.writer_core.specs.Writer.{HasBody, new_writer, writer_begun, next_call};
 ghost use Rattle.mesh.specs.Makers.{heard_of, IsOfChores};
 ghost use Rattle.mesh.specs.Matches.{IsWithin, AreWithin};
-ghost use Rattle.mesh_agreement.specs.Leading.{is_call, hears, is_read, next_pass, passed, reads, pass_from, begins, goes_on, all_go_on, between, stand_of, stands_of, AllLive, AreAlike, EndAlike, MakeAlike, Follows};
+ghost use Rattle.mesh_agreement.specs.Leading.{is_call, hears, is_read, next_pass, after_pass, reads, pass_from, begins, goes_on, all_go_on, between, stand_of, stands_of, AllLive, AreAlike, EndAlike, MakeAlike, Follows};
 
 use journal_core::{Heard, OutOfMemory, Reply, Request};
 use node_history::{Record, Told, same};
 use std::alloc::Global;
 use writer_core::{Task, Writer};
 
-/// A pass of reads from behind a position on, and the node that it asks next.
+/// A pass of reads from after a position on, and the node that it asks next.
 #[derive(Clone, Copy)]
 pub(crate) struct Pass {
     pub(crate) position: u64,
@@ -70,7 +70,7 @@ fn push_heard(
     Ok(())
 }
 
-/// The same behind the beginning of a task.
+/// The same after the beginning of a task.
 fn push_begun(
     alloc: Global,
     after: &mut Vec<Candidate>,
@@ -114,8 +114,8 @@ fn next_pass(writer: Writer, pass: Pass) -> Candidate
 }
 
 /// What is left of a pass after its read: edits end it, and so does the last node.
-fn passed(writer: Writer, pass: Pass, told: &Told) -> Candidate
-    ensures { stand_of result ≡ passed writer.view pass told.now }
+fn after_pass(writer: Writer, pass: Pass, told: &Told) -> Candidate
+    ensures { stand_of result ≡ after_pass writer.view pass told.now }
 {
     match told {
         Told::Reply(Reply::Edits(_)) => Candidate { writer, pass: None },
@@ -135,7 +135,7 @@ fn push_read(
     ensures { OnOk result (stands_of after.new.items ≡ stands_of after.old.items ++ reads writer.view pass node request.now told.now) }
 {
     if is_read(pass, node, request) {
-        after.push(passed(writer, pass, told))?;
+        after.push(after_pass(writer, pass, told))?;
     }
     Ok(())
 }
@@ -150,7 +150,7 @@ fn pass_from(from: u64) -> Pass
     }
 }
 
-/// The same behind the beginning of each chore that may begin with the request.
+/// The same after the beginning of each chore that may begin with the request.
 #[tactic(auto, using(crate::proofs::LeadingCode::log_begun, crate::proofs::LeadingCode::one_begun))]
 fn push_begins(
     alloc: Global,

@@ -87,7 +87,7 @@ fn is_same(line: &Record, at_node: &HistoryLine) -> bool
     }
 }
 
-/// The line of the record that reached the node with this index, from 0, behind so many others is the node's line.
+/// The line of the record that reached the node with this index, from 0, after so many others is the node's line.
 fn is_next(
     lines: &[Record],
     table: &ReachTable,

@@ -22,7 +22,7 @@ use Rattle.mesh.proofs.Sorting.{sorted_filter}
 use Rattle.mesh_judge.specs.declared.ranking.Rank.{Rank}
 use Rattle.mesh_judge.specs.declared.ranking.Ranked.{Ranked}
 use Rattle.mesh_judge.specs.Events.{event_of}
-use Rattle.mesh_judge.specs.Ranks.{by_key, ranked, ranked_in}
+use Rattle.mesh_judge.specs.Ranks.{by_key, rank_entry, ranked_in}
 use Rattle.mesh_judge.proofs.Uniqueness.{NoneLess, Rises, never_less, sorted_rises, one_order}
 
 -- ## Ranks
@@ -99,7 +99,7 @@ unfolding InOrder sorted
 sorted_in_order [] = tt
 sorted_in_order (b ∷ bs) = put_rises b (sorted bs) (sorted_in_order bs)
 
-none_first : (r : Ranked) (k : Rank) (es : List Entry) (more : List Ranked) → rank_less k r.rank ≡ false → NoneLess less r more → NoneLess less r (map (ranked k) es ++ more)
+none_first : (r : Ranked) (k : Rank) (es : List Entry) (more : List Ranked) → rank_less k r.rank ≡ false → NoneLess less r more → NoneLess less r (map (rank_entry k) es ++ more)
 unfolding NoneLess
 none_first r k [] more e h = h
 none_first r k (x ∷ es) more e h = (e, none_first r k es more e h)
@@ -110,11 +110,11 @@ none_ranked r b [] is h = tt
 none_ranked r b (c ∷ bs) is h =
     none_first r (by_key c.key) c.entries (ranked_in bs) (subst (λ (k : Rank). rank_less (by_key c.key) k ≡ false) (sym is) (not_less c.key b.key (h.0 refl))) (none_ranked r b bs is h.1)
 
-block_rises : (b : Block) (es : List Entry) (bs : List Block) → NoneBelow each b bs → Rises less (ranked_in bs) → Rises less (map (ranked (by_key b.key)) es ++ ranked_in bs)
+block_rises : (b : Block) (es : List Entry) (bs : List Block) → NoneBelow each b bs → Rises less (ranked_in bs) → Rises less (map (rank_entry (by_key b.key)) es ++ ranked_in bs)
 unfolding Rises
 block_rises b [] bs h g = g
 block_rises b (x ∷ es) bs h g =
-    let r : Ranked = ranked (by_key b.key) x in (
+    let r : Ranked = rank_entry (by_key b.key) x in (
       none_first r (by_key b.key) es (ranked_in bs) (never_less less order r) (none_ranked r b bs refl h),
       block_rises b es bs h g,
     )
@@ -128,23 +128,23 @@ ranks_rise (b ∷ bs) h = block_rises b b.entries bs (h.0 refl) (ranks_rise bs h
 abbrev is_tied : Ranked → Block → Bool
 is_tied x b = not (rank_less x.rank (by_key b.key)) && not (rank_less (by_key b.key) x.rank)
 
-kept : (p : Ranked → Bool) (k : Rank) (b : Bool) → ((e : Entry) → p (ranked k e) ≡ b) → (es : List Entry) → filter p (map (ranked k) es) ≡ cond b (map (ranked k) es) []
+kept : (p : Ranked → Bool) (k : Rank) (b : Bool) → ((e : Entry) → p (rank_entry k e) ≡ b) → (es : List Entry) → filter p (map (rank_entry k) es) ≡ cond b (map (rank_entry k) es) []
 kept p k true h [] = refl
 kept p k false h [] = refl
-kept p k true h (x ∷ es) = rw (h x) (ap (λ (l : List Ranked). ranked k x ∷ l) (kept p k true h es))
+kept p k true h (x ∷ es) = rw (h x) (ap (λ (l : List Ranked). rank_entry k x ∷ l) (kept p k true h es))
 kept p k false h (x ∷ es) = rw (h x) (kept p k false h es)
 
 tied_ranked : (x : Ranked) (bs : List Block) → filter (ties less x) (ranked_in bs) ≡ ranked_in (filter (is_tied x) bs)
 unfolding ranked_in
 tied_ranked x [] = refl
 tied_ranked x (b ∷ bs) =
-    filter-append (ties less x) (map (ranked (by_key b.key)) b.entries) (ranked_in bs)
+    filter-append (ties less x) (map (rank_entry (by_key b.key)) b.entries) (ranked_in bs)
     ∙ ap (λ (l : List Ranked). l ++ filter (ties less x) (ranked_in bs)) (kept (ties less x) (by_key b.key) (is_tied x b) (λ e. refl) b.entries)
     ∙ by (is_tied x b) (tied_ranked x bs)
   where
     by : (f : Bool) → filter (ties less x) (ranked_in bs) ≡ ranked_in (filter (is_tied x) bs)
-        → cond f (map (ranked (by_key b.key)) b.entries) [] ++ filter (ties less x) (ranked_in bs) ≡ ranked_in (cond f (b ∷ filter (is_tied x) bs) (filter (is_tied x) bs))
-    by true h = ap (λ (l : List Ranked). map (ranked (by_key b.key)) b.entries ++ l) h
+        → cond f (map (rank_entry (by_key b.key)) b.entries) [] ++ filter (ties less x) (ranked_in bs) ≡ ranked_in (cond f (b ∷ filter (is_tied x) bs) (filter (is_tied x) bs))
+    by true h = ap (λ (l : List Ranked). map (rank_entry (by_key b.key)) b.entries ++ l) h
     by false h = h
 
 -- what ties with one rank ties with each other
@@ -174,7 +174,7 @@ rank_sorted bs ys up stable =
     one_order less order ys (ranked_in (sorted bs)) (sorted_rises less order ys up) (ranks_rise (sorted bs) (sorted_in_order bs))
     (λ x. stable x ∙ tied_ranked x bs ∙ ap ranked_in (sym (sorted_filter (is_tied x) bs (tied_in_order x bs))) ∙ sym (tied_ranked x (sorted bs)))
 
-block_events : (k : Rank) (es : List Entry) → map (λ (r : Ranked). r.event) (map (ranked k) es) ≡ map event_of es
+block_events : (k : Rank) (es : List Entry) → map (λ (r : Ranked). r.event) (map (rank_entry k) es) ≡ map event_of es
 block_events k [] = refl
 block_events k (e ∷ es) = ap (λ (l : List Event). event_of e ∷ l) (block_events k es)
 
@@ -182,7 +182,7 @@ events_in : (bs : List Block) → map (λ (r : Ranked). r.event) (ranked_in bs) 
 unfolding ranked_in entries_in
 events_in [] = refl
 events_in (b ∷ bs) =
-    map-append (λ (r : Ranked). r.event) (map (ranked (by_key b.key)) b.entries) (ranked_in bs)
+    map-append (λ (r : Ranked). r.event) (map (rank_entry (by_key b.key)) b.entries) (ranked_in bs)
     ∙ ap (λ (l : List Event). l ++ map (λ (r : Ranked). r.event) (ranked_in bs)) (block_events (by_key b.key) b.entries)
     ∙ ap (λ (l : List Event). map event_of b.entries ++ l) (events_in bs) ∙ sym (map-append event_of b.entries (entries_in bs))
 
@@ -197,7 +197,7 @@ ranked_append : (xs bs : List Block) → ranked_in (xs ++ bs) ≡ ranked_in xs +
 unfolding ranked_in
 ranked_append [] bs = refl
 ranked_append (a ∷ xs) bs =
-    ap (λ (l : List Ranked). map (ranked (by_key a.key)) a.entries ++ l) (ranked_append xs bs) ∙ sym (append_assoc (map (ranked (by_key a.key)) a.entries) (ranked_in xs) (ranked_in bs))
+    ap (λ (l : List Ranked). map (rank_entry (by_key a.key)) a.entries ++ l) (ranked_append xs bs) ∙ sym (append_assoc (map (rank_entry (by_key a.key)) a.entries) (ranked_in xs) (ranked_in bs))
 
 pub histories_more : (m : Mesh) (i : ℕ) (out new whole : List Ranked) → out ++ ranked_in (blocks_from m (i + 1) (drop i m.histories)) ≡ whole → i < length m.histories
     → new ≡ out ++ ranked_in (blocks_at m (i + 1) (history_at m i)) → new ++ ranked_in (blocks_from m (i + 1 + 1) (drop (i + 1) m.histories)) ≡ whole

@@ -31,7 +31,7 @@ use Rattle.mesh_judge.specs.declared.ranking.Ranked.{Ranked}
 use Rattle.mesh_judge.specs.declared.reached.Reach.{Reach}
 use Rattle.mesh_judge.specs.Callers.{KnowsAll}
 use Rattle.mesh_judge.specs.Events.{event_of, epoch_moved, moved_by}
-use Rattle.mesh_judge.specs.Ranks.{rank_of, by_key, ranked, ranked_in}
+use Rattle.mesh_judge.specs.Ranks.{rank_of, by_key, rank_entry, ranked_in}
 use Rattle.mesh_judge.specs.Reaches.{places}
 use Rattle.mesh_judge.proofs.ReachLaws.{places_length, place_at, taken_length}
 
@@ -48,21 +48,21 @@ event_ranked rank event = record { rank = rank; event = event }
 
 unfoldable pub ranks_from : Rank → List Tagged → List Ranked
 ranks_from last [] = []
-ranks_from last (t ∷ ts) = ranked (rank_by (falls t.entry.move) last t.key) t.entry ∷ ranks_from (rank_by (falls t.entry.move) last t.key) ts
+ranks_from last (t ∷ ts) = rank_entry (rank_by (falls t.entry.move) last t.key) t.entry ∷ ranks_from (rank_by (falls t.entry.move) last t.key) ts
 
-cut_ranked : (b : Block) (ts : List Tagged) → ranked_in (blocks_cut b ts) ≡ map (ranked (by_key b.key)) b.entries ++ ranks_from (by_key b.key) ts
+cut_ranked : (b : Block) (ts : List Tagged) → ranked_in (blocks_cut b ts) ≡ map (rank_entry (by_key b.key)) b.entries ++ ranks_from (by_key b.key) ts
 unfolding blocks_cut ranked_in ranks_from
 cut_ranked b [] = refl
 cut_ranked b (t ∷ ts) = by (falls t.entry.move) (cut_ranked (with_fall b t.entry) ts) (cut_ranked (block_of b.node t) ts)
   where
-    by : (f : Bool) → ranked_in (blocks_cut (with_fall b t.entry) ts) ≡ map (ranked (by_key b.key)) (b.entries ++ t.entry ∷ []) ++ ranks_from (by_key b.key) ts
-        → ranked_in (blocks_cut (block_of b.node t) ts) ≡ ranked (by_key t.key) t.entry ∷ ranks_from (by_key t.key) ts
+    by : (f : Bool) → ranked_in (blocks_cut (with_fall b t.entry) ts) ≡ map (rank_entry (by_key b.key)) (b.entries ++ t.entry ∷ []) ++ ranks_from (by_key b.key) ts
+        → ranked_in (blocks_cut (block_of b.node t) ts) ≡ rank_entry (by_key t.key) t.entry ∷ ranks_from (by_key t.key) ts
         → ranked_in (cond f (blocks_cut (with_fall b t.entry) ts) (b ∷ blocks_cut (block_of b.node t) ts))
-        ≡ map (ranked (by_key b.key)) b.entries ++ ranked (rank_by f (by_key b.key) t.key) t.entry ∷ ranks_from (rank_by f (by_key b.key) t.key) ts
+        ≡ map (rank_entry (by_key b.key)) b.entries ++ rank_entry (rank_by f (by_key b.key) t.key) t.entry ∷ ranks_from (rank_by f (by_key b.key) t.key) ts
     by true h g =
-        h ∙ ap (λ (l : List Ranked). l ++ ranks_from (by_key b.key) ts) (map-append (ranked (by_key b.key)) b.entries (t.entry ∷ []))
-        ∙ append_assoc (map (ranked (by_key b.key)) b.entries) (ranked (by_key b.key) t.entry ∷ []) (ranks_from (by_key b.key) ts)
-    by false h g = ap (λ (l : List Ranked). map (ranked (by_key b.key)) b.entries ++ l) g
+        h ∙ ap (λ (l : List Ranked). l ++ ranks_from (by_key b.key) ts) (map-append (rank_entry (by_key b.key)) b.entries (t.entry ∷ []))
+        ∙ append_assoc (map (rank_entry (by_key b.key)) b.entries) (rank_entry (by_key b.key) t.entry ∷ []) (ranks_from (by_key b.key) ts)
+    by false h g = ap (λ (l : List Ranked). map (rank_entry (by_key b.key)) b.entries ++ l) g
 
 abbrev pub first_rank : Rank
 first_rank = record { promise = 0; place = 0 }
@@ -92,7 +92,7 @@ move_epoch caller muted late r Idle v e off = absurd (cc e)
 move_epoch caller muted late r (NotOpened fail) v e off = absurd (cc e)
 
 -- ## One line
--- a line of the node i + 1, behind these, with what is known of its caller and of its place in the caller's record
+-- a line of the node i + 1, after these, with what is known of its caller and of its place in the caller's record
 module _ (m : Mesh) (i : ℕ) (before : List HistoryLine) (h : HistoryLine) (cell : Cell) (c : Caller) (place : ℕ) (last : Rank)
     (run : h.answer ≡ (cell_takes cell h.ask).answer)
     (owned : (epoch : ℕ) → contains nat_cmp c.won epoch ≡ wins m.nodes epoch 0 (record_of m h.caller))
@@ -147,7 +147,7 @@ module _ (m : Mesh) (i : ℕ) (before : List HistoryLine) (h : HistoryLine) (cel
         by None is f = absurd (cc f)
         by (Some x) is f =
             let same : record { event = event_of x; epoch = epoch_moved x.move } ≡ mv = cc f in
-            ap (λ r. ranked r x ∷ ranks_from r later) (sym (line_rank x is))
+            ap (λ r. rank_entry r x ∷ ranks_from r later) (sym (line_rank x is))
             ∙ ap (λ (w : Moved). event_ranked (rank_of c w.epoch place last) w.event ∷ ranks_from (rank_of c w.epoch place last) later) same
 
 -- ## Where a line stands

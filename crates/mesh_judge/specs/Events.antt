@@ -26,7 +26,7 @@ event_at node Restart = event.Restart node
 abbrev pub event_of : Entry → Event
 event_of e = event_at e.node e.move
 
--- the epoch under which the node moved; kills, restarts and stops behind no effect are under none
+-- the epoch under which the node moved; kills, restarts and stops after no effect are under none
 abbrev pub epoch_moved : Move → Option ℕ
 epoch_moved (Answer caller way r reply) = epoch_of r
 epoch_moved (Stop caller late r zero) = None

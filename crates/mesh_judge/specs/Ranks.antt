@@ -9,7 +9,7 @@ use Rattle.mesh_judge.specs.declared.ranking.Rank.{Rank}
 use Rattle.mesh_judge.specs.declared.ranking.Ranked.{Ranked}
 use Rattle.mesh_judge.specs.Events.{event_of}
 
--- the rank of a caller's line at this place that moved its node under this epoch, or under none behind this rank
+-- the rank of a caller's line at this place that moved its node under this epoch, or under none after this rank
 abbrev pub rank_of : Caller → Option ℕ → ℕ → Rank → Rank
 rank_of c None place last = last
 rank_of c (Some epoch) place last = record { promise = epoch; place = owners_place (contains nat_cmp c.won epoch) place }
@@ -17,9 +17,9 @@ rank_of c (Some epoch) place last = record { promise = epoch; place = owners_pla
 abbrev pub by_key : Key → Rank
 by_key key = record { promise = key.promise; place = key.place }
 
-abbrev pub ranked : Rank → Entry → Ranked
-ranked rank e = record { rank = rank; event = event_of e }
+abbrev pub rank_entry : Rank → Entry → Ranked
+rank_entry rank e = record { rank = rank; event = event_of e }
 
 unfoldable pub ranked_in : List Block → List Ranked
 ranked_in [] = []
-ranked_in (b ∷ bs) = map (ranked (by_key b.key)) b.entries ++ ranked_in bs
+ranked_in (b ∷ bs) = map (rank_entry (by_key b.key)) b.entries ++ ranked_in bs

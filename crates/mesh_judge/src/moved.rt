@@ -8,7 +8,7 @@ ghost use Rattle.mesh_judge.specs.Events.{call_event, stop_event, moved_by};
 use journal_core::{OutOfMemory, Refusal, Reply, Request, SharedRequest};
 use node_history::{Event, Fate, HistoryLine, NodeAnswer, NodeAsk};
 
-/// What moved a node, and the epoch under which it moved; none of a kill, a restart, or a stop behind no effect.
+/// What moved a node, and the epoch under which it moved; none of a kill, a restart, or a stop after no effect.
 #[derive(Drop)]
 pub(crate) struct Moved {
     pub(crate) event: Event,

@@ -19,7 +19,7 @@ pub(crate) struct Rank {
     pub(crate) place: usize,
 }
 
-/// A moving line as an event. A kill, a restart and a stop behind no effect have the rank of the line before them that moved the
+/// A moving line as an event. A kill, a restart and a stop after no effect have the rank of the line before them that moved the
 /// node otherwise.
 #[derive(Drop)]
 pub(crate) struct Ranked {
@@ -27,7 +27,7 @@ pub(crate) struct Ranked {
     pub(crate) event: Event,
 }
 
-/// The rank of a line of this caller that moved its node under this epoch, or under none behind this rank.
+/// The rank of a line of this caller that moved its node under this epoch, or under none after this rank.
 fn rank_of(caller: &Caller, epoch: Option<u64>, place: usize, last: Rank) -> Rank
     ensures { result ≡ rank_of caller.now epoch place last }
 {
@@ -48,7 +48,7 @@ fn none_taken(alloc: Global, callers: usize) -> Result<Vec<usize>, OutOfMemory>
     Ok(taken)
 }
 
-/// The moving lines of the node with this index, from 0, behind those that are ranked.
+/// The moving lines of the node with this index, from 0, after those that are ranked.
 fn rank_history(
     alloc: Global,
     ranked: &mut Vec<Ranked>,

@@ -2,11 +2,11 @@
 #![tactic(auto)]
 
 #[cfg(test)]
+mod actions;
+#[cfg(test)]
 mod agreeing;
 #[cfg(test)]
 mod copies;
-#[cfg(test)]
-mod deeds;
 #[cfg(test)]
 mod drafted;
 #[cfg(test)]

@@ -11,11 +11,11 @@ use Rattle.ns_replay.specs.Examples.{mkdir_u, plain, called}
 use Rattle.writer_core.specs.Views.{WriterView}
 use Rattle.writer_core.specs.Writer.{new_writer}
 use Rattle.edit_ops.specs.declared.op.Op.TheVariants.{Mkdir}
-use Rattle.name_node.specs.Submissions.{Pends, Refused, Repeats, Submission, submitted, nothing_submitted}
-use Rattle.name_node.specs.Holding.{Holding, Tails, new_holding, saved, reloaded, min_to_keep}
+use Rattle.name_node.specs.Submissions.{Pends, Refused, Repeats, Submission, submit_edits, nothing_submitted}
+use Rattle.name_node.specs.Holding.{Holding, Tails, new_holding, save_image, reload_image, min_to_keep}
 use Rattle.name_node.specs.Tails.{Caught, GoesOn, Ends, tail_hears}
 
--- ## Edits that are submitted together behind the record that began the segment
+-- ## Edits that are submitted together after the record that began the segment
 unfoldable pub three_edits : List EditView
 three_edits = called 7 (mkdir_u 10) ∷ called 8 (mkdir_u 11) ∷ called 7 (mkdir_u 10) ∷ plain (Mkdir (codes "/v/w") 12 493 (codes "u") (codes "g")) ∷ []
 
@@ -23,7 +23,7 @@ abbrev pub writer_at : ℕ → WriterView
 writer_at next = record (new_writer 1) { next = next }
 
 abbrev pub one_more : Submission
-one_more = submitted (writer_at 2) three_edits (nothing_submitted empty_space)
+one_more = submit_edits (writer_at 2) three_edits (nothing_submitted empty_space)
 
 -- one is to be logged, another is there by then, a third repeats the first, and the last has no parent
 pub record EditsAreToldApart : Type 0 where
@@ -53,5 +53,5 @@ pub record ATailCatchesUp : Type 0 where
 -- ## Images
 -- the two newest are kept, and what is before the older of them may be purged
 pub record ImagesAreKept : Type 0 where
-  pub newest : (reloaded (record (saved at_one) { space = empty_space; position = 0 })).position ≡ 1
-  pub kept : min_to_keep 0 (saved (record (saved (record (saved at_one) { position = 7 })) { position = 9 })).images ≡ Some 8
+  pub newest : (reload_image (record (save_image at_one) { space = empty_space; position = 0 })).position ≡ 1
+  pub kept : min_to_keep 0 (save_image (record (save_image (record (save_image at_one) { position = 7 })) { position = 9 })).images ≡ Some 8

@@ -24,15 +24,15 @@ pub record Holding : Type 0 where
 abbrev pub new_holding : Holding
 new_holding = record { space = empty_space; position = 0; images = []; work = Free }
 
-abbrev pub emptied : Holding → Holding
-emptied h = record h { space = empty_space; position = 0 }
+abbrev pub empty_holding : Holding → Holding
+empty_holding h = record h { space = empty_space; position = 0 }
 
 -- up to a txid: one that has read more begins empty
 abbrev pub enters : ℕ → Holding → Holding
-enters last h = if nat_lt last h.position then emptied h else h
+enters last h = if nat_lt last h.position then empty_holding h else h
 
-abbrev pub working : Work → Holding → Holding
-working work h = record h { work = work }
+abbrev pub with_work : Work → Holding → Holding
+with_work work h = record h { work = work }
 
 abbrev pub at_position : ℕ → Holding → Holding
 at_position t h = record h { position = t; work = Free }
@@ -47,18 +47,18 @@ image_put i (j ∷ js) =
     else j ∷ image_put i js
 
 -- it is saved, and the two newest are kept
-unfoldable pub saved : Holding → Holding
-saved h = record h { images = take 2 (image_put (record { space = h.space; txid = h.position }) h.images) }
+unfoldable pub save_image : Holding → Holding
+save_image h = record h { images = take 2 (image_put (record { space = h.space; txid = h.position }) h.images) }
 
-abbrev pub loaded : List Image → Holding → Holding
-loaded [] h = emptied h
-loaded (i ∷ is) h = record h { space = i.space; position = i.txid }
+abbrev pub load_image : List Image → Holding → Holding
+load_image [] h = empty_holding h
+load_image (i ∷ is) h = record h { space = i.space; position = i.txid }
 
 -- from its newest image, or empty at 0
-unfoldable pub reloaded : Holding → Holding
-reloaded h = loaded h.images (record h { work = Free })
+unfoldable pub reload_image : Holding → Holding
+reload_image h = load_image h.images (record h { work = Free })
 
--- the least txid to keep: behind the older of the two newest images, less some more
+-- the least txid to keep: after the older of the two newest images, less some more
 unfoldable pub min_to_keep : ℕ → List Image → Option ℕ
 min_to_keep extra [] = None
 min_to_keep extra (i ∷ []) = Some (max 1 (i.txid + 1 - extra))

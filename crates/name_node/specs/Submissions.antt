@@ -38,9 +38,9 @@ abbrev pub submitted_one : WriterView → EditView → Submission → Submission
 submitted_one w e x =
     unless_refused w.next (admit_of x.ahead e) (unless_long (log_limit w (x.bodies ++ record_of e ∷ [])) (w.next + length x.bodies) e x) x
 
-unfoldable pub submitted : WriterView → List EditView → Submission → Submission
-submitted w [] x = x
-submitted w (e ∷ es) x = submitted w es (submitted_one w e x)
+unfoldable pub submit_edits : WriterView → List EditView → Submission → Submission
+submit_edits w [] x = x
+submit_edits w (e ∷ es) x = submit_edits w es (submitted_one w e x)
 
 abbrev pub nothing_submitted : Space → Submission
 nothing_submitted s = record { ahead = s; bodies = []; dues = [] }

@@ -8,7 +8,7 @@ use Rattle.journal_core.specs.declared.reply.Reply.TheVariants as reply
 use Rattle.ns_replay.specs.Replay.{Applied, All, BadEntry, applied}
 use Rattle.writer_core.specs.declared.cause.Cause.{Cause}
 use Rattle.writer_core.specs.declared.cause.Cause.TheVariants as cause
-use Rattle.name_node.specs.Holding.{Holding, Free, Tails, Broken, working}
+use Rattle.name_node.specs.Holding.{Holding, Free, Tails, Broken, with_work}
 
 -- ## A tail
 -- how a tail ends
@@ -29,7 +29,7 @@ is_until (Some last) position = last == position
 
 -- a pass begins at node 1, unless the end is reached
 unfoldable pub pass_begun : Option ℕ → Holding → TailStep
-pass_begun until h = if is_until until h.position then Ends Reached (working Free h) else GoesOn (working (Tails until 1 []) h)
+pass_begun until h = if is_until until h.position then Ends Reached (with_work Free h) else GoesOn (with_work (Tails until 1 []) h)
 
 -- no edit past the end
 abbrev pub up_to : Option ℕ → ℕ → List (List ℕ) → List (List ℕ)
@@ -62,9 +62,9 @@ abbrev pub read_cause : Heard → Cause
 read_cause (Answer (reply.Refused r)) = cause.Refused r
 read_cause _ = cause.Silent
 
-abbrev pub behind_or : Option ℕ → List Heard → TailEnd
-behind_or None told = BehindBy (map read_cause told)
-behind_or (Some first) told = PurgedFrom first
+abbrev pub after_or : Option ℕ → List Heard → TailEnd
+after_or None told = BehindBy (map read_cause told)
+after_or (Some first) told = PurgedFrom first
 
 abbrev pub without_end : Option ℕ → Bool
 without_end None = true
@@ -72,13 +72,13 @@ without_end (Some last) = false
 
 -- of a pass in which no node gave edits
 unfoldable pub pass_end : Option ℕ → List Heard → TailEnd
-pass_end None told = if nat_lt (length told) (2 * count_by is_not_here told) then Caught else behind_or (least_purged told) told
-pass_end (Some last) told = behind_or (least_purged told) told
+pass_end None told = if nat_lt (length told) (2 * count_by is_not_here told) then Caught else after_or (least_purged told) told
+pass_end (Some last) told = after_or (least_purged told) told
 
 -- no edits: the next node is asked, or the pass ends
 abbrev pub no_edits : ℕ → Option ℕ → ℕ → List Heard → Holding → TailStep
 no_edits nodes until node told h =
-    if nat_lt node nodes then GoesOn (working (Tails until (node + 1) told) h) else Ends (pass_end until told) (working Free h)
+    if nat_lt node nodes then GoesOn (with_work (Tails until (node + 1) told) h) else Ends (pass_end until told) (with_work Free h)
 
 unfoldable pub tail_hears : ℕ → Option ℕ → ℕ → List Heard → Heard → Holding → TailStep
 tail_hears nodes until node told (Answer (reply.Edits batch)) h = after_applied until (applied h.position (up_to until h.position batch.bodies) h.space) h

@@ -9,7 +9,7 @@ use Rattle.ns_replay.specs.Replay.{Image, entered, replay_from, replay}
 use Rattle.ns_replay.proofs.Splits.{replay_one, log_joins}
 use Rattle.ns_replay.proofs.Decodes.{start_decodes, end_decodes}
 use Rattle.ns_replay.proofs.Calls.{enters}
-use Rattle.name_node.specs.Holding.{Holding, Free, image_put, saved, loaded, reloaded}
+use Rattle.name_node.specs.Holding.{Holding, Free, image_put, save_image, load_image, reload_image}
 use Rattle.cluster_runner.specs.Safe.{AllOn}
 
 -- ## The records of a segment's ends
@@ -90,14 +90,14 @@ module _ (L : ℕ → List ℕ → Type 0) where
   take_held zero (i ∷ is) h = tt
   take_held (suc n) (i ∷ is) h = (h.0, take_held n is h.1)
 
-  pub saved_stands : (h : Holding) → Standing h → Standing (saved h)
-  unfolding saved
+  pub saved_stands : (h : Holding) → Standing h → Standing (save_image h)
+  unfolding save_image
   saved_stands h s = record { held = s.held; images = take_held 2 (image_put (record { space = h.space; txid = h.position }) h.images) (put_held (record { space = h.space; txid = h.position }) h.images s.held s.images) }
 
-  pub reloaded_stands : (h : Holding) → AreHeld h.images → Standing (reloaded h)
-  unfolding reloaded
+  pub reloaded_stands : (h : Holding) → AreHeld h.images → Standing (reload_image h)
+  unfolding reload_image
   reloaded_stands h s = by h.images s
     where
-      by : (is : List Image) → AreHeld is → Standing (loaded is (record h { work = Free; images = is }))
+      by : (is : List Image) → AreHeld is → Standing (load_image is (record h { work = Free; images = is }))
       by [] s = record { held = held_empty; images = tt }
       by (i ∷ is) s = record { held = s.0; images = s }

@@ -18,22 +18,22 @@ use Rattle.writer_core.specs.declared.turn.Turn.TheVariants as turn
 use Rattle.writer_core.specs.declared.turn.Outcome.{Outcome as TaskOutcome}
 use Rattle.writer_core.specs.declared.turn.Outcome.TheVariants as outcome
 use Rattle.writer_core.specs.Views.{WriterView}
-use Rattle.writer_core.specs.Rounds.{Judged}
+use Rattle.writer_core.specs.Rounds.{Judgment}
 use Rattle.writer_core.specs.Writer.{heard_at, writer_heard}
 use Rattle.node_history.specs.declared.record.Record.{Record}
 use Rattle.node_history.specs.declared.record.Record.TheVariants.{Call, Late, Operator, Outcome}
 use Rattle.mesh.specs.Makers.{heard_of}
-use Rattle.script_actor.specs.Lines.{Deed, AreDeeds}
+use Rattle.script_actor.specs.Lines.{Action, AreActions}
 use Rattle.name_node.specs.Submissions.{Due}
-use Rattle.name_node.specs.Holding.{Holding, new_holding, Work, Free, Tails, Logs, Broken, emptied, at_position, reloaded, enters as enters_at}
-use Rattle.script_actor.specs.Actor.{Actor, fresh_actor, settled, logs_done, task_done, held_turn, turn_with, turn_taken, judged_as, heard_in_work, heard_by, moved_on, resettled, goes_on}
+use Rattle.name_node.specs.Holding.{Holding, new_holding, Work, Free, Tails, Logs, Broken, empty_holding, at_position, reload_image, enters as enters_at}
+use Rattle.script_actor.specs.Actor.{Actor, fresh_actor, settle, logs_done, task_done, held_turn, turn_with, turn_taken, after_judgment, heard_in_work, heard_by, moved_on, settle_again, goes_on}
 use Rattle.writer_core.specs.Turns.{IsOf, aim_of}
 use Rattle.cluster_runner.proofs.Led.{moved_keeps}
 use Rattle.cluster_runner.proofs.WriterTurns.{has_other, IsBetween, Course, Turned, TurnOf, heard_turn, new_course}
 use Rattle.names_safety.proofs.WriterPlaces.{OutcomePlace, TurnPlace, HearsAt, IsLogOf, IsLogIn, heard_place}
 use Rattle.names_safety.proofs.Held.{Held, held_more, held_at, held_start, held_end, held_empty, Standing, reloaded_stands}
 use Rattle.names_safety.proofs.Stages.{RestsAt, OnTask, Stage, Good, GoodActor, rests_writing, pass_good, EditsOn, hears_good}
-use Rattle.names_safety.proofs.Deeds.{reloaded_free, settled_good}
+use Rattle.names_safety.proofs.Actions.{reloaded_free, settled_good}
 
 module _ (L : ℕ → List ℕ → Type 0) where
   -- ## A task goes on, or ends
@@ -81,7 +81,7 @@ module _ (L : ℕ → List ℕ → Type 0) where
   enters_stands : (last : ℕ) (h : Holding) → Standing L h → Standing L (enters_at last h) × ((enters_at last h).position ≤ last)
   enters_stands last h s = by (nat_lt last h.position) refl
     where
-      by : (b : Bool) → nat_lt last h.position ≡ b → Standing L (cond b (emptied h) h) × ((cond b (emptied h) h).position ≤ last)
+      by : (b : Bool) → nat_lt last h.position ≡ b → Standing L (cond b (empty_holding h) h) × ((cond b (empty_holding h) h).position ≤ last)
       by true e = (record { held = (held_empty L); images = s.images }, omega arith)
       by false e = (s, grind (arith, nat_tests, e))
 
@@ -185,23 +185,23 @@ module _ (L : ℕ → List ℕ → Type 0) where
   turn_good h t turn.Aborted a w one s c work i pl is doing =
       subst (λ (x : Option Holding). GoodActor L (turn_with x turn.Aborted t (after a w))) (sym is)
       (unfold turn_with in record {
-        holding = reloaded h;
+        holding = reload_image h;
         is = refl;
         stands = reloaded_stands L h s.images;
         other = c.other;
-        stage = subst (λ (x : Work). Stage L (reloaded h) None w x) (sym (reloaded_free L h)) (ends_rests (reloaded h) w.phase w pl);
+        stage = subst (λ (x : Work). Stage L (reload_image h) None w x) (sym (reloaded_free L h)) (ends_rests (reload_image h) w.phase w pl);
       })
   turn_good h t (turn.EpochLimit told) a w one s c work i pl is doing =
       subst (λ (x : Option Holding). GoodActor L (turn_with x (turn.EpochLimit told) t (after a w))) (sym is)
       (unfold turn_with in stopped_good h a w s c.other (free_work h t i.0 work) pl is)
 
   -- the writer hears, in the course of a task
-  task_hears : (a : Actor) (g : GoodActor L a) (t : Task) (node : ℕ) (heard : Heard) → FromOne → a.doing ≡ Some t → HearsAt L a.writer.phase a.writer node heard → GoodActor L (judged_as (writer_heard a.writer node heard) a)
+  task_hears : (a : Actor) (g : GoodActor L a) (t : Task) (node : ℕ) (heard : Heard) → FromOne → a.doing ≡ Some t → HearsAt L a.writer.phase a.writer node heard → GoodActor L (after_judgment (writer_heard a.writer node heard) a)
   task_hears a g t node heard one doing h =
       subst (λ (d : Option Task). GoodActor L (turn_taken j.turn d (record a { writer = j.writer }))) (sym doing)
       (turn_good g.holding t j.turn a j.writer one g.stands turned.course u.work turned.turn placed g.is doing)
     where
-      j : Judged
+      j : Judgment
       j = writer_heard a.writer node heard
 
       u : UnderTask g.holding t a.writer
@@ -230,9 +230,9 @@ module _ (L : ℕ → List ℕ → Type 0) where
   rests_between p phase.Idle w s = tt
   rests_between p phase.Stopped w s = tt
 
-  idle_hears : (a : Actor) (g : GoodActor L a) (node : ℕ) (heard : Heard) → IsBetween a.writer.phase → GoodActor L (judged_as (writer_heard a.writer node heard) a)
+  idle_hears : (a : Actor) (g : GoodActor L a) (node : ℕ) (heard : Heard) → IsBetween a.writer.phase → GoodActor L (after_judgment (writer_heard a.writer node heard) a)
   unfolding turn_taken
-  idle_hears a g node heard b = subst (λ (j : Judged). GoodActor L (judged_as j a)) (sym (same_heard a.writer node heard b)) g
+  idle_hears a g node heard b = subst (λ (j : Judgment). GoodActor L (after_judgment j a)) (sym (same_heard a.writer node heard b)) g
 
   -- ## A line of its record
   -- what it must have learned by a call
@@ -247,7 +247,7 @@ module _ (L : ℕ → List ℕ → Type 0) where
   work_hears : (a : Actor) (g : GoodActor L a) (node : ℕ) (heard : Heard) → FromOne → LearnsIn g.holding.work g.holding a.writer node heard → GoodActor L (heard_in_work g.holding.work g.holding node heard a)
   work_hears a g node heard one l = by a.doing refl g.holding.work refl g.stage l
     where
-      at_task : (t : Task) → a.doing ≡ Some t → HearsAt L a.writer.phase a.writer node heard → GoodActor L (judged_as (writer_heard a.writer node heard) a)
+      at_task : (t : Task) → a.doing ≡ Some t → HearsAt L a.writer.phase a.writer node heard → GoodActor L (after_judgment (writer_heard a.writer node heard) a)
       at_task t e h = task_hears a g t node heard one e h
 
       by : (d : Option Task) → a.doing ≡ d → (x : Work) → g.holding.work ≡ x → Stage L g.holding d a.writer x → LearnsIn x g.holding a.writer node heard → GoodActor L (heard_in_work x g.holding node heard a)
@@ -281,15 +281,15 @@ module _ (L : ℕ → List ℕ → Type 0) where
   -- ## Along its record
   pub record Going (a : Actor) : Type 0 where
     pub good : GoodActor L a
-    pub deeds : AreDeeds true a.todo
+    pub actions : AreActions true a.todo
 
   pub goes_good : (a : Actor) (r : Record) → FromOne → Going a → LineLearns a r → Going (goes_on a r)
-  unfolding goes_on resettled
+  unfolding goes_on settle_again
   goes_good a r one g l =
       let b : Actor = record a { past = a.past ++ r ∷ [] } in
-      let s : GoodActor L (settled (moved_on r b).todo (moved_on r b)) × AreDeeds true (settled (moved_on r b).todo (moved_on r b)).todo =
-      settled_good L (moved_on r b).todo (moved_on r b) (subst (λ (ds : List Deed). AreDeeds true ds) (sym (moved_keeps r b).0) g.deeds) (moved_good r b g.good one (learns r l)) in
-      record { good = s.0; deeds = s.1 }
+      let s : GoodActor L (settle (moved_on r b).todo (moved_on r b)) × AreActions true (settle (moved_on r b).todo (moved_on r b)).todo =
+      settled_good L (moved_on r b).todo (moved_on r b) (subst (λ (ds : List Action). AreActions true ds) (sym (moved_keeps r b).0) g.actions) (moved_good r b g.good one (learns r l)) in
+      record { good = s.0; actions = s.1 }
     where
       learns : (r : Record) → LineLearns a r → LineLearns (record a { past = a.past ++ r ∷ [] }) r
       learns (Call node q t) l = l
@@ -301,5 +301,5 @@ module _ (L : ℕ → List ℕ → Type 0) where
   unfolding fresh_actor
   fresh_good n h = record { holding = new_holding; is = refl; stands = record { held = (held_empty L); images = tt }; other = (new_course n h).other; stage = tt }
 
-  pub begins_good : (n : ℕ) (ds : List Deed) → 1 ≤ n → AreDeeds true ds → Going (settled ds (fresh_actor true n))
-  begins_good n ds h is = let s : GoodActor L (settled ds (fresh_actor true n)) × AreDeeds true (settled ds (fresh_actor true n)).todo = settled_good L ds (fresh_actor true n) is (fresh_good n h) in record { good = s.0; deeds = s.1 }
+  pub begins_good : (n : ℕ) (ds : List Action) → 1 ≤ n → AreActions true ds → Going (settle ds (fresh_actor true n))
+  begins_good n ds h is = let s : GoodActor L (settle ds (fresh_actor true n)) × AreActions true (settle ds (fresh_actor true n)).todo = settled_good L ds (fresh_actor true n) is (fresh_good n h) in record { good = s.0; actions = s.1 }

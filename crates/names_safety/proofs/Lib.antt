@@ -2,7 +2,7 @@ pub mod ReadLaws
 pub mod WriterPlaces
 pub mod Held
 pub mod Stages
-pub mod Deeds
+pub mod Actions
 pub mod Keeps
 pub mod Oks
 pub mod SaidOks

@@ -1,5 +1,5 @@
 -- The line of a script with names replays, up to each of its txids: whoever put an edit there had read, or logged, all that stands before it,
--- and the edit was admitted behind that.
+-- and the edit was admitted after that.
 use Rattle.std.proofs.Common.{◌≡◌, ℕ, zero, suc, ◌+◌, ◌<◌, ◌≤◌, List, [], ◌∷◌, ◌++◌, Bool, true, refl, sym, ap, ◌∙◌, subst, arith, length, length-append, reverse, take, drop, ◌⊎◌, inl, inr}
 use Rattle.std.specs.Prelude.{Option, Some, None, slice_get}
 use Rattle.std.proofs.lemmas.List.{length-take-le, take-append-drop}
@@ -28,7 +28,7 @@ use Rattle.node_history.specs.Entries.{Entry}
 use Rattle.run_safety.proofs.Values.{get_within, get_there}
 use Rattle.mesh.specs.declared.whole.Mesh.{Mesh}
 use Rattle.mesh.specs.Agree.{operator_of, record_of, plan_of, ListsAgree}
-use Rattle.script_actor.specs.Lines.{Line, deeds_of}
+use Rattle.script_actor.specs.Lines.{Line, actions_of}
 use Rattle.name_node.specs.Holding.{Holding, Work, Free, Tails, Logs, Broken}
 use Rattle.script_actor.specs.Actor.{Actor, Want, WantsCall, WantsCopy, Says, Rests, call_wanted, work_read, read_first, wants, Fits, IsLed, actor_after, goes_on}
 use Rattle.ns_tree.specs.declared.end.End.{End}
@@ -74,7 +74,7 @@ unfolding IsLed
 led_now a r rs led = led.0
 
 -- ## What a batch was made of
--- behind the replay of so many entries of the line, edits that go on from there
+-- after the replay of so many entries of the line, edits that go on from there
 pub record FromLog (L : ℕ → List ℕ → Type 0) (batch : BatchView) : Type 0 where
   pub position : ℕ
   pub space : Space
@@ -199,10 +199,10 @@ module _ (m : Mesh) (entries : List Entry) (lines : List Line) (last : List End)
   abbrev pub L : ℕ → List ℕ → Type 0
   L = OnLine m entries
 
-  pub led_of : (c : ℕ) → c < operator_of m → IsLed (actor_with true m.nodes (deeds_of c lines)) (record_of m c)
+  pub led_of : (c : ℕ) → c < operator_of m → IsLed (actor_with true m.nodes (actions_of c lines)) (record_of m c)
   led_of c below =
       let there : (e : End) × (slice_get last c ≡ Some e) = get_there last c (let many : length last ≡ operator_of m = named.as_many in omega (arith, below, many)) in
-      let f : Follows true m.nodes (deeds_of c lines) (record_of m c) (plan_of m c) there.0 = named.follows.actors c there.0 below there.1 in
+      let f : Follows true m.nodes (actions_of c lines) (record_of m c) (plan_of m c) there.0 = named.follows.actors c there.0 below there.1 in
       f.led
 
   once : (t : ℕ) (x y : List ℕ) → L t x → L t y → x ≡ y
@@ -210,10 +210,10 @@ module _ (m : Mesh) (entries : List Entry) (lines : List Line) (last : List End)
 
   -- the batch that put an entry of the line there
   maker : (t : ℕ) (x : List ℕ) → (k : IsPutByJournal m.nodes (reverse entries) t x) → Made L k.batch
-  maker t x k = made_batch L a g.going.good s.node k.head k.start k.batch s.told (led_now a r p.after (led_rest (actor_with true m.nodes (deeds_of s.caller lines)) p.before (r ∷ p.after) led))
+  maker t x k = made_batch L a g.going.good s.node k.head k.start k.batch s.told (led_now a r p.after (led_rest (actor_with true m.nodes (actions_of s.caller lines)) p.before (r ∷ p.after) led))
     where
       s : Asker m (Journal k.head k.start k.batch)
-      s = asker m entries lists lin (λ c below. led_none (actor_with true m.nodes (deeds_of c lines)) (record_of m c) (led_of c below)) k.old k.entry (Journal k.head k.start k.batch) k.within k.of_request
+      s = asker m entries lists lin (λ c below. led_none (actor_with true m.nodes (actions_of c lines)) (record_of m c) (led_of c below)) k.old k.entry (Journal k.head k.start k.batch) k.within k.of_request
 
       r : Record
       r = Call s.node (Journal k.head k.start k.batch) s.told
@@ -221,19 +221,19 @@ module _ (m : Mesh) (entries : List Entry) (lines : List Line) (last : List End)
       p : Place r (record_of m s.caller)
       p = place_of r (record_of m s.caller) s.called
 
-      led : IsLed (actor_with true m.nodes (deeds_of s.caller lines)) (p.before ++ r ∷ p.after)
-      led = subst (λ (l : List Record). IsLed (actor_with true m.nodes (deeds_of s.caller lines)) l) p.is (led_of s.caller s.below)
+      led : IsLed (actor_with true m.nodes (actions_of s.caller lines)) (p.before ++ r ∷ p.after)
+      led = subst (λ (l : List Record). IsLed (actor_with true m.nodes (actions_of s.caller lines)) l) p.is (led_of s.caller s.below)
 
       a : Actor
-      a = actor_after (actor_with true m.nodes (deeds_of s.caller lines)) p.before
+      a = actor_after (actor_with true m.nodes (actions_of s.caller lines)) p.before
 
       is_actor : IsActor m s.caller a
-      is_actor = record { some = named.some; deeds = deeds_of s.caller lines; are_deeds = named.deeds s.caller; before = p.before; after = r ∷ p.after; record_is = p.is; led = led; is = refl }
+      is_actor = record { some = named.some; actions = actions_of s.caller lines; are_actions = named.actions s.caller; before = p.before; after = r ∷ p.after; record_is = p.is; led = led; is = refl }
 
       g : Walked m entries lists lin s.caller s.below p.before a
       g = walked m entries lists lin s.caller s.below a is_actor
 
-  -- an entry behind so many that replay
+  -- an entry after so many that replay
   marks : (init : List (List ℕ)) (x mark : List ℕ) (bodies : List (List ℕ)) (k : ℕ) (z : Space) → bodies ≡ mark ∷ [] → slice_get bodies k ≡ Some x → ((t : ℕ) (s : Space) → replay_from t (mark ∷ []) s ≡ Some s) → replay init ≡ Some z → replay (init ++ x ∷ []) ≡ Some z
   marks init x mark bodies k z is has same e =
       let one : x ≡ mark = only k (ap (λ (l : List (List ℕ)). slice_get l k) (sym is) ∙ has) in

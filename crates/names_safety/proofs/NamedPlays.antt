@@ -11,7 +11,7 @@ use Rattle.script_actor.specs.Lines.{Line, ArePlayable}
 use Rattle.cluster_runner.specs.Plays.{mesh_of, ends_of}
 use Rattle.cluster_runner.specs.Follows.{FollowsLines}
 use Rattle.cluster_runner.specs.Safe.{IsSafeWithEnds}
-use Rattle.cluster_runner.proofs.PlayableDeeds.{playable_deeds}
+use Rattle.cluster_runner.proofs.PlayableActions.{playable_actions}
 use Rattle.cluster_runner.proofs.Final.{play_agrees, play_runs, play_in_order, play_follows, names_count}
 use Rattle.names_safety.specs.Linear.{IsNamed}
 use Rattle.names_safety.specs.Laws.{PlayIsLinear, PlaysAreSafe}
@@ -20,7 +20,7 @@ use Rattle.names_safety.proofs.Safeties.{names_are_safe, epoch_order_is_safe}
 pub is_named : (nodes : ℕ) (lines : List Line) (m : Mesh) (ends : List End) → 1 ≤ nodes → ArePlayable true nodes 0 lines → FollowsLines true nodes lines m ends → IsNamed lines m ends
 is_named nodes lines m ends some can f = record {
   some = subst (λ (n : ℕ). 1 ≤ n) (sym f.nodes_are) some;
-  deeds = playable_deeds true nodes 0 lines can;
+  actions = playable_actions true nodes 0 lines can;
   as_many = sym (length-map ends (λ e. e.name)) ∙ ap length f.names ∙ names_count lines ∙ sym f.actors_are;
   follows = subst (λ (n : ℕ). FollowsLines true n lines m ends) (sym f.nodes_are) f;
 }

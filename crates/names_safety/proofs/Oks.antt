@@ -23,8 +23,8 @@ use Rattle.writer_core.specs.declared.turn.Turn.TheVariants as turn
 use Rattle.writer_core.specs.Views.{WriterView}
 use Rattle.writer_core.specs.Answers.{is_waiting, has_majority, fits_edits}
 use Rattle.writer_core.specs.Best.{Best, best_of, greatest_promise, greatest_newest}
-use Rattle.writer_core.specs.Rounds.{request_in, numbers_fit, going, stopped, done_in, with_causes, judged_by, judged, fetched, proposing, after_propose, recovering, after_finalize, after_open, after_write, edits_fetched, not_fetched, taken_out, next_serial, missed, to_others, asking_all, asking_others, batch_from, end_record}
-use Rattle.writer_core.specs.Writer.{log_begins, log_limit, is_writing, if_writing, writer_begun, next_call, call_in, node_in, with_answer, judged_when, heard_in, heard_at, writer_heard}
+use Rattle.writer_core.specs.Rounds.{request_in, numbers_fit, keep_going, stops_with, after_round, with_causes, judgment_by, judgment, after_fetch, begin_propose, after_propose, begin_recovery, after_finalize, after_open, after_write, after_edits, after_no_edits, without_answer_of, next_serial, left_out_after, to_others, asks_all, asks_others, batch_from, end_record}
+use Rattle.writer_core.specs.Writer.{log_begins, log_limit, is_writing, if_writing, writer_begun, next_call, call_in, node_in, with_answer, judgment_when, heard_in, heard_at, writer_heard}
 use Rattle.node_history.specs.declared.record.Record.{Record}
 use Rattle.node_history.specs.declared.record.Record.TheVariants.{Call}
 use Rattle.node_history.specs.declared.record.Told.{Told}
@@ -74,16 +74,16 @@ fresh_none first (Heard_ x ∷ slots) node h f a = f
 fresh_oks : (rs : List Record) (q : Request) (slots : List Slot) → IsFresh slots → AllOks rs q slots
 fresh_oks rs q slots f node a = absurd (fresh_none 1 slots node (Answer reply.Ok) f a)
 
-others_oks : (rs : List Record) (r : Round) (w : WriterView) → Oks rs (asking_others r w)
-others_oks rs (round.Write bodies) w = fresh_oks rs (request_in (asking_others (round.Write bodies) w) (round.Write bodies)) (to_others w.left) (to_others_fresh w.left)
-others_oks rs round.Open w = fresh_oks rs (request_in (asking_others round.Open w) round.Open) (to_others w.left) (to_others_fresh w.left)
+others_oks : (rs : List Record) (r : Round) (w : WriterView) → Oks rs (asks_others r w)
+others_oks rs (round.Write bodies) w = fresh_oks rs (request_in (asks_others (round.Write bodies) w) (round.Write bodies)) (to_others w.left) (to_others_fresh w.left)
+others_oks rs round.Open w = fresh_oks rs (request_in (asks_others round.Open w) round.Open) (to_others w.left) (to_others_fresh w.left)
 others_oks rs _ w = tt
 
 -- ## A round that was done, or not
-done_oks : (rs : List Record) (r : Round) (w : WriterView) → Oks rs (done_in r w).writer
+done_oks : (rs : List Record) (r : Round) (w : WriterView) → Oks rs (after_round r w).writer
 done_oks rs round.State w = by (nat_lt (greatest_promise w.slots) max_number)
   where
-    by : (b : Bool) → Oks rs (cond b (going (proposing (greatest_promise w.slots) w)) (stopped (turn.EpochLimit (greatest_promise w.slots)) w)).writer
+    by : (b : Bool) → Oks rs (cond b (keep_going (begin_propose (greatest_promise w.slots) w)) (stops_with (turn.EpochLimit (greatest_promise w.slots)) w)).writer
     by true = tt
     by false = tt
 done_oks rs round.Propose w = by (greatest_newest w.slots)
@@ -93,12 +93,12 @@ done_oks rs round.Propose w = by (greatest_newest w.slots)
     by (Some start) = tt
 done_oks rs (round.Prepare start) w = by (best_of start w.slots)
   where
-    by : (o : Option Best) → Oks rs (recovering start o (next_serial w))
+    by : (o : Option Best) → Oks rs (begin_recovery start o (next_serial w))
     by None = tt
     by (Some b) = tt
 done_oks rs (round.Fetch node start end bodies) w = by (best_of start w.slots)
   where
-    by : (o : Option Best) → Oks rs (recovering start o (next_serial w))
+    by : (o : Option Best) → Oks rs (begin_recovery start o (next_serial w))
     by None = tt
     by (Some b) = tt
 done_oks rs (round.Accept batch) w = tt
@@ -107,21 +107,21 @@ done_oks rs (round.Finalize start end) w = by w.aim
     by : (a : Aim) → Oks rs (after_finalize a end (next_serial w)).writer
     by aim.Close = tt
     by _ = tt
-done_oks rs round.Start w = others_oks rs round.Open (record (next_serial w) { left = missed round.Start w.slots })
+done_oks rs round.Start w = others_oks rs round.Open (record (next_serial w) { left = left_out_after round.Start w.slots })
 done_oks rs round.Open w = by w.aim
   where
-    by : (a : Aim) → Oks rs (after_open a (record (next_serial w) { committed = w.start; next = w.start + 1; left = missed round.Open w.slots })).writer
+    by : (a : Aim) → Oks rs (after_open a (record (next_serial w) { committed = w.start; next = w.start + 1; left = left_out_after round.Open w.slots })).writer
     by aim.Roll = tt
     by _ = tt
 done_oks rs (round.Write bodies) w = by w.aim
   where
-    by : (a : Aim) → Oks rs (after_write a w.next (w.next + length bodies - 1) (record (next_serial w) { committed = w.next + length bodies - 1; next = w.next + length bodies - 1 + 1; left = missed (round.Write bodies) w.slots })).writer
+    by : (a : Aim) → Oks rs (after_write a w.next (w.next + length bodies - 1) (record (next_serial w) { committed = w.next + length bodies - 1; next = w.next + length bodies - 1 + 1; left = left_out_after (round.Write bodies) w.slots })).writer
     by aim.Roll = tt
     by aim.Close = tt
     by _ = tt
 done_oks rs (round.Purge min) w = tt
 
-judged_oks : (rs : List Record) (b : Bool) (r : Round) (w : WriterView) → Oks rs (judged_by b r w).writer
+judged_oks : (rs : List Record) (b : Bool) (r : Round) (w : WriterView) → Oks rs (judgment_by b r w).writer
 judged_oks rs true r w = done_oks rs r (with_causes r w)
 judged_oks rs false r w = tt
 
@@ -150,24 +150,24 @@ RoundOks-more rs round.Open w node q t one is h = subst (λ (x : Request). AllOk
 RoundOks-more rs _ w node q t one is h = tt
 
 when_oks : (rs : List Record) (b : Bool) (r : Round) (w : WriterView) (node : ℕ) (q : Request) (t : Told) → w.phase ≡ phase.InRound r → 1 ≤ node → q ≡ request_in w r → RoundOks rs r w
-    → Oks (rs ++ Call node q t ∷ []) (judged_when b r (with_answer w node (heard_of t))).writer
-unfolding judged
+    → Oks (rs ++ Call node q t ∷ []) (judgment_when b r (with_answer w node (heard_of t))).writer
+unfolding judgment
 when_oks rs true r w node q t same one is h = subst (λ (x : Phase). PhaseOks (rs ++ Call node q t ∷ []) x (with_answer w node (heard_of t))) (sym same) (RoundOks-more rs r w node q t one is h)
 when_oks rs false r w node q t same one is h = judged_oks (rs ++ Call node q t ∷ []) (numbers_fit (with_answer w node (heard_of t)) r && has_majority r (with_answer w node (heard_of t)).slots) r (with_answer w node (heard_of t))
 
-missing_oks : (rs : List Record) (node start : ℕ) (heard : Heard) (w : WriterView) → Oks rs (not_fetched node start heard w).writer
-missing_oks rs node start heard w = judged_oks rs (has_majority (round.Prepare start) (taken_out node heard w).slots) (round.Prepare start) (taken_out node heard w)
+missing_oks : (rs : List Record) (node start : ℕ) (heard : Heard) (w : WriterView) → Oks rs (after_no_edits node start heard w).writer
+missing_oks rs node start heard w = judged_oks rs (has_majority (round.Prepare start) (without_answer_of node heard w).slots) (round.Prepare start) (without_answer_of node heard w)
 
-edits_oks : (rs : List Record) (b : Bool) (node start end : ℕ) (had : List (List ℕ)) (batch : BatchView) (w : WriterView) → Oks rs (edits_fetched b node start end had batch w).writer
+edits_oks : (rs : List Record) (b : Bool) (node start end : ℕ) (had : List (List ℕ)) (batch : BatchView) (w : WriterView) → Oks rs (after_edits b node start end had batch w).writer
 edits_oks rs true node start end had batch w = by (nat_lt end (start + length (had ++ take (end + 1 - (start + length had)) batch.bodies)))
   where
-    by : (b : Bool) → Oks rs (cond b (asking_all (round.Accept (batch_from start (had ++ take (end + 1 - (start + length had)) batch.bodies))) (next_serial w)) (record (next_serial w) { phase = phase.InRound (round.Fetch node start end (had ++ take (end + 1 - (start + length had)) batch.bodies)) }))
+    by : (b : Bool) → Oks rs (cond b (asks_all (round.Accept (batch_from start (had ++ take (end + 1 - (start + length had)) batch.bodies))) (next_serial w)) (record (next_serial w) { phase = phase.InRound (round.Fetch node start end (had ++ take (end + 1 - (start + length had)) batch.bodies)) }))
     by true = tt
     by false = tt
 edits_oks rs false node start end had batch w = missing_oks rs node start Silent w
 
-fetched_oks : (rs : List Record) (node start end : ℕ) (had : List (List ℕ)) (heard : Heard) (w : WriterView) → Oks rs (fetched node start end had heard w).writer
-unfolding fetched
+fetched_oks : (rs : List Record) (node start end : ℕ) (had : List (List ℕ)) (heard : Heard) (w : WriterView) → Oks rs (after_fetch node start end had heard w).writer
+unfolding after_fetch
 fetched_oks rs node start end had (Answer (reply.Edits batch)) w = edits_oks rs (numbers_fit w (round.Fetch node start end had) && fits_edits (start + length had) batch) node start end had batch w
 fetched_oks rs node start end had heard w = missing_oks rs node start heard w
 
@@ -229,16 +229,16 @@ begun_oks rs w (task.Log bodies) h = by (is_writing w.phase) (log_limit w bodies
     by false o = h
 begun_oks rs w task.Roll h = by (is_writing w.phase)
   where
-    by : (b : Bool) → Oks rs (if_writing b (record { writer = asking_others (round.Write end_record) (record w { aim = aim.Roll }); begun = begun.Going }) w).writer
+    by : (b : Bool) → Oks rs (if_writing b (record { writer = asks_others (round.Write end_record) (record w { aim = aim.Roll }); begun = begun.Going }) w).writer
     by true = others_oks rs (round.Write end_record) (record w { aim = aim.Roll })
     by false = h
 begun_oks rs w task.Close h = by (is_writing w.phase)
   where
-    by : (b : Bool) → Oks rs (if_writing b (record { writer = asking_others (round.Write end_record) (record w { aim = aim.Close }); begun = begun.Going }) w).writer
+    by : (b : Bool) → Oks rs (if_writing b (record { writer = asks_others (round.Write end_record) (record w { aim = aim.Close }); begun = begun.Going }) w).writer
     by true = others_oks rs (round.Write end_record) (record w { aim = aim.Close })
     by false = h
 begun_oks rs w (task.Purge min) h = by (is_writing w.phase)
   where
-    by : (b : Bool) → Oks rs (if_writing b (record { writer = asking_all (round.Purge min) (record w { aim = aim.Purge }); begun = begun.Going }) w).writer
+    by : (b : Bool) → Oks rs (if_writing b (record { writer = asks_all (round.Purge min) (record w { aim = aim.Purge }); begun = begun.Going }) w).writer
     by true = tt
     by false = h

@@ -23,8 +23,8 @@ use Rattle.node_history.specs.declared.record.Record.{Record}
 use Rattle.node_history.specs.declared.record.Record.TheVariants.{Call}
 use Rattle.node_history.specs.declared.record.Told.TheVariants as told
 use Rattle.node_history.specs.declared.arming.Arming.{Arming}
-use Rattle.node_history.specs.Cell.{Cell, fresh_cell, cell_takes, requested, counted, replies, stops, kept_by, IsLocalRun, cell_after}
-use Rattle.node_history.specs.Entries.{Entry, Move, moved, node_after, Earlier}
+use Rattle.node_history.specs.Cell.{Cell, fresh_cell, cell_takes, take_request, count_request, replies, stops, kept_by, IsLocalRun, cell_after}
+use Rattle.node_history.specs.Entries.{Entry, Move, after_move, node_after, Earlier}
 use Rattle.node_history.specs.Moving.{Placed, move_of, entry_at, entry_of, moving_of}
 use Rattle.node_history.specs.CellLaws.{IsMoved}
 use Rattle.run_safety.specs.Run.{Story, Follows}
@@ -87,8 +87,8 @@ node_only node [] = refl
 node_only node (e ∷ past) = by (e.node == node) refl (node_only node past)
   where
     by : (b : Bool) → (e.node == node) ≡ b → node_after node past ≡ node_after node (entries_at node past)
-        → cond b (moved (node_after node past) e.move) (node_after node past) ≡ node_after node (cond b (e ∷ entries_at node past) (entries_at node past))
-    by true is h = rw is (ap (λ (s : NodeState). moved s e.move) h)
+        → cond b (after_move (node_after node past) e.move) (node_after node past) ≡ node_after node (cond b (e ∷ entries_at node past) (entries_at node past))
+    by true is h = rw is (ap (λ (s : NodeState). after_move s e.move) h)
     by false is h = h
 
 filter_append : (test : Entry → Bool) (xs ys : List Entry) → filter test (xs ++ ys) ≡ filter test xs ++ filter test ys
@@ -122,7 +122,7 @@ reversed_first : (e : Entry) (xs past : List Entry) → reverse xs ++ (e ∷ pas
 reversed_first e xs past =
     sym (ap (λ (l : List Entry). l ++ past) (reverse-append (e ∷ []) xs) ∙ append_assoc (reverse xs) (e ∷ []) past)
 
--- the state that a history leaves is that of its moving entries, behind those before
+-- the state that a history leaves is that of its moving entries, after those before
 history_state : (m : Mesh) (node : ℕ) (before hs : List HistoryLine) (c : Cell) (past : List Entry) → c.state ≡ node_after node past → IsLocalRun c hs
     → (cell_after c hs).state ≡ node_after node (reverse (moving_of (placed_from m node before hs)) ++ past)
 unfolding cell_after placed_from IsLocalRun moving_of entry_of
@@ -156,7 +156,7 @@ history_state m node before (h ∷ hs) c past is run = by (λ more e. history_st
         let moved_it : IsMoved c next.state move = moving c h.ask h.caller muted move (told (Some move) e) in
         let z : Entry = record { node = node; move = move } in
         rw (entry_is (Some move) e)
-        (goes (z ∷ past) (moved_it.is ∙ ap (λ (s : NodeState). moved s move) is ∙ sym (node_here node z past refl))
+        (goes (z ∷ past) (moved_it.is ∙ ap (λ (s : NodeState). after_move s move) is ∙ sym (node_here node z past refl))
         ∙ ap (node_after node) (reversed_first z rest past))
 
 -- ## What a node serves
@@ -324,7 +324,7 @@ replied_is a b e = ap from_replied e
     from_replied (Replied reply) = reply
     from_replied _ = a
 
-counts_reply : (s : NodeState) (r : Request) (reply : Reply) (o : Option Arming) → (counted s r o).answer ≡ Replied reply → (node_step s r).reply ≡ reply
+counts_reply : (s : NodeState) (r : Request) (reply : Reply) (o : Option Arming) → (count_request s r o).answer ≡ Replied reply → (node_step s r).reply ≡ reply
 counts_reply s r reply None e = replied_is (node_step s r).reply reply e
 counts_reply s r reply (Some a) e = by (nat_lt 1 a.calls) e
   where
@@ -336,7 +336,7 @@ step_reply : (c : Cell) (late : Bool) (r : Request) (reply : Reply) → (cell_ta
 unfolding cell_takes
 step_reply c late r reply e = by c.state.up e
   where
-    by : (up : Bool) → (requested up c r).answer ≡ Replied reply → (node_step c.state r).reply ≡ reply
+    by : (up : Bool) → (take_request up c r).answer ≡ Replied reply → (node_step c.state r).reply ≡ reply
     by true e = counts_reply c.state r reply c.arming e
     by false e = replied_is (node_step c.state r).reply reply e
 

@@ -35,9 +35,9 @@ use Rattle.mesh.specs.Agree.{operator_of, record_of, plan_of, ListsAgree}
 use Rattle.mesh.specs.Makers.{heard_of}
 use Rattle.mesh.proofs.Shared.{In}
 use Rattle.run_safety.proofs.WriterRange.{new_sized, call_within}
-use Rattle.script_actor.specs.Lines.{Deed, deeds_of}
+use Rattle.script_actor.specs.Lines.{Action, actions_of}
 use Rattle.name_node.specs.Holding.{Holding, Work, Free, Tails, Logs, Broken}
-use Rattle.script_actor.specs.Actor.{Actor, fresh_actor, call_wanted, work_read, read_first, wants, settled, goes_on, Fits, IsLed, actor_after, last_of}
+use Rattle.script_actor.specs.Actor.{Actor, fresh_actor, call_wanted, work_read, read_first, wants, settle, goes_on, Fits, IsLed, actor_after, last_of}
 use Rattle.cluster_runner.specs.Follows.{actor_with, Follows}
 use Rattle.names_safety.specs.Linear.{IsLinear, OnLine, IsActor, HoldsReplay, ImagesReplay, ActorsHoldReplays, EndsAreReplays}
 use Rattle.names_safety.proofs.ReadLaws.{all_on, reads_on_line}
@@ -174,15 +174,15 @@ module _ (m : Mesh) (entries : List Entry) (lists : ListsAgree m) (lin : IsLinea
         both = goes_writer m.nodes before a r g.both led.0;
       }) led.1)
 
-  fresh_both : (deeds : List Deed) → Both m.nodes [] (settled deeds (fresh_actor true m.nodes)).writer
+  fresh_both : (actions : List Action) → Both m.nodes [] (settle actions (fresh_actor true m.nodes)).writer
   unfolding fresh_actor
-  fresh_both deeds = unfold fresh_actor in settled_writer (Both m.nodes []) (both_closed m.nodes []) deeds (fresh_actor true m.nodes) (record { oks = tt; sized = new_sized m.nodes })
+  fresh_both actions = unfold fresh_actor in settled_writer (Both m.nodes []) (both_closed m.nodes []) actions (fresh_actor true m.nodes) (record { oks = tt; sized = new_sized m.nodes })
 
   pub walked : (a : Actor) (x : IsActor m c a) → Walked x.before a
   walked a x =
       subst (λ (z : Actor). Walked x.before z) (sym x.is)
-      (walk [] x.before x.after (actor_with true m.nodes x.deeds) x.record_is
-      (record { going = begins_good L m.nodes x.deeds x.some x.are_deeds; both = fresh_both x.deeds }) x.led)
+      (walk [] x.before x.after (actor_with true m.nodes x.actions) x.record_is
+      (record { going = begins_good L m.nodes x.actions x.some x.are_actions; both = fresh_both x.actions }) x.led)
 
 -- ## At every moment
 images_replay : (m : Mesh) (entries : List Entry) (is : List Image) → AreHeld (OnLine m entries) is → ImagesReplay m entries is
@@ -211,21 +211,21 @@ ends_are_replays m entries lines ends c e lists lin named is = (record { positio
     below : c < operator_of m
     below = let range : c < length ends = slice_get_within ends c e is in let many : length ends ≡ operator_of m = named.as_many in omega (arith, range, many)
 
-    f : Follows true m.nodes (deeds_of c lines) (record_of m c) (plan_of m c) e
+    f : Follows true m.nodes (actions_of c lines) (record_of m c) (plan_of m c) e
     f = named.follows.actors c e below is
 
     a : Actor
-    a = actor_after (actor_with true m.nodes (deeds_of c lines)) (record_of m c)
+    a = actor_after (actor_with true m.nodes (actions_of c lines)) (record_of m c)
 
     x : IsActor m c a
     x = record {
       some = named.some;
-      deeds = deeds_of c lines;
-      are_deeds = named.deeds c;
+      actions = actions_of c lines;
+      are_actions = named.actions c;
       before = record_of m c;
       after = [];
       record_is = sym (append-nil (record_of m c));
-      led = subst (λ (l : List Record). IsLed (actor_with true m.nodes (deeds_of c lines)) l) (sym (append-nil (record_of m c))) f.led;
+      led = subst (λ (l : List Record). IsLed (actor_with true m.nodes (actions_of c lines)) l) (sym (append-nil (record_of m c))) f.led;
       is = refl;
     }
 

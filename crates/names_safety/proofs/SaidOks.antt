@@ -27,7 +27,7 @@ use Rattle.names_safety.specs.Linear.{IsLinear}
 use Rattle.names_safety.proofs.ReadLaws.{Place, place_of, in_filter, of_filter, within_in}
 
 -- ## A caller's line and the node's line of it
--- the other line stands behind as many others
+-- the other line stands after as many others
 pub record Mate (r : Record) (rb : List Record) (hs : List HistoryLine) : Type 0 where
   pub line : HistoryLine
   pub before : List HistoryLine

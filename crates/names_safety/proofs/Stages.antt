@@ -16,8 +16,8 @@ use Rattle.writer_core.specs.declared.task.Task.{Task}
 use Rattle.writer_core.specs.declared.task.Task.TheVariants as task
 use Rattle.writer_core.specs.Views.{WriterView}
 use Rattle.writer_core.specs.Writer.{writer_stopped}
-use Rattle.name_node.specs.Holding.{Holding, Work, Free, Tails, Logs, Broken, working, at_position}
-use Rattle.name_node.specs.Tails.{TailEnd, Reached, GoesOn, Ends, pass_begun, up_to, after_applied, least_purged, behind_or, pass_end, no_edits, tail_hears}
+use Rattle.name_node.specs.Holding.{Holding, Work, Free, Tails, Logs, Broken, with_work, at_position}
+use Rattle.name_node.specs.Tails.{TailEnd, Reached, GoesOn, Ends, pass_begun, up_to, after_applied, least_purged, after_or, pass_end, no_edits, tail_hears}
 use Rattle.cluster_runner.specs.Safe.{AllOn}
 use Rattle.script_actor.specs.Actor.{Actor, is_entered, not_entered, tail_ended, tail_stepped}
 use Rattle.writer_core.specs.Turns.{IsInRound, aim_of}
@@ -141,35 +141,35 @@ module _ (L : ℕ → List ℕ → Type 0) where
   -- a pass begins
   pub pass_good : (until : Option ℕ) (h : Holding) (a : Actor) → Standing L h → Within until h.position → a.doing ≡ None → has_other a.writer.left ≡ true → TailWriter until a.writer → GoodActor (tail_stepped until (pass_begun until h) a)
   unfolding tail_stepped pass_begun tail_ended
-  pass_good None h a s b idle o w = record { holding = working (Tails None 1 []) h; is = refl; stands = record { held = s.held; images = s.images }; other = o; stage = tails_stage None 1 [] (working (Tails None 1 []) h) a idle w tt }
+  pass_good None h a s b idle o w = record { holding = with_work (Tails None 1 []) h; is = refl; stands = record { held = s.held; images = s.images }; other = o; stage = tails_stage None 1 [] (with_work (Tails None 1 []) h) a idle w tt }
   pass_good (Some last) h a s b idle o w = by (last == h.position) refl
     where
-      by : (x : Bool) → (last == h.position) ≡ x → GoodActor (tail_stepped (Some last) (cond x (Ends Reached (working Free h)) (GoesOn (working (Tails (Some last) 1 []) h))) a)
-      by true is = entered_good last (working Free h) a (record { held = s.held; images = s.images }) (sym (until_is last h.position is)) idle o w
-      by false is = record { holding = working (Tails (Some last) 1 []) h; is = refl; stands = record { held = s.held; images = s.images }; other = o; stage = tails_stage (Some last) 1 [] (working (Tails (Some last) 1 []) h) a idle w b }
+      by : (x : Bool) → (last == h.position) ≡ x → GoodActor (tail_stepped (Some last) (cond x (Ends Reached (with_work Free h)) (GoesOn (with_work (Tails (Some last) 1 []) h))) a)
+      by true is = entered_good last (with_work Free h) a (record { held = s.held; images = s.images }) (sym (until_is last h.position is)) idle o w
+      by false is = record { holding = with_work (Tails (Some last) 1 []) h; is = refl; stands = record { held = s.held; images = s.images }; other = o; stage = tails_stage (Some last) 1 [] (with_work (Tails (Some last) 1 []) h) a idle w b }
 
   -- no node gave edits
-  behind_good : (last : ℕ) (o : Option ℕ) (told : List Heard) (h : Holding) (a : Actor) → Standing L h → h.work ≡ Free → a.doing ≡ None → has_other a.writer.left ≡ true → GoodActor (tail_ended (Some last) (behind_or o told) h a)
+  after_good : (last : ℕ) (o : Option ℕ) (told : List Heard) (h : Holding) (a : Actor) → Standing L h → h.work ≡ Free → a.doing ≡ None → has_other a.writer.left ≡ true → GoodActor (tail_ended (Some last) (after_or o told) h a)
   unfolding tail_ended
-  behind_good last None told h a s free idle o = left_good (behind_or None told) h a s free idle o
-  behind_good last (Some first) told h a s free idle o = left_good (behind_or (Some first) told) h a s free idle o
+  after_good last None told h a s free idle o = left_good (after_or None told) h a s free idle o
+  after_good last (Some first) told h a s free idle o = left_good (after_or (Some first) told) h a s free idle o
 
   end_good : (until : Option ℕ) (told : List Heard) (h : Holding) (a : Actor) → Standing L h → h.work ≡ Free → a.doing ≡ None → has_other a.writer.left ≡ true → TailWriter until a.writer → GoodActor (tail_ended until (pass_end until told) h a)
   unfolding pass_end
   end_good None told h a s free idle o w = said_good (pass_end None told) h a s free idle o w
-  end_good (Some last) told h a s free idle o w = behind_good last (least_purged told) told h a s free idle o
+  end_good (Some last) told h a s free idle o w = after_good last (least_purged told) told h a s free idle o
 
   none_good : (nodes : ℕ) (until : Option ℕ) (node : ℕ) (told : List Heard) (h : Holding) (a : Actor) → Standing L h → Within until h.position → a.doing ≡ None → has_other a.writer.left ≡ true → TailWriter until a.writer
       → GoodActor (tail_stepped until (no_edits nodes until node told h) a)
   unfolding tail_stepped
   none_good nodes until node told h a s b idle o w = by (nat_lt node nodes)
     where
-      here : Standing L (working Free h)
+      here : Standing L (with_work Free h)
       here = record { held = s.held; images = s.images }
 
-      by : (x : Bool) → GoodActor (tail_stepped until (cond x (GoesOn (working (Tails until (node + 1) told) h)) (Ends (pass_end until told) (working Free h))) a)
-      by true = record { holding = working (Tails until (node + 1) told) h; is = refl; stands = record { held = s.held; images = s.images }; other = o; stage = tails_stage until (node + 1) told (working (Tails until (node + 1) told) h) a idle w b }
-      by false = end_good until told (working Free h) a here refl idle o w
+      by : (x : Bool) → GoodActor (tail_stepped until (cond x (GoesOn (with_work (Tails until (node + 1) told) h)) (Ends (pass_end until told) (with_work Free h))) a)
+      by true = record { holding = with_work (Tails until (node + 1) told) h; is = refl; stands = record { held = s.held; images = s.images }; other = o; stage = tails_stage until (node + 1) told (with_work (Tails until (node + 1) told) h) a idle w b }
+      by false = end_good until told (with_work Free h) a here refl idle o w
 
   -- edits were given
   within_more : (until : Option ℕ) (p : ℕ) (bodies : List (List ℕ)) → Within until p → Within until (p + length (up_to until p bodies))

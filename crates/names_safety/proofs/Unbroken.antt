@@ -18,7 +18,7 @@ use Rattle.writer_core.specs.declared.turn.Turn.TheVariants as turn
 use Rattle.writer_core.specs.declared.turn.Outcome.{Outcome as TaskOutcome}
 use Rattle.writer_core.specs.declared.turn.Outcome.TheVariants as outcome
 use Rattle.writer_core.specs.Views.{WriterView}
-use Rattle.writer_core.specs.Rounds.{Judged}
+use Rattle.writer_core.specs.Rounds.{Judgment}
 use Rattle.writer_core.specs.Writer.{is_writing, writer_begun, writer_heard}
 use Rattle.node_history.specs.declared.record.Record.{Record}
 use Rattle.node_history.specs.declared.record.Record.TheVariants.{Call, Late, Operator, Outcome}
@@ -26,18 +26,18 @@ use Rattle.node_history.specs.Entries.{Entry}
 use Rattle.mesh.specs.declared.whole.Mesh.{Mesh}
 use Rattle.mesh.specs.Agree.{operator_of, record_of, ListsAgree}
 use Rattle.mesh.specs.Makers.{heard_of}
-use Rattle.script_actor.specs.Lines.{Deed, Line, Does, DoDrop, DoMute, DoLate, Submits, Trims, DoTail, Saves, Reloads}
-use Rattle.name_node.specs.Holding.{Holding, Work, Free, Tails, Logs, Broken, working, saved, reloaded, min_to_keep, enters}
+use Rattle.script_actor.specs.Lines.{Action, Line, Does, DoDrop, DoMute, DoLate, Submits, Trims, DoTail, Saves, Reloads}
+use Rattle.name_node.specs.Holding.{Holding, Work, Free, Tails, Logs, Broken, with_work, save_image, reload_image, min_to_keep, enters}
 use Rattle.name_node.specs.Tails.{Caught, Reached, PurgedFrom, BehindBy, TailStep, GoesOn, Ends, Breaks, pass_begun, up_to, after_applied, pass_end, no_edits, tail_hears}
-use Rattle.name_node.specs.Submissions.{Submission, submitted, nothing_submitted}
-use Rattle.script_actor.specs.Actor.{Actor, fresh_actor, wants, is_wanting, is_broken_work, is_broken_holding, is_broken, tail_ended, tail_stepped, task_begun, copied, sync_begun, synced, logged_when, trim_at, unless_active, saving, reloading, held_deed, deed_taken, while_wanting, settled, logs_done, task_done, held_turn, turn_with, turn_taken, judged_as, heard_in_work, heard_by, moved_on, resettled, goes_on, IsLed, actor_after}
+use Rattle.name_node.specs.Submissions.{Submission, submit_edits, nothing_submitted}
+use Rattle.script_actor.specs.Actor.{Actor, fresh_actor, wants, is_wanting, is_broken_work, is_broken_holding, is_broken, tail_ended, tail_stepped, task_begun, make_copy, begin_sync, after_sync, logged_when, trim_at, unless_active, begin_save, begin_reload, take_named_action, take_action, while_wanting, settle, logs_done, task_done, held_turn, turn_with, turn_taken, after_judgment, heard_in_work, heard_by, moved_on, settle_again, goes_on, IsLed, actor_after}
 use Rattle.ns_tree.specs.declared.end.End.{End}
 use Rattle.cluster_runner.specs.Follows.{actor_with}
 use Rattle.cluster_runner.specs.Safe.{AllOn}
 use Rattle.names_safety.specs.Linear.{IsLinear, OnLine, IsActor, IsNamed, NoneBreaks}
 use Rattle.names_safety.proofs.Held.{AllOn-append, Held, Standing}
 use Rattle.names_safety.proofs.Stages.{GoodActor, EditsOn, up_to_on}
-use Rattle.names_safety.proofs.Deeds.{reloaded_free}
+use Rattle.names_safety.proofs.Actions.{reloaded_free}
 use Rattle.names_safety.proofs.Keeps.{LearnsIn, Learns, LineLearns}
 use Rattle.names_safety.proofs.Replays.{Walked, walk, line_learns, walked}
 use Rattle.names_safety.proofs.LineLaws.{line_replays}
@@ -48,7 +48,7 @@ Sane o = is_broken_holding o ≡ false
 sane_work : (h : Holding) (x : Work) → h.work ≡ x → is_broken_work x ≡ false → Sane (Some h)
 sane_work h x e s = ap is_broken_work e ∙ s
 
-free_again : (h : Holding) → (reloaded h).work ≡ Free
+free_again : (h : Holding) → (reload_image h).work ≡ Free
 free_again h = reloaded_free (λ t x. ⊥) h
 
 -- ## Steps of a tail that don't break
@@ -62,14 +62,14 @@ unfolding pass_begun
 pass_sane None h = refl
 pass_sane (Some last) h = by (last == h.position)
   where
-    by : (b : Bool) → StepSane (cond b (Ends Reached (working Free h)) (GoesOn (working (Tails (Some last) 1 []) h)))
+    by : (b : Bool) → StepSane (cond b (Ends Reached (with_work Free h)) (GoesOn (with_work (Tails (Some last) 1 []) h)))
     by true = refl
     by false = refl
 
 none_sane : (nodes : ℕ) (until : Option ℕ) (node : ℕ) (told : List Heard) (h : Holding) → StepSane (no_edits nodes until node told h)
 none_sane nodes until node told h = by (nat_lt node nodes)
   where
-    by : (b : Bool) → StepSane (cond b (GoesOn (working (Tails until (node + 1) told) h)) (Ends (pass_end until told) (working Free h)))
+    by : (b : Bool) → StepSane (cond b (GoesOn (with_work (Tails until (node + 1) told) h)) (Ends (pass_end until told) (with_work Free h)))
     by true = refl
     by false = refl
 
@@ -83,25 +83,25 @@ stepped_sane (Some last) (Ends Caught h) a s = s
 stepped_sane (Some last) (Ends (PurgedFrom first) h) a s = s
 stepped_sane (Some last) (Ends (BehindBy causes) h) a s = s
 
--- ## Deeds
+-- ## Actions
 begun_sane : (t : Task) (b : Begun) (w : WriterView) (a : Actor) → Sane a.holds → Sane (task_begun t w a b).holds
 unfolding task_begun
 begun_sane t begun.Going w a s = s
 begun_sane t begun.NotActive w a s = s
 begun_sane t (begun.TooLong number) w a s = s
 
-sync_sane : (b : Begun) (w : WriterView) (x : Submission) (h : Holding) (a : Actor) → Sane a.holds → Sane (sync_begun b w x h a).holds
+sync_sane : (b : Begun) (w : WriterView) (x : Submission) (h : Holding) (a : Actor) → Sane a.holds → Sane (begin_sync b w x h a).holds
 sync_sane begun.Going w x h a s = refl
 sync_sane begun.NotActive w x h a s = s
 sync_sane (begun.TooLong number) w x h a s = s
 
-synced_sane : (bodies : List (List ℕ)) (x : Submission) (h : Holding) (a : Actor) → Sane a.holds → Sane (synced bodies x h a).holds
+synced_sane : (bodies : List (List ℕ)) (x : Submission) (h : Holding) (a : Actor) → Sane a.holds → Sane (after_sync bodies x h a).holds
 synced_sane [] x h a s = s
 synced_sane (b ∷ bs) x h a s = sync_sane (writer_begun a.writer (task.Log x.bodies)).begun (writer_begun a.writer (task.Log x.bodies)).writer x h a s
 
 logged_sane : (b : Bool) (es : List EditView) (h : Holding) (a : Actor) → Sane a.holds → Sane (logged_when b es h a).holds
 unfolding logged_when
-logged_sane true es h a s = synced_sane (submitted a.writer es (nothing_submitted h.space)).bodies (submitted a.writer es (nothing_submitted h.space)) h a s
+logged_sane true es h a s = synced_sane (submit_edits a.writer es (nothing_submitted h.space)).bodies (submit_edits a.writer es (nothing_submitted h.space)) h a s
 logged_sane false es h a s = s
 
 trim_sane : (b : Bool) (min : Option ℕ) (a : Actor) → Sane a.holds → Sane (trim_at b min a).holds
@@ -114,42 +114,42 @@ unless_sane : (b : Bool) (x a : Actor) → Sane x.holds → Sane a.holds → San
 unless_sane true x a q s = s
 unless_sane false x a q s = q
 
-saved_sane : (h : Holding) (a : Actor) → is_broken_work h.work ≡ false → Sane (saving h a).holds
-unfolding saved
+saved_sane : (h : Holding) (a : Actor) → is_broken_work h.work ≡ false → Sane (begin_save h a).holds
+unfolding save_image
 saved_sane h a s = s
 
-held_sane : (d : Deed) (o : Option Holding) (a : Actor) → Sane o → Sane a.holds → Sane (held_deed d o a).holds
-unfolding held_deed
+held_sane : (d : Action) (o : Option Holding) (a : Actor) → Sane o → Sane a.holds → Sane (take_named_action d o a).holds
+unfolding take_named_action
 held_sane (Submits es) (Some h) a q s = logged_sane (is_writing a.writer.phase) es h a s
 held_sane (Trims extra) (Some h) a q s = trim_sane (is_writing a.writer.phase) (min_to_keep extra h.images) a s
 held_sane DoTail (Some h) a q s = unless_sane (is_writing a.writer.phase) (tail_stepped None (pass_begun None h) a) a (stepped_sane None (pass_begun None h) a (pass_sane None h)) s
-held_sane Saves (Some h) a q s = unless_sane (is_writing a.writer.phase) (saving h a) a (saved_sane h a q) s
-held_sane Reloads (Some h) a q s = unless_sane (is_writing a.writer.phase) (reloading h a) a (sane_work (reloaded h) Free (free_again h) refl) s
+held_sane Saves (Some h) a q s = unless_sane (is_writing a.writer.phase) (begin_save h a) a (saved_sane h a q) s
+held_sane Reloads (Some h) a q s = unless_sane (is_writing a.writer.phase) (begin_reload h a) a (sane_work (reload_image h) Free (free_again h) refl) s
 held_sane d o a q s = s
 
-copied_sane : (node call : ℕ) (o : Option Request) (a : Actor) → Sane a.holds → Sane (copied node call o a).holds
-unfolding copied
+copied_sane : (node call : ℕ) (o : Option Request) (a : Actor) → Sane a.holds → Sane (make_copy node call o a).holds
+unfolding make_copy
 copied_sane node call None a s = s
 copied_sane node call (Some r) a s = s
 
-deed_sane : (d : Deed) (a : Actor) → Sane a.holds → Sane (deed_taken d a).holds
-unfolding deed_taken
-deed_sane (Does t) a s = begun_sane t (writer_begun a.writer t).begun (writer_begun a.writer t).writer a s
-deed_sane (DoDrop node call) a s = s
-deed_sane (DoMute node call) a s = s
-deed_sane (DoLate node call) a s = copied_sane node call _ a s
-deed_sane (Submits es) a s = held_sane (Submits es) a.holds a s s
-deed_sane (Trims extra) a s = held_sane (Trims extra) a.holds a s s
-deed_sane DoTail a s = held_sane DoTail a.holds a s s
-deed_sane Saves a s = held_sane Saves a.holds a s s
-deed_sane Reloads a s = held_sane Reloads a.holds a s s
+action_sane : (d : Action) (a : Actor) → Sane a.holds → Sane (take_action d a).holds
+unfolding take_action
+action_sane (Does t) a s = begun_sane t (writer_begun a.writer t).begun (writer_begun a.writer t).writer a s
+action_sane (DoDrop node call) a s = s
+action_sane (DoMute node call) a s = s
+action_sane (DoLate node call) a s = copied_sane node call _ a s
+action_sane (Submits es) a s = held_sane (Submits es) a.holds a s s
+action_sane (Trims extra) a s = held_sane (Trims extra) a.holds a s s
+action_sane DoTail a s = held_sane DoTail a.holds a s s
+action_sane Saves a s = held_sane Saves a.holds a s s
+action_sane Reloads a s = held_sane Reloads a.holds a s s
 
-settled_sane : (ds : List Deed) (a : Actor) → Sane a.holds → Sane (settled ds a).holds
-unfolding settled
+settled_sane : (ds : List Action) (a : Actor) → Sane a.holds → Sane (settle ds a).holds
+unfolding settle
 settled_sane [] a s = s
-settled_sane (d ∷ ds) a s = by (is_wanting (wants a) || is_broken a) (settled_sane ds (deed_taken d a) (deed_sane d a s))
+settled_sane (d ∷ ds) a s = by (is_wanting (wants a) || is_broken a) (settled_sane ds (take_action d a) (action_sane d a s))
   where
-    by : (b : Bool) → Sane (settled ds (deed_taken d a)).holds → Sane (cond b (record a { todo = while_wanting (is_wanting (wants a)) (d ∷ ds) }) (settled ds (deed_taken d a))).holds
+    by : (b : Bool) → Sane (settle ds (take_action d a)).holds → Sane (cond b (record a { todo = while_wanting (is_wanting (wants a)) (d ∷ ds) }) (settle ds (take_action d a))).holds
     by true q = s
     by false q = q
 
@@ -172,7 +172,7 @@ turned_sane : (tn : Turn) (t : Task) (h : Holding) (a : Actor) → Sane a.holds 
 unfolding held_turn
 turned_sane turn.Going t h a s = s
 turned_sane (turn.Done o) t h a s = done_sane o t h a s
-turned_sane turn.Aborted t h a s = sane_work (reloaded h) Free (free_again h) refl
+turned_sane turn.Aborted t h a s = sane_work (reload_image h) Free (free_again h) refl
 turned_sane (turn.EpochLimit told) t h a s = s
 
 with_sane : (o : Option Holding) (tn : Turn) (t : Task) (a : Actor) → Sane a.holds → Sane (turn_with o tn t a).holds
@@ -190,7 +190,7 @@ taken_sane (turn.Done o) (Some t) a s = with_sane a.holds (turn.Done o) t (recor
 taken_sane turn.Aborted (Some t) a s = with_sane a.holds turn.Aborted t (record a { doing = None }) s
 taken_sane (turn.EpochLimit told) (Some t) a s = with_sane a.holds (turn.EpochLimit told) t (record a { doing = None }) s
 
-judged_sane : (j : Judged) (a : Actor) → Sane a.holds → Sane (judged_as j a).holds
+judged_sane : (j : Judgment) (a : Actor) → Sane a.holds → Sane (after_judgment j a).holds
 judged_sane j a s = taken_sane j.turn a.doing (record a { writer = j.writer }) s
 
 -- ## What a read gives
@@ -198,7 +198,7 @@ module _ (m : Mesh) (entries : List Entry) (lines : List Line) (last : List End)
   abbrev L : ℕ → List ℕ → Type 0
   L = OnLine m entries
 
-  -- what stands on the line behind a replay of it goes on
+  -- what stands on the line after a replay of it goes on
   goes_with : (p : ℕ) (s : Space) (bodies : List (List ℕ)) → Held L p s → AllOn L p bodies → replay_from p bodies s ≡ None → ⊥
   goes_with p s bodies h on none =
       none≢some r.0
@@ -248,7 +248,7 @@ module _ (m : Mesh) (entries : List Entry) (lines : List Line) (last : List End)
   moved_sane (Outcome text) a g s l = s
 
   goes_sane : (a : Actor) (r : Record) → GoodActor L a → Sane a.holds → LineLearns L a r → Sane (goes_on a r).holds
-  unfolding goes_on resettled
+  unfolding goes_on settle_again
   goes_sane a r g s l =
       let b : Actor = record a { past = a.past ++ r ∷ [] } in
       settled_sane (moved_on r b).todo (moved_on r b) (moved_sane r b g s (learns r l))
@@ -276,10 +276,10 @@ module _ (m : Mesh) (entries : List Entry) (lines : List Line) (last : List End)
     unfolding is_broken
     none_breaks_here a x =
         subst (λ (z : Actor). Sane z.holds) (sym x.is)
-        (sane_along [] x.before x.after (actor_with true m.nodes x.deeds) x.record_is begun (settled_sane x.deeds (fresh_actor true m.nodes) (fresh_sane m.nodes)) x.led)
+        (sane_along [] x.before x.after (actor_with true m.nodes x.actions) x.record_is begun (settled_sane x.actions (fresh_actor true m.nodes) (fresh_sane m.nodes)) x.led)
       where
-        begun : Walked m entries lists lin c below [] (actor_with true m.nodes x.deeds)
-        begun = walked m entries lists lin c below (actor_with true m.nodes x.deeds) (record { some = x.some; deeds = x.deeds; are_deeds = x.are_deeds; before = []; after = record_of m c; record_is = refl; led = subst (λ (l : List Record). IsLed (actor_with true m.nodes x.deeds) l) (sym x.record_is) x.led; is = after_none (actor_with true m.nodes x.deeds) })
+        begun : Walked m entries lists lin c below [] (actor_with true m.nodes x.actions)
+        begun = walked m entries lists lin c below (actor_with true m.nodes x.actions) (record { some = x.some; actions = x.actions; are_actions = x.are_actions; before = []; after = record_of m c; record_is = refl; led = subst (λ (l : List Record). IsLed (actor_with true m.nodes x.actions) l) (sym x.record_is) x.led; is = after_none (actor_with true m.nodes x.actions) })
           where
             after_none : (z : Actor) → z ≡ actor_after z []
             after_none z = unfold actor_after in refl

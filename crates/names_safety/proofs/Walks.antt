@@ -12,7 +12,7 @@ use Rattle.writer_core.specs.declared.turn.Turn.TheVariants as turn
 use Rattle.writer_core.specs.declared.turn.Outcome.{Outcome as TaskOutcome}
 use Rattle.writer_core.specs.declared.turn.Outcome.TheVariants as outcome
 use Rattle.writer_core.specs.Views.{WriterView}
-use Rattle.writer_core.specs.Rounds.{Judged}
+use Rattle.writer_core.specs.Rounds.{Judgment}
 use Rattle.writer_core.specs.Writer.{is_writing, writer_begun, next_call, writer_heard, writer_stopped}
 use Rattle.node_history.specs.declared.record.Record.{Record}
 use Rattle.node_history.specs.declared.record.Record.TheVariants.{Call, Late, Operator, Outcome}
@@ -20,14 +20,14 @@ use Rattle.node_history.specs.declared.record.Told.{Told}
 use Rattle.mesh.specs.Makers.{heard_of}
 use Rattle.run_safety.specs.Sized.{Sized}
 use Rattle.run_safety.proofs.WriterRange.{heard_sized, begun_sized, call_within}
-use Rattle.script_actor.specs.Lines.{Deed, Does, DoDrop, DoMute, DoLate, Submits, Trims, DoTail, Saves, Reloads}
+use Rattle.script_actor.specs.Lines.{Action, Does, DoDrop, DoMute, DoLate, Submits, Trims, DoTail, Saves, Reloads}
 use Rattle.name_node.specs.Holding.{Holding, Work, Free, Tails, Logs, Broken, min_to_keep, enters}
 use Rattle.name_node.specs.Tails.{TailEnd, Caught, Reached, PurgedFrom, BehindBy, TailStep, GoesOn, Ends, Breaks, pass_begun, tail_hears}
-use Rattle.name_node.specs.Submissions.{Submission, submitted, nothing_submitted}
-use Rattle.script_actor.specs.Actor.{Actor, Want, call_wanted, work_read, read_first, copy_first, says_first, wants, is_wanting, is_broken, tail_ended, tail_stepped, task_begun, copied, sync_begun, synced, logged_when, trim_at, unless_active, saving, reloading, held_deed, deed_taken, while_wanting, settled, logs_done, task_done, held_turn, turn_with, turn_taken, judged_as, heard_in_work, heard_by, moved_on, resettled, goes_on, Fits}
+use Rattle.name_node.specs.Submissions.{Submission, submit_edits, nothing_submitted}
+use Rattle.script_actor.specs.Actor.{Actor, Want, call_wanted, work_read, read_first, copy_first, say_first, wants, is_wanting, is_broken, tail_ended, tail_stepped, task_begun, make_copy, begin_sync, after_sync, logged_when, trim_at, unless_active, begin_save, begin_reload, take_named_action, take_action, while_wanting, settle, logs_done, task_done, held_turn, turn_with, turn_taken, after_judgment, heard_in_work, heard_by, moved_on, settle_again, goes_on, Fits}
 use Rattle.names_safety.proofs.Oks.{Oks, heard_oks, Oks-more, begun_oks}
 
--- ## The writer of an actor: what its deeds and tails make of it
+-- ## The writer of an actor: what its actions and tails make of it
 pub record Closed (P : WriterView → Type 0) : Type 0 where
   pub begun : (w : WriterView) (t : Task) → P w → P (writer_begun w t).writer
   pub stop : (w : WriterView) → P w → P (writer_stopped w)
@@ -53,18 +53,18 @@ module _ (P : WriterView → Type 0) (closed : Closed P) where
   begun_writer t begun.NotActive a p = p
   begun_writer t (begun.TooLong number) a p = p
 
-  sync_writer : (b : Begun) (x : Submission) (h : Holding) (a : Actor) → P a.writer → P (sync_begun b (writer_begun a.writer (task.Log x.bodies)).writer x h a).writer
+  sync_writer : (b : Begun) (x : Submission) (h : Holding) (a : Actor) → P a.writer → P (begin_sync b (writer_begun a.writer (task.Log x.bodies)).writer x h a).writer
   sync_writer begun.Going x h a p = closed.begun a.writer (task.Log x.bodies) p
   sync_writer begun.NotActive x h a p = p
   sync_writer (begun.TooLong number) x h a p = p
 
-  synced_writer : (bodies : List (List ℕ)) (x : Submission) (h : Holding) (a : Actor) → P a.writer → P (synced bodies x h a).writer
+  synced_writer : (bodies : List (List ℕ)) (x : Submission) (h : Holding) (a : Actor) → P a.writer → P (after_sync bodies x h a).writer
   synced_writer [] x h a p = p
   synced_writer (b ∷ bs) x h a p = sync_writer (writer_begun a.writer (task.Log x.bodies)).begun x h a p
 
   logged_writer : (b : Bool) (es : List EditView) (h : Holding) (a : Actor) → P a.writer → P (logged_when b es h a).writer
   unfolding logged_when
-  logged_writer true es h a p = synced_writer (submitted a.writer es (nothing_submitted h.space)).bodies (submitted a.writer es (nothing_submitted h.space)) h a p
+  logged_writer true es h a p = synced_writer (submit_edits a.writer es (nothing_submitted h.space)).bodies (submit_edits a.writer es (nothing_submitted h.space)) h a p
   logged_writer false es h a p = p
 
   trim_writer : (b : Bool) (min : Option ℕ) (a : Actor) → P a.writer → P (trim_at b min a).writer
@@ -77,38 +77,38 @@ module _ (P : WriterView → Type 0) (closed : Closed P) where
   unless_writer true x a q p = p
   unless_writer false x a q p = q
 
-  held_writer : (d : Deed) (o : Option Holding) (a : Actor) → P a.writer → P (held_deed d o a).writer
-  unfolding held_deed
+  held_writer : (d : Action) (o : Option Holding) (a : Actor) → P a.writer → P (take_named_action d o a).writer
+  unfolding take_named_action
   held_writer (Submits es) (Some h) a p = logged_writer (is_writing a.writer.phase) es h a p
   held_writer (Trims extra) (Some h) a p = trim_writer (is_writing a.writer.phase) (min_to_keep extra h.images) a p
   held_writer DoTail (Some h) a p = unless_writer (is_writing a.writer.phase) (tail_stepped None (pass_begun None h) a) a (tail_writer None (pass_begun None h) a p) p
-  held_writer Saves (Some h) a p = unless_writer (is_writing a.writer.phase) (saving h a) a p p
-  held_writer Reloads (Some h) a p = unless_writer (is_writing a.writer.phase) (reloading h a) a p p
+  held_writer Saves (Some h) a p = unless_writer (is_writing a.writer.phase) (begin_save h a) a p p
+  held_writer Reloads (Some h) a p = unless_writer (is_writing a.writer.phase) (begin_reload h a) a p p
   held_writer d o a p = p
 
-  copied_writer : (node call : ℕ) (o : Option Request) (a : Actor) → P a.writer → P (copied node call o a).writer
-  unfolding copied
+  copied_writer : (node call : ℕ) (o : Option Request) (a : Actor) → P a.writer → P (make_copy node call o a).writer
+  unfolding make_copy
   copied_writer node call None a p = p
   copied_writer node call (Some r) a p = p
 
-  deed_writer : (d : Deed) (a : Actor) → P a.writer → P (deed_taken d a).writer
-  unfolding deed_taken
-  deed_writer (Does t) a p = begun_writer t (writer_begun a.writer t).begun a p
-  deed_writer (DoDrop node call) a p = p
-  deed_writer (DoMute node call) a p = p
-  deed_writer (DoLate node call) a p = copied_writer node call _ a p
-  deed_writer (Submits es) a p = held_writer (Submits es) a.holds a p
-  deed_writer (Trims extra) a p = held_writer (Trims extra) a.holds a p
-  deed_writer DoTail a p = held_writer DoTail a.holds a p
-  deed_writer Saves a p = held_writer Saves a.holds a p
-  deed_writer Reloads a p = held_writer Reloads a.holds a p
+  action_writer : (d : Action) (a : Actor) → P a.writer → P (take_action d a).writer
+  unfolding take_action
+  action_writer (Does t) a p = begun_writer t (writer_begun a.writer t).begun a p
+  action_writer (DoDrop node call) a p = p
+  action_writer (DoMute node call) a p = p
+  action_writer (DoLate node call) a p = copied_writer node call _ a p
+  action_writer (Submits es) a p = held_writer (Submits es) a.holds a p
+  action_writer (Trims extra) a p = held_writer (Trims extra) a.holds a p
+  action_writer DoTail a p = held_writer DoTail a.holds a p
+  action_writer Saves a p = held_writer Saves a.holds a p
+  action_writer Reloads a p = held_writer Reloads a.holds a p
 
-  pub settled_writer : (ds : List Deed) (a : Actor) → P a.writer → P (settled ds a).writer
-  unfolding settled
+  pub settled_writer : (ds : List Action) (a : Actor) → P a.writer → P (settle ds a).writer
+  unfolding settle
   settled_writer [] a p = p
-  settled_writer (d ∷ ds) a p = by (is_wanting (wants a) || is_broken a) (settled_writer ds (deed_taken d a) (deed_writer d a p))
+  settled_writer (d ∷ ds) a p = by (is_wanting (wants a) || is_broken a) (settled_writer ds (take_action d a) (action_writer d a p))
     where
-      by : (b : Bool) → P (settled ds (deed_taken d a)).writer → P (cond b (record a { todo = while_wanting (is_wanting (wants a)) (d ∷ ds) }) (settled ds (deed_taken d a))).writer
+      by : (b : Bool) → P (settle ds (take_action d a)).writer → P (cond b (record a { todo = while_wanting (is_wanting (wants a)) (d ∷ ds) }) (settle ds (take_action d a))).writer
       by true q = p
       by false q = q
 
@@ -149,13 +149,13 @@ module _ (P : WriterView → Type 0) (closed : Closed P) where
   taken_writer turn.Aborted (Some t) a p = with_writer a.holds turn.Aborted t (record a { doing = None }) p
   taken_writer (turn.EpochLimit told) (Some t) a p = with_writer a.holds (turn.EpochLimit told) t (record a { doing = None }) p
 
-  pub judged_writer : (j : Judged) (a : Actor) → P j.writer → P (judged_as j a).writer
+  pub judged_writer : (j : Judgment) (a : Actor) → P j.writer → P (after_judgment j a).writer
   judged_writer j a p = taken_writer j.turn a.doing (record a { writer = j.writer }) p
 
 -- ## What a call answers to
--- it is what was wanted behind results and copies
-fits_read : (s : List (List ℕ)) (c : Option (ℕ × Request)) (w : Want) (k : ℕ) (q : Request) (t : Told) → Fits (says_first s (copy_first c w)) (Call k q t) → Fits w (Call k q t)
-unfolding Fits says_first copy_first
+-- it is what was wanted after results and copies
+fits_read : (s : List (List ℕ)) (c : Option (ℕ × Request)) (w : Want) (k : ℕ) (q : Request) (t : Told) → Fits (say_first s (copy_first c w)) (Call k q t) → Fits w (Call k q t)
+unfolding Fits say_first copy_first
 fits_read [] None w k q t f = f
 fits_read [] (Some c) w k q t f = absurd f
 fits_read (x ∷ s) c w k q t f = absurd f
@@ -186,7 +186,7 @@ both_closed n rs = record {
 both_more : (n : ℕ) (rs more : List Record) (w : WriterView) → Both n rs w → Both n (rs ++ more) w
 both_more n rs more w b = record { oks = Oks-more rs more w b.oks; sized = b.sized }
 
-hears_judged : (n : ℕ) (rs : List Record) (a : Actor) (k : ℕ) (q : Request) (t : Told) → Both n rs a.writer → next_call a.writer ≡ Some (k, q) → Both n (rs ++ Call k q t ∷ []) (judged_as (writer_heard a.writer k (heard_of t)) a).writer
+hears_judged : (n : ℕ) (rs : List Record) (a : Actor) (k : ℕ) (q : Request) (t : Told) → Both n rs a.writer → next_call a.writer ≡ Some (k, q) → Both n (rs ++ Call k q t ∷ []) (after_judgment (writer_heard a.writer k (heard_of t)) a).writer
 hears_judged n rs a k q t b next =
     judged_writer (Both n (rs ++ Call k q t ∷ [])) (both_closed n (rs ++ Call k q t ∷ [])) (writer_heard a.writer k (heard_of t)) a
     (record { oks = heard_oks rs a.writer k q t next (call_within n a.writer k q b.sized next).0 b.oks; sized = heard_sized n a.writer k (heard_of t) b.sized })
@@ -216,7 +216,7 @@ unfolding wants
 same_wants a rs = refl
 
 pub goes_writer : (n : ℕ) (rs : List Record) (a : Actor) (r : Record) → Both n rs a.writer → Fits (wants a) r → Both n (rs ++ r ∷ []) (goes_on a r).writer
-unfolding goes_on resettled
+unfolding goes_on settle_again
 goes_writer n rs a r b f =
     let x : Actor = record a { past = a.past ++ r ∷ [] } in
     settled_writer (Both n (rs ++ r ∷ [])) (both_closed n (rs ++ r ∷ [])) (moved_on r x).todo (moved_on r x)

@@ -1,4 +1,4 @@
--- Where a writer stands while it does a task, behind so many entries of the line: which entries each round of a task follows, and what an
+-- Where a writer stands while it does a task, after so many entries of the line: which entries each round of a task follows, and what an
 -- outcome leaves. The line is any list of entries on which each journal round that is done puts its bodies.
 use Rattle.std.proofs.Common.{◌≡◌, ℕ, ◌+◌, ◌-◌, List, [], ◌∷◌, ◌++◌, Bool, true, false, cond, refl, sym, ap, subst, arith, length, take}
 use Rattle.std.specs.Prelude.{Option, Some, None, ◌&&◌, nat_lt}
@@ -21,14 +21,14 @@ use Rattle.writer_core.specs.declared.turn.Outcome.TheVariants as outcome
 use Rattle.writer_core.specs.Views.{WriterView}
 use Rattle.writer_core.specs.Answers.{is_waiting, has_majority, fits_edits}
 use Rattle.writer_core.specs.Best.{Best, best_of, greatest_promise, greatest_newest}
-use Rattle.writer_core.specs.Rounds.{numbers_fit, Judged, going, stopped, done_in, with_causes, judged_by, judged, fetched, proposing, after_propose, recovering, after_finalize, after_open, after_write, edits_fetched, not_fetched, taken_out, next_serial, missed, asking_all, batch_from, end_record}
-use Rattle.writer_core.specs.Writer.{with_answer, judged_when, heard_in, heard_at, writer_heard}
+use Rattle.writer_core.specs.Rounds.{numbers_fit, Judgment, keep_going, stops_with, after_round, with_causes, judgment_by, judgment, after_fetch, begin_propose, after_propose, begin_recovery, after_finalize, after_open, after_write, after_edits, after_no_edits, without_answer_of, next_serial, left_out_after, asks_all, batch_from, end_record}
+use Rattle.writer_core.specs.Writer.{with_answer, judgment_when, heard_in, heard_at, writer_heard}
 use Rattle.cluster_runner.specs.Safe.{AllOn}
 use Rattle.writer_core.specs.Turns.{Suits, IsInRound}
 use Rattle.cluster_runner.proofs.WriterTurns.{Course, InCourse}
 
 module _ (L : ℕ → List ℕ → Type 0) where
-  -- ## Behind p entries of the line
+  -- ## After p entries of the line
   abbrev pub RoundPlace : ℕ → Aim → Round → WriterView → Type 0
   RoundPlace p aim.Takeover r w = Unit {0}
   RoundPlace p aim.Log r w = w.next ≡ p + 1
@@ -67,7 +67,7 @@ module _ (L : ℕ → List ℕ → Type 0) where
   TurnPlace p bodies a turn.Aborted w = w.phase ≡ phase.Stopped
   TurnPlace p bodies a (turn.EpochLimit told) w = w.phase ≡ phase.Stopped
 
-  abbrev pub JudgedPlace : ℕ → List (List ℕ) → Aim → Judged → Type 0
+  abbrev pub JudgedPlace : ℕ → List (List ℕ) → Aim → Judgment → Type 0
   JudgedPlace p bodies a j = TurnPlace p bodies a j.turn j.writer
 
   -- ## What a journal round puts on the line once it is done
@@ -83,22 +83,22 @@ module _ (L : ℕ → List ℕ → Type 0) where
   HearsAt _ w node heard = Unit {0}
 
   -- ## A round that was done
-  state_place : (p : ℕ) (bodies : List (List ℕ)) (b : Bool) (told : ℕ) (w : WriterView) → JudgedPlace p bodies aim.Takeover (cond b (going (proposing told w)) (stopped (turn.EpochLimit told) w))
+  state_place : (p : ℕ) (bodies : List (List ℕ)) (b : Bool) (told : ℕ) (w : WriterView) → JudgedPlace p bodies aim.Takeover (cond b (keep_going (begin_propose told w)) (stops_with (turn.EpochLimit told) w))
   state_place p bodies true told w = (tt, tt)
   state_place p bodies false told w = refl
 
-  propose_place : (p : ℕ) (bodies : List (List ℕ)) (o : Option ℕ) (w : WriterView) → JudgedPlace p bodies aim.Takeover (going (after_propose o w))
+  propose_place : (p : ℕ) (bodies : List (List ℕ)) (o : Option ℕ) (w : WriterView) → JudgedPlace p bodies aim.Takeover (keep_going (after_propose o w))
   propose_place p bodies None w = (tt, tt)
   propose_place p bodies (Some start) w = (tt, tt)
 
-  recovering_place : (p : ℕ) (bodies : List (List ℕ)) (start : ℕ) (o : Option Best) (w : WriterView) → JudgedPlace p bodies aim.Takeover (going (recovering start o w))
+  recovering_place : (p : ℕ) (bodies : List (List ℕ)) (start : ℕ) (o : Option Best) (w : WriterView) → JudgedPlace p bodies aim.Takeover (keep_going (begin_recovery start o w))
   recovering_place p bodies start None w = (tt, tt)
   recovering_place p bodies start (Some b) w = (tt, tt)
 
-  by_aim : (p : ℕ) (bodies : List (List ℕ)) (a : Aim) (w : WriterView) (f : Aim → Judged) → w.aim ≡ a → JudgedPlace p bodies a (f a) → JudgedPlace p bodies a (f w.aim)
+  by_aim : (p : ℕ) (bodies : List (List ℕ)) (a : Aim) (w : WriterView) (f : Aim → Judgment) → w.aim ≡ a → JudgedPlace p bodies a (f a) → JudgedPlace p bodies a (f w.aim)
   by_aim p bodies a w f e h = subst (λ (x : Aim). JudgedPlace p bodies a (f x)) (sym e) h
 
-  done_place : (p : ℕ) (bodies : List (List ℕ)) (a : Aim) (r : Round) (w : WriterView) → w.aim ≡ a → Suits a r → IsLogOf bodies a r → RoundPlace p a r w → DoneOn r w → JudgedPlace p bodies a (done_in r w)
+  done_place : (p : ℕ) (bodies : List (List ℕ)) (a : Aim) (r : Round) (w : WriterView) → w.aim ≡ a → Suits a r → IsLogOf bodies a r → RoundPlace p a r w → DoneOn r w → JudgedPlace p bodies a (after_round r w)
   done_place p bodies aim.Takeover round.State w e s l pl d = state_place p bodies (nat_lt (greatest_promise w.slots) max_number) (greatest_promise w.slots) w
   done_place p bodies aim.Takeover round.Propose w e s l pl d = propose_place p bodies (greatest_newest w.slots) (next_serial w)
   done_place p bodies aim.Takeover (round.Prepare start) w e s l pl d = recovering_place p bodies start (best_of start w.slots) (next_serial w)
@@ -107,38 +107,38 @@ module _ (L : ℕ → List ℕ → Type 0) where
   done_place p bodies aim.Takeover (round.Finalize start end) w e s l pl d = by_aim p bodies aim.Takeover w (λ x. after_finalize x end (next_serial w)) e (tt, tt)
   done_place p bodies aim.Takeover round.Start w e s l pl d = (tt, tt)
   done_place p bodies aim.Takeover round.Open w e s l pl d =
-      by_aim p bodies aim.Takeover w (λ x. after_open x (record (next_serial w) { committed = w.start; next = w.start + 1; left = missed round.Open w.slots })) e (refl, refl, refl, d)
+      by_aim p bodies aim.Takeover w (λ x. after_open x (record (next_serial w) { committed = w.start; next = w.start + 1; left = left_out_after round.Open w.slots })) e (refl, refl, refl, d)
   done_place p bodies aim.Log (round.Write b) w e s l pl d =
       let last : ℕ = w.next + length b - 1 in
       let same : length b ≡ length bodies = ap (λ (z : List (List ℕ)). length z) l in
       let at : last ≡ p + length bodies = omega (arith, pl, same) in
-      by_aim p bodies aim.Log w (λ x. after_write x w.next last (record (next_serial w) { committed = last; next = last + 1; left = missed (round.Write b) w.slots })) e
+      by_aim p bodies aim.Log w (λ x. after_write x w.next last (record (next_serial w) { committed = last; next = last + 1; left = left_out_after (round.Write b) w.slots })) e
       (refl, refl, at, subst (λ (z : List (List ℕ)). AllOn L p z) l (d p pl))
   done_place p bodies aim.Roll (round.Write b) w e s l pl d =
       let last : ℕ = w.next + length b - 1 in
       let one : length b ≡ 1 = ap (λ (z : List (List ℕ)). length z) pl.0 in
       let at : last ≡ p + 1 = omega (arith, pl.1, one) in
-      by_aim p bodies aim.Roll w (λ x. after_write x w.next last (record (next_serial w) { committed = last; next = last + 1; left = missed (round.Write b) w.slots })) e
+      by_aim p bodies aim.Roll w (λ x. after_write x w.next last (record (next_serial w) { committed = last; next = last + 1; left = left_out_after (round.Write b) w.slots })) e
       ((at, (subst (λ (z : List (List ℕ)). AllOn L p z) pl.0 (d p pl.1)).0), tt)
   done_place p bodies aim.Roll (round.Finalize start end) w e s l pl d =
       let at : end + 1 ≡ p + 2 = omega (arith, pl.0) in
       by_aim p bodies aim.Roll w (λ x. after_finalize x end (next_serial w)) e ((at, pl.1), tt)
   done_place p bodies aim.Roll round.Start w e s l pl d = (pl, tt)
   done_place p bodies aim.Roll round.Open w e s l pl d =
-      by_aim p bodies aim.Roll w (λ x. after_open x (record (next_serial w) { committed = w.start; next = w.start + 1; left = missed round.Open w.slots })) e
+      by_aim p bodies aim.Roll w (λ x. after_open x (record (next_serial w) { committed = w.start; next = w.start + 1; left = left_out_after round.Open w.slots })) e
       (refl, refl, pl.0, pl.1, subst (λ (t : ℕ). L t (24 ∷ [])) pl.0 d)
   done_place p bodies aim.Close (round.Write b) w e s l pl d =
       let last : ℕ = w.next + length b - 1 in
       let one : length b ≡ 1 = ap (λ (z : List (List ℕ)). length z) pl.0 in
       let at : last ≡ p + 1 = omega (arith, pl.1, one) in
-      by_aim p bodies aim.Close w (λ x. after_write x w.next last (record (next_serial w) { committed = last; next = last + 1; left = missed (round.Write b) w.slots })) e
+      by_aim p bodies aim.Close w (λ x. after_write x w.next last (record (next_serial w) { committed = last; next = last + 1; left = left_out_after (round.Write b) w.slots })) e
       ((at, (subst (λ (z : List (List ℕ)). AllOn L p z) pl.0 (d p pl.1)).0), tt)
   done_place p bodies aim.Close (round.Finalize start end) w e s l pl d = by_aim p bodies aim.Close w (λ x. after_finalize x end (next_serial w)) e (refl, pl.0, pl.1)
   done_place p bodies aim.Purge (round.Purge min) w e s l pl d = (refl, pl)
   done_place p bodies _ _ w e s l pl d = absurd s
 
   -- ## A round that was heard whole
-  judged_place : (p : ℕ) (bodies : List (List ℕ)) (a : Aim) (b : Bool) (r : Round) (w : WriterView) → w.aim ≡ a → Suits a r → IsLogOf bodies a r → RoundPlace p a r w → (b ≡ true → DoneOn r w) → JudgedPlace p bodies a (judged_by b r w)
+  judged_place : (p : ℕ) (bodies : List (List ℕ)) (a : Aim) (b : Bool) (r : Round) (w : WriterView) → w.aim ≡ a → Suits a r → IsLogOf bodies a r → RoundPlace p a r w → (b ≡ true → DoneOn r w) → JudgedPlace p bodies a (judgment_by b r w)
   judged_place p bodies a true r w e s l pl d = done_place p bodies a r (with_causes r w) e s l (causes_place p a r w pl) (causes_done r w (d refl))
     where
       causes_place : (p : ℕ) (a : Aim) (r : Round) (w : WriterView) → RoundPlace p a r w → RoundPlace p a r (with_causes r w)
@@ -180,8 +180,8 @@ module _ (L : ℕ → List ℕ → Type 0) where
   other_done _ w node heard h = tt
 
   round_place : (p : ℕ) (bodies : List (List ℕ)) (a : Aim) (b : Bool) (r : Round) (w : WriterView) (node : ℕ) (heard : Heard) → list_any is_waiting (with_answer w node heard).slots ≡ b
-      → w.aim ≡ a → w.phase ≡ phase.InRound r → Suits a r → IsLogOf bodies a r → RoundPlace p a r w → HearsAt (phase.InRound r) w node heard → JudgedPlace p bodies a (judged_when b r (with_answer w node heard))
-  unfolding judged
+      → w.aim ≡ a → w.phase ≡ phase.InRound r → Suits a r → IsLogOf bodies a r → RoundPlace p a r w → HearsAt (phase.InRound r) w node heard → JudgedPlace p bodies a (judgment_when b r (with_answer w node heard))
+  unfolding judgment
   round_place p bodies a true r w node heard is e same s l pl d = (subst (λ (x : Phase). PhasePlace p a x (with_answer w node heard)) (sym same) (other_slots p a r w node heard pl), subst (λ (x : Phase). IsLogIn bodies a x) (sym same) l)
   round_place p bodies a false r w node heard is e same s l pl d =
       let v : WriterView = with_answer w node heard in
@@ -190,22 +190,22 @@ module _ (L : ℕ → List ℕ → Type 0) where
 
   -- ## A piece that was fetched: a takeover goes on, or is aborted
   pieced_place : (p : ℕ) (bodies : List (List ℕ)) (b : Bool) (node start end : ℕ) (more : List (List ℕ)) (w : WriterView)
-      → JudgedPlace p bodies aim.Takeover (going (cond b (asking_all (round.Accept (batch_from start more)) w) (record w { phase = phase.InRound (round.Fetch node start end more) })))
+      → JudgedPlace p bodies aim.Takeover (keep_going (cond b (asks_all (round.Accept (batch_from start more)) w) (record w { phase = phase.InRound (round.Fetch node start end more) })))
   pieced_place p bodies true node start end more w = (tt, tt)
   pieced_place p bodies false node start end more w = (tt, tt)
 
-  missing_place : (p : ℕ) (bodies : List (List ℕ)) (node start : ℕ) (heard : Heard) (w : WriterView) → w.aim ≡ aim.Takeover → JudgedPlace p bodies aim.Takeover (not_fetched node start heard w)
+  missing_place : (p : ℕ) (bodies : List (List ℕ)) (node start : ℕ) (heard : Heard) (w : WriterView) → w.aim ≡ aim.Takeover → JudgedPlace p bodies aim.Takeover (after_no_edits node start heard w)
   missing_place p bodies node start heard w e =
-      judged_place p bodies aim.Takeover (has_majority (round.Prepare start) (taken_out node heard w).slots) (round.Prepare start) (taken_out node heard w) e tt tt tt (λ t. tt)
+      judged_place p bodies aim.Takeover (has_majority (round.Prepare start) (without_answer_of node heard w).slots) (round.Prepare start) (without_answer_of node heard w) e tt tt tt (λ t. tt)
 
-  edits_place : (p : ℕ) (bodies : List (List ℕ)) (b : Bool) (node start end : ℕ) (had : List (List ℕ)) (batch : BatchView) (w : WriterView) → w.aim ≡ aim.Takeover → JudgedPlace p bodies aim.Takeover (edits_fetched b node start end had batch w)
+  edits_place : (p : ℕ) (bodies : List (List ℕ)) (b : Bool) (node start end : ℕ) (had : List (List ℕ)) (batch : BatchView) (w : WriterView) → w.aim ≡ aim.Takeover → JudgedPlace p bodies aim.Takeover (after_edits b node start end had batch w)
   edits_place p bodies true node start end had batch w e =
       let more : List (List ℕ) = had ++ take (end + 1 - (start + length had)) batch.bodies in
       pieced_place p bodies (nat_lt end (start + length more)) node start end more (next_serial w)
   edits_place p bodies false node start end had batch w e = missing_place p bodies node start Silent w e
 
-  fetched_place : (p : ℕ) (bodies : List (List ℕ)) (node start end : ℕ) (had : List (List ℕ)) (heard : Heard) (w : WriterView) → w.aim ≡ aim.Takeover → JudgedPlace p bodies aim.Takeover (fetched node start end had heard w)
-  unfolding fetched
+  fetched_place : (p : ℕ) (bodies : List (List ℕ)) (node start end : ℕ) (had : List (List ℕ)) (heard : Heard) (w : WriterView) → w.aim ≡ aim.Takeover → JudgedPlace p bodies aim.Takeover (after_fetch node start end had heard w)
+  unfolding after_fetch
   fetched_place p bodies node start end had (Answer (reply.Edits batch)) w e = edits_place p bodies (numbers_fit w (round.Fetch node start end had) && fits_edits (start + length had) batch) node start end had batch w e
   fetched_place p bodies node start end had (Answer reply.Ok) w e = missing_place p bodies node start (Answer reply.Ok) w e
   fetched_place p bodies node start end had (Answer (reply.State promised)) w e = missing_place p bodies node start (Answer (reply.State promised)) w e
@@ -216,7 +216,7 @@ module _ (L : ℕ → List ℕ → Type 0) where
   fetched_place p bodies node start end had Silent w e = missing_place p bodies node start Silent w e
 
   -- ## An answer
-  fetch_place : (p : ℕ) (bodies : List (List ℕ)) (a : Aim) (from start end : ℕ) (had : List (List ℕ)) (w : WriterView) (heard : Heard) → w.aim ≡ a → Suits a (round.Fetch from start end had) → JudgedPlace p bodies a (fetched from start end had heard w)
+  fetch_place : (p : ℕ) (bodies : List (List ℕ)) (a : Aim) (from start end : ℕ) (had : List (List ℕ)) (w : WriterView) (heard : Heard) → w.aim ≡ a → Suits a (round.Fetch from start end had) → JudgedPlace p bodies a (after_fetch from start end had heard w)
   fetch_place p bodies aim.Takeover from start end had w heard e s = fetched_place p bodies from start end had heard w e
   fetch_place p bodies _ from start end had w heard e s = absurd s
 

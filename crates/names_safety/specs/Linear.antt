@@ -18,7 +18,7 @@ use Rattle.run_safety.specs.Safe.{IsOnLine}
 use Rattle.mesh.specs.declared.whole.Mesh.{Mesh}
 use Rattle.mesh.specs.Agree.{ListsAgree, operator_of, record_of}
 use Rattle.mesh.specs.Order.{placed_at, entries_at}
-use Rattle.script_actor.specs.Lines.{Deed, Line, AreDeeds, deeds_of}
+use Rattle.script_actor.specs.Lines.{Action, Line, AreActions, actions_of}
 use Rattle.name_node.specs.Holding.{Holding}
 use Rattle.script_actor.specs.Actor.{Actor, wants, Fits, IsLed, actor_after, is_broken}
 use Rattle.ns_tree.specs.declared.end.End.{End}
@@ -48,13 +48,13 @@ ReadsAreOnLine =
 -- an actor of a script with names, of this record
 pub record IsActor (m : Mesh) (c : ℕ) (a : Actor) : Type 0 where
   pub some : 1 ≤ m.nodes
-  pub deeds : List Deed
-  pub are_deeds : AreDeeds true deeds
+  pub actions : List Action
+  pub are_actions : AreActions true actions
   pub before : List Record
   pub after : List Record
   pub record_is : record_of m c ≡ before ++ after
-  pub led : IsLed (actor_with true m.nodes deeds) (before ++ after)
-  pub is : a ≡ actor_after (actor_with true m.nodes deeds) before
+  pub led : IsLed (actor_with true m.nodes actions) (before ++ after)
+  pub is : a ≡ actor_after (actor_with true m.nodes actions) before
 
 -- what it holds is the replay of the line's first entries
 pub record HoldsReplay (m : Mesh) (entries : List Entry) (h : Holding) : Type 0 where
@@ -78,7 +78,7 @@ ActorsHoldReplays =
 -- the mesh and its ends are of these lines
 pub record IsNamed (lines : List Line) (m : Mesh) (ends : List End) : Type 0 where
   pub some : 1 ≤ m.nodes
-  pub deeds : (c : ℕ) → AreDeeds true (deeds_of c lines)
+  pub actions : (c : ℕ) → AreActions true (actions_of c lines)
   pub as_many : length ends ≡ operator_of m
   pub follows : FollowsLines true m.nodes lines m ends
 
@@ -89,7 +89,7 @@ EndsAreReplays =
     → slice_get ends c ≡ Some e
     → (last : LastSpace) × (e.last ≡ Some last) × ((log : List (List ℕ)) × IsOfLine m entries log × (length log ≡ last.position) × IsReplay log last.rows)
 
--- What an actor logs: the record that begins a segment, the one that ends it, or edits that are admitted one behind the other after the replay
+-- What an actor logs: the record that begins a segment, the one that ends it, or edits that are admitted one after the other after the replay
 -- of all that stands on the line before them.
 pub data IsAdmitted (m : Mesh) (entries : List Entry) (batch : BatchView) : Type 0 where
   begins : batch.bodies ≡ start_record → IsAdmitted m entries batch

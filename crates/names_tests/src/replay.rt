@@ -373,7 +373,7 @@ const APPLIED: &[(&str, &str, Seen)] = &[
     ("delete /a 75", "/a", Nothing),
 ];
 
-/// Whether an edit without a call is admitted and applied; want of memory leaves what stands at the path.
+/// Whether an edit without a call is admitted and applied; lack of memory leaves what stands at the path.
 fn applies(
     alloc: Global,
     namespace: &mut Namespace,

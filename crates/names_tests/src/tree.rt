@@ -311,10 +311,10 @@ fn note_calls(tree: &mut Namespace, count: u32) -> bool
     true
 }
 
-/// Numbers of calls, and the txids that are noted of them, behind 1,024 calls.
+/// Numbers of calls, and the txids that are noted of them, after 1,024 calls.
 const MOST: &[(u32, Option<u64>)] = &[(1, Some(1)), (1024, Some(1024)), (1025, None)];
 
-/// The same behind 1,025 calls.
+/// The same after 1,025 calls.
 const MORE: &[(u32, Option<u64>)] = &[(1, None), (2, Some(2)), (1025, Some(1025)), (1026, None)];
 
 fn notes(

@@ -26,7 +26,7 @@ use Rattle.node_deeds.specs.declared.deed.Deed.TheVariants as deed
 use Rattle.node_deeds.specs.Told.{Tells}
 use Rattle.node_deeds.specs.Due.{batch_of, effect_of, IsDue, IsInRange, IsAppendDue, IsFinalizeDue, begun_row, accepted_row, appended_row, final_row, changed, rows_after}
 use Rattle.node_deeds.proofs.ToldLaws.{IsTold, found, start_told}
-use Rattle.node_deeds.proofs.LimitLaws.{journal_fits, accept_fits}
+use Rattle.request_decision.proofs.LimitLaws.{journal_fits, accept_fits}
 
 -- ## Rows that are put and removed
 put_infos : (new : Segment) (row : SegmentRow) (gs : List Segment) (rows : List SegmentRow) → row.info ≡ info_of new → AreInfos gs rows → AreInfos (put_segment new gs) (put_row row rows)

@@ -1,36 +1,83 @@
--- Each deed of a request is due where those before it were done.
-use Rattle.std.proofs.Common.{ℕ, ◌≡◌, ◌≢◌, ◌≤◌, ◌<◌, ◌+◌, ◌-◌, ◌==◌, ◌&&◌, List, [], ◌∷◌, ◌++◌, length, Option, Some, None, Bool, true, false, cond, nat_lt, map, filter, refl, sym, ap, ◌∙◌, arith, subst}
+-- What is decided by rows that tell segments, done as deeds: the deeds have the request's effects, and each is due where those before it were done.
+use Rattle.std.proofs.Common.{ℕ, ◌≡◌, ◌≢◌, ◌≤◌, ◌<◌, ◌+◌, ◌-◌, ◌==◌, List, [], ◌∷◌, ◌++◌, length, Option, Some, None, Bool, true, false, cond, nat_lt, map, filter, option_map, refl, sym, ap, ◌∙◌, arith, subst, Result, Ok, Err, IfOk}
 use Rattle.std.proofs.lemmas.Bool.Decides.{nat_tests}
-use Rattle.journal_core.specs.Views.{HeadView, BatchView, last_txid}
+use Rattle.std.proofs.lemmas.List.{map-append}
+use Rattle.journal_core.specs.Views.{HeadView}
 use Rattle.journal_core.specs.declared.segment.Segment.{Segment}
 use Rattle.journal_core.specs.declared.segment_info.SegmentInfo.{SegmentInfo}
 use Rattle.journal_core.specs.declared.node_state.NodeState.{NodeState}
 use Rattle.journal_core.specs.declared.refusal.Refusal.{Refusal}
 use Rattle.journal_core.specs.declared.request.Request.{Request}
-use Rattle.journal_core.specs.declared.request.Request.TheVariants.{State, NewEpoch, Start, Journal, Finalize, Prepare, Fetch, Accept, Purge, Read, Manifest}
-use Rattle.journal_core.specs.Segments.{find_segment, remove_segment, has_edit, any_body, end_of}
+use Rattle.journal_core.specs.Segments.{find_segment, remove_segment, newest, any_body, info_of}
 use Rattle.journal_core.specs.Limits.{head_of, limit_of, max_number}
-use Rattle.journal_core.specs.Step.{row_refused, fronted, front_known, start_refused, journal_refused, bodies_in, finalize_refused}
-use Rattle.journal_core.specs.Cuts.{has_record_of}
+use Rattle.journal_core.specs.Effects.{Effect, Promise, Remove, after_effect, segments_after}
+use Rattle.journal_core.specs.Places.{is_old}
+use Rattle.journal_core.specs.Step.{row_refused, refused_at_once, fronted, front_known, front_effects, effects_of, effects_after, start_refused, bodies_in, is_final_one}
 use Rattle.journal_core.proofs.SegmentLists.{find-start, find-remove_other}
-use Rattle.journal_core.proofs.Steps.{test_passed}
-use Rattle.journal_core.proofs.Within.{first_is}
 use Rattle.journal_core.proofs.Stored.{some_body}
 use Rattle.segment_file.specs.declared.segment_row.SegmentRow.{SegmentRow}
 use Rattle.segment_file.specs.Rows.{find_row, remove_row, newest_row, RowsAbove, RowsRise}
+use Rattle.segment_file.specs.RowsTell.{AreInfos, AreStarts}
 use Rattle.segment_file.specs.Calls.{NotFinal, HasNoEdit}
-use Rattle.node_files.specs.declared.node_number.NodeNumber.TheVariants.{Promised, Writer, Committed}
+use Rattle.request_decision.specs.declared.segment_index.IndexedSegment.{IndexedSegment}
+use Rattle.request_decision.specs.declared.durable_effect.DurableEffect.{DurableEffect}
+use Rattle.request_decision.specs.declared.durable_effect.DurableEffect.TheVariants as durable
+use Rattle.request_decision.specs.Index.{IsEntryOf, AreTold, entry_is_old}
+use Rattle.request_decision.specs.Index as index
+use Rattle.request_decision.specs.Durable as decided
+use Rattle.request_decision.specs.Decisions.{place_of, nowhere, listed, Sees, EachSees, HasEffects, HasRemovals}
+use Rattle.request_decision.proofs.IndexLaws.{old_told}
+use Rattle.request_decision.proofs.LimitLaws.{IsHeadWithin, head_fits}
 use Rattle.node_deeds.specs.declared.deed.Deed.{Deed}
 use Rattle.node_deeds.specs.declared.deed.Deed.TheVariants as deed
-use Rattle.segment_file.specs.RowsTell.{AreInfos}
 use Rattle.node_deeds.specs.Told.{Tells, state_with}
-use Rattle.node_deeds.specs.Table.{refusal_of, front_deeds, start_deeds, AreAppend, final_deeds, finalize_deeds, accept_deeds, purge_deeds, row_may_go, AreRowDeeds, AreDeedsBehind}
-use Rattle.node_deeds.specs.Due.{IsBeginDue, IsAppendDue, IsAcceptDue, IsFinalizeDue, IsRemoveDue, AreDue}
-use Rattle.node_deeds.proofs.ToldLaws.{IsTold, found, start_told}
-use Rattle.node_deeds.proofs.RefusalLaws.{refusal_same}
-use Rattle.node_deeds.proofs.LimitLaws.{IsHeadWithin, epoch_fits, start_fits, journal_fits, finalize_fits, accept_fits, head_fits}
+use Rattle.node_deeds.specs.Decided.{entry_of, deed_of, front_effect, CanStand, EachCanStand}
+use Rattle.node_deeds.specs.Due.{batch_of, effect_of, IsDue, IsRemoveDue, AreDue, rows_after}
+use Rattle.node_deeds.proofs.ToldLaws.{IsTold, found, start_told, edit_told, newest_told}
+use Rattle.node_deeds.proofs.StepLaws.{unless_none}
+use Rattle.node_deeds.proofs.ApplyLaws.{after_told}
 
--- ## Start
+-- ## The rows as an index
+entry_told : (g : Segment) (row : SegmentRow) → row.info ≡ info_of g → 1 ≤ g.start → IsEntryOf g (entry_of row)
+entry_told g row h s = record { info = h; edit = edit_told g row h s }
+
+one_told : (o : Option Segment) (p : Option SegmentRow) → IsTold o p → index.IsTold o (option_map entry_of p)
+one_told None None h = tt
+one_told None (Some row) h = absurd h
+one_told (Some g) None h = absurd h
+one_told (Some g) (Some row) h = entry_told g row h.0 h.1
+
+-- rows that tell segments do so as an index
+pub table_told : (gs : List Segment) (rows : List SegmentRow) → Tells gs rows → AreTold gs (λ start. option_map entry_of (find_row start rows))
+table_told gs rows t start = one_told (find_segment start gs) (find_row start rows) (found gs rows start t)
+
+-- where something can be appended, the row is that of a segment in progress
+record HasPlace (start at : ℕ) (rows : List SegmentRow) : Type 0 where
+  row : SegmentRow
+  known : find_row start rows ≡ Some row
+  in_progress : row.info.is_final ≡ false
+  place : row.whole_length ≡ at
+
+abbrev Places : (ℕ → Option IndexedSegment) → List SegmentRow → Type 0
+Places at rows = (start : ℕ) → place_of (at start) < max_number → HasPlace start (place_of (at start)) rows
+
+place_by : (start : ℕ) (rows : List SegmentRow) (row : SegmentRow) (f : Bool) → row.info.is_final ≡ f → find_row start rows ≡ Some row → cond f max_number row.whole_length < max_number
+    → HasPlace start (cond f max_number row.whole_length) rows
+place_by start rows row true e is l = absurd (omega arith)
+place_by start rows row false e is l = record { row = row; known = is; in_progress = e; place = refl }
+
+place_found : (start : ℕ) (rows : List SegmentRow) (p : Option SegmentRow) → find_row start rows ≡ p → place_of (option_map entry_of p) < max_number
+    → HasPlace start (place_of (option_map entry_of p)) rows
+place_found start rows None is l = absurd (omega arith)
+place_found start rows (Some row) is l = place_by start rows row row.info.is_final refl is l
+
+table_places : (rows : List SegmentRow) → Places (λ start. option_map entry_of (find_row start rows)) rows
+table_places rows start l = place_found start rows (find_row start rows) refl l
+
+nowhere_places : (rows : List SegmentRow) → Places nowhere rows
+nowhere_places rows start l = absurd (omega arith)
+
+-- ## Each deed is due
 no_body : (xs : List (List ℕ)) → any_body xs ≡ false → xs ≡ []
 no_body [] h = refl
 no_body (x ∷ xs) h = absurd (cc)
@@ -39,108 +86,93 @@ begin_clear : (o : Option Segment) → start_refused o ≡ None → NotFinal o �
 begin_clear None h = (tt, tt)
 begin_clear (Some g) h = (grind arith, no_body g.bodies (grind arith))
 
-start_due : (m : NodeState) (h : HeadView) (start : ℕ) (gs : List Segment) (rows : List SegmentRow) → limit_of (Start h start) ≡ None → 1 ≤ start → 1 ≤ h.epoch
-    → start_refused (find_segment start gs) ≡ None → AreDue gs rows (Start h start) (start_deeds m h start)
-start_due m h start gs rows fits s e none =
-    let within = start_fits h start fits in
-    let clear = begin_clear (find_segment start gs) none in
-    let begin : IsBeginDue start h.epoch gs = record { start_fits = (s, within.0); epoch_fits = (e, within.1); not_final = clear.0; no_edit = clear.1 } in
-    elim (m.writer == h.epoch) as (λ b. AreDue gs rows (Start h start) (cond b [] (deed.Number Writer h.epoch ∷ []) ++ deed.Begin start h.epoch ∷ []))
-    [ true ↦ (begin, λ place. tt) | false ↦ (within.1, λ place. (begin, λ place. tt)) ]
+not_final : (o : Option Segment) → is_final_one o ≡ false → NotFinal o
+not_final None h = tt
+not_final (Some g) h = h
 
--- ## Journal
-append_by : (start : ℕ) (b : BatchView) (gs : List Segment) (rows : List SegmentRow) (row : SegmentRow) (o : Option Segment) → find_segment start gs ≡ o → IsTold o (Some row)
-    → find_row start rows ≡ Some row → row.info.is_final ≡ false → row.whole_length < max_number → b.first ≡ start + bodies_in o → last_txid b ≤ max_number
-    → IsAppendDue start row.whole_length b gs rows
-append_by start b gs rows row None e t k f w n l = absurd t
-append_by start b gs rows row (Some g) e t k f w n l =
-    record {
-      segment = g;
-      row = row;
-      known = e;
-      start_is = find-start start gs g e;
-      in_progress = ap (λ (i : SegmentInfo). i.is_final) (sym t.0) ∙ f;
-      told = k;
-      place = refl;
-      small = w;
-      next = n;
-      last = l;
-    }
+module _ (s : NodeState) (at : ℕ → Option IndexedSegment) (rows : List SegmentRow) (r : Request) (t : Tells s.segments rows) (places : Places at rows) (known : s.known ≤ max_number) where
+  append_due : (start place : ℕ) (o : Option Segment) → find_segment start s.segments ≡ o → Sees s at r (durable.Append start place) → CanStand r (durable.Append start place)
+      → IsDue s.segments rows r (deed.Append start place)
+  append_due start place o is h l =
+      let here : HasPlace start place rows = subst (λ (n : ℕ). HasPlace start n rows) (sym h.place) (places start (subst (λ (n : ℕ). n < max_number) h.place l)) in
+      by_found o is here (subst (λ p. IsTold o p) here.known (subst (λ x. IsTold x (find_row start rows)) is (found s.segments rows start t)))
+    where
+      by_found : (o : Option Segment) → find_segment start s.segments ≡ o → (p : HasPlace start place rows) → IsTold o (Some p.row) → IsDue s.segments rows r (deed.Append start place)
+      by_found None is p told = absurd told
+      by_found (Some g) is p told =
+          record {
+            segment = g;
+            row = p.row;
+            known = is;
+            start_is = find-start start s.segments g is;
+            in_progress = ap (λ (i : SegmentInfo). i.is_final) (sym told.0) ∙ p.in_progress;
+            told = p.known;
+            place = p.place;
+            small = l;
+            next = h.next ∙ ap (λ x. start + bodies_in x) is;
+            last = h.last;
+          }
 
-journal_due : (m : NodeState) (h : HeadView) (start : ℕ) (b : BatchView) (gs : List Segment) (rows : List SegmentRow) (deeds : List Deed) → Tells gs rows
-    → limit_of (Journal h start b) ≡ None → journal_refused (state_with m gs) h start b ≡ None → AreAppend start rows deeds → AreDue gs rows (Journal h start b) deeds
-journal_due m h start b gs rows deeds t fits none are =
-    let within = journal_fits h start b fits in
-    let next : b.first ≡ start + bodies_in (find_segment start gs) = first_is m.opened start b.first _ (test_passed (m.writer == h.epoch) _ _ none) in
-    let told : IsTold (find_segment start gs) (Some are.row) = subst (λ p. IsTold (find_segment start gs) p) are.known (found gs rows start t) in
-    let due : IsAppendDue start are.row.whole_length b gs rows = append_by start b gs rows are.row (find_segment start gs) refl told are.known are.in_progress are.small next within.1 in
-    subst (λ ds. AreDue gs rows (Journal h start b) ds) (sym are.deeds_are) (due, λ place. tt)
+  due : (e : DurableEffect) → Sees s at r e → CanStand r e → IsDue s.segments rows r (deed_of e)
+  due (durable.Promise epoch) h c = h
+  due (durable.WriterEpoch epoch) h c = h
+  due (durable.Commit txid) h c = subst (λ (n : ℕ). n ≤ max_number) (sym h) known
+  due (durable.NewSegment start epoch) h c =
+      let clear = begin_clear (find_segment start s.segments) h.passes in
+      record { start_fits = (c.0, h.start_fits); epoch_fits = (c.1, h.epoch_fits); not_final = clear.0; no_edit = clear.1 }
+  due (durable.Append start place) h c = append_due start place (find_segment start s.segments) refl h c
+  due (durable.Replace epoch again) h c =
+      record { start_fits = (c.0, h.first); epoch_fits = (c.1, h.epoch_fits); last = h.last; not_final = not_final (find_segment (batch_of r).first s.segments) h.in_progress; record_is = h.record_is }
+  due (durable.MakeFinal start end accepted) h c =
+      let is : h.segment.start ≡ start = find-start start s.segments h.segment h.known in
+      let told : IsTold (Some h.segment) (find_row start rows) = subst (λ o. IsTold o (find_row start rows)) h.known (found s.segments rows start t) in
+      let more : 0 < length h.segment.bodies = some_body h.segment.bodies h.edit in
+      let first : 1 ≤ h.segment.start = told_start h.segment (find_row start rows) told in
+      let ends : h.segment.start + length h.segment.bodies - 1 ≡ end = h.ends in
+      record {
+        segment = h.segment;
+        known = h.known;
+        in_progress = h.in_progress;
+        start_fits = (omega arith, h.start_fits);
+        holds = omega arith;
+        end_fits = h.end_fits;
+        ends = omega arith;
+        accepted_is = h.accepted_is;
+      }
+    where
+      told_start : (g : Segment) (p : Option SegmentRow) → IsTold (Some g) p → 1 ≤ g.start
+      told_start g None x = absurd x
+      told_start g (Some row) x = x.1
+  due (durable.Remove info) h c = absurd h
 
--- ## Finalize
-finalize_tells : (epoch end : ℕ) (g : Segment) → finalize_refused epoch end (Some g) ≡ None → (has_edit g ≡ true) × (end_of g ≡ end)
-finalize_tells epoch end g h = (grind (arith, nat_tests), grind (arith, nat_tests))
+-- the deed has the effect
+same_effect : (r : Request) (e : DurableEffect) → effect_of r (deed_of e) ≡ decided.effect_of r e
+same_effect r (durable.Promise epoch) = refl
+same_effect r (durable.WriterEpoch epoch) = refl
+same_effect r (durable.Commit txid) = refl
+same_effect r (durable.NewSegment start epoch) = refl
+same_effect r (durable.Append start at) = refl
+same_effect r (durable.Replace epoch again) = refl
+same_effect r (durable.MakeFinal start end accepted) = refl
+same_effect r (durable.Remove info) = refl
 
-final_by : (start end epoch : ℕ) (gs : List Segment) (g : Segment) (row : SegmentRow) → find_segment start gs ≡ Some g → IsTold (Some g) (Some row) → row.info.is_final ≡ false
-    → finalize_refused epoch end (Some g) ≡ None → start ≤ max_number → end ≤ max_number → IsFinalizeDue start end row.info.accepted gs
-final_by start end epoch gs g row e t f none s l =
-    let is : g.start ≡ start = find-start start gs g e in
-    let tells = finalize_tells epoch end g none in
-    let more : 0 < length g.bodies = some_body g.bodies tells.0 in
-    let ends : g.start + length g.bodies - 1 ≡ end = tells.1 in
-    let first : 1 ≤ g.start = t.1 in
-    record {
-      segment = g;
-      known = e;
-      in_progress = ap (λ (i : SegmentInfo). i.is_final) (sym t.0) ∙ f;
-      start_fits = (omega arith, s);
-      holds = omega arith;
-      end_fits = l;
-      ends = omega arith;
-      accepted_is = ap (λ (i : SegmentInfo). i.accepted) (sym t.0);
-    }
+same_effects : (r : Request) (es : List DurableEffect) → map (effect_of r) (map deed_of es) ≡ map (decided.effect_of r) es
+same_effects r [] = refl
+same_effects r (e ∷ es) = rw (same_effect r e, same_effects r es) refl
 
-module _ (h : HeadView) (start end : ℕ) (later : List Deed) (due : (gs : List Segment) (rows : List SegmentRow) → AreDue gs rows (Finalize h start end) later) where
-  final_first : (gs : List Segment) (rows : List SegmentRow) (row : SegmentRow) (f : Bool) → row.info.is_final ≡ f → (row.info.is_final ≡ false → IsFinalizeDue start end row.info.accepted gs)
-      → AreDue gs rows (Finalize h start end) (cond f [] (deed.Finalize start end row.info.accepted ∷ []) ++ later)
-  final_first gs rows row true e is = due gs rows
-  final_first gs rows row false e is = (is e, λ place. due _ _)
-
-  final_due : (gs : List Segment) (rows : List SegmentRow) (o : Option Segment) (p : Option SegmentRow) → find_segment start gs ≡ o → IsTold o p → finalize_refused h.epoch end o ≡ None
-      → start ≤ max_number → end ≤ max_number → AreDue gs rows (Finalize h start end) (final_deeds start end p ++ later)
-  final_due gs rows o None e t none s l = due gs rows
-  final_due gs rows None (Some row) e t none s l = absurd t
-  final_due gs rows (Some g) (Some row) e t none s l = final_first gs rows row row.info.is_final refl (λ f. final_by start end h.epoch gs g row e t f none s l)
-
-commit_due : (m : NodeState) (r : Request) → m.known ≤ max_number → (gs : List Segment) (rows : List SegmentRow)
-    → AreDue gs rows r (cond (nat_lt m.committed m.known) (deed.Number Committed m.known ∷ []) [])
-commit_due m r k gs rows =
-    elim (nat_lt m.committed m.known) as (λ b. AreDue gs rows r (cond b (deed.Number Committed m.known ∷ []) [])) [ true ↦ (k, λ place. tt) | false ↦ tt ]
-
-finalize_due : (m : NodeState) (h : HeadView) (start end : ℕ) (gs : List Segment) (rows : List SegmentRow) → Tells gs rows → limit_of (Finalize h start end) ≡ None
-    → m.known ≤ max_number → finalize_refused h.epoch end (find_segment start gs) ≡ None → AreDue gs rows (Finalize h start end) (finalize_deeds m start end (find_row start rows))
-finalize_due m h start end gs rows t fits k none =
-    let within = finalize_fits h start end fits in
-    final_due h start end _ (commit_due m (Finalize h start end) k) gs rows (find_segment start gs) (find_row start rows) refl (found gs rows start t) none within.0 within.1
-
--- ## Accept
-module _ (h : HeadView) (b : BatchView) (fits : limit_of (Accept h b) ≡ None) (first : 1 ≤ b.first) (epoch : 1 ≤ h.epoch) (gs : List Segment) (rows : List SegmentRow) where
-  accept_one : (again : Bool) → NotFinal (find_segment b.first gs) → again ≡ has_record_of h.epoch (find_segment b.first gs) → IsAcceptDue h.epoch again b gs
-  accept_one again f e =
-      let within = accept_fits h b fits in
-      record { start_fits = (first, within.0); epoch_fits = (epoch, within.2); last = within.1; not_final = f; record_is = e }
-
-  accept_first : (g : Segment) (row : SegmentRow) (f : Bool) → row.info.is_final ≡ f → find_segment b.first gs ≡ Some g → IsTold (Some g) (Some row)
-      → AreDue gs rows (Accept h b) (cond f [] (deed.Accept h.epoch (row.info.accepted && (row.info.epoch == h.epoch)) ∷ []))
-  accept_first g row true f e t = tt
-  accept_first g row false f e t =
-      let same : (row.info.accepted && (row.info.epoch == h.epoch)) ≡ has_record_of h.epoch (Some g) = ap (λ (i : SegmentInfo). i.accepted && (i.epoch == h.epoch)) t.0 in
-      (accept_one _ (subst NotFinal (sym e) (ap (λ (i : SegmentInfo). i.is_final) (sym t.0) ∙ f)) (same ∙ ap (has_record_of h.epoch) (sym e)), λ place. tt)
-
-  accept_by : (o : Option Segment) (p : Option SegmentRow) → find_segment b.first gs ≡ o → IsTold o p → AreDue gs rows (Accept h b) (accept_deeds h.epoch p)
-  accept_by None None e t = (accept_one false (subst NotFinal (sym e) tt) (ap (has_record_of h.epoch) (sym e)), λ place. tt)
-  accept_by None (Some row) e t = absurd t
-  accept_by (Some g) None e t = absurd t
-  accept_by (Some g) (Some row) e t = accept_first g row row.info.is_final refl e t
+each_due : (es : List DurableEffect) (s : NodeState) (at : ℕ → Option IndexedSegment) (rows : List SegmentRow) (r : Request) → Tells s.segments rows → Places at rows → s.known ≤ max_number
+    → EachSees s at r es → EachCanStand r es → AreDue s.segments rows r (map deed_of es)
+each_due [] s at rows r t places known h c = tt
+each_due (e ∷ es) s at rows r t places known h c =
+    let one = due s at rows r t places known e h.0 c.0 in (
+      one,
+      λ place.
+          let told : Tells (segments_after s.segments (effect_of r (deed_of e))) (rows_after r (deed_of e) place rows) = after_told r (deed_of e) place s.segments rows t one in
+          let later : Tells (segments_after s.segments (decided.effect_of r e)) (rows_after r (deed_of e) place rows) =
+          subst (λ (x : Effect). Tells (segments_after s.segments x) (rows_after r (deed_of e) place rows)) (same_effect r e) told in
+          subst (λ (x : Effect). AreDue (segments_after s.segments x) (rows_after r (deed_of e) place rows) r (map deed_of es)) (sym (same_effect r e))
+          (each_due es (after_effect s (decided.effect_of r e)) nowhere (rows_after r (deed_of e) place rows) r later (nowhere_places _) known h.1 c.1),
+    )
 
 -- ## Purge
 -- the segment of each row is there
@@ -187,51 +219,100 @@ removes_due : (r : Request) (gs : List Segment) (rows olds : List SegmentRow) �
 removes_due r gs rows [] s h = tt
 removes_due r gs rows (old ∷ olds) s h = (h.0, λ place. removes_due r (remove_segment old.info.start gs) (remove_row old.info.start rows) olds s.1 (there_less old.info.start gs olds s.0 h.1))
 
-purge_due : (m : NodeState) (h : HeadView) (least : ℕ) (gs : List Segment) (rows : List SegmentRow) → Tells gs rows → RowsRise rows → AreDue gs rows (Purge h least) (purge_deeds m h.committed least rows)
-purge_due m h least gs rows t s =
-    let p = row_may_go m h.committed least (newest_row rows) in
-    removes_due (Purge h least) gs rows (filter p rows) (rise_some p rows s) (there_some p gs rows (there_all gs rows t.infos s))
+-- the rows that a purge removes
+abbrev goes : NodeState → ℕ → ℕ → List SegmentRow → SegmentRow → Bool
+goes m committed least rows row = entry_is_old m.opened (newest_row rows) committed least (entry_of row)
 
--- ## All requests
-nothing_due : (r : Request) (gs : List Segment) (rows : List SegmentRow) (deeds : List Deed) → deeds ≡ [] → AreDue gs rows r deeds
-nothing_due r gs rows deeds e = subst (λ ds. AreDue gs rows r ds) (sym e) tt
+removals_due : (m : NodeState) (r : Request) (committed least : ℕ) (gs : List Segment) (rows : List SegmentRow) → Tells gs rows → RowsRise rows
+    → AreDue gs rows r (map (λ row. deed.Remove row.info) (filter (goes m committed least rows) rows))
+removals_due m r committed least gs rows t rise =
+    let p = goes m committed least rows in
+    removes_due r gs rows (filter p rows) (rise_some p rows rise) (there_some p gs rows (there_all gs rows t.infos rise))
 
-row_due : (m : NodeState) (r : Request) (gs : List Segment) (rows : List SegmentRow) (deeds : List Deed) → Tells gs rows → limit_of r ≡ None → m.known ≤ max_number
-    → row_refused (state_with m gs) r ≡ None → AreRowDeeds m rows r deeds → AreDue gs rows r deeds
-row_due m State gs rows ds t fits k none are = nothing_due State gs rows ds are
-row_due m (NewEpoch epoch) gs rows ds t fits k none are = subst (λ xs. AreDue gs rows (NewEpoch epoch) xs) (sym are) (epoch_fits epoch fits, λ place. tt)
-row_due m (Start h start) gs rows ds t fits k none are = subst (λ xs. AreDue gs rows (Start h start) xs) (sym are.2) (start_due m h start gs rows fits are.0 are.1 none)
-row_due m (Journal h start b) gs rows ds t fits k none are = journal_due m h start b gs rows ds t fits none are
-row_due m (Finalize h start end) gs rows ds t fits k none are = subst (λ xs. AreDue gs rows (Finalize h start end) xs) (sym are) (finalize_due m h start end gs rows t fits k none)
-row_due m (Prepare h start) gs rows ds t fits k none are = nothing_due (Prepare h start) gs rows ds are
-row_due m (Fetch h start from) gs rows ds t fits k none are = nothing_due (Fetch h start from) gs rows ds are
-row_due m (Accept h b) gs rows ds t fits k none are =
-    subst (λ xs. AreDue gs rows (Accept h b) xs) (sym are.2) (accept_by h b fits are.0 are.1 gs rows (find_segment b.first gs) (find_row b.first rows) refl (found gs rows b.first t))
-row_due m (Purge h least) gs rows ds t fits k none are = subst (λ xs. AreDue gs rows (Purge h least) xs) (sym are.1) (purge_due m h least gs rows t are.0)
-row_due m (Read from) gs rows ds t fits k none are = nothing_due (Read from) gs rows ds are
-row_due m Manifest gs rows ds t fits k none are = nothing_due Manifest gs rows ds are
+purge_each : (r : Request) (m : NodeState) (committed least : ℕ) (top : Option ℕ) (gs : List Segment) (rows : List SegmentRow) → AreInfos gs rows → AreStarts gs
+    → map (effect_of r) (map (λ row. deed.Remove row.info) (filter (λ row. entry_is_old m.opened top committed least (entry_of row)) rows))
+    ≡ map (λ (g : Segment). Remove g.start) (filter (is_old m.opened top committed least) gs)
+purge_each r m committed least top [] [] i s = refl
+purge_each r m committed least top [] (row ∷ rows) i s = absurd i
+purge_each r m committed least top (g ∷ gs) [] i s = absurd i
+purge_each r m committed least top (g ∷ gs) (row ∷ rows) i s =
+    let p : SegmentRow → Bool = λ x. entry_is_old m.opened top committed least (entry_of x) in
+    let q : Segment → Bool = is_old m.opened top committed least in
+    let same : p row ≡ q g = old_told m.opened top committed least g (entry_of row) (entry_told g row i.0 s.0.0) in
+    let rest = purge_each r m committed least top gs rows i.1 s.1 in
+    let start = start_told g row i.0 in
+    rw same (elim (q g) as (λ b. map (effect_of r) (map (λ x. deed.Remove x.info) (cond b (row ∷ filter p rows) (filter p rows))) ≡ map (λ (x : Segment). Remove x.start) (cond b (g ∷ filter q gs) (filter q gs))) [
+      | true ↦ ap (λ n. Remove n ∷ map (effect_of r) (map (λ x. deed.Remove x.info) (filter p rows))) start ∙ ap (λ es. Remove g.start ∷ es) rest
+      | false ↦ rest
+    ])
 
-behind_due : (m : NodeState) (r : Request) (gs : List Segment) (rows : List SegmentRow) (o : Option Refusal) (deeds : List Deed) → Tells gs rows → limit_of r ≡ None → m.known ≤ max_number
-    → o ≡ row_refused (state_with m gs) r → AreDeedsBehind m rows r o deeds → AreDue gs rows r deeds
-behind_due m r gs rows (Some refusal) ds t fits k e are = nothing_due r gs rows ds are
-behind_due m r gs rows None ds t fits k e are = row_due m r gs rows ds t fits k (sym e) are
+-- ## The deeds after the front
+-- what is refused has none
+pub refused_deeds : (s : NodeState) (r : Request) (refusal : Refusal) → row_refused s r ≡ Some refusal → [] ≡ effects_after s r (row_refused s r)
+refused_deeds s r refusal e = sym (ap (effects_after s r) e)
 
-front_due : (m : NodeState) (r : Request) (h : Option HeadView) (gs : List Segment) (rows : List SegmentRow) (rest : List Deed) → IsHeadWithin h → AreDue gs rows r rest
-    → AreDue gs rows r (front_deeds m h ++ rest)
-front_due m r None gs rows rest f due = due
-front_due m r (Some h) gs rows rest f due =
-    elim (nat_lt m.promised h.epoch) as (λ b. AreDue gs rows r (cond b (deed.Number Promised h.epoch ∷ []) [] ++ rest)) [ true ↦ (f.0, λ place. due) | false ↦ due ]
+pub few_effects : (s : NodeState) (at : ℕ → Option IndexedSegment) (r : Request) (a b : Option DurableEffect) (ds : List Deed) → HasEffects s at r (listed a ++ listed b)
+    → ds ≡ map deed_of (listed a) ++ map deed_of (listed b) → map (effect_of r) ds ≡ effects_after s r (row_refused s r)
+few_effects s at r a b ds h e =
+    ap (map (effect_of r)) (e ∙ sym (map-append deed_of (listed a) (listed b))) ∙ same_effects r (listed a ++ listed b) ∙ sym h.effects ∙ sym (ap (effects_after s r) h.passes)
 
+stand_both : (r : Request) (xs ys : List DurableEffect) → EachCanStand r xs → EachCanStand r ys → EachCanStand r (xs ++ ys)
+stand_both r [] ys a b = b
+stand_both r (x ∷ xs) ys a b = (a.0, stand_both r xs ys a.1 b)
+
+pub few_due : (m : NodeState) (gs : List Segment) (rows : List SegmentRow) (r : Request) (a b : Option DurableEffect) (ds : List Deed) → Tells gs rows → m.known ≤ max_number
+    → HasEffects (state_with m gs) (λ start. option_map entry_of (find_row start rows)) r (listed a ++ listed b) → ds ≡ map deed_of (listed a) ++ map deed_of (listed b)
+    → EachCanStand r (listed a) → EachCanStand r (listed b) → AreDue gs rows r ds
+few_due m gs rows r a b ds t known h e c d =
+    subst (λ (xs : List Deed). AreDue gs rows r xs) (sym (e ∙ sym (map-append deed_of (listed a) (listed b))))
+    (each_due (listed a ++ listed b) (state_with m gs) (λ start. option_map entry_of (find_row start rows)) rows r t (table_places rows) known h.sees (stand_both r (listed a) (listed b) c d))
+
+pub purge_effects : (m : NodeState) (gs : List Segment) (rows : List SegmentRow) (r : Request) (committed least : ℕ) (ds : List Deed) → Tells gs rows → HasRemovals (state_with m gs) r committed least
+    → ds ≡ map (λ row. deed.Remove row.info) (filter (goes m committed least rows) rows) → map (effect_of r) ds ≡ effects_after (state_with m gs) r (row_refused (state_with m gs) r)
+purge_effects m gs rows r committed least ds t h e =
+    ap (map (effect_of r)) e
+    ∙ ap (λ top. map (effect_of r) (map (λ row. deed.Remove row.info) (filter (λ row. entry_is_old m.opened top committed least (entry_of row)) rows))) (newest_told gs rows t)
+    ∙ purge_each r m committed least (newest gs) gs rows t.infos t.starts ∙ sym h.removals ∙ sym (ap (effects_after (state_with m gs) r) h.passes)
+
+pub purge_due : (m : NodeState) (gs : List Segment) (rows : List SegmentRow) (r : Request) (committed least : ℕ) (ds : List Deed) → Tells gs rows → RowsRise rows
+    → ds ≡ map (λ row. deed.Remove row.info) (filter (goes m committed least rows) rows) → AreDue gs rows r ds
+purge_due m gs rows r committed least ds t rise e = subst (λ (xs : List Deed). AreDue gs rows r xs) (sym e) (removals_due m r committed least gs rows t rise)
+
+-- ## The front
 pub known_fits : (known : ℕ) (h : Option HeadView) → IsHeadWithin h → known ≤ max_number → front_known known h ≤ max_number
 known_fits known None f k = k
 known_fits known (Some h) f k = omega (arith, f.1)
 
-pub deeds_due : (m : NodeState) (r : Request) (gs : List Segment) (rows : List SegmentRow) (front rest : List Deed) → Tells gs rows → limit_of r ≡ None → m.known ≤ max_number
-    → front ≡ front_deeds m (head_of r) → AreDeedsBehind (state_with (fronted m r) []) rows r (refusal_of (state_with (fronted m r) []) rows r) rest
-    → AreDue gs rows r (front ++ rest)
-deeds_due m r gs rows front rest t fits k f are =
-    let n = state_with (fronted m r) [] in
-    let within = head_fits r fits in
-    let due : AreDue gs rows r rest =
-    behind_due n r gs rows (refusal_of n rows r) rest t fits (known_fits m.known (head_of r) within k) (refusal_same n r gs rows t) are in
-    subst (λ xs. AreDue gs rows r (xs ++ rest)) (sym f) (front_due m r (head_of r) gs rows rest within due)
+front_same : (m : NodeState) (r : Request) (h : Option HeadView) → map (effect_of r) (map deed_of (listed (front_effect m h))) ≡ front_effects m h
+front_same m r None = refl
+front_same m r (Some h) =
+    elim (nat_lt m.promised h.epoch) as (λ b. map (effect_of r) (map deed_of (listed (cond b (Some (durable.Promise h.epoch)) None))) ≡ cond b (Promise h.epoch ∷ []) []) [ true ↦ refl | false ↦ refl ]
+
+front_due : (m : NodeState) (r : Request) (h : Option HeadView) (gs : List Segment) (rows : List SegmentRow) (rest : List Deed) → IsHeadWithin h → AreDue gs rows r rest
+    → AreDue gs rows r (map deed_of (listed (front_effect m h)) ++ rest)
+front_due m r None gs rows rest f due = due
+front_due m r (Some h) gs rows rest f due =
+    elim (nat_lt m.promised h.epoch) as (λ b. AreDue gs rows r (map deed_of (listed (cond b (Some (durable.Promise h.epoch)) None)) ++ rest)) [ true ↦ (f.0, λ place. due) | false ↦ due ]
+
+none_more : (xs : List Deed) → xs ++ [] ≡ xs
+none_more [] = refl
+none_more (x ∷ xs) = ap (λ ys. x ∷ ys) (none_more xs)
+
+-- the deed of the front and those after it have the effects of the request
+pub effects_same : (m : NodeState) (r : Request) (gs : List Segment) (front rest ds : List Deed) → refused_at_once m r ≡ None → front ≡ map deed_of (listed (front_effect m (head_of r))) ++ []
+    → map (effect_of r) rest ≡ effects_after (fronted (state_with m gs) r) r (row_refused (fronted (state_with m gs) r) r) → ds ≡ front ++ rest → map (effect_of r) ds ≡ effects_of (state_with m gs) r
+unfolding effects_of
+effects_same m r gs front rest ds none f behind e =
+    let s = state_with m gs in
+    ap (map (effect_of r)) e ∙ map-append (effect_of r) front rest
+    ∙ ap (λ es. es ++ map (effect_of r) rest) (ap (map (effect_of r)) (f ∙ none_more _) ∙ front_same m r (head_of r))
+    ∙ ap (λ es. front_effects s (head_of r) ++ es) behind ∙ sym (unless_none s r (refused_at_once s r) none)
+
+pub deeds_due : (m : NodeState) (r : Request) (gs : List Segment) (rows : List SegmentRow) (front rest ds : List Deed) → limit_of r ≡ None → front ≡ map deed_of (listed (front_effect m (head_of r))) ++ []
+    → AreDue gs rows r rest → ds ≡ front ++ rest → AreDue gs rows r ds
+deeds_due m r gs rows front rest ds fits f due e =
+    subst (λ (xs : List Deed). AreDue gs rows r xs) (sym (e ∙ ap (λ (xs : List Deed). xs ++ rest) (f ∙ none_more _))) (front_due m r (head_of r) gs rows rest (head_fits r fits) due)
+
+pub if_ok_each : {T : Type 0} {E : Type 0} (r : Result T E) (P Q R S : T → Type 0) → ((x : T) → P x → Q x → R x → S x) → IfOk r P → IfOk r Q → IfOk r R → IfOk r S
+if_ok_each (Ok x) P Q R S f p q s = f x p q s
+if_ok_each (Err e) P Q R S f p q s = tt

@@ -1,11 +1,8 @@
 pub mod ToldLaws
-pub mod RefusalLaws
-pub mod LimitLaws
-pub mod DeedLaws
+pub mod StepLaws
+pub mod ApplyLaws
 pub mod DueLaws
 pub mod PurgeLaws
-pub mod ApplyLaws
 pub mod ServedLaws
 pub mod ServingTold
 pub mod ReplyLaws
-pub mod StepLaws

@@ -8,7 +8,7 @@ use Rattle.journal_core.specs.declared.reply.Reply.TheVariants.{Refused}
 use Rattle.journal_core.specs.declared.request.Request.{Request}
 use Rattle.journal_core.specs.Limits.{head_of}
 use Rattle.journal_core.specs.Effects.{Effect, Promise, after_effects}
-use Rattle.journal_core.specs.Step.{Stepped, node_step, refused_at_once, row_refused, row_effects, row_then, row_reply, fronted, front_effects, front_promised, effects_of, effects_unless, effects_behind, behind_front, unless_refused}
+use Rattle.journal_core.specs.Step.{Stepped, node_step, refused_at_once, row_refused, row_effects, row_then, row_reply, fronted, front_effects, front_promised, effects_of, effects_unless, effects_after, step_after_front, unless_refused}
 use Rattle.node_deeds.specs.Laws.{StepIsItsDeeds, RefusedIsItsFront}
 
 -- a promise that is raised already
@@ -24,30 +24,30 @@ front_done s t (Some h) es e = by_raised (nat_lt s.promised h.epoch) refl
     by_raised true lt = raised t h.epoch es (let l : s.promised < h.epoch = grind (arith, nat_tests) in omega arith)
     by_raised false lt = refl
 
-pub unless_none : (s : NodeState) (r : Request) (o : Option Refusal) → o ≡ None → effects_unless s r o ≡ front_effects s (head_of r) ++ effects_behind (fronted s r) r (row_refused (fronted s r) r)
+pub unless_none : (s : NodeState) (r : Request) (o : Option Refusal) → o ≡ None → effects_unless s r o ≡ front_effects s (head_of r) ++ effects_after (fronted s r) r (row_refused (fronted s r) r)
 unless_none s r o e = rw e refl
 
--- behind the front, the effects are those of the row
-rest_done : (s : NodeState) (r : Request) → refused_at_once s r ≡ None → after_effects (fronted s r) (effects_of s r) ≡ after_effects (fronted s r) (effects_behind (fronted s r) r (row_refused (fronted s r) r))
+-- after the front, the effects are those of the row
+rest_done : (s : NodeState) (r : Request) → refused_at_once s r ≡ None → after_effects (fronted s r) (effects_of s r) ≡ after_effects (fronted s r) (effects_after (fronted s r) r (row_refused (fronted s r) r))
 unfolding effects_of
 rest_done s r none =
-    ap (after_effects (fronted s r)) (unless_none s r (refused_at_once s r) none) ∙ front_done s (fronted s r) (head_of r) (effects_behind (fronted s r) r (row_refused (fronted s r) r)) refl
+    ap (after_effects (fronted s r)) (unless_none s r (refused_at_once s r) none) ∙ front_done s (fronted s r) (head_of r) (effects_after (fronted s r) r (row_refused (fronted s r) r)) refl
 
-step_behind : (s : NodeState) (r : Request) → refused_at_once s r ≡ None → node_step s r ≡ behind_front (fronted s r) r (row_refused (fronted s r) r)
+step_after : (s : NodeState) (r : Request) → refused_at_once s r ≡ None → node_step s r ≡ step_after_front (fronted s r) r (row_refused (fronted s r) r)
 unfolding node_step
-step_behind s r none = ap (unless_refused s r) none
+step_after s r none = ap (unless_refused s r) none
 
 pub step_deeds : StepIsItsDeeds
 step_deeds s r none row =
     let rest : after_effects (fronted s r) (effects_of s r) ≡ after_effects (fronted s r) (row_effects (fronted s r) r) =
-    rest_done s r none ∙ ap (λ (o : Option Refusal). after_effects (fronted s r) (effects_behind (fronted s r) r o)) row in
-    step_behind s r none ∙ ap (behind_front (fronted s r) r) row
+    rest_done s r none ∙ ap (λ (o : Option Refusal). after_effects (fronted s r) (effects_after (fronted s r) r o)) row in
+    step_after s r none ∙ ap (step_after_front (fronted s r) r) row
     ∙ sym (ap (λ (t : NodeState). let x : Stepped = record { state = row_then t r; reply = row_reply (fronted s r) r } in x) rest)
 
 pub refused_front : RefusedIsItsFront
 unfolding after_effects
 refused_front s r refusal none row =
     let rest : after_effects (fronted s r) (effects_of s r) ≡ fronted s r =
-    rest_done s r none ∙ ap (λ (o : Option Refusal). after_effects (fronted s r) (effects_behind (fronted s r) r o)) row in
-    step_behind s r none ∙ ap (behind_front (fronted s r) r) row
+    rest_done s r none ∙ ap (λ (o : Option Refusal). after_effects (fronted s r) (effects_after (fronted s r) r o)) row in
+    step_after s r none ∙ ap (step_after_front (fronted s r) r) row
     ∙ sym (ap (λ (t : NodeState). let x : Stepped = record { state = t; reply = Refused refusal } in x) rest)

@@ -3,7 +3,6 @@ use Rattle.std.specs.Prelude.{ℕ, ◌≡◌, ◌≤◌, ◌<◌, ◌+◌, ◌-�
 use Rattle.journal_core.specs.Views.{BatchView, last_txid}
 use Rattle.journal_core.specs.declared.segment.Segment.{Segment}
 use Rattle.journal_core.specs.declared.request.Request.{Request}
-use Rattle.journal_core.specs.declared.request.Request.TheVariants.{Journal, Accept}
 use Rattle.journal_core.specs.Limits.{max_number}
 use Rattle.journal_core.specs.declared.segment_info.SegmentInfo.{SegmentInfo}
 use Rattle.journal_core.specs.Segments.{find_segment, info_of}
@@ -15,14 +14,9 @@ use Rattle.segment_file.specs.declared.segment_row.SegmentRow.{SegmentRow}
 use Rattle.segment_file.specs.Rows.{find_row, put_row, remove_row}
 use Rattle.segment_file.specs.Calls.{NotFinal, HasNoEdit}
 use Rattle.node_files.specs.Deeds.{number_effect}
+pub use Rattle.request_decision.specs.Durable.{batch_of}
 use Rattle.node_deeds.specs.declared.deed.Deed.{Deed}
 use Rattle.node_deeds.specs.declared.deed.Deed.TheVariants as deed
-
--- the batch of a request that has one
-abbrev pub batch_of : Request → BatchView
-batch_of (Journal head start batch) = batch
-batch_of (Accept head batch) = batch
-batch_of _ = record { first = 0; bodies = [] }
 
 abbrev pub effect_of : Request → Deed → Effect
 effect_of r (deed.Number number value) = number_effect number value

@@ -12,7 +12,7 @@ abbrev pub StepIsItsDeeds : Type 0
 StepIsItsDeeds = (s : NodeState) (r : Request) → refused_at_once s r ≡ None → row_refused (fronted s r) r ≡ None
     → node_step s r ≡ record { state = row_then (after_effects (fronted s r) (effects_of s r)) r; reply = row_reply (fronted s r) r }
 
--- of a request that is refused behind its front, the front's effect is the only one
+-- of a request that is refused after its front, the front's effect is the only one
 abbrev pub RefusedIsItsFront : Type 0
 RefusedIsItsFront = (s : NodeState) (r : Request) (refusal : Refusal) → refused_at_once s r ≡ None → row_refused (fronted s r) r ≡ Some refusal
     → node_step s r ≡ record { state = after_effects (fronted s r) (effects_of s r); reply = Refused refusal }

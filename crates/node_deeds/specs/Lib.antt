@@ -1,5 +1,5 @@
 pub mod Told
-pub mod Table
+pub mod Decided
 pub mod Due
 pub mod Served
 pub mod Laws

@@ -2,19 +2,15 @@
 use Rattle.std.specs.Prelude.{List}
 use Rattle.journal_core.specs.declared.segment.Segment.{Segment}
 use Rattle.journal_core.specs.declared.segment_line.SegmentLine.{SegmentLine}
-use Rattle.journal_core.specs.declared.node_state.NodeState.{NodeState}
 use Rattle.journal_core.specs.Segments.{end_of}
 use Rattle.segment_file.specs.declared.segment_row.SegmentRow.{SegmentRow}
+pub use Rattle.request_decision.specs.Index.{state_with}
 use Rattle.segment_file.specs.RowsTell.{AreInfos, AreStarts}
 
 -- The rows tell the segments. No start is 0, so that an end below the start says that there is no edit.
 pub record Tells (gs : List Segment) (rows : List SegmentRow) : Type 0 where
   pub infos : AreInfos gs rows
   pub starts : AreStarts gs
-
--- what a node keeps in memory, with its segments
-abbrev pub state_with : NodeState → List Segment → NodeState
-state_with memory gs = record memory { segments = gs }
 
 -- a segment's line in a manifest
 abbrev pub line_of : Segment → SegmentLine

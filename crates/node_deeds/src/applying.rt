@@ -18,7 +18,7 @@ use segment_file::{RowRoom, SegmentRow, SegmentTable};
 /// Where the frames of a segment file begin, in bytes.
 const HEADER_LENGTH: u64 = 24;
 
-fn first_of(request: &Request) -> u64
+pub(crate) fn first_of(request: &Request) -> u64
     ensures { result ≡ (batch_of request.now).first }
 {
     match request {

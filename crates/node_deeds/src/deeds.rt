@@ -1,27 +1,94 @@
 //! The deeds of a request.
-ghost use Rattle.std.specs.Prelude.{◌≡◌, ◌≤◌, ◌++◌, [], ◌∷◌, None, List, map, IfOk};
+ghost use Rattle.std.specs.Prelude.{◌≡◌, ◌≤◌, ◌++◌, [], ◌∷◌, None, List, map, filter, IfOk, OnOk};
 ghost use Rattle.journal_core.specs.declared.segment.Segment.{Segment};
 ghost use Rattle.journal_core.specs.Limits.{head_of, limit_of, max_number};
-ghost use Rattle.journal_core.specs.Step.{refused_at_once, fronted, effects_of};
-ghost use Rattle.segment_file.specs.Rows.{find_row, newest_row};
+ghost use Rattle.journal_core.specs.Step.{refused_at_once, row_refused, effects_of, effects_after};
+ghost use Rattle.segment_file.specs.Rows.{newest_row, RowsRise};
+ghost use Rattle.request_decision.specs.Index.{entry_is_old};
+ghost use Rattle.request_decision.specs.Decisions.{listed};
 ghost use Rattle.node_deeds.specs.Told.{Tells, state_with};
-ghost use Rattle.node_deeds.specs.Table.{accept_deeds, AreAppend, AreDeedsBehind, AreRowDeeds, final_deeds, finalize_deeds, front_deeds, refusal_of, row_may_go, start_deeds};
+ghost use Rattle.node_deeds.specs.Decided.{entry_of, deed_of, front_effect, CanStand, EachCanStand};
 ghost use Rattle.node_deeds.specs.Due.{effect_of, AreDue};
 
+use crate::applying::first_of;
 use crate::deed::Deed;
-use crate::memory::behind_front;
-use crate::refusals::{has_edit, refusal_by};
-use journal_core::{Batch, Head, MAX_NUMBER, NodeState, Request};
+use crate::memory::step_after_front;
+use crate::row_index::{RowIndex, entry_of};
+use journal_core::{MAX_NUMBER, NodeState, Request};
 use node_files::NodeNumber;
 use qj_num::OutOfMemory;
-use segment_file::{SegmentRow, SegmentTable};
+use request_decision::{Decision, DurableEffect, decide, is_old};
+use segment_file::SegmentTable;
 use std::alloc::{AllocError, Global};
 
-fn one(alloc: Global, deed: Deed) -> Result<Vec<Deed>, OutOfMemory>
-    ensures { IfOk result (λ v. v.items ≡ deed ∷ []) }
+fn number_deed(number: NodeNumber, value: u64) -> Result<Deed, OutOfMemory>
+    ensures { IfOk result (λ deed. deed ≡ Deed.Number number value) }
+{
+    Ok(Deed::Number { number, value })
+}
+
+// The deed that does the effect, if that can stand in a file.
+fn deed_of(request: &Request, effect: DurableEffect) -> Result<Deed, OutOfMemory>
+    ensures deed { IfOk result (λ deed. deed ≡ deed_of effect) }
+    ensures stands { IfOk result (λ _. CanStand request.now effect) }
+{
+    match effect {
+        DurableEffect::Promise { epoch } => number_deed(NodeNumber::Promised, epoch),
+        DurableEffect::WriterEpoch { epoch } => number_deed(NodeNumber::Writer, epoch),
+        DurableEffect::Commit { txid } => number_deed(NodeNumber::Committed, txid),
+        DurableEffect::NewSegment { start, epoch } if start > 0 && epoch > 0 => {
+            Ok(Deed::Begin { start, epoch })
+        }
+        DurableEffect::Append { start, at } if at < MAX_NUMBER => Ok(Deed::Append { start, at }),
+        DurableEffect::Replace { epoch, again } if epoch > 0 && first_of(request) > 0 => {
+            Ok(Deed::Accept { epoch, again })
+        }
+        DurableEffect::MakeFinal {
+            start,
+            end,
+            accepted,
+        } => Ok(Deed::Finalize {
+            start,
+            end,
+            accepted,
+        }),
+        DurableEffect::Remove { info } => Ok(Deed::Remove { info }),
+        DurableEffect::NewSegment { .. } => Err(AllocError),
+        DurableEffect::Append { .. } => Err(AllocError),
+        DurableEffect::Replace { .. } => Err(AllocError),
+    }
+}
+
+// Adds the deed of an effect, if there is one.
+fn add_deed(
+    deeds: &mut Vec<Deed>,
+    request: &Request,
+    effect: Option<DurableEffect>,
+) -> Result<(), OutOfMemory>
+    ensures deeds { OnOk result (deeds.new.items ≡ deeds.old.items ++ map deed_of (listed effect)) }
+    ensures stand { OnOk result (EachCanStand request.now (listed effect)) }
+{
+    let Some(effect) = effect else {
+        return Ok(());
+    };
+    let deed = deed_of(request, effect)?;
+    deeds.push(deed)?;
+    Ok(())
+}
+
+fn few_deeds(
+    alloc: Global,
+    request: &Request,
+    first: Option<DurableEffect>,
+    second: Option<DurableEffect>,
+) -> Result<Vec<Deed>, OutOfMemory>
+    ensures deeds { IfOk result (λ v. v.items ≡ map deed_of (listed first) ++ map deed_of (listed second)) }
+    ensures first { IfOk result (λ _. EachCanStand request.now (listed first)) }
+    ensures second { IfOk result (λ _. EachCanStand request.now (listed second)) }
 {
     let mut deeds = Vec::new(alloc);
-    deeds.push(deed)?;
+    add_deed(&mut deeds, request, first)?;
+    add_deed(&mut deeds, request, second)?;
     Ok(deeds)
 }
 
@@ -37,223 +104,64 @@ fn joined(front: Vec<Deed>, rest: Vec<Deed>) -> Result<Vec<Deed>, OutOfMemory>
     Ok(deeds)
 }
 
-// The front's deed: a raised promise.
-fn front_deeds(
-    alloc: Global,
-    memory: &NodeState,
-    request: &Request,
-) -> Result<Vec<Deed>, OutOfMemory>
-    ensures { IfOk result (λ v. v.items ≡ front_deeds memory.now (head_of request.now)) }
-{
-    match request.head() {
-        Some(head) if head.epoch() > memory.promised => one(
-            alloc,
-            Deed::Number {
-                number: NodeNumber::Promised,
-                value: head.epoch(),
-            },
-        ),
-        _ => Ok(Vec::new(alloc)),
-    }
-}
-
-fn start_deeds(
-    alloc: Global,
-    memory: &NodeState,
-    head: &Head,
-    start: u64,
-) -> Result<Vec<Deed>, OutOfMemory>
-    ensures { IfOk result (λ v. (1 ≤ start) × (1 ≤ head.now.epoch) × (v.items ≡ start_deeds memory.now head.now start)) }
-{
-    let epoch = head.epoch();
-    if start == 0 || epoch == 0 {
-        return Err(AllocError);
-    }
-    let mut deeds = Vec::new(alloc);
-    if memory.writer != epoch {
-        deeds.push(Deed::Number {
-            number: NodeNumber::Writer,
-            value: epoch,
-        })?;
-    }
-    deeds.push(Deed::Begin { start, epoch })?;
-    Ok(deeds)
-}
-
-fn journal_deeds(alloc: Global, table: &SegmentTable, start: u64) -> Result<Vec<Deed>, OutOfMemory>
-    ensures { IfOk result (λ v. AreAppend start table.now v.items) }
-{
-    match table.find(start) {
-        Some(row) if !row.info.is_final && row.whole_length < MAX_NUMBER => one(
-            alloc,
-            Deed::Append {
-                start,
-                at: row.whole_length,
-            },
-        ),
-        _ => Err(AllocError),
-    }
-}
-
-fn final_deeds(
-    alloc: Global,
-    table: &SegmentTable,
-    start: u64,
-    end: u64,
-) -> Result<Vec<Deed>, OutOfMemory>
-    ensures { IfOk result (λ v. v.items ≡ final_deeds start end (find_row start table.now)) }
-{
-    match table.find(start) {
-        Some(row) if !row.info.is_final => one(
-            alloc,
-            Deed::Finalize {
-                start,
-                end,
-                accepted: row.info.accepted,
-            },
-        ),
-        _ => Ok(Vec::new(alloc)),
-    }
-}
-
-fn finalize_deeds(
-    alloc: Global,
-    memory: &NodeState,
-    table: &SegmentTable,
-    start: u64,
-    end: u64,
-) -> Result<Vec<Deed>, OutOfMemory>
-    ensures { IfOk result (λ v. v.items ≡ finalize_deeds memory.now start end (find_row start table.now)) }
-{
-    let mut deeds = final_deeds(alloc, table, start, end)?;
-    if memory.known > memory.committed {
-        deeds.push(Deed::Number {
-            number: NodeNumber::Committed,
-            value: memory.known,
-        })?;
-    }
-    Ok(deeds)
-}
-
-fn accept_deeds(
-    alloc: Global,
-    table: &SegmentTable,
-    head: &Head,
-    batch: &Batch,
-) -> Result<Vec<Deed>, OutOfMemory>
-    ensures { IfOk result (λ v. (1 ≤ batch.now.first) × (1 ≤ head.now.epoch) × (v.items ≡ accept_deeds head.now.epoch (find_row batch.now.first table.now))) }
-{
-    let epoch = head.epoch();
-    if batch.first() == 0 || epoch == 0 {
-        return Err(AllocError);
-    }
-    match table.find(batch.first()) {
-        Some(row) if row.info.is_final => Ok(Vec::new(alloc)),
-        Some(row) => {
-            let again = row.info.accepted && row.info.epoch == epoch;
-            one(alloc, Deed::Accept { epoch, again })
-        }
-        None => one(
-            alloc,
-            Deed::Accept {
-                epoch,
-                again: false,
-            },
-        ),
-    }
-}
-
-// A purge removes the row, where `newest` is the newest that holds an edit.
-fn may_go(
-    memory: &NodeState,
-    committed: u64,
-    min: u64,
-    newest: Option<u64>,
-    row: &SegmentRow,
-) -> bool
-    ensures { result ≡ row_may_go memory.now committed min newest row.now }
-{
-    if memory.opened == Some(row.info.start) {
-        return false;
-    }
-    if has_edit(row) && newest == Some(row.info.start) {
-        return false;
-    }
-    let last = row.info.start.max(row.info.end);
-    last < min && last <= committed
-}
-
+// The removals of a purge.
 #[tactic(auto, using(crate::proofs::PurgeLaws::purged))]
 fn purge_deeds(
     alloc: Global,
     memory: &NodeState,
     table: &SegmentTable,
-    head: &Head,
+    committed: u64,
     min: u64,
 ) -> Result<Vec<Deed>, OutOfMemory>
-    ensures { IfOk result (λ v. AreRowDeeds memory.now table.now (Request.Purge head.now min) v.items) }
+    ensures deeds { IfOk result (λ v. v.items ≡ map (λ row. Deed.Remove row.info) (filter (λ row. entry_is_old memory.now.opened (newest_row table.now) committed min (entry_of row)) table.now)) }
+    ensures rise { IfOk result (λ _. RowsRise table.now) }
 {
     let newest = table.newest();
     let mut deeds = Vec::new(alloc);
     for row in table.as_slice() {
-        if may_go(memory, head.committed(), min, newest, row) {
+        let entry = entry_of(row);
+        if is_old(&entry, memory.opened, newest, committed, min) {
             deeds.push(Deed::Remove { info: row.info })?;
         }
     }
     Ok(deeds)
 }
 
-// The deeds behind the front, of a request that isn't refused.
-fn row_deeds(
+// The deeds after the front.
+fn deeds_after(
     alloc: Global,
     memory: &NodeState,
     table: &SegmentTable,
     request: &Request,
 ) -> Result<Vec<Deed>, OutOfMemory>
-    ensures { IfOk result (λ v. AreRowDeeds memory.now table.now request.now v.items) }
+    requires limits { limit_of request.now ≡ None }
+    requires known { memory.now.known ≤ max_number }
+    ensures effects { (gs : List Segment) → Tells gs table.now → IfOk result (λ v. map (effect_of request.now) v.items ≡ effects_after (state_with memory.now gs) request.now (row_refused (state_with memory.now gs) request.now)) }
+    ensures due { (gs : List Segment) → Tells gs table.now → IfOk result (λ v. AreDue gs table.now request.now v.items) }
 {
-    match request {
-        Request::NewEpoch { epoch } => one(
-            alloc,
-            Deed::Number {
-                number: NodeNumber::Promised,
-                value: *epoch,
-            },
-        ),
-        Request::Start { head, start } => start_deeds(alloc, memory, head, *start),
-        Request::Journal { start, .. } => journal_deeds(alloc, table, *start),
-        Request::Finalize { start, end, .. } => {
-            finalize_deeds(alloc, memory, table, *start, *end)
-        }
-        Request::Accept { head, batch } => accept_deeds(alloc, table, head, batch),
-        Request::Purge { head, min } => purge_deeds(alloc, memory, table, head, *min),
-        Request::State => Ok(Vec::new(alloc)),
-        Request::Prepare { .. } => Ok(Vec::new(alloc)),
-        Request::Fetch { .. } => Ok(Vec::new(alloc)),
-        Request::Read { .. } => Ok(Vec::new(alloc)),
-        Request::Manifest => Ok(Vec::new(alloc)),
+    match decide(memory, &RowIndex { table }, request) {
+        Decision::Refused(_) => Ok(Vec::new(alloc)),
+        Decision::Effects { first, second } => few_deeds(alloc, request, first, second),
+        Decision::Purge { committed, min } => purge_deeds(alloc, memory, table, committed, min),
     }
 }
 
-fn deeds_behind(
-    alloc: Global,
-    memory: &NodeState,
-    table: &SegmentTable,
-    request: &Request,
-) -> Result<Vec<Deed>, OutOfMemory>
-    requires { limit_of request.now ≡ None }
-    ensures { IfOk result (λ v. AreDeedsBehind memory.now table.now request.now (refusal_of memory.now table.now request.now) v.items) }
+// The front's effect: a raised promise.
+fn front_effect(memory: &NodeState, request: &Request) -> Option<DurableEffect>
+    ensures { result ≡ front_effect memory.now (head_of request.now) }
 {
-    match refusal_by(memory, table, request) {
-        Some(_) => Ok(Vec::new(alloc)),
-        None => row_deeds(alloc, memory, table, request),
+    match request.head() {
+        Some(head) if head.epoch() > memory.promised => Some(DurableEffect::Promise {
+            epoch: head.epoch(),
+        }),
+        _ => None,
     }
 }
 
 /// The durable effects of a request, in order, as the deeds that do them. `memory` is the node's before
 /// the front, in which no number is above 2^62, and the table has the rows of its segments. The request
 /// isn't refused before its front. A purge's deeds come by rising start. What can't stand in a file is
-/// answered OutOfMemory too, as want of memory: a start, a first txid or an epoch of 0, and an append to an
+/// answered OutOfMemory too, as lack of memory: a start, a first txid or an epoch of 0, and an append to an
 /// open segment that isn't in progress or whose file has 2^62 bytes.
 pub fn deeds_of(
     alloc: Global,
@@ -267,9 +175,9 @@ pub fn deeds_of(
     ensures effects { (gs : List Segment) → Tells gs table.now → IfOk result (λ v. map (effect_of request.now) v.items ≡ effects_of (state_with memory.now gs) request.now) }
     ensures due { (gs : List Segment) → Tells gs table.now → IfOk result (λ v. AreDue gs table.now request.now v.items) }
 {
-    let front = front_deeds(alloc, memory, request)?;
-    let behind = behind_front(alloc, memory, request);
-    let rest = deeds_behind(alloc, &behind, table, request)?;
+    let front = few_deeds(alloc, request, front_effect(memory, request), None)?;
+    let behind = step_after_front(alloc, memory, request);
+    let rest = deeds_after(alloc, &behind, table, request)?;
     let deeds = joined(front, rest)?;
     Ok(deeds)
 }

@@ -9,13 +9,15 @@ mod laws;
 mod memory;
 mod refusals;
 mod replies;
+mod row_index;
 mod serving;
 
 pub use applying::apply;
 pub use deed::Deed;
 pub use deeds::deeds_of;
 pub use laws::{refused_is_its_front, step_is_its_deeds};
-pub use memory::{behind_front, follow, note};
+pub use memory::{note, step_after_front};
 pub use refusals::row_refusal;
 pub use replies::plain_reply;
+pub use request_decision::follow;
 pub use serving::{line_at, not_served, serving_row};

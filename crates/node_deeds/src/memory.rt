@@ -3,7 +3,7 @@ ghost use Rattle.std.specs.Prelude.{◌≡◌, [], List};
 ghost use Rattle.journal_core.specs.declared.segment.Segment.{Segment};
 ghost use Rattle.journal_core.specs.declared.request.Request.{Request as AnyRequest};
 ghost use Rattle.journal_core.specs.Effects.{after_effect, segments_after};
-ghost use Rattle.journal_core.specs.Step.{row_then, fronted};
+ghost use Rattle.journal_core.specs.Step.{fronted};
 ghost use Rattle.node_deeds.specs.Told.{state_with};
 ghost use Rattle.node_deeds.specs.Due.{effect_of};
 
@@ -13,7 +13,7 @@ use node_files::NodeNumber;
 use std::alloc::Global;
 
 /// What a node keeps in memory, as the front of a request leaves it, without segments; takes no memory.
-pub fn behind_front(alloc: Global, memory: &NodeState, request: &Request) -> NodeState
+pub fn step_after_front(alloc: Global, memory: &NodeState, request: &Request) -> NodeState
     ensures { result ≡ state_with (fronted memory.now request.now) [] }
 {
     let mut behind = NodeState {
@@ -41,24 +41,5 @@ pub fn note(memory: &mut NodeState, deed: Deed)
             NodeNumber::Writer => memory.writer = value,
             NodeNumber::Committed => memory.committed = value,
         }
-    }
-}
-
-/// What follows the deeds of a request that isn't refused: which segment is open, and the serial.
-pub fn follow(memory: &mut NodeState, request: &Request)
-    ensures { memory.new ≡ row_then memory.old request.now }
-{
-    match request {
-        Request::NewEpoch { .. } => {
-            memory.opened = None;
-            memory.serial = 0;
-        }
-        Request::Start { start, .. } => memory.opened = Some(*start),
-        Request::Finalize { start, .. } => {
-            if memory.opened == Some(*start) {
-                memory.opened = None;
-            }
-        }
-        _ => (),
     }
 }

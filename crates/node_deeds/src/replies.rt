@@ -6,7 +6,7 @@ ghost use Rattle.segment_file.specs.Rows.{find_row};
 ghost use Rattle.node_deeds.specs.Told.{Tells, state_with};
 ghost use Rattle.node_deeds.specs.Served.{row_told, row_lines, IsPlainReply, reply_by};
 
-use crate::refusals::has_edit;
+use crate::row_index::has_edit;
 use crate::serving::row_line;
 use journal_core::{NodeState, Reply, Request, SegmentLines, ToldSegment};
 use qj_num::OutOfMemory;
@@ -74,7 +74,7 @@ fn reply_by(
 }
 
 /// The reply to a request that isn't refused, where it needs no file: `None` exactly for a fetch and a
-/// read. `memory` is the node's behind the front, and the table has the rows of its segments, both as they
+/// read. `memory` is the node's after the front, and the table has the rows of its segments, both as they
 /// are before the request's deeds.
 pub fn plain_reply(
     alloc: Global,

@@ -38,14 +38,6 @@ pub removed_clears : (start : ℕ) (accepted : Bool) → accepted ≡ true → (
 removed_clears start accepted is result v0 v1 atomic = subst (λ (b : Bool). Clears b start result v0 v1) (sym is)
     (removed start result v0 v1 (subst (λ (name : List ℕ). Atomic (ChangesOnly name IsGone) result v0 v1) (sym (record_name start)) atomic))
 
-pub nothing_clears : (start : ℕ) (accepted : Bool) → accepted ≡ false → {T E : Type 0} (result : Result T E) (v : View) → Clears accepted start result v v
-nothing_clears start accepted is result v = record {
-  seen = inl record { files = λ n. refl };
-  crash = λ c now. (c, now, inl record { files = λ n. refl });
-  done = λ yes. absurd (let p : true ≡ false = sym yes ∙ is in cc);
-  time = record { later = omega arith; nothing_else = λ t c le left. inl left; keeps = λ t c le left. left };
-}
-
 pub removed_counts : (accepted : Bool) → accepted ≡ true → (before now : Option ℕ) (tells : Type 0) (result : Result (Unit {0}) DiskFail) (v0 v1 : View) → OneCut before now tells result v0 v1 → IsCounted (clear_calls accepted) before now result
 removed_counts accepted is before now tells result v0 v1 cut = subst (λ (b : Bool). IsCounted (clear_calls b) before now result) (sym is) (counted_one before now tells result v0 v1 cut)
 

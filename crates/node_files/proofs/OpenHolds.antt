@@ -159,11 +159,5 @@ module _ (name : List ℕ) where
   bad_within opened.DiskFault is = tt
   bad_within opened.OutOfMemory is = tt
 
-pub bad_made : (numbers : NodeNumbers) (rows : List SegmentRow) (start : ℕ) → IsUnfilledRow rows start → (o : OpenedFiles) → IsBadAt (name_of start InProgress) o → IsMade numbers rows o
-bad_made numbers rows start unfilled (opened.Files f) is = absurd is
-bad_made numbers rows start unfilled (opened.BadFile bad) is = (start, unfilled, is)
-bad_made numbers rows start unfilled opened.DiskFault is = absurd is
-bad_made numbers rows start unfilled opened.OutOfMemory is = tt
-
 pub files_within : (numbers : NodeNumbers) (rows : List SegmentRow) → AreSmall numbers → AreSoundRows rows → IsWithinFiles (opened.Files (record { promised = numbers.promised; writer = numbers.writer; committed = numbers.committed; table = rows }))
 files_within numbers rows small sound = (small Promised, small Writer, small Committed, tell_segments rows sound)

@@ -26,18 +26,15 @@ edit start end le = grind (arith, nat_tests)
 pub lacks_edit : (row : SegmentRow) → row.info.accepted ≡ true → row.info.end < row.info.start → LacksEdit row
 lacks_edit row accepted less = (accepted, no_edit row.info.start row.info.end less)
 
-pub has_one : (row : SegmentRow) → row.info.start ≤ row.info.end → IsFilledRow row
-has_one row le = λ accepted. edit row.info.start row.info.end le
-
 pub not_accepted : (row : SegmentRow) → row.info.accepted ≡ false → IsFilledRow row
 not_accepted row free = λ accepted. let p = sym free ∙ accepted in absurd (cc)
 
-filled_behind : (rows : List SegmentRow) (row : SegmentRow) → AreFilledRows rows → IsFilledRow row → AreFilledRows (rows ++ row ∷ [])
-filled_behind [] row are is = (is, tt)
-filled_behind (r ∷ rows) row are is = (are.0, filled_behind rows row are.1 is)
+filled_after : (rows : List SegmentRow) (row : SegmentRow) → AreFilledRows rows → IsFilledRow row → AreFilledRows (rows ++ row ∷ [])
+filled_after [] row are is = (is, tt)
+filled_after (r ∷ rows) row are is = (are.0, filled_after rows row are.1 is)
 
 pub filled_next : (rows : List SegmentRow) (i : ℕ) (d : SegmentRow) → i < length rows → AreFilledRows (take i rows) → IsFilledRow (get_or rows i d) → AreFilledRows (take (i + 1) rows)
-filled_next rows i d lt are is = subst AreFilledRows (sym (take_more rows i d lt)) (filled_behind (take i rows) (get_or rows i d) are is)
+filled_next rows i d lt are is = subst AreFilledRows (sym (take_more rows i d lt)) (filled_after (take i rows) (get_or rows i d) are is)
 
 pub filled_all : (rows : List SegmentRow) (i : ℕ) → length rows ≤ i → AreFilledRows (take i rows) → AreFilledRows rows
 filled_all rows i all are = subst AreFilledRows (take_all i rows all) are
@@ -71,7 +68,7 @@ module _ (seen : Files) where
     filled_segments gs rows starts.1 are.1 filled.1,
   )
 
-  -- the segments before a row, that of the row, and those behind it
+  -- the segments before a row, that of the row, and those after it
   record Parts (gs : List Segment) (front : List SegmentRow) (row : SegmentRow) : Type 0 where
     before : List Segment
     segment : Segment

@@ -1,5 +1,5 @@
 -- An effect on the segments whose call is followed by the removal of the record of an acceptance.
-use Rattle.std.proofs.Common.{inl, inr, ◌⊎◌, ◌≡◌, ◌≢◌, ℕ, zero, suc, List, sym, ◌∙◌, refl, subst, arith, ◌+◌, ◌^◌, ◌≤◌, Bool, true, false}
+use Rattle.std.proofs.Common.{inl, inr, ◌⊎◌, ◌≡◌, ◌≢◌, ℕ, zero, suc, List, sym, ◌∙◌, subst, arith, ◌+◌, ◌^◌, ◌≤◌, Bool, true, false}
 use Rattle.std.specs.Prelude.{Option, Some, None, IsSome, Result, Ok, Err, OnOk, IsOk, IsErr, nat_le, if◌then◌else◌}
 use Rattle.std.proofs.lemmas.Bool.Decides.{nat_tests}
 use Rattle.std.proofs.lemmas.Result.{on_ok_weaker}
@@ -8,9 +8,6 @@ use Rattle.qj_disk.specs.View.{View, IsSound, LeavesOnly, AllLeave}
 use Rattle.qj_disk.specs.Moments.{goes_on}
 use Rattle.qj_disk.specs.declared.disk.DiskFail.{DiskFail}
 use Rattle.small_files.specs.Puts.{temporary}
-use Rattle.small_files.specs.Answers.{put_result}
-use Rattle.small_files.specs.declared.answers.Put.{Put}
-use Rattle.small_files.specs.declared.answers.Put.TheVariants as put
 use Rattle.journal_core.specs.declared.segment.Segment.{Segment}
 use Rattle.journal_core.specs.declared.node_state.NodeState.{NodeState}
 use Rattle.journal_core.specs.Segments.{find_segment}
@@ -28,17 +25,6 @@ use Rattle.node_files.specs.Deeds.{MayClear, Clears, clear_calls, Does, IsCutAt}
 use Rattle.node_files.proofs.Names.{number_other, temporary_other}
 use Rattle.node_files.proofs.ClearLaws.{kind_stays, other_stays}
 use Rattle.node_files.proofs.OneCall.{Kept, numbers_same, stands_with, numbers_now, temporary_stays, moments_as}
-
--- what is told of an answer that isn't Done
-pub failed_is_err : (answer : Put) → (answer ≡ put.Done → ⊥) → IsErr (put_result answer)
-failed_is_err put.Done not = absurd (not refl)
-failed_is_err put.DiskFault not = refl
-failed_is_err put.OutOfMemory not = refl
-
-pub done_is_ok : (answer : Put) → answer ≡ put.Done → IsOk (put_result answer)
-done_is_ok put.Done is = refl
-done_is_ok put.DiskFault is = absurd (cc)
-done_is_ok put.OutOfMemory is = absurd (cc)
 
 ok_not_err : {T E : Type 0} (r : Result T E) → IsOk r → IsErr r → ⊥
 ok_not_err (Ok x) ok err = absurd (cc)
@@ -65,7 +51,7 @@ pub failed_cut : (accepted : Bool) (before after : NodeState) (left : Option ℕ
 failed_cut true before after left r v cut = record { stands = cut.stands }
 failed_cut false before after left r v cut = cut
 
--- ## Behind the first call
+-- ## After the first call
 module _ (start : ℕ) (first : 1 ≤ start) (small : start ≤ 2 ^ 62) (kinds : List Kind) (v0 v1 v2 : View) (sound1 : IsSound v1) (touches : Touches start kinds v0 v1)
     (s : NodeState) (holds : HoldsState v0 s) (after : List Segment) (ready : IsReady v1 after) (free : NotAccepted (find_segment start after))
     (accepted : Bool) (last : Result (Unit {0}) DiskFail) (clears : Clears accepted start last v1 v2) where

@@ -1,7 +1,6 @@
 //! A recovery is accepted.
-ghost use Rattle.std.specs.Prelude.{◌≡◌, ◌↔◌, ◌≤◌, ◌^◌, ℕ, None};
-ghost use Rattle.qj_disk.specs.Calls.{HasCause, HasShortage};
-ghost use Rattle.small_files.specs.Answers.{put_result};
+ghost use Rattle.std.specs.Prelude.{◌≡◌, ◌≤◌, ◌^◌};
+ghost use Rattle.qj_disk.specs.DiskCalls.{IfTold, IsDiskCall, LacksFile};
 ghost use Rattle.journal_core.specs.Views.{last_txid};
 ghost use Rattle.journal_core.specs.declared.node_state.NodeState.{NodeState};
 ghost use Rattle.journal_core.specs.Effects.{Replace, after_effect};
@@ -13,42 +12,37 @@ ghost use Rattle.node_files.specs.Durable.{HoldsState};
 ghost use Rattle.node_files.specs.Deeds.{CanAccept, Does, IsCutAt, KeepsOthers};
 
 use journal_core::Batch;
-use qj_disk::Disk;
+use qj_disk::{Disk, DiskFail};
 use segment_file::{ReadyFrame, replace, replace_again};
-use small_files::Put;
 
 /// Accepts the edits of the batch under this epoch as the segment in progress with its start, in the place
 /// of one that may be there, where no final segment has that start. `again` tells whether the segment's
 /// record already has this epoch: then there are three disk calls, of which the last decides, and else six,
 /// of which the fifth decides. A crash at any moment leaves files that stand for the state with the old
-/// edits or with the accepted ones, and once this answered Done only with these. The temporary file of the
+/// edits or with the accepted ones, and once this answered Ok only with these. The temporary file of the
 /// record isn't there. The batch's start and the epoch are from 1 to 2^62, and the frame was made of the
-/// batch, as it still is. It takes no memory but what the disk takes. `DiskFault` and `OutOfMemory` leave
-/// either.
+/// batch, as it still is. It takes no memory but what the disk takes. An `Err` leaves either.
 pub fn accept_edits<D: Disk>(
     disk: &mut D,
     epoch: u64,
     batch: &Batch,
     again: bool,
     frame: &mut ReadyFrame,
-) -> Put
+) -> Result<(), DiskFail>
     requires start { (1 ≤ batch.now.first) × (batch.now.first ≤ 2 ^ 62) }
     requires epoch { (1 ≤ epoch) × (epoch ≤ 2 ^ 62) }
     requires last { last_txid batch.now ≤ 2 ^ 62 }
-    requires absent { D.tells disk.old → (D.view disk.old).seen (name_of batch.now.first FreshRecord) ≡ None }
+    requires absent { LacksFile D.DiskModel disk.old (name_of batch.now.first FreshRecord) }
     requires frame { IsFrameOf batch.now frame.old }
 
-    ensures tells { D.tells disk.old ↔ D.tells disk.new }
+    ensures call { IsDiskCall D.DiskModel disk.old disk.new result }
     ensures frame { IsFrameOf batch.now frame.new }
     ensures effect { D.tells disk.old → (s : NodeState) → HoldsState (D.view disk.old) s → CanAccept epoch batch.now again s.segments
-        → Does s (after_effect s (Replace epoch batch.now)) (put_result result) (D.view disk.old) (D.view disk.new) }
-    ensures others { D.tells disk.old → KeepsOthers batch.now.first (D.view disk.old) (D.view disk.new) }
-    ensures counts { IsCounted (accept_cost again).calls (D.left disk.old) (D.left disk.new) (put_result result) }
+        → Does s (after_effect s (Replace epoch batch.now)) result (D.view disk.old) (D.view disk.new) }
+    ensures others { IfTold D.DiskModel disk.old disk.new (KeepsOthers batch.now.first) }
+    ensures counts { IsCounted (accept_cost again).calls (D.left disk.old) (D.left disk.new) result }
     ensures cut { D.tells disk.old → (s : NodeState) → HoldsState (D.view disk.old) s → CanAccept epoch batch.now again s.segments
-        → IsCutAt (λ _. accept_cost again) s (after_effect s (Replace epoch batch.now)) (D.left disk.old) (put_result result) (D.view disk.new) }
-    ensures reads { D.reads disk.new ≡ D.reads disk.old }
-    ensures cause { HasCause (D.faults disk.old) (D.faults disk.new) (D.steady disk.old) (D.steady disk.new) (put_result result) }
-    ensures shortage { HasShortage (D.shortages disk.old) (D.shortages disk.new) (put_result result) }
+        → IsCutAt (λ _. accept_cost again) s (after_effect s (Replace epoch batch.now)) (D.left disk.old) result (D.view disk.new) }
 {
     prove!(!batch.bodies().is_empty());
     if again {

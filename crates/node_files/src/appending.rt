@@ -1,59 +1,53 @@
 //! Edits are appended to a segment in progress.
-ghost use Rattle.std.specs.Prelude.{◌≡◌, ◌↔◌, ◌≤◌, ◌<◌, ◌+◌, ◌^◌, ◌++◌, ℕ, length, OnOk};
+ghost use Rattle.std.specs.Prelude.{IfOk, ◌≡◌, ◌≤◌, ◌<◌, ◌+◌, ◌^◌, length};
 ghost use Rattle.qj_disk.specs.View.{IsStable};
-ghost use Rattle.qj_disk.specs.Calls.{HasCause, HasShortage};
+ghost use Rattle.qj_disk.specs.DiskCalls.{IfTells, IfTold, IsDiskCall};
 ghost use Rattle.journal_core.specs.Views.{last_txid};
 ghost use Rattle.journal_core.specs.declared.segment.Segment.{Segment};
 ghost use Rattle.journal_core.specs.declared.node_state.NodeState.{NodeState};
 ghost use Rattle.journal_core.specs.Effects.{Append, after_effect};
 ghost use Rattle.journal_core.specs.Cuts.{append_cost};
 ghost use Rattle.batch_frame.specs.Frames.{frame_bytes};
-ghost use Rattle.segment_file.specs.Gate.{IsShut};
 ghost use Rattle.segment_file.specs.Names.{name_of, InProgress};
-ghost use Rattle.segment_file.specs.Effects.{AppendsAt, IsCounted};
+ghost use Rattle.segment_file.specs.Effects.{IsCounted};
 ghost use Rattle.segment_file.specs.Calls.{CanAppend, IsFrameOf};
-ghost use Rattle.segment_file.specs.Answers.{appended_result, TellsPlace};
+ghost use Rattle.segment_file.specs.Clauses.{Lengthens, HasShutGate};
 ghost use Rattle.node_files.specs.Durable.{HoldsState};
 ghost use Rattle.node_files.specs.Deeds.{Does, IsCutAt, KeepsOthers};
 
 use journal_core::Batch;
-use qj_disk::Disk;
-use segment_file::{Appended, ReadyFrame, append};
+use qj_disk::{Disk, DiskFail};
+use segment_file::{ReadyFrame, append};
 
 /// Appends a batch to the segment in progress with this start, at the offset `at` of its file, where its
 /// whole frames end and a gate stands closed and synced: four disk calls, of which the third decides, and
 /// a crash may undo it until the fourth. Where the batch is next in the segment, a crash at any moment
-/// leaves files that stand for the state without its edits or with them all, and once this answered Done
+/// leaves files that stand for the state without its edits or with them all, and once this answered Ok
 /// only with them. The place that is told is where the next frame goes. `start` is from 1 to 2^62, and the
-/// frame was made of the batch. It takes no memory but what the disk takes. `DiskFault` and `OutOfMemory`
-/// leave either.
+/// frame was made of the batch. It takes no memory but what the disk takes. An `Err` leaves either.
 pub fn append_edits<D: Disk>(
     disk: &mut D,
     start: u64,
     at: u64,
     batch: &Batch,
     frame: &ReadyFrame,
-) -> Appended
+) -> Result<u64, DiskFail>
     requires start { (1 ≤ start) × (start ≤ 2 ^ 62) }
     requires small { at < 2 ^ 62 }
     requires last { last_txid batch.now ≤ 2 ^ 62 }
     requires frame { IsFrameOf batch.now frame.now }
-    requires shut { D.tells disk.old → IsShut at ((D.view disk.old).seen (name_of start InProgress)) }
-    requires stable { D.tells disk.old → IsStable (name_of start InProgress) (D.view disk.old) }
+    requires shut { IfTells D.DiskModel disk.old (HasShutGate (name_of start InProgress) at) }
+    requires stable { IfTells D.DiskModel disk.old (IsStable (name_of start InProgress)) }
 
-    ensures tells { D.tells disk.old ↔ D.tells disk.new }
-    ensures place { TellsPlace result (at + length (frame_bytes batch.now)) }
+    ensures call { IsDiskCall D.DiskModel disk.old disk.new result }
+    ensures place { IfOk result (λ next. next ≡ at + length (frame_bytes batch.now)) }
     ensures effect { D.tells disk.old → (s : NodeState) (g : Segment) → HoldsState (D.view disk.old) s → CanAppend start at batch.now s.segments (D.view disk.old) g
-        → Does s (after_effect s (Append start batch.now.bodies)) (appended_result result) (D.view disk.old) (D.view disk.new) }
-    ensures others { D.tells disk.old → KeepsOthers start (D.view disk.old) (D.view disk.new) }
-    ensures appends { D.tells disk.old → (g : Segment) → g.start ≡ start → AppendsAt (D.view disk.old) g at → batch.now.first ≡ start + length g.bodies
-        → OnOk (appended_result result) (AppendsAt (D.view disk.new) (record g { bodies = g.bodies ++ batch.now.bodies }) (at + length (frame_bytes batch.now))) }
-    ensures counts { IsCounted 4 (D.left disk.old) (D.left disk.new) (appended_result result) }
+        → Does s (after_effect s (Append start batch.now.bodies)) result (D.view disk.old) (D.view disk.new) }
+    ensures others { IfTold D.DiskModel disk.old disk.new (KeepsOthers start) }
+    ensures appends { IfTold D.DiskModel disk.old disk.new (Lengthens start at batch.now result) }
+    ensures counts { IsCounted 4 (D.left disk.old) (D.left disk.new) result }
     ensures cut { D.tells disk.old → (s : NodeState) (g : Segment) → HoldsState (D.view disk.old) s → CanAppend start at batch.now s.segments (D.view disk.old) g
-        → IsCutAt append_cost s (after_effect s (Append start batch.now.bodies)) (D.left disk.old) (appended_result result) (D.view disk.new) }
-    ensures reads { D.reads disk.new ≡ D.reads disk.old }
-    ensures cause { HasCause (D.faults disk.old) (D.faults disk.new) (D.steady disk.old) (D.steady disk.new) (appended_result result) }
-    ensures shortage { HasShortage (D.shortages disk.old) (D.shortages disk.new) (appended_result result) }
+        → IsCutAt append_cost s (after_effect s (Append start batch.now.bodies)) (D.left disk.old) result (D.view disk.new) }
 {
     append(disk, start, at, batch, frame)
 }

@@ -1,7 +1,6 @@
 //! A segment becomes final.
-ghost use Rattle.std.specs.Prelude.{◌≡◌, ◌↔◌, ◌≤◌, ◌^◌, true, IsSome};
-ghost use Rattle.qj_disk.specs.Calls.{HasCause, HasShortage};
-ghost use Rattle.small_files.specs.Answers.{put_result};
+ghost use Rattle.std.specs.Prelude.{◌≡◌, ◌≤◌, ◌^◌, true, IsSome};
+ghost use Rattle.qj_disk.specs.DiskCalls.{HasFile, IfTold, IsDiskCall};
 ghost use Rattle.journal_core.specs.declared.segment.Segment.{Segment};
 ghost use Rattle.journal_core.specs.declared.node_state.NodeState.{NodeState};
 ghost use Rattle.journal_core.specs.Effects.{MakeFinal, after_effect};
@@ -13,34 +12,33 @@ ghost use Rattle.node_files.specs.Durable.{HoldsState};
 ghost use Rattle.node_files.specs.Deeds.{Does, IsCutAt, KeepsOthers};
 
 use crate::clearing::clear_record;
-use qj_disk::Disk;
+use qj_disk::{Disk, DiskFail};
 use segment_file::finalize;
-use small_files::Put;
 
 /// Makes the segment in progress with this start final, with this last txid, both from 1 to 2^62: one disk
 /// call renames its file, which is there, and decides. Where the segment was `accepted`, its record, which
 /// is there, no longer counts, and a second call removes it. A crash at any moment leaves files that stand
-/// for the state with the segment in progress or final, and once this answered Done only final. `DiskFault`
-/// and `OutOfMemory` leave either.
-pub fn finalize_segment<D: Disk>(disk: &mut D, start: u64, end: u64, accepted: bool) -> Put
+/// for the state with the segment in progress or final, and once this answered Ok only final. An `Err` leaves either.
+pub fn finalize_segment<D: Disk>(
+    disk: &mut D,
+    start: u64,
+    end: u64,
+    accepted: bool,
+) -> Result<(), DiskFail>
     requires start { (1 ≤ start) × (start ≤ 2 ^ 62) }
     requires end { end ≤ 2 ^ 62 }
-    requires there { D.tells disk.old → IsSome ((D.view disk.old).seen (name_of start InProgress)) }
-    requires record_ { D.tells disk.old → accepted ≡ true → IsSome ((D.view disk.old).seen (name_of start Record)) }
+    requires there { HasFile D.DiskModel disk.old (name_of start InProgress) }
+    requires record_ { D.tells disk.old → accepted ≡ true
+        → IsSome ((D.view disk.old).seen (name_of start Record)) }
 
-    ensures tells { D.tells disk.old ↔ D.tells disk.new }
+    ensures call { IsDiskCall D.DiskModel disk.old disk.new result }
     ensures effect { D.tells disk.old → (s : NodeState) (g : Segment) → HoldsState (D.view disk.old) s → CanFinalize start end s.segments g → g.accepted ≡ accepted
-        → Does s (after_effect s (MakeFinal start)) (put_result result) (D.view disk.old) (D.view disk.new) }
-    ensures others { D.tells disk.old → KeepsOthers start (D.view disk.old) (D.view disk.new) }
-    ensures counts { IsCounted (name_cost accepted).calls (D.left disk.old) (D.left disk.new) (put_result result) }
+        → Does s (after_effect s (MakeFinal start)) result (D.view disk.old) (D.view disk.new) }
+    ensures others { IfTold D.DiskModel disk.old disk.new (KeepsOthers start) }
+    ensures counts { IsCounted (name_cost accepted).calls (D.left disk.old) (D.left disk.new) result }
     ensures cut { D.tells disk.old → (s : NodeState) (g : Segment) → HoldsState (D.view disk.old) s → CanFinalize start end s.segments g → g.accepted ≡ accepted
-        → IsCutAt (λ _. name_cost accepted) s (after_effect s (MakeFinal start)) (D.left disk.old) (put_result result) (D.view disk.new) }
-    ensures reads { D.reads disk.new ≡ D.reads disk.old }
-    ensures cause { HasCause (D.faults disk.old) (D.faults disk.new) (D.steady disk.old) (D.steady disk.new) (put_result result) }
-    ensures shortage { HasShortage (D.shortages disk.old) (D.shortages disk.new) (put_result result) }
+        → IsCutAt (λ _. name_cost accepted) s (after_effect s (MakeFinal start)) (D.left disk.old) result (D.view disk.new) }
 {
-    match finalize(disk, start, end) {
-        Put::Done => clear_record(disk, start, accepted),
-        failed => failed,
-    }
+    finalize(disk, start, end)?;
+    clear_record(disk, start, accepted)
 }

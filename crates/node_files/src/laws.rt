@@ -13,7 +13,8 @@ use qj_disk::Disk;
 
 /// A disk without files holds the state of a node before its first request.
 pub fn empty_disk_is_fresh<D: Disk>(disk: &D)
-    ensures { D.tells disk.now → ((name : List ℕ) → (D.view disk.now).seen name ≡ None) → HoldsState (D.view disk.now) fresh_state }
+    ensures { D.tells disk.now → ((name : List ℕ) → (D.view disk.now).seen name ≡ None)
+        → HoldsState (D.view disk.now) fresh_state }
 {
     let _ = disk;
 }
@@ -27,7 +28,8 @@ pub fn files_are_there<D: Disk>(disk: &D)
         → g.is_final ≡ true → end + 1 ≡ start + length g.bodies → IsSome ((D.view disk.now).seen (name_of start (Final end))) }
     ensures record_ { D.tells disk.now → (s : NodeState) (start : ℕ) (g : Segment) → HoldsState (D.view disk.now) s → find_segment start s.segments ≡ Some g
         → g.accepted ≡ true → IsSome ((D.view disk.now).seen (name_of start Record)) }
-    ensures gate { D.tells disk.now → (g : Segment) (at : ℕ) → AppendsAt (D.view disk.now) g at → IsShut at ((D.view disk.now).seen (name_of g.start InProgress)) }
+    ensures gate { D.tells disk.now → (g : Segment) (at : ℕ) → AppendsAt (D.view disk.now) g at
+        → IsShut at ((D.view disk.now).seen (name_of g.start InProgress)) }
 {
     let _ = disk;
 }

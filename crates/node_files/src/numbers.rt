@@ -1,8 +1,7 @@
 //! A number of a node is noted.
-ghost use Rattle.std.specs.Prelude.{◌≡◌, ◌≢◌, ◌↔◌, ◌≤◌, ◌^◌, ℕ, List, None};
-ghost use Rattle.qj_disk.specs.Calls.{HasCause, HasShortage};
+ghost use Rattle.std.specs.Prelude.{◌≡◌, ◌≢◌, ◌≤◌, ◌^◌, ℕ, List};
+ghost use Rattle.qj_disk.specs.DiskCalls.{IsDiskCall, LacksFile};
 ghost use Rattle.small_files.specs.Puts.{temporary};
-ghost use Rattle.small_files.specs.Answers.{put_result};
 ghost use Rattle.journal_core.specs.declared.segment.Segment.{Segment};
 ghost use Rattle.journal_core.specs.declared.node_state.NodeState.{NodeState};
 ghost use Rattle.journal_core.specs.Effects.{after_effect};
@@ -12,28 +11,28 @@ ghost use Rattle.node_files.specs.Durable.{number_name, HoldsState};
 ghost use Rattle.node_files.specs.Deeds.{number_effect, Does, IsCutAt};
 
 use crate::node_number::NodeNumber;
-use qj_disk::Disk;
-use small_files::{NumberFile, Put};
+use qj_disk::{Disk, DiskFail};
+use small_files::NumberFile;
 
 /// Puts this number, of at most 2^62, into its file, whose temporary file isn't there: three disk calls,
 /// of which the last decides. A crash at any moment leaves files that stand for the state with the old
-/// number or with the new one, and once this answered Done only with the new one. Other files
-/// stay as they are. `DiskFault` and `OutOfMemory` leave either.
-pub fn put_number<D: Disk>(disk: &mut D, number: NodeNumber, value: u64) -> Put
+/// number or with the new one, and once this answered Ok only with the new one. Other files
+/// stay as they are. An `Err` leaves either.
+pub fn put_number<D: Disk>(disk: &mut D, number: NodeNumber, value: u64) -> Result<(), DiskFail>
     requires value { value ≤ 2 ^ 62 }
-    requires absent { D.tells disk.old → (D.view disk.old).seen (temporary (number_name number)) ≡ None }
+    requires absent { LacksFile D.DiskModel disk.old (temporary (number_name number)) }
 
-    ensures tells { D.tells disk.old ↔ D.tells disk.new }
+    ensures call { IsDiskCall D.DiskModel disk.old disk.new result }
     ensures effect { D.tells disk.old → (s : NodeState) → HoldsState (D.view disk.old) s
-        → Does s (after_effect s (number_effect number value)) (put_result result) (D.view disk.old) (D.view disk.new) }
-    ensures appends { D.tells disk.old → (g : Segment) (at : ℕ) → AppendsAt (D.view disk.old) g at → AppendsAt (D.view disk.new) g at }
-    ensures files { D.tells disk.old → (name : List ℕ) → name ≢ number_name number → name ≢ temporary (number_name number) → (D.view disk.new).seen name ≡ (D.view disk.old).seen name }
-    ensures counts { IsCounted 3 (D.left disk.old) (D.left disk.new) (put_result result) }
+        → Does s (after_effect s (number_effect number value)) result (D.view disk.old) (D.view disk.new) }
+    ensures appends { D.tells disk.old → (g : Segment) (at : ℕ) → AppendsAt (D.view disk.old) g at
+        → AppendsAt (D.view disk.new) g at }
+    ensures files { D.tells disk.old → (name : List ℕ) → name ≢ number_name number
+        → name ≢ temporary (number_name number)
+        → (D.view disk.new).seen name ≡ (D.view disk.old).seen name }
+    ensures counts { IsCounted 3 (D.left disk.old) (D.left disk.new) result }
     ensures cut { D.tells disk.old → (s : NodeState) → HoldsState (D.view disk.old) s
-        → IsCutAt (λ _. number_cost) s (after_effect s (number_effect number value)) (D.left disk.old) (put_result result) (D.view disk.new) }
-    ensures reads { D.reads disk.new ≡ D.reads disk.old }
-    ensures cause { HasCause (D.faults disk.old) (D.faults disk.new) (D.steady disk.old) (D.steady disk.new) (put_result result) }
-    ensures shortage { HasShortage (D.shortages disk.old) (D.shortages disk.new) (put_result result) }
+        → IsCutAt (λ _. number_cost) s (after_effect s (number_effect number value)) (D.left disk.old) result (D.view disk.new) }
 {
     NumberFile::put(disk, number.name(), value)
 }

@@ -1,12 +1,14 @@
 //! The files of a node are opened.
-ghost use Rattle.std.specs.Prelude.{◌↔◌, ◌≤◌, ◌^◌, IfOk, IfErr, MatchBool, MatchOption};
+ghost use Rattle.std.specs.Prelude.{◌≤◌, ◌^◌, IfOk, IfErr, MatchBool, MatchOption};
 ghost use Rattle.qj_disk.specs.Files.{Files};
 ghost use Rattle.qj_disk.specs.View.{LeavesOnly};
-ghost use Rattle.qj_disk.specs.Calls.{HasCause, Rests};
+ghost use Rattle.qj_disk.specs.Calls.{Rests};
 ghost use Rattle.qj_disk.specs.Runs.{Quiet};
+ghost use Rattle.qj_disk.specs.DiskCalls.{IfTold, IsDiskRun};
 ghost use Rattle.journal_core.specs.declared.node_state.NodeState.{NodeState};
 ghost use Rattle.segment_file.specs.Names.{name_of, InProgress};
 ghost use Rattle.segment_opening.specs.Opening.{SegmentsStable, IsRepaired, Repairs};
+ghost use Rattle.segment_opening.specs.Clauses.{IfStable, IfRepaired};
 ghost use Rattle.node_files.specs.Durable.{StandsAs};
 ghost use Rattle.node_files.specs.Opening.{NumbersStable, HaveNodeNumbers, AreSmall, OpensAs, Refuses, IsWithinFiles, files_result};
 ghost use Rattle.node_files.specs.OpenSteps.{IsFilledRow, LacksEdit, AreFilledRows, IsUnfilledRow, IsNumberRead, AreNumbersRead, read_result, IsBadAt, IsMade, IsFoundRepaired};
@@ -25,12 +27,11 @@ use std::alloc::Global;
 
 // The number, or the answer that ends opening.
 fn read_number<D: Disk>(alloc: Global, disk: &mut D, number: NodeNumber) -> Result<u64, OpenedFiles>
-    ensures tells { D.tells disk.old ↔ D.tells disk.new }
+    ensures call { IsDiskRun D.DiskModel disk.old disk.new (read_result result) }
     ensures told { D.tells disk.old → IsNumberRead (D.view disk.old).seen number result }
     ensures small { IfOk result (λ value. value ≤ 2 ^ 62) }
     ensures rows { IfErr result IsWithinFiles }
-    ensures disk { D.tells disk.old → Rests (D.view disk.old) (D.view disk.new) }
-    ensures cause { HasCause (D.faults disk.old) (D.faults disk.new) (D.steady disk.old) (D.steady disk.new) (read_result result) }
+    ensures disk { IfTold D.DiskModel disk.old disk.new Rests }
 {
     match NumberFile::get(alloc, disk, number.name()) {
         Got::Value(value) => Ok(value),
@@ -42,12 +43,11 @@ fn read_number<D: Disk>(alloc: Global, disk: &mut D, number: NodeNumber) -> Resu
 
 // The numbers, in byte order of the names of their files, or the answer that ends opening.
 fn read_numbers<D: Disk>(alloc: Global, disk: &mut D) -> Result<NodeNumbers, OpenedFiles>
-    ensures tells { D.tells disk.old ↔ D.tells disk.new }
+    ensures call { IsDiskRun D.DiskModel disk.old disk.new (read_result result) }
     ensures told { D.tells disk.old → AreNumbersRead (D.view disk.old).seen result }
     ensures small { IfOk result AreSmall }
     ensures rows { IfErr result IsWithinFiles }
-    ensures disk { D.tells disk.old → Rests (D.view disk.old) (D.view disk.new) }
-    ensures cause { HasCause (D.faults disk.old) (D.faults disk.new) (D.steady disk.old) (D.steady disk.new) (read_result result) }
+    ensures disk { IfTold D.DiskModel disk.old disk.new Rests }
 {
     let committed = read_number(alloc, disk, NodeNumber::Committed)?;
     let promised = read_number(alloc, disk, NodeNumber::Promised)?;
@@ -114,12 +114,11 @@ fn files_of(alloc: Global, numbers: NodeNumbers, table: SegmentTable) -> OpenedF
 fn open_repaired<D: Disk>(alloc: Global, disk: &mut D, numbers: NodeNumbers) -> OpenedFiles
     requires { AreSmall numbers }
 
-    ensures tells { D.tells disk.old ↔ D.tells disk.new }
-    ensures quiet { D.tells disk.old → SegmentsStable (D.view disk.old) → IsRepaired (D.view disk.old).seen → Quiet Repairs (D.view disk.old) (D.view disk.new) }
+    ensures call { IsDiskRun D.DiskModel disk.old disk.new (files_result result) }
+    ensures quiet { IfRepaired D.DiskModel disk.old disk.new (Quiet Repairs) }
     ensures told { D.tells disk.old → SegmentsStable (D.view disk.old) → NumbersStable (D.view disk.old) → IsRepaired (D.view disk.old).seen → HaveNodeNumbers (D.view disk.old).seen numbers
         → IsFoundRepaired (D.view disk.old).seen (D.view disk.new) result }
     ensures rows { IsWithinFiles result }
-    ensures cause { HasCause (D.faults disk.old) (D.faults disk.new) (D.steady disk.old) (D.steady disk.new) (files_result result) }
 {
     match open_all(alloc, disk) {
         Opened::Segments(table) => files_of(alloc, numbers, table),
@@ -133,12 +132,11 @@ fn open_repaired<D: Disk>(alloc: Global, disk: &mut D, numbers: NodeNumbers) -> 
 fn open_numbered<D: Disk>(alloc: Global, disk: &mut D, numbers: NodeNumbers) -> OpenedFiles
     requires { AreSmall numbers }
 
-    ensures tells { D.tells disk.old ↔ D.tells disk.new }
-    ensures quiet { D.tells disk.old → SegmentsStable (D.view disk.old) → Quiet Repairs (D.view disk.old) (D.view disk.new) }
+    ensures call { IsDiskRun D.DiskModel disk.old disk.new (files_result result) }
+    ensures quiet { IfStable D.DiskModel disk.old disk.new (Quiet Repairs) }
     ensures told { D.tells disk.old → SegmentsStable (D.view disk.old) → NumbersStable (D.view disk.old) → HaveNodeNumbers (D.view disk.old).seen numbers
         → OpensAs (D.view disk.old).seen (D.view disk.new) result × Refuses (D.view disk.old).seen (D.view disk.new).seen result }
     ensures rows { IsWithinFiles result }
-    ensures cause { HasCause (D.faults disk.old) (D.faults disk.new) (D.steady disk.old) (D.steady disk.new) (files_result result) }
 {
     match complete_half_done(alloc, disk) {
         Completed::Done => open_repaired(alloc, disk, numbers),
@@ -150,12 +148,11 @@ fn open_numbered<D: Disk>(alloc: Global, disk: &mut D, numbers: NodeNumbers) -> 
 
 // Opens stable files.
 fn open_stable<D: Disk>(alloc: Global, disk: &mut D) -> OpenedFiles
-    ensures tells { D.tells disk.old ↔ D.tells disk.new }
-    ensures quiet { D.tells disk.old → SegmentsStable (D.view disk.old) → Quiet Repairs (D.view disk.old) (D.view disk.new) }
+    ensures call { IsDiskRun D.DiskModel disk.old disk.new (files_result result) }
+    ensures quiet { IfStable D.DiskModel disk.old disk.new (Quiet Repairs) }
     ensures told { D.tells disk.old → SegmentsStable (D.view disk.old) → NumbersStable (D.view disk.old)
         → OpensAs (D.view disk.old).seen (D.view disk.new) result × Refuses (D.view disk.old).seen (D.view disk.new).seen result }
     ensures rows { IsWithinFiles result }
-    ensures cause { HasCause (D.faults disk.old) (D.faults disk.new) (D.steady disk.old) (D.steady disk.new) (files_result result) }
 {
     match read_numbers(alloc, disk) {
         Ok(numbers) => open_numbered(alloc, disk, numbers),
@@ -174,14 +171,15 @@ fn open_stable<D: Disk>(alloc: Global, disk: &mut D) -> OpenedFiles
 /// rows of its segments by rising start. On `DiskFault`, which comes only where the disk failed, and on
 /// `OutOfMemory` opening may begin again.
 pub fn open_files<D: Disk>(alloc: Global, disk: &mut D) -> OpenedFiles
-    ensures tells { D.tells disk.old ↔ D.tells disk.new }
-    ensures moments { D.tells disk.old → LeavesOnly (D.view disk.old) (D.view disk.new) (λ c. (d : Files) × (D.view disk.old).may_leave d × ((s : NodeState) → StandsAs d s → StandsAs c s)) }
-    ensures seen { D.tells disk.old → (s : NodeState) → StandsAs (D.view disk.old).seen s → StandsAs (D.view disk.new).seen s }
-    ensures quiet { D.tells disk.old → Quiet Repairs (D.view disk.old) (D.view disk.new) }
+    ensures call { IsDiskRun D.DiskModel disk.old disk.new (files_result result) }
+    ensures moments { D.tells disk.old
+        → LeavesOnly (D.view disk.old) (D.view disk.new) (λ c. (d : Files) × (D.view disk.old).may_leave d × ((s : NodeState) → StandsAs d s → StandsAs c s)) }
+    ensures seen { D.tells disk.old → (s : NodeState) → StandsAs (D.view disk.old).seen s
+        → StandsAs (D.view disk.new).seen s }
+    ensures quiet { IfTold D.DiskModel disk.old disk.new (Quiet Repairs) }
     ensures files { D.tells disk.old → OpensAs (D.view disk.old).seen (D.view disk.new) result }
     ensures bad { D.tells disk.old → Refuses (D.view disk.old).seen (D.view disk.new).seen result }
     ensures rows { IsWithinFiles result }
-    ensures cause { HasCause (D.faults disk.old) (D.faults disk.new) (D.steady disk.old) (D.steady disk.new) (files_result result) }
 {
     match sync_files(disk) {
         Ok(()) => open_stable(alloc, disk),

@@ -1,49 +1,48 @@
 //! A segment is removed.
-ghost use Rattle.std.specs.Prelude.{◌≡◌, ◌↔◌, ◌≤◌, ◌^◌, true, IsSome};
-ghost use Rattle.qj_disk.specs.Calls.{HasCause, HasShortage};
-ghost use Rattle.small_files.specs.Answers.{put_result};
+ghost use Rattle.std.specs.Prelude.{◌≡◌, ◌≤◌, ◌^◌, true, IsSome};
+ghost use Rattle.qj_disk.specs.DiskCalls.{HasFile, IfTold, IsDiskCall};
 ghost use Rattle.journal_core.specs.declared.segment.Segment.{Segment};
 ghost use Rattle.journal_core.specs.declared.node_state.NodeState.{NodeState};
 ghost use Rattle.journal_core.specs.Effects.{Remove, after_effect};
 ghost use Rattle.journal_core.specs.Cuts.{name_cost};
-ghost use Rattle.segment_file.specs.Names.{name_of, kind_of, Record};
+ghost use Rattle.segment_file.specs.Names.{name_of, Record};
 ghost use Rattle.segment_file.specs.Effects.{IsCounted};
 ghost use Rattle.segment_file.specs.Calls.{CanDiscard};
+ghost use Rattle.segment_file.specs.Clauses.{file_of};
 ghost use Rattle.node_files.specs.Durable.{HoldsState};
 ghost use Rattle.node_files.specs.Deeds.{Does, IsCutAt, KeepsOthers};
 
 use crate::clearing::clear_record;
 use journal_core::SegmentLine;
-use qj_disk::Disk;
+use qj_disk::{Disk, DiskFail};
 use segment_file::discard;
-use small_files::Put;
 
 /// Removes this segment, whose file is there: one disk call removes the file, and decides. Where the
 /// segment was `accepted`, its record, which is there, no longer counts, and a second call removes it. A
 /// crash at any moment leaves files that stand for the state with the segment or without it, and once this
-/// answered Done only without it. Its start is from 1 to 2^62 and its end at most 2^62; the end counts for
-/// a final one only. `DiskFault` and `OutOfMemory` leave either.
-pub fn remove_segment<D: Disk>(disk: &mut D, segment: &SegmentLine, accepted: bool) -> Put
+/// answered Ok only without it. Its start is from 1 to 2^62 and its end at most 2^62; the end counts for
+/// a final one only. An `Err` leaves either.
+pub fn remove_segment<D: Disk>(
+    disk: &mut D,
+    segment: &SegmentLine,
+    accepted: bool,
+) -> Result<(), DiskFail>
     requires start { (1 ≤ segment.now.start) × (segment.now.start ≤ 2 ^ 62) }
     requires end { segment.now.end ≤ 2 ^ 62 }
-    requires there { D.tells disk.old → IsSome ((D.view disk.old).seen (name_of segment.now.start (kind_of segment.now.end segment.now.is_final))) }
-    requires record_ { D.tells disk.old → accepted ≡ true → IsSome ((D.view disk.old).seen (name_of segment.now.start Record)) }
+    requires there { HasFile D.DiskModel disk.old (file_of segment.now) }
+    requires record_ { D.tells disk.old → accepted ≡ true
+        → IsSome ((D.view disk.old).seen (name_of segment.now.start Record)) }
 
-    ensures tells { D.tells disk.old ↔ D.tells disk.new }
+    ensures call { IsDiskCall D.DiskModel disk.old disk.new result }
     ensures effect { D.tells disk.old → (s : NodeState) (g : Segment) → HoldsState (D.view disk.old) s
         → CanDiscard segment.now.start segment.now.end segment.now.is_final s.segments g → g.accepted ≡ accepted
-        → Does s (after_effect s (Remove segment.now.start)) (put_result result) (D.view disk.old) (D.view disk.new) }
-    ensures others { D.tells disk.old → KeepsOthers segment.now.start (D.view disk.old) (D.view disk.new) }
-    ensures counts { IsCounted (name_cost accepted).calls (D.left disk.old) (D.left disk.new) (put_result result) }
+        → Does s (after_effect s (Remove segment.now.start)) result (D.view disk.old) (D.view disk.new) }
+    ensures others { IfTold D.DiskModel disk.old disk.new (KeepsOthers segment.now.start) }
+    ensures counts { IsCounted (name_cost accepted).calls (D.left disk.old) (D.left disk.new) result }
     ensures cut { D.tells disk.old → (s : NodeState) (g : Segment) → HoldsState (D.view disk.old) s
         → CanDiscard segment.now.start segment.now.end segment.now.is_final s.segments g → g.accepted ≡ accepted
-        → IsCutAt (λ _. name_cost accepted) s (after_effect s (Remove segment.now.start)) (D.left disk.old) (put_result result) (D.view disk.new) }
-    ensures reads { D.reads disk.new ≡ D.reads disk.old }
-    ensures cause { HasCause (D.faults disk.old) (D.faults disk.new) (D.steady disk.old) (D.steady disk.new) (put_result result) }
-    ensures shortage { HasShortage (D.shortages disk.old) (D.shortages disk.new) (put_result result) }
+        → IsCutAt (λ _. name_cost accepted) s (after_effect s (Remove segment.now.start)) (D.left disk.old) result (D.view disk.new) }
 {
-    match discard(disk, segment) {
-        Put::Done => clear_record(disk, segment.start, accepted),
-        failed => failed,
-    }
+    discard(disk, segment)?;
+    clear_record(disk, segment.start, accepted)
 }

@@ -167,7 +167,7 @@ pub struct Gate<C: GateCell> {
 }
 
 impl<C: GateCell> Gate<C> {
-    /// Waits for the seat's turn, and calls the cell. The call stands in the history with this caller, behind all that the seat had seen, and
+    /// Waits for the seat's turn, and calls the cell. The call stands in the history with this caller, after all that the seat had seen, and
     /// between the two no call is the caller's. `OutOfMemory` where the seat or the cell lacks memory; nothing is listed then.
     pub fn act<R: Wait>(
         &self,

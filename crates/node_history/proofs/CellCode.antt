@@ -9,7 +9,7 @@ use Rattle.journal_core.specs.declared.reply.Reply.{Reply}
 use Rattle.journal_core.specs.declared.reply.Reply.TheVariants as reply
 use Rattle.journal_core.specs.declared.cut.Cut.{Cut}
 use Rattle.journal_core.specs.Effects.{Effect, after_effect, after_effects}
-use Rattle.journal_core.specs.Step.{node_step, unless_refused, behind_front, refused_at_once, fronted, row_refused, row_effects}
+use Rattle.journal_core.specs.Step.{node_step, unless_refused, step_after_front, refused_at_once, fronted, row_refused, row_effects}
 use Rattle.journal_core.specs.Answers.{Answers}
 use Rattle.journal_core.specs.Cuts.{Cuts}
 use Rattle.node_history.specs.declared.stop.Stop.{Stop}
@@ -23,13 +23,13 @@ unfolding after_effects
 effects_up s [] = refl
 effects_up s (e ∷ es) = effects_up (after_effect s e) es
 
-behind_up : (s : NodeState) (r : Request) (o : Option Refusal) → (behind_front s r o).state.up ≡ s.up
-behind_up s r (Some f) = refl
-behind_up s r None = effects_up s (row_effects s r)
+after_up : (s : NodeState) (r : Request) (o : Option Refusal) → (step_after_front s r o).state.up ≡ s.up
+after_up s r (Some f) = refl
+after_up s r None = effects_up s (row_effects s r)
 
 unless_up : (s : NodeState) (r : Request) (o : Option Refusal) → (unless_refused s r o).state.up ≡ s.up
 unless_up s r (Some f) = refl
-unless_up s r None = behind_up (fronted s r) r (row_refused (fronted s r) r)
+unless_up s r None = after_up (fronted s r) r (row_refused (fronted s r) r)
 
 pub step_up : (s : NodeState) (r : Request) → (node_step s r).state.up ≡ s.up
 unfolding node_step

@@ -9,9 +9,9 @@ use Rattle.node_history.specs.declared.node_ask.NodeAsk.{NodeAsk}
 use Rattle.node_history.specs.declared.node_ask.NodeAsk.TheVariants.{Act, Kill, Restart, Arm}
 use Rattle.node_history.specs.declared.node_ask.NodeAnswer.{NodeAnswer}
 use Rattle.node_history.specs.declared.node_ask.NodeAnswer.TheVariants as answer
-use Rattle.node_history.specs.Cell.{Arming, Cell, Taken, kept_by, replies, stops, counted, requested, killed, started_again, armed, cell_takes}
+use Rattle.node_history.specs.Cell.{Arming, Cell, Taken, kept_by, replies, stops, count_request, take_request, take_kill, started_again, take_arming, cell_takes}
 use Rattle.node_history.specs.Entries as entry
-use Rattle.node_history.specs.Entries.{Way, Move, moved}
+use Rattle.node_history.specs.Entries.{Way, Move, after_move}
 use Rattle.node_history.specs.Moving.{moves, way_of, move_of}
 use Rattle.node_history.specs.CellLaws.{IsMoved}
 use Rattle.node_history.proofs.Requests.{still, changes, rises}
@@ -26,17 +26,17 @@ unfolding CallIs
 counted_by true s r o stop up = inl (o, refl)
 counted_by false s r o stop up = inr (up, stop, refl)
 
-counted_is : (s : NodeState) (r : Request) (o : Option Arming) → s.up ≡ true → CallIs s r (counted s r o)
+counted_is : (s : NodeState) (r : Request) (o : Option Arming) → s.up ≡ true → CallIs s r (count_request s r o)
 unfolding CallIs
 counted_is s r None up = inl (None, refl)
 counted_is s r (Some a) up = unfold CallIs in counted_by (nat_lt 1 a.calls) s r (Some (record a { calls = a.calls - 1 })) a.stop up
 
-call_by : (b : Bool) (c : Cell) (r : Request) → c.state.up ≡ b → CallIs c.state r (requested b c r)
+call_by : (b : Bool) (c : Cell) (r : Request) → c.state.up ≡ b → CallIs c.state r (take_request b c r)
 unfolding CallIs
 call_by true c r up = counted_is c.state r c.arming up
 call_by false c r up = inl (c.arming, refl)
 
-pub call_is : (c : Cell) (r : Request) → CallIs c.state r (requested c.state.up c r)
+pub call_is : (c : Cell) (r : Request) → CallIs c.state r (take_request c.state.up c r)
 call_is c r = call_by c.state.up c r refl
 
 -- ## The promise
@@ -48,7 +48,7 @@ unfolding CallIs PromiseKept
 call_promise s r x (inl g) = subst (λ (y : Taken). s.promised ≤ y.cell.state.promised) (sym g.1) (rises s r)
 call_promise s r x (inr g) = subst (λ (y : Taken). s.promised ≤ y.cell.state.promised) (sym g.2) (stop_rises s r (kept_by g.1 s r))
 
-killed_promise : (b : Bool) (c : Cell) → c.state.promised ≤ (killed b c).cell.state.promised
+killed_promise : (b : Bool) (c : Cell) → c.state.promised ≤ (take_kill b c).cell.state.promised
 killed_promise true c = omega arith
 killed_promise false c = omega arith
 
@@ -56,13 +56,13 @@ started_promise : (b : Bool) (c : Cell) → c.state.promised ≤ (started_again 
 started_promise true c = omega arith
 started_promise false c = omega arith
 
-armed_promise : (b : Bool) (c : Cell) (a : Arming) → c.state.promised ≤ (armed b c a).cell.state.promised
+armed_promise : (b : Bool) (c : Cell) (a : Arming) → c.state.promised ≤ (take_arming b c a).cell.state.promised
 armed_promise true c a = omega arith
 armed_promise false c a = omega arith
 
 pub promise : (c : Cell) (ask : NodeAsk) → c.state.promised ≤ (cell_takes c ask).cell.state.promised
 unfolding cell_takes PromiseKept
-promise c (Act late r) = call_promise c.state r (requested c.state.up c r) (call_is c r)
+promise c (Act late r) = call_promise c.state r (take_request c.state.up c r) (call_is c r)
 promise c Kill = killed_promise c.state.up c
 promise c Restart = started_promise c.state.up c
 promise c (Arm calls stop) = armed_promise c.state.up c (record { calls = calls; stop = stop })
@@ -81,7 +81,7 @@ call_still s late muted caller r x (inr g) e =
     let f : move_of caller muted (Act late r) (stops s r (kept_by g.1 s r)).answer ≡ None = subst (λ (y : Taken). move_of caller muted (Act late r) y.answer ≡ None) g.2 e in
     absurd (cc f)
 
-killed_still : (b : Bool) (c : Cell) (caller : ℕ) (muted : Bool) → move_of caller muted Kill (killed b c).answer ≡ None → (killed b c).cell.state ≡ c.state
+killed_still : (b : Bool) (c : Cell) (caller : ℕ) (muted : Bool) → move_of caller muted Kill (take_kill b c).answer ≡ None → (take_kill b c).cell.state ≡ c.state
 unfolding move_of
 killed_still true c caller muted e = absurd (cc e)
 killed_still false c caller muted e = refl
@@ -91,13 +91,13 @@ unfolding move_of
 started_still true c caller muted e = refl
 started_still false c caller muted e = absurd (cc e)
 
-armed_still : (b : Bool) (c : Cell) (a : Arming) → (armed b c a).cell.state ≡ c.state
+armed_still : (b : Bool) (c : Cell) (a : Arming) → (take_arming b c a).cell.state ≡ c.state
 armed_still true c a = refl
 armed_still false c a = refl
 
 pub stays : (c : Cell) (ask : NodeAsk) (caller : ℕ) (muted : Bool) → move_of caller muted ask (cell_takes c ask).answer ≡ None → (cell_takes c ask).cell.state ≡ c.state
 unfolding cell_takes
-stays c (Act late r) caller muted e = call_still c.state late muted caller r (requested c.state.up c r) (call_is c r) e
+stays c (Act late r) caller muted e = call_still c.state late muted caller r (take_request c.state.up c r) (call_is c r) e
 stays c Kill caller muted e = killed_still c.state.up c caller muted e
 stays c Restart caller muted e = started_still c.state.up c caller muted e
 stays c (Arm calls stop) caller muted e = armed_still c.state.up c (record { calls = calls; stop = stop })
@@ -127,11 +127,11 @@ call_moves c late muted caller r x m (inr g) e =
     subst (λ (n : Move). IsMoved c x.cell.state n) is
     (record { is = ap (λ (y : Taken). y.cell.state) g.2; possible = (g.0, kept_within g.1 s r); changes = up_down s (stopped s r keep) g.0 refl })
 
-killed_moves : (b : Bool) (c : Cell) (caller : ℕ) (muted : Bool) (m : Move) → c.state.up ≡ b → move_of caller muted Kill (killed b c).answer ≡ Some m → IsMoved c (killed b c).cell.state m
+killed_moves : (b : Bool) (c : Cell) (caller : ℕ) (muted : Bool) (m : Move) → c.state.up ≡ b → move_of caller muted Kill (take_kill b c).answer ≡ Some m → IsMoved c (take_kill b c).cell.state m
 unfolding move_of
 killed_moves true c caller muted m up e =
     let is : entry.Kill ≡ m = cc e in
-    subst (λ (n : Move). IsMoved c (killed true c).cell.state n) is (record { is = refl; possible = up; changes = up_down c.state (crashed c.state) up refl })
+    subst (λ (n : Move). IsMoved c (take_kill true c).cell.state n) is (record { is = refl; possible = up; changes = up_down c.state (crashed c.state) up refl })
 killed_moves false c caller muted m up e = absurd (cc e)
 
 down_up : (s t : NodeState) → s.up ≡ false → t.up ≡ true → t ≢ s
@@ -154,7 +154,7 @@ no_move (answer.NotOpened fail) calls caller stop muted m e = cc e
 
 pub moving : (c : Cell) (ask : NodeAsk) (caller : ℕ) (muted : Bool) (m : Move) → move_of caller muted ask (cell_takes c ask).answer ≡ Some m → IsMoved c (cell_takes c ask).cell.state m
 unfolding cell_takes
-moving c (Act late r) caller muted m e = call_moves c late muted caller r (requested c.state.up c r) m (call_is c r) e
+moving c (Act late r) caller muted m e = call_moves c late muted caller r (take_request c.state.up c r) m (call_is c r) e
 moving c Kill caller muted m e = killed_moves c.state.up c caller muted m refl e
 moving c Restart caller muted m e = started_moves c.state.up c caller muted m refl e
-moving c (Arm calls stop) caller muted m e = absurd (no_move (armed c.state.up c (record { calls = calls; stop = stop })).answer calls caller stop muted m e)
+moving c (Arm calls stop) caller muted m e = absurd (no_move (take_arming c.state.up c (record { calls = calls; stop = stop })).answer calls caller stop muted m e)

@@ -65,7 +65,7 @@ unfolding IsQuiet
 quiet_removes [] = tt
 quiet_removes (g ∷ gs) = quiet_removes gs
 
--- a request with a head leaves the promise behind the front
+-- a request with a head leaves the promise after the front
 pub quiet_row : (s : NodeState) (r : Request) (h : HeadView) → head_of r ≡ Some h → IsQuiet (row_effects s r)
 unfolding IsQuiet
 quiet_row s request.State h e = tt
@@ -82,7 +82,7 @@ quiet_row s (request.Purge head min) h e = quiet_removes (filter (may_go s head.
 quiet_row s (request.Read from) h e = tt
 quiet_row s request.Manifest h e = tt
 
--- ## Refusals: before all else, and behind the front
+-- ## Refusals: before all else, and after the front
 limited_at_once : (o : Option ℕ) (p : Option Refusal) (f : Refusal) → ((g : Refusal) → p ≡ Some g → is_at_once g ≡ true) → unless_limited o p ≡ Some f → is_at_once f ≡ true
 limited_at_once (Some n) p f h e = let same : refusal.Limit n ≡ f = cc e in subst (λ (x : Refusal). is_at_once x ≡ true) same refl
 limited_at_once None p f h e = h f e
@@ -143,7 +143,7 @@ accept_late : (batch : BatchView) (o : Option Segment) (f : Refusal) → accept_
 accept_late batch None f e = nothing f e
 accept_late batch (Some g) f e = if_late (g.is_final && not (end_of g == last_txid batch)) (refusal.LengthDiffers (end_of g)) f None refl (nothing f) e
 
--- a request with a head is refused behind the front by none of the causes before all else
+-- a request with a head is refused after the front by none of the causes before all else
 pub row_late : (s : NodeState) (r : Request) (h : HeadView) (f : Refusal) → head_of r ≡ Some h → row_refused s r ≡ Some f → is_at_once f ≡ false
 row_late s request.State h f e g = nothing f g
 row_late s (request.NewEpoch epoch) h f e g = absurd (cc e)

@@ -10,18 +10,18 @@ use Rattle.journal_core.specs.declared.refusal.Refusal.{Refusal}
 use Rattle.journal_core.specs.declared.refusal.Refusal.TheVariants as refusal
 use Rattle.journal_core.specs.Limits.{head_of}
 use Rattle.journal_core.specs.Effects.{Effect, Promise, after_effect, after_effects}
-use Rattle.journal_core.specs.Step.{refused_at_once, front_effects, fronted, row_refused, behind_front, unless_refused, node_step, effects_behind, effects_unless, effects_of, stopped}
+use Rattle.journal_core.specs.Step.{refused_at_once, front_effects, fronted, row_refused, step_after_front, unless_refused, node_step, effects_after, effects_unless, effects_of, stopped}
 use Rattle.node_history.specs.declared.node_ask.NodeAsk.{NodeAsk}
 use Rattle.node_history.specs.declared.node_ask.NodeAsk.TheVariants.{Act, Kill, Restart, Arm}
 use Rattle.node_history.specs.declared.node_ask.NodeAnswer.{NodeAnswer}
 use Rattle.node_history.specs.declared.node_ask.NodeAnswer.TheVariants as answer
-use Rattle.node_history.specs.Cell.{Cell, Taken, kept_by, replies, stops, killed, started_again, armed, requested, cell_takes}
+use Rattle.node_history.specs.Cell.{Cell, Taken, kept_by, replies, stops, take_kill, started_again, take_arming, take_request, cell_takes}
 use Rattle.node_history.specs.Entries as entry
 use Rattle.node_history.specs.Entries.{Move}
 use Rattle.node_history.specs.Moving.{epoch_of, is_refused_at_once, is_proposal, moves, way_of, move_of, falls}
 use Rattle.node_history.proofs.Fronts.{IsQuiet, quiet_promise, at_once}
 use Rattle.node_history.proofs.Requests.{Sort, Reads, Proposes, Heads, sort_of, Fronted, behind, front_passes}
-use Rattle.node_history.proofs.Stops.{quiet_take, behind_quiet, read_by, kept_within}
+use Rattle.node_history.proofs.Stops.{quiet_take, after_quiet, read_by, kept_within}
 use Rattle.node_history.proofs.CellLaws.{CallIs, call_is}
 
 -- the promise afterwards is the request's epoch, and a proposal's was above the promise before
@@ -33,8 +33,8 @@ pub record Raised (before after : ℕ) (r : Request) : Type 0 where
 
 -- ## By a reply
 propose_by : (b : Bool) (s : NodeState) (epoch : ℕ) → nat_le epoch s.promised ≡ b
-    → is_refused_at_once (behind_front (fronted s (request.NewEpoch epoch)) (request.NewEpoch epoch) (cond b (Some (refusal.EpochRefused s.promised)) None)).reply ≡ false
-    → Raised s.promised (behind_front (fronted s (request.NewEpoch epoch)) (request.NewEpoch epoch) (cond b (Some (refusal.EpochRefused s.promised)) None)).state.promised (request.NewEpoch epoch)
+    → is_refused_at_once (step_after_front (fronted s (request.NewEpoch epoch)) (request.NewEpoch epoch) (cond b (Some (refusal.EpochRefused s.promised)) None)).reply ≡ false
+    → Raised s.promised (step_after_front (fronted s (request.NewEpoch epoch)) (request.NewEpoch epoch) (cond b (Some (refusal.EpochRefused s.promised)) None)).state.promised (request.NewEpoch epoch)
 unfolding after_effects epoch_of
 propose_by true s epoch is e = absurd (cc e)
 propose_by false s epoch is e = record { epoch = epoch; of = refl; is = refl; rises = λ p. grind (arith, nat_tests, is) }
@@ -70,7 +70,7 @@ reply_by s _ None (Proposes epoch) is e = unfold epoch_of in propose_by (nat_le 
     not_true true e = absurd (cc e)
     not_true false e = refl
 reply_by s _ None (Heads r h head epoch then replies) is e =
-    let f : Fronted s h (behind_front (fronted s r) r (row_refused (fronted s r) r)).state = behind s r h (row_refused (fronted s r) r) head then in
+    let f : Fronted s h (step_after_front (fronted s r) r (row_refused (fronted s r) r)).state = behind s r h (row_refused (fronted s r) r) head then in
     record {
       epoch = h.epoch;
       of = epoch;
@@ -82,7 +82,7 @@ raised_reply : (s : NodeState) (r : Request) → moves r (node_step s r).reply �
 unfolding node_step
 raised_reply s r e = reply_by s r (refused_at_once s r) (sort_of r) refl e
 
--- ## By a stop behind some effect
+-- ## By a stop after some effect
 front_by : (b : Bool) (s : NodeState) (epoch : ℕ) (es : List Effect) (n : ℕ) → nat_lt s.promised epoch ≡ b → IsQuiet es → max s.promised epoch ≡ epoch → suc n ≤ length (cond b (Promise epoch ∷ []) [] ++ es)
     → (after_effects s (take (suc n) (cond b (Promise epoch ∷ []) [] ++ es))).promised ≡ epoch
 unfolding after_effects
@@ -101,8 +101,8 @@ head_front (Some g) s h es n e q m l =
 no_effect : (n : ℕ) → suc n ≤ 0 → ⊥
 no_effect n l = omega (arith, l)
 
-propose_stop : (b : Bool) (s : NodeState) (epoch n : ℕ) → nat_le epoch s.promised ≡ b → suc n ≤ length (effects_behind (fronted s (request.NewEpoch epoch)) (request.NewEpoch epoch) (cond b (Some (refusal.EpochRefused s.promised)) None))
-    → Raised s.promised (after_effects s (take (suc n) (effects_behind (fronted s (request.NewEpoch epoch)) (request.NewEpoch epoch) (cond b (Some (refusal.EpochRefused s.promised)) None)))).promised (request.NewEpoch epoch)
+propose_stop : (b : Bool) (s : NodeState) (epoch n : ℕ) → nat_le epoch s.promised ≡ b → suc n ≤ length (effects_after (fronted s (request.NewEpoch epoch)) (request.NewEpoch epoch) (cond b (Some (refusal.EpochRefused s.promised)) None))
+    → Raised s.promised (after_effects s (take (suc n) (effects_after (fronted s (request.NewEpoch epoch)) (request.NewEpoch epoch) (cond b (Some (refusal.EpochRefused s.promised)) None)))).promised (request.NewEpoch epoch)
 unfolding after_effects epoch_of
 propose_stop true s epoch n is l = absurd (no_effect n l)
 propose_stop false s epoch zero is l = record { epoch = epoch; of = refl; is = refl; rises = λ p. grind (arith, nat_tests, is) }
@@ -115,7 +115,7 @@ stop_by s _ None n (Proposes epoch) is l = propose_stop (nat_le epoch s.promised
 stop_by s _ None n (Heads r h head epoch then replies) is l = record {
   epoch = h.epoch;
   of = epoch;
-  is = head_front (head_of r) s h (effects_behind (fronted s r) r (row_refused (fronted s r) r)) n head (behind_quiet (fronted s r) r h (row_refused (fronted s r) r) head) (passed s h (front_passes s r h head is)) l;
+  is = head_front (head_of r) s h (effects_after (fronted s r) r (row_refused (fronted s r) r)) n head (after_quiet (fronted s r) r h (row_refused (fronted s r) r) head) (passed s h (front_passes s r h head is)) l;
   rises = λ p. absurd (cc (p, heads_no_proposal r h head));
 }
 
@@ -171,7 +171,7 @@ other_falls caller muted (answer.NotOpened fail) m (Arm calls stop) other e = ab
 
 pub cell_raised : (c : Cell) (ask : NodeAsk) (caller : ℕ) (muted : Bool) (m : Move) → move_of caller muted ask (cell_takes c ask).answer ≡ Some m → falls m ≡ false → CellRaised c ask
 unfolding cell_takes
-cell_raised c (Act late r) caller muted m e off = record { late = late; request = r; asks = refl; raised = call_raised c late muted caller r (requested c.state.up c r) m (call_is c r) e off }
-cell_raised c Kill caller muted m e off = absurd (cc (other_falls caller muted (killed c.state.up c).answer m Kill (λ l r f. absurd (cc f)) e, off))
+cell_raised c (Act late r) caller muted m e off = record { late = late; request = r; asks = refl; raised = call_raised c late muted caller r (take_request c.state.up c r) m (call_is c r) e off }
+cell_raised c Kill caller muted m e off = absurd (cc (other_falls caller muted (take_kill c.state.up c).answer m Kill (λ l r f. absurd (cc f)) e, off))
 cell_raised c Restart caller muted m e off = absurd (cc (other_falls caller muted (started_again c.state.up c).answer m Restart (λ l r f. absurd (cc f)) e, off))
-cell_raised c (Arm calls stop) caller muted m e off = absurd (cc (other_falls caller muted (armed c.state.up c (record { calls = calls; stop = stop })).answer m (Arm calls stop) (λ l r f. absurd (cc f)) e, off))
+cell_raised c (Arm calls stop) caller muted m e off = absurd (cc (other_falls caller muted (take_arming c.state.up c (record { calls = calls; stop = stop })).answer m (Arm calls stop) (λ l r f. absurd (cc f)) e, off))

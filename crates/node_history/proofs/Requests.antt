@@ -10,28 +10,28 @@ use Rattle.journal_core.specs.declared.refusal.Refusal.{Refusal}
 use Rattle.journal_core.specs.declared.refusal.Refusal.TheVariants as refusal
 use Rattle.journal_core.specs.Limits.{head_of}
 use Rattle.journal_core.specs.Effects.{after_effects}
-use Rattle.journal_core.specs.Step.{Stepped, front_refused, refused_at_once, fronted, row_refused, row_effects, serial_then, row_reply, behind_front, unless_refused, node_step}
+use Rattle.journal_core.specs.Step.{Stepped, front_refused, refused_at_once, fronted, row_refused, row_effects, serial_then, row_reply, step_after_front, unless_refused, node_step}
 use Rattle.journal_core.proofs.Steps.{front_passed}
 use Rattle.node_history.specs.Moving.{epoch_of, is_refused_at_once, moves}
 use Rattle.node_history.proofs.Fronts.{quiet_promise, same_serial, quiet_row, at_once, row_late}
 
 -- a request is without an epoch, a proposal, or has a head
 pub data Sort : Request → Type 0 where
-  Reads : (r : Request) → epoch_of r ≡ None → ((s : NodeState) (o : Option Refusal) → (behind_front (fronted s r) r o).state ≡ s) → Sort r
+  Reads : (r : Request) → epoch_of r ≡ None → ((s : NodeState) (o : Option Refusal) → (step_after_front (fronted s r) r o).state ≡ s) → Sort r
   Proposes : (epoch : ℕ) → Sort (request.NewEpoch epoch)
   Heads : (r : Request) (h : HeadView) → head_of r ≡ Some h → epoch_of r ≡ Some h.epoch → ((n : ℕ) → serial_then n r ≡ n) → ((s : NodeState) → is_refused_at_once (row_reply s r) ≡ false) → Sort r
 
-state_reads : (s : NodeState) (o : Option Refusal) → (behind_front (fronted s request.State) request.State o).state ≡ s
+state_reads : (s : NodeState) (o : Option Refusal) → (step_after_front (fronted s request.State) request.State o).state ≡ s
 unfolding after_effects
 state_reads s None = refl
 state_reads s (Some f) = refl
 
-read_reads : (from : ℕ) (s : NodeState) (o : Option Refusal) → (behind_front (fronted s (request.Read from)) (request.Read from) o).state ≡ s
+read_reads : (from : ℕ) (s : NodeState) (o : Option Refusal) → (step_after_front (fronted s (request.Read from)) (request.Read from) o).state ≡ s
 unfolding after_effects
 read_reads from s None = refl
 read_reads from s (Some f) = refl
 
-manifest_reads : (s : NodeState) (o : Option Refusal) → (behind_front (fronted s request.Manifest) request.Manifest o).state ≡ s
+manifest_reads : (s : NodeState) (o : Option Refusal) → (step_after_front (fronted s request.Manifest) request.Manifest o).state ≡ s
 unfolding after_effects
 manifest_reads s None = refl
 manifest_reads s (Some f) = refl
@@ -50,7 +50,7 @@ sort_of (request.Purge head min) = Heads (request.Purge head min) head refl refl
 sort_of (request.Read from) = Reads (request.Read from) refl (read_reads from)
 sort_of request.Manifest = Reads request.Manifest refl manifest_reads
 
--- ## Behind the front of a request with a head
+-- ## After the front of a request with a head
 pub record Fronted (s : NodeState) (h : HeadView) (after : NodeState) : Type 0 where
   pub promised : after.promised ≡ max s.promised h.epoch
   pub serial : after.serial ≡ h.serial
@@ -58,7 +58,7 @@ pub record Fronted (s : NodeState) (h : HeadView) (after : NodeState) : Type 0 w
 pub front_promise : (s : NodeState) (r : Request) (h : HeadView) → head_of r ≡ Some h → ((fronted s r).promised ≡ max s.promised h.epoch) × ((fronted s r).serial ≡ h.serial)
 front_promise s r h e = (rw e refl, rw e refl)
 
-pub behind : (s : NodeState) (r : Request) (h : HeadView) (o : Option Refusal) → head_of r ≡ Some h → ((n : ℕ) → serial_then n r ≡ n) → Fronted s h (behind_front (fronted s r) r o).state
+pub behind : (s : NodeState) (r : Request) (h : HeadView) (o : Option Refusal) → head_of r ≡ Some h → ((n : ℕ) → serial_then n r ≡ n) → Fronted s h (step_after_front (fronted s r) r o).state
 behind s r h (Some f) e then = record { promised = (front_promise s r h e).0; serial = (front_promise s r h e).1 }
 behind s r h None e then = record {
   promised = quiet_promise (row_effects (fronted s r) r) (fronted s r) (quiet_row (fronted s r) r h e) ∙ (front_promise s r h e).0;
@@ -91,11 +91,11 @@ fronted_moves : (s : NodeState) (h : HeadView) (after : NodeState) → Fronted s
 fronted_moves s h after f (inl l) = inl (omega (arith, f.promised, l))
 fronted_moves s h after f (inr e) = inr (omega (arith, f.promised, e.0), omega (arith, f.serial, e.1))
 
-late_reply : (s : NodeState) (r : Request) (h : HeadView) (o : Option Refusal) → head_of r ≡ Some h → ((s : NodeState) → is_refused_at_once (row_reply s r) ≡ false) → row_refused (fronted s r) r ≡ o → is_refused_at_once (behind_front (fronted s r) r o).reply ≡ false
+late_reply : (s : NodeState) (r : Request) (h : HeadView) (o : Option Refusal) → head_of r ≡ Some h → ((s : NodeState) → is_refused_at_once (row_reply s r) ≡ false) → row_refused (fronted s r) r ≡ o → is_refused_at_once (step_after_front (fronted s r) r o).reply ≡ false
 late_reply s r h None e replies is = replies (fronted s r)
 late_reply s r h (Some f) e replies is = row_late (fronted s r) r h f e is
 
-propose_by : (b : Bool) (s : NodeState) (epoch : ℕ) → nat_le epoch s.promised ≡ b → Did s (behind_front (fronted s (request.NewEpoch epoch)) (request.NewEpoch epoch) (cond b (Some (refusal.EpochRefused s.promised)) None))
+propose_by : (b : Bool) (s : NodeState) (epoch : ℕ) → nat_le epoch s.promised ≡ b → Did s (step_after_front (fronted s (request.NewEpoch epoch)) (request.NewEpoch epoch) (cond b (Some (refusal.EpochRefused s.promised)) None))
 unfolding Did after_effects
 propose_by true s epoch is = inr (refl, refl)
 propose_by false s epoch is = inl (refl, inl (grind (arith, nat_tests, is)))
@@ -106,7 +106,7 @@ did_by s r (Some f) x is e = inr (at_once s r f is, refl)
 did_by s _ None (Reads r none same) is e = absurd (cc (rw none at e))
 did_by s _ None (Proposes epoch) is e = unfold Did in propose_by (nat_le epoch s.promised) s epoch refl
 did_by s _ None (Heads r h head epoch then replies) is e =
-    inl (late_reply s r h (row_refused (fronted s r) r) head replies refl, fronted_moves s h (behind_front (fronted s r) r (row_refused (fronted s r) r)).state (behind s r h (row_refused (fronted s r) r) head then) (front_passes s r h head is))
+    inl (late_reply s r h (row_refused (fronted s r) r) head replies refl, fronted_moves s h (step_after_front (fronted s r) r (row_refused (fronted s r) r)).state (behind s r h (row_refused (fronted s r) r) head then) (front_passes s r h head is))
 
 pub did : (s : NodeState) (r : Request) → is_some (epoch_of r) ≡ true → Did s (node_step s r)
 unfolding node_step

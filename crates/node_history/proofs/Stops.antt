@@ -1,4 +1,4 @@
--- A request that is stopped behind the first of its effects leaves a promise that is no lower.
+-- A request that is stopped after the first of its effects leaves a promise that is no lower.
 use Rattle.std.proofs.Common.{◌≡◌, ℕ, zero, suc, ◌<◌, ◌≤◌, min, List, [], ◌∷◌, ◌++◌, Bool, true, false, cond, refl, sym, ◌∙◌, subst, arith, length, take}
 use Rattle.std.specs.Prelude.{Option, Some, None, nat_lt, nat_le}
 use Rattle.std.proofs.lemmas.Bool.Decides.{nat_tests}
@@ -11,11 +11,11 @@ use Rattle.journal_core.specs.declared.refusal.Refusal.{Refusal}
 use Rattle.journal_core.specs.declared.refusal.Refusal.TheVariants as refusal
 use Rattle.journal_core.specs.Limits.{head_of}
 use Rattle.journal_core.specs.Effects.{Effect, Promise, WriterEpoch, Commit, NewSegment, Append, Replace, MakeFinal, Remove, after_effect, after_effects}
-use Rattle.journal_core.specs.Step.{refused_at_once, front_effects, fronted, row_refused, effects_behind, effects_unless, effects_of, stopped}
+use Rattle.journal_core.specs.Step.{refused_at_once, front_effects, fronted, row_refused, effects_after, effects_unless, effects_of, stopped}
 use Rattle.node_history.specs.declared.stop.Stop.{Stop}
 use Rattle.node_history.specs.declared.stop.Stop.TheVariants.{Effects, DiskCalls}
 use Rattle.journal_core.specs.Cuts.{standing, cost_of, costs_of}
-use Rattle.journal_core.proofs.BudgetLaws.{standing-le}
+use Rattle.journal_core.proofs.CutLaws.{standing-le}
 use Rattle.node_history.specs.Cell.{kept_by}
 use Rattle.node_history.specs.Moving.{epoch_of}
 use Rattle.node_history.proofs.Fronts.{IsQuiet, quiet_promise, quiet_row}
@@ -83,16 +83,16 @@ unfolding Rises
 front_by true p epoch es is h = (grind (arith, nat_tests, is), h)
 front_by false p epoch es is h = quiet_rises p es h
 
-pub behind_quiet : (s : NodeState) (r : Request) (h : HeadView) (o : Option Refusal) → head_of r ≡ Some h → IsQuiet (effects_behind s r o)
+pub after_quiet : (s : NodeState) (r : Request) (h : HeadView) (o : Option Refusal) → head_of r ≡ Some h → IsQuiet (effects_after s r o)
 unfolding IsQuiet
-behind_quiet s r h None e = quiet_row s r h e
-behind_quiet s r h (Some f) e = tt
+after_quiet s r h None e = quiet_row s r h e
+after_quiet s r h (Some f) e = tt
 
 head_rises : (s : NodeState) (o : Option HeadView) (h : HeadView) (es : List Effect) → o ≡ Some h → IsQuiet es → Rises s.promised (front_effects s o ++ es)
 head_rises s None h es e q = absurd (cc e)
 head_rises s (Some g) h es e q = front_by (nat_lt s.promised g.epoch) s.promised g.epoch es refl q
 
-propose_by : (b : Bool) (s : NodeState) (epoch : ℕ) → nat_le epoch s.promised ≡ b → Rises s.promised (effects_behind (fronted s (request.NewEpoch epoch)) (request.NewEpoch epoch) (cond b (Some (refusal.EpochRefused s.promised)) None))
+propose_by : (b : Bool) (s : NodeState) (epoch : ℕ) → nat_le epoch s.promised ≡ b → Rises s.promised (effects_after (fronted s (request.NewEpoch epoch)) (request.NewEpoch epoch) (cond b (Some (refusal.EpochRefused s.promised)) None))
 unfolding Rises IsQuiet
 propose_by true s epoch is = tt
 propose_by false s epoch is = (grind (arith, nat_tests, is), tt)
@@ -117,7 +117,7 @@ unfolding Rises
 effects_by s r (Some f) x = tt
 effects_by s _ None (Reads r none same) = subst (Rises s.promised) (sym (read_by s r none)) tt
 effects_by s _ None (Proposes epoch) = propose_by (nat_le epoch s.promised) s epoch refl
-effects_by s _ None (Heads r h head epoch then replies) = head_rises s (head_of r) h (effects_behind (fronted s r) r (row_refused (fronted s r) r)) head (behind_quiet (fronted s r) r h (row_refused (fronted s r) r) head)
+effects_by s _ None (Heads r h head epoch then replies) = head_rises s (head_of r) h (effects_after (fronted s r) r (row_refused (fronted s r) r)) head (after_quiet (fronted s r) r h (row_refused (fronted s r) r) head)
 
 pub stop_rises : (s : NodeState) (r : Request) (keep : ℕ) → s.promised ≤ (stopped s r keep).promised
 unfolding effects_of

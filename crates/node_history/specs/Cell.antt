@@ -40,46 +40,46 @@ abbrev pub stops : NodeState → Request → ℕ → Taken
 stops s r keep = record { answer = Stopped keep; cell = record { state = stopped s r keep; arming = None } }
 
 -- an arming counts the requests that reach the node while it is up, and ends with the stop
-abbrev pub counted : NodeState → Request → Option Arming → Taken
-counted s r None = replies s r None
-counted s r (Some a) = if nat_lt 1 a.calls then replies s r (Some (record a { calls = a.calls - 1 })) else stops s r (kept_by a.stop s r)
+abbrev pub count_request : NodeState → Request → Option Arming → Taken
+count_request s r None = replies s r None
+count_request s r (Some a) = if nat_lt 1 a.calls then replies s r (Some (record a { calls = a.calls - 1 })) else stops s r (kept_by a.stop s r)
 
-abbrev pub requested : Bool → Cell → Request → Taken
-requested true c r = counted c.state r c.arming
-requested false c r = replies c.state r c.arming
+abbrev pub take_request : Bool → Cell → Request → Taken
+take_request true c r = count_request c.state r c.arming
+take_request false c r = replies c.state r c.arming
 
 -- ## A kill, a restart, an arming. They are idle where the node already is as asked; a new arming replaces the old one, and a kill ends it.
-abbrev pub done : NodeState → Option Arming → Taken
-done s arming = record { answer = Done; cell = record { state = s; arming = arming } }
+abbrev pub answer_done : NodeState → Option Arming → Taken
+answer_done s arming = record { answer = Done; cell = record { state = s; arming = arming } }
 
 abbrev pub idle : Cell → Taken
 idle c = record { answer = Idle; cell = c }
 
-abbrev pub killed : Bool → Cell → Taken
-killed true c = done (crashed c.state) None
-killed false c = idle c
+abbrev pub take_kill : Bool → Cell → Taken
+take_kill true c = answer_done (crashed c.state) None
+take_kill false c = idle c
 
 abbrev pub started_again : Bool → Cell → Taken
 started_again true c = idle c
-started_again false c = done (restarted c.state) c.arming
+started_again false c = answer_done (restarted c.state) c.arming
 
-abbrev pub armed : Bool → Cell → Arming → Taken
-armed true c a = done c.state (Some a)
-armed false c a = idle c
+abbrev pub take_arming : Bool → Cell → Arming → Taken
+take_arming true c a = answer_done c.state (Some a)
+take_arming false c a = idle c
 
 -- ## What reaches a cell
 unfoldable pub cell_takes : Cell → NodeAsk → Taken
-cell_takes c (Act late r) = requested c.state.up c r
-cell_takes c Kill = killed c.state.up c
+cell_takes c (Act late r) = take_request c.state.up c r
+cell_takes c Kill = take_kill c.state.up c
 cell_takes c Restart = started_again c.state.up c
-cell_takes c (Arm calls stop) = armed c.state.up c (record { calls = calls; stop = stop })
+cell_takes c (Arm calls stop) = take_arming c.state.up c (record { calls = calls; stop = stop })
 
 -- a history is what one node answers, line by line, from this cell on
 unfoldable pub IsLocalRun : Cell → List HistoryLine → Type 0
 IsLocalRun c [] = Unit {0}
 IsLocalRun c (h ∷ hs) = (h.answer ≡ (cell_takes c h.ask).answer) × IsLocalRun (cell_takes c h.ask).cell hs
 
--- the cell behind a history
+-- the cell after a history
 unfoldable pub cell_after : Cell → List HistoryLine → Cell
 cell_after c [] = c
 cell_after c (h ∷ hs) = cell_after (cell_takes c h.ask).cell hs
@@ -90,9 +90,9 @@ is_due None = false
 is_due (Some a) = not (nat_lt 1 a.calls)
 
 -- a stop that comes with a request: it is as an arming for it, unless the node's own arming is due, or the node is down
-abbrev pub stopping : Option ℕ → Cell → Cell
-stopping None c = c
-stopping (Some keep) c = if c.state.up && not (is_due c.arming) then record c { arming = Some (record { calls = 1; stop = Effects keep }) } else c
+abbrev pub arm_at_once : Option ℕ → Cell → Cell
+arm_at_once None c = c
+arm_at_once (Some keep) c = if c.state.up && not (is_due c.arming) then record c { arming = Some (record { calls = 1; stop = Effects keep }) } else c
 
 -- ## What a caller hears
 abbrev pub heard_of : NodeAnswer → Heard

@@ -4,7 +4,7 @@ use Rattle.journal_core.specs.declared.node_state.NodeState.{NodeState}
 use Rattle.journal_core.specs.Step.{node_step, effects_of}
 use Rattle.node_history.specs.declared.node_ask.NodeAsk.{NodeAsk}
 use Rattle.node_history.specs.Cell.{Cell, cell_takes}
-use Rattle.node_history.specs.Entries.{Move, Answer, Stop, Kill, Restart, moved}
+use Rattle.node_history.specs.Entries.{Move, Answer, Stop, Kill, Restart, after_move}
 use Rattle.node_history.specs.Moving.{move_of}
 
 abbrev pub PromiseNeverFalls : Type 0
@@ -23,9 +23,9 @@ IsPossible s Restart = s.up ≡ false
 
 -- a line that moves is a move of the node, and leaves another state
 pub record IsMoved (c : Cell) (after : NodeState) (m : Move) : Type 0 where
-  pub is : after ≡ moved c.state m
+  pub is : after ≡ after_move c.state m
   pub possible : IsPossible c.state m
-  pub changes : moved c.state m ≢ c.state
+  pub changes : after_move c.state m ≢ c.state
 
 abbrev pub MovingMoves : Type 0
 MovingMoves =

@@ -11,7 +11,7 @@ pub data Way : Type 0 where
   Muted : Way
   Late : Way
 
--- One move of a node: it answered a request, was stopped in a request (maybe a late copy) behind that many of its effects, was killed or
+-- One move of a node: it answered a request, was stopped in a request (maybe a late copy) after that many of its effects, was killed or
 -- was restarted.
 pub data Move : Type 0 where
   Answer : (caller : ℕ) (way : Way) (request : Request) (reply : Reply) → Move
@@ -23,16 +23,16 @@ pub record Entry : Type 0 where
   pub node : ℕ
   pub move : Move
 
-abbrev pub moved : NodeState → Move → NodeState
-moved s (Answer caller way request reply) = (node_step s request).state
-moved s (Stop caller late request keep) = stopped s request keep
-moved s Kill = crashed s
-moved s Restart = restarted s
+abbrev pub after_move : NodeState → Move → NodeState
+after_move s (Answer caller way request reply) = (node_step s request).state
+after_move s (Stop caller late request keep) = stopped s request keep
+after_move s Kill = crashed s
+after_move s Restart = restarted s
 
 -- A node's state after entries, the newest of which stands first.
 unfoldable pub node_after : ℕ → List Entry → NodeState
 node_after i [] = fresh_state
-node_after i (e ∷ past) = if e.node == i then moved (node_after i past) e.move else node_after i past
+node_after i (e ∷ past) = if e.node == i then after_move (node_after i past) e.move else node_after i past
 
 -- The first list is what stood before some place of the second, or all of it. Both stand newest first.
 pub data Earlier : List Entry → List Entry → Type 0 where

@@ -63,7 +63,7 @@ move_of caller muted ask.Kill answer.Done = Some Kill
 move_of caller muted ask.Restart answer.Done = Some Restart
 move_of caller muted _ _ = None
 
--- a kill, a restart, or a stop behind no effect
+-- a kill, a restart, or a stop after no effect
 abbrev pub falls : Move → Bool
 falls (Answer caller way request reply) = false
 falls (Stop caller late request zero) = true

@@ -7,7 +7,7 @@ use Rattle.node_history.specs.declared.node_ask.NodeAsk.{NodeAsk}
 use Rattle.node_history.specs.declared.node_ask.NodeAsk.TheVariants.{Act, Kill, Restart, Arm}
 use Rattle.node_history.specs.declared.node_ask.NodeAnswer.{NodeAnswer}
 use Rattle.node_history.specs.declared.history_line.HistoryLine.{HistoryLine}
-use Rattle.node_history.specs.Cell.{Cell, fresh_cell, cell_takes, stopping, heard_of}
+use Rattle.node_history.specs.Cell.{Cell, fresh_cell, cell_takes, arm_at_once, heard_of}
 
 -- the cell as it stands, and what it has listed
 pub record CellView : Type 0 where
@@ -32,7 +32,7 @@ pub record IsTaken (old : CellView) (caller : ℕ) (ask : NodeAsk) (answer : Nod
   pub taken : cell_takes old.cell ask ≡ record { answer = answer; cell = new.cell }
   pub listed : new.history ≡ old.history ++ record { caller = caller; ask = ask; answer = answer } ∷ []
 
--- a reply fits its request, and isn't want of memory
+-- a reply fits its request, and isn't lack of memory
 abbrev pub AnswerFits : NodeAsk → NodeAnswer → Type 0
 AnswerFits (Act late r) answer = FitsHeard r (heard_of answer)
 AnswerFits Kill answer = Unit {0}
@@ -41,4 +41,4 @@ AnswerFits (Arm calls stop) answer = Unit {0}
 
 -- what one node took
 abbrev pub stopping_at : Option ℕ → CellView → CellView
-stopping_at stop c = record c { cell = stopping stop c.cell }
+stopping_at stop c = record c { cell = arm_at_once stop c.cell }

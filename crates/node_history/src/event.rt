@@ -12,7 +12,7 @@ pub enum Fate {
     Muted,
     /// It isn't delivered.
     Dropped,
-    /// The node is stopped behind so many of its effects.
+    /// The node is stopped after so many of its effects.
     Stopped { keep: u64 },
 }
 

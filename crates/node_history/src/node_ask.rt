@@ -23,7 +23,7 @@ pub enum NodeAsk {
 pub enum NodeAnswer {
     /// The node's reply to a request.
     Replied(Reply),
-    /// The node was stopped behind so many effects of the request.
+    /// The node was stopped after so many effects of the request.
     Stopped { keep: u64 },
     /// The kill, restart or arming took place.
     Done,

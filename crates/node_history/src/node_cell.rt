@@ -3,7 +3,7 @@ ghost use Rattle.std.specs.Prelude.{◌≡◌, ◌≢◌, ◌<◌, ◌^◌, leng
 ghost use Rattle.journal_core.specs.declared.heard.Heard.TheVariants.{Answer};
 ghost use Rattle.journal_core.specs.Peers.{FitsHeard};
 ghost use Rattle.journal_core.specs.Step.{node_step, fresh_state, stopped};
-ghost use Rattle.node_history.specs.Cell.{kept_by, replies, stops, counted, requested, killed, started_again, armed, cell_takes, is_due, heard_of};
+ghost use Rattle.node_history.specs.Cell.{kept_by, replies, stops, count_request, take_request, take_kill, started_again, take_arming, cell_takes, is_due, heard_of};
 ghost use Rattle.node_history.specs.NodeCells.{state_told, new_cell, IsTaken, AnswerFits, stopping_at};
 
 use crate::arming::Arming;
@@ -157,7 +157,7 @@ impl<N: CutNode> NodeCell<N> {
         request: &Request,
     ) -> Result<NodeAnswer, OutOfMemory>
         requires up { self.old.cell.state.up ≡ true }
-        ensures taken { IfOk result (λ answer. counted self.old.cell.state request.now (Some arming) ≡ record { answer = answer; cell = self.new.cell }) }
+        ensures taken { IfOk result (λ answer. count_request self.old.cell.state request.now (Some arming) ≡ record { answer = answer; cell = self.new.cell }) }
         ensures fits { IfOk result (λ answer. FitsHeard request.now (heard_of answer)) }
         ensures history { self.new.history ≡ self.old.history }
     {
@@ -189,7 +189,7 @@ impl<N: CutNode> NodeCell<N> {
         request: &Request,
     ) -> Result<NodeAnswer, OutOfMemory>
         requires up { is_up ≡ self.old.cell.state.up }
-        ensures taken { IfOk result (λ answer. requested is_up self.old.cell request.now ≡ record { answer = answer; cell = self.new.cell }) }
+        ensures taken { IfOk result (λ answer. take_request is_up self.old.cell request.now ≡ record { answer = answer; cell = self.new.cell }) }
         ensures fits { IfOk result (λ answer. FitsHeard request.now (heard_of answer)) }
         ensures history { self.new.history ≡ self.old.history }
     {
@@ -201,7 +201,7 @@ impl<N: CutNode> NodeCell<N> {
 
     /// The node goes down, and the arming ends; idle where it was down.
     fn kill(&mut self) -> NodeAnswer
-        ensures taken { killed self.old.cell.state.up self.old.cell ≡ record { answer = result; cell = self.new.cell } }
+        ensures taken { take_kill self.old.cell.state.up self.old.cell ≡ record { answer = result; cell = self.new.cell } }
         ensures history { self.new.history ≡ self.old.history }
     {
         if self.node.kill() {
@@ -233,7 +233,7 @@ impl<N: CutNode> NodeCell<N> {
 
     /// A new arming in place of the old one; idle where the node is down.
     fn arm(&mut self, is_up: bool, arming: Arming) -> NodeAnswer
-        ensures taken { armed is_up self.old.cell arming ≡ record { answer = result; cell = self.new.cell } }
+        ensures taken { take_arming is_up self.old.cell arming ≡ record { answer = result; cell = self.new.cell } }
         ensures history { self.new.history ≡ self.old.history }
     {
         if is_up {

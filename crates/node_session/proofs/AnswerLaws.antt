@@ -56,7 +56,7 @@ answered_more s t (l ∷ ls) line text r h e = (
   answered_more (node_step s h.0).state t ls line h.2 r h.4 e,
 )
 
--- a node tells its state behind an answer exactly where it did before
+-- a node tells its state after an answer exactly where it did before
 pub tells_still : (old new : Option NodeState) (r : Request) (a : Reply) → Answers old r a new → is_some new ≡ is_some old
 tells_still None None r a h = refl
 tells_still None (Some t) r a h = absurd h

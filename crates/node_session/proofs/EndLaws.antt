@@ -21,7 +21,7 @@ front_of : (lines : List (List ℕ)) (told rest : List ℕ) (old now : NodeState
     → taken ≤ longest_input → AreFront told lines rest
 front_of lines told rest old now before written taken number s within = (s.spelled, omega (arith, s.count))
 
--- a session that ends behind the lines so far, with nothing more written
+-- a session that ends after the lines so far, with nothing more written
 ended : (lines : List (List ℕ)) (last : Option (List ℕ)) (outcome : Served) (told rest : List ℕ) (left : Option (List ℕ)) (old now new : NodeState) (before written after : Option (List ℕ)) (taken number : ℕ)
     (s : AreServed lines told rest old now before written taken number) → AreWritten outcome before after s.text [] → EndsBy outcome told lines rest left now new []
     → IsAskedNext last rest (room_behind lines) → IsSession lines last outcome told left old new before after

@@ -1,4 +1,4 @@
--- Where a line ends, and lines behind one another.
+-- Where a line ends, and lines after one another.
 use Rattle.std.proofs.Common.{ℕ, ◌≡◌, ◌≢◌, ◌<◌, ◌≤◌, ◌+◌, List, [], ◌∷◌, ◌++◌, length, true, ◌==◌, sym, ap, arith, ◌∙◌, append-nil, take, drop, get_or, inl, inr, suc, subst}
 use Rattle.std.proofs.Math.Seq.{take-add}
 use Rattle.std.proofs.lemmas.Bool.Decides.{eqb_tells}
@@ -29,14 +29,14 @@ pub line_append : (xs ys : List ℕ) → IsLine xs → IsLine ys → IsLine (xs 
 line_append [] ys h k = k
 line_append (x ∷ xs) ys h k = (h.0, line_append xs ys h.1 k)
 
--- the first LF behind a front without one
+-- the first LF after a front without one
 pub line_found : (bytes rest : List ℕ) (searched at : ℕ) → IsLine (take searched bytes) → rest ≡ drop searched bytes → at < length rest
     → Nowhere (Passes (is_byte 10) rest) 0 at → IsLine (take (searched + at) bytes)
 line_found bytes rest searched at h e l n =
     let P : List ℕ → Type 0 = λ xs. IsLine (take at xs) in
     rw (take-add searched at bytes) (line_append (take searched bytes) (take at (drop searched bytes)) h (subst P e (line_before rest at l n)))
 
--- no LF behind it
+-- no LF after it
 pub line_open : (bytes rest : List ℕ) (searched : ℕ) → IsLine (take searched bytes) → rest ≡ drop searched bytes
     → Nowhere (Passes (is_byte 10) rest) 0 (length rest) → IsLine bytes
 line_open bytes rest searched h e n =

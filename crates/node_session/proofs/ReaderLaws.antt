@@ -65,22 +65,22 @@ pub then_none : (old mid new : LineReaderView) (a b c : Option (List ℕ)) → T
 then_none old mid new a b c h k = record { given = Consumes-trans _ _ _ _ _ h.given k.given; taken = k.taken ∙ h.taken }
 
 -- what comes of the next line after reads that took nothing
-pub next_behind : (outcome : Next) (line : List ℕ) (old mid new : LineReaderView) (a b c : Option (List ℕ)) → TakesNone old mid a b → IsNextLine outcome line mid new b c
+pub next_after : (outcome : Next) (line : List ℕ) (old mid new : LineReaderView) (a b c : Option (List ℕ)) → TakesNone old mid a b → IsNextLine outcome line mid new b c
     → IsNextLine outcome line old new a c
-next_behind next.Line line old mid new a b c h k =
+next_after next.Line line old mid new a b c h k =
     record { one = k.one; short = k.short; given = Consumes-trans _ _ _ _ _ h.given k.given; taken = rw (← h.taken) k.taken }
-next_behind next.Last line old mid new a b c h k =
+next_after next.Last line old mid new a b c h k =
     let taken : TakesLine line line old new a c =
     record { one = k.0.one; short = k.0.short; given = Consumes-trans _ _ _ _ _ h.given k.0.given; taken = rw (← h.taken) k.0.taken } in
     (taken, k.1, k.2)
-next_behind next.End line old mid new a b c h k = (then_none old mid new a b c h k.0, k.1)
-next_behind next.LongLine line old mid new a b c h k = (then_none old mid new a b c h k.0, k.1)
-next_behind next.LongInput line old mid new a b c h k =
+next_after next.End line old mid new a b c h k = (then_none old mid new a b c h k.0, k.1)
+next_after next.LongLine line old mid new a b c h k = (then_none old mid new a b c h k.0, k.1)
+next_after next.LongInput line old mid new a b c h k =
     let past : IsPastLimit old new a c =
     record { byte = k.0.byte; given = Consumes-trans _ _ _ _ _ h.given k.0.given; taken = k.0.taken ∙ h.taken; all = k.0.all } in
     (past, k.1)
-next_behind next.ReadFault line old mid new a b c h k = (then_none old mid new a b c h k.0, k.1)
-next_behind next.OutOfMemory line old mid new a b c h k = tt
+next_after next.ReadFault line old mid new a b c h k = (then_none old mid new a b c h k.0, k.1)
+next_after next.OutOfMemory line old mid new a b c h k = tt
 
 pub none_of_bytes : (old new : LineReaderView) (before after : Option (List ℕ)) → IsRead more.Bytes old new before after → TakesNone old new before after
 none_of_bytes old new before after h =
@@ -88,7 +88,7 @@ none_of_bytes old new before after h =
     record { given = subst P (sym h.1.held) (read_in old.held h.0 before after h.2); taken = h.1.taken }
 
 -- the line that ends in what was read last
-pub line_behind : (outcome : Next) (line : List ℕ) (old mid new last : LineReaderView) (a b c : Option (List ℕ)) → IsReading old mid a b → IsRead more.Bytes mid new b c
+pub line_after : (outcome : Next) (line : List ℕ) (old mid new last : LineReaderView) (a b c : Option (List ℕ)) → IsReading old mid a b → IsRead more.Bytes mid new b c
     → IsCut outcome line new last → IsNextLine outcome line old last a c
-line_behind outcome line old mid new last a b c h k cut =
-    next_behind outcome line old new last a c c (then_none old mid new a b c h.none (none_of_bytes mid new b c k)) (next_of_cut outcome line new last c cut)
+line_after outcome line old mid new last a b c h k cut =
+    next_after outcome line old new last a c c (then_none old mid new a b c h.none (none_of_bytes mid new b c k)) (next_of_cut outcome line new last c cut)

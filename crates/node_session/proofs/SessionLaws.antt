@@ -53,7 +53,7 @@ begun_with told old before reader none zero =
     subst P (sym none) (subst Q (sym (prepend_known-nil told)) (subst R (sym zero) (begun told old before)))
 
 -- ## One line more
--- the text of the lines, with one more behind them
+-- the text of the lines, with one more after them
 spelled_more : (told rest behind line : List ℕ) (lines : List (List ℕ)) → told ≡ lines_text lines ++ rest → rest ≡ (line ++ 10 ∷ []) ++ behind
     → told ≡ lines_text (lines ++ line ∷ []) ++ behind
 spelled_more told rest behind line lines e f =

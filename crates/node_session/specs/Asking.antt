@@ -15,7 +15,7 @@ use Rattle.node_session.specs.declared.served.Served.{Served}
 abbrev pub IsAsked : {N : Type 0} → (N → Request → Reply → N → Type 0) → List ℕ → N → N → Type 0
 IsAsked Asked line old new = Asks line (λ r. (a : Reply) × Asked old r a new)
 
--- and the answer was neither a fault of the node's disk nor want of memory
+-- and the answer was neither a fault of the node's disk nor lack of memory
 abbrev pub IsAskedWell : {N : Type 0} → (N → Request → Reply → N → Type 0) → List ℕ → N → N → Type 0
 IsAskedWell Asked line old new =
     Asks line (λ r. (a : Reply) × Asked old r a new × (a ≢ reply.Refused refusal.DiskFault) × (a ≢ reply.Refused refusal.OutOfMemory))

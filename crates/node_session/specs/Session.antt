@@ -82,8 +82,8 @@ pub record IsReadInto (rest : List ℕ) (room : ℕ) (left : Option (List ℕ)) 
 abbrev pub IsPartWritten : NodeState → List ℕ → NodeState → Request → Type 0
 IsPartWritten s part t request = (t ≡ (node_step s request).state) × ((n : ℕ) × (part ≡ take n (reply_text (node_step s request).reply ++ 10 ∷ [])))
 
--- Why it ended, of the input's bytes, the lines that were answered, what stands behind them, what the source has left, the node's state
--- behind those lines and now, and what was written of a reply whose write failed.
+-- Why it ended, of the input's bytes, the lines that were answered, what stands after them, what the source has left, the node's state
+-- after those lines and now, and what was written of a reply whose write failed.
 abbrev pub EndsBy : Served → List ℕ → List (List ℕ) → List ℕ → Option (List ℕ) → NodeState → NodeState → List ℕ → Type 0
 EndsBy served.Done told lines rest left s t part = AreAll told lines × (left ≡ Some []) × (t ≡ s)
 EndsBy (served.BadLine number rule) told lines rest left s t part =

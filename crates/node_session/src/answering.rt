@@ -69,8 +69,8 @@ fn answer_request<N: SessionNode>(
     answer_with(&reply, out)
 }
 
-/// Has a node answer a line, and makes `out` its reply's text and an LF. A reply that tells want of memory or a fault of the disk has no text.
-/// A line that breaks a rule is answered by it, and by want of memory only where bodies are read: rule 8.
+/// Has a node answer a line, and makes `out` its reply's text and an LF. A reply that tells lack of memory or a fault of the disk has no text.
+/// A line that breaks a rule is answered by it, and never by lack of memory.
 #[tactic(auto, using(request_text::proofs::ReadLaws::bad_takes))]
 pub(crate) fn answer_line<N: SessionNode>(
     alloc: Global,
@@ -84,7 +84,7 @@ pub(crate) fn answer_line<N: SessionNode>(
     ensures later { N.faults node.old ≤ N.faults node.new }
     ensures fault { result ≡ Answered.DiskFault → Rose (N.faults node.old) (N.faults node.new) }
     ensures steady { N.steady node.old → N.steady node.new × (result ≢ Answered.DiskFault) }
-    ensures memory { (rule : ℕ) → reading_of line.now ≡ ReadRequest.Bad rule → rule ≢ 8 → result ≢ Answered.OutOfMemory }
+    ensures memory { (rule : ℕ) → reading_of line.now ≡ ReadRequest.Bad rule → result ≢ Answered.OutOfMemory }
 {
     match read_request(alloc, line) {
         ReadRequest::Read(request) => answer_request(alloc, node, &request, out),

@@ -11,6 +11,7 @@ mod serving;
 mod session_node;
 mod worked;
 
+pub use line_reader::{LONGEST_INPUT, LONGEST_LINE};
 pub use served::Served;
 pub use serving::serve;
 pub use session_node::SessionNode;

@@ -14,10 +14,10 @@ use std::alloc::Global;
 use std::marker::Model;
 
 /// The most bytes of a line, its LF not counted.
-const LONGEST_LINE: usize = 1_048_576;
+pub const LONGEST_LINE: usize = 1_048_576;
 
 /// The most bytes of an input, its LFs counted.
-const LONGEST_INPUT: usize = 1_073_741_824;
+pub const LONGEST_INPUT: usize = 1_073_741_824;
 
 /// How many bytes are asked for in one read.
 const PIECE: usize = 65_536;
@@ -125,7 +125,7 @@ impl LineReader {
         ensures fault { result ≡ Next.ReadFault → Rose (S.faults source.old) (S.faults source.new) }
         ensures no_fault { result ≢ Next.ReadFault → S.faults source.new ≡ S.faults source.old }
     {
-        match find_end(self.held(), 0) {
+        match find_end(self.held_line(), 0) {
             Some(at) => self.take_line(at, line),
             None => self.read_line(source, line),
         }
@@ -140,13 +140,13 @@ impl LineReader {
         ensures no_fault { result ≢ Next.ReadFault → S.faults source.new ≡ S.faults source.old }
     {
         loop {
-            let searched = self.held().len();
+            let searched = self.held_line().len();
             if LONGEST_LINE < searched {
                 return Next::LongLine;
             }
             match self.read_more(source) {
                 More::Bytes => {
-                    if let Some(at) = find_end(self.held(), searched) {
+                    if let Some(at) = find_end(self.held_line(), searched) {
                         return self.take_line(at, line);
                     }
                 }
@@ -159,7 +159,7 @@ impl LineReader {
     }
 
     /// The bytes that were read and not taken.
-    fn held(&self) -> &[u8]
+    fn held_line(&self) -> &[u8]
         ensures bytes { result.now ≡ self.now.held }
         ensures within { self.now.taken + length self.now.held ≤ longest_input }
     {
@@ -175,7 +175,7 @@ impl LineReader {
         ensures cut { IsCut result line.new.items self.old self.new }
         ensures within { self.new.taken + length self.new.held ≤ longest_input }
     {
-        let text = &self.held()[..at];
+        let text = &self.held_line()[..at];
         if LONGEST_LINE < text.len() {
             return Next::LongLine;
         }
@@ -192,11 +192,11 @@ impl LineReader {
         ensures cut { IsCutLast result line.new.items self.old self.new }
         ensures within { self.new.taken + length self.new.held ≤ longest_input }
     {
-        let count = self.held().len();
+        let count = self.held_line().len();
         if count == 0 {
             return Next::End;
         }
-        if copy_to(self.held(), line).is_err() {
+        if copy_to(self.held_line(), line).is_err() {
             return Next::OutOfMemory;
         }
         self.at += count;
@@ -211,7 +211,7 @@ impl LineReader {
         ensures fault { result ≡ More.ReadFault → Rose (S.faults source.old) (S.faults source.new) }
         ensures no_fault { result ≢ More.ReadFault → S.faults source.new ≡ S.faults source.old }
     {
-        let room = LONGEST_INPUT - self.taken - self.held().len();
+        let room = LONGEST_INPUT - self.taken - self.held_line().len();
         let Ok(count) = read_piece(source, &mut self.piece, room.max(1)) else {
             return More::ReadFault;
         };

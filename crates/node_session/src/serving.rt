@@ -35,7 +35,7 @@ fn serve_line<N: SessionNode, K: Sink>(
     ensures disk_fault { result ≡ Some Served.DiskFault → NodeRose (N.faults node.old) (N.faults node.new) }
     ensures steady { N.steady node.old → N.steady node.new × (result ≢ Some Served.DiskFault) }
     ensures no_read_fault { result ≢ Some Served.ReadFault }
-    ensures memory { (rule : ℕ) → reading_of line.now ≡ Bad rule → rule ≢ 8 → result ≢ Some Served.OutOfMemory }
+    ensures memory { (rule : ℕ) → reading_of line.now ≡ Bad rule → result ≢ Some Served.OutOfMemory }
 {
     match answer_line(alloc, node, line, reply) {
         Answered::Reply => match write_all(sink, reply) {
@@ -55,7 +55,7 @@ fn serve_line<N: SessionNode, K: Sink>(
 /// `BadLine`: a line that isn't a request, with its number from 1 and the first rule that it breaks. `LongLine`: a line
 /// of more than 1,048,576 bytes. `LongInput`: the source has more than 1,073,741,824 bytes. `ReadFault`, `WriteFault`:
 /// the source or the sink failed. `DiskFault`: the node answered that its disk failed. `OutOfMemory`: there was no
-/// memory, here or at the node. The lines before were answered. A node that tells its state tells it behind the session,
+/// memory, here or at the node. The lines before were answered. A node that tells its state tells it after the session,
 /// and one that doesn't tell it doesn't begin to. What is known of each answer is known of the lines in their order.
 pub fn serve<N: SessionNode, S: Source, K: Sink>(
     alloc: Global,

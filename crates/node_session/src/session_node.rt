@@ -5,7 +5,8 @@ ghost use Rattle.journal_core.specs.declared.reply.Reply.{Reply as AnyReply};
 ghost use Rattle.journal_core.specs.declared.request.Request.{Request as AnyRequest};
 ghost use Rattle.journal_core.specs.Answers.{Answers, Rose};
 
-use journal_core::{Node, PlainNode, Refusal, Reply, Request};
+use journal_core::{Node, Refusal, Reply, Request};
+use memory_node::PlainNode;
 use std::alloc::Global;
 
 /// A node to which a session puts its requests. Of each answer it says more than its state, as what a crash meanwhile

@@ -1,7 +1,8 @@
 //! A node over a disk in memory beside a node in memory.
 use crate::lines::text_of;
-use journal_core::{Node, NodeFail, NodeState, PlainNode, Reply, Request};
+use journal_core::{Node, NodeFail, NodeState, Reply, Request};
 use journal_node::{JournalNode, OpenFail};
+use memory_node::PlainNode;
 use qj_disk::{Choice, MemDisk};
 use std::alloc::Global;
 use std::test::Fail;

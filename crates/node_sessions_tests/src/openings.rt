@@ -46,7 +46,7 @@ fn left_half_done(alloc: Global) -> Result<MemDisk, Fail> {
     Ok(disk)
 }
 
-// The disk behind a first opening that was stopped after so many calls, and whether it had opened.
+// The disk after a first opening that was stopped after so many calls, and whether it had opened.
 fn opened_once(alloc: Global, calls: u64) -> Result<(MemDisk, bool), Fail> {
     let mut disk = left_half_done(alloc)?;
     disk.stop_after(calls);

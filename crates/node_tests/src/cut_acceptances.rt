@@ -75,7 +75,7 @@ fn is_accepted_by(rt: &impl Abort, alloc: Global, calls: u64, choice: Choice) ->
 }
 
 // The same by each choice.
-fn is_accepted_behind(rt: &impl Abort, alloc: Global, calls: u64) -> Result<(), Fail> {
+fn is_accepted_after(rt: &impl Abort, alloc: Global, calls: u64) -> Result<(), Fail> {
     for choice in CHOICES {
         is_accepted_by(rt, alloc, calls, *choice)?;
     }
@@ -83,9 +83,9 @@ fn is_accepted_behind(rt: &impl Abort, alloc: Global, calls: u64) -> Result<(), 
 }
 
 #[test]
-fn an_acceptance_stands_behind_five_calls(rt: HostRuntime) -> Result<(), Fail> {
+fn an_acceptance_stands_after_five_calls(rt: HostRuntime) -> Result<(), Fail> {
     for calls in 0..7 {
-        is_accepted_behind(&rt, rt.alloc(), calls)?;
+        is_accepted_after(&rt, rt.alloc(), calls)?;
     }
     Ok(())
 }

@@ -89,7 +89,7 @@ fn is_cut_so(
 }
 
 // The same by each choice.
-fn is_cut_behind(
+fn is_cut_after(
     rt: &impl Abort,
     alloc: Global,
     state: &[&str],
@@ -111,7 +111,7 @@ fn is_cut_anywhere(
     most: u64,
 ) -> Result<(), Fail> {
     for calls in 0..=most {
-        is_cut_behind(rt, alloc, state, line, calls)?;
+        is_cut_after(rt, alloc, state, line, calls)?;
     }
     Ok(())
 }

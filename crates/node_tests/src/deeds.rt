@@ -7,8 +7,8 @@ ghost use Rattle.node_deeds.specs.Due.{IsInRange};
 use crate::texts::request;
 use journal_core::{NodeState, Refusal, Reply, Request, SegmentInfo, SegmentLine, SegmentList};
 use node_deeds::{
-    Deed, apply, behind_front, deeds_of, follow, line_at, not_served, note, plain_reply,
-    row_refusal, serving_row,
+    Deed, apply, deeds_of, follow, line_at, not_served, note, plain_reply, row_refusal,
+    serving_row, step_after_front,
 };
 use node_files::NodeNumber;
 use segment_file::{RowRoom, SegmentRow, SegmentTable};
@@ -77,18 +77,18 @@ fn has_deeds(rt: &impl Abort, alloc: Global, line: &str, want: &[Deed]) -> Resul
     Ok(())
 }
 
-/// How the request is refused behind its front.
+/// How the request is refused after its front.
 fn refusal(alloc: Global, request: &Request) -> Result<Option<Refusal>, Fail> {
     match request.limit() {
         Some(_) => Err("it passes a limit".into()),
         None => {
-            let behind = behind_front(alloc, &memory(alloc), request);
+            let behind = step_after_front(alloc, &memory(alloc), request);
             Ok(row_refusal(&behind, &table(alloc)?, request))
         }
     }
 }
 
-/// Behind its front the request of that text is refused so.
+/// After its front the request of that text is refused so.
 fn is_refused(
     rt: &impl Abort,
     alloc: Global,
@@ -133,7 +133,7 @@ fn do_deed(
     }
 }
 
-/// The row of that start behind the deed.
+/// The row of that start after the deed.
 fn row_behind(
     alloc: Global,
     request: &Request,
@@ -248,7 +248,7 @@ const FINALIZED: &Due<'static> = &Due {
     },
 };
 
-/// Requests that are refused behind their front: a longer end, and a later epoch.
+/// Requests that are refused after their front: a longer end, and a later epoch.
 const REFUSED: &[(&str, Refusal)] = &[
     ("finalize 1 2 8 7 9", Refusal::LengthDiffers { end: 8 }),
     ("finalize 2 2 8 7 8", Refusal::OtherEpoch { epoch: 1 }),
@@ -336,8 +336,8 @@ const PROMISED: &[Deed] = &[Deed::Number {
     value: 3,
 }];
 
-// The memory behind the deeds, and what follows them.
-fn memory_behind(alloc: Global, line: &str, deeds: &[Deed]) -> Result<NodeState, Fail> {
+// The memory after the deeds, and what follows them.
+fn memory_after(alloc: Global, line: &str, deeds: &[Deed]) -> Result<NodeState, Fail> {
     let mut memory = memory(alloc);
     for deed in deeds {
         note(&mut memory, *deed);
@@ -351,7 +351,7 @@ fn a_new_epoch_is_noted(rt: HostRuntime) -> Result<(), Fail> {
     has_deeds(&rt, rt.alloc(), "new 3", PROMISED)?;
     let reply = reply_to(rt.alloc(), "new 3")?;
     assert!(rt; matches!(reply, Some(Reply::NewEpoch { newest: Some(7) })));
-    let memory = memory_behind(rt.alloc(), "new 3", PROMISED)?;
+    let memory = memory_after(rt.alloc(), "new 3", PROMISED)?;
     assert_eq!(rt; memory.promised, 3);
     assert_eq!(rt; memory.opened, None);
     assert_eq!(rt; memory.serial, 0);

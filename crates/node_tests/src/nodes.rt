@@ -4,8 +4,9 @@ ghost use Rattle.std.specs.Prelude.{◌≡◌, true, IfOk};
 ghost use Rattle.qj_disk.specs.MemDisk.{CannotFail};
 
 use crate::texts::{ask, request};
-use journal_core::{Cut, CutNode, Node, PlainNode};
+use journal_core::{Cut, CutNode, Node};
 use journal_node::{JournalNode, OpenFail};
+use memory_node::PlainNode;
 use qj_disk::MemDisk;
 use std::alloc::Global;
 use std::test::Fail;

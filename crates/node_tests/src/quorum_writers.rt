@@ -3,7 +3,8 @@ ghost use Rattle.std.specs.Prelude.{◌≡◌, ◌≢◌, [], length};
 ghost use Rattle.quorum_writer.specs.Led.{nodes_of};
 
 use crate::bodies::bodies;
-use journal_core::{BodyList, Node, Peers, PlainNode, Refusal, Request, permitted_nodes};
+use journal_core::{BodyList, Node, Peers, Refusal, Request, permitted_nodes};
+use memory_node::PlainNode;
 use quorum_writer::{Closed, Logged, PlainPeers, Purging, QuorumWriter, Rolled, Taken};
 use request_text::print_request;
 use std::alloc::Global;
@@ -82,7 +83,7 @@ impl Session {
         self.peers.calls().len()
     }
 
-    /// The requests to that node, a line each, behind the first `skip` calls.
+    /// The requests to that node, a line each, after the first `skip` calls.
     fn asked(&self, alloc: Global, node: usize, skip: usize) -> Result<Vec<u8>, Fail> {
         let mut out = Vec::new(alloc);
         for call in self.peers.calls().iter().skip(skip) {
@@ -225,7 +226,7 @@ enum Line<'a> {
     Room(u64),
     /// How many calls were made.
     Calls(usize),
-    /// The requests to a node behind so many calls.
+    /// The requests to a node after so many calls.
     Asked(usize, usize, &'a [u8]),
 }
 

@@ -4,9 +4,8 @@ ghost use Rattle.std.specs.Prelude.{IfOk};
 ghost use Rattle.writer_core.specs.Writer.{HasBody};
 
 use crate::bodies::bodies;
-use journal_core::{
-    Cut, Node, NodeState, PlainNode, Refusal, Reply, Request, Segment, SharedRequest,
-};
+use journal_core::{Cut, Node, NodeState, Refusal, Reply, Request, Segment, SharedRequest};
+use memory_node::PlainNode;
 use node_history::{Event, Fate, HistoryLine, NodeAnswer, NodeAsk, NodeCell, Stop};
 use node_world::{Seen, World};
 use std::alloc::Global;

@@ -23,12 +23,12 @@ use Rattle.node_world.specs.declared.seen.Seen.TheVariants as seen
 use Rattle.node_history.specs.declared.stop.Stop.{Stop}
 use Rattle.node_history.specs.declared.node_ask.NodeAsk.{NodeAsk}
 use Rattle.node_history.specs.declared.node_ask.NodeAsk.TheVariants as ask
-use Rattle.node_history.specs.Cell.{Cell, cell_takes, killed, started_again, armed}
+use Rattle.node_history.specs.Cell.{Cell, cell_takes, take_kill, started_again, take_arming}
 use Rattle.node_world.specs.Complete.{IsAnswered, IsLow, IsServed, AreServed, HasBegun}
 use Rattle.run_safety.specs.Majority.{Member, IsMajority}
 use Rattle.run_safety.specs.Run.{Follows}
 use Rattle.run_safety.specs.Actings.{Acting, fresh_acting, was_made}
-use Rattle.node_world.specs.World.{World, new_world, cell_at, acting_at, node_asked, with_acting, with_writer, with_call, task_begun, task_begins, call_heard, call_reached, called_by, is_reading, is_call, copied_when, operated, world_step, world_after, IsEvent, AreEvents}
+use Rattle.node_world.specs.World.{World, new_world, cell_at, acting_at, node_asked, with_acting, with_writer, with_call, task_begun, task_begins, call_heard, call_reached, called_by, is_reading, is_call, copied_when, take_operation, world_step, world_after, IsEvent, AreEvents}
 use Rattle.run_safety.proofs.Slots.{true≢false}
 use Rattle.node_world.proofs.Enough.{all_wait, none_in}
 use Rattle.run_safety.proofs.CallLeft.{HasEpoch}
@@ -120,7 +120,7 @@ module _ (n c : ℕ) (nodes : List ℕ) (majority : IsMajority n nodes) (w : Wor
   call_promises : (d j : ℕ) (q : Request) (f : Fate) → 1 ≤ j → j ≤ n → (i : ℕ) → Member i nodes → (state w i).promised ≤ (state (call_reached f d j q w) i).promised
   call_promises d j q f low high i m = call_promise n w d j i q f h.agree.size low high (majority.within i m).0 (off_or i j)
 
-  -- the actors behind it
+  -- the actors after it
   reached_acting : (d j : ℕ) (q : Request) (f : Fate) → 1 ≤ j → j ≤ n → (e : ℕ) → acting_at e (call_reached f d j q w) ≡ acting_at e w
   reached_acting d j q f low high e =
       let k : Reached n w d j q f = reached n w d j q f h.agree low high in
@@ -141,7 +141,7 @@ module _ (n c : ℕ) (nodes : List ℕ) (majority : IsMajority n nodes) (w : Wor
 
   -- ## An operation
   operated_goes : (j : ℕ) (q : NodeAsk) → 1 ≤ j → j ≤ n → ((i : ℕ) → Member i nodes → (state w i).up ≡ true) → ((k : Cell) → k.state.up ≡ true → ((cell_takes k q).cell.state ≡ k.state) ⊎ ((cell_takes k q).cell.state.up ≡ false)) → Goes w
-      → Goes (operated j q w).world
+      → Goes (take_operation j q w).world
   operated_goes j q low high up did course =
       keeps_on (node_asked j w.operator false None q w) same up (λ i m. promise_kept n j w.operator i false None q w h.agree.size low high (majority.within i m).0 (off_or i j)) (λ i m. by i m (off_or i j)) course
     where
@@ -159,7 +159,7 @@ module _ (n c : ℕ) (nodes : List ℕ) (majority : IsMajority n nodes) (w : Wor
   unfolding cell_takes
   kill_did k up = by k.state.up
     where
-      by : (b : Bool) → ((killed b k).cell.state ≡ k.state) ⊎ ((killed b k).cell.state.up ≡ false)
+      by : (b : Bool) → ((take_kill b k).cell.state ≡ k.state) ⊎ ((take_kill b k).cell.state.up ≡ false)
       by true = inr refl
       by false = inl refl
 
@@ -171,7 +171,7 @@ module _ (n c : ℕ) (nodes : List ℕ) (majority : IsMajority n nodes) (w : Wor
   unfolding cell_takes
   arm_did calls stop k up = by k.state.up
     where
-      by : (b : Bool) → ((armed b k (record { calls = calls; stop = stop })).cell.state ≡ k.state) ⊎ ((armed b k (record { calls = calls; stop = stop })).cell.state.up ≡ false)
+      by : (b : Bool) → ((take_arming b k (record { calls = calls; stop = stop })).cell.state ≡ k.state) ⊎ ((take_arming b k (record { calls = calls; stop = stop })).cell.state.up ≡ false)
       by true = inl refl
       by false = inl refl
 
@@ -202,18 +202,18 @@ module _ (n c : ℕ) (nodes : List ℕ) (majority : IsMajority n nodes) (w : Wor
   read_goes j q f low high no_it headless up course =
       put_goes (with_call j q (acting_at c w)) (call_reached f c j q w) (reached_size j q f low high (is_actor course)) (own_read j q f low high no_it headless up course)
 
-  abbrev HeardBehind : ℕ → Request → Fate → World
-  HeardBehind j q f = with_acting c (with_writer (writer_heard (acting_at c w).writer j (call_heard f j q w)).writer (with_call j q (acting_at c w))) (call_reached f c j q w)
+  abbrev HeardAfter : ℕ → Request → Fate → World
+  HeardAfter j q f = with_acting c (with_writer (writer_heard (acting_at c w).writer j (call_heard f j q w)).writer (with_call j q (acting_at c w))) (call_reached f c j q w)
 
   own_goes : (j : ℕ) (q : Request) (f : Fate) → 1 ≤ j → j ≤ n → next_call (acting_at c w).writer ≡ Some (j, q) → ((i : ℕ) → Member i nodes → (state w i).up ≡ true) → (Member j nodes → IsAnswered (seen.Heard (call_heard f j q w)))
-      → IsLow (seen.Heard (call_heard f j q w)) → Runs n (HeardBehind j q f) → Goes w → Goes (HeardBehind j q f)
+      → IsLow (seen.Heard (call_heard f j q w)) → Runs n (HeardAfter j q f) → Goes w → Goes (HeardAfter j q f)
   own_goes j q f low high next up answer is_low then course =
       put_goes (with_writer (writer_heard (acting_at c w).writer j (call_heard f j q w)).writer (with_call j q (acting_at c w))) (call_reached f c j q w) (reached_size j q f low high (is_actor course))
       (own_call n c nodes majority w h j q f next up answer is_low
-      (λ i m. subst Sane (put_cells c (with_writer (writer_heard (acting_at c w).writer j (call_heard f j q w)).writer (with_call j q (acting_at c w))) (call_reached f c j q w) i) (sane n (HeardBehind j q f) i then (majority.within i m).0 (majority.within i m).1))
+      (λ i m. subst Sane (put_cells c (with_writer (writer_heard (acting_at c w).writer j (call_heard f j q w)).writer (with_call j q (acting_at c w))) (call_reached f c j q w) i) (sane n (HeardAfter j q f) i then (majority.within i m).0 (majority.within i m).1))
       (entries (call_reached f c j q w).trace) (λ i m. state_at n (call_reached f c j q w) i k.agree (majority.within i m).0 (majority.within i m).1)
       (left_earlier n (entries w.trace) c j q (call_heard f j q w) (entries (call_reached f c j q w).trace) k.left) then.tale.story
-      (subst (λ l. Follows n then.tale.story l) (put_trace c (with_writer (writer_heard (acting_at c w).writer j (call_heard f j q w)).writer (with_call j q (acting_at c w))) (call_reached f c j q w)) (runs_follow n (HeardBehind j q f) then)) course)
+      (subst (λ l. Follows n then.tale.story l) (put_trace c (with_writer (writer_heard (acting_at c w).writer j (call_heard f j q w)).writer (with_call j q (acting_at c w))) (call_reached f c j q w)) (runs_follow n (HeardAfter j q f) then)) course)
     where
       k : Reached n w c j q f
       k = reached n w c j q f h.agree low high

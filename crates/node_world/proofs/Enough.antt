@@ -8,7 +8,7 @@ use Rattle.writer_core.specs.declared.round.Round.{Round}
 use Rattle.writer_core.specs.declared.slot.Slot.{Slot}
 use Rattle.writer_core.specs.declared.slot.Slot.TheVariants.{Waiting, LeftOut}
 use Rattle.writer_core.specs.Answers.{is_ok, is_waiting, has_majority}
-use Rattle.writer_core.specs.Rounds.{to_all, to_others, missed}
+use Rattle.writer_core.specs.Rounds.{to_all, to_others, left_out_after}
 use Rattle.run_safety.specs.Majority.{Member, Distinct, IsMajority}
 use Rattle.run_safety.proofs.Majorities.{without}
 use Rattle.run_safety.proofs.Slots.{At, At-range, ok_from, ok_count}
@@ -105,7 +105,7 @@ none_in first (l ∷ left) node low high = elim (cases_eq first node) [
   | inr off ↦ inr (none_in (first + 1) left node (omega (arith, low, off)) (omega (arith, high)))
 ]
 
-pub missed_in : (r : Round) (first : ℕ) (slots : List Slot) (node : ℕ) (slot : Slot) → At first slots node slot → is_ok r slot ≡ true → IsIn first (missed r slots) node
+pub missed_in : (r : Round) (first : ℕ) (slots : List Slot) (node : ℕ) (slot : Slot) → At first slots node slot → is_ok r slot ≡ true → IsIn first (left_out_after r slots) node
 missed_in r first [] node slot a e = absurd a
 missed_in r first (x ∷ xs) node slot (inl a) e = inl (a.0, ap (λ s. not (is_ok r s)) a.1 ∙ ap not e)
 missed_in r first (x ∷ xs) node slot (inr a) e = inr (missed_in r (first + 1) xs node slot a e)

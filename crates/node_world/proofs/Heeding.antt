@@ -9,7 +9,7 @@ use Rattle.journal_core.specs.Limits.{head_of, numbers_of, max_number, limit_of}
 use Rattle.journal_core.specs.Segments.{find_segment, newest, has_edit, end_of}
 use Rattle.journal_core.specs.Effects.{WriterEpoch, NewSegment, after_effects, empty_segment}
 use Rattle.journal_core.specs.Reads.{told_of, piece_of}
-use Rattle.journal_core.specs.Step.{front_refused, unless_limited, refused_at_once, fronted, start_refused, bodies_in, open_refused, finalize_refused, fetch_refused, accept_refused, row_refused, behind_front, unless_refused, node_step, serial_then}
+use Rattle.journal_core.specs.Step.{front_refused, unless_limited, refused_at_once, fronted, start_refused, bodies_in, open_refused, finalize_refused, fetch_refused, accept_refused, row_refused, step_after_front, unless_refused, node_step, serial_then}
 use Rattle.journal_core.specs.declared.segment.Segment.{Segment}
 use Rattle.journal_core.specs.declared.node_state.NodeState.{NodeState}
 use Rattle.journal_core.specs.declared.request.Request.{Request}
@@ -91,7 +91,7 @@ fits_all (n ∷ ns) a = by (nat_le n max_number) refl (fits_all ns a.1)
 pub heeded_fits : (s : NodeState) (r : Request) → s.up ≡ true → IsHeeded (node_step s r).reply → list_all fits (numbers_of r) ≡ true
 heeded_fits s r up heeded = fits_all (numbers_of r) (numbers_small r (heeded_limit s r up heeded))
 
--- and nothing behind the front refuses it
+-- and nothing after the front refuses it
 pub pass : (s : NodeState) (r : Request) → refused_at_once s r ≡ None → row_refused (fronted s r) r ≡ None → Passed s r
 pass s r e f = go (acted s r)
   where
@@ -108,7 +108,7 @@ pub record Left (s : NodeState) (r : Request) (h : HeadView) : Type 0 where
 
 pub left : (s : NodeState) (r : Request) (h : HeadView) → head_of r ≡ Some h → ((k : ℕ) → serial_then k r ≡ k) → Fresh s h → Passed s r → Left s r h
 left s r h is then f p =
-    let b : Fronted s h (behind_front (fronted s r) r None).state = behind s r h None is then in
+    let b : Fronted s h (step_after_front (fronted s r) r None).state = behind s r h None is then in
     let top : max s.promised h.epoch ≡ h.epoch = omega (arith, f.promise) in
     record { passed = p; promise = ap (λ z. z.promised) p.state ∙ b.promised ∙ top; serial = ap (λ z. z.serial) p.state ∙ b.serial }
 
@@ -156,7 +156,7 @@ proposal_row s epoch p = record {
 proposal_refused : (s : NodeState) (epoch : ℕ) → refused_at_once s (NewEpoch epoch) ≡ None → nat_le epoch s.promised ≡ true → (node_step s (NewEpoch epoch)).reply ≡ reply.Refused (EpochRefused s.promised)
 unfolding node_step
 proposal_refused s epoch e f =
-    ap (λ (o : Option Refusal). (unless_refused s (NewEpoch epoch) o).reply) e ∙ ap (λ (b : Bool). (behind_front (fronted s (NewEpoch epoch)) (NewEpoch epoch) (cond b (Some (EpochRefused s.promised)) None)).reply) f
+    ap (λ (o : Option Refusal). (unless_refused s (NewEpoch epoch) o).reply) e ∙ ap (λ (b : Bool). (step_after_front (fronted s (NewEpoch epoch)) (NewEpoch epoch) (cond b (Some (EpochRefused s.promised)) None)).reply) f
 
 pub proposed : (s : NodeState) (epoch : ℕ) → s.up ≡ true → IsHeeded (node_step s (NewEpoch epoch)).reply → Proposed s epoch
 proposed s epoch up heeded = by (nat_le epoch s.promised) refl

@@ -12,10 +12,10 @@ use Rattle.node_world.specs.declared.seen.Seen.TheVariants as seen
 use Rattle.node_history.specs.declared.node_ask.NodeAsk.{NodeAsk}
 use Rattle.node_history.specs.declared.node_ask.NodeAsk.TheVariants as ask
 use Rattle.node_history.specs.declared.node_ask.NodeAnswer.{NodeAnswer}
-use Rattle.node_history.specs.Cell.{Cell, fresh_cell, stopping, heard_of}
+use Rattle.node_history.specs.Cell.{Cell, fresh_cell, arm_at_once, heard_of}
 use Rattle.node_world.specs.Complete.{IsHeeded, IsAnswered}
 use Rattle.node_history.specs.Entries.{now, node_after}
-use Rattle.run_safety.specs.Parts.{IsBehindFinalised}
+use Rattle.run_safety.specs.Parts.{IsAfterFinalised}
 use Rattle.node_world.specs.World.{World, cell_at, taken_at, node_asked, call_heard, call_reached}
 use Rattle.run_safety.proofs.SoundNodes.{stored_after, led_after}
 use Rattle.run_safety.proofs.Kept.{segments_chained}
@@ -54,7 +54,7 @@ sane n w i h low high = subst Sane (sym (state_at n w i h.agree low high)) (reco
         let at : g.start ≡ g.start + 0 = omega arith in
         by (segments_chained n h.tale.story (entries w.trace) (runs_follow n w h) i g g.start x.0 (entries w.trace, now, here) (0, at, x.1)) start
       where
-        by : IsBehindFinalised n (entries w.trace) g.epoch g.start → g.start ≡ t → 1 ≤ t
+        by : IsAfterFinalised n (entries w.trace) g.epoch g.start → g.start ≡ t → 1 ≤ t
         by (inl e) s = omega (arith, e, s)
         by (inr x) s = omega (arith, x.4, s)
 
@@ -77,7 +77,7 @@ pub data Changed (s : NodeState) (q : Request) (t : NodeState) : Type 0 where
 
 pub did : (node : ℕ) (stop : Option ℕ) (late : Bool) (q : Request) (w : World) → Asked (state w node) q (taken_at node stop (ask.Act late q) w)
 did node stop late q w =
-    subst (λ (s : NodeState). Asked s q (taken_at node stop (ask.Act late q) w)) (stopping_state stop (cell_at node w)) (asked (stopping stop (cell_at node w)) late q)
+    subst (λ (s : NodeState). Asked s q (taken_at node stop (ask.Act late q) w)) (stopping_state stop (cell_at node w)) (asked (arm_at_once stop (cell_at node w)) late q)
 
 did_change : (node : ℕ) (stop : Option ℕ) (late : Bool) (q : Request) (w : World) → Asked (state w node) q (taken_at node stop (ask.Act late q) w) → Changed (state w node) q (taken_at node stop (ask.Act late q) w).cell.state
 did_change node stop late q w (replied a e) = by_request e
@@ -99,8 +99,8 @@ promise_kept n node caller i muted stop q w size low high from (inr off) = let e
 promise_kept n node caller i muted stop q w size low high from (inl same) =
     subst (λ (j : ℕ). (state w j).promised ≤ (state (node_asked node caller muted stop q w) j).promised) (sym same) (
     let e : (cell_at node (node_asked node caller muted stop q w)).state.promised ≡ (taken_at node stop q w).cell.state.promised = ap (λ (c : Cell). c.state.promised) (asked_here n node caller muted stop q w size low high) in
-    let up : (stopping stop (cell_at node w)).state.promised ≤ (taken_at node stop q w).cell.state.promised = promise (stopping stop (cell_at node w)) q in
-    let at : (stopping stop (cell_at node w)).state.promised ≡ (cell_at node w).state.promised = ap (λ (s : NodeState). s.promised) (stopping_state stop (cell_at node w)) in
+    let up : (arm_at_once stop (cell_at node w)).state.promised ≤ (taken_at node stop q w).cell.state.promised = promise (arm_at_once stop (cell_at node w)) q in
+    let at : (arm_at_once stop (cell_at node w)).state.promised ≡ (cell_at node w).state.promised = ap (λ (s : NodeState). s.promised) (stopping_state stop (cell_at node w)) in
     omega (arith, e, up, at)
     )
 

@@ -23,7 +23,7 @@ use Rattle.writer_core.specs.declared.slot.Slot.TheVariants.{Waiting, Told}
 use Rattle.writer_core.specs.Views.{WriterView}
 use Rattle.writer_core.specs.Answers.{is_waiting, fits_round}
 use Rattle.writer_core.specs.Best.{promise_in}
-use Rattle.writer_core.specs.Rounds.{request_in, failed}
+use Rattle.writer_core.specs.Rounds.{request_in, failure_of}
 use Rattle.writer_core.specs.Writer.{next_call, node_in, with_answer, heard_in, heard_at, writer_heard}
 use Rattle.writer_core.proofs.PlainRounds.{IsWhole}
 use Rattle.writer_core.proofs.WholeRounds.{IsCalling, calling_in, whole_first}
@@ -218,7 +218,7 @@ module _ (n c : ℕ) (nodes : List ℕ) (majority : IsMajority n nodes) (w : Wor
       fetch_way m end bodies is aim_is facts parts =
           on (hears_piece n nodes majority (state w) (state (call_reached f c j q w)) (acting_at c w).calls (acting_at c w).writer j (call_heard f j q w) m end bodies facts.1
           (the_call up answer sane_after (request_in (acting_at c w).writer (round.Fetch j m end bodies)) (request_is (round.Fetch j m end bodies) is)) aim_is facts.0
-          (λ z. set_size (Told (failed z)) (j - 1)) (agreed majority.within past told_next later story follows j m end bodies is facts.1) facts.2 parts)
+          (λ z. set_size (Told (failure_of z)) (j - 1)) (agreed majority.within past told_next later story follows j m end bodies is facts.1) facts.2 parts)
 
       fetch_goes : (node m end : ℕ) (bodies : List (List ℕ)) → (acting_at c w).writer.phase ≡ phase.InRound (round.Fetch node m end bodies) → (acting_at c w).writer.aim ≡ aim.Takeover → Facts nodes (round.Fetch node m end bodies) (acting_at c w).writer
           → ((i : ℕ) → Member i nodes → duties.Part (round.Fetch node m end bodies) (acting_at c w).writer (state w i) (acting_at c w).calls i)

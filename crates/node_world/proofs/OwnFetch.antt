@@ -22,7 +22,7 @@ use Rattle.writer_core.specs.declared.slot.Slot.TheVariants.{Waiting, Told}
 use Rattle.writer_core.specs.Views.{WriterView}
 use Rattle.writer_core.specs.Answers.{fits, fits_edits, fits_prepare}
 use Rattle.writer_core.specs.Best.{Best}
-use Rattle.writer_core.specs.Rounds.{head_now, numbers_fit, next_serial, taken_out, failed, edits_fetched, not_fetched, fetched}
+use Rattle.writer_core.specs.Rounds.{head_now, numbers_fit, next_serial, without_answer_of, failure_of, after_edits, after_no_edits, after_fetch}
 use Rattle.run_safety.specs.Majority.{Member, IsMajority}
 use Rattle.run_safety.specs.Actings.{CallMade}
 use Rattle.run_safety.proofs.Majorities.{Member_or}
@@ -177,45 +177,45 @@ module _ (n : ℕ) (nodes : List ℕ) (majority : IsMajority n nodes) (before af
       let e : f.info.end ≡ end = f.end_is in
       omega (arith, a, b, e, f.within)
 
-  -- a piece that fits goes behind those before it
+  -- a piece that fits goes after those before it
   piece_goes : (f : Fetching v j m end bodies) (batch : BatchView) → length v.left ≡ n → v.aim ≡ aim.Takeover → AreIn nodes v.left → Agreed n nodes majority after Now m f.info → ((i : ℕ) → Member i nodes → Sane (after i))
-      → ((i : ℕ) → Member i nodes → Telling n nodes majority after Now m (next_serial v) i) → Way nodes after Now (edits_fetched true j m end bodies batch v).writer
+      → ((i : ℕ) → Member i nodes → Telling n nodes majority after Now m (next_serial v) i) → Way nodes after Now (after_edits true j m end bodies batch v).writer
   piece_goes f batch left is lefts agreed sane tells =
-      subst (λ z. Way nodes after Now (edits_fetched true j m z bodies batch v).writer) f.end_is
+      subst (λ z. Way nodes after Now (after_edits true j m z bodies batch v).writer) f.end_is
       (pieces n nodes majority after Now (next_serial v) m (BestThere f.info) (bodies ++ take (f.info.end + 1 - (m + length bodies)) batch.bodies) f.best (let e : f.info.end ≡ end = f.end_is in omega (arith, f.within, e))
       (subst (λ z. m + length (bodies ++ take (z + 1 - (m + length bodies)) batch.bodies) ≤ f.info.end + 1) (sym f.end_is) (no_more batch.bodies f)) left is (omega arith) lefts agreed (λ i k. (sane i k).durable) tells)
 
   -- nothing of use: the node is out of the count
-  out_goes : (h : Heard) → (Member j nodes → ⊥) → Call n nodes before after v j Its d → v.aim ≡ aim.Takeover → AreIn nodes v.left → length (taken_out j h v).slots ≡ n → ((i : ℕ) → Member i nodes → At 1 v.slots i Waiting → ⊥)
-      → ((i : ℕ) → Member i nodes → Part (round.Fetch j m end bodies) v (before i) calls i) → Way nodes after Now (not_fetched j m h v).writer
-  out_goes h not_in k is lefts size no_wait parts = lost n nodes majority after Now (taken_out j h v) m k.left size is lefts (λ i q. (k.sane_after i q).durable) (λ i q. others_tell (taken_out j h v) i q refl (omega arith) (off i q) (on i q) k (no_wait i q) (parts i q))
+  out_goes : (h : Heard) → (Member j nodes → ⊥) → Call n nodes before after v j Its d → v.aim ≡ aim.Takeover → AreIn nodes v.left → length (without_answer_of j h v).slots ≡ n → ((i : ℕ) → Member i nodes → At 1 v.slots i Waiting → ⊥)
+      → ((i : ℕ) → Member i nodes → Part (round.Fetch j m end bodies) v (before i) calls i) → Way nodes after Now (after_no_edits j m h v).writer
+  out_goes h not_in k is lefts size no_wait parts = lost n nodes majority after Now (without_answer_of j h v) m k.left size is lefts (λ i q. (k.sane_after i q).durable) (λ i q. others_tell (without_answer_of j h v) i q refl (omega arith) (off i q) (on i q) k (no_wait i q) (parts i q))
     where
       off : (i : ℕ) → Member i nodes → i ≢ j
       off i q same = not_in (subst (λ z. Member z nodes) same q)
 
-      on : (i : ℕ) → Member i nodes → (x : Reply) → At 1 v.slots i (Told (Answer x)) → At 1 (taken_out j h v).slots i (Told (Answer x))
-      on i q x at = At-other 1 (j - 1) i v.slots (Told (failed h)) (Told (Answer x)) (λ e. off i q (omega (arith, e, k.low))) at
+      on : (i : ℕ) → Member i nodes → (x : Reply) → At 1 v.slots i (Told (Answer x)) → At 1 (without_answer_of j h v).slots i (Told (Answer x))
+      on i q x at = At-other 1 (j - 1) i v.slots (Told (failure_of h)) (Told (Answer x)) (λ e. off i q (omega (arith, e, k.low))) at
 
-  pub hears_piece : (f : Fetching v j m end bodies) → (k : Call n nodes before after v j Its d) → v.aim ≡ aim.Takeover → AreIn nodes v.left → ((h : Heard) → length (taken_out j h v).slots ≡ n) → Agreed n nodes majority after Now m f.info
-      → ((i : ℕ) → Member i nodes → At 1 v.slots i Waiting → ⊥) → ((i : ℕ) → Member i nodes → Part (round.Fetch j m end bodies) v (before i) calls i) → Way nodes after Now (fetched j m end bodies d v).writer
-  unfolding fetched
+  pub hears_piece : (f : Fetching v j m end bodies) → (k : Call n nodes before after v j Its d) → v.aim ≡ aim.Takeover → AreIn nodes v.left → ((h : Heard) → length (without_answer_of j h v).slots ≡ n) → Agreed n nodes majority after Now m f.info
+      → ((i : ℕ) → Member i nodes → At 1 v.slots i Waiting → ⊥) → ((i : ℕ) → Member i nodes → Part (round.Fetch j m end bodies) v (before i) calls i) → Way nodes after Now (after_fetch j m end bodies d v).writer
+  unfolding after_fetch
   hears_piece f k is lefts size agreed no_wait parts = by (Member_or j nodes)
     where
-      inside : GivesPiece f.info → Member j nodes → Way nodes after Now (fetched j m end bodies d v).writer
+      inside : GivesPiece f.info → Member j nodes → Way nodes after Now (after_fetch j m end bodies d v).writer
       inside g mem =
-          subst (λ z. Way nodes after Now (fetched j m end bodies z v).writer) (sym g.is)
-          (subst (λ b. Way nodes after Now (edits_fetched b j m end bodies g.batch v).writer) (sym (and_from (numbers_fit v (round.Fetch j m end bodies)) _ g.numbers g.fits_it))
+          subst (λ z. Way nodes after Now (after_fetch j m end bodies z v).writer) (sym g.is)
+          (subst (λ b. Way nodes after Now (after_edits b j m end bodies g.batch v).writer) (sym (and_from (numbers_fit v (round.Fetch j m end bodies)) _ g.numbers g.fits_it))
           (piece_goes f g.batch k.left is lefts agreed k.sane_after (λ i q. tell i q (cases_eq i j))))
         where
           tell : (i : ℕ) → Member i nodes → (i ≡ j) ⊎ (i ≢ j) → Telling n nodes majority after Now m (next_serial v) i
           tell i q (inl same) = subst (λ z. Telling n nodes majority after Now m (next_serial v) z) (sym same) g.tells_it
           tell i q (inr off) = others_tell (next_serial v) i q refl (omega arith) off (λ x at. at) k (no_wait i q) (parts i q)
 
-      edits_by : (Member j nodes → ⊥) → (batch : BatchView) (b : Bool) → Way nodes after Now (edits_fetched b j m end bodies batch v).writer
+      edits_by : (Member j nodes → ⊥) → (batch : BatchView) (b : Bool) → Way nodes after Now (after_edits b j m end bodies batch v).writer
       edits_by not_in batch false = out_goes Silent not_in k is lefts (size Silent) no_wait parts
       edits_by not_in batch true = piece_goes f batch k.left is lefts agreed k.sane_after (λ i q. others_tell (next_serial v) i q refl (omega arith) (λ same. not_in (subst (λ z. Member z nodes) same q)) (λ x at. at) k (no_wait i q) (parts i q))
 
-      outside : (Member j nodes → ⊥) → (h : Heard) → Way nodes after Now (fetched j m end bodies h v).writer
+      outside : (Member j nodes → ⊥) → (h : Heard) → Way nodes after Now (after_fetch j m end bodies h v).writer
       outside not_in (Answer (reply.Edits batch)) = edits_by not_in batch (numbers_fit v (round.Fetch j m end bodies) && fits_edits (m + length bodies) batch)
       outside not_in (Answer reply.Ok) = out_goes (Answer reply.Ok) not_in k is lefts (size (Answer reply.Ok)) no_wait parts
       outside not_in (Answer (reply.State p)) = out_goes (Answer (reply.State p)) not_in k is lefts (size (Answer (reply.State p))) no_wait parts
@@ -225,6 +225,6 @@ module _ (n : ℕ) (nodes : List ℕ) (majority : IsMajority n nodes) (before af
       outside not_in (Answer (reply.Refused x)) = out_goes (Answer (reply.Refused x)) not_in k is lefts (size (Answer (reply.Refused x))) no_wait parts
       outside not_in Silent = out_goes Silent not_in k is lefts (size Silent) no_wait parts
 
-      by : (Member j nodes) ⊎ (Member j nodes → ⊥) → Way nodes after Now (fetched j m end bodies d v).writer
+      by : (Member j nodes) ⊎ (Member j nodes → ⊥) → Way nodes after Now (after_fetch j m end bodies d v).writer
       by (inl mem) = inside (gives f k mem (no_wait j mem) (parts j mem)) mem
       by (inr not_in) = outside not_in d

@@ -21,8 +21,8 @@ use Rattle.writer_core.specs.declared.turn.Turn.TheVariants as turn
 use Rattle.writer_core.specs.Views.{WriterView}
 use Rattle.writer_core.specs.Answers.{is_ok, is_waiting, fits_propose, fits_state, has_majority}
 use Rattle.writer_core.specs.Best.{greatest_promise, promise_in}
-use Rattle.writer_core.specs.Rounds.{going, stopped, proposing, with_causes, judged_by, judged}
-use Rattle.writer_core.specs.Writer.{with_answer, judged_when, heard_in}
+use Rattle.writer_core.specs.Rounds.{keep_going, stops_with, begin_propose, with_causes, judgment_by, judgment}
+use Rattle.writer_core.specs.Writer.{with_answer, judgment_when, heard_in}
 use Rattle.run_safety.specs.Majority.{Member, IsMajority}
 use Rattle.run_safety.specs.Actings.{CallMade}
 use Rattle.run_safety.proofs.Slots.{true≢false, At}
@@ -97,7 +97,7 @@ module _ (n : ℕ) (nodes : List ℕ) (majority : IsMajority n nodes) (before af
   hears_vote phase_is is zero_serial left k size at old state = by (list_any is_waiting (with_answer v j d).slots) refl state
     where
       by : (b : Bool) → list_any is_waiting (with_answer v j d).slots ≡ b → Doomed nodes before v ⊎ ((i : ℕ) → Member i nodes → Voter v (before i) i)
-          → Course nodes after (record { writer = (judged_when b round.Propose (with_answer v j d)).writer; calls = Now })
+          → Course nodes after (record { writer = (judgment_when b round.Propose (with_answer v j d)).writer; calls = Now })
       by true e (inl x) = proposes phase_is is zero_serial left (inl (still_doomed k at x))
       by true e (inr voters) = proposes phase_is is zero_serial left (inr (votes_after k zero_serial at voters))
       by false e (inl x) = let y : Doomed nodes after (with_answer v j d) = still_doomed k at x in absurd (no_wait y.node e y.waits_still)
@@ -129,11 +129,11 @@ module _ (n : ℕ) (nodes : List ℕ) (majority : IsMajority n nodes) (before af
   told_slot i e (silent at) = absurd (true≢false (sym (waits_any 1 (with_answer v j d).slots i at) ∙ e))
   told_slot i e (tells x at kind) = (Told (Answer x), at, kind)
 
-  begins_proposal : (w : WriterView) → w.aim ≡ aim.Takeover → AreIn nodes w.left → length w.left ≡ n → AreLow w.slots → has_majority round.State w.slots ≡ true → Course nodes after (record { writer = (judged round.State w).writer; calls = Then })
-  unfolding judged
+  begins_proposal : (w : WriterView) → w.aim ≡ aim.Takeover → AreIn nodes w.left → length w.left ≡ n → AreLow w.slots → has_majority round.State w.slots ≡ true → Course nodes after (record { writer = (judgment round.State w).writer; calls = Then })
+  unfolding judgment
   begins_proposal w is left size low enough_it =
-      subst (λ (b : Bool). Course nodes after (record { writer = (judged_by b round.State w).writer; calls = Then })) (sym enough_it)
-      (subst (λ (b : Bool). Course nodes after (record { writer = (cond b (going (proposing (greatest_promise w.slots) (with_causes round.State w))) (stopped (turn.EpochLimit (greatest_promise w.slots)) (with_causes round.State w))).writer; calls = Then }))
+      subst (λ (b : Bool). Course nodes after (record { writer = (judgment_by b round.State w).writer; calls = Then })) (sym enough_it)
+      (subst (λ (b : Bool). Course nodes after (record { writer = (cond b (keep_going (begin_propose (greatest_promise w.slots) (with_causes round.State w))) (stops_with (turn.EpochLimit (greatest_promise w.slots)) (with_causes round.State w))).writer; calls = Then }))
       (sym (lt-ltb (greatest_promise w.slots) max_number (greatest_low w.slots low)))
       (proposes refl is refl left (inr (λ i m. duties.waits (let b = majority.within i m in all_wait 1 w.left i b.0 (omega (arith, b.1, size)))))))
 
@@ -147,6 +147,6 @@ module _ (n : ℕ) (nodes : List ℕ) (majority : IsMajority n nodes) (before af
       now_tellers : (i : ℕ) → Member i nodes → Teller (with_answer v j d) i
       now_tellers = tellers_after k at tellers
 
-      by : (b : Bool) → list_any is_waiting (with_answer v j d).slots ≡ b → Course nodes after (record { writer = (judged_when b round.State (with_answer v j d)).writer; calls = Then })
+      by : (b : Bool) → list_any is_waiting (with_answer v j d).slots ≡ b → Course nodes after (record { writer = (judgment_when b round.State (with_answer v j d)).writer; calls = Then })
       by true e = asks phase_is is left now_low now_tellers
       by false e = begins_proposal (with_answer v j d) is left k.left now_low (enough n round.State (with_answer v j d).slots nodes size majority (λ i m. told_slot i e (now_tellers i m)))

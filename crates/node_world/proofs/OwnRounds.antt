@@ -17,8 +17,8 @@ use Rattle.writer_core.specs.declared.slot.Slot.{Slot}
 use Rattle.writer_core.specs.declared.slot.Slot.TheVariants.{Waiting, Told}
 use Rattle.writer_core.specs.Views.{WriterView}
 use Rattle.writer_core.specs.Answers.{is_waiting}
-use Rattle.writer_core.specs.Rounds.{request_in, head_now, numbers_fit, Judged, judged}
-use Rattle.writer_core.specs.Writer.{with_answer, judged_when, heard_in}
+use Rattle.writer_core.specs.Rounds.{request_in, head_now, numbers_fit, Judgment, judgment}
+use Rattle.writer_core.specs.Writer.{with_answer, judgment_when, heard_in}
 use Rattle.writer_core.proofs.PlainRounds.{IsWhole}
 use Rattle.writer_core.proofs.WholeRounds.{IsFirst, whole_heard}
 use Rattle.node_world.specs.Complete.{IsHeeded}
@@ -194,7 +194,7 @@ module _ (n : ℕ) (nodes : List ℕ) (majority : IsMajority n nodes) (before af
 
   -- by round
   ends : (r : Round) (q : Request) → IsWhole r → Facts nodes r v → length v.left ≡ n → length (with_answer v j d).slots ≡ n → v.aim ≡ aim.Takeover → ((i : ℕ) → Member i nodes → Sane (after i))
-      → list_any is_waiting (with_answer v j d).slots ≡ false → ((i : ℕ) → Member i nodes → Part r (with_answer v j d) (after i) (Now q) i) → Way nodes after (Now q) (judged r (with_answer v j d)).writer
+      → list_any is_waiting (with_answer v j d).slots ≡ false → ((i : ℕ) → Member i nodes → Part r (with_answer v j d) (after i) (Now q) i) → Way nodes after (Now q) (judgment r (with_answer v j d)).writer
   ends round.State q whole f left slots is sane e parts = absurd f
   ends round.Propose q whole f left slots is sane e parts = absurd f
   ends (round.Prepare m) q whole f left slots is sane e parts =
@@ -214,11 +214,11 @@ module _ (n : ℕ) (nodes : List ℕ) (majority : IsMajority n nodes) (before af
   pub hears_way : (r : Round) → v.phase ≡ phase.InRound r → IsWhole r → v.aim ≡ aim.Takeover → 0 < v.serial → Facts nodes r v → (k : Call n nodes before after v j (request_in v r) d) → length (with_answer v j d).slots ≡ n
       → At 1 v.slots j Waiting → ((i : ℕ) → Member i nodes → Part r v (before i) calls i) → Way nodes after (Now (request_in v r)) (heard_in r v j d).writer
   hears_way r phase_is whole is pos f k size at parts =
-      subst (λ (z : Judged). Way nodes after (Now (request_in v r)) z.writer) (sym (whole_heard r v j d whole)) (by (list_any is_waiting (with_answer v j d).slots) refl)
+      subst (λ (z : Judgment). Way nodes after (Now (request_in v r)) z.writer) (sym (whole_heard r v j d whole)) (by (list_any is_waiting (with_answer v j d).slots) refl)
     where
       now_parts : (i : ℕ) → Member i nodes → Part r (with_answer v j d) (after i) (Now (request_in v r)) i
       now_parts = parts_after r whole f k at parts
 
-      by : (b : Bool) → list_any is_waiting (with_answer v j d).slots ≡ b → Way nodes after (Now (request_in v r)) (judged_when b r (with_answer v j d)).writer
+      by : (b : Bool) → list_any is_waiting (with_answer v j d).slots ≡ b → Way nodes after (Now (request_in v r)) (judgment_when b r (with_answer v j d)).writer
       by true e = goes r phase_is is pos (facts_slots nodes r v j d whole f) now_parts
       by false e = ends r (request_in v r) whole f k.left size is k.sane_after e now_parts

@@ -23,7 +23,7 @@ use Rattle.writer_core.specs.declared.slot.Slot.TheVariants.{Waiting, Told}
 use Rattle.writer_core.specs.Views.{WriterView}
 use Rattle.writer_core.specs.Answers.{fits_round, fits_prepare, fits_state, is_ok, has_majority}
 use Rattle.writer_core.specs.Best.{Best, best_of, segment_in, segment_told, newest_in, newest_told, greatest_newest, greatest_promise, promise_in, promise_told}
-use Rattle.writer_core.specs.Rounds.{numbers_fit, Judged, going, next_serial, judged_by, judged, with_causes, done_in, after_propose, recovering, starting, asking_all, pieced, to_all}
+use Rattle.writer_core.specs.Rounds.{numbers_fit, Judgment, keep_going, next_serial, judgment_by, judgment, with_causes, after_round, after_propose, begin_recovery, begin_start, asks_all, keep_piece, to_all}
 use Rattle.run_safety.specs.Majority.{Member, IsMajority}
 use Rattle.run_safety.specs.Actings.{CallMade}
 use Rattle.journal_core.proofs.SegmentLists.{newest-above}
@@ -84,13 +84,13 @@ module _ (n : ℕ) (nodes : List ℕ) (majority : IsMajority n nodes) (state : �
     pub numbers : numbers_fit v r ≡ true
     pub part : Off v.epoch (state i) ⊎ After r v (state i) calls i reply
 
-  pub done_by : (r : Round) (v : WriterView) → length v.slots ≡ n → numbers_fit v r ≡ true → ((i : ℕ) → Member i nodes → (slot : Slot) × At 1 v.slots i slot × (is_ok r slot ≡ true)) → judged r v ≡ done_in r (with_causes r v)
-  unfolding judged
+  pub done_by : (r : Round) (v : WriterView) → length v.slots ≡ n → numbers_fit v r ≡ true → ((i : ℕ) → Member i nodes → (slot : Slot) × At 1 v.slots i slot × (is_ok r slot ≡ true)) → judgment r v ≡ after_round r (with_causes r v)
+  unfolding judgment
   done_by r v size fit each =
       let e : (numbers_fit v r && has_majority r v.slots) ≡ true = ap (λ b. b && has_majority r v.slots) fit ∙ enough n r v.slots nodes size majority each in
-      ap (λ b. judged_by b r v) e
+      ap (λ b. judgment_by b r v) e
 
-  spoken_done : (r : Round) (v : WriterView) → length v.slots ≡ n → ((i : ℕ) → Member i nodes → Spoken r v i) → judged r v ≡ done_in r (with_causes r v)
+  spoken_done : (r : Round) (v : WriterView) → length v.slots ≡ n → ((i : ℕ) → Member i nodes → Spoken r v i) → judgment r v ≡ after_round r (with_causes r v)
   spoken_done r v size each = done_by r v size (each a_node.0 a_node.1).numbers (λ i m. let s = each i m in (Told (Answer s.reply), s.at, s.kind))
 
   -- a part that waits in the next round
@@ -104,14 +104,14 @@ module _ (n : ℕ) (nodes : List ℕ) (majority : IsMajority n nodes) (state : �
   -- ## The rounds before the first record
   start_next : (v : WriterView) (k : ℕ) → length v.left ≡ n → v.aim ≡ aim.Takeover → 0 < v.serial
       → ((i : ℕ) → Member i nodes → Off v.epoch (state i) ⊎ (((state i).promised ≡ v.epoch) × ((state i).serial < v.serial) × Below k (state i) × AreOld i v.epoch (state i).serial calls))
-      → Passes (starting k v)
+      → Passes (begin_start k v)
   start_next v k size is pos each = goes round.Start refl is pos tt (λ i m. waits (all_wait 1 v.left i (low_high v.left size i m).0 (low_high v.left size i m).1)
       (off_or _ _ v.epoch (state i) (each i m) (λ x. record { bound = x.0; serial = x.1; due = x.2; old = x.3 })))
 
   pub accepted : (v : WriterView) (b : BatchView) → length v.left ≡ n → length v.slots ≡ n → v.aim ≡ aim.Takeover → Facts nodes (round.Accept b) v → ((i : ℕ) → Member i nodes → Spoken (round.Accept b) v i)
-      → Passes (judged (round.Accept b) v).writer
+      → Passes (judgment (round.Accept b) v).writer
   accepted v b size slots is f each =
-      subst (λ (j : Judged). Passes j.writer) (sym (spoken_done (round.Accept b) v slots each))
+      subst (λ (j : Judgment). Passes j.writer) (sym (spoken_done (round.Accept b) v slots each))
       (goes (round.Finalize b.first (last_txid b)) refl is (omega arith) (some b.bodies f.1) (λ i m. waits (others_wait 1 v.left i (f.0 i m))
       (off_or _ _ v.epoch (state i) (each i m).part (λ x. record { bound = x.bound; serial = (let l : (state i).serial ≤ v.serial = x.serial in omega (arith, l)); due = x.had; old = x.old }))))
     where
@@ -120,29 +120,29 @@ module _ (n : ℕ) (nodes : List ℕ) (majority : IsMajority n nodes) (state : �
       some (y ∷ ys) e = omega arith
 
   pub finalized : (v : WriterView) (m l : ℕ) → length v.left ≡ n → length v.slots ≡ n → v.aim ≡ aim.Takeover → Facts nodes (round.Finalize m l) v → ((i : ℕ) → Member i nodes → Spoken (round.Finalize m l) v i)
-      → Passes (judged (round.Finalize m l) v).writer
+      → Passes (judgment (round.Finalize m l) v).writer
   finalized v m l size slots is f each =
-      subst (λ (j : Judged). Passes j.writer) (sym (spoken_done (round.Finalize m l) v slots each ∙ by v.aim is))
+      subst (λ (j : Judgment). Passes j.writer) (sym (spoken_done (round.Finalize m l) v slots each ∙ by v.aim is))
       (start_next (next_serial (with_causes (round.Finalize m l) v)) (l + 1) size is (omega arith) (λ i k.
       off_or _ _ v.epoch (state i) (each i k).part (λ x. (x.bound, (let le : (state i).serial ≤ v.serial = x.serial in omega (arith, le)), (λ t g found edit. let low : t ≤ m = x.had t g found edit in omega (arith, low, f)), x.old))))
     where
-      by : (a : Aim) → a ≡ aim.Takeover → done_in (round.Finalize m l) (with_causes (round.Finalize m l) (record v { aim = a })) ≡ going (starting (l + 1) (next_serial (with_causes (round.Finalize m l) (record v { aim = a }))))
+      by : (a : Aim) → a ≡ aim.Takeover → after_round (round.Finalize m l) (with_causes (round.Finalize m l) (record v { aim = a })) ≡ keep_going (begin_start (l + 1) (next_serial (with_causes (round.Finalize m l) (record v { aim = a }))))
       by aim.Takeover e = refl
       by aim.Log e = absurd (cc e)
       by aim.Roll e = absurd (cc e)
       by aim.Close e = absurd (cc e)
       by aim.Purge e = absurd (cc e)
 
-  pub started : (v : WriterView) → length v.left ≡ n → length v.slots ≡ n → v.aim ≡ aim.Takeover → ((i : ℕ) → Member i nodes → Spoken round.Start v i) → Passes (judged round.Start v).writer
+  pub started : (v : WriterView) → length v.left ≡ n → length v.slots ≡ n → v.aim ≡ aim.Takeover → ((i : ℕ) → Member i nodes → Spoken round.Start v i) → Passes (judgment round.Start v).writer
   started v size slots is each =
-      subst (λ (j : Judged). Passes j.writer) (sym (spoken_done round.Start v slots each))
+      subst (λ (j : Judgment). Passes j.writer) (sym (spoken_done round.Start v slots each))
       (goes round.Open refl is (omega arith) tt (λ i m. waits (others_wait 1 _ i (missed_in round.Start 1 v.slots i (Told (Answer (each i m).reply)) (each i m).at (each i m).kind))
       (off_or _ _ v.epoch (state i) (each i m).part (λ x. record { bound = x.bound; serial = (let l : (state i).serial ≤ v.serial = x.serial in omega (arith, l)); due = x.had; old = x.old }))))
 
-  pub opened : (v : WriterView) → length v.slots ≡ n → v.aim ≡ aim.Takeover → ((i : ℕ) → Member i nodes → Spoken round.Open v i) → Passes (judged round.Open v).writer
-  opened v slots is each = subst (λ (j : Judged). Passes j.writer) (sym (spoken_done round.Open v slots each)) (writes (by v.aim is))
+  pub opened : (v : WriterView) → length v.slots ≡ n → v.aim ≡ aim.Takeover → ((i : ℕ) → Member i nodes → Spoken round.Open v i) → Passes (judgment round.Open v).writer
+  opened v slots is each = subst (λ (j : Judgment). Passes j.writer) (sym (spoken_done round.Open v slots each)) (writes (by v.aim is))
     where
-      by : (a : Aim) → a ≡ aim.Takeover → (done_in round.Open (with_causes round.Open (record v { aim = a }))).writer.phase ≡ phase.Writing
+      by : (a : Aim) → a ≡ aim.Takeover → (after_round round.Open (with_causes round.Open (record v { aim = a }))).writer.phase ≡ phase.Writing
       by aim.Takeover e = refl
       by aim.Log e = absurd (cc e)
       by aim.Roll e = absurd (cc e)
@@ -185,7 +185,7 @@ module _ (n : ℕ) (nodes : List ℕ) (majority : IsMajority n nodes) (state : �
       off e = cc e
 
   recovers_by : (v : WriterView) (m : ℕ) (o : Option Best) → best_of m v.slots ≡ o → length v.left ≡ n → v.aim ≡ aim.Takeover → 0 < v.serial → AreIn nodes v.left → ((i : ℕ) → Member i nodes → IsStored (state i)) → ((i : ℕ) → Member i nodes → Telling m v i)
-      → Passes (recovering m o v)
+      → Passes (begin_recovery m o v)
   recovers_by v m None e size is pos left durable each = start_next (record v { committed = m - 1 }) m size is pos (λ i k. let t = each i k in
       off_or _ _ v.epoch (state i) t.part (λ x. (x.0, x.1, none_told m v i e (durable i k) t x.2 x.3, x.4)))
   recovers_by v m (Some b) e size is pos left durable each = goes (round.Fetch b.node m b.info.end []) refl is pos (left, record { info = b.info; best = e; end_is = refl; within = omega (arith, low) }, none_waits v m each)
@@ -208,9 +208,9 @@ module _ (n : ℕ) (nodes : List ℕ) (majority : IsMajority n nodes) (state : �
   }
 
   pub prepared : (v : WriterView) (m : ℕ) → length v.left ≡ n → length v.slots ≡ n → v.aim ≡ aim.Takeover → AreIn nodes v.left → ((i : ℕ) → Member i nodes → IsStored (state i)) → ((i : ℕ) → Member i nodes → Spoken (round.Prepare m) v i)
-      → Passes (judged (round.Prepare m) v).writer
+      → Passes (judgment (round.Prepare m) v).writer
   prepared v m size slots is left durable each =
-      subst (λ (j : Judged). Passes j.writer) (sym (spoken_done (round.Prepare m) v slots each))
+      subst (λ (j : Judgment). Passes j.writer) (sym (spoken_done (round.Prepare m) v slots each))
       (recovers_by (next_serial (with_causes (round.Prepare m) v)) m (best_of m v.slots) refl size is (omega arith) left durable (λ i k. let s = each i k in record {
         reply = s.reply;
         at = s.at;
@@ -220,9 +220,9 @@ module _ (n : ℕ) (nodes : List ℕ) (majority : IsMajority n nodes) (state : �
 
   -- a node was taken out of the count; those of the majority are still there
   pub lost : (v : WriterView) (m : ℕ) → length v.left ≡ n → length v.slots ≡ n → v.aim ≡ aim.Takeover → AreIn nodes v.left → ((i : ℕ) → Member i nodes → IsStored (state i)) → ((i : ℕ) → Member i nodes → Telling m v i)
-      → Passes (judged_by (has_majority (round.Prepare m) v.slots) (round.Prepare m) v).writer
+      → Passes (judgment_by (has_majority (round.Prepare m) v.slots) (round.Prepare m) v).writer
   lost v m size slots is left durable each =
-      subst (λ (b : Bool). Passes (judged_by b (round.Prepare m) v).writer)
+      subst (λ (b : Bool). Passes (judgment_by b (round.Prepare m) v).writer)
       (sym (enough n (round.Prepare m) v.slots nodes slots majority (λ i k. let t = each i k in (Told (Answer t.reply), t.at, t.kind))))
       (recovers_by (next_serial (with_causes (round.Prepare m) v)) m (best_of m v.slots) refl size is (omega arith) left durable (λ i k. telling_on v (next_serial (with_causes (round.Prepare m) v)) m i refl refl (omega arith) (each i k)))
 
@@ -253,10 +253,10 @@ module _ (n : ℕ) (nodes : List ℕ) (majority : IsMajority n nodes) (state : �
   some_body (b ∷ bs) l = refl
 
   pub pieces : (v : WriterView) (m : ℕ) (b : Best) (bs : List (List ℕ)) → best_of m v.slots ≡ Some b → m ≤ b.info.end → m + length bs ≤ b.info.end + 1 → length v.left ≡ n → v.aim ≡ aim.Takeover → 0 < v.serial → AreIn nodes v.left → Agreed m b.info
-      → ((i : ℕ) → Member i nodes → IsStored (state i)) → ((i : ℕ) → Member i nodes → Telling m v i) → Passes (pieced b.node m b.info.end bs v)
+      → ((i : ℕ) → Member i nodes → IsStored (state i)) → ((i : ℕ) → Member i nodes → Telling m v i) → Passes (keep_piece b.node m b.info.end bs v)
   pieces v m b bs best low le size is pos left agreed durable each = by (nat_lt b.info.end (m + length bs)) refl
     where
-      by : (x : Bool) → nat_lt b.info.end (m + length bs) ≡ x → Passes (cond x (asking_all (round.Accept (record { first = m; bodies = bs })) v) (record v { phase = phase.InRound (round.Fetch b.node m b.info.end bs) }))
+      by : (x : Bool) → nat_lt b.info.end (m + length bs) ≡ x → Passes (cond x (asks_all (round.Accept (record { first = m; bodies = bs })) v) (record v { phase = phase.InRound (round.Fetch b.node m b.info.end bs) }))
       by true e =
           let lt : b.info.end < m + length bs = ltb-true b.info.end (m + length bs) e in
           let some : any_body bs ≡ true = some_body bs (omega (arith, lt, low)) in
@@ -293,9 +293,9 @@ module _ (n : ℕ) (nodes : List ℕ) (majority : IsMajority n nodes) (state : �
         old = x.1;
       })))
 
-  pub proposed : (v : WriterView) → length v.left ≡ n → length v.slots ≡ n → v.aim ≡ aim.Takeover → v.serial ≡ 0 → AreIn nodes v.left → ((i : ℕ) → Member i nodes → Chosen v i) → Passes (judged round.Propose v).writer
+  pub proposed : (v : WriterView) → length v.left ≡ n → length v.slots ≡ n → v.aim ≡ aim.Takeover → v.serial ≡ 0 → AreIn nodes v.left → ((i : ℕ) → Member i nodes → Chosen v i) → Passes (judgment round.Propose v).writer
   proposed v size slots is zero_serial left each =
-      subst (λ (j : Judged). Passes j.writer) (sym (done_by round.Propose v slots (each a_node.0 a_node.1).numbers (λ i k. let c = each i k in (Told (Answer c.reply), c.at, c.kind))))
+      subst (λ (j : Judgment). Passes j.writer) (sym (done_by round.Propose v slots (each a_node.0 a_node.1).numbers (λ i k. let c = each i k in (Told (Answer c.reply), c.at, c.kind))))
       (proposed_by v (greatest_newest v.slots) refl size is zero_serial left each)
 
 -- ## The promises

@@ -12,7 +12,7 @@ use Rattle.journal_core.specs.declared.node_state.NodeState.{NodeState}
 use Rattle.journal_core.specs.declared.request.Request.{Request}
 use Rattle.journal_core.specs.declared.request.Request.TheVariants as request
 use Rattle.journal_core.specs.declared.refusal.Refusal.TheVariants as refusal
-use Rattle.node_history.specs.Entries.{Move, Answer, Stop, Kill, Restart, Entry, moved, node_after}
+use Rattle.node_history.specs.Entries.{Move, Answer, Stop, Kill, Restart, Entry, after_move, node_after}
 use Rattle.journal_core.proofs.Steps.{Acted, at_once, by_row, done, acted, test_passed}
 use Rattle.journal_core.proofs.SegmentLists.{find-start}
 use Rattle.run_safety.proofs.Slots.{none≢some, some_same, true≢false}
@@ -150,7 +150,7 @@ small_effects s r h (done a b n e) =
     let small : AllSmall (numbers_of r) = numbers_small r (limit_passed s r a) in
     subst AreSmall (sym e) (append_small (front_effects s (head_of r)) (row_effects (fronted s r) r) (front_small s (head_of r) (λ z is. (head_small r z is small).0)) (row_small (fronted s r) r (fronted_small s r h small) small))
 
-small_moved : (s : NodeState) (m : Move) → Small s → Small (moved s m)
+small_moved : (s : NodeState) (m : Move) → Small s → Small (after_move s m)
 small_moved s (Answer caller way r reply) h = small_answered s r h (acted s r)
 small_moved s (Stop caller late r keep) h = let t : Small (after_effects s (take keep (effects_of s r))) = take_small keep s (effects_of s r) h (small_effects s r h (acted s r)) in (t.0, t.2, t.2)
 small_moved s Kill h = (h.0, h.2, h.2)

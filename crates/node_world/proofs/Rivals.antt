@@ -13,7 +13,7 @@ use Rattle.writer_core.specs.declared.slot.Slot.{Slot}
 use Rattle.writer_core.specs.declared.slot.Slot.TheVariants.{Waiting, LeftOut, Told}
 use Rattle.writer_core.specs.Views.{WriterView}
 use Rattle.writer_core.specs.Answers.{fits_round}
-use Rattle.writer_core.specs.Whole.{Underway, heard_of, writer_at, round_after}
+use Rattle.writer_core.specs.Whole.{TaskProgress, heard_of, writer_at, round_after}
 use Rattle.writer_core.proofs.Plain.{plain_heard}
 use Rattle.writer_core.proofs.Filling.{Fills, FillsOne}
 use Rattle.writer_core.proofs.WholeLaws.{reaches_now}
@@ -64,7 +64,7 @@ module _ (n : ℕ) (a : Tale) (past : List Entry) (follows : Follows n a.story p
 
   within_by : (c : ℕ) (v : WriterView) (t : Tracked n a past c v) (r : Round) → t.writer.phase ≡ phase.InRound r → v.epoch ≡ t.writer.epoch → v.serial ≡ t.writer.serial → Within c v t r
   within_by c v t r is e s =
-      let u : Underway = record { writer = t.writer; round = r; tasks = [] } in
+      let u : TaskProgress = record { writer = t.writer; round = r; tasks = [] } in
       let there : writer_at n (a.story.takeover t.k) (a.top t.k) ≡ Some (record { writer = t.writer; round = r; tasks = [] }) =
       reaches_now n (a.story.takeover t.k) (a.top t.k) t.writer t.reaches ∙ ap (λ p. round_after p t.writer []) is in
       let so : Sound n (a.story.takeover t.k) (a.top t.k) (record { writer = t.writer; round = r; tasks = [] }) = sound_at n (a.story.takeover t.k) (a.top t.k) (record { writer = t.writer; round = r; tasks = [] }) t.follow there in

@@ -84,7 +84,7 @@ pub record Answers (r : Round) (v : WriterView) (s : NodeState) (calls : List Ca
 fresh_of : (r : Round) (v : WriterView) (s : NodeState) (calls : List CallMade) (i : ℕ) → s.up ≡ true → Ready r v s calls i → Fresh s (head_now v)
 fresh_of r v s calls i up k = record { up = up; promise = k.bound; serial = k.serial }
 
--- the calls behind it
+-- the calls after it
 old_after : (v : WriterView) (s t : NodeState) (calls : List CallMade) (i : ℕ) (q : Request) → head_of q ≡ Some (head_now v) → s.serial < v.serial → t.serial ≡ v.serial → AreOld i v.epoch s.serial calls
     → AreOld i v.epoch t.serial (calls ++ record { node = i; request = q } ∷ [])
 old_after v s t calls i q is lt e a = old_more i v.epoch s.serial t.serial calls (record { node = i; request = q }) (omega (arith, lt, e)) a by

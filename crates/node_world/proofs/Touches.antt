@@ -2,7 +2,7 @@
 use Rattle.std.proofs.Common.{◌≡◌, ℕ, ◌<◌, ◌⊎◌, inl, inr, Bool, true, false, cond, refl, sym, ◌∙◌, arith, Option, Some, None, nat_le}
 use Rattle.std.proofs.lemmas.Bool.Decides.{nat_tests}
 use Rattle.journal_core.specs.Effects.{after_effects}
-use Rattle.journal_core.specs.Step.{refused_at_once, fronted, row_refused, behind_front, unless_refused, node_step}
+use Rattle.journal_core.specs.Step.{refused_at_once, fronted, row_refused, step_after_front, unless_refused, node_step}
 use Rattle.journal_core.specs.declared.node_state.NodeState.{NodeState}
 use Rattle.journal_core.specs.declared.request.Request.{Request}
 use Rattle.journal_core.specs.declared.request.Request.TheVariants.{NewEpoch}
@@ -15,7 +15,7 @@ abbrev Touched : ℕ → NodeState → NodeState → Type 0
 Touched epoch s t = (t ≡ s) ⊎ Off epoch t
 
 propose_by : (b : Bool) (s : NodeState) (epoch top : ℕ) → nat_le epoch s.promised ≡ b → s.promised ≡ top
-    → Touched top s (behind_front (fronted s (NewEpoch epoch)) (NewEpoch epoch) (cond b (Some (EpochRefused s.promised)) None)).state
+    → Touched top s (step_after_front (fronted s (NewEpoch epoch)) (NewEpoch epoch) (cond b (Some (EpochRefused s.promised)) None)).state
 unfolding after_effects
 propose_by true s epoch top e is = inl refl
 propose_by false s epoch top e is = inr (inl (grind (arith, nat_tests, e, is)))
@@ -26,9 +26,9 @@ touched_by s _ epoch None (Reads q none same) e is out = inl (same s (row_refuse
 touched_by s _ epoch None (Proposes other) e is out = propose_by (nat_le other s.promised) s other epoch refl is
 touched_by s _ epoch None (Heads q h head some then replies) e is out = by (front_passes s q h head e)
   where
-    by : (s.promised < h.epoch) ⊎ ((s.promised ≡ h.epoch) × (s.serial < h.serial)) → Touched epoch s (behind_front (fronted s q) q (row_refused (fronted s q) q)).state
+    by : (s.promised < h.epoch) ⊎ ((s.promised ≡ h.epoch) × (s.serial < h.serial)) → Touched epoch s (step_after_front (fronted s q) q (row_refused (fronted s q) q)).state
     by (inl l) =
-        let f : Fronted s h (behind_front (fronted s q) q (row_refused (fronted s q) q)).state = behind s q h (row_refused (fronted s q) q) head then in
+        let f : Fronted s h (step_after_front (fronted s q) q (row_refused (fronted s q) q)).state = behind s q h (row_refused (fronted s q) q) head then in
         inr (inl (omega (arith, f.promised, l, is)))
     by (inr g) = absurd (out h head (sym g.0 ∙ is) g.1)
 

@@ -7,7 +7,7 @@ pub use Rattle.std.proofs.lemmas.List.{replicate_more as one_more_alike}
 use Rattle.std.proofs.lemmas.List.{get_or_read, length-set, get_or-set_other, map-set, append-nil, set-get_or}
 use Rattle.node_history.specs.declared.node_ask.NodeAsk.{NodeAsk}
 use Rattle.node_history.specs.declared.node_ask.NodeAnswer.{NodeAnswer}
-use Rattle.node_history.specs.Cell.{Taken, cell_takes, stopping, heard_of}
+use Rattle.node_history.specs.Cell.{Taken, cell_takes, arm_at_once, heard_of}
 use Rattle.node_history.specs.Moving.{Placed}
 use Rattle.node_history.specs.NodeCells.{CellView, new_cell}
 use Rattle.journal_core.specs.declared.request.Request.{Request}
@@ -25,7 +25,7 @@ use Rattle.node_world.specs.declared.seen.Seen.{Seen}
 use Rattle.node_world.specs.declared.seen.Seen.TheVariants as seen
 use Rattle.node_history.specs.declared.node_ask.NodeAsk.TheVariants.{Act}
 use Rattle.node_history.specs.Same.{same_request}
-use Rattle.node_world.specs.World.{World, cell_at, acting_at, taken_at, node_asked, history_in, operated, seen_of, call_heard, call_reached, with_acting, with_writer, with_call, called_by, copied_when, is_call, task_begun, task_begins, done, not_next, IsWithin}
+use Rattle.node_world.specs.World.{World, cell_at, acting_at, taken_at, node_asked, history_in, take_operation, seen_of, call_heard, call_reached, with_acting, with_writer, with_call, called_by, copied_when, is_call, task_begun, task_begins, answer_done, not_next, IsWithin}
 use Rattle.run_safety.specs.Actings.{Acting, fresh_acting}
 use Rattle.node_world.specs.WorldViews.{WorldView, bare, view_at, CellsGo, IsStepped, IsAsked, IsDelivered, HasReached, begun_seen, acting_begun}
 
@@ -35,7 +35,7 @@ cell_is v node = mapped_at (λ c. c.cell) v.cells (node - 1) new_cell
 
 taken_is : (v : WorldView) (cells : List CellView) (node caller : ℕ) (stop : Option ℕ) (ask : NodeAsk) (answer : NodeAnswer) → IsAsked v.cells node caller stop ask answer cells
     → taken_at node stop ask (bare v) ≡ record { answer = answer; cell = (view_at node cells).cell }
-taken_is v cells node caller stop ask answer h = ap (λ c. cell_takes (stopping stop c) ask) (cell_is v node) ∙ h.taken.taken
+taken_is v cells node caller stop ask answer h = ap (λ c. cell_takes (arm_at_once stop c) ask) (cell_is v node) ∙ h.taken.taken
 
 pub asked_answer : (v : WorldView) (cells : List CellView) (node caller : ℕ) (stop : Option ℕ) (ask : NodeAsk) (answer : NodeAnswer) → IsAsked v.cells node caller stop ask answer cells
     → answer ≡ (taken_at node stop ask (bare v)).answer
@@ -69,7 +69,7 @@ unfolding node_asked
 asked_actors old new node caller muted stop ask same = ap (λ (v : WorldView). v.actors) same
 
 pub operated_steps : (old new : WorldView) (node : ℕ) (ask : NodeAsk) (answer : NodeAnswer) → IsWithin (length old.cells) node → IsAsked old.cells node old.operator None ask answer new.cells
-    → new ≡ record old { cells = new.cells } → IsStepped old (operated node ask (bare old)) (seen_of answer) new
+    → new ≡ record old { cells = new.cells } → IsStepped old (take_operation node ask (bare old)) (seen_of answer) new
 operated_steps old new node ask answer within h same = record {
   seen = ap seen_of (asked_answer old new.cells node old.operator None ask answer h);
   cells = asked_goes old new.cells node old.operator false None ask answer within h;
@@ -103,7 +103,7 @@ unchanged_goes v w e t = record {
 pub nothing_steps : (v : WorldView) → IsStepped v (not_next (bare v)) seen.NotNext v
 nothing_steps v = record { seen = refl; cells = unchanged_goes v (bare v) refl refl; actors = refl; operator = refl }
 
-pub checkpoint_steps : (v : WorldView) → IsStepped v (done (bare v)) seen.Done v
+pub checkpoint_steps : (v : WorldView) → IsStepped v (answer_done (bare v)) seen.Done v
 checkpoint_steps v = record { seen = refl; cells = unchanged_goes v (bare v) refl refl; actors = refl; operator = refl }
 
 -- ## A call
@@ -169,7 +169,7 @@ next_steps old mid new actor node f r heard x y h m l is did n =
     (n ∙ ap (λ z. record mid { actors = set mid.actors actor z }) (did ∙ ap (heard_by node r heard) e ∙ ap (λ q. heard_by node r q (acting_at actor (bare old))) h.told))
 
 -- ## Writers
-acting_steps : (old new : WorldView) (actor : ℕ) (y : Acting) → new ≡ record old { actors = set old.actors actor y } → IsStepped old (done (with_acting actor y (bare old))) seen.Done new
+acting_steps : (old new : WorldView) (actor : ℕ) (y : Acting) → new ≡ record old { actors = set old.actors actor y } → IsStepped old (answer_done (with_acting actor y (bare old))) seen.Done new
 unfolding with_acting
 acting_steps old new actor y e = record {
   seen = refl;
@@ -180,7 +180,7 @@ acting_steps old new actor y e = record {
 
 pub give_up_steps : (old new : WorldView) (actor : ℕ) (x y : Acting) → actor < length old.actors → x ≡ get_or old.actors actor x → y ≡ with_writer (writer_stopped x.writer) x
     → new ≡ record old { actors = set old.actors actor y }
-    → IsStepped old (done (with_acting actor (with_writer (writer_stopped (acting_at actor (bare old)).writer) (acting_at actor (bare old))) (bare old))) seen.Done new
+    → IsStepped old (answer_done (with_acting actor (with_writer (writer_stopped (acting_at actor (bare old)).writer) (acting_at actor (bare old))) (bare old))) seen.Done new
 give_up_steps old new actor x y l is did n =
     let e : x ≡ acting_at actor (bare old) = get_or_read old.actors actor x l is (fresh_acting (length old.cells)) in
     acting_steps old new actor (with_writer (writer_stopped (acting_at actor (bare old)).writer) (acting_at actor (bare old)))

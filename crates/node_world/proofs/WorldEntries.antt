@@ -12,8 +12,8 @@ use Rattle.node_history.specs.declared.node_ask.NodeAsk.{NodeAsk}
 use Rattle.node_history.specs.declared.node_ask.NodeAsk.TheVariants as ask
 use Rattle.node_history.specs.declared.node_ask.NodeAnswer.{NodeAnswer}
 use Rattle.node_history.specs.declared.node_ask.NodeAnswer.TheVariants.{Replied, Stopped}
-use Rattle.node_history.specs.Cell.{Cell, cell_takes, stopping, heard_of}
-use Rattle.node_history.specs.Entries.{Heard, Muted, Late, Move, Answer, Stop, Kill, Restart, Entry, moved, node_after}
+use Rattle.node_history.specs.Cell.{Cell, cell_takes, arm_at_once, heard_of}
+use Rattle.node_history.specs.Entries.{Heard, Muted, Late, Move, Answer, Stop, Kill, Restart, Entry, after_move, node_after}
 use Rattle.node_history.specs.Moving.{move_of}
 use Rattle.run_safety.proofs.Entering.{Entered, quiet, answered as entered_answer, cut, entered, Operated, nothing as no_move, killed, again, kills, restarts, arms, Did, still, gone, line_did}
 use Rattle.run_safety.proofs.Fair.{IsDue, Sounds}
@@ -27,7 +27,7 @@ state_at n w node h low high =
     let back : suc (node - 1) ≡ node = omega (arith, low) in
     h.states (node - 1) (omega (arith, low, high)) ∙ ap (λ (j : ℕ). node_after j (entries w.trace)) back
 
-stopping_at : (n : ℕ) (w : World) (node : ℕ) (stop : Option ℕ) → Agree n w.cells (entries w.trace) → 1 ≤ node → node ≤ n → (stopping stop (cell_at node w)).state ≡ node_after node (entries w.trace)
+stopping_at : (n : ℕ) (w : World) (node : ℕ) (stop : Option ℕ) → Agree n w.cells (entries w.trace) → 1 ≤ node → node ≤ n → (arm_at_once stop (cell_at node w)).state ≡ node_after node (entries w.trace)
 stopping_at n w node stop h low high = stopping_state stop (cell_at node w) ∙ state_at n w node h low high
 
 abbrev Asking : ℕ → ℕ → ℕ → Bool → Option ℕ → Bool → Request → World → Type 0
@@ -37,7 +37,7 @@ Asking n node caller muted stop late r w =
 entered_at : (n node caller : ℕ) (muted : Bool) (stop : Option ℕ) (late : Bool) (r : Request) (w : World) → Agree n w.cells (entries w.trace) → 1 ≤ node → node ≤ n → Asking n node caller muted stop late r w
 entered_at n node caller muted stop late r w h low high =
     subst (λ (s : NodeState). Entered s (taken_at node stop (ask.Act late r) w).cell.state caller muted late r (taken_at node stop (ask.Act late r) w).answer) (stopping_at n w node stop h low high)
-    (entered (stopping stop (cell_at node w)) caller muted late r)
+    (entered (arm_at_once stop (cell_at node w)) caller muted late r)
 
 abbrev pub Behind : ℕ → ℕ → ℕ → Bool → Option ℕ → NodeAsk → World → Type 0
 Behind n node caller muted stop q w = Agree n (node_asked node caller muted stop q w).cells (asked_next node caller muted stop q w)
@@ -55,27 +55,27 @@ still_at n node caller muted stop q w h low high none same =
     (g.0, behind n node caller muted stop q w (entries w.trace) g.0 g.1)
 
 moved_at : (n node caller : ℕ) (muted : Bool) (stop : Option ℕ) (q : NodeAsk) (w : World) (move : Move) → Agree n w.cells (entries w.trace) → 1 ≤ node → node ≤ n
-    → move_of caller muted q (taken_at node stop q w).answer ≡ Some move → (taken_at node stop q w).cell.state ≡ moved (node_after node (entries w.trace)) move
+    → move_of caller muted q (taken_at node stop q w).answer ≡ Some move → (taken_at node stop q w).cell.state ≡ after_move (node_after node (entries w.trace)) move
     → (asked_next node caller muted stop q w ≡ entry node move ∷ entries w.trace) × Behind n node caller muted stop q w
 moved_at n node caller muted stop q w move h low high some same =
-    let g = asked_moved n node caller muted stop q w move h low high some (same ∙ ap (λ (s : NodeState). moved s move) (sym (state_at n w node h low high))) in
+    let g = asked_moved n node caller muted stop q w move h low high some (same ∙ ap (λ (s : NodeState). after_move s move) (sym (state_at n w node h low high))) in
     (g.0, behind n node caller muted stop q w (entry node move ∷ entries w.trace) g.0 g.1)
 
 -- ## Whatever was asked: a node answers as it does
 pub sounds_asked : (n node caller : ℕ) (muted : Bool) (stop : Option ℕ) (q : NodeAsk) (w : World) → Agree n w.cells (entries w.trace) → 1 ≤ node → node ≤ n
     → Sounds n (entries w.trace) → Sounds n (asked_next node caller muted stop q w)
-sounds_asked n node caller muted stop q w h low high s = by (line_did (stopping stop (cell_at node w)) q caller muted)
+sounds_asked n node caller muted stop q w h low high s = by (line_did (arm_at_once stop (cell_at node w)) q caller muted)
   where
-    by : Did (stopping stop (cell_at node w)).state (taken_at node stop q w).cell.state (move_of caller muted q (taken_at node stop q w).answer) → Sounds n (asked_next node caller muted stop q w)
+    by : Did (arm_at_once stop (cell_at node w)).state (taken_at node stop q w).cell.state (move_of caller muted q (taken_at node stop q w).answer) → Sounds n (asked_next node caller muted stop q w)
     by (still is same) = subst (Sounds n) (sym (still_at n node caller muted stop q w h low high is (same ∙ stopping_at n w node stop h low high)).0) s
     by (gone move is due same off) =
-        let moves : (taken_at node stop q w).cell.state ≡ moved (node_after node (entries w.trace)) move = same ∙ ap (λ (x : NodeState). moved x move) (stopping_at n w node stop h low high) in
+        let moves : (taken_at node stop q w).cell.state ≡ after_move (node_after node (entries w.trace)) move = same ∙ ap (λ (x : NodeState). after_move x move) (stopping_at n w node stop h low high) in
         subst (Sounds n) (sym (moved_at n node caller muted stop q w move h low high is moves).0) (
           record {
             from_one = low;
             up_to_n = high;
             due = subst (λ (x : NodeState). IsDue x move) (stopping_at n w node stop h low high) due;
-            moves = λ (e : moved (node_after node (entries w.trace)) move ≡ node_after node (entries w.trace)). off (moves ∙ e ∙ sym (stopping_at n w node stop h low high));
+            moves = λ (e : after_move (node_after node (entries w.trace)) move ≡ node_after node (entries w.trace)). off (moves ∙ e ∙ sym (stopping_at n w node stop h low high));
           },
           s,
         )

@@ -6,8 +6,8 @@ use Rattle.std.proofs.lemmas.List.{reverse-append}
 use Rattle.std.proofs.lemmas.List.Elements.{filter_map-append}
 use Rattle.journal_core.specs.declared.node_state.NodeState.{NodeState}
 use Rattle.node_history.specs.declared.node_ask.NodeAsk.{NodeAsk}
-use Rattle.node_history.specs.Cell.{Cell, fresh_cell, is_due, stopping}
-use Rattle.node_history.specs.Entries.{Move, Entry, moved, node_after}
+use Rattle.node_history.specs.Cell.{Cell, fresh_cell, is_due, arm_at_once}
+use Rattle.node_history.specs.Entries.{Move, Entry, after_move, node_after}
 use Rattle.node_history.specs.Moving.{Placed, move_of, entry_at, entry_of, moving_of}
 use Rattle.node_world.specs.World.{World, cell_at, taken_at, node_asked}
 use Rattle.node_history.specs.declared.stop.Stop.TheVariants.{Effects}
@@ -50,7 +50,7 @@ unfolding moving_of
 entries_more xs x o e =
     ap reverse (filter_map-append entry_of xs (x ∷ []) ∙ ap (λ (l : List Entry). filter_map entry_of xs ++ l) (one_more x o e)) ∙ reverse_onto o (filter_map entry_of xs)
 
--- ## The nodes behind it
+-- ## The nodes after it
 agree_still : (n : ℕ) (cells : List Cell) (past : List Entry) (node : ℕ) (c : Cell) → Agree n cells past → 1 ≤ node → node ≤ n → c.state ≡ (get_or cells (node - 1) fresh_cell).state
     → Agree n (set cells (node - 1) c) past
 agree_still n cells past node c h low high same = record { size = length-set cells (node - 1) c ∙ h.size; states = λ i l. at i l (cases_eq i (node - 1)) }
@@ -63,7 +63,7 @@ agree_still n cells past node c h low high same = record { size = length-set cel
         ∙ ap (λ (j : ℕ). (get_or cells j fresh_cell).state) (sym is) ∙ h.states i l
     at i l (inr off) = ap (λ (x : Cell). x.state) (get_or-set_other cells (node - 1) i c fresh_cell off) ∙ h.states i l
 
-agree_moved : (n : ℕ) (cells : List Cell) (past : List Entry) (node : ℕ) (c : Cell) (move : Move) → Agree n cells past → 1 ≤ node → node ≤ n → c.state ≡ moved (get_or cells (node - 1) fresh_cell).state move
+agree_moved : (n : ℕ) (cells : List Cell) (past : List Entry) (node : ℕ) (c : Cell) (move : Move) → Agree n cells past → 1 ≤ node → node ≤ n → c.state ≡ after_move (get_or cells (node - 1) fresh_cell).state move
     → Agree n (set cells (node - 1) c) (entry node move ∷ past)
 agree_moved n cells past node c move h low high same = record { size = length-set cells (node - 1) c ∙ h.size; states = λ i l. at i l (cases_eq i (node - 1)) }
   where
@@ -73,7 +73,7 @@ agree_moved n cells past node c move h low high same = record { size = length-se
         let b : node - 1 < length cells = omega (arith, low, high, size) in
         let here : node ≡ suc i = omega (arith, is, low) in
         ap (λ (j : ℕ). (get_or (set cells (node - 1) c) j fresh_cell).state) is ∙ ap (λ (x : Cell). x.state) (get_or-set_same cells (node - 1) c fresh_cell b) ∙ same
-        ∙ ap (λ (j : ℕ). moved (get_or cells j fresh_cell).state move) (sym is) ∙ ap (λ (s : NodeState). moved s move) (h.states i l) ∙ sym (node_here (suc i) (entry node move) past here)
+        ∙ ap (λ (j : ℕ). after_move (get_or cells j fresh_cell).state move) (sym is) ∙ ap (λ (s : NodeState). after_move s move) (h.states i l) ∙ sym (node_here (suc i) (entry node move) past here)
     at i l (inr off) =
         let other : node ≢ suc i = λ (e : node ≡ suc i). absurd (off (omega (arith, e))) in
         ap (λ (x : Cell). x.state) (get_or-set_other cells (node - 1) i c fresh_cell off) ∙ h.states i l ∙ sym (node_elsewhere (suc i) (entry node move) past other)
@@ -96,14 +96,14 @@ asked_still n node caller muted stop ask w h low high none same =
     (entry_is node caller muted stop ask w None none, agree_still n w.cells (entries w.trace) node (taken_at node stop ask w).cell h low high same)
 
 pub asked_moved : (n node caller : ℕ) (muted : Bool) (stop : Option ℕ) (ask : NodeAsk) (w : World) (move : Move) → Agree n w.cells (entries w.trace) → 1 ≤ node → node ≤ n
-    → move_of caller muted ask (taken_at node stop ask w).answer ≡ Some move → (taken_at node stop ask w).cell.state ≡ moved (cell_at node w).state move
+    → move_of caller muted ask (taken_at node stop ask w).answer ≡ Some move → (taken_at node stop ask w).cell.state ≡ after_move (cell_at node w).state move
     → (asked_next node caller muted stop ask w ≡ entry node move ∷ entries w.trace) × Agree n (node_asked node caller muted stop ask w).cells (entry node move ∷ entries w.trace)
 unfolding node_asked
 asked_moved n node caller muted stop ask w move h low high some same =
     (entry_is node caller muted stop ask w (Some move) some, agree_moved n w.cells (entries w.trace) node (taken_at node stop ask w).cell move h low high same)
 
 -- a stop that comes with a request leaves the state before it
-pub stopping_state : (stop : Option ℕ) (c : Cell) → (stopping stop c).state ≡ c.state
+pub stopping_state : (stop : Option ℕ) (c : Cell) → (arm_at_once stop c).state ≡ c.state
 stopping_state None c = refl
 stopping_state (Some keep) c = by (c.state.up && not (is_due c.arming))
   where

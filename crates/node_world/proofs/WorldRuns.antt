@@ -21,7 +21,7 @@ use Rattle.node_history.specs.Entries.{Entry, Earlier, node_after}
 use Rattle.run_safety.specs.Run.{Follows, IsRun}
 use Rattle.node_history.specs.Moving.{epoch_of, moving_of}
 use Rattle.run_safety.specs.Actings.{Acting, fresh_acting, was_made}
-use Rattle.node_world.specs.World.{World, new_world, acting_at, node_asked, with_acting, with_writer, with_call, task_begun, task_begins, call_heard, call_reached, called_by, is_reading, is_call, copied_when, operated, world_step, world_after, IsEvent, AreEvents}
+use Rattle.node_world.specs.World.{World, new_world, acting_at, node_asked, with_acting, with_writer, with_call, task_begun, task_begins, call_heard, call_reached, called_by, is_reading, is_call, copied_when, take_operation, world_step, world_after, IsEvent, AreEvents}
 use Rattle.node_history.specs.Same.{same_request}
 use Rattle.run_safety.proofs.Slots.{true≢false, get_replicate}
 use Rattle.node_history.proofs.SameLaws.{request_same}
@@ -200,7 +200,7 @@ copied_runs n w c node r stop true is low high h =
     (copy_stays n h.tale (entries w.trace) (asked_next node c false stop (ask.Act true r) w) c node r h.told
     (λ some. own_get n h.tale (entries w.trace) c node r (acting_at c w).calls (h.all c).calls is some) g.0)
 
-operated_runs : (n : ℕ) (w : World) (node : ℕ) (q : NodeAsk) → IsOperation q → 1 ≤ node → node ≤ n → Runs n w → Runs n (operated node q w).world
+operated_runs : (n : ℕ) (w : World) (node : ℕ) (q : NodeAsk) → IsOperation q → 1 ≤ node → node ≤ n → Runs n w → Runs n (take_operation node q w).world
 operated_runs n w node q o low high h =
     let g = operates n node w.operator q w o h.agree low high in
     stayed_runs n w node w.operator false None q h g.1 (sounds_asked n node w.operator false None q w h.agree low high h.sounds) (operation_stays n w.operator h.tale (entries w.trace) (asked_next node w.operator false None q w) node h.told g.0)

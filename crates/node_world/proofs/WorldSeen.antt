@@ -16,11 +16,11 @@ use Rattle.node_history.specs.declared.node_ask.NodeAsk.{NodeAsk}
 use Rattle.node_history.specs.declared.node_ask.NodeAsk.TheVariants as ask
 use Rattle.node_history.specs.declared.node_ask.NodeAnswer.{NodeAnswer}
 use Rattle.node_history.specs.declared.node_ask.NodeAnswer.TheVariants as answer
-use Rattle.node_history.specs.Cell.{Cell, cell_takes, killed, started_again, armed}
+use Rattle.node_history.specs.Cell.{Cell, cell_takes, take_kill, started_again, take_arming}
 use Rattle.node_history.specs.Same.{same_request}
 use Rattle.node_world.specs.WorldLaws.{IsAmong, SeesExactly}
 use Rattle.run_safety.specs.Actings.{CallMade, was_made}
-use Rattle.node_world.specs.World.{World, Stepped, cell_at, acting_at, taken_at, task_begun, task_begins, called_by, is_reading, is_call, copied_when, seen_of, operated, world_step}
+use Rattle.node_world.specs.World.{World, Stepped, cell_at, acting_at, taken_at, task_begun, task_begins, called_by, is_reading, is_call, copied_when, seen_of, take_operation, world_step}
 use Rattle.run_safety.proofs.Slots.{true≢false}
 use Rattle.node_history.proofs.SameLaws.{request_same, request_self}
 use Rattle.node_world.proofs.WorldRuns.{call_is}
@@ -54,7 +54,7 @@ seen_next answer.Done e = cc e
 seen_next answer.Idle e = cc e
 seen_next (answer.NotOpened fail) e = cc e
 
-operated_same : (w : World) (node : ℕ) (q : NodeAsk) → IsSame w (operated node q w)
+operated_same : (w : World) (node : ℕ) (q : NodeAsk) → IsSame w (take_operation node q w)
 operated_same w node q e = absurd (seen_next (taken_at node None q w).answer e)
 
 pub unchanged : (w : World) (e : Event) → (world_step w e).seen ≡ NotNext → (world_step w e).world ≡ w
@@ -109,7 +109,7 @@ late_exactly : (w : World) (c node : ℕ) (r : Request) (stop : Option ℕ) (b :
 late_exactly w c node r stop true e = ((λ f. absurd (cc f)), (λ off. absurd (off (made_among node r (acting_at c w).calls e))))
 late_exactly w c node r stop false e = ((λ f m. true≢false (sym (among_made node r (acting_at c w).calls m) ∙ e)), (λ off. refl))
 
-kill_exactly : (c : Cell) (b : Bool) → (seen_of (killed b c).answer ≡ Idle) ↔ (b ≡ false)
+kill_exactly : (c : Cell) (b : Bool) → (seen_of (take_kill b c).answer ≡ Idle) ↔ (b ≡ false)
 kill_exactly c true = ((λ e. absurd (cc e)), (λ e. true≢false e))
 kill_exactly c false = ((λ e. refl), (λ e. refl))
 
@@ -117,7 +117,7 @@ restart_exactly : (c : Cell) (b : Bool) → (seen_of (started_again b c).answer 
 restart_exactly c true = ((λ e. refl), (λ e. refl))
 restart_exactly c false = ((λ e. absurd (cc e)), (λ e. true≢false (sym e)))
 
-arm_exactly : (c : Cell) (calls : ℕ) (stop : Stop) (b : Bool) → (seen_of (armed b c (record { calls = calls; stop = stop })).answer ≡ Idle) ↔ (b ≡ false)
+arm_exactly : (c : Cell) (calls : ℕ) (stop : Stop) (b : Bool) → (seen_of (take_arming b c (record { calls = calls; stop = stop })).answer ≡ Idle) ↔ (b ≡ false)
 arm_exactly c calls stop true = ((λ e. absurd (cc e)), (λ e. true≢false e))
 arm_exactly c calls stop false = ((λ e. refl), (λ e. refl))
 

@@ -1,4 +1,4 @@
--- A step doesn't depend on what was listed before, and lists behind it.
+-- A step doesn't depend on what was listed before, and lists after it.
 use Rattle.std.proofs.Common.{◌≡◌, ℕ, List, [], ◌∷◌, ◌++◌, Bool, true, false, length, map, refl, sym, ap, ◌∙◌, subst, Option, ◌-◌, zero, suc, get_or, replicate}
 use Rattle.std.specs.Prelude.{filter, ◌==◌, if◌then◌else◌}
 use Rattle.std.proofs.lemmas.List.{map-append, append-nil, length-replicate}
@@ -18,7 +18,7 @@ use Rattle.node_history.specs.declared.node_ask.NodeAsk.TheVariants as ask
 use Rattle.node_history.specs.Moving.{Placed}
 use Rattle.node_history.specs.Cell.{fresh_cell}
 use Rattle.node_history.specs.NodeCells.{CellView, new_cell}
-use Rattle.node_world.specs.World.{World, Stepped, acting_at, node_asked, history_in, operated, call_reached, with_acting, with_writer, called_by, copied_when, is_call, is_reading, task_begun, task_begins, done, not_next, world_step, IsWithin, new_world}
+use Rattle.node_world.specs.World.{World, Stepped, acting_at, node_asked, history_in, take_operation, call_reached, with_acting, with_writer, called_by, copied_when, is_call, is_reading, task_begun, task_begins, answer_done, not_next, world_step, IsWithin, new_world}
 use Rattle.run_safety.specs.Actings.{was_made, fresh_acting}
 use Rattle.node_world.specs.WorldViews.{WorldView, new_view, bare, IsStepped, StandsFor, Steps}
 
@@ -36,7 +36,7 @@ record Traced (w : World) (s t : Stepped) : Type 0 where
 undone : (w : World) → Traced w (not_next w) (not_next (clear w))
 undone w = record { seen = refl; world = refl; trace = sym (append-nil w.trace); nodes = refl; operator = refl }
 
-done_is : (w : World) → Traced w (done w) (done (clear w))
+done_is : (w : World) → Traced w (answer_done w) (answer_done (clear w))
 done_is w = record { seen = refl; world = refl; trace = sym (append-nil w.trace); nodes = refl; operator = refl }
 
 begun_is : (b : Begun) (actor : ℕ) (v : WriterView) (w : World) → Traced w (task_begun b actor v w) (task_begun b actor v (clear w))
@@ -66,11 +66,11 @@ unfolding node_asked
 copied_is true actor node r stop w = record { seen = refl; world = refl; trace = refl; nodes = refl; operator = refl }
 copied_is false actor node r stop w = undone w
 
-operated_is : (node : ℕ) (a : NodeAsk) (w : World) → Traced w (operated node a w) (operated node a (clear w))
+operated_is : (node : ℕ) (a : NodeAsk) (w : World) → Traced w (take_operation node a w) (take_operation node a (clear w))
 unfolding node_asked
 operated_is node a w = record { seen = refl; world = refl; trace = refl; nodes = refl; operator = refl }
 
-gave_up : (actor : ℕ) (v : WriterView) (w : World) → Traced w (done (with_acting actor (with_writer v (acting_at actor w)) w)) (done (with_acting actor (with_writer v (acting_at actor w)) (clear w)))
+gave_up : (actor : ℕ) (v : WriterView) (w : World) → Traced w (answer_done (with_acting actor (with_writer v (acting_at actor w)) w)) (answer_done (with_acting actor (with_writer v (acting_at actor w)) (clear w)))
 unfolding with_acting
 gave_up actor v w = record { seen = refl; world = refl; trace = sym (append-nil w.trace); nodes = refl; operator = refl }
 

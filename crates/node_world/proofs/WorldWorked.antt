@@ -6,7 +6,7 @@ use Rattle.journal_core.specs.Effects.{after_effects}
 use Rattle.journal_core.specs.Step.{node_step, effects_of}
 use Rattle.writer_core.specs.declared.phase.Phase.TheVariants.{Writing}
 use Rattle.writer_core.specs.Best.{best_from, greatest_newest, greatest_promise}
-use Rattle.writer_core.specs.Rounds.{judged, fetched}
+use Rattle.writer_core.specs.Rounds.{judgment, after_fetch}
 use Rattle.writer_core.specs.Writer.{new_writer, log_limit, writer_begun, writer_heard}
 use Rattle.node_world.specs.declared.seen.Seen.TheVariants.{NotNext}
 use Rattle.node_history.specs.Cell.{cell_takes}
@@ -25,7 +25,7 @@ only P p i (inl e) = subst P e p
 only P p i (inr none) = absurd none
 
 pub served : AreServed 0 (1 ∷ []) begun_world its_calls
-unfolding AreServed new_world world_after world_step call_reached node_asked with_acting cell_takes find_segment put_segment remove_segment newest limit_of after_effects node_step effects_of best_from greatest_newest greatest_promise judged fetched log_limit writer_begun writer_heard
+unfolding AreServed new_world world_after world_step call_reached node_asked with_acting cell_takes find_segment put_segment remove_segment newest limit_of after_effects node_step effects_of best_from greatest_newest greatest_promise judgment after_fetch log_limit writer_begun writer_heard
 served =
     let low : 0 < max_number = omega arith in (
       record { up = only _ refl; answered = λ node r fate e m q. tt; low = λ node r fate e. low; runs = tt },
@@ -39,7 +39,7 @@ served =
     )
 
 pub taken : (acting_at 0 (world_after begun_world its_calls)).writer.phase ≡ Writing
-unfolding new_world world_after world_step call_reached node_asked with_acting cell_takes find_segment put_segment remove_segment newest limit_of after_effects node_step effects_of best_from greatest_newest greatest_promise judged fetched log_limit writer_begun writer_heard
+unfolding new_world world_after world_step call_reached node_asked with_acting cell_takes find_segment put_segment remove_segment newest limit_of after_effects node_step effects_of best_from greatest_newest greatest_promise judgment after_fetch log_limit writer_begun writer_heard
 taken = refl
 
 pub call_next : (world_step begun_world out_of_turn).seen ≡ NotNext

@@ -20,7 +20,7 @@ use Rattle.node_history.specs.declared.node_ask.NodeAsk.TheVariants as ask
 use Rattle.node_history.specs.declared.node_ask.NodeAnswer.{NodeAnswer}
 use Rattle.node_history.specs.declared.node_ask.NodeAnswer.TheVariants as answer
 use Rattle.node_history.specs.declared.history_line.HistoryLine.{HistoryLine}
-use Rattle.node_history.specs.Cell.{Cell, fresh_cell, Taken, cell_takes, stopping, heard_of}
+use Rattle.node_history.specs.Cell.{Cell, fresh_cell, Taken, cell_takes, arm_at_once, heard_of}
 use Rattle.run_safety.specs.Actings.{Acting, fresh_acting, was_made}
 use Rattle.node_history.specs.Moving.{Placed}
 use Rattle.node_history.specs.Same.{same_request}
@@ -29,7 +29,7 @@ pub record World : Type 0 where
   pub nodes : ℕ
   pub cells : List Cell
   pub actors : List Acting
-  -- the operator's number as a caller, behind those of the actors
+  -- the operator's number as a caller, after those of the actors
   pub operator : ℕ
   -- all that reached the nodes, in order
   pub trace : List Placed
@@ -47,20 +47,20 @@ acting_at actor w = slice_index_or w.actors actor (fresh_acting w.nodes)
 unfoldable pub history_in : ℕ → World → List HistoryLine
 history_in node w = map (λ x. x.line) (filter (λ x. x.node == node) w.trace)
 
--- what is seen of an event, and the world behind it
+-- what is seen of an event, and the world after it
 pub record Stepped : Type 0 where
   pub seen : Seen
   pub world : World
 
-abbrev pub done : World → Stepped
-done w = record { seen = seen.Done; world = w }
+abbrev pub answer_done : World → Stepped
+answer_done w = record { seen = seen.Done; world = w }
 
 abbrev pub not_next : World → Stepped
 not_next w = record { seen = seen.NotNext; world = w }
 
 -- ## What reaches a node
 abbrev pub taken_at : ℕ → Option ℕ → NodeAsk → World → Taken
-taken_at node stop ask w = cell_takes (stopping stop (cell_at node w)) ask
+taken_at node stop ask w = cell_takes (arm_at_once stop (cell_at node w)) ask
 
 unfoldable pub node_asked : ℕ → ℕ → Bool → Option ℕ → NodeAsk → World → World
 node_asked node caller muted stop ask w =
@@ -77,7 +77,7 @@ abbrev pub with_writer : WriterView → Acting → Acting
 with_writer v x = record x { writer = v }
 
 abbrev pub task_begun : Begun → ℕ → WriterView → World → Stepped
-task_begun begun.Going actor v w = done (with_acting actor (with_writer v (acting_at actor w)) w)
+task_begun begun.Going actor v w = answer_done (with_acting actor (with_writer v (acting_at actor w)) w)
 task_begun begun.NotActive actor v w = not_next w
 task_begun (begun.TooLong number) actor v w = not_next w
 
@@ -124,12 +124,12 @@ called_by false true fate actor node r w =
     }
 called_by false false fate actor node r w = not_next w
 
-abbrev pub called : Fate → ℕ → ℕ → Request → World → Stepped
-called fate actor node r w = called_by (is_reading r) (is_call node r (next_call (acting_at actor w).writer)) fate actor node r w
+abbrev pub take_call : Fate → ℕ → ℕ → Request → World → Stepped
+take_call fate actor node r w = called_by (is_reading r) (is_call node r (next_call (acting_at actor w).writer)) fate actor node r w
 
 -- ## A late copy
 abbrev pub copied_when : Bool → ℕ → ℕ → Request → Option ℕ → World → Stepped
-copied_when true actor node r stop w = done (node_asked node actor false stop (ask.Act true r) w)
+copied_when true actor node r stop w = answer_done (node_asked node actor false stop (ask.Act true r) w)
 copied_when false actor node r stop w = not_next w
 
 -- ## A kill, a restart, an arming
@@ -137,19 +137,19 @@ abbrev pub seen_of : NodeAnswer → Seen
 seen_of answer.Idle = seen.Idle
 seen_of _ = seen.Done
 
-abbrev pub operated : ℕ → NodeAsk → World → Stepped
-operated node ask w = record { seen = seen_of (taken_at node None ask w).answer; world = node_asked node w.operator false None ask w }
+abbrev pub take_operation : ℕ → NodeAsk → World → Stepped
+take_operation node ask w = record { seen = seen_of (taken_at node None ask w).answer; world = node_asked node w.operator false None ask w }
 
 -- ## One event
 unfoldable pub world_step : World → Event → Stepped
 world_step w (Begin actor task) = task_begins (is_under_way (acting_at actor w).writer.phase) actor task w
-world_step w (Call actor node r fate) = called fate actor node r w
+world_step w (Call actor node r fate) = take_call fate actor node r w
 world_step w (Late actor node r stop) = copied_when (was_made node r (acting_at actor w).calls) actor node r stop w
-world_step w (Kill node) = operated node ask.Kill w
-world_step w (Restart node) = operated node ask.Restart w
-world_step w (Arm node calls stop) = operated node (ask.Arm calls stop) w
-world_step w (GiveUp actor) = done (with_acting actor (with_writer (writer_stopped (acting_at actor w).writer) (acting_at actor w)) w)
-world_step w (Checkpoint actor) = done w
+world_step w (Kill node) = take_operation node ask.Kill w
+world_step w (Restart node) = take_operation node ask.Restart w
+world_step w (Arm node calls stop) = take_operation node (ask.Arm calls stop) w
+world_step w (GiveUp actor) = answer_done (with_acting actor (with_writer (writer_stopped (acting_at actor w).writer) (acting_at actor w)) w)
+world_step w (Checkpoint actor) = answer_done w
 
 unfoldable pub world_after : World → List Event → World
 world_after w [] = w

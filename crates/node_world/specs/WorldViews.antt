@@ -40,7 +40,7 @@ pub record StandsFor (v : WorldView) (w : World) : Type 0 where
   pub world : bare v ≡ record w { trace = [] }
   pub histories : (node : ℕ) → IsWithin w.nodes node → (view_at node v.cells).history ≡ history_in node w
 
--- whichever world it stood for, it now stands for the one behind the event, and this is what is seen of the event
+-- whichever world it stood for, it now stands for the one after the event, and this is what is seen of the event
 pub record IsStepFrom (w : World) (event : Event) (s : Seen) (new : WorldView) : Type 0 where
   pub seen : s ≡ (world_step w event).seen
   pub world : StandsFor new (world_step w event).world
@@ -49,7 +49,7 @@ abbrev pub Steps : WorldView → Event → Seen → WorldView → Type 0
 Steps old event s new = (w : World) → StandsFor old w → IsStepFrom w event s new
 
 -- ## Parts of a step
--- the cells behind it are that world's, and each history grew by its part of the trace
+-- the cells after it are that world's, and each history grew by its part of the trace
 pub record CellsGo (old : List CellView) (w : World) (new : List CellView) : Type 0 where
   pub same : length new ≡ length old
   pub cells : map (λ c. c.cell) new ≡ w.cells

@@ -12,6 +12,6 @@ pub enum Seen {
     Idle,
     /// The event can't come now, and nothing changed.
     NotNext,
-    /// Want of memory.
+    /// Out of memory.
     OutOfMemory,
 }

@@ -1,6 +1,6 @@
 // The journal world, event by event.
 ghost use Rattle.std.specs.Prelude.{◌≡◌, ◌<◌, IfOk, OnOk, length, true, false, Some, None, option_map, map, replicate};
-ghost use Rattle.node_world.specs.World.{IsWithin, IsEvent, operated, seen_of, acting_at, is_call, is_reading, called_by, called, copied_when, task_begins, with_acting, with_writer, done, Stepped, world_step, new_world};
+ghost use Rattle.node_world.specs.World.{IsWithin, IsEvent, take_operation, seen_of, acting_at, is_call, is_reading, called_by, take_call, copied_when, task_begins, with_acting, with_writer, answer_done, Stepped, world_step, new_world};
 ghost use Rattle.node_history.specs.Cell.{heard_of};
 ghost use Rattle.run_safety.specs.Actings.{was_made, fresh_acting};
 ghost use Rattle.node_world.specs.WorldViews.{bare, new_view, StandsFor, view_at, IsAsked, IsDelivered, HasReached, IsStepped, IsSameSize, Steps};
@@ -11,7 +11,8 @@ ghost use Rattle.writer_core.specs.Writer.{next_call, is_under_way, writer_stopp
 
 use crate::actor::Actor;
 use crate::seen::Seen;
-use journal_core::{CutNode, Heard, OutOfMemory, PlainNode, Request, SharedRequest};
+use journal_core::{CutNode, Heard, OutOfMemory, Request, SharedRequest};
+use memory_node::PlainNode;
 use node_history::{Event, Fate, HistoryLine, NodeAnswer, NodeAsk, NodeCell, cells_of};
 use std::alloc::Global;
 use std::marker::Model;
@@ -108,7 +109,7 @@ fn nodes_of<N: CutNode + Drop>(
 }
 
 impl World<PlainNode> {
-    /// That many fresh nodes in memory, and that many actors that made no call; the operator's number is behind theirs.
+    /// That many fresh nodes in memory, and that many actors that made no call; the operator's number is after theirs.
     #[tactic(auto, using(crate::proofs::WorldStands::new_stands))]
     pub fn new(alloc: Global, nodes: usize, actors: u32) -> Result<World<PlainNode>, OutOfMemory>
         ensures view { IfOk result (λ world. world ≡ new_view nodes actors) }
@@ -124,7 +125,7 @@ impl World<PlainNode> {
 }
 
 impl<N: CutNode + Drop> World<N> {
-    /// These nodes, and that many actors that made no call; the operator's number is behind theirs. Each node is fresh, steady,
+    /// These nodes, and that many actors that made no call; the operator's number is after theirs. Each node is fresh, steady,
     /// and tells its state.
     #[tactic(auto, using(crate::proofs::WorldStands::new_stands))]
     pub fn of(alloc: Global, nodes: Vec<N>, actors: u32) -> Result<World<N>, OutOfMemory>
@@ -200,7 +201,7 @@ impl<N: CutNode> World<N> {
     #[tactic(auto, using(crate::proofs::WorldCode::operated_steps))]
     fn operate(&mut self, alloc: Global, node: usize, ask: NodeAsk) -> Result<Seen, OutOfMemory>
         requires { IsWithin (length self.old.cells) node }
-        ensures stepped { IfOk result (λ s. IsStepped self.old (operated node ask (bare self.old)) s self.new) }
+        ensures stepped { IfOk result (λ s. IsStepped self.old (take_operation node ask (bare self.old)) s self.new) }
         ensures size { IsSameSize self.old self.new }
         ensures memory { self.new.lacks_memory ≡ self.old.lacks_memory }
     {
@@ -340,7 +341,7 @@ impl<N: CutNode> World<N> {
     ) -> Result<Seen, OutOfMemory>
         requires there { actor < length self.old.actors }
         requires within { IsWithin (length self.old.cells) node }
-        ensures stepped { IfOk result (λ s. IsStepped self.old (called fate actor node request (bare self.old)) s self.new) }
+        ensures stepped { IfOk result (λ s. IsStepped self.old (take_call fate actor node request (bare self.old)) s self.new) }
         ensures size { IsSameSize self.old self.new }
         ensures memory { self.new.lacks_memory ≡ self.old.lacks_memory }
     {
@@ -395,7 +396,7 @@ impl<N: CutNode> World<N> {
     /// An actor's writer gives up.
     fn give_up(&mut self, actor: u32)
         requires there { actor < length self.old.actors }
-        ensures stepped { IsStepped self.old (done (with_acting actor (with_writer (writer_stopped (acting_at actor (bare self.old)).writer) (acting_at actor (bare self.old))) (bare self.old))) Seen.Done self.new }
+        ensures stepped { IsStepped self.old (answer_done (with_acting actor (with_writer (writer_stopped (acting_at actor (bare self.old)).writer) (acting_at actor (bare self.old))) (bare self.old))) Seen.Done self.new }
         ensures size { IsSameSize self.old self.new }
         ensures memory { self.new.lacks_memory ≡ self.old.lacks_memory }
     {

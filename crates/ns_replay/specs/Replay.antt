@@ -57,7 +57,7 @@ unfoldable pub applied : ℕ → List (List ℕ) → Space → Applied
 applied t [] s = All s t
 applied t (body ∷ bodies) s = applied_next (entered (t + 1) body s) t s (applied (t + 1) bodies)
 
--- what a replay of a batch answers and leaves; for want of memory it may end after any number of bodies
+-- what a replay of a batch answers and leaves; for lack of memory it may end after any number of bodies
 abbrev pub IsReplayed : Space → BatchView → Replayed → Space → Type 0
 IsReplayed s b told.Done z = applied (b.first - 1) b.bodies s ≡ All z (last_txid b)
 IsReplayed s b (told.BadEntry txid) z = applied (b.first - 1) b.bodies s ≡ BadEntry z txid

@@ -19,7 +19,7 @@ use qj_num::OutOfMemory;
 use std::alloc::Global;
 
 /// Applies an edit that the namespace admits, as the entry of this txid. All memory is taken before the first
-/// change; after an `Err`, which is want of memory or of room for one more row, all is as before. Where nothing is added there is
+/// change; after an `Err`, which is lack of memory or of room for one more row, all is as before. Where nothing is added there is
 /// no `Err`.
 pub fn apply(alloc: Global, ns: &mut Namespace, edit: Edit, txid: u64) -> Result<(), OutOfMemory>
     requires admitted { admit_of ns.old edit ≡ None }

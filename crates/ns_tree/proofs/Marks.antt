@@ -79,16 +79,6 @@ kept gone xs n h = drop-append-le gone xs (n ∷ []) h
 longer : (gone : ℕ) (xs : List Noted) (n : Noted) → gone ≤ length xs → length (drop gone xs ++ n ∷ []) ≡ length xs - gone + 1
 longer gone xs n h = let all = length-append (drop gone xs) (n ∷ []) in let left = length-drop gone xs in omega (arith, all, left, h)
 
-pub last_stay : (gone : ℕ) (xs : List Noted) (n : Noted) → gone ≤ length xs → length xs - gone < 1024 → drop gone (xs ++ n ∷ []) ≡ last_calls (drop gone xs ++ n ∷ [])
-last_stay gone xs n h few =
-    let none : length (drop gone xs ++ n ∷ []) - 1024 ≡ 0 = omega (arith, longer gone xs n h, few) in
-    kept gone xs n h ∙ sym (ap (λ (k : ℕ). drop k (drop gone xs ++ n ∷ [])) none)
-
-pub oldest_goes : (gone : ℕ) (xs : List Noted) (n : Noted) → gone ≤ length xs → length xs - gone ≡ 1024 → drop (gone + 1) (xs ++ n ∷ []) ≡ last_calls (drop gone xs ++ n ∷ [])
-oldest_goes gone xs n h full =
-    let one : length (drop gone xs ++ n ∷ []) - 1024 ≡ 1 = omega (arith, longer gone xs n h, full) in
-    sym (drop-drop 1 gone (xs ++ n ∷ [])) ∙ ap (drop 1) (kept gone xs n h) ∙ sym (ap (λ (k : ℕ). drop k (drop gone xs ++ n ∷ [])) one)
-
 -- a call whose mark tells a txid before the first of the list
 pub none_marked : (call : Call) (marks : List ℕ) (mark to : ℕ) (ns : List Noted) (d : Noted) → AreMarked marks ns → AreRising 0 to ns → mark_of call < length marks → mark ≡ get_or marks (mark_of call) mark → nat_le (get_or ns 0 d).txid mark ≡ false → txid_of call ns ≡ None
 none_marked call marks mark to [] d m r h is before = refl

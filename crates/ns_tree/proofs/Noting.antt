@@ -26,10 +26,6 @@ pub rising_later : (above to later : ℕ) (ns : List Noted) → to ≤ later →
 rising_later above to later [] le h = omega (arith, le, h)
 rising_later above to later (n ∷ ns) le h = (h.0, rising_later n.txid to later ns le h.1)
 
-rising_bound : (above to : ℕ) (ns : List Noted) → AreRising above to ns → above ≤ to
-rising_bound above to [] h = h
-rising_bound above to (n ∷ ns) h = let rest : n.txid ≤ to = rising_bound n.txid to ns h.1 in omega (arith, h.0, rest)
-
 pub rising_drop : (k above to : ℕ) (ns : List Noted) → AreRising above to ns → AreRising above to (drop k ns)
 rising_drop zero above to [] h = h
 rising_drop (suc k) above to [] h = h
@@ -41,11 +37,6 @@ rising_snoc above to [] call h = (omega (arith, h), omega arith)
 rising_snoc above to (n ∷ ns) call h = (h.0, rising_snoc n.txid to ns call h.1)
 
 -- ## Distinct
-others_drop : (k : ℕ) (call : Call) (ns : List Noted) → AreOtherCalls call ns → AreOtherCalls call (drop k ns)
-others_drop zero call [] h = tt
-others_drop (suc k) call [] h = tt
-others_drop zero call (n ∷ ns) h = h
-others_drop (suc k) call (n ∷ ns) h = others_drop k call ns h.1
 
 pub distinct_drop : (k : ℕ) (ns : List Noted) → AreDistinct ns → AreDistinct (drop k ns)
 distinct_drop zero [] h = tt
@@ -102,16 +93,6 @@ last_room ns n h =
     let len = one_longer ns n in
     let none : length (ns ++ n ∷ []) - 1024 ≡ 0 = omega (arith, len) in
     ap (λ (k : ℕ). drop k (ns ++ n ∷ [])) none
-
-pub last_full : (ns : List Noted) (n : Noted) → length ns ≡ 1024 → last_calls (ns ++ n ∷ []) ≡ remove ns 0 ++ n ∷ []
-last_full ns n h =
-    let len = one_longer ns n in
-    let one : length (ns ++ n ∷ []) - 1024 ≡ 1 = omega (arith, len) in
-    ap (λ (k : ℕ). drop k (ns ++ n ∷ [])) one ∙ first_gone ns h
-  where
-    first_gone : (ms : List Noted) → length ms ≡ 1024 → drop 1 (ms ++ n ∷ []) ≡ remove ms 0 ++ n ∷ []
-    first_gone [] h = absurd (omega arith)
-    first_gone (m ∷ ms) h = refl
 
 -- the txids rise up to the last one that was noted
 pub rising_noted : (call : Call) (txid : ℕ) (ns : List Noted) → 1 ≤ txid → AreRising 0 (txid - 1) ns → AreRising 0 txid (noted call txid ns)

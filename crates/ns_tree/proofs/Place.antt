@@ -44,10 +44,6 @@ pub each_map : (P Q : Row → Type 0) → ((x : Row) → P x → Q x) → (xs : 
 each_map P Q f [] e = tt
 each_map P Q f (x ∷ xs) e = (f x e.0, each_map P Q f xs e.1)
 
-pub each_left : (P : Row → Type 0) (xs ys : List Row) → Each P (xs ++ ys) → Each P xs
-each_left P [] ys e = tt
-each_left P (x ∷ xs) ys e = (e.0, each_left P xs ys e.1)
-
 pub each_right : (P : Row → Type 0) (xs ys : List Row) → Each P (xs ++ ys) → Each P ys
 each_right P [] ys e = e
 each_right P (x ∷ xs) ys e = each_right P xs ys e.1
@@ -60,21 +56,9 @@ order_at (x ∷ xs) o i zero d h l = absurd (omega arith)
 order_at (x ∷ xs) o zero (suc j) d h l = each_at (λ y. walk_cmp x.path y.path ≡ Less) xs o.0 j d (omega arith)
 order_at (x ∷ xs) o (suc i) (suc j) d h l = order_at xs o.1 i j d (omega arith) (omega arith)
 
-pub order_left : (xs ys : List Row) → IsInWalkOrder (xs ++ ys) → IsInWalkOrder xs
-order_left [] ys o = tt
-order_left (x ∷ xs) ys o = (each_left (λ y. walk_cmp x.path y.path ≡ Less) xs ys o.0, order_left xs ys o.1)
-
 pub order_right : (xs ys : List Row) → IsInWalkOrder (xs ++ ys) → IsInWalkOrder ys
 order_right [] ys o = o
 order_right (x ∷ xs) ys o = order_right xs ys o.1
-
--- two parts of which the first ends before p and the second begins after p
-pub order_join : (p : List ℕ) (xs ys : List Row) → IsInWalkOrder xs → IsInWalkOrder ys → Each (λ x. walk_cmp x.path p ≡ Less) xs → Each (λ y. walk_cmp p y.path ≡ Less) ys → IsInWalkOrder (xs ++ ys)
-order_join p [] ys o q e f = q
-order_join p (x ∷ xs) ys o q e f = (
-  each_append (λ y. walk_cmp x.path y.path ≡ Less) xs ys o.0 (each_map (λ y. walk_cmp p y.path ≡ Less) (λ y. walk_cmp x.path y.path ≡ Less) (λ y h. walk_cmp_total.trans x.path p y.path e.0 h) ys f),
-  order_join p xs ys o.1 q e.1 f,
-)
 
 -- ---- a search
 
@@ -178,9 +162,6 @@ pub after_none : (p : List ℕ) (xs : List Row) → Each (λ x. walk_cmp x.path 
 after_none p [] e = refl
 after_none p (x ∷ xs) e = rw (turned_less x.path p e.0) (after_none p xs e.1)
 
-filter-parts : (f : Row → Bool) (xs ys : List Row) → filter f (xs ++ ys) ≡ filter f xs ++ filter f ys
-filter-parts f xs ys = filter-append f xs ys
-
 pub put_gap : (xs : List Row) (p : List ℕ) (i : ℕ) (inode : Inode) → IsGapFor xs p i → put p inode xs ≡ insert xs i (pair p inode)
 put_gap xs p i inode gap =
     let before : pairs_before p xs ≡ take i xs =
@@ -190,20 +171,6 @@ put_gap xs p i inode gap =
     subst (λ ys. pairs_after p ys ≡ drop i xs) (take-append-drop i xs)
     (filter-append _ (take i xs) (drop i xs) ∙ rw (after_none p (take i xs) gap.below, after_kept p (drop i xs) gap.above) refl) in
     rw (before, after) (append_assoc (take i xs) (pair p inode ∷ []) (drop i xs))
-
-pub order_insert : (xs : List Row) (p : List ℕ) (i : ℕ) (inode : Inode) → IsInWalkOrder xs → IsGapFor xs p i → IsInWalkOrder (insert xs i (pair p inode))
-order_insert xs p i inode ordered gap =
-    let parts : IsInWalkOrder (take i xs ++ drop i xs) = subst IsInWalkOrder (sym (take-append-drop i xs)) ordered in
-    let left = order_left (take i xs) (drop i xs) parts in
-    let right = order_right (take i xs) (drop i xs) parts in
-    by (take i xs) (drop i xs) left right gap.below gap.above
-  where
-    by : (front bs : List Row) → IsInWalkOrder front → IsInWalkOrder bs → Each (λ x. walk_cmp x.path p ≡ Less) front → Each (λ x. walk_cmp p x.path ≡ Less) bs → IsInWalkOrder (front ++ pair p inode ∷ bs)
-    by [] bs o q e f = (f, q)
-    by (a ∷ front) bs o q e f = (
-      each_append (λ y. walk_cmp a.path y.path ≡ Less) front (pair p inode ∷ bs) o.0 (e.0, each_map (λ y. walk_cmp p y.path ≡ Less) (λ y. walk_cmp a.path y.path ≡ Less) (λ y h. walk_cmp_total.trans a.path p y.path e.0 h) bs f),
-      by front bs o.1 q e.1 f,
-    )
 
 -- ---- another inode at a path
 
@@ -229,9 +196,6 @@ change_at_index xs p f i d at =
     subst (λ ys. change_at p f ys ≡ take i xs ++ pair x.path (f x.inode) ∷ drop (i + 1) xs) (split_at i xs d at.in_range)
     (parts ∙ rw (change_before p f (take i xs) at.below, here) refl) in
     whole ∙ sym (set_split i xs (pair x.path (f x.inode)) at.in_range)
-
-pub change_there : (xs : List Row) (p : List ℕ) (f : Inode → Inode) (i : ℕ) (x : Row) → x ≡ get_or xs i x → IsAt xs p i → change_at p f xs ≡ set xs i (pair x.path (f x.inode))
-change_there xs p f i x is at = subst (λ y. change_at p f xs ≡ set xs i (pair y.path (f y.inode))) (sym is) (change_at_index xs p f i x at)
 
 pub change_gap : (xs : List Row) (p : List ℕ) (f : Inode → Inode) (i : ℕ) → IsGapFor xs p i → change_at p f xs ≡ xs
 change_gap xs p f i gap =

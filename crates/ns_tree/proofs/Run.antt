@@ -27,8 +27,6 @@ subtree_between xs p i end long ordered at part =
     subtree_run xs p i (end - i) long ordered at (rw sum part)
 
 -- ## The longest path
-pub longest_none : (xs : List Row) (i end : ℕ) → i ≡ end → longest_of (take (end - i) (drop i xs)) ≡ 0
-longest_none xs i end e = let none : end - i ≡ 0 = omega (arith, e) in rw none refl
 
 pub longest_step : (xs : List Row) (i end : ℕ) (x : Row) → x ≡ get_or xs i x → i < end → end ≤ length xs → take (end - i) (drop i xs) ≡ x ∷ take (end - (i + 1)) (drop (i + 1) xs)
 longest_step xs i end x is h l =

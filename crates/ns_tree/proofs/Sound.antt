@@ -20,16 +20,6 @@ pairs_of s h = record { pairs = h.pairs; root = h.root }
 pub sound_pairs : (s : Space) (xs : List Row) → IsTree s → IsInWalkOrder xs → AreKept xs → IsTree (record s { pairs = xs })
 sound_pairs s xs h order k = record { ordered = order; pairs = k.pairs; root = k.root; few = h.few; rising = h.rising; distinct = h.distinct }
 
-pub empty_sound : IsTree empty_space
-empty_sound = record {
-  ordered = (tt, tt);
-  pairs = (record { path = refl; short = omega arith; inode = (omega arith, omega arith, refl, refl, omega arith, omega arith); parent = refl }, tt);
-  root = refl;
-  few = omega arith;
-  rising = omega arith;
-  distinct = tt;
-}
-
 -- ## Paths of a namespace
 pub path_long : (p : List ℕ) → is_path p ≡ true → 0 < length p
 path_long [] e = absurd (cc e)

@@ -31,9 +31,9 @@ given_none zero xs = refl
 given_none (suc f) [] = refl
 given_none (suc f) (x ∷ xs) = ap (λ (zs : List Row). x ∷ zs) (given_none f xs)
 
-given_behind : (ns : List (List ℕ)) (ys zs : List Row) → given (length ys) ns (ys ++ zs) ≡ ys ++ named ns zs
-given_behind ns [] zs = refl
-given_behind ns (y ∷ ys) zs = ap (λ (ws : List Row). y ∷ ws) (given_behind ns ys zs)
+given_after : (ns : List (List ℕ)) (ys zs : List Row) → given (length ys) ns (ys ++ zs) ≡ ys ++ named ns zs
+given_after ns [] zs = refl
+given_after ns (y ∷ ys) zs = ap (λ (ws : List Row). y ∷ ws) (given_after ns ys zs)
 
 pub named_map : (f : Row → List ℕ) (xs : List Row) → named (map f xs) xs ≡ map (λ x. pair (f x) x.inode) xs
 named_map f [] = refl
@@ -70,15 +70,12 @@ pub rest_length : (xs : List Row) (at end : ℕ) → at ≤ end → end ≤ leng
 rest_length xs at end le h =
     omega (arith, le, h, length-append (take at xs) (drop end xs), length-take-le at xs (omega (arith, le, h)), length-drop end xs)
 
-run_length : (xs : List Row) (at end : ℕ) → at ≤ end → end ≤ length xs → length (take (end - at) (drop at xs)) ≡ end - at
-run_length xs at end le h = length-take-le (end - at) (drop at xs) (omega (arith, le, h, length-drop at xs))
-
 -- and gets its paths there
 pub given_last_run : (xs : List Row) (at end : ℕ) (ns : List (List ℕ)) (rest : ℕ) (turned : List Row) → at ≤ end → end ≤ length xs → rest ≡ length xs - (end - at) → turned ≡ take at xs ++ (drop (end - at) (drop at xs) ++ take (end - at) (drop at xs)) → given rest ns turned ≡ (take at xs ++ drop end xs) ++ named ns (take (end - at) (drop at xs))
 given_last_run xs at end ns rest turned le h e is =
     let size : rest ≡ length (take at xs ++ drop end xs) = e ∙ sym (rest_length xs at end le h) in
     let whole : turned ≡ (take at xs ++ drop end xs) ++ take (end - at) (drop at xs) = is ∙ turned_last xs at end le h in
-    rw (whole, size) (given_behind ns (take at xs ++ drop end xs) (take (end - at) (drop at xs)))
+    rw (whole, size) (given_after ns (take at xs ++ drop end xs) (take (end - at) (drop at xs)))
 
 pub whole_length : (ys : List Row) (ns : List (List ℕ)) (zs : List Row) → length ns ≡ length zs → length (ys ++ named ns zs) ≡ length ys + length zs
 whole_length ys ns zs e = length-append ys (named ns zs) ∙ ap (λ (k : ℕ). length ys + k) (named_length ns zs e)

@@ -54,14 +54,14 @@ all_bodies bs = flat_map (λ b. b.bodies) bs
 cons_same : {A : Type 0} (b c : A) (bs cs : List A) → b ≡ c → bs ≡ cs → b ∷ bs ≡ c ∷ cs
 cons_same b c bs cs p q = cc
 
--- the bytes behind the header are the frames, and the rest
+-- the bytes after the header are the frames, and the rest
 pub rest_of : (bytes : List ℕ) (start : ℕ) (edits : List EditView) (end : ℕ) (b : Begins bytes start edits end) → flat_map frame_bytes b.frames.batches ++ drop end bytes ≡ drop 24 bytes
 rest_of bytes start edits end b =
     let d : drop end bytes ≡ drop b.behind (drop 24 bytes) = ap (λ (n : ℕ). drop n bytes) b.end_is ∙ sym (drop-drop b.behind 24 bytes) in
     ap (λ (z : List ℕ). z ++ drop end bytes) (sym b.frames.spelled) ∙ (ap (λ (z : List ℕ). take b.behind (drop 24 bytes) ++ z) d ∙ take-append-drop b.behind (drop 24 bytes))
 
-pub behind_of : (bytes : List ℕ) (start : ℕ) (edits : List EditView) (end : ℕ) (b : Begins bytes start edits end) → b.behind ≡ length (flat_map frame_bytes b.frames.batches)
-behind_of bytes start edits end b = sym (length-take-le b.behind (drop 24 bytes) b.frames.there) ∙ ap length b.frames.spelled
+pub after_of : (bytes : List ℕ) (start : ℕ) (edits : List EditView) (end : ℕ) (b : Begins bytes start edits end) → b.behind ≡ length (flat_map frame_bytes b.frames.batches)
+after_of bytes start edits end b = sym (length-take-le b.behind (drop 24 bytes) b.frames.there) ∙ ap length b.frames.spelled
 
 pub record SameEnd (bs cs : List BatchView) (x y : List ℕ) : Type 0 where
   pub batches : bs ≡ cs
@@ -110,7 +110,7 @@ one_begin bytes s t es fs end last a b ha hb =
     (subst (AllByRecursion HasEdit) a.frames.bodies_are (each_has a.bodies es a.are)) (subst (AllByRecursion HasEdit) b.frames.bodies_are (each_has b.bodies fs b.are))
     (ea ∙ sym eb) (omega (arith, la)) (omega (arith, lb, st)) ha hb in
     let bodies : a.bodies ≡ b.bodies = a.frames.bodies_are ∙ (ap all_bodies same.batches ∙ sym b.frames.bodies_are) in
-    let ends : a.behind ≡ b.behind = behind_of bytes s es end a ∙ (ap (λ (z : List BatchView). length (flat_map frame_bytes z)) same.batches ∙ sym (behind_of bytes t fs last b)) in
+    let ends : a.behind ≡ b.behind = after_of bytes s es end a ∙ (ap (λ (z : List BatchView). length (flat_map frame_bytes z)) same.batches ∙ sym (after_of bytes t fs last b)) in
     record {
       same_start = st;
       same_edits = one_list b.bodies es fs (subst (λ (z : List (List ℕ)). AreRecords z es) bodies a.are) b.are;

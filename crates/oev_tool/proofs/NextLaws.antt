@@ -89,12 +89,12 @@ pub tells_here : (start : ℕ) (edits : List EditView) (old new : Reader) (entry
 tells_here start edits old new entry result next s is at =
     tells start edits old old new entry result (in_frame start edits old entry.body.now new.ahead.bodies at next.body) refl (stands start edits old at) next s is
 
--- behind the gate of a frame that was entered
+-- after the gate of a frame that was entered
 pub tells_there : (start : ℕ) (edits : List EditView) (old r new : Reader) (entry : Entry) (result : Result (Option (ℕ × EditView)) Fault) → Between start edits old
     → Enters start edits old r → IsNext r.ahead entry new.ahead → StandsStill r new → IsTelling entry result → IsNextEdit start edits old result new
 tells_there start edits old r new entry result b e next s is = tells start edits old r new entry result e.at e.same b.ahead_is next s is
 
--- behind the frames so far
+-- after the frames so far
 as_before : (start : ℕ) (edits : List EditView) (old mid new : Reader) (result : Result (Option (ℕ × EditView)) Fault) → mid.bytes ≡ old.bytes → mid.ahead.txid ≡ old.ahead.txid
     → IsNextEdit start edits mid result new → IsNextEdit start edits old result new
 as_before start edits old mid new (Ok (Some told)) eb ea p = record {
@@ -110,7 +110,7 @@ as_before start edits old mid new (Ok None) eb ea s = subst (λ (z : List ℕ). 
 as_before start edits old mid new (Err (Damage place cause)) eb ea d = subst (λ (z : List ℕ). IsDamaged z place cause) eb d
 as_before start edits old mid new (Err Memory) eb ea t = tt
 
-pub tells_behind : (start : ℕ) (edits : List EditView) (old mid new : Reader) (result : Result (Option (ℕ × EditView)) Fault) → old.ahead.bodies ≡ [] → mid.ahead ≡ old.ahead → StandsStill old mid
+pub tells_after : (start : ℕ) (edits : List EditView) (old mid new : Reader) (result : Result (Option (ℕ × EditView)) Fault) → old.ahead.bodies ≡ [] → mid.ahead ≡ old.ahead → StandsStill old mid
     → (Between start edits mid → IsNextEdit start edits mid result new) → IsAt start edits old → IsNextEdit start edits old result new
-tells_behind start edits old mid new result h e s f at =
+tells_after start edits old mid new result h e s f at =
     as_before start edits old mid new result s.bytes (ap (λ (v : EntriesView). v.txid) e) (f (still start edits old mid (at_end start edits old at h) s e))

@@ -51,7 +51,7 @@ one_stand next bytes end p q c d (edit f s g records body others done are e wron
       same_cause = one_cause body' c d (subst (λ (b : List ℕ). IsBadBody b c) m.1 wrong) wrong';
     }
 
--- behind a header: damage, by where the whole frames of edits end
+-- after a header: damage, by where the whole frames of edits end
 record Damaged (bytes : List ℕ) (place : ℕ) (cause : ByteCause) : Type 0 where
   start : ℕ
   edits : List EditView
@@ -77,8 +77,8 @@ moved bytes place cause s t es fs end last st ef el stand =
     let n : s + length es ≡ t + length fs = omega (arith, st, ap length ef) in
     subst (λ (m : ℕ). Stand m bytes last place cause) n (subst (λ (m : ℕ). Stand (s + length es) bytes m place cause) el stand)
 
-one_damage_behind : (bytes : List ℕ) (p q : ℕ) (c d : ByteCause) → Damaged bytes p c → Damaged bytes q d → SameDamage p q c d
-one_damage_behind bytes p q c d a b =
+one_damage_after : (bytes : List ℕ) (p q : ℕ) (c d : ByteCause) → Damaged bytes p c → Damaged bytes q d → SameDamage p q c d
+one_damage_after bytes p q c d a b =
     let same = one_begin bytes a.start b.start a.edits b.edits a.end b.end a.begins b.begins
     (stand_halts (a.start + length a.edits) bytes a.end p c a.stand) (stand_halts (b.start + length b.edits) bytes b.end q d b.stand) in
     one_stand (b.start + length b.edits) bytes b.end p q c d
@@ -93,10 +93,10 @@ one_damage bytes p q c d (header h ep ec) (bad_frame of k e) = absurd (no_header
 one_damage bytes p q c d (header h ep ec) (bad_edit k) = absurd (no_header bytes q d h (of_edit bytes q d k))
 one_damage bytes p q c d (bad_frame of h e) (header k eq ed) = absurd (no_header bytes p c k (of_frame bytes p c of h e))
 one_damage bytes p q c d (bad_edit h) (header k eq ed) = absurd (no_header bytes p c k (of_edit bytes p c h))
-one_damage bytes p q c d (bad_frame of h e) (bad_frame of' k e') = one_damage_behind bytes p q c d (of_frame bytes p c of h e) (of_frame bytes q d of' k e')
-one_damage bytes p q c d (bad_frame of h e) (bad_edit k) = one_damage_behind bytes p q c d (of_frame bytes p c of h e) (of_edit bytes q d k)
-one_damage bytes p q c d (bad_edit h) (bad_frame of k e) = one_damage_behind bytes p q c d (of_edit bytes p c h) (of_frame bytes q d of k e)
-one_damage bytes p q c d (bad_edit h) (bad_edit k) = one_damage_behind bytes p q c d (of_edit bytes p c h) (of_edit bytes q d k)
+one_damage bytes p q c d (bad_frame of h e) (bad_frame of' k e') = one_damage_after bytes p q c d (of_frame bytes p c of h e) (of_frame bytes q d of' k e')
+one_damage bytes p q c d (bad_frame of h e) (bad_edit k) = one_damage_after bytes p q c d (of_frame bytes p c of h e) (of_edit bytes q d k)
+one_damage bytes p q c d (bad_edit h) (bad_frame of k e) = one_damage_after bytes p q c d (of_edit bytes p c h) (of_frame bytes q d of k e)
+one_damage bytes p q c d (bad_edit h) (bad_edit k) = one_damage_after bytes p q c d (of_edit bytes p c h) (of_edit bytes q d k)
 
 -- a segment's file, by where its whole frames end
 record Whole (bytes : List ℕ) (start : ℕ) (edits : List EditView) : Type 0 where
@@ -122,8 +122,8 @@ one_segment bytes s t es fs p q =
     let same = one_begin bytes s t es fs a.end b.end a.begins b.begins (halts_at_tail (s + length es) (drop a.end bytes) a.tail) (halts_at_tail (t + length fs) (drop b.end bytes) b.tail) in
     record { same_start = same.same_start; same_edits = same.same_edits }
 
-undamaged_behind : (bytes : List ℕ) (s : ℕ) (es : List EditView) (p : ℕ) (c : ByteCause) → IsSegment bytes s es → Damaged bytes p c → ⊥
-undamaged_behind bytes s es p c q b =
+undamaged_after : (bytes : List ℕ) (s : ℕ) (es : List EditView) (p : ℕ) (c : ByteCause) → IsSegment bytes s es → Damaged bytes p c → ⊥
+undamaged_after bytes s es p c q b =
     let a = whole_of bytes s es q in
     let same = one_begin bytes s b.start es b.edits a.end b.end a.begins b.begins (halts_at_tail (s + length es) (drop a.end bytes) a.tail)
     (stand_halts (b.start + length b.edits) bytes b.end p c b.stand) in
@@ -131,8 +131,8 @@ undamaged_behind bytes s es p c q b =
 
 pub undamaged : (bytes : List ℕ) (s : ℕ) (es : List EditView) (p : ℕ) (c : ByteCause) → IsSegment bytes s es → IsDamaged bytes p c → ⊥
 undamaged bytes s es p c q (header h ep ec) = h s q.epoch q.file.header
-undamaged bytes s es p c q (bad_frame of h e) = undamaged_behind bytes s es p c q (of_frame bytes p c of h e)
-undamaged bytes s es p c q (bad_edit h) = undamaged_behind bytes s es p c q (of_edit bytes p c h)
+undamaged bytes s es p c q (bad_frame of h e) = undamaged_after bytes s es p c q (of_frame bytes p c of h e)
+undamaged bytes s es p c q (bad_edit h) = undamaged_after bytes s es p c q (of_edit bytes p c h)
 
 -- ---- answers
 

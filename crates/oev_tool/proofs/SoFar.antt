@@ -45,7 +45,7 @@ counted_more bytes old new counts total h txid edit p after are sum e = record {
 pub no_header_read : (tell : ℕ → List EditView → List ℕ) (bytes : List ℕ) (fault : Fault) → HasNoHeader bytes → fault ≡ Damage 0 Header → IsRead tell bytes (Err fault)
 no_header_read tell bytes fault none e = subst (λ (f : Fault). IsRead tell bytes (Err f)) (sym e) (header none refl refl)
 
--- a reader stands behind a header
+-- a reader stands after a header
 at_header : (bytes : List ℕ) (start : ℕ) (edits : List EditView) (r : Reader) → IsAt start edits r → r.bytes ≡ bytes → HasNoHeader bytes → ⊥
 at_header bytes start edits r (between b) e none = none start b.begins.epoch (subst (λ z. HasHeader z start b.begins.epoch) e b.begins.header)
 at_header bytes start edits r (within w) e none = none start w.begins.epoch (subst (λ z. HasHeader z start w.begins.epoch) e w.begins.header)

@@ -34,7 +34,7 @@ cause_of_edit decoded.OutOfMemory = None
 abbrev pub HasNoHeader : List ℕ → Type 0
 HasNoHeader bytes = (start epoch : ℕ) → HasHeader bytes start epoch → ⊥
 
--- behind whole frames of edits stands a bad one; its gate is at the place
+-- after whole frames of edits stands a bad one; its gate is at the place
 pub record HasBadFrame (bytes : List ℕ) (place : ℕ) (cause : FrameCause) : Type 0 where
   pub start : ℕ
   pub edits : List EditView
@@ -47,7 +47,7 @@ pub record IsBadBody (body : List ℕ) (cause : ByteCause) : Type 0 where
   pub right : IsDecoded body answer
   pub told : cause_of_edit answer ≡ Some cause
 
--- Behind whole frames of edits stands a frame that breaks no rule. In it, behind records of edits, stands a body that is the
+-- After whole frames of edits stands a frame that breaks no rule. In it, after records of edits, stands a body that is the
 -- record of none, and begins at the place.
 pub record HasBadEdit (bytes : List ℕ) (place : ℕ) (cause : ByteCause) : Type 0 where
   pub start : ℕ

@@ -14,7 +14,7 @@ pub record IsTold {X : Type 0} (tell : ℕ → List EditView → List X) (bytes 
   pub segment : IsSegment bytes start edits
   pub spelled : text ≡ tell start edits
 
--- the right answer; want of memory is one everywhere
+-- the right answer; lack of memory is one everywhere
 abbrev pub IsListed : (ℕ → List EditView → List ℕ) → List ℕ → Listing → Type 0
 IsListed tell bytes (Text text) = IsTold tell bytes text.items
 IsListed tell bytes (BadBytes place cause) = IsDamaged bytes place cause

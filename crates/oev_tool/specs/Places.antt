@@ -28,14 +28,14 @@ abbrev pub ahead_of : ℕ → ℕ → Option EntriesView → EntriesView
 ahead_of txid end None = record { txid = txid; place = end; bodies = [] }
 ahead_of txid end (Some entries) = entries
 
--- behind these edits, all of them in whole frames
+-- after these edits, all of them in whole frames
 pub record Between (start : ℕ) (edits : List EditView) (r : Reader) : Type 0 where
   pub nothing : r.ahead.bodies ≡ []
   pub begins : Begins r.bytes start edits r.end
   pub txid_is : r.txid ≡ start + length edits
   pub ahead_is : r.ahead.txid ≡ start + length edits
 
--- behind these edits, the last of them in a frame that ends where the next is to be
+-- after these edits, the last of them in a frame that ends where the next is to be
 pub record Within (start : ℕ) (edits : List EditView) (r : Reader) : Type 0 where
   pub before : List EditView
   pub gate : ℕ
@@ -53,7 +53,7 @@ pub record Within (start : ℕ) (edits : List EditView) (r : Reader) : Type 0 wh
   pub ahead_is : r.ahead.txid ≡ start + length edits
   pub place_is : r.ahead.place ≡ gate + 17 + length (flat_map entry_bytes records)
 
--- the reader stands behind these edits
+-- the reader stands after these edits
 pub data IsAt (start : ℕ) (edits : List EditView) (r : Reader) : Type 0 where
   between : Between start edits r → IsAt start edits r
   within : Within start edits r → IsAt start edits r
@@ -94,7 +94,7 @@ pub record Passes (start : ℕ) (edits : List EditView) (old new : Reader) (txid
   pub before : old.ahead.txid ≡ txid
   pub behind : new.ahead.txid ≡ txid + 1
 
--- what a reader that stands behind these edits tells next
+-- what a reader that stands after these edits tells next
 abbrev pub IsNextEdit : ℕ → List EditView → Reader → Result (Option (ℕ × EditView)) Fault → Reader → Type 0
 IsNextEdit start edits old (Ok (Some told)) new = Passes start edits old new told.0 told.1
 IsNextEdit start edits old (Ok None) new = IsSegment old.bytes start edits

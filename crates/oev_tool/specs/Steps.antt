@@ -9,7 +9,7 @@ use Rattle.oev_tool.specs.Damage.{IsDamaged}
 use Rattle.oev_tool.specs.Listed.{IsTold}
 use Rattle.oev_tool.specs.Places.{Reader, IsAt}
 
--- the text, or what a text is made of, is what is told of the edits behind which a reader of these bytes stands
+-- the text, or what a text is made of, is what is told of the edits after which a reader of these bytes stands
 pub record IsListedSoFar {X : Type 0} (tell : ℕ → List EditView → List X) (bytes : List ℕ) (r : Reader) (text : List X) : Type 0 where
   pub start : ℕ
   pub edits : List EditView

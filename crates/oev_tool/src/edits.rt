@@ -59,7 +59,7 @@ fn told_by(alloc: Global, entry: Entry<'_>) -> Result<Option<(u64, Edit)>, Fault
 }
 
 impl<'a> Edits<'a> {
-    /// A reader behind the header of a segment's file; `None` where the bytes have none.
+    /// A reader after the header of a segment's file; `None` where the bytes have none.
     pub(crate) fn of(bytes: &'a [u8]) -> Option<Edits<'a>>
         ensures { MatchOption result (HasNoHeader bytes.now) (IsFresh bytes.now) }
     {
@@ -93,7 +93,7 @@ impl<'a> Edits<'a> {
         self.txid += count;
     }
 
-    // What stands behind the frames so far: nothing more, a bad frame, or the first edit of the next one.
+    // What stands after the frames so far: nothing more, a bad frame, or the first edit of the next one.
     fn next_frame(&mut self, alloc: Global) -> Result<Option<(u64, Edit)>, Fault>
         ensures { (start : ℕ) (edits : List EditView) → Between start edits self.old → IsNextEdit start edits self.old result self.new }
     {
@@ -113,7 +113,7 @@ impl<'a> Edits<'a> {
         }
     }
 
-    /// The next edit and its txid; `None` behind the last.
+    /// The next edit and its txid; `None` after the last.
     pub(crate) fn next(&mut self, alloc: Global) -> Result<Option<(u64, Edit)>, Fault>
         ensures { (start : ℕ) (edits : List EditView) → IsAt start edits self.old → IsNextEdit start edits self.old result self.new }
     {

@@ -17,7 +17,7 @@ pub enum ByteCause {
     Order,
     /// No kind of edit has the record's first byte.
     Opcode,
-    /// Bytes stand behind the fields of an edit's record.
+    /// Bytes stand after the fields of an edit's record.
     Trailing,
     /// A field of an edit's record breaks a rule.
     Field,

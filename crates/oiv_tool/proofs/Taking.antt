@@ -31,12 +31,6 @@ line_more rows row old new e f =
 
 -- ---- objects
 
-pub first_entry : (begun new : Written) (root : Row) → begun.before ≡ [] → begun.tokens ≡ Token.begin_array ∷ [] → (new.tokens ≡ begun.tokens ++ json_tokens (row_json root)) × (new.before ≡ begun.before) → HasEntries new (root ∷ [])
-first_entry begun new root before tokens added = record {
-  before = added.1 ∙ before;
-  tokens = added.0 ∙ (ap (λ (ts : List Token). ts ++ json_tokens (row_json root)) tokens ∙ ap (λ (ts : List Token). Token.begin_array ∷ ts) (sym (append-nil (json_tokens (row_json root)))));
-}
-
 pub entry_more : (rows : List Row) (row : Row) (old new : Written) → HasEntries old rows → (new.tokens ≡ old.tokens ++ json_tokens (row_json row)) × (new.before ≡ old.before) → HasEntries new (rows ++ row ∷ [])
 entry_more rows row old new h added = record {
   before = added.1 ∙ h.before;
@@ -44,9 +38,6 @@ entry_more rows row old new h added = record {
 }
 
 -- ---- counts
-
-pub first_room : (s : Tally) → AreSizes s [] → HasRoom s
-first_room s a = has_room s [] tt (omega arith) a
 
 pub first_counted : (s : Tally) (root : Row) → AreSizes s (root ∷ []) → IsInode root.inode → AreCounted s (root ∷ [])
 first_counted s root a inode = record { sizes = a; inodes = (inode, tt) }

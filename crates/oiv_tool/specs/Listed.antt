@@ -22,7 +22,7 @@ cause_of image.NoParent = Some causes.NoParent
 cause_of image.Trailing = Some causes.Trailing
 cause_of image.Digest = None
 
--- the right answer, by what the bytes are read as; want of memory is one everywhere
+-- the right answer, by what the bytes are read as; lack of memory is one everywhere
 abbrev pub IsAnswer : (List Row → List ℕ) → ReadImage → Listing → Type 0
 IsAnswer tell (Image space txid) (Text text) = text.items ≡ tell space.pairs
 IsAnswer tell (Image space txid) (BadBytes place cause) = ⊥

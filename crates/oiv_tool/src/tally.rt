@@ -23,6 +23,15 @@ pub(crate) struct Tally {
     pub bytes: u128,
 }
 
+/// The limits of the classes of sizes, in bytes: 1024 and its powers.
+const KILOBYTE: u128 = 1024;
+
+const MEGABYTE: u128 = 1_048_576;
+
+const GIGABYTE: u128 = 1_073_741_824;
+
+const TERABYTE: u128 = 1_099_511_627_776;
+
 // The first class whose limit the size doesn't exceed.
 fn class_of(size: u128) -> usize
     ensures class { result ≡ class_of size }
@@ -30,13 +39,13 @@ fn class_of(size: u128) -> usize
 {
     if size == 0 {
         0
-    } else if size <= 1024 {
+    } else if size <= KILOBYTE {
         1
-    } else if size <= 1_048_576 {
+    } else if size <= MEGABYTE {
         2
-    } else if size <= 1_073_741_824 {
+    } else if size <= GIGABYTE {
         3
-    } else if size <= 1_099_511_627_776 {
+    } else if size <= TERABYTE {
         4
     } else {
         5

@@ -3,7 +3,7 @@ use crate::program::{Case, ends_so_anew};
 use qj_cli::Status;
 use std::test::Fail;
 
-/// The words behind `gen`, and the summary.
+/// The words after `gen`, and the summary.
 const SUMMARIES: [(&[&str], &[u8]); 5] = [
     (
         &["gen", "1", "0", "3"],

@@ -14,7 +14,7 @@ const ABSENT: &[u8] = b"prepared 1 0 1 inprogress 1 no 1\n";
 
 const ACCEPTED: &[u8] = b"prepared 1 0 1 inprogress 2 yes 2\n";
 
-/// A disk of a node that promised epoch 2 behind a segment of one edit, which the writer of epoch 1 began.
+/// A disk of a node that promised epoch 2 after a segment of one edit, which the writer of epoch 1 began.
 fn before_acceptance(alloc: Global) -> Result<MemDisk, Fail> {
     let mut disk = MemDisk::new(alloc);
     let begun = b"new 1\nstart 1 1 0 1\njournal 1 2 0 1 1 18\nnew 2\n";
@@ -25,9 +25,9 @@ fn before_acceptance(alloc: Global) -> Result<MemDisk, Fail> {
     }
 }
 
-/// Whether the acceptance stands behind a cut after so many disk calls, opening's among them, and a crash; `None` where the
-/// cut came behind all calls.
-fn stands_behind_cut(alloc: Global, calls: u64, choice: Choice) -> Result<Option<bool>, Fail> {
+/// Whether the acceptance stands after a cut after so many disk calls, opening's among them, and a crash; `None` where the
+/// cut came after all calls.
+fn stands_after_cut(alloc: Global, calls: u64, choice: Choice) -> Result<Option<bool>, Fail> {
     let mut disk = before_acceptance(alloc)?;
     disk.stop_after(calls);
     let cut = served(alloc, &mut disk, b"accept 2 1 0 1 18 0a\n")?;
@@ -52,7 +52,7 @@ fn stands_behind_cut(alloc: Global, calls: u64, choice: Choice) -> Result<Option
 fn first_standing(alloc: Global, choice: Choice) -> Result<Option<u64>, Fail> {
     let mut first = None;
     for calls in 0..100 {
-        let Some(stands) = stands_behind_cut(alloc, calls, choice)? else {
+        let Some(stands) = stands_after_cut(alloc, calls, choice)? else {
             return Ok(first);
         };
         if first.is_none() && stands {

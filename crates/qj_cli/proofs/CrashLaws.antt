@@ -41,7 +41,7 @@ in_first s line lines c in_line = record {
   stands = in_line;
 }
 
--- stopped inside those behind the first
+-- stopped inside those after the first
 pub in_rest : (s : NodeState) (line : List ℕ) (lines : List (List ℕ)) (r : Request) (least : ℕ) (c : Files) → reading_of line ≡ Read r → StandsInside (node_step s r).state lines least c
     → StandsInside s (line ∷ lines) (suc least) c
 in_rest s line lines r least c reads is = record {

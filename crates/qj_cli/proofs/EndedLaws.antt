@@ -56,7 +56,7 @@ write_or_not served.DiskFault = inr (λ e. cc e)
 write_or_not served.OutOfMemory = inr (λ e. cc e)
 
 -- ## The parts of an end that was told
--- `mid` is the sink behind the replies, with so many faults as it had then
+-- `mid` is the sink after the replies, with so many faults as it had then
 module _ (ended : Served) (s : Status) (mid : Option (List ℕ)) (u : ℕ) (sink : SinkUse) (told : TellsEnd ended s (record sink { before = mid; faults_before = u })) where
   ended_done : s ≡ status.Ok → ended ≡ served.Done
   ended_done e = is_done ended (sym told.status_is ∙ e)
@@ -74,14 +74,14 @@ module _ (ended : Served) (s : Status) (mid : Option (List ℕ)) (u : ℕ) (sink
   told_unwritten : ended ≡ served.WriteFault → s ≡ status.WriteFault
   told_unwritten e = told.status_is ∙ ap status_at e
 
-  -- a line that was written behind the replies, by the faults of all writes
-  line_behind : (ended ≡ served.WriteFault → Rose sink.faults_before u) → (ended ≢ served.WriteFault → u ≡ sink.faults_before) → (ended ≡ served.WriteFault) ⊎ (ended ≢ served.WriteFault)
+  -- a line that was written after the replies, by the faults of all writes
+  line_after : (ended ≡ served.WriteFault → Rose sink.faults_before u) → (ended ≢ served.WriteFault → u ≡ sink.faults_before) → (ended ≡ served.WriteFault) ⊎ (ended ≢ served.WriteFault)
       → WritesLine (line_at ended) (record sink { before = mid })
-  line_behind rose same (inl e) = record {
+  line_after rose same (inl e) = record {
     front = told.line.front;
     unless_failed = λ n. absurd (n (subst (λ (k : ℕ). Rose sink.faults_before k) (sym (told.no_line (inr (told_unwritten e)))) (rose e)));
   }
-  line_behind rose same (inr n) = subst (λ (k : ℕ). WritesLine (line_at ended) (record sink { before = mid; faults_before = k })) (same n) told.line
+  line_after rose same (inr n) = subst (λ (k : ℕ). WritesLine (line_at ended) (record sink { before = mid; faults_before = k })) (same n) told.line
 
   pub session_told : (lines : List (List ℕ)) (next : Option (List ℕ)) (Trail : List (List ℕ) → Option (List ℕ) → Type 0) (source : SourceUse) (old new : Option NodeState) (tells_now : Type 0) (disk_now : View)
       → Trail lines next → IsSessionOf lines next ended source.told source.left old new sink.before mid
@@ -100,7 +100,7 @@ module _ (ended : Served) (s : Status) (mid : Option (List ℕ)) (u : ℕ) (sink
     session = session;
     kept = kept;
     stands = stands;
-    line = line_behind unwritten written (write_or_not ended);
+    line = line_after unwritten written (write_or_not ended);
     read_fault = λ e. unread (ended_unread e);
     no_read_fault = λ n. read (λ e. n (told_unread e));
     write_fault = λ e. subst (λ (k : ℕ). Rose sink.faults_before k) (sym (told.no_line (inr e))) (unwritten (ended_unwritten e));

@@ -6,14 +6,14 @@ use Rattle.node_history.specs.declared.record.Record.{Record}
 use Rattle.mesh.specs.declared.whole.Mesh.{Mesh}
 use Rattle.mesh.specs.Agree.{operator_of, record_of}
 use Rattle.ns_tree.specs.declared.end.End.{End}
-use Rattle.script_actor.specs.Lines.{Line, ArePlayable, deeds_of}
+use Rattle.script_actor.specs.Lines.{Line, ArePlayable, actions_of}
 use Rattle.script_actor.specs.Actor.{Actor, fresh_actor, actor_after, last_of}
 use Rattle.cluster_runner.specs.Follows.{actor_with, FollowsLines}
 use Rattle.cluster_runner.specs.Safe.{HoldNothing}
 use Rattle.cluster_runner.proofs.Holds.{RawActor, raw_settled, raw_goes}
-use Rattle.cluster_runner.proofs.Sound.{deeds_raw}
+use Rattle.cluster_runner.proofs.Sound.{actions_raw}
 use Rattle.cluster_runner.proofs.Final.{names_count}
-use Rattle.cluster_runner.proofs.PlayableDeeds.{playable_deeds}
+use Rattle.cluster_runner.proofs.PlayableActions.{playable_actions}
 
 -- one end for each actor
 ends_many : (named : Bool) (nodes : ℕ) (lines : List Line) (m : Mesh) (ends : List End) → FollowsLines named nodes lines m ends → length ends ≡ operator_of m
@@ -29,5 +29,5 @@ unfolding fresh_actor
 meshes_hold_nothing nodes lines m ends can f c e at =
     let many = ends_many false nodes lines m ends f in
     let follows = f.actors c e (subst (λ n. c < n) many (slice_get_within ends c e at)) at in
-    let begun : RawActor (actor_with false nodes (deeds_of c lines)) = raw_settled (deeds_of c lines) (fresh_actor false nodes) (deeds_raw (deeds_of c lines) (playable_deeds false nodes 0 lines can c)) refl in
-    follows.end ∙ ap last_of (raw_after (record_of m c) (actor_with false nodes (deeds_of c lines)) begun).holds
+    let begun : RawActor (actor_with false nodes (actions_of c lines)) = raw_settled (actions_of c lines) (fresh_actor false nodes) (actions_raw (actions_of c lines) (playable_actions false nodes 0 lines can c)) refl in
+    follows.end ∙ ap last_of (raw_after (record_of m c) (actor_with false nodes (actions_of c lines)) begun).holds

@@ -30,7 +30,7 @@ answered_up s t (line ∷ lines) text (r, reads, rest, spelled, are) = answered_
 same_up : (s t : NodeState) → t ≡ s → t.up ≡ s.up
 same_up s t e = ap (λ (x : NodeState). x.up) e
 
--- behind a session that no fault and no want of memory ended
+-- after a session that no fault and no lack of memory ended
 ends_up : (o : Served) (told : List ℕ) (lines : List (List ℕ)) (rest : List ℕ) (left : Option (List ℕ)) (s t : NodeState) (part : List ℕ)
     → o ≢ served.DiskFault → o ≢ served.OutOfMemory → EndsBy o told lines rest left s t part → t.up ≡ s.up
 ends_up served.Done told lines rest left s t part d m ends = same_up s t ends.2

@@ -32,21 +32,6 @@ read_whole source bytes all same short = record {
   short = short;
 }
 
-pub gives_script : (source : SourceUse) (bytes : List ℕ) (script : ScriptView) → GivesAll source.told source.left bytes → NoReadFailed source → length bytes ≤ longest_script → IsScriptText bytes script → GivesScript source script
-gives_script source bytes script all same short reads = record { bytes = bytes; read = read_whole source bytes all same short; reads = reads }
-
-pub text_fault : (source : SourceUse) (bytes : List ℕ) (of : Fault) → GivesAll source.told source.left bytes → NoReadFailed source → length bytes ≤ longest_script → IsTextFault bytes of → IsReadingFault source of
-text_fault source bytes (fault.Usage place) all same short is = absurd is
-text_fault source bytes (fault.BadScript line rule) all same short is = (bytes, read_whole source bytes all same short, is)
-text_fault source bytes fault.NoFile all same short is = absurd is
-text_fault source bytes (fault.BadBytes place cause) all same short is = absurd is
-text_fault source bytes (fault.BadImage place cause) all same short is = absurd is
-text_fault source bytes (fault.BadFile name) all same short is = absurd is
-text_fault source bytes (fault.Limit number) all same short is = absurd is
-text_fault source bytes fault.ReadFault all same short is = absurd is
-text_fault source bytes fault.DiskFault all same short is = absurd is
-text_fault source bytes fault.OutOfMemory all same short is = tt
-
 some_of_length : (n : ℕ) → (bytes : List ℕ) × (length bytes ≡ n)
 some_of_length zero = ([], refl)
 some_of_length (suc n) = let shorter = some_of_length n in (0 ∷ shorter.0, ap (λ k. suc k) shorter.1)
@@ -62,17 +47,6 @@ too_long source h same =
     (refl, record { bytes = long.0; told = long.1; no_fault = same; long = long.2 })
 
 -- ## A script that was read, and its lists
-pub reading_fault : (Leaves : ScriptView → Mesh → List End → Type 0) (source : SourceUse) (of : Fault) → IsReadingFault source of → IsPlayFault Leaves source of
-reading_fault Leaves source (fault.Usage place) is = absurd is
-reading_fault Leaves source (fault.BadScript line rule) is = is
-reading_fault Leaves source fault.NoFile is = absurd is
-reading_fault Leaves source (fault.BadBytes place cause) is = absurd is
-reading_fault Leaves source (fault.BadImage place cause) is = absurd is
-reading_fault Leaves source (fault.BadFile name) is = absurd is
-reading_fault Leaves source (fault.Limit number) is = inl is
-reading_fault Leaves source fault.ReadFault is = is
-reading_fault Leaves source fault.DiskFault is = absurd is
-reading_fault Leaves source fault.OutOfMemory is = tt
 
 report_of : (Leaves : ScriptView → Mesh → List End → Type 0) (source : SourceUse) (script : ScriptView) (m : Mesh) (ends : List End) (text : List ℕ) → (given : GivesScript source script) → Leaves script m ends → text ≡ text_of m ends
     → IsReport Leaves given.bytes text

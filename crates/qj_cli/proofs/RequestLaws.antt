@@ -1,4 +1,4 @@
--- An input of request lines alone: the next line behind some of them is a request, and isn't too long.
+-- An input of request lines alone: the next line after some of them is a request, and isn't too long.
 use Rattle.std.proofs.Common.{◌≡◌, ℕ, ◌+◌, ◌<◌, ◌≤◌, List, [], ◌∷◌, ◌++◌, refl, sym, ap, subst, ◌∙◌, arith, inl, inr, ◌⊎◌, length}
 use Rattle.std.specs.Prelude.{◌≢◌}
 use Rattle.std.proofs.lemmas.List.{append_assoc}
@@ -36,8 +36,8 @@ front_short a [] xs ys p e = omega arith
 front_short [] (y ∷ front) xs ys p e = absurd (p.0 (cc e))
 front_short (x ∷ a) (y ∷ front) xs ys p e = let less : length front ≤ length a = front_short a front xs ys p.1 (cc e) in omega (arith, less)
 
--- ## Lines behind lines
--- request lines, and nothing else, stand behind some that were taken from the front
+-- ## Lines after lines
+-- request lines, and nothing else, stand after some that were taken from the front
 record AreBehind (rest : List ℕ) : Type 0 where
   lines : List (List ℕ)
   each : AreLines lines

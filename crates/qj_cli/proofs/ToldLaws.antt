@@ -18,10 +18,6 @@ use Rattle.qj_cli.specs.Listing.{disk_answer}
 use Rattle.qj_cli.specs.Found.{answer_of}
 
 -- ## A line
-pub wrote_line : {T E : Type 0} (r : Result T E) (line : List ℕ) (sink : SinkUse) → OnOk r (Appends sink.before sink.now line) → TakesFront sink.before sink.now line
-    → CountsFaults sink.faults_before sink.faults_now r → WritesLine line sink
-wrote_line (Ok x) line sink all front cause = record { front = front; unless_failed = λ n. all }
-wrote_line (Err e) line sink all front cause = record { front = front; unless_failed = λ n. absurd (n cause.failed) }
 
 pub tells_so : (of : Fault) (line : List ℕ) (s : Status) (sink : SinkUse) → s ≡ status_of of → line ≡ line_of of → WritesLine line sink → TellsFault of s sink
 tells_so of line s sink e l wrote = record { told = of; told_as = inl refl; status_is = e; line = subst (λ (x : List ℕ). WritesLine x sink) l wrote }

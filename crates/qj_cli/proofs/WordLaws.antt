@@ -17,7 +17,7 @@ use Rattle.qj_cli.specs.declared.tool.ImageTool.TheVariants as image
 use Rattle.qj_cli.specs.declared.tool.Tool.{Tool}
 use Rattle.qj_cli.specs.declared.tool.Tool.TheVariants as tool
 use Rattle.qj_cli.specs.Commands.{Asked, play, run, node, fsck, gen, list, segment_word, image_word, words_of, IsAllowed, AskFor, IsCommand}
-use Rattle.qj_cli.specs.Usage.{is_alone, is_oev, is_oiv, behind_one, behind_tool, behind_program, behind_number, behind_edits, behind_nodes, behind_gen, usage_of}
+use Rattle.qj_cli.specs.Usage.{is_alone, is_oev, is_oiv, after_one, after_tool, after_program, after_number, behind_edits, after_nodes, after_gen, usage_of}
 use Rattle.qj_cli.specs.Words.{StopAt, UsageIsOfFirstWrongWord}
 
 -- ## Words and their tests
@@ -70,7 +70,7 @@ is_image_tool image.Delimited = refl
 is_image_tool image.Sizes = refl
 is_image_tool image.Json = refl
 
--- ## What stands behind the first word of a command
+-- ## What stands after the first word of a command
 heads : (a b : List ℕ) (xs ys : List (List ℕ)) → a ∷ xs ≡ b ∷ ys → a ≡ b
 heads a b xs ys e = cc e
 
@@ -99,32 +99,32 @@ first_word word words (list (tool.Oiv of) name) e = inr (inr (inl (heads word (c
 apart : (word program : List ℕ) → is_alone program ≡ false → is_alone word ≡ true → word ≡ program → ⊥
 apart word program n y e = both_not (is_alone program) n (sym (ap is_alone e) ∙ y)
 
-behind_alone : (word : List ℕ) (words : List (List ℕ)) (asked : Asked) → is_alone word ≡ true → word ∷ words ≡ words_of asked → words ≡ []
-behind_alone word words play y e = tails word (codes "play") words [] e
-behind_alone word words run y e = tails word (codes "run") words [] e
-behind_alone word words node y e = tails word (codes "node") words [] e
-behind_alone word words fsck y e = tails word (codes "fsck") words [] e
-behind_alone word words (gen number edits nodes) y e = absurd (apart word (codes "gen") refl y (heads word (codes "gen") words (decimal number ∷ decimal edits ∷ decimal nodes ∷ []) e))
-behind_alone word words (list (tool.Oev of) name) y e = absurd (apart word (codes "oev") refl y (heads word (codes "oev") words (segment_word of ∷ name ∷ []) e))
-behind_alone word words (list (tool.Oiv of) name) y e = absurd (apart word (codes "oiv") refl y (heads word (codes "oiv") words (image_word of ∷ name ∷ []) e))
+after_alone : (word : List ℕ) (words : List (List ℕ)) (asked : Asked) → is_alone word ≡ true → word ∷ words ≡ words_of asked → words ≡ []
+after_alone word words play y e = tails word (codes "play") words [] e
+after_alone word words run y e = tails word (codes "run") words [] e
+after_alone word words node y e = tails word (codes "node") words [] e
+after_alone word words fsck y e = tails word (codes "fsck") words [] e
+after_alone word words (gen number edits nodes) y e = absurd (apart word (codes "gen") refl y (heads word (codes "gen") words (decimal number ∷ decimal edits ∷ decimal nodes ∷ []) e))
+after_alone word words (list (tool.Oev of) name) y e = absurd (apart word (codes "oev") refl y (heads word (codes "oev") words (segment_word of ∷ name ∷ []) e))
+after_alone word words (list (tool.Oiv of) name) y e = absurd (apart word (codes "oiv") refl y (heads word (codes "oiv") words (image_word of ∷ name ∷ []) e))
 
-behind_oev_is : (words : List (List ℕ)) → IsCommand (codes "oev" ∷ words) → (of : SegmentTool) × (name : List ℕ) × (words ≡ segment_word of ∷ name ∷ [])
-behind_oev_is words (play, e) = absurd (bytes_other (codes "oev") (codes "play") refl (heads (codes "oev") (codes "play") words [] e.words_are))
-behind_oev_is words (run, e) = absurd (bytes_other (codes "oev") (codes "run") refl (heads (codes "oev") (codes "run") words [] e.words_are))
-behind_oev_is words (node, e) = absurd (bytes_other (codes "oev") (codes "node") refl (heads (codes "oev") (codes "node") words [] e.words_are))
-behind_oev_is words (fsck, e) = absurd (bytes_other (codes "oev") (codes "fsck") refl (heads (codes "oev") (codes "fsck") words [] e.words_are))
-behind_oev_is words (gen number edits nodes, e) = absurd (bytes_other (codes "oev") (codes "gen") refl (heads (codes "oev") (codes "gen") words (decimal number ∷ decimal edits ∷ decimal nodes ∷ []) e.words_are))
-behind_oev_is words (list (tool.Oev of) name, e) = (of, name, tails (codes "oev") (codes "oev") words (segment_word of ∷ name ∷ []) e.words_are)
-behind_oev_is words (list (tool.Oiv of) name, e) = absurd (bytes_other (codes "oev") (codes "oiv") refl (heads (codes "oev") (codes "oiv") words (image_word of ∷ name ∷ []) e.words_are))
+after_oev_is : (words : List (List ℕ)) → IsCommand (codes "oev" ∷ words) → (of : SegmentTool) × (name : List ℕ) × (words ≡ segment_word of ∷ name ∷ [])
+after_oev_is words (play, e) = absurd (bytes_other (codes "oev") (codes "play") refl (heads (codes "oev") (codes "play") words [] e.words_are))
+after_oev_is words (run, e) = absurd (bytes_other (codes "oev") (codes "run") refl (heads (codes "oev") (codes "run") words [] e.words_are))
+after_oev_is words (node, e) = absurd (bytes_other (codes "oev") (codes "node") refl (heads (codes "oev") (codes "node") words [] e.words_are))
+after_oev_is words (fsck, e) = absurd (bytes_other (codes "oev") (codes "fsck") refl (heads (codes "oev") (codes "fsck") words [] e.words_are))
+after_oev_is words (gen number edits nodes, e) = absurd (bytes_other (codes "oev") (codes "gen") refl (heads (codes "oev") (codes "gen") words (decimal number ∷ decimal edits ∷ decimal nodes ∷ []) e.words_are))
+after_oev_is words (list (tool.Oev of) name, e) = (of, name, tails (codes "oev") (codes "oev") words (segment_word of ∷ name ∷ []) e.words_are)
+after_oev_is words (list (tool.Oiv of) name, e) = absurd (bytes_other (codes "oev") (codes "oiv") refl (heads (codes "oev") (codes "oiv") words (image_word of ∷ name ∷ []) e.words_are))
 
-behind_oiv_is : (words : List (List ℕ)) → IsCommand (codes "oiv" ∷ words) → (of : ImageTool) × (name : List ℕ) × (words ≡ image_word of ∷ name ∷ [])
-behind_oiv_is words (play, e) = absurd (bytes_other (codes "oiv") (codes "play") refl (heads (codes "oiv") (codes "play") words [] e.words_are))
-behind_oiv_is words (run, e) = absurd (bytes_other (codes "oiv") (codes "run") refl (heads (codes "oiv") (codes "run") words [] e.words_are))
-behind_oiv_is words (node, e) = absurd (bytes_other (codes "oiv") (codes "node") refl (heads (codes "oiv") (codes "node") words [] e.words_are))
-behind_oiv_is words (fsck, e) = absurd (bytes_other (codes "oiv") (codes "fsck") refl (heads (codes "oiv") (codes "fsck") words [] e.words_are))
-behind_oiv_is words (gen number edits nodes, e) = absurd (bytes_other (codes "oiv") (codes "gen") refl (heads (codes "oiv") (codes "gen") words (decimal number ∷ decimal edits ∷ decimal nodes ∷ []) e.words_are))
-behind_oiv_is words (list (tool.Oev of) name, e) = absurd (bytes_other (codes "oiv") (codes "oev") refl (heads (codes "oiv") (codes "oev") words (segment_word of ∷ name ∷ []) e.words_are))
-behind_oiv_is words (list (tool.Oiv of) name, e) = (of, name, tails (codes "oiv") (codes "oiv") words (image_word of ∷ name ∷ []) e.words_are)
+after_oiv_is : (words : List (List ℕ)) → IsCommand (codes "oiv" ∷ words) → (of : ImageTool) × (name : List ℕ) × (words ≡ image_word of ∷ name ∷ [])
+after_oiv_is words (play, e) = absurd (bytes_other (codes "oiv") (codes "play") refl (heads (codes "oiv") (codes "play") words [] e.words_are))
+after_oiv_is words (run, e) = absurd (bytes_other (codes "oiv") (codes "run") refl (heads (codes "oiv") (codes "run") words [] e.words_are))
+after_oiv_is words (node, e) = absurd (bytes_other (codes "oiv") (codes "node") refl (heads (codes "oiv") (codes "node") words [] e.words_are))
+after_oiv_is words (fsck, e) = absurd (bytes_other (codes "oiv") (codes "fsck") refl (heads (codes "oiv") (codes "fsck") words [] e.words_are))
+after_oiv_is words (gen number edits nodes, e) = absurd (bytes_other (codes "oiv") (codes "gen") refl (heads (codes "oiv") (codes "gen") words (decimal number ∷ decimal edits ∷ decimal nodes ∷ []) e.words_are))
+after_oiv_is words (list (tool.Oev of) name, e) = absurd (bytes_other (codes "oiv") (codes "oev") refl (heads (codes "oiv") (codes "oev") words (segment_word of ∷ name ∷ []) e.words_are))
+after_oiv_is words (list (tool.Oiv of) name, e) = (of, name, tails (codes "oiv") (codes "oiv") words (image_word of ∷ name ∷ []) e.words_are)
 
 -- ## Where words stop being a command
 some_play : IsCommand (codes "play" ∷ [])
@@ -141,23 +141,23 @@ wrong_first word words a o p q = record {
     none : (others : List (List ℕ)) (asked : Asked) → word ∷ others ≡ words_of asked → ⊥
     none others asked e = ⊎_elim (both_not (is_alone word) a) (⊎_elim o (⊎_elim p q)) (first_word word others asked e)
 
--- a command of one word, and others behind it
-alone_first : (word : List ℕ) (words : List (List ℕ)) → is_alone word ≡ true → IsCommand (word ∷ []) → MatchOption (behind_one words) (IsCommand (word ∷ words)) (StopAt (word ∷ words))
+-- a command of one word, and others after it
+alone_first : (word : List ℕ) (words : List (List ℕ)) → is_alone word ≡ true → IsCommand (word ∷ []) → MatchOption (after_one words) (IsCommand (word ∷ words)) (StopAt (word ∷ words))
 alone_first word [] y c = c
 alone_first word (other ∷ words) y c = record {
-  none = λ k. absurd (cc (behind_alone word (other ∷ words) k.0 y k.1.words_are));
+  none = λ k. absurd (cc (after_alone word (other ∷ words) k.0 y k.1.words_are));
   within = omega arith;
   before = ([], c);
-  further = λ l b. absurd (cc (behind_alone word (other ∷ b.0) b.1.0 y b.1.1.words_are));
+  further = λ l b. absurd (cc (after_alone word (other ∷ b.0) b.1.0 y b.1.1.words_are));
 }
 
--- ## Behind a program
+-- ## After a program
 -- its tools with their words, of which there is one, and the test of a word
 module _ {W : Type 0} (program : List ℕ) (word_for : W → List ℕ) (test : List ℕ → Bool) (some : W)
     (behind_is : (words : List (List ℕ)) → IsCommand (program ∷ words) → (of : W) × (name : List ℕ) × (words ≡ word_for of ∷ name ∷ []))
     (is_one : (of : W) (name : List ℕ) → IsCommand (program ∷ word_for of ∷ name ∷ []))
     (named : (word : List ℕ) → test word ≡ true → (of : W) × (word ≡ word_for of)) (passes : (of : W) → test (word_for of) ≡ true) where
-  tool_first : (of : W) (words : List (List ℕ)) → MatchOption (behind_tool words) (IsCommand (program ∷ word_for of ∷ words)) (StopAt (program ∷ word_for of ∷ words))
+  tool_first : (of : W) (words : List (List ℕ)) → MatchOption (after_tool words) (IsCommand (program ∷ word_for of ∷ words)) (StopAt (program ∷ word_for of ∷ words))
   tool_first of [] = record {
     none = λ c. let h = behind_is (word_for of ∷ []) c in absurd (cc h.2);
     within = omega arith;
@@ -195,25 +195,25 @@ module _ {W : Type 0} (program : List ℕ) (word_for : W → List ℕ) (test : L
   }
 
   program_by : (word : List ℕ) (words : List (List ℕ)) (t : Bool) → test word ≡ t
-      → MatchOption (behind_program test (word ∷ words)) (IsCommand (program ∷ word ∷ words)) (StopAt (program ∷ word ∷ words))
-  unfolding behind_program
+      → MatchOption (after_program test (word ∷ words)) (IsCommand (program ∷ word ∷ words)) (StopAt (program ∷ word ∷ words))
+  unfolding after_program
   program_by word words true e =
       let is = named word e in
-      rw e (subst (λ w. MatchOption (behind_tool words) (IsCommand (program ∷ w ∷ words)) (StopAt (program ∷ w ∷ words))) (sym is.1) (tool_first is.0 words))
+      rw e (subst (λ w. MatchOption (after_tool words) (IsCommand (program ∷ w ∷ words)) (StopAt (program ∷ w ∷ words))) (sym is.1) (tool_first is.0 words))
   program_by word words false e = rw e (wrong_tool word words e)
 
-  program_first : (words : List (List ℕ)) → MatchOption (behind_program test words) (IsCommand (program ∷ words)) (StopAt (program ∷ words))
-  unfolding behind_program
+  program_first : (words : List (List ℕ)) → MatchOption (after_program test words) (IsCommand (program ∷ words)) (StopAt (program ∷ words))
+  unfolding after_program
   program_first [] = tool_missing
   program_first (word ∷ words) = program_by word words (test word) refl
 
-oev_first : (words : List (List ℕ)) → MatchOption (behind_program is_oev words) (IsCommand (codes "oev" ∷ words)) (StopAt (codes "oev" ∷ words))
-oev_first = program_first (codes "oev") segment_word is_oev segment.List behind_oev_is (λ of name. (list (tool.Oev of) name, record { words_are = refl; allowed = tt })) oev_word is_segment_tool
+oev_first : (words : List (List ℕ)) → MatchOption (after_program is_oev words) (IsCommand (codes "oev" ∷ words)) (StopAt (codes "oev" ∷ words))
+oev_first = program_first (codes "oev") segment_word is_oev segment.List after_oev_is (λ of name. (list (tool.Oev of) name, record { words_are = refl; allowed = tt })) oev_word is_segment_tool
 
-oiv_first : (words : List (List ℕ)) → MatchOption (behind_program is_oiv words) (IsCommand (codes "oiv" ∷ words)) (StopAt (codes "oiv" ∷ words))
-oiv_first = program_first (codes "oiv") image_word is_oiv image.Delimited behind_oiv_is (λ of name. (list (tool.Oiv of) name, record { words_are = refl; allowed = tt })) oiv_word is_image_tool
+oiv_first : (words : List (List ℕ)) → MatchOption (after_program is_oiv words) (IsCommand (codes "oiv" ∷ words)) (StopAt (codes "oiv" ∷ words))
+oiv_first = program_first (codes "oiv") image_word is_oiv image.Delimited after_oiv_is (λ of name. (list (tool.Oiv of) name, record { words_are = refl; allowed = tt })) oiv_word is_image_tool
 
--- ## Behind `gen`
+-- ## After `gen`
 -- what stands there in a command
 record IsGen (words : List (List ℕ)) : Type 0 where
   pub number : ℕ
@@ -222,20 +222,20 @@ record IsGen (words : List (List ℕ)) : Type 0 where
   pub within : IsWithin number edits nodes
   pub words_are : words ≡ decimal number ∷ decimal edits ∷ decimal nodes ∷ []
 
-behind_gen_is : (words : List (List ℕ)) → IsCommand (codes "gen" ∷ words) → IsGen words
-behind_gen_is words (play, e) = absurd (bytes_other (codes "gen") (codes "play") refl (heads (codes "gen") (codes "play") words [] e.words_are))
-behind_gen_is words (run, e) = absurd (bytes_other (codes "gen") (codes "run") refl (heads (codes "gen") (codes "run") words [] e.words_are))
-behind_gen_is words (node, e) = absurd (bytes_other (codes "gen") (codes "node") refl (heads (codes "gen") (codes "node") words [] e.words_are))
-behind_gen_is words (fsck, e) = absurd (bytes_other (codes "gen") (codes "fsck") refl (heads (codes "gen") (codes "fsck") words [] e.words_are))
-behind_gen_is words (gen number edits nodes, e) = record {
+after_gen_is : (words : List (List ℕ)) → IsCommand (codes "gen" ∷ words) → IsGen words
+after_gen_is words (play, e) = absurd (bytes_other (codes "gen") (codes "play") refl (heads (codes "gen") (codes "play") words [] e.words_are))
+after_gen_is words (run, e) = absurd (bytes_other (codes "gen") (codes "run") refl (heads (codes "gen") (codes "run") words [] e.words_are))
+after_gen_is words (node, e) = absurd (bytes_other (codes "gen") (codes "node") refl (heads (codes "gen") (codes "node") words [] e.words_are))
+after_gen_is words (fsck, e) = absurd (bytes_other (codes "gen") (codes "fsck") refl (heads (codes "gen") (codes "fsck") words [] e.words_are))
+after_gen_is words (gen number edits nodes, e) = record {
   number = number;
   edits = edits;
   nodes = nodes;
   within = e.allowed;
   words_are = tails (codes "gen") (codes "gen") words (decimal number ∷ decimal edits ∷ decimal nodes ∷ []) e.words_are;
 }
-behind_gen_is words (list (tool.Oev of) name, e) = absurd (bytes_other (codes "gen") (codes "oev") refl (heads (codes "gen") (codes "oev") words (segment_word of ∷ name ∷ []) e.words_are))
-behind_gen_is words (list (tool.Oiv of) name, e) = absurd (bytes_other (codes "gen") (codes "oiv") refl (heads (codes "gen") (codes "oiv") words (image_word of ∷ name ∷ []) e.words_are))
+after_gen_is words (list (tool.Oev of) name, e) = absurd (bytes_other (codes "gen") (codes "oev") refl (heads (codes "gen") (codes "oev") words (segment_word of ∷ name ∷ []) e.words_are))
+after_gen_is words (list (tool.Oiv of) name, e) = absurd (bytes_other (codes "gen") (codes "oiv") refl (heads (codes "gen") (codes "oiv") words (image_word of ∷ name ∷ []) e.words_are))
 
 -- three words that are numbers in their ranges
 gen_of : (number edits nodes : List ℕ) → is_number 0 greatest number ≡ true → is_number 0 10000 edits ≡ true → is_number 1 15 nodes ≡ true → IsCommand (codes "gen" ∷ number ∷ edits ∷ nodes ∷ [])
@@ -263,20 +263,20 @@ some_nodes = number_is 1 15 1 (omega arith) (omega arith) (omega arith)
 -- words of which one is no number of its range
 bad_number : (number : List ℕ) (words : List (List ℕ)) → is_number 0 greatest number ≡ false → IsCommand (codes "gen" ∷ number ∷ words) → ⊥
 bad_number number words n c =
-    let h = behind_gen_is (number ∷ words) c in
+    let h = after_gen_is (number ∷ words) c in
     let is : number ≡ decimal h.number = heads number (decimal h.number) words (decimal h.edits ∷ decimal h.nodes ∷ []) h.words_are in
     both_not (is_number 0 greatest number) n (ap (is_number 0 greatest) is ∙ number_is 0 greatest h.number (omega arith) (omega arith) h.within.number_fits)
 
 bad_edits : (number edits : List ℕ) (words : List (List ℕ)) → is_number 0 10000 edits ≡ false → IsCommand (codes "gen" ∷ number ∷ edits ∷ words) → ⊥
 bad_edits number edits words n c =
-    let h = behind_gen_is (number ∷ edits ∷ words) c in
+    let h = after_gen_is (number ∷ edits ∷ words) c in
     let rest = tails number (decimal h.number) (edits ∷ words) (decimal h.edits ∷ decimal h.nodes ∷ []) h.words_are in
     let is : edits ≡ decimal h.edits = heads edits (decimal h.edits) words (decimal h.nodes ∷ []) rest in
     both_not (is_number 0 10000 edits) n (ap (is_number 0 10000) is ∙ number_is 0 10000 h.edits (omega arith) (omega arith) h.within.few_edits)
 
 bad_nodes : (number edits nodes : List ℕ) (words : List (List ℕ)) → is_number 1 15 nodes ≡ false → IsCommand (codes "gen" ∷ number ∷ edits ∷ nodes ∷ words) → ⊥
 bad_nodes number edits nodes words n c =
-    let h = behind_gen_is (number ∷ edits ∷ nodes ∷ words) c in
+    let h = after_gen_is (number ∷ edits ∷ nodes ∷ words) c in
     let rest = tails number (decimal h.number) (edits ∷ nodes ∷ words) (decimal h.edits ∷ decimal h.nodes ∷ []) h.words_are in
     let more = tails edits (decimal h.edits) (nodes ∷ words) (decimal h.nodes ∷ []) rest in
     let is : nodes ≡ decimal h.nodes = heads nodes (decimal h.nodes) words [] more in
@@ -284,10 +284,10 @@ bad_nodes number edits nodes words n c =
 
 -- too few of them, and too many
 not_three : (words : List (List ℕ)) → length words ≢ 3 → IsCommand (codes "gen" ∷ words) → ⊥
-not_three words n c = let h = behind_gen_is words c in n (ap length h.words_are)
+not_three words n c = let h = after_gen_is words c in n (ap length h.words_are)
 
 nodes_first : (number edits nodes : List ℕ) (words : List (List ℕ)) → is_number 0 greatest number ≡ true → is_number 0 10000 edits ≡ true → is_number 1 15 nodes ≡ true
-    → MatchOption (behind_nodes words) (IsCommand (codes "gen" ∷ number ∷ edits ∷ nodes ∷ words)) (StopAt (codes "gen" ∷ number ∷ edits ∷ nodes ∷ words))
+    → MatchOption (after_nodes words) (IsCommand (codes "gen" ∷ number ∷ edits ∷ nodes ∷ words)) (StopAt (codes "gen" ∷ number ∷ edits ∷ nodes ∷ words))
 nodes_first number edits nodes [] a b c = gen_of number edits nodes a b c
 nodes_first number edits nodes (word ∷ words) a b c = record {
   none = not_three (number ∷ edits ∷ nodes ∷ word ∷ words) (λ e. absurd (omega (arith, e)));
@@ -316,7 +316,7 @@ edits_first number edits (nodes ∷ words) a b = by (is_number 1 15 nodes) refl
     } in stop)
 
 number_first : (number : List ℕ) (words : List (List ℕ)) → is_number 0 greatest number ≡ true
-    → MatchOption (behind_number words) (IsCommand (codes "gen" ∷ number ∷ words)) (StopAt (codes "gen" ∷ number ∷ words))
+    → MatchOption (after_number words) (IsCommand (codes "gen" ∷ number ∷ words)) (StopAt (codes "gen" ∷ number ∷ words))
 number_first number [] a = record {
   none = not_three (number ∷ []) (λ e. absurd (omega (arith, e)));
   within = omega arith;
@@ -325,7 +325,7 @@ number_first number [] a = record {
 }
 number_first number (edits ∷ words) a = by (is_number 0 10000 edits) refl
   where
-    by : (t : Bool) → is_number 0 10000 edits ≡ t → MatchOption (behind_number (edits ∷ words)) (IsCommand (codes "gen" ∷ number ∷ edits ∷ words)) (StopAt (codes "gen" ∷ number ∷ edits ∷ words))
+    by : (t : Bool) → is_number 0 10000 edits ≡ t → MatchOption (after_number (edits ∷ words)) (IsCommand (codes "gen" ∷ number ∷ edits ∷ words)) (StopAt (codes "gen" ∷ number ∷ edits ∷ words))
     by true b = rw b (edits_first number edits words a b)
     by false b = rw b (let stop : StopAt (codes "gen" ∷ number ∷ edits ∷ words) 2 = record {
       none = bad_edits number edits words b;
@@ -334,8 +334,8 @@ number_first number (edits ∷ words) a = by (is_number 0 10000 edits) refl
       further = λ l x. bad_edits number edits x.0 b x.1;
     } in stop)
 
-gen_first : (words : List (List ℕ)) → MatchOption (behind_gen words) (IsCommand (codes "gen" ∷ words)) (StopAt (codes "gen" ∷ words))
-unfolding behind_gen
+gen_first : (words : List (List ℕ)) → MatchOption (after_gen words) (IsCommand (codes "gen" ∷ words)) (StopAt (codes "gen" ∷ words))
+unfolding after_gen
 gen_first [] = record {
   none = not_three [] (λ e. absurd (omega (arith, e)));
   within = omega arith;
@@ -344,7 +344,7 @@ gen_first [] = record {
 }
 gen_first (number ∷ words) = by (is_number 0 greatest number) refl
   where
-    by : (t : Bool) → is_number 0 greatest number ≡ t → MatchOption (behind_gen (number ∷ words)) (IsCommand (codes "gen" ∷ number ∷ words)) (StopAt (codes "gen" ∷ number ∷ words))
+    by : (t : Bool) → is_number 0 greatest number ≡ t → MatchOption (after_gen (number ∷ words)) (IsCommand (codes "gen" ∷ number ∷ words)) (StopAt (codes "gen" ∷ number ∷ words))
     by true a = rw a (number_first number words a)
     by false a = rw a (let stop : StopAt (codes "gen" ∷ number ∷ words) 1 = record {
       none = bad_number number words a;
@@ -359,11 +359,11 @@ first_by : (word : List ℕ) (words : List (List ℕ)) (a o p q : Bool) → is_a
 unfolding usage_of
 first_by word words true o p q e h k g = rw e (alone_first word words e (alone_word word e))
 first_by word words false true p q e h k g =
-    rw (e, h) (subst (λ w. MatchOption (behind_program is_oev words) (IsCommand (w ∷ words)) (StopAt (w ∷ words))) (sym ((bytes_eq-Decides word (codes "oev")).0 h)) (oev_first words))
+    rw (e, h) (subst (λ w. MatchOption (after_program is_oev words) (IsCommand (w ∷ words)) (StopAt (w ∷ words))) (sym ((bytes_eq-Decides word (codes "oev")).0 h)) (oev_first words))
 first_by word words false false true q e h k g =
-    rw (e, h, k) (subst (λ w. MatchOption (behind_program is_oiv words) (IsCommand (w ∷ words)) (StopAt (w ∷ words))) (sym ((bytes_eq-Decides word (codes "oiv")).0 k)) (oiv_first words))
+    rw (e, h, k) (subst (λ w. MatchOption (after_program is_oiv words) (IsCommand (w ∷ words)) (StopAt (w ∷ words))) (sym ((bytes_eq-Decides word (codes "oiv")).0 k)) (oiv_first words))
 first_by word words false false false true e h k g =
-    rw (e, h, k, g) (subst (λ w. MatchOption (behind_gen words) (IsCommand (w ∷ words)) (StopAt (w ∷ words))) (sym ((bytes_eq-Decides word (codes "gen")).0 g)) (gen_first words))
+    rw (e, h, k, g) (subst (λ w. MatchOption (after_gen words) (IsCommand (w ∷ words)) (StopAt (w ∷ words))) (sym ((bytes_eq-Decides word (codes "gen")).0 g)) (gen_first words))
 first_by word words false false false false e h k g =
     rw (e, h, k, g) (wrong_first word words e (bytes_other word (codes "oev") h) (bytes_other word (codes "oiv") k) (bytes_other word (codes "gen") g))
 

@@ -12,7 +12,7 @@ use Rattle.journal_node.specs.Opening.{StandsAsBefore}
 use Rattle.node_session.specs.Session.{AreAnswered, Asks}
 use Rattle.node_session.specs.Asking.{IsTrail}
 
--- the files stand for the state, stopped behind some of the effects of the next of these lines, where there is one
+-- the files stand for the state, stopped after some of the effects of the next of these lines, where there is one
 abbrev pub StandsInNext : NodeState → List (List ℕ) → Files → Type 0
 StandsInNext s [] files = StandsAs files s
 StandsInNext s (line ∷ lines) files = Asks line (λ r. StandsStopped s (effects_of s r) files)
@@ -27,7 +27,7 @@ pub record StandsInside (s : NodeState) (lines : List (List ℕ)) (least : ℕ) 
   pub answered : AreAnswered s (take count lines) replies state
   pub stands : StandsInNext state (drop count lines) files
 
--- the lines, and this one behind them, where there is one
+-- the lines, and this one after them, where there is one
 abbrev pub with_next : List (List ℕ) → Option (List ℕ) → List (List ℕ)
 with_next [] None = []
 with_next [] (Some line) = line ∷ []
@@ -46,7 +46,7 @@ pub record OutlastsCrashes {D : Type 0} (view : D → View) (old now : D) (s : N
   pub moments : LeavesOnly (view old) (view now) (λ c. StandsAsBefore (view old) c ⊎ StandsInside s (with_next lines next) 0 c)
   pub reached : (count : ℕ) → count ≤ length lines → IsReached view old now s lines next count
 
--- all that was asked of the node was these lines, and this one behind them, and the disk is now the node's
+-- all that was asked of the node was these lines, and this one after them, and the disk is now the node's
 pub record WasAsked {D : Type 0} (tells : D → Type 0) (view : D → View) (node : NodeParts D) (now : D) (lines : List (List ℕ)) (next : Option (List ℕ)) : Type 0 where
   pub last : NodeParts D
   pub trail : IsTrail (IsActed tells view) lines next node last

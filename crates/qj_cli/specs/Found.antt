@@ -39,7 +39,7 @@ IsFoundFault of Absent why = why ≡ fault.NoFile
 IsFoundFault of TooLong why = why ≡ fault.Limit longest_file
 IsFoundFault of (Bytes bytes) why = IsReadFault of bytes.items why
 
--- the answer of the disk behind it
+-- the answer of the disk after it
 abbrev pub answer_of : {T : Type 0} → Result T Fault → Result (Unit {0}) DiskFail
 answer_of (Ok text) = Ok tt
 answer_of (Err fault.DiskFault) = Err fail.Failed

@@ -22,7 +22,7 @@ pub record GivesSummary (number edits nodes : ℕ) (good : Status) (text : List 
   pub good_is : good ≡ status.Ok
   pub summary : IsSummary number edits nodes text
 
--- nothing else comes than want of memory
+-- nothing else comes than lack of memory
 abbrev pub IsSummaryFault : Fault → Type 0
 IsSummaryFault fault.OutOfMemory = Unit {0}
 IsSummaryFault _ = ⊥

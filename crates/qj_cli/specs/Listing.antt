@@ -125,7 +125,7 @@ pub record OfFile {D : Type 0} (disk : DiskUse D) (name : List ℕ) (P : Option 
 abbrev pub GivesListing : {D : Type 0} → Tool → List ℕ → DiskUse D → Status → List ℕ → Type 0
 GivesListing of name disk good text = (good ≡ status.Ok) × OfFile disk name (λ file. IsListing of file text)
 
--- Each fault comes only where this holds. No two of them hold of one file, but for a disk that failed and want of memory, so each comes
+-- Each fault comes only where this holds. No two of them hold of one file, but for a disk that failed and lack of memory, so each comes
 -- exactly there. A disk fault comes where the disk has no call left, and not where it is known to have two.
 abbrev pub IsListFault : {D : Type 0} → Tool → List ℕ → DiskUse D → Fault → Type 0
 IsListFault of name disk fault.NoFile = OfFile disk name (λ file. IsFileFault of file fault.NoFile)

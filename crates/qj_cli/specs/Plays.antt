@@ -49,7 +49,7 @@ pub record GivesScript (source : SourceUse) (script : ScriptView) : Type 0 where
   pub read : IsReadWhole source bytes
   pub reads : IsScriptText bytes script
 
--- why bytes give none; where the first line is wrong it isn't want of memory
+-- why bytes give none; where the first line is wrong it isn't lack of memory
 abbrev pub IsTextFault : List ℕ → Fault → Type 0
 IsTextFault bytes (fault.BadScript line rule) = fault_of bytes ≡ Some (line, rule)
 IsTextFault bytes fault.OutOfMemory = (line : ℕ) → fault_of bytes ≢ Some (line, 1)
@@ -63,9 +63,9 @@ IsReadingFault source fault.ReadFault = AReadFailed source
 IsReadingFault source fault.OutOfMemory = Unit {0}
 IsReadingFault source _ = ⊥
 
--- why the report with this text isn't printed; where it is too long it isn't want of memory
+-- why the report with this text isn't printed; where it is too long it isn't lack of memory
 abbrev pub IsReportFault : List ℕ → Fault → Type 0
-IsReportFault text (fault.Limit number) = (number ≡ 268435456) × (longest_report < length text)
+IsReportFault text (fault.Limit number) = (number ≡ longest_report) × (longest_report < length text)
 IsReportFault text fault.OutOfMemory = length text ≤ longest_report
 IsReportFault text _ = ⊥
 
@@ -77,7 +77,7 @@ pub record IsDueReport (Leaves : ScriptView → Mesh → List End → Type 0) (b
 
 abbrev pub IsScriptFault : (ScriptView → Mesh → List End → Type 0) → List ℕ → Fault → Type 0
 IsScriptFault Leaves bytes (fault.BadScript line rule) = fault_of bytes ≡ Some (line, rule)
-IsScriptFault Leaves bytes (fault.Limit number) = (number ≡ 268435456) × (fault_of bytes ≡ None) × HasLongReport Leaves bytes
+IsScriptFault Leaves bytes (fault.Limit number) = (number ≡ longest_report) × (fault_of bytes ≡ None) × HasLongReport Leaves bytes
 IsScriptFault Leaves bytes fault.OutOfMemory = Unit {0}
 IsScriptFault Leaves bytes _ = ⊥
 
@@ -93,7 +93,7 @@ pub record GivesReport (Leaves : ScriptView → Mesh → List End → Type 0) (s
 abbrev pub OfBytes : (ScriptView → Mesh → List End → Type 0) → SourceUse → Fault → Type 0
 OfBytes Leaves source of = (bytes : List ℕ) × IsReadWhole source bytes × IsScriptFault Leaves bytes of
 
--- Each fault comes only where this holds. No two of them hold of the same bytes, but for a read that failed and want of memory, so
+-- Each fault comes only where this holds. No two of them hold of the same bytes, but for a read that failed and lack of memory, so
 -- each comes exactly there.
 abbrev pub IsPlayFault : (ScriptView → Mesh → List End → Type 0) → SourceUse → Fault → Type 0
 IsPlayFault Leaves source (fault.BadScript line rule) = OfBytes Leaves source (fault.BadScript line rule)

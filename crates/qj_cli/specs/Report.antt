@@ -34,6 +34,6 @@ pub record HasLongReport (Leaves : ScriptView → Mesh → List End → Type 0) 
 abbrev pub ScriptsHaveOneReport : Type 0
 ScriptsHaveOneReport = (bytes a b : List ℕ) → IsReport ComeOf bytes a → IsReport ComeOf bytes b → a ≡ b
 
--- no report shows a fault of a disk, a want of memory or a bad file
+-- no report shows a fault of a disk, a lack of memory or a bad file
 abbrev pub ReportsShowNoFault : (ScriptView → Mesh → List End → Type 0) → Type 0
 ReportsShowNoFault Leaves = (bytes text : List ℕ) → (r : IsReport Leaves bytes text) → ShowsNoFault r.mesh

@@ -5,6 +5,7 @@ use Rattle.journal_core.specs.declared.node_state.NodeState.{NodeState}
 use Rattle.journal_core.specs.Step.{restarted}
 use Rattle.node_files.specs.Durable.{StandsAs, AreFilled}
 use Rattle.journal_node.specs.Opening.{IsRefusedFile, IsCauseOf, Keeps, StandsAsBefore}
+use Rattle.node_session.specs.Lines.{longest_line, longest_input}
 use Rattle.node_session.specs.Session.{IsSession}
 use Rattle.node_session.specs.declared.served.Served.{Served}
 use Rattle.node_session.specs.declared.served.Served.TheVariants as served
@@ -28,12 +29,12 @@ status_at served.WriteFault = status.WriteFault
 status_at served.DiskFault = status.DiskFault
 status_at served.OutOfMemory = status.OutOfMemory
 
--- what is to stand behind the replies
+-- what is to stand after the replies
 abbrev pub line_at : Served → List ℕ
 line_at served.Done = []
 line_at (served.BadLine number rule) = line_of (fault.BadScript number rule)
-line_at served.LongLine = line_of (fault.Limit 1048576)
-line_at served.LongInput = line_of (fault.Limit 1073741824)
+line_at served.LongLine = line_of (fault.Limit longest_line)
+line_at served.LongInput = line_of (fault.Limit longest_input)
 line_at served.ReadFault = line_of fault.ReadFault
 line_at served.WriteFault = []
 line_at served.DiskFault = line_of fault.DiskFault
@@ -45,8 +46,8 @@ is_disk_fault _ = false
 
 -- ## What was done
 -- A session at the node that the files gave, where disk and source told their bytes: the state that the files stood for, which the
--- node was opened with, and the one behind the session. The files behind it stand for that one, and so do those that each crash
--- would leave, unless a fault or want of memory ended it. A crash in the middle left no fewer of the lines than were answered by then.
+-- node was opened with, and the one after the session. The files after it stand for that one, and so do those that each crash
+-- would leave, unless a fault or lack of memory ended it. A crash in the middle left no fewer of the lines than were answered by then.
 pub record IsNodeSession {D : Type 0} (disk : DiskUse D) (outcome : Served) (told : List ℕ) (left before now : Option (List ℕ)) : Type 0 where
   pub state : NodeState
   pub stood : StandsAs (disk.view disk.before).seen state
@@ -75,7 +76,7 @@ abbrev pub IsNodeSessionOf : {D : Type 0} → DiskUse D → Served → Option (L
 IsNodeSessionOf disk outcome (Some told) left before now = IsNodeSession disk outcome told left before now
 IsNodeSessionOf disk outcome None left before now = HoldsNode disk
 
--- A node was served: how that ended, which is the status; the replies, with which the sink stood there; and the line behind them.
+-- A node was served: how that ended, which is the status; the replies, with which the sink stood there; and the line after them.
 pub record ServesNode {D : Type 0} (source : SourceUse) (sink : SinkUse) (disk : DiskUse D) (s : Status) : Type 0 where
   pub outcome : Served
   pub status_is : s ≡ status_at outcome

@@ -15,10 +15,10 @@ abbrev pub place_or : ℕ → Option ℕ → ℕ
 place_or count None = count
 place_or count (Some place) = place
 
--- The place, from 0, of the first word that is missing or wrong, where behind these words stands one that no command has: that word's own,
+-- The place, from 0, of the first word that is missing or wrong, where after these words stands one that no command has: that word's own,
 -- if a command begins with these.
-abbrev pub usage_behind : List (List ℕ) → ℕ
-usage_behind words = place_or (length words) (usage_of words)
+abbrev pub usage_after : List (List ℕ) → ℕ
+usage_after words = place_or (length words) (usage_of words)
 
 -- ## A folder that wasn't locked
 abbrev pub status_unlocked : LockFail → Status

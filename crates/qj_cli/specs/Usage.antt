@@ -22,43 +22,43 @@ abbrev pub is_oiv : List ℕ → Bool
 is_oiv word = bytes_eq word (codes "delimited") || (bytes_eq word (codes "sizes") || bytes_eq word (codes "json"))
 
 -- a command of one word takes no others
-abbrev pub behind_one : List (List ℕ) → Option ℕ
-behind_one [] = None
-behind_one (word ∷ words) = Some 1
+abbrev pub after_one : List (List ℕ) → Option ℕ
+after_one [] = None
+after_one (word ∷ words) = Some 1
 
 -- a tool takes one name
-abbrev pub behind_tool : List (List ℕ) → Option ℕ
-behind_tool [] = Some 2
-behind_tool (name ∷ []) = None
-behind_tool (name ∷ word ∷ words) = Some 3
+abbrev pub after_tool : List (List ℕ) → Option ℕ
+after_tool [] = Some 2
+after_tool (name ∷ []) = None
+after_tool (name ∷ word ∷ words) = Some 3
 
--- behind `oev` and `oiv` stands a tool of theirs
-unfoldable pub behind_program : (List ℕ → Bool) → List (List ℕ) → Option ℕ
-behind_program is_tool [] = Some 1
-behind_program is_tool (word ∷ words) = if is_tool word then behind_tool words else Some 1
+-- after `oev` and `oiv` stands a tool of theirs
+unfoldable pub after_program : (List ℕ → Bool) → List (List ℕ) → Option ℕ
+after_program is_tool [] = Some 1
+after_program is_tool (word ∷ words) = if is_tool word then after_tool words else Some 1
 
--- behind `gen` stand three numbers: the one that a script is made from, how many edits and how many nodes
-abbrev pub behind_nodes : List (List ℕ) → Option ℕ
-behind_nodes [] = None
-behind_nodes (word ∷ words) = Some 4
+-- after `gen` stand three numbers: the one that a script is made from, how many edits and how many nodes
+abbrev pub after_nodes : List (List ℕ) → Option ℕ
+after_nodes [] = None
+after_nodes (word ∷ words) = Some 4
 
 abbrev pub behind_edits : List (List ℕ) → Option ℕ
 behind_edits [] = Some 3
-behind_edits (nodes ∷ words) = if is_number 1 15 nodes then behind_nodes words else Some 3
+behind_edits (nodes ∷ words) = if is_number 1 15 nodes then after_nodes words else Some 3
 
-abbrev pub behind_number : List (List ℕ) → Option ℕ
-behind_number [] = Some 2
-behind_number (edits ∷ words) = if is_number 0 10000 edits then behind_edits words else Some 2
+abbrev pub after_number : List (List ℕ) → Option ℕ
+after_number [] = Some 2
+after_number (edits ∷ words) = if is_number 0 10000 edits then behind_edits words else Some 2
 
-unfoldable pub behind_gen : List (List ℕ) → Option ℕ
-behind_gen [] = Some 1
-behind_gen (number ∷ words) = if is_number 0 greatest number then behind_number words else Some 1
+unfoldable pub after_gen : List (List ℕ) → Option ℕ
+after_gen [] = Some 1
+after_gen (number ∷ words) = if is_number 0 greatest number then after_number words else Some 1
 
 -- the place, from 0, of the first word that is missing or wrong
 unfoldable pub usage_of : List (List ℕ) → Option ℕ
 usage_of [] = Some 0
 usage_of (word ∷ words) =
-    if is_alone word then behind_one words
-    else (if bytes_eq word (codes "oev") then behind_program is_oev words
-    else (if bytes_eq word (codes "oiv") then behind_program is_oiv words
-    else (if bytes_eq word (codes "gen") then behind_gen words else Some 0)))
+    if is_alone word then after_one words
+    else (if bytes_eq word (codes "oev") then after_program is_oev words
+    else (if bytes_eq word (codes "oiv") then after_program is_oiv words
+    else (if bytes_eq word (codes "gen") then after_gen words else Some 0)))

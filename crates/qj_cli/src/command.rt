@@ -1,7 +1,7 @@
 // The commands, read from the words.
 ghost use Rattle.std.specs.Prelude.{◌≡◌, [], ◌∷◌, false, Some, codes, MatchOption, MatchResult};
 ghost use Rattle.qj_cli.specs.Commands.{asked_in, AskFor};
-ghost use Rattle.qj_cli.specs.Usage.{bytes_of, is_alone, is_oev, is_oiv, behind_one, behind_tool, behind_program, behind_gen, usage_of};
+ghost use Rattle.qj_cli.specs.Usage.{bytes_of, is_alone, is_oev, is_oiv, after_one, after_tool, after_program, after_gen, usage_of};
 
 use crate::tool::{Tool, image_tool_of, segment_tool_of};
 use line_words::number_of;
@@ -51,14 +51,14 @@ fn command_of<'a>(word: &str) -> Option<Command<'a>>
 
 /// That no word stands here; or the place of the first, which is 1.
 fn no_word(words: &[String]) -> Result<(), u64>
-    ensures { MatchResult result (λ _. bytes_of words.now ≡ []) (λ place. behind_one (bytes_of words.now) ≡ Some place) }
+    ensures { MatchResult result (λ _. bytes_of words.now ≡ []) (λ place. after_one (bytes_of words.now) ≡ Some place) }
 {
     if words.is_empty() { Ok(()) } else { Err(1) }
 }
 
 /// The one word that stands here, which may be any; or the place at which it is missing, or another one stands.
 fn one_name(words: &[String]) -> Result<&str, u64>
-    ensures { MatchResult result (λ name. bytes_of words.now ≡ name.now ∷ []) (λ place. behind_tool (bytes_of words.now) ≡ Some place) }
+    ensures { MatchResult result (λ name. bytes_of words.now ≡ name.now ∷ []) (λ place. after_tool (bytes_of words.now) ≡ Some place) }
 {
     let Some((name, others)) = words.split_first() else {
         return Err(2);
@@ -70,10 +70,10 @@ fn one_name(words: &[String]) -> Result<&str, u64>
     }
 }
 
-/// The listing of a segment's file that the words behind `oev` ask for; or the place of the first wrong word.
-#[tactic(auto, unfolding(crate::specs::Usage::behind_program))]
+/// The listing of a segment's file that the words after `oev` ask for; or the place of the first wrong word.
+#[tactic(auto, unfolding(crate::specs::Usage::after_program))]
 fn read_oev(words: &[String]) -> Result<Command<'_>, u64>
-    ensures { MatchResult result (λ c. AskFor (codes "oev" ∷ bytes_of words.now) (asked_in c)) (λ place. behind_program is_oev (bytes_of words.now) ≡ Some place) }
+    ensures { MatchResult result (λ c. AskFor (codes "oev" ∷ bytes_of words.now) (asked_in c)) (λ place. after_program is_oev (bytes_of words.now) ≡ Some place) }
 {
     let Some((word, names)) = words.split_first() else {
         return Err(1);
@@ -90,10 +90,10 @@ fn read_oev(words: &[String]) -> Result<Command<'_>, u64>
     }
 }
 
-/// The listing of an image that the words behind `oiv` ask for; or the place of the first wrong word.
-#[tactic(auto, unfolding(crate::specs::Usage::behind_program))]
+/// The listing of an image that the words after `oiv` ask for; or the place of the first wrong word.
+#[tactic(auto, unfolding(crate::specs::Usage::after_program))]
 fn read_oiv(words: &[String]) -> Result<Command<'_>, u64>
-    ensures { MatchResult result (λ c. AskFor (codes "oiv" ∷ bytes_of words.now) (asked_in c)) (λ place. behind_program is_oiv (bytes_of words.now) ≡ Some place) }
+    ensures { MatchResult result (λ c. AskFor (codes "oiv" ∷ bytes_of words.now) (asked_in c)) (λ place. after_program is_oiv (bytes_of words.now) ≡ Some place) }
 {
     let Some((word, names)) = words.split_first() else {
         return Err(1);
@@ -110,10 +110,10 @@ fn read_oiv(words: &[String]) -> Result<Command<'_>, u64>
     }
 }
 
-/// The play of a generated script that the words behind `gen` ask for; or the place of the first wrong word.
-#[tactic(auto, using(crate::proofs::GenLaws::asks), unfolding(crate::specs::Usage::behind_gen))]
+/// The play of a generated script that the words after `gen` ask for; or the place of the first wrong word.
+#[tactic(auto, using(crate::proofs::GenLaws::asks), unfolding(crate::specs::Usage::after_gen))]
 fn read_gen(words: &[String]) -> Result<Command<'_>, u64>
-    ensures { MatchResult result (λ c. AskFor (codes "gen" ∷ bytes_of words.now) (asked_in c)) (λ place. behind_gen (bytes_of words.now) ≡ Some place) }
+    ensures { MatchResult result (λ c. AskFor (codes "gen" ∷ bytes_of words.now) (asked_in c)) (λ place. after_gen (bytes_of words.now) ≡ Some place) }
 {
     let Some((first, others)) = words.split_first() else {
         return Err(1);

@@ -13,8 +13,8 @@ pub fn crashes_in_two_lines()
     ensures first { (files : Files) → StandsAs files (record fresh_state { promised = 1 }) → StandsInside fresh_state two_lines 1 files }
 {}
 
-/// The line that was asked last stands behind those that were answered.
-pub fn next_lines_are_behind()
+/// The line that was asked last stands after those that were answered.
+pub fn next_lines_are_after()
     ensures some { with_next ((5 ∷ []) ∷ []) (Some (6 ∷ [])) ≡ (5 ∷ []) ∷ (6 ∷ []) ∷ [] }
     ensures none { with_next two_lines None ≡ two_lines }
 {}

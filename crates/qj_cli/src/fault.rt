@@ -14,7 +14,7 @@ use std::alloc::{AllocError, Global};
 /// Why the program ends without what it was asked for.
 #[derive(Drop)]
 pub enum Fault {
-    /// The word at this place behind the program's name, from 0, is missing or wrong.
+    /// The word at this place after the program's name, from 0, is missing or wrong.
     Usage(u64),
     /// This line of the script or of a node's requests, from 1, breaks this rule.
     BadScript { line: u64, rule: u64 },

@@ -1,6 +1,7 @@
 // A file is read whole.
-ghost use Rattle.std.specs.Prelude.{◌≡◌, ◌≤◌, ◌+◌, ◌↔◌, ℕ, Some, IfOk, IsErrOf, length, option_map};
-ghost use Rattle.qj_disk.specs.Calls.{HasCause, Rests};
+ghost use Rattle.std.specs.Prelude.{◌≡◌, ◌≤◌, ◌+◌, ℕ, Some, IfOk, IsErrOf, length, option_map};
+ghost use Rattle.qj_disk.specs.Calls.{Rests};
+ghost use Rattle.qj_disk.specs.DiskCalls.{IfTold, IsDiskRun};
 ghost use Rattle.qj_cli.specs.Listing.{longest_file};
 ghost use Rattle.qj_cli.specs.Found.{IsFound, IsShort};
 
@@ -33,9 +34,8 @@ fn read_bytes<D: Disk>(
 
     ensures found { D.tells disk.old → IfOk result (IsFound ((D.view disk.old).seen name.now)) }
     ensures short { IfOk result IsShort }
-    ensures tells { D.tells disk.old ↔ D.tells disk.new }
-    ensures disk { D.tells disk.old → Rests (D.view disk.old) (D.view disk.new) }
-    ensures cause { HasCause (D.faults disk.old) (D.faults disk.new) (D.steady disk.old) (D.steady disk.new) result }
+    ensures call { IsDiskRun D.DiskModel disk.old disk.new result }
+    ensures disk { IfTold D.DiskModel disk.old disk.new Rests }
     ensures lasting { (k : ℕ) → D.left disk.old ≡ Some (1 + k) → IsErrOf result DiskFail.Failed → ⊥ }
 {
     let mut bytes = vec![in alloc; 0u8; size as usize]?;
@@ -48,9 +48,8 @@ fn read_bytes<D: Disk>(
 pub fn find<D: Disk>(alloc: Global, disk: &mut D, name: &str) -> Result<Found, DiskFail>
     ensures found { D.tells disk.old → IfOk result (IsFound ((D.view disk.old).seen name.now)) }
     ensures short { IfOk result IsShort }
-    ensures tells { D.tells disk.old ↔ D.tells disk.new }
-    ensures disk { D.tells disk.old → Rests (D.view disk.old) (D.view disk.new) }
-    ensures cause { HasCause (D.faults disk.old) (D.faults disk.new) (D.steady disk.old) (D.steady disk.new) result }
+    ensures call { IsDiskRun D.DiskModel disk.old disk.new result }
+    ensures disk { IfTold D.DiskModel disk.old disk.new Rests }
     ensures stopped { D.left disk.old ≡ Some 0 → IsErrOf result DiskFail.Failed }
     ensures lasting { (k : ℕ) → D.left disk.old ≡ Some (2 + k) → IsErrOf result DiskFail.Failed → ⊥ }
 {

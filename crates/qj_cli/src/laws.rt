@@ -23,7 +23,7 @@ pub fn numbers_have_one_summary()
     one_script_has_one_play();
 }
 
-/// No report, of a play in order or by threads, shows a fault of a disk, a want of memory or a bad file: no answer and nothing that a
+/// No report, of a play in order or by threads, shows a fault of a disk, a lack of memory or a bad file: no answer and nothing that a
 /// caller was told is one.
 pub fn reports_show_no_fault()
     ensures in_order { ReportsShowNoFault ComeOf }

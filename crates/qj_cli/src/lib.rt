@@ -21,7 +21,7 @@ mod tool;
 mod top;
 mod writing;
 
-pub use crash_examples::{crashes_in_two_lines, next_lines_are_behind};
+pub use crash_examples::{crashes_in_two_lines, next_lines_are_after};
 pub use exit::Exit;
 pub use laws::{
     files_have_one_listing, numbers_have_one_summary, reports_show_no_fault,

@@ -4,7 +4,8 @@ ghost use Rattle.edit_ops.specs.Records.{EditView};
 ghost use Rattle.oev_tool.specs.Segment.{IsSegment};
 ghost use Rattle.oev_tool.specs.Listed.{IsListed, GivesText};
 ghost use Rattle.oiv_tool.specs.Listed.{IsListed as IsImageListed};
-ghost use Rattle.qj_disk.specs.Calls.{HasCause, Rests};
+ghost use Rattle.qj_disk.specs.Calls.{Rests};
+ghost use Rattle.qj_disk.specs.DiskCalls.{IfTold, IsDiskRun};
 ghost use Rattle.qj_cli.specs.Uses.{written_to, done_to};
 ghost use Rattle.qj_cli.specs.Listing.{longest_file, told_by, rows_told_by, IsListing, GivesListing, IsListFault, Lists};
 ghost use Rattle.qj_cli.specs.Found.{IsShort, IsReadFault, GivesFound, IsFoundFault, answer_of};
@@ -103,9 +104,8 @@ fn due_of_name<D: Disk>(
 ) -> Result<Vec<u8>, Fault>
     ensures text { IfOk result (λ text. GivesListing tool name.now (done_to D.tells D.view D.faults D.steady D.left disk.old disk.new) Status.Ok text.items) }
     ensures fault { IfErr result (IsListFault tool name.now (done_to D.tells D.view D.faults D.steady D.left disk.old disk.new)) }
-    ensures tells { D.tells disk.old ↔ D.tells disk.new }
-    ensures rests { D.tells disk.old → Rests (D.view disk.old) (D.view disk.new) }
-    ensures cause { HasCause (D.faults disk.old) (D.faults disk.new) (D.steady disk.old) (D.steady disk.new) (answer_of result) }
+    ensures call { IsDiskRun D.DiskModel disk.old disk.new (answer_of result) }
+    ensures rests { IfTold D.DiskModel disk.old disk.new Rests }
 {
     match find(alloc, disk, name) {
         Ok(found) => due_of_found(alloc, tool, &found),

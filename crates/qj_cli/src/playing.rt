@@ -16,7 +16,7 @@ use gate_seats::Pass;
 use mesh::Mesh;
 use ns_tree::EndList;
 use qj_outside::{Input, Sink, Source, read_all};
-use report_text::{Report, report_of};
+use report_text::{LONGEST_REPORT, Report, report_of};
 use script_text::{ReadScript, Script, read_script};
 use std::alloc::Global;
 use std::mem;
@@ -25,9 +25,6 @@ use std::thread::Threads;
 
 /// The most bytes of a script.
 const LONGEST_SCRIPT: u64 = 1_048_576;
-
-/// The most bytes of a report.
-const LONGEST_REPORT: u64 = 268_435_456;
 
 /// The script of a source's bytes.
 fn script_of_bytes(alloc: Global, bytes: &[u8]) -> Result<Script, Fault>
@@ -64,7 +61,7 @@ fn due_of_lists(alloc: Global, mesh: &Mesh, ends: &EndList) -> Result<Vec<u8>, F
 {
     match report_of(alloc, mesh, ends) {
         Ok(Report::Text(text)) => Ok(text),
-        Ok(Report::TooLong) => Err(Fault::Limit(LONGEST_REPORT)),
+        Ok(Report::TooLong) => Err(Fault::Limit(LONGEST_REPORT as u64)),
         Err(_) => Err(Fault::OutOfMemory),
     }
 }

@@ -14,7 +14,7 @@ use crate::served_node::ServedNode;
 use crate::status::Status;
 use crate::writing::write_fault;
 use journal_node::{JournalNode, OpenFail};
-use node_session::{Served, serve};
+use node_session::{LONGEST_INPUT, LONGEST_LINE, Served, serve};
 use qj_disk::Disk;
 use qj_outside::{Sink, Source};
 use std::alloc::Global;
@@ -29,8 +29,8 @@ fn end_session<K: Sink>(alloc: Global, served: Served, sink: &mut K) -> Status
             let rule = rule as u64;
             write_fault(alloc, sink, &Fault::BadScript { line, rule })
         }
-        Served::LongLine => write_fault(alloc, sink, &Fault::Limit(1_048_576)),
-        Served::LongInput => write_fault(alloc, sink, &Fault::Limit(1_073_741_824)),
+        Served::LongLine => write_fault(alloc, sink, &Fault::Limit(LONGEST_LINE as u64)),
+        Served::LongInput => write_fault(alloc, sink, &Fault::Limit(LONGEST_INPUT as u64)),
         Served::ReadFault => write_fault(alloc, sink, &Fault::ReadFault),
         Served::WriteFault => Status::WriteFault,
         Served::DiskFault => write_fault(alloc, sink, &Fault::DiskFault),

@@ -4,7 +4,7 @@ ghost use Rattle.qj_cli.specs.Commands.{node, words_of};
 ghost use Rattle.qj_cli.specs.Usage.{bytes_of};
 ghost use Rattle.qj_cli.specs.Uses.{written_to};
 ghost use Rattle.qj_cli.specs.Told.{TellsFault};
-ghost use Rattle.qj_cli.specs.Starting.{usage_behind, TellsUnlocked};
+ghost use Rattle.qj_cli.specs.Starting.{usage_after, TellsUnlocked};
 
 use crate::command::{Command, read_command};
 use crate::fault::Fault;
@@ -24,9 +24,9 @@ pub fn asks_for_node(words: &[String]) -> bool
     }
 }
 
-/// The place of the first word that is missing or wrong, where one that no command has stands behind these.
+/// The place of the first word that is missing or wrong, where one that no command has stands after these.
 fn place_behind(words: &[String]) -> u64
-    ensures { result ≡ usage_behind (bytes_of words.now) }
+    ensures { result ≡ usage_after (bytes_of words.now) }
 {
     match read_command(words) {
         Ok(_) => words.len() as u64,
@@ -34,9 +34,9 @@ fn place_behind(words: &[String]) -> u64
     }
 }
 
-/// Tells the place of the first wrong word, where one that isn't UTF-8 stands behind these, so that no command has it.
+/// Tells the place of the first wrong word, where one that isn't UTF-8 stands after these, so that no command has it.
 pub fn refuse_words<K: Sink>(alloc: Global, words: &[String], sink: &mut K) -> Status
-    ensures { TellsFault (Fault.Usage (usage_behind (bytes_of words.now))) result (written_to K.taken K.faults sink.old sink.new) }
+    ensures { TellsFault (Fault.Usage (usage_after (bytes_of words.now))) result (written_to K.taken K.faults sink.old sink.new) }
 {
     write_fault(alloc, sink, &Fault::Usage(place_behind(words)))
 }

@@ -5,7 +5,7 @@
 pub enum Status {
     /// The whole report, or the whole listing, was written; of a node each request was answered.
     Ok,
-    /// A word behind the program's name is missing or wrong.
+    /// A word after the program's name is missing or wrong.
     Usage,
     /// A line of the script breaks a rule, or one that a node is to answer isn't a request.
     BadScript,

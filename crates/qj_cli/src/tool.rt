@@ -32,7 +32,7 @@ pub enum Tool {
     Oiv(ImageTool),
 }
 
-/// The tool that has this word behind `oev`.
+/// The tool that has this word after `oev`.
 pub fn segment_tool_of(word: &str) -> Option<SegmentTool>
     ensures { MatchOption result (is_oev word.now ≡ false) (λ of. word.now ≡ segment_word of) }
 {
@@ -47,7 +47,7 @@ pub fn segment_tool_of(word: &str) -> Option<SegmentTool>
     }
 }
 
-/// The tool that has this word behind `oiv`.
+/// The tool that has this word after `oiv`.
 pub fn image_tool_of(word: &str) -> Option<ImageTool>
     ensures { MatchOption result (is_oiv word.now ≡ false) (λ of. word.now ≡ image_word of) }
 {

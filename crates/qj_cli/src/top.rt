@@ -86,7 +86,7 @@ pub fn qjm_alone<S: Source, K: Sink, D: Disk>(
         (done_to D.tells D.view D.faults D.steady D.left disk exit.disk) exit.status) }
     ensures unread { (asked : Asked) → AskFor (bytes_of words.now) asked → ReadsNone asked → source.new ≡ source.old }
 
-    // With status Ok, or for want of memory not, where the input is right and nothing fails.
+    // With status Ok, or for lack of memory not, where the input is right and nothing fails.
     ensures complete { (asked : Asked) → AskFor (bytes_of words.now) asked
         → IfOk result (λ exit. IsComplete asked (read_from S.left S.faults source.old source.new) (written_to K.taken K.faults sink.old sink.new)
         (done_to D.tells D.view D.faults D.steady D.left disk exit.disk) exit.status) }
@@ -106,7 +106,7 @@ pub fn qjm_alone<S: Source, K: Sink, D: Disk>(
     }
 }
 
-/// Does the command that the words behind the program's name ask for:
+/// Does the command that the words after the program's name ask for:
 ///
 /// - `play` plays the script that the source gives, over nodes on disks in memory, and writes the report to the sink. The disk
 ///   isn't called.
@@ -134,7 +134,7 @@ pub fn qjm_alone<S: Source, K: Sink, D: Disk>(
 /// NoFile` where there is no such file; of a node `0 BadFile NAME` where this file isn't in its format, so that the node isn't
 /// opened. `ReadFault`: the source failed. `DiskFault`: the disk failed. `WriteFault`: the sink failed while the report, the
 /// listing or a reply was written; a prefix was. `OutOfMemory`: memory ran out. Each but `WriteFault` writes its line `error
-/// NAME ..`, behind the replies of a node to the lines before, and stays the status where that line's writing fails. The disk
+/// NAME ..`, after the replies of a node to the lines before, and stays the status where that line's writing fails. The disk
 /// is given back.
 pub fn qjm<R: Threads + Wait + Sync, G: Pass + Sync, S: Source, K: Sink, D: Disk>(
     rt: &R,
@@ -156,7 +156,7 @@ pub fn qjm<R: Threads + Wait + Sync, G: Pass + Sync, S: Source, K: Sink, D: Disk
         (done_to D.tells D.view D.faults D.steady D.left disk result.disk) result.status }
     ensures unread { (asked : Asked) → AskFor (bytes_of words.now) asked → ReadsNone asked → source.new ≡ source.old }
 
-    // With status Ok, or for want of memory not, where the input is right and nothing fails.
+    // With status Ok, or for lack of memory not, where the input is right and nothing fails.
     ensures complete { (asked : Asked) → AskFor (bytes_of words.now) asked
         → IsComplete asked (read_from S.left S.faults source.old source.new) (written_to K.taken K.faults sink.old sink.new)
         (done_to D.tells D.view D.faults D.steady D.left disk result.disk) result.status }

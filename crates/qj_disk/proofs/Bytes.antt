@@ -1,4 +1,4 @@
--- Bytes over others: what stands in front, behind, and before the change.
+-- Bytes over others: what stands in front, after, and before the change.
 use Rattle.std.proofs.Common.{◌≡◌, ℕ, ◌+◌, ◌-◌, ◌≤◌, ◌⊎◌, ⊎_elim, List, [], ◌++◌, refl, ap, sym, ◌∙◌, arith, take, drop, length, length-append, length-take, length-drop, length-take-le, append_assoc}
 use Rattle.std.specs.Prelude.{min, max, Option, Some, None}
 use Rattle.std.proofs.lemmas.List.{append-nil, take_all, drop_all, take_at, drop_at, take-append-le, drop-append-le, take-append-drop, take-take, drop-take, take_min}
@@ -82,31 +82,6 @@ put_back at over bytes before old le is same =
         let e : at + over ≡ length old = omega arith in
         ap (λ (l : List ℕ). take (length old) (l ++ drop (at + over) (overwritten at bytes old))) (take_all (at + over) old (omega arith))
         ∙ take_at old (drop (at + over) (overwritten at bytes old)) (length old) refl
-
--- a buffer made longer by what goes past its end, then written over
-pub overwritten_in_parts : (at over : ℕ) (bytes old : List ℕ) → at ≤ length old → over ≡ min (length bytes) (length old - at)
-    → take at (old ++ drop over bytes) ++ take over bytes ++ drop (at + over) (old ++ drop over bytes) ≡ overwritten at bytes old
-overwritten_in_parts at over bytes old le is =
-    ap (λ (l : List ℕ). (l ++ take over bytes) ++ drop (at + over) (old ++ drop over bytes)) (take-append-le at old (drop over bytes) le)
-    ∙ ap (λ (l : List ℕ). (take at old ++ take over bytes) ++ l) (drop-append-le (at + over) old (drop over bytes) (omega arith))
-    ∙ ⊎_elim fits goes_past (le_or (length bytes) (length old - at))
-  where
-    fits : length bytes ≤ length old - at → (take at old ++ take over bytes) ++ (drop (at + over) old ++ drop over bytes) ≡ overwritten at bytes old
-    fits short =
-        let e : over ≡ length bytes = omega arith in
-        ap (λ (l : List ℕ). (take at old ++ take over bytes) ++ (drop (at + over) old ++ l)) (drop_all over bytes (omega arith))
-        ∙ ap (λ (l : List ℕ). (take at old ++ take over bytes) ++ l) (append-nil (drop (at + over) old))
-        ∙ ap (λ (l : List ℕ). (take at old ++ l) ++ drop (at + over) old) (take_all over bytes (omega arith))
-        ∙ ap (λ (n : ℕ). (take at old ++ bytes) ++ drop (at + n) old) e
-
-    goes_past : length old - at ≤ length bytes → (take at old ++ take over bytes) ++ (drop (at + over) old ++ drop over bytes) ≡ overwritten at bytes old
-    goes_past long =
-        let none : drop (at + over) old ≡ [] = drop_all (at + over) old (omega arith) in
-        let none' : drop (at + length bytes) old ≡ [] = drop_all (at + length bytes) old (omega arith) in
-        ap (λ (l : List ℕ). (take at old ++ take over bytes) ++ (l ++ drop over bytes)) none
-        ∙ append_assoc (take at old) (take over bytes) (drop over bytes)
-        ∙ ap (λ (l : List ℕ). take at old ++ l) (take-append-drop over bytes)
-        ∙ sym (append-nil (take at old ++ bytes)) ∙ ap (λ (l : List ℕ). (take at old ++ bytes) ++ l) (sym none')
 
 -- a cut
 pub done_is_cut : (to : ℕ) (old : List ℕ) → IsCut to old (take to old)

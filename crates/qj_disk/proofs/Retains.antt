@@ -37,7 +37,7 @@ pub record CrashesIn (choice : Choice) (old new : Option FileView) : Type 0 wher
   pub rests : IsAtRest new
   pub image : MayBe old (crashed_in choice old)
 
--- behind a key there is no key like it
+-- after a key there is no key like it
 none_behind : (name : List ℕ) (k : String Global) (es : List Entry) → test name k ≡ true → AllByRecursion (λ y. string_cmp k y ≡ Less) (keys_of es) → lookup (test name) es ≡ None
 none_behind name k [] is all = refl
 none_behind name k (e ∷ es) is all =
@@ -58,7 +58,7 @@ module _ {F : Type 0} (T : F → String Global → FileView → Bool → FileVie
   none_left None is = refl
   none_left (Some v) is = absurd (cc)
 
-  -- the first file, and those behind it
+  -- the first file, and those after it
   step : (k : String Global) (v w : FileView) (es rest : List Entry) (b t : Bool) → test name k ≡ t → CrashesFile choice v b w → AllByRecursion (λ y. string_cmp k y ≡ Less) (keys_of es)
       → CrashesIn choice (lookup (test name) es) (lookup (test name) rest) → CrashesIn choice (cond t (Some v) (lookup (test name) es)) (lookup (test name) (cond b ((k, w) ∷ rest) rest))
   step k v w es rest true true is crashes all behind = subst (λ (s : Bool). CrashesIn choice (Some v) (cond s (Some w) (lookup (test name) rest))) (sym is) (one v true w None crashes refl)

@@ -59,12 +59,6 @@ cut_stopped name to r v w keeps synced err = record {
   time = keeps.time;
 }
 
-pub sync_stopped : {T : Type 0} (name : List ℕ) (r : Result T DiskFail) (v w : View) → Keeps v w → IsErr r → Syncs name r v w
-sync_stopped name r v w keeps err = record { keeps = keeps; done = IfOk-from_err r (λ _. IsStable name w) err; stored = IfOk-from_err r (λ _. ChangesOnly name (λ o n. n ≡ v.seen name) v.synced w.synced) err }
-
-pub atomic_stopped : {T : Type 0} (step : Files → Files → Type 0) (r : Result T DiskFail) (v w : View) → Keeps v w → IsErr r → Atomic step r v w
-atomic_stopped step r v w keeps err = record { done = IfOk-from_err r (λ _. Happens step v w) err; failed = inr keeps; stored = IfOk-from_err r (λ _. step v.synced w.synced) err; time = keeps.time }
-
 pub time : (past past' : Past) (m m' : Map) → Remembers m past past' → Elapses (view_of past m) (view_of past' m')
 time past past' m m' remembers = record {
   later = omega (arith, ap (λ (l : Past). length l) remembers.items, length-append past (remembers.snapshot ∷ []));

@@ -1,12 +1,28 @@
 -- What each call of a disk does, where the disk tells its bytes, and why a call fails.
-use Rattle.std.specs.Prelude.{◌≡◌, ◌⊎◌, ℕ, suc, ◌+◌, ◌-◌, ◌^◌, ◌≤◌, min, List, length, Result, OnOk, IsErrOf, Option, Some, IsSome, Contains}
+use Rattle.std.specs.Prelude.{◌≡◌, ◌⊎◌, ℕ, suc, ◌+◌, ◌-◌, ◌^◌, ◌≤◌, min, List, length, take, drop, Result, IfOk, OnOk, IsErrOf, Option, option_map, Some, IsSome, Contains}
 use Rattle.std.specs.Cmp.Lexicographic.{slice_cmp}
 use Rattle.std.specs.Ordering.{nat_cmp}
 use Rattle.std.specs.List.Sorted.{IsStrictlySortedBy}
-use Rattle.qj_disk.specs.Files.{Files, ChangesOnly, Holds, Torn, IsShortened, Cut, Follows}
+use Rattle.qj_disk.specs.Files.{Files, bytes_of, ChangesOnly, Holds, Torn, IsShortened, Cut, Follows}
 use Rattle.qj_disk.specs.View.{View, Elapses, IsStable, LeavesOnly}
 use Rattle.qj_disk.specs.declared.disk.DiskFail.{DiskFail}
 use Rattle.qj_disk.specs.declared.disk.DiskFail.TheVariants.{Failed, OutOfMemory}
+
+-- the offset is within the file of this name, or at its end
+abbrev pub IsWithin : List ℕ → ℕ → View → Type 0
+IsWithin name at v = at ≤ length (bytes_of (v.seen name))
+
+-- the file of this name is there, and has so many bytes at least
+abbrev pub HasBytes : List ℕ → ℕ → View → Type 0
+HasBytes name count v = IsSome (v.seen name) × (count ≤ length (bytes_of (v.seen name)))
+
+-- the result is the length of the file of this name
+abbrev pub HasLength : List ℕ → Result (Option ℕ) DiskFail → View → Type 0
+HasLength name result v = IfOk result (λ len. len ≡ option_map length (v.seen name))
+
+-- the file's bytes from an offset on are in front, as many as fit
+abbrev pub HasRead : List ℕ → ℕ → ℕ → List ℕ → Result ℕ DiskFail → View → Type 0
+HasRead name at room into result v = IfOk result (λ n. take n into ≡ take room (drop at (bytes_of (v.seen name))))
 
 -- no file changes, and no crash leaves what it couldn't leave before
 pub record Keeps (old new : View) : Type 0 where

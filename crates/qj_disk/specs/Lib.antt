@@ -13,3 +13,4 @@ pub mod Timeline
 pub mod TimelineLaws
 pub mod MemDisk
 pub mod Crash
+pub mod DiskCalls

@@ -1,5 +1,5 @@
 //! The changes of a file in memory since its last sync, and how its buffer changes.
-ghost use Rattle.std.specs.Prelude.{◌≡◌, ◌≤◌, ◌+◌, ℕ, List, [], length, map, OnOk, OnErr};
+ghost use Rattle.std.specs.Prelude.{◌≡◌, ◌≤◌, ◌+◌, [], length, map, OnOk, OnErr};
 ghost use Rattle.qj_disk.specs.FileView.{overwritten, filled, filled_by};
 ghost use Rattle.qj_disk.specs.Change.{undo, undone, step_of, CanUndo, AllUndo};
 
@@ -24,7 +24,7 @@ pub enum Change {
     },
 }
 
-// Puts bytes over those from an offset on, and behind the end what goes past it.
+// Puts bytes over those from an offset on, and after the end what goes past it.
 pub fn overwrite(buffer: &mut Vec<u8>, at: usize, bytes: &[u8]) -> Result<(), AllocError>
     requires { at ≤ length buffer.old.items }
     ensures ok { OnOk result (buffer.new.items ≡ overwritten at bytes.now buffer.old.items) }

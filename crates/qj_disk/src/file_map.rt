@@ -118,8 +118,10 @@ pub fn names(alloc: Global, files: &FileMap) -> Result<Vec<String>, AllocError>
 
 /// Each file becomes what a crash leaves of it by this choice. Takes no memory.
 pub fn crash(files: &mut FileMap, choice: Choice)
-    ensures left { (name : List ℕ) → now_of (file_in files.new name) ≡ crashed_in choice (file_in files.old name) }
-    ensures image { (name : List ℕ) → MayBe (file_in files.old name) (crashed_in choice (file_in files.old name)) }
+    ensures left { (name : List ℕ)
+        → now_of (file_in files.new name) ≡ crashed_in choice (file_in files.old name) }
+    ensures image { (name : List ℕ)
+        → MayBe (file_in files.old name) (crashed_in choice (file_in files.old name)) }
     ensures rests { (name : List ℕ) → IsAtRest (file_in files.new name) }
 {
     files.retain(|_, file| file.crash(choice));

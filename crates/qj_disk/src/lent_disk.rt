@@ -2,11 +2,11 @@
 ghost use Rattle.std.specs.Prelude.{Bool};
 ghost use Rattle.qj_disk.specs.View.{View};
 
-use crate::disk::{Disk, DiskFail};
+use crate::disk::{Disk, DiskFail, DiskModel};
 
 /// A disk that is lent is one for as long: each call is the disk's own, and what is meant by it is what is
 /// meant by the disk as it is now.
-impl<D: Disk> Disk for &mut D {
+impl<D: Disk> DiskModel for &mut D {
     ghost tells = { λ d. D.tells d.now };
 
     ghost is_told = { λ d. D.is_told d.now };
@@ -22,7 +22,9 @@ impl<D: Disk> Disk for &mut D {
     ghost steady = { λ d. D.steady d.now };
 
     ghost left = { λ d. D.left d.now };
+}
 
+impl<D: Disk> Disk for &mut D {
     ghost sound = { λ d t. D.sound d.now t };
 
     ghost told = { λ d s. D.told d.now s };

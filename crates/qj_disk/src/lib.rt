@@ -12,6 +12,6 @@ mod mem_file;
 mod untold_disk;
 pub mod worked;
 
-pub use disk::{Choice, Disk, DiskFail};
+pub use disk::{Choice, Disk, DiskFail, DiskModel};
 pub use mem_disk::MemDisk;
 pub use untold_disk::UntoldDisk;

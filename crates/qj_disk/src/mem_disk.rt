@@ -4,7 +4,7 @@ ghost use Rattle.qj_disk.specs.Calls.{HasShortage, Rose};
 ghost use Rattle.qj_disk.specs.Timeline.{Remembers};
 
 use crate::call_plan::CallPlan;
-use crate::disk::{Choice, Disk, DiskFail};
+use crate::disk::{Choice, Disk, DiskFail, DiskModel};
 use crate::file_map;
 use crate::file_map::FileMap;
 use std::alloc::Global;
@@ -24,7 +24,7 @@ pub struct MemDisk {
     reads: u64,
 }
 
-// Tells a want of memory, and counts it.
+// Tells a lack of memory, and counts it.
 fn tell_short(shortages: &mut u64) -> DiskFail
     ensures told { result ≡ DiskFail.OutOfMemory }
     ensures rose { Rose shortages.old shortages.new }
@@ -127,8 +127,10 @@ impl MemDisk {
 
     /// Becomes one of the images that a crash may leave, and fails no more. Takes no memory.
     pub fn crash(&mut self, choice: Choice)
-        ensures left { (name : List ℕ) → (disk_view self.new).seen name ≡ crashed_in choice (file_of self.old name) }
-        ensures chosen { (name : List ℕ) → Chosen choice ((disk_view self.old).synced name) ((disk_view self.old).seen name) ((disk_view self.new).seen name) }
+        ensures left { (name : List ℕ)
+            → (disk_view self.new).seen name ≡ crashed_in choice (file_of self.old name) }
+        ensures chosen { (name : List ℕ)
+            → Chosen choice ((disk_view self.old).synced name) ((disk_view self.old).seen name) ((disk_view self.new).seen name) }
         ensures image { (disk_view self.old).may_leave (disk_view self.new).seen }
         ensures stable { AllLeave (disk_view self.new) (IsSame (disk_view self.new).seen) }
         ensures steady { CannotFail self.new }
@@ -141,7 +143,7 @@ impl MemDisk {
     }
 }
 
-impl Disk for MemDisk {
+impl DiskModel for MemDisk {
     ghost use Rattle.std.specs.Prelude.{◌≡◌, ℕ, true};
     ghost use Rattle.qj_disk.specs.MemDisk.{disk_view, faults_of, shortages_of, reads_of, CannotFail, calls_left};
     ghost use Rattle.qj_disk.specs.TimelineLaws.{is_sound};
@@ -161,6 +163,12 @@ impl Disk for MemDisk {
     ghost steady = { CannotFail };
 
     ghost left = { calls_left };
+}
+
+impl Disk for MemDisk {
+    ghost use Rattle.std.specs.Prelude.{◌≡◌, ℕ, true};
+    ghost use Rattle.qj_disk.specs.MemDisk.{disk_view, faults_of, shortages_of, reads_of, CannotFail, calls_left};
+    ghost use Rattle.qj_disk.specs.TimelineLaws.{is_sound};
 
     ghost sound = { λ m _. is_sound m.past.items m.files };
 

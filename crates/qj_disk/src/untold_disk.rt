@@ -1,8 +1,8 @@
 //! A disk in memory that tells nothing of its bytes.
-ghost use Rattle.std.specs.Prelude.{◌≡◌, ◌+◌, ◌≤◌, ℕ, None, IsErrOf};
+ghost use Rattle.std.specs.Prelude.{◌≡◌, ◌+◌, ◌≤◌, None, IsErrOf};
 ghost use Rattle.qj_disk.specs.Calls.{Rose};
 
-use crate::disk::{Disk, DiskFail};
+use crate::disk::{Disk, DiskFail, DiskModel};
 use crate::mem_disk::MemDisk;
 
 /// A disk in memory that doesn't tell its bytes, as one over the system's files doesn't: it answers
@@ -33,7 +33,7 @@ fn refuse<T>(refused: &mut u64) -> Result<T, DiskFail>
     Err(DiskFail::Failed)
 }
 
-impl Disk for UntoldDisk {
+impl DiskModel for UntoldDisk {
     ghost use Rattle.std.specs.Prelude.{◌+◌, None, false};
     ghost use Rattle.qj_disk.specs.MemDisk.{disk_view, faults_of, shortages_of, reads_of};
 
@@ -52,6 +52,11 @@ impl Disk for UntoldDisk {
     ghost steady = { λ _. ⊥ };
 
     ghost left = { λ _. None };
+}
+
+impl Disk for UntoldDisk {
+    ghost use Rattle.std.specs.Prelude.{◌+◌, None, false};
+    ghost use Rattle.qj_disk.specs.MemDisk.{disk_view, faults_of, shortages_of, reads_of};
 
     ghost sound = { λ d t. absurd t };
 

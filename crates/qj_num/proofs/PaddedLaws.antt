@@ -3,7 +3,7 @@ use Rattle.std.proofs.Common.{◌≡◌, ℕ, zero, suc, ◌+◌, ◌*◌, ◌/�
 use Rattle.std.specs.Char.{digit_value}
 use Rattle.std.specs.Str.Parse.{AllDigits, digits_value}
 use Rattle.std.proofs.lemmas.Bool.Decides.{nat_tests}
-use Rattle.std.proofs.lemmas.List.{take_all, take_more, length-take, drop-set}
+use Rattle.std.proofs.lemmas.List.{take_all, take_at, take_more, take-set, length-take, drop-set}
 use Rattle.std.proofs.lemmas.Int.Digits.{digits_value_push, digits_push}
 use Rattle.qj_num.specs.Padded.{padded}
 
@@ -62,3 +62,12 @@ padded_goes_on j k n x out total next lt is so_far =
     ∙ ap (λ (i : ℕ). padded k (n / 10) ++ ((48 + n % 10) ∷ drop i out)) {x = suc k} {y = k + 1} (omega arith)
     ∙ ap (λ (d : ℕ). padded k (n / 10) ++ (d ∷ drop (k + 1) out)) (sym is)
     ∙ ap (λ (r : List ℕ). padded k (n / 10) ++ r) (sym (drop-set out k x lt))
+
+-- zeros in front of the last digits
+pub padded_zeros : (j k x : ℕ) (out : List ℕ) → j ≡ k + 1 → k < length out → take j out ≡ padded j 0 → take k (set out k x) ≡ padded k 0
+unfolding padded
+padded_zeros j k x out next lt are =
+    let split : take (k + 1) out ≡ take k out ++ (get_or out k 0 ∷ []) = take_more out k 0 lt in
+    let front : take k (take k out ++ (get_or out k 0 ∷ [])) ≡ take k out = take_at (take k out) (get_or out k 0 ∷ []) k (omega (arith, lt, length-take k out)) in
+    let last : take k (padded (suc k) 0) ≡ padded k 0 = take_at (padded k 0) (48 ∷ []) k (length-padded k 0) in
+    take-set out k x ∙ sym front ∙ ap (take k) (sym split ∙ ap (λ (i : ℕ). take i out) (sym next) ∙ are) ∙ ap (λ (i : ℕ). take k (padded i 0)) {x = j} {y = suc k} (omega (arith, next)) ∙ last

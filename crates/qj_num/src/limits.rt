@@ -1,4 +1,4 @@
-//! The greatest number of the journal, and want of memory.
+//! The greatest number of the journal, and lack of memory.
 
 use std::alloc::AllocError;
 

@@ -10,8 +10,12 @@ pub fn print19(value: u64, out: &mut [u8; 19])
     requires { value ≤ 2 ^ 62 }
     ensures { out.new ≡ padded 19 value }
 {
+    *out = [b'0'; 19];
     let mut left = value;
     for step in 0..19 {
+        if left == 0 {
+            return;
+        }
         out[18 - step] = b'0' + (left % 10) as u8;
         left /= 10;
     }

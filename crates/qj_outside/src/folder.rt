@@ -233,7 +233,7 @@ where
         Ok(names)
     }
 
-    /// Appends the names of the files in a folder, each behind `front`.
+    /// Appends the names of the files in a folder, each after `front`.
     fn list_folder(&self, folder: &str, front: &str, names: &mut Vec<String>) -> io::Result<()> {
         let path = self.path_of(folder)?;
         for entry in fs::read_dir(&self.rt, path.as_path())? {

@@ -6,7 +6,7 @@ ghost use Rattle.qj_outside.specs.Faults.{counted};
 use crate::OutOfMemory;
 use crate::folder::Folder;
 use crate::lock_file::LockFile;
-use qj_disk::{Disk, DiskFail};
+use qj_disk::{Disk, DiskFail, DiskModel};
 use std::fs::Files;
 use std::io;
 use std::io::ErrorKind;
@@ -90,8 +90,8 @@ where
     }
 }
 
-/// What a call answers; a fault is counted, and so is a want of memory.
-fn counted<T: Drop>(
+/// What a call answers; a fault is counted, and so is a lack of memory.
+fn count_fault<T: Drop>(
     faults: &mut u64,
     shortages: &mut u64,
     answer: io::Result<T>,
@@ -113,10 +113,7 @@ fn counted<T: Drop>(
     }
 }
 
-impl<R: Files + AllocGlobal + Clone + Drop> Disk for FolderDisk<R>
-where
-    R::File: FileExt,
-{
+impl<R: Files + Drop> DiskModel for FolderDisk<R> {
     ghost use Rattle.std.specs.Prelude.{None, false};
     ghost use Rattle.qj_outside.specs.Folder.{untold};
 
@@ -135,7 +132,12 @@ where
     ghost steady = { λ _. ⊥ };
 
     ghost left = { λ _. None };
+}
 
+impl<R: Files + AllocGlobal + Clone + Drop> Disk for FolderDisk<R>
+where
+    R::File: FileExt,
+{
     ghost sound = { λ d t. absurd t };
 
     ghost told = { λ d s. s };
@@ -143,7 +145,7 @@ where
     ghost told_so = { λ _. (λ t. t, λ t. t) };
 
     fn length(&mut self, name: &str) -> Result<Option<u64>, DiskFail> {
-        counted(
+        count_fault(
             &mut self.faults,
             &mut self.shortages,
             self.folder.length(name),
@@ -152,7 +154,7 @@ where
 
     fn read(&mut self, name: &str, at: u64, into: &mut [u8]) -> Result<usize, DiskFail> {
         self.reads = self.reads.saturating_add(1);
-        counted(
+        count_fault(
             &mut self.faults,
             &mut self.shortages,
             self.folder.read(name, at, into),
@@ -160,11 +162,11 @@ where
     }
 
     fn list(&mut self) -> Result<Vec<String>, DiskFail> {
-        counted(&mut self.faults, &mut self.shortages, self.folder.list())
+        count_fault(&mut self.faults, &mut self.shortages, self.folder.list())
     }
 
     fn write_at(&mut self, name: &str, at: u64, bytes: &[u8]) -> Result<(), DiskFail> {
-        counted(
+        count_fault(
             &mut self.faults,
             &mut self.shortages,
             self.folder.write_at(name, at, bytes),
@@ -172,7 +174,7 @@ where
     }
 
     fn cut(&mut self, name: &str, to: u64) -> Result<(), DiskFail> {
-        counted(
+        count_fault(
             &mut self.faults,
             &mut self.shortages,
             self.folder.cut(name, to),
@@ -180,7 +182,7 @@ where
     }
 
     fn sync(&mut self, name: &str) -> Result<(), DiskFail> {
-        counted(
+        count_fault(
             &mut self.faults,
             &mut self.shortages,
             self.folder.sync(name),
@@ -188,7 +190,7 @@ where
     }
 
     fn rename(&mut self, from: &str, to: &str) -> Result<(), DiskFail> {
-        counted(
+        count_fault(
             &mut self.faults,
             &mut self.shortages,
             self.folder.rename(from, to),
@@ -196,7 +198,7 @@ where
     }
 
     fn remove(&mut self, name: &str) -> Result<(), DiskFail> {
-        counted(
+        count_fault(
             &mut self.faults,
             &mut self.shortages,
             self.folder.remove(name),

@@ -29,5 +29,5 @@ use std::alloc::AllocError;
 pub use words::{Words, read_words};
 pub use writing::write_all;
 
-/// Want of memory.
+/// Out of memory.
 pub type OutOfMemory = AllocError;

@@ -33,7 +33,7 @@ impl Model for MemSink {
 
 impl MemSink {
     /// A sink with room for `room` bytes. `failing` lists the numbers, from 0, of the calls that fail, where `write` and
-    /// `flush` are numbered together. An error is want of memory for the room.
+    /// `flush` are numbered together. An error is lack of memory for the room.
     pub fn new(alloc: Global, room: usize, failing: Vec<u64>) -> Result<MemSink, OutOfMemory>
         ensures taken { IfOk result (λ s. s.taken ≡ []) }
         ensures room { IfOk result (λ s. s.room ≡ room) }

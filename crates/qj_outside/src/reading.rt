@@ -25,7 +25,7 @@ pub enum Input {
 const PIECE: usize = 65536;
 
 /// So many zeros.
-fn zeroed(alloc: Global, count: usize) -> Result<Vec<u8>, OutOfMemory>
+fn zeroed_room(alloc: Global, count: usize) -> Result<Vec<u8>, OutOfMemory>
     ensures { IfOk result (λ bytes. vec_len bytes ≡ count) }
 {
     vec![in alloc; 0; count]
@@ -45,7 +45,7 @@ pub fn read_all<S: Source>(alloc: Global, source: &mut S, limit: usize) -> Input
     ensures no_fault { result ≢ Input.ReadFault → S.faults source.new ≡ S.faults source.old }
     ensures never_falls { S.faults source.old ≤ S.faults source.new }
 {
-    let Ok(mut piece) = zeroed(alloc, PIECE) else {
+    let Ok(mut piece) = zeroed_room(alloc, PIECE) else {
         return Input::OutOfMemory;
     };
     let mut bytes = Vec::new(alloc);

@@ -1,4 +1,4 @@
-// The words behind the program's name.
+// The words after the program's name.
 
 use crate::OutOfMemory;
 use std::alloc::AllocError;
@@ -8,7 +8,7 @@ use std::rt::Env;
 /// The room for a word that is asked for first. It is doubled while the word is longer.
 const ROOM: usize = 256;
 
-/// The words behind the program's name.
+/// The words after the program's name.
 #[derive(Drop)]
 pub struct Words {
     /// Those before the first that isn't UTF-8.
@@ -34,7 +34,7 @@ fn read_word<R: Env + AllocGlobal>(rt: &R, number: usize) -> Result<Option<Vec<u
     Err(AllocError)
 }
 
-/// Reads the words behind the program's name, up to the first that isn't UTF-8. An error is want of memory.
+/// Reads the words after the program's name, up to the first that isn't UTF-8. An error is lack of memory.
 pub fn read_words<R: Env + AllocGlobal>(rt: &R) -> Result<Words, OutOfMemory> {
     let mut texts = Vec::new(rt.alloc());
     for number in 1..usize::MAX {

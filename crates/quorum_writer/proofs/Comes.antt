@@ -15,7 +15,7 @@ use Rattle.writer_core.specs.declared.turn.Turn.{Turn}
 use Rattle.writer_core.specs.declared.turn.Turn.TheVariants as turn
 use Rattle.writer_core.specs.declared.turn.Outcome.{Outcome}
 use Rattle.writer_core.specs.Views.{WriterView}
-use Rattle.writer_core.specs.Rounds.{Judged}
+use Rattle.writer_core.specs.Rounds.{Judgment}
 use Rattle.writer_core.specs.Writer.{Began, writer_begun, writer_stopped, log_limit, log_begins, is_writing, if_writing}
 use Rattle.writer_core.specs.Turns.{aim_of, IsOf, IsInRound, IsTurnOf, phase_after}
 use Rattle.writer_core.proofs.LiveLaws.{begun_live, stopped_live}
@@ -79,7 +79,7 @@ too_long_own task.Close old new number e = absurd (if_long (is_writing old.phase
 too_long_own (task.Purge min) old new number e = absurd (if_long (is_writing old.phase) old _ number (ap (λ x. x.begun) e))
 
 -- ## A task that ends
-led_from : (t : Task) (old v : WriterView) (before after : List PeerCall) (here : Judged) → writer_begun old t ≡ record { writer = v; begun = begun.Going }
+led_from : (t : Task) (old v : WriterView) (before after : List PeerCall) (here : Judgment) → writer_begun old t ≡ record { writer = v; begun = begun.Going }
     → Leads v before after here → Leads (writer_begun old t).writer before after here
 led_from t old v before after here e l =
     let w : v ≡ (writer_begun old t).writer = sym (ap (λ x. x.writer) e) in subst (λ (x : WriterView). Leads x before after here) w l

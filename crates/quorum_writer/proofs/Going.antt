@@ -16,44 +16,44 @@ use Rattle.writer_core.specs.declared.phase.Aim.{Aim}
 use Rattle.writer_core.specs.declared.slot.Slot.{Slot}
 use Rattle.writer_core.specs.declared.slot.Slot.TheVariants.{Waiting}
 use Rattle.writer_core.specs.Answers.{is_waiting}
-use Rattle.writer_core.specs.Rounds.{Judged, going, request_in}
+use Rattle.writer_core.specs.Rounds.{Judgment, keep_going, request_in}
 use Rattle.writer_core.specs.Writer.{next_call, call_in, node_in, writer_heard, is_under_way}
 use Rattle.writer_core.specs.Sound.{IsOkAt}
 use Rattle.writer_core.specs.Left.{IsLive, HasCall, HasCallIn}
 use Rattle.writer_core.specs.Turns.{SuitsIn, IsInRound, IsTurnOf}
 use Rattle.writer_core.proofs.LiveLaws.{heard_live, someone_called, of_call}
 use Rattle.writer_core.proofs.TaskTurns.{Turned, heard_turn}
-use Rattle.quorum_writer.specs.Led.{nodes_of, IsLed, judged_along, Leads, IsCalled}
+use Rattle.quorum_writer.specs.Led.{nodes_of, IsLed, judgment_along, Leads, IsCalled}
 use Rattle.quorum_writer.specs.Ready.{IsReady}
-use Rattle.quorum_writer.specs.Tasks.{IsEnd, is_going}
+use Rattle.quorum_writer.specs.Tasks.{IsEnd, has_more_calls}
 
 -- ## One call more
-along_more : (j : Judged) (made : List PeerCall) (c : PeerCall) → judged_along j (made ++ c ∷ []) ≡ writer_heard (judged_along j made).writer c.node c.heard
-unfolding judged_along
+along_more : (j : Judgment) (made : List PeerCall) (c : PeerCall) → judgment_along j (made ++ c ∷ []) ≡ writer_heard (judgment_along j made).writer c.node c.heard
+unfolding judgment_along
 along_more j [] c = refl
 along_more j (d ∷ made) c = along_more (writer_heard j.writer d.node d.heard) made c
 
-led_more : (j : Judged) (made : List PeerCall) (c : PeerCall) → IsLed j.writer made → next_call (judged_along j made).writer ≡ Some (c.node, c.request)
+led_more : (j : Judgment) (made : List PeerCall) (c : PeerCall) → IsLed j.writer made → next_call (judgment_along j made).writer ≡ Some (c.node, c.request)
     → IsLed j.writer (made ++ c ∷ [])
-unfolding IsLed judged_along
+unfolding IsLed judgment_along
 led_more j [] c h n = (n, tt)
 led_more j (d ∷ made) c h n = (h.0, led_more (writer_heard j.writer d.node d.heard) made c h.1 n)
 
-pub leads_none : (w : WriterView) (calls : List PeerCall) → Leads w calls calls (going w)
-unfolding IsLed judged_along
+pub leads_none : (w : WriterView) (calls : List PeerCall) → Leads w calls calls (keep_going w)
+unfolding IsLed judgment_along
 leads_none w calls = record { made = []; grew = sym (append-nil calls); led = tt; stands = refl }
 
 pub leads_more : (begun : WriterView) (before mid after : List PeerCall) (t : Turn) (old new : WriterView) (u : Turn)
     → Leads begun before mid (record { writer = old; turn = t }) → IsCalled old mid new after u → Leads begun before after (record { writer = new; turn = u })
 leads_more begun before mid after t old new u l c =
     let call : PeerCall = record { node = c.node; request = c.request; heard = c.heard } in
-    let stands : old ≡ (judged_along (going begun) l.made).writer = ap (λ j. j.writer) l.stands in
-    let next : next_call (judged_along (going begun) l.made).writer ≡ Some (c.node, c.request) = subst (λ (w : WriterView). next_call w ≡ Some (c.node, c.request)) stands c.next in
+    let stands : old ≡ (judgment_along (keep_going begun) l.made).writer = ap (λ j. j.writer) l.stands in
+    let next : next_call (judgment_along (keep_going begun) l.made).writer ≡ Some (c.node, c.request) = subst (λ (w : WriterView). next_call w ≡ Some (c.node, c.request)) stands c.next in
     record {
       made = l.made ++ call ∷ [];
       grew = c.listed ∙ ap (λ x. x ++ call ∷ []) l.grew ∙ append_assoc before l.made (call ∷ []);
-      led = led_more (going begun) l.made call l.led next;
-      stands = sym c.judged ∙ ap (λ w. writer_heard w c.node c.heard) stands ∙ sym (along_more (going begun) l.made call);
+      led = led_more (keep_going begun) l.made call l.led next;
+      stands = sym c.judged ∙ ap (λ w. writer_heard w c.node c.heard) stands ∙ sym (along_more (keep_going begun) l.made call);
     }
 
 -- ## A task that goes on
@@ -78,16 +78,16 @@ goes_more begun before mid after t old new u h c own aim nodes = record {
 }
 
 -- a round is under way while there are more calls to make
-pub under_way : (a : Aim) (p : Phase) (t : Turn) → IsTurnOf a p t → is_going t ≡ true → IsInRound p
+pub under_way : (a : Aim) (p : Phase) (t : Turn) → IsTurnOf a p t → has_more_calls t ≡ true → IsInRound p
 under_way a p turn.Going h e = h
 under_way a p (turn.Done o) h e = cc
 under_way a p turn.Aborted h e = cc
 under_way a p (turn.EpochLimit told) h e = cc
 
-pub goes_on : (begun : WriterView) (before : List PeerCall) (w : WriterView) (after : List PeerCall) (t : Turn) → Goes begun before w after t → is_going t ≡ true → IsInRound w.phase
+pub goes_on : (begun : WriterView) (before : List PeerCall) (w : WriterView) (after : List PeerCall) (t : Turn) → Goes begun before w after t → has_more_calls t ≡ true → IsInRound w.phase
 goes_on begun before w after t h e = under_way begun.aim w.phase t h.own e
 
-pub goes_end : (begun : WriterView) (before : List PeerCall) (w : WriterView) (after : List PeerCall) (t : Turn) → Goes begun before w after t → is_going t ≡ false → IsEnd begun.aim w.phase t
+pub goes_end : (begun : WriterView) (before : List PeerCall) (w : WriterView) (after : List PeerCall) (t : Turn) → Goes begun before w after t → has_more_calls t ≡ false → IsEnd begun.aim w.phase t
 goes_end begun before w after t h e = record { over = e; own = h.own }
 
 pub ruleset goes = (goes_begin, goes_more, goes_on, goes_end)
@@ -150,7 +150,7 @@ pub record Hears (old new : WriterView) (t : Turn) : Type 0 where
   pub nodes : nodes_of new ≡ nodes_of old
 
 pub hears : (old new : WriterView) (t : Turn) (node : ℕ) (heard : Heard) → IsReady old → IsInRound old.phase → writer_heard old node heard ≡ record { writer = new; turn = t } → Hears old new t
-hears old new t node heard r i e = subst (λ (j : Judged). Hears old j.writer j.turn) e (hearing (heard_turn old node heard r.apt r.live.same i))
+hears old new t node heard r i e = subst (λ (j : Judgment). Hears old j.writer j.turn) e (hearing (heard_turn old node heard r.apt r.live.same i))
   where
     hearing : Turned old.aim (length old.left) (writer_heard old node heard) → Hears old (writer_heard old node heard).writer (writer_heard old node heard).turn
     hearing h = record {

@@ -5,7 +5,7 @@ use Rattle.journal_core.specs.declared.heard.Heard.{Heard}
 use Rattle.journal_core.specs.declared.peer_call.PeerCall.{PeerCall}
 use Rattle.writer_core.specs.declared.turn.Turn.{Turn}
 use Rattle.writer_core.specs.Views.{WriterView}
-use Rattle.writer_core.specs.Rounds.{Judged, going}
+use Rattle.writer_core.specs.Rounds.{Judgment, keep_going}
 use Rattle.writer_core.specs.Writer.{next_call, writer_heard}
 
 -- how many nodes a writer has
@@ -18,16 +18,16 @@ IsLed w [] = Unit {0}
 IsLed w (c ∷ cs) = (next_call w ≡ Some (c.node, c.request)) × IsLed (writer_heard w c.node c.heard).writer cs
 
 -- where the writer stands once it heard these calls, and what the last of them led to
-unfoldable pub judged_along : Judged → List PeerCall → Judged
-judged_along j [] = j
-judged_along j (c ∷ cs) = judged_along (writer_heard j.writer c.node c.heard) cs
+unfoldable pub judgment_along : Judgment → List PeerCall → Judgment
+judgment_along j [] = j
+judgment_along j (c ∷ cs) = judgment_along (writer_heard j.writer c.node c.heard) cs
 
 -- From the list of calls `before` the list `after` was reached: some calls were made more, each the next one of the writer. So it stands here.
-pub record Leads (begun : WriterView) (before after : List PeerCall) (here : Judged) : Type 0 where
+pub record Leads (begun : WriterView) (before after : List PeerCall) (here : Judgment) : Type 0 where
   pub made : List PeerCall
   pub grew : after ≡ before ++ made
   pub led : IsLed begun made
-  pub stands : here ≡ judged_along (going begun) made
+  pub stands : here ≡ judgment_along (keep_going begun) made
 
 -- one call was made, the writer's next one
 pub record IsCalled (old : WriterView) (before : List PeerCall) (new : WriterView) (after : List PeerCall) (turn : Turn) : Type 0 where

@@ -12,7 +12,7 @@ use Rattle.writer_core.specs.declared.task.Begun.TheVariants as begun
 use Rattle.writer_core.specs.declared.turn.Turn.{Turn}
 use Rattle.writer_core.specs.declared.turn.Turn.TheVariants as turn
 use Rattle.writer_core.specs.Views.{WriterView}
-use Rattle.writer_core.specs.Rounds.{Judged}
+use Rattle.writer_core.specs.Rounds.{Judgment}
 use Rattle.writer_core.specs.Turns.{IsOf, IsInRound, IsTurnOf, phase_after}
 use Rattle.writer_core.specs.Writer.{writer_begun, writer_stopped}
 use Rattle.quorum_writer.specs.declared.came.Came.{Came}
@@ -31,9 +31,9 @@ pub record Ends (t : Task) (old : WriterView) (before : List PeerCall) (new : Wr
   pub calls : Leads (writer_begun old t).writer before after (record { writer = new; turn = end })
   pub phase : new.phase ≡ stands
 
--- The task began, and memory was wanting behind some of its calls: the writer is stopped there.
+-- The task began, and memory was wanting after some of its calls: the writer is stopped there.
 pub record GivesUp (t : Task) (old : WriterView) (before : List PeerCall) (new : WriterView) (after : List PeerCall) : Type 0 where
-  pub here : Judged
+  pub here : Judgment
   pub begun : (writer_begun old t).begun ≡ begun.Going
   pub calls : Leads (writer_begun old t).writer before after here
   pub stopped : new ≡ writer_stopped here.writer
@@ -57,12 +57,12 @@ IsOwn a (came.EpochLimit told) = a ≡ aim.Takeover
 IsOwn a came.OutOfMemory = Unit {0}
 
 -- there are more calls to make
-abbrev pub is_going : Turn → Bool
-is_going turn.Going = true
-is_going _ = false
+abbrev pub has_more_calls : Turn → Bool
+has_more_calls turn.Going = true
+has_more_calls _ = false
 
 abbrev pub IsOver : Turn → Type 0
-IsOver t = is_going t ≡ false
+IsOver t = has_more_calls t ≡ false
 
 -- the task of this aim is over with this turn, in this phase
 pub record IsEnd (a : Aim) (p : Phase) (t : Turn) : Type 0 where

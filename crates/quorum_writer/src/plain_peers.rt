@@ -5,9 +5,8 @@ ghost use Rattle.journal_core.specs.declared.heard.Heard.TheVariants.{Answer};
 ghost use Rattle.journal_core.specs.Step.{node_step, fresh_state};
 ghost use Rattle.quorum_writer.specs.PlainPeersView.{IsStepOf};
 
-use journal_core::{
-    Heard, Node, OutOfMemory, PeerCall, Peers, PlainNode, Refusal, Reply, SharedRequest,
-};
+use journal_core::{Heard, Node, OutOfMemory, PeerCall, Peers, Refusal, Reply, SharedRequest};
+use memory_node::PlainNode;
 use std::alloc::{AllocError, Global};
 use std::marker::Model;
 

@@ -10,7 +10,7 @@ ghost use Rattle.writer_core.specs.Turns.{aim_of, IsInRound, IsTurnOf};
 ghost use Rattle.writer_core.specs.Left.{calls_left};
 ghost use Rattle.writer_core.specs.Room.{room_of};
 ghost use Rattle.quorum_writer.specs.Led.{nodes_of, Leads, IsCalled};
-ghost use Rattle.quorum_writer.specs.Tasks.{Comes, IsOwn, IsEnd, IsOver, CameOf, is_going};
+ghost use Rattle.quorum_writer.specs.Tasks.{Comes, IsOwn, IsEnd, IsOver, CameOf, has_more_calls};
 ghost use Rattle.quorum_writer.specs.Answers.{came_of_taken, came_of_logged, came_of_rolled, came_of_closed, came_of_purging};
 
 use crate::came::Came;
@@ -44,8 +44,8 @@ impl Model for QuorumWriter {
 }
 
 /// There are more calls to make.
-fn is_going(turn: Turn) -> bool
-    ensures { result ≡ is_going turn }
+fn has_more_calls(turn: Turn) -> bool
+    ensures { result ≡ has_more_calls turn }
 {
     matches!(turn, Turn::Going)
 }
@@ -152,7 +152,7 @@ impl QuorumWriter {
         ensures peers { P.nodes peers.new ≡ P.nodes peers.old }
     {
         let mut turn = Turn::Going;
-        while is_going(turn) {
+        while has_more_calls(turn) {
             turn = self.call_next(alloc, peers)?;
         }
         Ok(turn)

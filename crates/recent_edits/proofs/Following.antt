@@ -5,7 +5,7 @@ use Rattle.journal_core.specs.declared.segment.Segment.{Segment}
 use Rattle.journal_core.specs.Segments.{find_segment, put_segment, remove_segment}
 use Rattle.journal_core.specs.Effects.{empty_segment, appended, finalized}
 use Rattle.journal_core.proofs.SegmentLists.{find-start, find-put_same, find-put_other, find-remove_other}
-use Rattle.edit_cache.specs.Edits.{Edit, Follows, kept, numbered}
+use Rattle.edit_cache.specs.Edits.{Edit, Follows, kept_edits, number_edits}
 use Rattle.edit_cache.proofs.Kept.{follows_numbered}
 use Rattle.edit_cache.proofs.Numbered.{numbered-append}
 use Rattle.recent_edits.specs.Recent.{Recent, IsRecent, newest_of, newest_in, nothing, most_stored}
@@ -51,7 +51,7 @@ removed r new gs start same gone recent = forgotten r new gs (remove_segment sta
 
 -- ## Edits are appended
 module _ (r new : Recent) (gs : List Segment) (start first : ℕ) (bodies : List (List ℕ)) (g : Segment) (known : find_segment start gs ≡ Some g) (next : first ≡ start + length g.bodies) (start_is : new.start ≡ r.start) (same : r.start ≢ Some start → new ≡ r)
-    (pushed : (before : List Edit) → r.start ≡ Some start → r.edits ≡ kept most_stored before → Follows r.edits first → new.edits ≡ kept most_stored (before ++ numbered first bodies)) (recent : IsRecent r gs) where
+    (pushed : (before : List Edit) → r.start ≡ Some start → r.edits ≡ kept_edits most_stored before → Follows r.edits first → new.edits ≡ kept_edits most_stored (before ++ number_edits first bodies)) (recent : IsRecent r gs) where
   abbrev longer : Segment
   longer = record g { bodies = g.bodies ++ bodies }
 
@@ -60,10 +60,10 @@ module _ (r new : Recent) (gs : List Segment) (start first : ℕ) (bodies : List
 
   held_all : r.start ≡ Some start → IsRecent new (put_segment longer gs)
   held_all is =
-      let before : r.edits ≡ kept most_stored (numbered g.start g.bodies) = recent ∙ ap (λ (o : Option ℕ). newest_in o gs) is ∙ ap newest_of known in
+      let before : r.edits ≡ kept_edits most_stored (number_edits g.start g.bodies) = recent ∙ ap (λ (o : Option ℕ). newest_in o gs) is ∙ ap newest_of known in
       let ends : first ≡ g.start + length g.bodies = next ∙ ap (λ (n : ℕ). n + length g.bodies) (sym at) in
-      pushed (numbered g.start g.bodies) is before (subst (λ (n : ℕ). Follows r.edits n) (sym ends) (subst (λ (es : List Edit). Follows es (g.start + length g.bodies)) (sym before) (follows_numbered most_stored g.start g.bodies)))
-      ∙ ap (λ (n : ℕ). kept most_stored (numbered g.start g.bodies ++ numbered n bodies)) ends ∙ ap (kept most_stored) (sym (numbered-append g.start g.bodies bodies))
+      pushed (number_edits g.start g.bodies) is before (subst (λ (n : ℕ). Follows r.edits n) (sym ends) (subst (λ (es : List Edit). Follows es (g.start + length g.bodies)) (sym before) (follows_numbered most_stored g.start g.bodies)))
+      ∙ ap (λ (n : ℕ). kept_edits most_stored (number_edits g.start g.bodies ++ number_edits n bodies)) ends ∙ ap (kept_edits most_stored) (sym (numbered-append g.start g.bodies bodies))
       ∙ sym (ap newest_of (ap (λ (n : ℕ). find_segment n (put_segment longer gs)) (sym at) ∙ find-put_same longer gs))
       ∙ sym (ap (λ (o : Option ℕ). newest_in o (put_segment longer gs)) (start_is ∙ is))
 

@@ -5,7 +5,7 @@ use Rattle.std.proofs.lemmas.List.{drop-map, length-map, length-take-le, length-
 use Rattle.std.proofs.lemmas.List.Elements.{All-take}
 use Rattle.std.proofs.Math.Seq.{take-add}
 use Rattle.std.specs.Prelude.{nat_le, IfSome, ◌==◌, if◌then◌else◌}
-use Rattle.edit_cache.specs.Edits.{Edit, bodies_of, first_txid, numbered, since, stored, IsStored}
+use Rattle.edit_cache.specs.Edits.{Edit, bodies_of, first_txid, number_edits, since, stored_bytes, IsStored}
 use Rattle.edit_cache.proofs.Numbered.{since-before, since-on}
 use Rattle.recent_edits.specs.Recent.{AreFilled}
 use Rattle.recent_edits.proofs.Pushing.{rest_filled}
@@ -19,24 +19,24 @@ filled_since txid (e ∷ es) filled = by (e.txid == txid) (filled_since txid es 
     by false later = later
 
 -- after k of them, those that are left
-after : (first from k : ℕ) (bs : List (List ℕ)) → k ≤ length (since from (numbered first bs)) → since (from + k) (numbered first bs) ≡ drop k (since from (numbered first bs))
+after : (first from k : ℕ) (bs : List (List ℕ)) → k ≤ length (since from (number_edits first bs)) → since (from + k) (number_edits first bs) ≡ drop k (since from (number_edits first bs))
 after first from k bs within = by (nat_le first from) refl
   where
     one : (xs : List Edit) → xs ≡ [] → k ≤ length xs → k ≡ 0
     one xs none within = let e : length xs ≡ 0 = ap length none in omega arith
 
-    by : (b : Bool) → nat_le first from ≡ b → since (from + k) (numbered first bs) ≡ drop k (since from (numbered first bs))
+    by : (b : Bool) → nat_le first from ≡ b → since (from + k) (number_edits first bs) ≡ drop k (since from (number_edits first bs))
     by true is = since-on first bs from k (grind (arith, nat_tests))
     by false is =
-        let none : since from (numbered first bs) ≡ [] = since-before first bs from (grind (arith, nat_tests)) in
-        let e : k ≡ 0 = one (since from (numbered first bs)) none within in
-        (let same : from + k ≡ from = omega arith in ap (λ (n : ℕ). since n (numbered first bs)) same) ∙ ap (λ (n : ℕ). drop n (since from (numbered first bs))) (sym e)
+        let none : since from (number_edits first bs) ≡ [] = since-before first bs from (grind (arith, nat_tests)) in
+        let e : k ≡ 0 = one (since from (number_edits first bs)) none within in
+        (let same : from + k ≡ from = omega arith in ap (λ (n : ℕ). since n (number_edits first bs)) same) ∙ ap (λ (n : ℕ). drop n (since from (number_edits first bs))) (sym e)
 
-pub after_held : (first : Option ℕ) (es : List Edit) (from k : ℕ) → first ≡ first_txid es → IfSome first (λ t. es ≡ numbered t (bodies_of es)) → k ≤ length (since from es) → since (from + k) es ≡ drop k (since from es)
+pub after_held : (first : Option ℕ) (es : List Edit) (from k : ℕ) → first ≡ first_txid es → IfSome first (λ t. es ≡ number_edits t (bodies_of es)) → k ≤ length (since from es) → since (from + k) es ≡ drop k (since from es)
 after_held first [] from k is consecutive within = let e : k ≡ 0 = omega arith in ap (λ (n : ℕ). drop n []) (sym e)
 after_held first (e ∷ es) from k is consecutive within = by first is consecutive
   where
-    by : (first : Option ℕ) → first ≡ Some e.txid → IfSome first (λ t. e ∷ es ≡ numbered t (bodies_of (e ∷ es))) → since (from + k) (e ∷ es) ≡ drop k (since from (e ∷ es))
+    by : (first : Option ℕ) → first ≡ Some e.txid → IfSome first (λ t. e ∷ es ≡ number_edits t (bodies_of (e ∷ es))) → since (from + k) (e ∷ es) ≡ drop k (since from (e ∷ es))
     by None is consecutive = absurd (cc)
     by (Some t) is consecutive =
         let P : List Edit → Type 0 = λ xs. k ≤ length (since from xs) → since (from + k) xs ≡ drop k (since from xs) in
@@ -69,9 +69,9 @@ copied few n all bodies new held room some within is = by (nat_le (few - length 
         let l : n ≤ few - length bodies = grind (arith, nat_tests) in
         at n some l within (take_all (few - length bodies) (take n (drop (length bodies) all)) (let e : length (take n (drop (length bodies) all)) ≡ n = length-take-le n (drop (length bodies) all) within in omega arith))
 
-pub next_copied : (few from : ℕ) (first : Option ℕ) (es : List Edit) (bodies new : List (List ℕ)) (slice : List ℕ) → first ≡ first_txid es → IfSome first (λ t. es ≡ numbered t (bodies_of es)) → AreFilled (bodies_of es)
+pub next_copied : (few from : ℕ) (first : Option ℕ) (es : List Edit) (bodies new : List (List ℕ)) (slice : List ℕ) → first ≡ first_txid es → IfSome first (λ t. es ≡ number_edits t (bodies_of es)) → AreFilled (bodies_of es)
     → bodies ≡ take (length bodies) (bodies_of (since from es)) → length bodies < few → IsStored (bodies_of (since (from + length bodies) es)) slice
-    → ((added : List (List ℕ)) → slice ≡ stored added → AreFilled added → new ≡ bodies ++ take (few - length bodies) added)
+    → ((added : List (List ℕ)) → slice ≡ stored_bytes added → AreFilled added → new ≡ bodies ++ take (few - length bodies) added)
     → IsNext few (bodies_of (since from es)) new (length bodies)
 next_copied few from first es bodies new slice is consecutive filled held room run pushed =
     let all : List (List ℕ) = bodies_of (since from es) in
@@ -84,7 +84,7 @@ next_copied few from first es bodies new slice is consecutive filled held room r
     ∙ ap (λ (xs : List (List ℕ)). bodies ++ take (few - length bodies) (take run.0 xs)) rest)
 
 -- all are copied, or as many as are wanted
-pub all_copied : (few from : ℕ) (first : Option ℕ) (es : List Edit) (bodies : List (List ℕ)) → first ≡ first_txid es → IfSome first (λ t. es ≡ numbered t (bodies_of es)) → length bodies ≤ few → bodies ≡ take (length bodies) (bodies_of (since from es))
+pub all_copied : (few from : ℕ) (first : Option ℕ) (es : List Edit) (bodies : List (List ℕ)) → first ≡ first_txid es → IfSome first (λ t. es ≡ number_edits t (bodies_of es)) → length bodies ≤ few → bodies ≡ take (length bodies) (bodies_of (since from es))
     → since (from + length bodies) es ≡ [] → bodies ≡ take few (bodies_of (since from es))
 all_copied few from first es bodies is consecutive room held none =
     let all : List (List ℕ) = bodies_of (since from es) in

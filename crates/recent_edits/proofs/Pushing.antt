@@ -9,7 +9,7 @@ use Rattle.std.specs.Prelude.{nat_lt}
 use Rattle.std.specs.List.{list_any}
 use Rattle.std.specs.Borrow.{Bor}
 use Rattle.std.specs.List.{drop-map}
-use Rattle.edit_cache.specs.Edits.{Edit, Follows, kept, last_txid, numbered, bodies_of, stored}
+use Rattle.edit_cache.specs.Edits.{Edit, Follows, kept_edits, last_txid, number_edits, bodies_of, stored_bytes}
 use Rattle.edit_cache.specs.Split.{IsSplit}
 use Rattle.edit_cache.proofs.Kept.{kept-drop, kept_in_turn, follows_last}
 use Rattle.edit_cache.proofs.Numbered.{numbered-push}
@@ -28,41 +28,28 @@ filled_append es e filled some =
 pub rest_filled : (b : List ℕ) (bs : List (List ℕ)) → AreFilled (b ∷ bs) → AreFilled bs
 rest_filled b bs filled k d within = filled (suc k) d (omega arith)
 
-first_filled : (b : List ℕ) (bs : List (List ℕ)) → AreFilled (b ∷ bs) → b ≢ []
-first_filled b bs filled = filled 0 [] (omega arith)
-
-pub filled_kept : (most : ℕ) (es : List Edit) (e : Edit) → AreFilled (bodies_of es) → e.body ≢ [] → AreFilled (bodies_of (kept most (es ++ e ∷ [])))
+pub filled_kept : (most : ℕ) (es : List Edit) (e : Edit) → AreFilled (bodies_of es) → e.body ≢ [] → AreFilled (bodies_of (kept_edits most (es ++ e ∷ [])))
 filled_kept most es e filled some =
     let n = kept-drop most (es ++ e ∷ []) in
     subst (λ (xs : List Edit). AreFilled (bodies_of xs)) (sym n.1)
     (subst (λ (bs : List (List ℕ)). AreFilled bs) (drop-map (λ (d : Edit). d.body) n.0 (es ++ e ∷ [])) (All-drop (λ (b : List ℕ). b ≢ []) n.0 (bodies_of (es ++ e ∷ [])) (filled_append es e filled some)))
 
 -- what is kept of all edits to the next one
-pub kept_next : (before now : List Edit) (first i : ℕ) (bodies : List (List ℕ)) (body d : List ℕ) → i < length bodies → body ≡ get_or bodies i d → now ≡ kept most_stored (before ++ numbered first (take i bodies))
-    → kept most_stored (now ++ record { txid = first + i; body = body } ∷ []) ≡ kept most_stored (before ++ numbered first (take (i + 1) bodies))
+pub kept_next : (before now : List Edit) (first i : ℕ) (bodies : List (List ℕ)) (body d : List ℕ) → i < length bodies → body ≡ get_or bodies i d → now ≡ kept_edits most_stored (before ++ number_edits first (take i bodies))
+    → kept_edits most_stored (now ++ record { txid = first + i; body = body } ∷ []) ≡ kept_edits most_stored (before ++ number_edits first (take (i + 1) bodies))
 kept_next before now first i bodies body d within is held =
     let e : Edit = record { txid = first + i; body = body } in
     let one : take (i + 1) bodies ≡ take i bodies ++ body ∷ [] =
     (let s : i + 1 ≡ suc i = omega arith in ap (λ (n : ℕ). take n bodies) s) ∙ take-suc bodies i d within ∙ ap (λ (b : List ℕ). take i bodies ++ b ∷ []) (sym is) in
-    let last : numbered first (take (i + 1) bodies) ≡ numbered first (take i bodies) ++ e ∷ [] =
-    ap (numbered first) one ∙ numbered-push first (take i bodies) body
-    ∙ ap (λ (n : ℕ). numbered first (take i bodies) ++ record { txid = first + n; body = body } ∷ []) (length-take-le i bodies (omega arith)) in
-    ap (λ (xs : List Edit). kept most_stored (xs ++ e ∷ [])) held
-    ∙ kept_in_turn most_stored (before ++ numbered first (take i bodies)) e
-    ∙ ap (kept most_stored) (append_assoc before (numbered first (take i bodies)) (e ∷ []) ∙ ap (λ (xs : List Edit). before ++ xs) (sym last))
+    let last : number_edits first (take (i + 1) bodies) ≡ number_edits first (take i bodies) ++ e ∷ [] =
+    ap (number_edits first) one ∙ numbered-push first (take i bodies) body
+    ∙ ap (λ (n : ℕ). number_edits first (take i bodies) ++ record { txid = first + n; body = body } ∷ []) (length-take-le i bodies (omega arith)) in
+    ap (λ (xs : List Edit). kept_edits most_stored (xs ++ e ∷ [])) held
+    ∙ kept_in_turn most_stored (before ++ number_edits first (take i bodies)) e
+    ∙ ap (kept_edits most_stored) (append_assoc before (number_edits first (take i bodies)) (e ∷ []) ∙ ap (λ (xs : List Edit). before ++ xs) (sym last))
 
 pub not_empty : (xs : List ℕ) → 0 < length xs → xs ≢ []
 not_empty xs some none = omega (arith, some, ap length none)
-
-pub short_at : (bodies : List (List ℕ)) (i : ℕ) (d : List ℕ) → list_any (λ body. nat_lt max_body (length body)) bodies ≡ false → i < length bodies → length (get_or bodies i d) ≤ max_body
-short_at bodies i d none within = by (nat_lt max_body (length (get_or bodies i d))) refl
-  where
-    by : (b : Bool) → nat_lt max_body (length (get_or bodies i d)) ≡ b → length (get_or bodies i d) ≤ max_body
-    by true is = absurd (differs (list_any_at (λ body. nat_lt max_body (length body)) bodies i d within is))
-      where
-        differs : list_any (λ body. nat_lt max_body (length body)) bodies ≡ true → ⊥
-        differs e = cc
-    by false is = grind (arith, nat_tests)
 
 -- ## The next txid
 pub follows_next : (es : List Edit) (last next : ℕ) → last_txid es ≡ Some last → last + 1 ≡ next → Follows es next
@@ -80,7 +67,7 @@ next_is (e ∷ f ∷ es) last next is follows = next_is (f ∷ es) last next is 
 -- what is left to be added to the list, of bodies that are stored as `rest`
 pub record IsLeft (most : ℕ) (rest : List ℕ) (bodies all : List (List ℕ)) : Type 0 where
   pub left : List (List ℕ)
-  pub is : rest ≡ stored left
+  pub is : rest ≡ stored_bytes left
   pub filled : AreFilled left
   pub same : bodies ++ take (most - length bodies) left ≡ all
 
@@ -106,29 +93,9 @@ left_next most rest bodies all p body l split more is = by l.left l.filled l.sam
         one : (n m : ℕ) → n ≡ suc m → b ∷ take m bs ≡ take n (b ∷ bs)
         one n m e = ap (λ (k : ℕ). take k (b ∷ bs)) (sym e)
 
--- the list has as many as it may, or there are no more
-pub left_full : (most : ℕ) (rest : List ℕ) (bodies all : List (List ℕ)) → IsLeft most rest bodies all → most ≤ length bodies → bodies ≡ all
-left_full most rest bodies all l full = sym (append-nil bodies) ∙ ap (λ (xs : List (List ℕ)). bodies ++ xs) (sym (none (most - length bodies) (omega arith) l.left)) ∙ l.same
-  where
-    none : (n : ℕ) → n ≡ 0 → (xs : List (List ℕ)) → take n xs ≡ []
-    none n e xs = ap (λ (k : ℕ). take k xs) e
-
-pub left_none : (most : ℕ) (rest : List ℕ) (bodies all : List (List ℕ)) (l : IsLeft most rest bodies all) → l.left ≡ [] → bodies ≡ all
-left_none most rest bodies all l none = left_full (length bodies) rest bodies all (record { left = l.left; is = l.is; filled = l.filled; same = ap (λ (xs : List (List ℕ)). bodies ++ xs) (empty (length bodies - length bodies) ∙ sym (empty (most - length bodies))) ∙ l.same }) (omega arith)
-  where
-    empty : (n : ℕ) → take n l.left ≡ []
-    empty n = ap (take n) none ∙ take-nil n
-
 pub split_none : (most : ℕ) (rest : List ℕ) (bodies all : List (List ℕ)) (l : IsLeft most rest bodies all) → IsSplit l.left None → l.left ≡ []
 split_none most rest bodies all l split = by l.left split
   where
     by : (left : List (List ℕ)) → IsSplit left None → left ≡ []
     by [] split = refl
     by (b ∷ bs) split = absurd split
-
-pub split_filled : (most : ℕ) (rest : List ℕ) (bodies all : List (List ℕ)) (p : Bor (List ℕ) × Bor (List ℕ)) (l : IsLeft most rest bodies all) → IsSplit l.left (Some p) → p.0.now ≡ [] → ⊥
-split_filled most rest bodies all p l split none = by l.left l.filled split
-  where
-    by : (left : List (List ℕ)) → AreFilled left → IsSplit left (Some p) → ⊥
-    by [] filled split = cc
-    by (b ∷ bs) filled split = first_filled b bs filled (sym split.0 ∙ none)

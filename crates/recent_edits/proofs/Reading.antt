@@ -7,16 +7,16 @@ use Rattle.journal_core.specs.declared.segment.Segment.{Segment}
 use Rattle.journal_core.specs.Segments.{find_segment}
 use Rattle.journal_core.specs.Step.{is_one}
 use Rattle.journal_core.proofs.SegmentLists.{find-start}
-use Rattle.edit_cache.specs.Edits.{Edit, numbered, since, bodies_of}
+use Rattle.edit_cache.specs.Edits.{Edit, number_edits, since, bodies_of}
 use Rattle.edit_cache.proofs.Kept.{kept_since, kept-numbered}
 use Rattle.edit_cache.proofs.Numbered.{since-numbered, since-before, bodies_of-numbered}
 use Rattle.recent_edits.specs.Recent.{Recent, IsRecent, newest_of, newest_in, held_from, most_stored, FitsRing}
 
 -- of edits that are the last of a segment's, those from a txid on are the segment's from it on, where there are any
-since_last : (start i from : ℕ) (bodies : List (List ℕ)) → bodies_of (since from (numbered (start + i) (drop i bodies))) ≢ [] → bodies_of (since from (numbered (start + i) (drop i bodies))) ≡ drop (from - start) bodies
+since_last : (start i from : ℕ) (bodies : List (List ℕ)) → bodies_of (since from (number_edits (start + i) (drop i bodies))) ≢ [] → bodies_of (since from (number_edits (start + i) (drop i bodies))) ≡ drop (from - start) bodies
 since_last start i from bodies some = by (nat_le (start + i) from) refl
   where
-    by : (b : Bool) → nat_le (start + i) from ≡ b → bodies_of (since from (numbered (start + i) (drop i bodies))) ≡ drop (from - start) bodies
+    by : (b : Bool) → nat_le (start + i) from ≡ b → bodies_of (since from (number_edits (start + i) (drop i bodies))) ≡ drop (from - start) bodies
     by true is =
         let low : start + i ≤ from = grind (arith, nat_tests) in
         ap bodies_of (since-numbered (start + i) (drop i bodies) from low) ∙ bodies_of-numbered from (drop (from - (start + i)) (drop i bodies))
@@ -67,6 +67,6 @@ module _ (r : Recent) (gs : List Segment) (start from : ℕ) (g : Segment) (rece
       let at : g.start ≡ start = find-start start gs g known in
       let is : r.start ≡ Some start = f.cached_is ∙ ap (λ (n : ℕ). Some n) at in
       let all : bodies_of (since from r.edits) ≡ drop (from - g.start) g.bodies =
-      ap (λ (es : List Edit). bodies_of (since from es)) (edits_are is) ∙ ap bodies_of (kept_since most_stored from (numbered g.start g.bodies) f.fits ∙ since-numbered g.start g.bodies from (omega (arith, at))) ∙ bodies_of-numbered from (drop (from - g.start) g.bodies) in
+      ap (λ (es : List Edit). bodies_of (since from es)) (edits_are is) ∙ ap bodies_of (kept_since most_stored from (number_edits g.start g.bodies) f.fits ∙ since-numbered g.start g.bodies from (omega (arith, at))) ∙ bodies_of-numbered from (drop (from - g.start) g.bodies) in
       let short : length (take 256 (drop (from - g.start) g.bodies)) ≡ 0 = ap length (sym (ap (take 256) all) ∙ sym (held_at is) ∙ none) in
       omega (arith, short, at, length-take 256 (drop (from - g.start) g.bodies), length-drop (from - g.start) g.bodies)

@@ -9,7 +9,7 @@ use Rattle.journal_core.specs.Answers.{Serves}
 use Rattle.journal_core.specs.Segments.{find_segment}
 use Rattle.journal_core.specs.Effects.{Effect, NewSegment, Replace, Remove}
 use Rattle.journal_core.specs.Step.{is_one}
-use Rattle.edit_cache.specs.Edits.{Edit, kept, numbered, since, size_of, bodies_of}
+use Rattle.edit_cache.specs.Edits.{Edit, kept_edits, number_edits, since, size_of, bodies_of}
 
 -- the segment that is cached, by its start, and the edits that are held of it, oldest first
 pub record Recent : Type 0 where
@@ -33,15 +33,15 @@ cached_after cached (Remove start) = without start cached
 cached_after cached _ = cached
 
 -- the same after effects, one after the other
-abbrev pub cached_behind : Option ℕ → List Effect → Option ℕ
-cached_behind cached [] = cached
-cached_behind cached (e ∷ es) = cached_behind (cached_after cached e) es
+abbrev pub cached_then : Option ℕ → List Effect → Option ℕ
+cached_then cached [] = cached
+cached_then cached (e ∷ es) = cached_then (cached_after cached e) es
 
 -- ## What is held
 -- the newest edits of a segment, as many as a ring holds
 abbrev pub newest_of : Option Segment → List Edit
 newest_of None = []
-newest_of (Some g) = kept most_stored (numbered g.start g.bodies)
+newest_of (Some g) = kept_edits most_stored (number_edits g.start g.bodies)
 
 abbrev pub newest_in : Option ℕ → List Segment → List Edit
 newest_in None gs = []
@@ -66,7 +66,7 @@ AreFilled bodies = All (λ body. body ≢ []) bodies
 -- the edits of that segment, the cached one, from a txid on take no more than a ring surely holds
 pub record FitsRing (cached : Option ℕ) (g : Segment) (from : ℕ) : Type 0 where
   pub cached_is : cached ≡ Some g.start
-  pub fits : size_of (since from (numbered g.start g.bodies)) ≤ most_stored
+  pub fits : size_of (since from (number_edits g.start g.bodies)) ≤ most_stored
 
 -- a read or a fetch of the cached segment, whose edits from the asked txid on take no more than a ring surely holds
 abbrev pub AsksRecent : Option ℕ → NodeState → Request → Type 0

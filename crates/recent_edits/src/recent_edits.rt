@@ -3,7 +3,7 @@ ghost use Rattle.std.specs.Prelude.{◌≡◌, ◌≢◌, ◌≤◌, ◌<◌, �
 ghost use Rattle.std.specs.List.{list_any};
 ghost use Rattle.journal_core.specs.Views.{last_txid};
 ghost use Rattle.journal_core.specs.Limits.{max_body, max_number};
-ghost use Rattle.edit_cache.specs.Edits.{Edit, Follows, bodies_of, kept, numbered, since, stored};
+ghost use Rattle.edit_cache.specs.Edits.{Edit, Follows, bodies_of, kept_edits, number_edits, since, stored_bytes};
 ghost use Rattle.recent_edits.specs.Recent.{AreFilled, held_from, most_stored, nothing, without};
 
 use edit_cache::{EditCache, Entry, split_body};
@@ -43,7 +43,7 @@ fn push_bodies(
     most: usize,
     bodies: &mut BodyList,
 ) -> Result<(), OutOfMemory>
-    ensures { (added : List (List ℕ)) → bytes.now ≡ stored added → AreFilled added → OnOk result (bodies.new ≡ bodies.old ++ take (most - length bodies.old) added) }
+    ensures { (added : List (List ℕ)) → bytes.now ≡ stored_bytes added → AreFilled added → OnOk result (bodies.new ≡ bodies.old ++ take (most - length bodies.old) added) }
 {
     let mut rest = bytes;
     while bodies.len() < most {
@@ -102,8 +102,8 @@ impl RecentEdits {
         requires last { last_txid batch.now ≤ max_number }
         ensures start { self.new.start ≡ self.old.start }
         ensures same { self.old.start ≢ Some start → self.new ≡ self.old }
-        ensures held { (before : List Edit) → self.old.start ≡ Some start → self.old.edits ≡ kept most_stored before → Follows self.old.edits batch.now.first
-            → self.new.edits ≡ kept most_stored (before ++ numbered batch.now.first batch.now.bodies) }
+        ensures held { (before : List Edit) → self.old.start ≡ Some start → self.old.edits ≡ kept_edits most_stored before → Follows self.old.edits batch.now.first
+            → self.new.edits ≡ kept_edits most_stored (before ++ number_edits batch.now.first batch.now.bodies) }
     {
         if self.start == Some(start) {
             let bodies = batch.bodies();
@@ -132,7 +132,7 @@ impl RecentEdits {
         requires last { first + length bodies.now ≤ max_number + 1 }
         requires follows { Follows self.old.edits first }
         ensures start { self.new.start ≡ self.old.start }
-        ensures held { (before : List Edit) → self.old.edits ≡ kept most_stored before → self.new.edits ≡ kept most_stored (before ++ numbered first bodies.now) }
+        ensures held { (before : List Edit) → self.old.edits ≡ kept_edits most_stored before → self.new.edits ≡ kept_edits most_stored (before ++ number_edits first bodies.now) }
     {
         let mut txid = first;
         for body in bodies.as_slice() {

@@ -19,7 +19,7 @@ pub nodes_all : (ends : List End) (out all : List ℕ) (histories : List (List H
 unfolding nodes_text
 nodes_all ends out all histories i h l = sym (append-nil out) ∙ ap (λ x. out ++ nodes_text ends (i + 1) x) (sym (drop_all i histories l)) ∙ h
 
--- a node that is too long behind what is printed makes all of it too long
+-- a node that is too long after what is printed makes all of it too long
 pub nodes_long : (most : ℕ) (ends : List End) (out all : List ℕ) (histories : List (List HistoryLine)) (i : ℕ) (d : List HistoryLine) → out ++ nodes_text ends (i + 1) (drop i histories) ≡ all → i < length histories
     → most < length (out ++ node_text ends (i + 1) (get_or histories i d)) → most < length all
 nodes_long most ends out all histories i d h l m =
@@ -49,7 +49,7 @@ pub actors_all : (out new all : List ℕ) (ends : List End) (records : List (Lis
 unfolding actors_text
 actors_all out new all ends records i h l e = e ∙ ap (λ x. out ++ actors_text x records) (sym (drop_all i ends l)) ∙ h
 
--- an actor that is too long behind what is printed makes all of it too long
+-- an actor that is too long after what is printed makes all of it too long
 pub actors_long : (most : ℕ) (out all : List ℕ) (ends : List End) (records others : List (List Record)) (lines : List Record) (i : ℕ) (d : End) → out ++ actors_text (drop i ends) records ≡ all → i < length ends
     → records ≡ lines ∷ others → most < length (out ++ ended_text (get_or ends i d) lines) → most < length all
 actors_long most out all ends records others lines i d h l r m =

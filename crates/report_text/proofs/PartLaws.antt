@@ -5,7 +5,7 @@ use Rattle.std.proofs.lemmas.List.{take_rest}
 use Rattle.request_text.specs.Texts.{numbers_text}
 use Rattle.request_text.proofs.PrintLaws.{decimal_short}
 
--- the digits stand behind the place at which they start
+-- the digits stand after the place at which they start
 pub digits_piece : (n start : ℕ) (buf : List ℕ) → length buf ≡ 20 → drop start buf ≡ decimal n ++ drop 20 (replicate 20 32) → take (20 - start) (drop start buf) ≡ decimal n
 digits_piece n start buf size written =
     ap (λ k. take (k - start) (drop start buf)) (sym size) ∙ take_rest buf start ∙ written ∙ append-nil (decimal n)

@@ -77,12 +77,12 @@ request_heard nodes (Journal head start batch) t = ok_heard nodes head batch t
 request_heard nodes _ t = t
 
 -- the calls of a round stand together in a record
-abbrev pub tallied : ℕ → Tally → Record → Tally
-tallied nodes t (Call node request told) = if is_ok told then request_heard nodes request t else t
-tallied nodes t _ = t
+abbrev pub tally_record : ℕ → Tally → Record → Tally
+tally_record nodes t (Call node request told) = if is_ok told then request_heard nodes request t else t
+tally_record nodes t _ = t
 
 unfoldable pub last_in : ℕ → List Record → ℕ
-last_in nodes lines = (fold (tallied nodes) no_tally lines).last
+last_in nodes lines = (fold (tally_record nodes) no_tally lines).last
 
 abbrev pub last_done : Mesh → ℕ
 last_done mesh = fold max 0 (map (last_in mesh.nodes) mesh.records)

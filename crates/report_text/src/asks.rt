@@ -96,7 +96,7 @@ fn put_heard(out: &mut Vec<u8>, told: &Told) -> Result<(), OutOfMemory>
     }
 }
 
-/// What the node answered, behind an arrow, and the end of the line. Most answers are `ok`, which is added at once.
+/// What the node answered, after an arrow, and the end of the line. Most answers are `ok`, which is added at once.
 #[tactic(auto, unfolding(crate::specs::Text::answer_text, request_text::specs::Texts::reply_text))]
 pub fn put_answer_end(out: &mut Vec<u8>, answer: &NodeAnswer) -> Result<(), OutOfMemory>
     ensures { OnOk result (out.new.items ≡ out.old.items ++ arrow ++ answer_text answer.now ++ 10 ∷ []) }
@@ -110,7 +110,7 @@ pub fn put_answer_end(out: &mut Vec<u8>, answer: &NodeAnswer) -> Result<(), OutO
     Ok(())
 }
 
-/// What a caller heard, behind an arrow, and the end of the line.
+/// What a caller heard, after an arrow, and the end of the line.
 #[tactic(auto, unfolding(crate::specs::Text::heard_text, request_text::specs::Texts::reply_text))]
 pub fn put_heard_end(out: &mut Vec<u8>, told: &Told) -> Result<(), OutOfMemory>
     ensures { OnOk result (out.new.items ≡ out.old.items ++ arrow ++ heard_text told.now ++ 10 ∷ []) }

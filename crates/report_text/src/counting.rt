@@ -63,7 +63,7 @@ fn count_ask(count: u64, ask: &NodeAsk) -> u64
     }
 }
 
-/// What was asked, behind a space.
+/// What was asked, after a space.
 #[tactic(auto, using(request_text::proofs::CountLaws::counted_on))]
 fn count_spaced_ask(count: u64, ask: &NodeAsk) -> u64
     ensures { result ≡ counted count (32 ∷ ask_text ask.now) }
@@ -71,7 +71,7 @@ fn count_spaced_ask(count: u64, ask: &NodeAsk) -> u64
     count_ask(count_bytes(count, b" "), ask)
 }
 
-/// A request, behind a space.
+/// A request, after a space.
 #[tactic(auto, using(request_text::proofs::CountLaws::counted_on))]
 fn count_spaced_request(count: u64, request: &Request) -> u64
     ensures { result ≡ counted count (32 ∷ request_text request.now) }

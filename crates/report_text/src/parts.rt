@@ -30,7 +30,7 @@ pub fn put_number(out: &mut Vec<u8>, number: u64) -> Result<(), OutOfMemory>
     put_digits(out, number)
 }
 
-/// A number behind a space.
+/// A number after a space.
 #[tactic(auto, using(crate::proofs::PartLaws::numbers_one))]
 pub fn put_spaced(out: &mut Vec<u8>, number: u64) -> Result<(), OutOfMemory>
     ensures { OnOk result (out.new.items ≡ out.old.items ++ numbers_text (number ∷ [])) }
@@ -40,7 +40,7 @@ pub fn put_spaced(out: &mut Vec<u8>, number: u64) -> Result<(), OutOfMemory>
     Ok(())
 }
 
-/// Two numbers, each behind a space.
+/// Two numbers, each after a space.
 #[tactic(auto, using(crate::proofs::PartLaws::numbers_two))]
 pub fn put_pair(out: &mut Vec<u8>, first: u64, second: u64) -> Result<(), OutOfMemory>
     ensures { OnOk result (out.new.items ≡ out.old.items ++ numbers_text (first ∷ second ∷ [])) }

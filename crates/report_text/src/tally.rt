@@ -1,7 +1,7 @@
 // The last txid of a journal round that was done.
 ghost use Rattle.std.specs.Prelude.{◌≡◌, ◌+◌, ◌<◌, ◌≤◌, ◌^◌, max, map};
 ghost use Rattle.std.specs.List.{fold};
-ghost use Rattle.report_text.specs.Summary.{no_tally, ok_heard, is_ok, request_heard, tallied, last_in};
+ghost use Rattle.report_text.specs.Summary.{no_tally, ok_heard, is_ok, request_heard, tally_record, last_in};
 ghost use Rattle.journal_core.specs.Views.{last_txid};
 
 use journal_core::{Batch, Head, Reply, Request};
@@ -86,7 +86,7 @@ impl Tally {
     /// One more line of the record.
     fn take(self, nodes: usize, line: &Record) -> Tally
         requires { self.oks + 1 < 2 ^ 64 }
-        ensures taken { result ≡ tallied nodes self line.now }
+        ensures taken { result ≡ tally_record nodes self line.now }
         ensures more { result.oks ≤ self.oks + 1 }
     {
         match line {

@@ -1,6 +1,6 @@
 -- Bodies in hexadecimal: what a word says, and that what is printed is read.
-use Rattle.std.proofs.Common.{ℕ, ◌≡◌, ◌≢◌, ◌<◌, ◌≤◌, ◌*◌, ◌||◌, List, [], ◌∷◌, length, map, Option, Some, None, Bool, true, false, cond, nat_lt, refl, sym, ap, subst, ◌∙◌, arith}
-use Rattle.std.specs.Prelude.{Result, Ok, Err, IfOk, IfSome, MatchOption}
+use Rattle.std.proofs.Common.{ℕ, ◌≡◌, ◌≢◌, ◌<◌, ◌≤◌, ◌*◌, ◌||◌, List, [], ◌∷◌, length, map, Option, Some, None, is_some, Bool, true, false, cond, nat_lt, refl, sym, ap, subst, ◌∙◌, arith}
+use Rattle.std.specs.Prelude.{Result, Ok, Err, IfOk, OnErr, IfSome, MatchOption}
 use Rattle.std.specs.List.{AllByRecursion}
 use Rattle.std.proofs.lemmas.Bool.Decides.{nat_tests}
 use Rattle.line_words.specs.Words.{is_empty}
@@ -70,7 +70,28 @@ copied (Ok None) word bytes e l is some = no_byte word bytes e is
 copied (Ok (Some b)) word bytes e l is some = sized word bytes b e l is some
 copied (Err x) word bytes e l is some = tt
 
-pub ruleset bodies = (too_long, not_hex)
+-- memory is wanted for a body alone
+pub copied_some : (word bytes : List ℕ) → bytes_in word ≡ Some bytes → length bytes ≤ 4096 → 0 < length word → is_some (body_in word) ≡ true
+unfolding body_in hex_text
+copied_some word [] e l n = let none : word ≡ [] = sym (bytes_found word [] e).text in absurd (omega (arith, n, ap length none))
+copied_some word (x ∷ xs) e l n =
+    let short : nat_lt 4096 (length (x ∷ xs)) ≡ false = grind (arith, nat_tests, l) in
+    let all : body_of_size (Some (x ∷ xs)) ≡ Some (x ∷ xs) = rw short refl in
+    ap is_some (ap body_of_size e ∙ all)
+
+pub copied_memory : {T E : Type 0} (r : Result T E) (word bytes : List ℕ) → bytes_in word ≡ Some bytes → length bytes ≤ 4096 → 0 < length word → OnErr r (is_some (body_in word) ≡ true)
+copied_memory (Ok x) word bytes e l n = tt
+copied_memory (Err x) word bytes e l n = copied_some word bytes e l n
+
+pub no_word : (word : List ℕ) → word ≡ [] → None ≡ body_in word
+unfolding body_in
+no_word word e = sym (ap (λ (w : List ℕ). body_of_size (bytes_in w)) e)
+
+pub hex_judges : (word bytes : List ℕ) (r : Bool) → bytes_in word ≡ cond r (Some bytes) None → length bytes ≤ 4096 → 0 < length word → r ≡ is_some (body_in word)
+hex_judges word bytes true e l n = sym (copied_some word bytes e l n)
+hex_judges word bytes false e l n = ap is_some (not_hex word e)
+
+pub ruleset bodies = (too_long, not_hex, no_word)
 
 -- ## What is printed is read
 pub body_read : (b : List ℕ) → IsBody b → body_in (hex_text b) ≡ Some b

@@ -17,7 +17,7 @@ pub counted_small : (n r : ℕ) (x : List ℕ) → r ≡ counted n x → r < 2 ^
 unfolding counted
 counted_small n r x e = omega (arith, e)
 
--- a text, and one behind it
+-- a text, and one after it
 pub counted_on : (n m r : ℕ) (x y all : List ℕ) → m ≡ counted n x → r ≡ counted m y → all ≡ x ++ y → r ≡ counted n all
 unfolding counted
 counted_on n m r x y all one two is =
@@ -50,7 +50,7 @@ numbers_begun n h = counted_none n h ∙ ap (λ xs. counted n xs) numbers_nil
 pub numbers_on : (n m r i d : ℕ) (ns : List ℕ) → m ≡ counted n (numbers_text (take i ns)) → i < length ns → r ≡ counted m (32 ∷ decimal (get_or ns i d)) → r ≡ counted n (numbers_text (take (i + 1) ns))
 numbers_on n m r i d ns one l two = counted_on n m r (numbers_text (take i ns)) (32 ∷ decimal (get_or ns i d)) (numbers_text (take (i + 1) ns)) one two (numbers_more ns i d l)
 
--- the numbers of a head, and others behind them
+-- the numbers of a head, and others after them
 pub asked_counted : (n w h r : ℕ) (word : List ℕ) (a b c : ℕ) (ns : List ℕ) → w ≡ counted n word → h ≡ counted w (numbers_text (a ∷ b ∷ c ∷ [])) → r ≡ counted h (numbers_text ns) → r ≡ counted n (word ++ numbers_text (a ∷ b ∷ c ∷ ns))
 asked_counted n w h r word a b c ns one two three =
     counted_on n w r word (numbers_text (a ∷ b ∷ c ∷ ns)) (word ++ numbers_text (a ∷ b ∷ c ∷ ns)) one

@@ -47,14 +47,14 @@ pub lines_none : (old : List ℕ) → old ≡ old ++ lines_text []
 unfolding lines_text
 lines_none old = sym (append-nil old)
 
--- what was added, and more behind it
+-- what was added, and more after it
 pub grow : (old mid new a b c : List ℕ) → mid ≡ old ++ a → new ≡ mid ++ b → c ≡ a ++ b → new ≡ old ++ c
 grow old mid new a b c m n e = n ∙ ap (λ x. x ++ b) m ∙ append_assoc old a b ∙ ap (λ x. old ++ x) (sym e)
 
 pub decimal_short : (n : ℕ) → n < 2 ^ 64 → length (decimal n) ≤ 20
 decimal_short n h = search (rules, length-decimal-le 20)
 
--- a mark, and the digits behind it
+-- a mark, and the digits after it
 pub marked : (mark n start : ℕ) (buf : List ℕ) → n < 2 ^ 64 → length buf ≡ 21 → start + length (decimal n) ≡ 21
     → drop start buf ≡ decimal n ++ drop 21 (replicate 21 mark) → take start buf ≡ take start (replicate 21 mark) → drop (start - 1) buf ≡ mark ∷ decimal n
 marked mark n start buf h size e written before =

@@ -1,5 +1,5 @@
 -- Laws of the reading of lines.
-use Rattle.std.proofs.Common.{ℕ, ◌≡◌, ◌≢◌, ◌<◌, ◌≤◌, ◌+◌, ◌==◌, ◌&&◌, List, [], ◌∷◌, length, drop, Option, Some, None, Bool, true, false, not, refl, sym, ap, ◌∙◌, arith, option_map, IsTrue, length-drop}
+use Rattle.std.proofs.Common.{ℕ, ◌≡◌, ◌≢◌, ◌<◌, ◌≤◌, ◌+◌, ◌&&◌, List, [], ◌∷◌, length, drop, Option, Some, None, is_some, Bool, true, false, not, refl, sym, ap, ◌∙◌, arith, option_map, IsTrue, length-drop}
 use Rattle.std.specs.List.{list_any}
 use Rattle.std.proofs.lemmas.Bool.Decides.{nat_tests}
 use Rattle.std.proofs.lemmas.List.{drop_all}
@@ -47,21 +47,21 @@ plain_fails w ws plain fits e =
 pub ruleset counted = (plain_reads, plain_fails)
 
 -- ## Where memory is wanted
-journal_bodies : (e s c m f : ℕ) (bodies : Option (List (List ℕ))) → takes_memory (by_bodies word.Journal (e ∷ s ∷ c ∷ m ∷ f ∷ []) bodies) ≡ true
-journal_bodies e s c m f None = refl
-journal_bodies e s c m f (Some bodies) = refl
+journal_bodies : (e s c m f : ℕ) (bodies : Option (List (List ℕ))) → is_some bodies ≡ true → takes_memory (by_bodies word.Journal (e ∷ s ∷ c ∷ m ∷ f ∷ []) bodies) ≡ true
+journal_bodies e s c m f None h = absurd cc
+journal_bodies e s c m f (Some bodies) h = refl
 
-pub journal_takes : (ns : Option (List ℕ)) (e s c m f : ℕ) (ws : List (List ℕ)) → ns ≡ Some (e ∷ s ∷ c ∷ m ∷ f ∷ []) → takes_memory (by_numbers word.Journal ns ws) ≡ true
-journal_takes ns e s c m f ws h = ap (λ xs. takes_memory (by_numbers word.Journal xs ws)) h ∙ journal_bodies e s c m f (bodies_in ws)
+pub journal_takes : (ns : Option (List ℕ)) (e s c m f : ℕ) (ws : List (List ℕ)) → ns ≡ Some (e ∷ s ∷ c ∷ m ∷ f ∷ []) → is_some (bodies_in ws) ≡ true → takes_memory (by_numbers word.Journal ns ws) ≡ true
+journal_takes ns e s c m f ws h some = ap (λ xs. takes_memory (by_numbers word.Journal xs ws)) h ∙ journal_bodies e s c m f (bodies_in ws) some
 
-accept_bodies : (e s c f : ℕ) (bodies : Option (List (List ℕ))) → takes_memory (by_bodies word.Accept (e ∷ s ∷ c ∷ f ∷ []) bodies) ≡ true
-accept_bodies e s c f None = refl
-accept_bodies e s c f (Some bodies) = refl
+accept_bodies : (e s c f : ℕ) (bodies : Option (List (List ℕ))) → is_some bodies ≡ true → takes_memory (by_bodies word.Accept (e ∷ s ∷ c ∷ f ∷ []) bodies) ≡ true
+accept_bodies e s c f None h = absurd cc
+accept_bodies e s c f (Some bodies) h = refl
 
-pub accept_takes : (ns : Option (List ℕ)) (e s c f : ℕ) (ws : List (List ℕ)) → ns ≡ Some (e ∷ s ∷ c ∷ f ∷ []) → takes_memory (by_numbers word.Accept ns ws) ≡ true
-accept_takes ns e s c f ws h = ap (λ xs. takes_memory (by_numbers word.Accept xs ws)) h ∙ accept_bodies e s c f (bodies_in ws)
+pub accept_takes : (ns : Option (List ℕ)) (e s c f : ℕ) (ws : List (List ℕ)) → ns ≡ Some (e ∷ s ∷ c ∷ f ∷ []) → is_some (bodies_in ws) ≡ true → takes_memory (by_numbers word.Accept ns ws) ≡ true
+accept_takes ns e s c f ws h some = ap (λ xs. takes_memory (by_numbers word.Accept xs ws)) h ∙ accept_bodies e s c f (bodies_in ws) some
 
--- what a line says isn't want of memory
+-- what a line says isn't lack of memory
 bodies_told : (w : RequestWord) (ns : List ℕ) (bodies : Option (List (List ℕ))) → by_bodies w ns bodies ≢ OutOfMemory
 bodies_told w ns None e = cc
 bodies_told w ns (Some bodies) e = cc
@@ -78,17 +78,15 @@ word_told : (o : Option RequestWord) (ws : List (List ℕ)) → by_word o ws ≢
 word_told None ws e = cc
 word_told (Some w) ws e = count_told w ws (not (list_any is_empty ws) && fits_count w (length ws)) e
 
--- of the rules, 8 alone takes memory
-pub bad_takes : (line : List ℕ) (rule : ℕ) → takes_memory (reading_of line) ≡ true → reading_of line ≡ Bad rule → rule ≡ 8
-bad_takes line rule h e =
-    let is : (rule == 8) ≡ true = sym (ap takes_memory e) ∙ h in
-    grind (arith, nat_tests)
+-- a line that breaks a rule takes no memory
+pub bad_takes : (line : List ℕ) (rule : ℕ) → takes_memory (reading_of line) ≡ true → reading_of line ≢ Bad rule
+bad_takes line rule h e = let is : false ≡ true = sym (ap takes_memory e) ∙ h in absurd cc
 
 pub reading_told : (line : List ℕ) → reading_of line ≢ OutOfMemory
 unfolding reading_of
 reading_told line e = word_told (word_of (first_word (words_of line))) (words_of line) e
 
-pub length_behind : (ws : List (List ℕ)) → 0 < length ws → length (drop 1 ws) + 1 ≡ length ws
-length_behind ws l = omega (arith, length-drop 1 ws)
+pub length_after : (ws : List (List ℕ)) → 0 < length ws → length (drop 1 ws) + 1 ≡ length ws
+length_after ws l = omega (arith, length-drop 1 ws)
 
-pub ruleset lines = (length_behind)
+pub ruleset lines = (length_after)

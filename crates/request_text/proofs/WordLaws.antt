@@ -1,5 +1,5 @@
 -- Laws of words.
-use Rattle.std.proofs.Common.{ℕ, ◌≡◌, ◌<◌, ◌≤◌, ◌+◌, ◌-◌, ◌^◌, ◌++◌, List, [], ◌∷◌, drop, get_or, append_assoc, append-nil, decimal, Option, Some, None, false, cond, refl, sym, ap, ◌∙◌, arith, ◌⊎◌, inl, inr}
+use Rattle.std.proofs.Common.{ℕ, ◌≡◌, ◌<◌, ◌≤◌, ◌+◌, ◌-◌, ◌^◌, ◌++◌, List, [], ◌∷◌, drop, get_or, append_assoc, append-nil, decimal, Option, Some, None, is_some, Bool, true, false, cond, refl, sym, ap, ◌∙◌, arith, ◌⊎◌, inl, inr}
 use Rattle.std.proofs.lemmas.List.{at_drop_more}
 use Rattle.std.specs.Option.{MatchOption}
 use Rattle.std.specs.Str.{bytes_eq}
@@ -47,7 +47,28 @@ pub collect_ends : (xs ws : List (List ℕ)) (all : Option (List (List ℕ))) �
 collect_ends xs ws all h e =
     ap (λ (zs : List (List ℕ)). let o : Option (List (List ℕ)) = Some zs in o) (sym (append-nil xs)) ∙ ap (λ (us : List (List ℕ)). prepend xs (bodies_in us)) (sym e) ∙ h
 
+-- a body stands in front of others
+first_some : (o : Option (List ℕ)) (p : Option (List (List ℕ))) → is_some o ≡ true → is_some (put_first o p) ≡ is_some p
+first_some None p h = absurd cc
+first_some (Some b) None h = refl
+first_some (Some b) (Some bs) h = refl
+
 pub ruleset collects = (prepend_nil, collect_more, collect_stops, collect_ends)
+
+pub judge_more : (ws vs : List (List ℕ)) (w : List ℕ) (all : Bool) → is_some (bodies_in ws) ≡ all → ws ≡ w ∷ vs → true ≡ is_some (body_in w) → is_some (bodies_in vs) ≡ all
+judge_more ws vs w all h e b = sym (first_some (body_in w) (bodies_in vs) (sym b)) ∙ ap (λ (us : List (List ℕ)). is_some (bodies_in us)) (sym e) ∙ h
+
+no_first : (o : Option (List ℕ)) (p : Option (List (List ℕ))) → false ≡ is_some o → is_some (put_first o p) ≡ false
+no_first None p h = refl
+no_first (Some b) p h = absurd cc
+
+pub judge_stops : (ws vs : List (List ℕ)) (w : List ℕ) (all : Bool) → is_some (bodies_in ws) ≡ all → ws ≡ w ∷ vs → false ≡ is_some (body_in w) → false ≡ all
+judge_stops ws vs w all h e b = sym (no_first (body_in w) (bodies_in vs) b) ∙ ap (λ (us : List (List ℕ)). is_some (bodies_in us)) (sym e) ∙ h
+
+pub judge_ends : (ws : List (List ℕ)) (all : Bool) → is_some (bodies_in ws) ≡ all → ws ≡ [] → true ≡ all
+judge_ends ws all h e = ap (λ (us : List (List ℕ)). is_some (bodies_in us)) (sym e) ∙ h
+
+pub ruleset judges = (judge_more, judge_stops, judge_ends)
 
 pub head_numbers : (epoch serial committed : ℕ) (r : Option HeadView) (ns : Option (List ℕ)) → 1 ≤ epoch → 1 ≤ serial
     → MatchOption r ((epoch ≡ 0) ⊎ (serial ≡ 0)) (λ h. h ≡ record { epoch = epoch; serial = serial; committed = committed })

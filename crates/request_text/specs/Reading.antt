@@ -126,11 +126,10 @@ abbrev pub by_word : Option RequestWord → List (List ℕ) → ReadRequest
 by_word None ws = Bad 2
 by_word (Some w) ws = by_count w ws (not (list_any is_empty ws) && fits_count w (length ws))
 
--- Memory is wanted for bodies alone: those of a request, and those in front of the one that isn't one.
+-- Memory is wanted for the bodies of a request alone.
 abbrev pub takes_memory : ReadRequest → Bool
 takes_memory (Read (request.Journal head start batch)) = true
 takes_memory (Read (request.Accept head batch)) = true
-takes_memory (Bad rule) = rule == 8
 takes_memory _ = false
 
 -- what a line says

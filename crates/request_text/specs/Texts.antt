@@ -1,4 +1,4 @@
--- The texts of requests and replies: words behind one another with one space between.
+-- The texts of requests and replies: words after one another with one space between.
 use Rattle.std.specs.Prelude.{ℕ, Bool, true, false, List, [], ◌∷◌, ◌++◌, Option, Some, None, codes, decimal}
 use Rattle.line_words.specs.Hex.{hex_text}
 use Rattle.journal_core.specs.Views.{HeadView}
@@ -12,16 +12,16 @@ use Rattle.journal_core.specs.declared.refusal.Refusal.{Refusal}
 pub use Rattle.journal_core.specs.Refusals.{refusal_number, refusal_field}
 unfoldable pub use Rattle.journal_core.specs.Refusals.{refusal_name}
 
--- a word behind a space
+-- a word after a space
 abbrev pub spaced : List ℕ → List ℕ
 spaced word = 32 ∷ word
 
--- numbers in decimal, each behind a space
+-- numbers in decimal, each after a space
 unfoldable pub numbers_text : List ℕ → List ℕ
 numbers_text [] = []
 numbers_text (n ∷ ns) = spaced (decimal n) ++ numbers_text ns
 
--- bodies, each behind a space
+-- bodies, each after a space
 unfoldable pub bodies_text : List (List ℕ) → List ℕ
 bodies_text [] = []
 bodies_text (body ∷ bodies) = spaced (hex_text body) ++ bodies_text bodies

@@ -25,7 +25,7 @@ pub fn count_number(count: u64, number: u64) -> u64
     count.saturating_add(20 - start as u64)
 }
 
-/// Counts a number in decimal behind a space.
+/// Counts a number in decimal after a space.
 #[tactic(auto, using(crate::proofs::CountLaws::counted_on))]
 fn count_spaced(count: u64, number: u64) -> u64
     ensures { result ≡ counted count (32 ∷ decimal number) }
@@ -33,7 +33,7 @@ fn count_spaced(count: u64, number: u64) -> u64
     count_number(count_bytes(count, b" "), number)
 }
 
-/// Counts numbers in decimal, each behind a space.
+/// Counts numbers in decimal, each after a space.
 #[tactic(auto, using(crate::proofs::CountLaws::counts))]
 pub fn count_numbers(count: u64, numbers: &[u64]) -> u64
     ensures { result ≡ counted count (numbers_text numbers.now) }
@@ -45,7 +45,7 @@ pub fn count_numbers(count: u64, numbers: &[u64]) -> u64
     sum
 }
 
-/// Counts a body in hexadecimal behind a space.
+/// Counts a body in hexadecimal after a space.
 #[tactic(auto, using(crate::proofs::CountLaws::body_counted))]
 fn count_body(count: u64, body: &[u8]) -> u64
     ensures { result ≡ counted count (32 ∷ hex_text body.now) }
@@ -57,7 +57,7 @@ fn count_body(count: u64, body: &[u8]) -> u64
         .saturating_add(digits)
 }
 
-/// Counts bodies in hexadecimal, each behind a space.
+/// Counts bodies in hexadecimal, each after a space.
 #[tactic(auto, using(crate::proofs::CountLaws::counts))]
 pub(crate) fn count_bodies(count: u64, bodies: &BodyList) -> u64
     ensures { result ≡ counted count (bodies_text bodies.now) }

@@ -1,4 +1,4 @@
-// The parts of a text, each added at the end of a list of bytes. After want of memory what stood there still stands at its front.
+// The parts of a text, each added at the end of a list of bytes. After lack of memory what stood there still stands at its front.
 ghost use Rattle.std.specs.Prelude.{◌≡◌, ◌++◌, ◌∷◌, OnOk, decimal};
 ghost use Rattle.line_words.specs.Appends.{Keeps};
 ghost use Rattle.request_text.specs.Texts.{numbers_text, bodies_text, asked_by};
@@ -19,7 +19,7 @@ pub(crate) fn put_marked(out: &mut Vec<u8>, mark: u8, number: u64) -> Result<(),
     put(out, &digits[start - 1..])
 }
 
-/// Adds numbers in decimal, each behind a space.
+/// Adds numbers in decimal, each after a space.
 #[tactic(auto, using(crate::proofs::PrintLaws::prints))]
 pub(crate) fn put_numbers(out: &mut Vec<u8>, numbers: &[u64]) -> Result<(), OutOfMemory>
     ensures ok { OnOk result (out.new.items ≡ out.old.items ++ numbers_text numbers.now) }
@@ -31,7 +31,7 @@ pub(crate) fn put_numbers(out: &mut Vec<u8>, numbers: &[u64]) -> Result<(), OutO
     Ok(())
 }
 
-/// Adds bodies in hexadecimal, each behind a space. An `Err` is want of memory; what stood there still stands at the front.
+/// Adds bodies in hexadecimal, each after a space. An `Err` is lack of memory; what stood there still stands at the front.
 #[tactic(auto, using(crate::proofs::PrintLaws::prints))]
 pub fn put_bodies(out: &mut Vec<u8>, bodies: &BodyList) -> Result<(), OutOfMemory>
     ensures ok { OnOk result (out.new.items ≡ out.old.items ++ bodies_text bodies.now) }

@@ -6,7 +6,7 @@ ghost use Rattle.request_text.specs.Words.{asked};
 use crate::request_line::ReadRequest;
 use crate::request_word::RequestWord;
 use crate::words::Words;
-use journal_core::{Batch, Head, MAX_BODY, Request};
+use journal_core::{Batch, Head, Request};
 use line_words::{count_words, first_word};
 use qj_num::OutOfMemory;
 use std::alloc::Global;
@@ -87,7 +87,7 @@ fn read_journal(alloc: Global, words: &mut Words) -> Result<ReadRequest, OutOfMe
     let Some((head, start, first)) = read_journal_numbers(words) else {
         return Ok(ReadRequest::Bad { rule: 7 });
     };
-    let Some(bodies) = words.bodies(alloc, &mut [0; MAX_BODY])? else {
+    let Some(bodies) = words.bodies(alloc)? else {
         return Ok(ReadRequest::Bad { rule: 8 });
     };
     let batch = Batch::new(first, bodies);
@@ -113,14 +113,14 @@ fn read_accept(alloc: Global, words: &mut Words) -> Result<ReadRequest, OutOfMem
     let Some((head, first)) = read_accept_numbers(words) else {
         return Ok(ReadRequest::Bad { rule: 7 });
     };
-    let Some(bodies) = words.bodies(alloc, &mut [0; MAX_BODY])? else {
+    let Some(bodies) = words.bodies(alloc)? else {
         return Ok(ReadRequest::Bad { rule: 8 });
     };
     let batch = Batch::new(first, bodies);
     Ok(ReadRequest::Read(Request::Accept { head, batch }))
 }
 
-/// The request of a kind without bodies, from the numbers behind its word.
+/// The request of a kind without bodies, from the numbers after its word.
 fn read_plain(word: RequestWord, words: &mut Words) -> Option<Request>
     requires { has_bodies word ≡ false }
     ensures { result ≡ asked word words.old }
@@ -139,7 +139,7 @@ fn read_plain(word: RequestWord, words: &mut Words) -> Option<Request>
     }
 }
 
-/// What the words behind the first one say.
+/// What the words after the first one say.
 #[tactic(auto, using(crate::proofs::ReadLaws::counted))]
 fn read_words(
     alloc: Global,
@@ -174,12 +174,12 @@ fn read_line(alloc: Global, line: &[u8]) -> Result<ReadRequest, OutOfMemory>
     if !word.fits_count(count) {
         return Ok(ReadRequest::Bad { rule: 3 });
     }
-    let mut words = Words::behind_first(line);
+    let mut words = Words::after_first(line);
     read_words(alloc, word, &mut words)
 }
 
-/// The request that a line says, without its line feed, or the first rule that it breaks. Want of memory is told only where
-/// bodies are read: rules 2, 3 and 7 are always told, and so is a request without bodies.
+/// The request that a line says, without its line feed, or the first rule that it breaks. Lack of memory is told only of a
+/// request with bodies: a line that breaks a rule is always told so, and so is a request without bodies.
 pub fn read_request(alloc: Global, line: &[u8]) -> ReadRequest
     ensures read { result ≢ ReadRequest.OutOfMemory → result ≡ reading_of line.now }
     ensures memory { result ≡ ReadRequest.OutOfMemory → takes_memory (reading_of line.now) ≡ true }

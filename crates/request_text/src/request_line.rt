@@ -10,6 +10,6 @@ pub enum ReadRequest {
     /// Not a request's text; the number of the first rule that it breaks: 2 an unknown word, 3 a
     /// wrong number of words, 7 a bad number, 8 a bad body.
     Bad { rule: u32 },
-    /// Want of memory.
+    /// Out of memory.
     OutOfMemory,
 }

@@ -1,5 +1,5 @@
 // The words of a line.
-ghost use Rattle.std.specs.Prelude.{◌≡◌, ◌∷◌, [], ℕ, List, length, drop, Some, MatchOption, IfSome, OnSome, ◌≤◌, IfOk};
+ghost use Rattle.std.specs.Prelude.{◌≡◌, ◌∷◌, [], ℕ, List, length, drop, true, is_some, MatchOption, IfSome, OnSome, ◌≤◌, ◌*◌, IfOk, OnErr};
 ghost use Rattle.std.specs.Option.{option_copied};
 ghost use Rattle.line_words.specs.Words.{words_of};
 ghost use Rattle.request_text.specs.Reading.{number_in, numbers_in, put_first, body_in, bodies_in};
@@ -35,13 +35,18 @@ fn number_word(word: &[u8], least: u64) -> Option<u64>
     number_of(word, least, u64::MAX)
 }
 
-/// The word as a body of one to 4,096 bytes; its bytes go to `room`.
+/// The most bytes of a short body, for which a small room is made.
+const SHORT_BODY: usize = 256;
+
+/// The word as a body, by way of a room for its bytes. Takes no memory where it is none.
 #[tactic(auto, using(crate::proofs::BodyLaws::bodies))]
-fn read_body(alloc: Global, word: &[u8], room: &mut [u8]) -> Result<Option<Bytes>, OutOfMemory>
-    requires { length room.old ≡ 4096 }
-    ensures { IfOk result (λ body. body ≡ body_in word.now) }
+fn copy_body(alloc: Global, word: &[u8], room: &mut [u8]) -> Result<Option<Bytes>, OutOfMemory>
+    requires fits { length word.now ≤ 2 * length room.old }
+    requires most { length room.old ≤ 4096 }
+    ensures body { IfOk result (λ body. body ≡ body_in word.now) }
+    ensures memory { OnErr result (is_some (body_in word.now) ≡ true) }
 {
-    if word.len() > 2 * MAX_BODY {
+    if word.is_empty() {
         return Ok(None);
     }
     if !read_hex(word, room) {
@@ -50,18 +55,40 @@ fn read_body(alloc: Global, word: &[u8], room: &mut [u8]) -> Result<Option<Bytes
     Bytes::copy_of(alloc, &room[..word.len() / 2])
 }
 
-/// The words of a text as bodies of one to 4,096 bytes in hexadecimal; `None` where one of them is none. `room` is for the
-/// bytes of one body. An `Err` is want of memory.
-pub fn read_bodies(
-    alloc: Global,
-    text: &[u8],
-    room: &mut [u8],
-) -> Result<Option<BodyList>, OutOfMemory>
+/// The word as a body of one to 4,096 bytes. Takes no memory where it is none.
+#[tactic(auto, using(crate::proofs::BodyLaws::bodies))]
+fn read_body(alloc: Global, word: &[u8]) -> Result<Option<Bytes>, OutOfMemory>
+    ensures body { IfOk result (λ body. body ≡ body_in word.now) }
+    ensures memory { OnErr result (is_some (body_in word.now) ≡ true) }
+{
+    if word.len() <= 2 * SHORT_BODY {
+        return copy_body(alloc, word, &mut [0; SHORT_BODY]);
+    }
+    if word.len() <= 2 * MAX_BODY {
+        return copy_body(alloc, word, &mut [0; MAX_BODY]);
+    }
+    Ok(None)
+}
+
+/// Whether the word is a body of one to 4,096 bytes; `room` is for its bytes.
+fn is_body(word: &[u8], room: &mut [u8]) -> bool
     requires { length room.old ≡ 4096 }
-    ensures { IfOk result (λ bodies. bodies ≡ bodies_in (words_of text.now)) }
+    ensures { result ≡ is_some (body_in word.now) }
+{
+    if word.is_empty() || word.len() > 2 * MAX_BODY {
+        return false;
+    }
+    read_hex(word, room)
+}
+
+/// The words of a text as bodies of one to 4,096 bytes in hexadecimal; `None` where one of them is none. An `Err` is want of
+/// memory, which is taken only where each word is a body.
+pub fn read_bodies(alloc: Global, text: &[u8]) -> Result<Option<BodyList>, OutOfMemory>
+    ensures bodies { IfOk result (λ bodies. bodies ≡ bodies_in (words_of text.now)) }
+    ensures memory { OnErr result (is_some (bodies_in (words_of text.now)) ≡ true) }
 {
     let mut words = Words::of(text);
-    words.bodies(alloc, room)
+    words.bodies(alloc)
 }
 
 impl<'a> Words<'a> {
@@ -89,8 +116,8 @@ impl<'a> Words<'a> {
         }
     }
 
-    /// Those behind the first one of a line.
-    pub(crate) fn behind_first(line: &'a [u8]) -> Words<'a>
+    /// Those after the first one of a line.
+    pub(crate) fn after_first(line: &'a [u8]) -> Words<'a>
         ensures { result ≡ drop 1 (words_of line.now) }
     {
         match split_word(line) {
@@ -120,20 +147,38 @@ impl<'a> Words<'a> {
         Head::new(epoch, serial, committed)
     }
 
-    /// All that are left as bodies.
+    /// Whether all that are left are bodies.
+    #[tactic(auto, using(crate::proofs::WordLaws::judges))]
+    fn are_bodies(&self) -> bool
+        ensures { result ≡ is_some (bodies_in self.now) }
+    {
+        if self.rest.is_none() {
+            return true;
+        }
+        let mut words = Words { rest: self.rest };
+        let mut room = [0; MAX_BODY];
+        while let Some(word) = words.next() {
+            if !is_body(word, &mut room) {
+                return false;
+            }
+        }
+        true
+    }
+
+    /// All that are left as bodies. Before the first is copied the others are judged, so no memory is taken where one of them is
+    /// none.
     #[tactic(auto, using(crate::proofs::WordLaws::collects))]
-    pub(crate) fn bodies(
-        &mut self,
-        alloc: Global,
-        room: &mut [u8],
-    ) -> Result<Option<BodyList>, OutOfMemory>
-        requires { length room.old ≡ 4096 }
+    pub(crate) fn bodies(&mut self, alloc: Global) -> Result<Option<BodyList>, OutOfMemory>
         ensures bodies { IfOk result (λ bodies. bodies ≡ bodies_in self.old) }
         ensures count { IfOk result (λ bodies. IfSome bodies (λ list. length list ≡ length self.old)) }
+        ensures memory { OnErr result (is_some (bodies_in self.old) ≡ true) }
     {
         let mut list = BodyList::new(alloc);
         while let Some(word) = self.next() {
-            let Some(body) = read_body(alloc, word, room)? else {
+            if list.is_empty() && !self.are_bodies() {
+                return Ok(None);
+            }
+            let Some(body) = read_body(alloc, word)? else {
                 return Ok(None);
             };
             list.push(body)?;

@@ -10,12 +10,12 @@ use Rattle.journal_core.specs.declared.node_state.NodeState.{NodeState}
 use Rattle.journal_core.specs.declared.reply.Reply.{Reply}
 use Rattle.journal_core.specs.declared.request.Request.{Request}
 use Rattle.journal_core.specs.declared.segment.Segment.{Segment}
-use Rattle.node_history.specs.Entries.{Entry, Move, Answer, Stop, Kill, Restart, Way, moved, node_after, Earlier, now, before}
+use Rattle.node_history.specs.Entries.{Entry, Move, Answer, Stop, Kill, Restart, Way, after_move, node_after, Earlier, now, before}
 use Rattle.journal_core.proofs.Steps.{Acted, at_once, by_row, done, acted, front_le, none≢some, segments_all, segments-after}
 use Rattle.run_safety.proofs.SoundNodes.{stored_after, promise_earlier, led_after}
 use Rattle.journal_core.proofs.Changes.{Change, same, created, grown, made_final, replaced, removed, change_stopped, change_answered}
 
-pub node_here : (i : ℕ) (e : Entry) (old : List Entry) → e.node ≡ i → node_after i (e ∷ old) ≡ moved (node_after i old) e.move
+pub node_here : (i : ℕ) (e : Entry) (old : List Entry) → e.node ≡ i → node_after i (e ∷ old) ≡ after_move (node_after i old) e.move
 unfolding node_after
 node_here i e old is = cond-true (e.node == i) _ _ (eq-eqb e.node i is)
 
@@ -23,9 +23,9 @@ pub node_elsewhere : (i : ℕ) (e : Entry) (old : List Entry) → e.node ≢ i �
 unfolding node_after
 node_elsewhere i e old other = cond-false (e.node == i) _ _ (ne_eqb e.node i other)
 
-pub unmoved : (i : ℕ) (past : List Entry) (e : Entry) → moved (node_after e.node past) e.move ≡ node_after e.node past → node_after i (e ∷ past) ≡ node_after i past
+pub unmoved : (i : ℕ) (past : List Entry) (e : Entry) → after_move (node_after e.node past) e.move ≡ node_after e.node past → node_after i (e ∷ past) ≡ node_after i past
 unmoved i past e still = elim (cases_eq e.node i) [
-  | inl here ↦ node_here i e past here ∙ (ap (λ j. moved (node_after j past) e.move) (sym here) ∙ (still ∙ ap (λ j. node_after j past) here))
+  | inl here ↦ node_here i e past here ∙ (ap (λ j. after_move (node_after j past) e.move) (sym here) ∙ (still ∙ ap (λ j. node_after j past) here))
   | inr other ↦ node_elsewhere i e past other
 ]
 
@@ -57,7 +57,7 @@ answer_change s r m sound d (by_row x a b n e) = inr (a, change_answered s r sou
 answer_change s r m sound d (done a b n e) = inr (a, change_answered s r sound d m)
 
 stop_change : (s : NodeState) (caller : ℕ) (late : Bool) (r : Request) (k m : ℕ) → OpenIsLed s → IsStored s →
-    (find_segment m (moved s (Stop caller late r k)).segments ≡ find_segment m s.segments) ⊎ ChangedBy s (Stop caller late r k) m (find_segment m s.segments) (find_segment m (moved s (Stop caller late r k)).segments)
+    (find_segment m (after_move s (Stop caller late r k)).segments ≡ find_segment m s.segments) ⊎ ChangedBy s (Stop caller late r k) m (find_segment m s.segments) (find_segment m (after_move s (Stop caller late r k)).segments)
 stop_change s caller late r zero m sound d = inl (ap (λ zs. find_segment m zs) (segments-after s []))
 stop_change s caller late r (suc k) m sound d = elim (passed_or s r) [
   | inl none ↦ inl (ap (λ zs. find_segment m zs) (segments-after s (take (suc k) (effects_of s r)) ∙ ap (λ es. segments_all s.segments (take (suc k) es)) none))
@@ -65,7 +65,7 @@ stop_change s caller late r (suc k) m sound d = elim (passed_or s r) [
 ]
   where
     go : (es : List Effect) → effects_of s r ≡ es → refused_at_once s r ≡ None →
-        (find_segment m (moved s (Stop caller late r (suc k))).segments ≡ find_segment m s.segments) ⊎ ChangedBy s (Stop caller late r (suc k)) m (find_segment m s.segments) (find_segment m (moved s (Stop caller late r (suc k))).segments)
+        (find_segment m (after_move s (Stop caller late r (suc k))).segments ≡ find_segment m s.segments) ⊎ ChangedBy s (Stop caller late r (suc k)) m (find_segment m s.segments) (find_segment m (after_move s (Stop caller late r (suc k))).segments)
     go [] is passed = inl (ap (λ zs. find_segment m zs) (segments-after s (take (suc k) (effects_of s r)) ∙ ap (λ es. segments_all s.segments (take (suc k) es)) is))
     go (x ∷ xs) is passed = inr (record {
       request = r;
@@ -75,7 +75,7 @@ stop_change s caller late r (suc k) m sound d = elim (passed_or s r) [
     })
 
 pub move_change : (s : NodeState) (move : Move) (m : ℕ) → OpenIsLed s → IsStored s →
-    (find_segment m (moved s move).segments ≡ find_segment m s.segments) ⊎ ChangedBy s move m (find_segment m s.segments) (find_segment m (moved s move).segments)
+    (find_segment m (after_move s move).segments ≡ find_segment m s.segments) ⊎ ChangedBy s move m (find_segment m s.segments) (find_segment m (after_move s move).segments)
 move_change s (Answer caller way r reply) m sound d = elim (answer_change s r m sound d (acted s r)) [
   | inl e ↦ inl e
   | inr c ↦ inr (record { request = r; asked = inl (caller, way, reply, refl); passed = c.0; change = c.1 })

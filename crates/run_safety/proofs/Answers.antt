@@ -19,47 +19,47 @@ use Rattle.writer_core.specs.declared.task.Task.TheVariants as task
 use Rattle.writer_core.specs.Views.{WriterView}
 use Rattle.writer_core.specs.Answers.{fits_prepare, fits_propose, fits_round, has_majority}
 use Rattle.writer_core.specs.Best.{Best, best_of, segment_in, segment_told, greatest_newest, newest_in, newest_told}
-use Rattle.writer_core.specs.Rounds.{end_record, to_all, Judged, numbers_fit, next_serial, with_causes, judged_by, judged, done_in, going, recovering}
+use Rattle.writer_core.specs.Rounds.{end_record, to_all, Judgment, numbers_fit, next_serial, with_causes, judgment_by, judgment, after_round, keep_going, begin_recovery}
 use Rattle.writer_core.specs.Writer.{log_limit, log_begins, writer_begun}
-use Rattle.writer_core.specs.Whole.{Takeover, Underway, filled, underway, is_going, begun_or, next_task, round_after}
+use Rattle.writer_core.specs.Whole.{Takeover, TaskProgress, fill_slots, progress_from, has_begun, next_begun, next_task, round_after}
 use Rattle.run_safety.specs.Run.{may_follow}
 use Rattle.run_safety.proofs.Slots.{none≢some, some_same, true≢false, At, At-range, IsFresh, AllWait, all_fresh, to_all_wait, to_others_fresh, filled_length, filled_heard, filled_all, ok_from, in_ok, ok_majority, ok_slot, TellsSegment, best_told, told_newest, TellsNewest, newest_told_by, newest_told_least}
 use Rattle.run_safety.proofs.SeenLaws.{Writer, seen_round, seen_next, seen, is_ok_kind}
 use Rattle.run_safety.proofs.Frames.{Done, Newest, Counted, Framed, low_of, end_below, IsWriting, IsGet, IsAsking, committed_after, opens_found_none, gets, goes_on, Stands, Next}
 
 -- ## A round that was judged
-abbrev pub After : Judged → List Task → Underway → Type 0
+abbrev pub After : Judgment → List Task → TaskProgress → Type 0
 After j tasks next = round_after j.writer.phase j.writer tasks ≡ Some next
 
-pub judged_by_passed : (b : Bool) (r : TableRound) (w : WriterView) (tasks : List Task) (next : Underway) → After (judged_by b r w) tasks next → (b ≡ true) × After (done_in r (with_causes r w)) tasks next
+pub judged_by_passed : (b : Bool) (r : TableRound) (w : WriterView) (tasks : List Task) (next : TaskProgress) → After (judgment_by b r w) tasks next → (b ≡ true) × After (after_round r (with_causes r w)) tasks next
 judged_by_passed true r w tasks next e = (refl, e)
 judged_by_passed false r w tasks next e = none≢some next e
 
-pub judged_passed : (r : TableRound) (w : WriterView) (tasks : List Task) (next : Underway) → After (judged r w) tasks next → (has_majority r w.slots ≡ true) × After (done_in r (with_causes r w)) tasks next
-unfolding judged
+pub judged_passed : (r : TableRound) (w : WriterView) (tasks : List Task) (next : TaskProgress) → After (judgment r w) tasks next → (has_majority r w.slots ≡ true) × After (after_round r (with_causes r w)) tasks next
+unfolding judgment
 judged_passed r w tasks next e =
     let p = judged_by_passed (numbers_fit w r && has_majority r w.slots) r w tasks next e in
     ((and_parts (numbers_fit w r) (has_majority r w.slots) p.0).1, p.1)
 
 -- a round in which each was called, heard whole
-pub heard_done : (n : ℕ) (r : TableRound) (w : WriterView) (heard : ℕ → Option Reply) (x : Writer) → IsFresh w.slots → length w.slots ≡ n → has_majority r (filled 1 heard w.slots) ≡ true → ((reply : Reply) → fits_round r reply ≡ true → is_ok_kind x.round reply ≡ true) → Done n x heard
+pub heard_done : (n : ℕ) (r : TableRound) (w : WriterView) (heard : ℕ → Option Reply) (x : Writer) → IsFresh w.slots → length w.slots ≡ n → has_majority r (fill_slots 1 heard w.slots) ≡ true → ((reply : Reply) → fits_round r reply ≡ true → is_ok_kind x.round reply ≡ true) → Done n x heard
 heard_done n r w heard x fresh len enough kind = record {
-  nodes = ok_from r 1 (filled 1 heard w.slots);
-  majority = ok_majority n r (filled 1 heard w.slots) whole enough;
-  each = λ i m. (let y = in_ok r 1 (filled 1 heard w.slots) i m in
+  nodes = ok_from r 1 (fill_slots 1 heard w.slots);
+  majority = ok_majority n r (fill_slots 1 heard w.slots) whole enough;
+  each = λ i m. (let y = in_ok r 1 (fill_slots 1 heard w.slots) i m in
       let ok = ok_slot r y.0 y.2 in
-      let range = At-range 1 (filled 1 heard w.slots) i y.0 y.1 in (
+      let range = At-range 1 (fill_slots 1 heard w.slots) i y.0 y.1 in (
         ok.0,
         record {
           from_one = range.0;
           up_to_n = omega (arith, range.1, whole);
-          was_heard = filled_heard 1 heard w.slots fresh i ok.0 (subst (λ z. At 1 (filled 1 heard w.slots) i z) ok.1 y.1);
+          was_heard = filled_heard 1 heard w.slots fresh i ok.0 (subst (λ z. At 1 (fill_slots 1 heard w.slots) i z) ok.1 y.1);
           kind = kind ok.0 ok.2;
         },
       ));
 }
   where
-    whole : length (filled 1 heard w.slots) ≡ n
+    whole : length (fill_slots 1 heard w.slots) ≡ n
     whole = filled_length 1 heard w.slots ∙ len
 
 -- ## A proposal
@@ -87,14 +87,14 @@ newest_in_slot (Edits b) k f e = none≢some k e
 newest_in_slot (Segments l) k f e = none≢some k e
 newest_in_slot (Refused x) k f e = none≢some k e
 
-pub newest_heard : (n : ℕ) (heard : ℕ → Option Reply) (slots : List Slot) → AllWait slots → length slots ≡ n → Newest n heard (greatest_newest (filled 1 heard slots))
+pub newest_heard : (n : ℕ) (heard : ℕ → Option Reply) (slots : List Slot) → AllWait slots → length slots ≡ n → Newest n heard (greatest_newest (fill_slots 1 heard slots))
 newest_heard n heard slots wait len = record {
-  by = λ m e. (let t : TellsNewest 1 (filled 1 heard slots) m = newest_told_by 1 (filled 1 heard slots) m e in
+  by = λ m e. (let t : TellsNewest 1 (fill_slots 1 heard slots) m = newest_told_by 1 (fill_slots 1 heard slots) m e in
       let r = newest_slot t.slot m t.tells in
-      let range = At-range 1 (filled 1 heard slots) t.node t.slot t.at in
-      let whole : length (filled 1 heard slots) ≡ length slots = filled_length 1 heard slots in
-      (t.node, r.0, range.0, omega (arith, range.1, len), filled_heard 1 heard slots (all_fresh slots wait) t.node r.0 (subst (λ z. At 1 (filled 1 heard slots) t.node z) r.1 t.at), r.2, r.3));
-  least = λ i k reply one up h f e. newest_told_least 1 (filled 1 heard slots) i k (Told (Answer reply)) (filled_all 1 heard slots wait i reply one (omega (arith, up, len)) h) (newest_in_slot reply k f e);
+      let range = At-range 1 (fill_slots 1 heard slots) t.node t.slot t.at in
+      let whole : length (fill_slots 1 heard slots) ≡ length slots = filled_length 1 heard slots in
+      (t.node, r.0, range.0, omega (arith, range.1, len), filled_heard 1 heard slots (all_fresh slots wait) t.node r.0 (subst (λ z. At 1 (fill_slots 1 heard slots) t.node z) r.1 t.at), r.2, r.3));
+  least = λ i k reply one up h f e. newest_told_least 1 (fill_slots 1 heard slots) i k (Told (Answer reply)) (filled_all 1 heard slots wait i reply one (omega (arith, up, len)) h) (newest_in_slot reply k f e);
 }
 
 -- a told start is at least 1
@@ -160,11 +160,11 @@ best_heard n t m slots b c is =
       edit = info.1;
     }
 
-abbrev pub under : WriterView → TableRound → List Task → Underway
+abbrev pub under : WriterView → TableRound → List Task → TaskProgress
 under w r tasks = record { writer = w; round = r; tasks = tasks }
 
 -- what is known of the round before, where the best answer is taken
-pub record Asked (n : ℕ) (t : Takeover) (s m : ℕ) (u : Underway) (w : WriterView) : Type 0 where
+pub record Asked (n : ℕ) (t : Takeover) (s m : ℕ) (u : TaskProgress) (w : WriterView) : Type 0 where
   pub asking : IsAsking m (seen u).round
   pub from_one : 1 ≤ m
   pub committed : w.committed ≡ 0
@@ -176,7 +176,7 @@ pub record Asked (n : ℕ) (t : Takeover) (s m : ℕ) (u : Underway) (w : Writer
   pub done : (IsGet (seen u).round → ⊥) → Done n (seen u) (t.heard s)
   pub low : end_below (seen u) (seen u).round ≡ 0
 
-pub recovering_next : (n : ℕ) (t : Takeover) (s m : ℕ) (u : Underway) (w : WriterView) (next : Underway) → Asked n t s m u w → (o : Option Best) → best_of m w.slots ≡ o → After (going (recovering m o (next_serial w))) u.tasks next → Next n t s u next
+pub recovering_next : (n : ℕ) (t : Takeover) (s m : ℕ) (u : TaskProgress) (w : WriterView) (next : TaskProgress) → Asked n t s m u w → (o : Option Best) → best_of m w.slots ≡ o → After (keep_going (begin_recovery m o (next_serial w))) u.tasks next → Next n t s u next
 recovering_next n t s m u w next a None is e = subst (λ z. Next n t s u z) (some_same e) (record {
   sound = record {
     epoch = a.epoch;
@@ -209,7 +209,7 @@ recovering_next n t s m u w next a (Some b) is e =
     })
 
 -- ## The next task
-record TaskNext (x : WriterView) (next : Underway) : Type 0 where
+record TaskNext (x : WriterView) (next : TaskProgress) : Type 0 where
   epoch : next.writer.epoch ≡ x.epoch
   serial : next.writer.serial ≡ x.serial
   left : length next.writer.left ≡ length x.left
@@ -221,7 +221,7 @@ record TaskNext (x : WriterView) (next : Underway) : Type 0 where
   next_is : next.writer.next ≡ x.next
   is : ((bodies : List (List ℕ)) × (next.round ≡ table.Write bodies) × (1 ≤ length bodies)) ⊎ ((min : ℕ) × (next.round ≡ table.Purge min))
 
-task_next : (x : WriterView) (tasks : List Task) (next : Underway) → list_all may_follow tasks ≡ true → next_task (record x { phase = phase.Writing }) tasks ≡ Some next → TaskNext x next
+task_next : (x : WriterView) (tasks : List Task) (next : TaskProgress) → list_all may_follow tasks ≡ true → next_task (record x { phase = phase.Writing }) tasks ≡ Some next → TaskNext x next
 unfolding next_task writer_begun
 task_next x [] next ok e = none≢some next e
 task_next x (task.Takeover ∷ tasks) next ok e = true≢false (sym ok)
@@ -231,8 +231,8 @@ task_next x (task.Log bodies ∷ tasks) next ok e = go (log_limit (record x { ph
     p = and_parts (any_body bodies) (list_all may_follow tasks) ok
 
     go : (o : Option ℕ) → (next_task (record x { phase = phase.Writing }) tasks ≡ Some next → TaskNext x next) →
-        begun_or (is_going (log_begins o bodies (record x { phase = phase.Writing })).begun)
-        (underway (log_begins o bodies (record x { phase = phase.Writing })).writer.phase (log_begins o bodies (record x { phase = phase.Writing })).writer tasks)
+        next_begun (has_begun (log_begins o bodies (record x { phase = phase.Writing })).begun)
+        (progress_from (log_begins o bodies (record x { phase = phase.Writing })).writer.phase (log_begins o bodies (record x { phase = phase.Writing })).writer tasks)
         (next_task (record x { phase = phase.Writing }) tasks) ≡ Some next → TaskNext x next
     go (Some number) again f = again f
     go None again f = subst (λ z. TaskNext x z) (some_same f) (record {
@@ -284,8 +284,8 @@ task_next x (task.Purge min ∷ tasks) next ok e = subst (λ z. TaskNext x z) (s
   is = inr (min, refl);
 })
 
--- a task begins behind a write, the start record or a purge
-pub record Wrote (n : ℕ) (t : Takeover) (s : ℕ) (u : Underway) (x : WriterView) : Type 0 where
+-- a task begins after a write, the start record or a purge
+pub record Wrote (n : ℕ) (t : Takeover) (s : ℕ) (u : TaskProgress) (x : WriterView) : Type 0 where
   pub epoch : x.epoch ≡ t.epoch
   pub serial : x.serial ≡ suc s
   pub left : length x.left ≡ n
@@ -299,7 +299,7 @@ pub record Wrote (n : ℕ) (t : Takeover) (s : ℕ) (u : Underway) (x : WriterVi
   pub low : end_below (seen u) (seen u).round ≤ x.next
   pub done : Done n (seen u) (t.heard s)
 
-pub wrote_next : (n : ℕ) (t : Takeover) (s : ℕ) (u : Underway) (x : WriterView) (next : Underway) → Wrote n t s u x → round_after phase.Writing (record x { phase = phase.Writing }) u.tasks ≡ Some next → Next n t s u next
+pub wrote_next : (n : ℕ) (t : Takeover) (s : ℕ) (u : TaskProgress) (x : WriterView) (next : TaskProgress) → Wrote n t s u x → round_after phase.Writing (record x { phase = phase.Writing }) u.tasks ≡ Some next → Next n t s u next
 wrote_next n t s u x next a e = by d.is
   where
     d : TaskNext x next

@@ -16,8 +16,8 @@ use Rattle.writer_core.specs.declared.turn.Turn.TheVariants as turn
 use Rattle.writer_core.specs.Views.{WriterView}
 use Rattle.writer_core.specs.Answers.{is_waiting, has_majority}
 use Rattle.writer_core.specs.Best.{greatest_promise}
-use Rattle.writer_core.specs.Rounds.{request_in, numbers_fit, going, stopped, proposing, with_causes, judged_by, judged}
-use Rattle.writer_core.specs.Writer.{with_answer, judged_when, heard_at, writer_heard}
+use Rattle.writer_core.specs.Rounds.{request_in, numbers_fit, keep_going, stops_with, begin_propose, with_causes, judgment_by, judgment}
+use Rattle.writer_core.specs.Writer.{with_answer, judgment_when, heard_at, writer_heard}
 use Rattle.writer_core.specs.Whole.{Takeover, proposer, writer_at}
 use Rattle.writer_core.proofs.Plain.{plain}
 use Rattle.writer_core.proofs.Filling.{fills_first}
@@ -41,16 +41,16 @@ first_round : (n c told : ℕ) → Reaches n (begun_takeover c told) 0 (proposer
 unfolding writer_at
 first_round n c told more = refl
 
-proposing_alike : (n told : ℕ) (w : WriterView) → w.aim ≡ aim.Takeover → w.left ≡ replicate n false → plain (proposing told w) ≡ plain (proposer n (told + 1))
+proposing_alike : (n told : ℕ) (w : WriterView) → w.aim ≡ aim.Takeover → w.left ≡ replicate n false → plain (begin_propose told w) ≡ plain (proposer n (told + 1))
 proposing_alike n told w e f =
-    ap (λ (x : Aim). plain (record (proposing told w) { aim = x })) e
-    ∙ ap (λ (l : List Bool). plain (record (proposing told w) { aim = aim.Takeover; left = l; slots = map (λ x. Waiting) l })) f
+    ap (λ (x : Aim). plain (record (begin_propose told w) { aim = x })) e
+    ∙ ap (λ (l : List Bool). plain (record (begin_propose told w) { aim = aim.Takeover; left = l; slots = map (λ x. Waiting) l })) f
 
 abbrev new_tale : Tale → ℕ → ℕ → Tale
 new_tale a c told = taken_over a (begun_takeover c told)
 
 proposing_status : (n : ℕ) (a : Tale) (past : List Entry) (c told : ℕ) (w : WriterView) → IsTold n a past → w.aim ≡ aim.Takeover → w.left ≡ replicate n false
-    → Gives n c a past past (λ b. Status n b past c (proposing told w))
+    → Gives n c a past past (λ b. Status n b past c (begin_propose told w))
 proposing_status n a past c told w is e f = (
   new_tale a c told,
   told_still n a (new_tale a c told) past goes.tells is,
@@ -62,8 +62,8 @@ proposing_status n a past c told w is e f = (
     follow = ap (λ (t : Takeover). list_all may_follow t.tasks) same;
     writer = proposer n (told + 1);
     reaches = subst (λ (t : Takeover). Reaches n t ((new_tale a c told).top k) (proposer n (told + 1))) (sym same) (subst (λ (s : ℕ). Reaches n (begun_takeover c told) s (proposer n (told + 1))) (sym top) (first_round n c told));
-    stands = calling round.Propose tt refl (unslotted_alike (proposing told w) (proposer n (told + 1)) alike)
-        (fills_first 1 (((new_tale a c told).story.takeover k).heard ((new_tale a c told).top k)) (proposing told w).slots (proposer n (told + 1)).slots
+    stands = calling round.Propose tt refl (unslotted_alike (begin_propose told w) (proposer n (told + 1)) alike)
+        (fills_first 1 (((new_tale a c told).story.takeover k).heard ((new_tale a c told).top k)) (begin_propose told w).slots (proposer n (told + 1)).slots
         (λ i. silent ((new_tale a c told).top k) i) (ap (λ (x : WriterView). x.slots) alike));
     above = λ x l i. silent x i;
     heard = λ x i reply g. absurd (no_answer (silent x i) g);
@@ -83,7 +83,7 @@ proposing_status n a past c told w is e f = (
     top : (new_tale a c told).top (suc a.count) ≡ 0
     top = put_here a.top (suc a.count) 0
 
-    alike : plain (proposing told w) ≡ plain (proposer n (told + 1))
+    alike : plain (begin_propose told w) ≡ plain (proposer n (told + 1))
     alike = proposing_alike n told w e f
 
     silent : (x i : ℕ) → ((new_tale a c told).story.takeover (suc a.count)).heard x i ≡ None
@@ -94,22 +94,22 @@ proposing_status n a past c told w is e f = (
 
 -- ## Its answers
 after_by : (n : ℕ) (a : Tale) (past : List Entry) (c told : ℕ) (b : Bool) (w : WriterView) → IsTold n a past → w.aim ≡ aim.Takeover → w.left ≡ replicate n false
-    → Gives n c a past past (λ t. Status n t past c (cond b (going (proposing told w)) (stopped (turn.EpochLimit told) w)).writer)
+    → Gives n c a past past (λ t. Status n t past c (cond b (keep_going (begin_propose told w)) (stops_with (turn.EpochLimit told) w)).writer)
 after_by n a past c told true w is e f = proposing_status n a past c told w is e f
 after_by n a past c told false w is e f = (a, is, continues_not c a past, free refl)
 
 state_by : (n : ℕ) (a : Tale) (past : List Entry) (c : ℕ) (b : Bool) (w : WriterView) → IsTold n a past → w.aim ≡ aim.Takeover → w.left ≡ replicate n false
-    → Gives n c a past past (λ t. Status n t past c (judged_by b round.State w).writer)
+    → Gives n c a past past (λ t. Status n t past c (judgment_by b round.State w).writer)
 state_by n a past c true w is e f = after_by n a past c (greatest_promise w.slots) (nat_lt (greatest_promise w.slots) max_number) (with_causes round.State w) is e f
 state_by n a past c false w is e f = (a, is, continues_not c a past, free refl)
 
 state_judged : (n : ℕ) (a : Tale) (past : List Entry) (c : ℕ) (w : WriterView) → IsTold n a past → w.aim ≡ aim.Takeover → w.left ≡ replicate n false
-    → Gives n c a past past (λ t. Status n t past c (judged round.State w).writer)
-unfolding judged
+    → Gives n c a past past (λ t. Status n t past c (judgment round.State w).writer)
+unfolding judgment
 state_judged n a past c w is e f = state_by n a past c (numbers_fit w round.State && has_majority round.State w.slots) w is e f
 
 when_by : (n : ℕ) (a : Tale) (past : List Entry) (c : ℕ) (b : Bool) (w : WriterView) → IsTold n a past → w.phase ≡ phase.InRound round.State → w.aim ≡ aim.Takeover → w.left ≡ replicate n false
-    → Gives n c a past past (λ t. Status n t past c (judged_when b round.State w).writer)
+    → Gives n c a past past (λ t. Status n t past c (judgment_when b round.State w).writer)
 when_by n a past c true w is p e f = (a, is, continues_not c a past, asking p e f)
 when_by n a past c false w is p e f = state_judged n a past c w is e f
 

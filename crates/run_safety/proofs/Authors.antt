@@ -172,7 +172,7 @@ module _ (n : ℕ) (story : Story) (past : List Entry) (run : Follows n story pa
         ),
       )
 
-  -- an opening right behind these has none before it
+  -- an opening right after these has none before it
   open_least : (e a s m : ℕ) (w : Writer) → (p : Sent n story past a s w) → (story.takeover a).epoch ≡ e → (is : w.round ≡ Open m) → ((k : ℕ) (v : Writer) → k < s → seen_at n (story.takeover a) k ≡ Some v → (j : ℕ) → v.round ≡ Open j → ⊥) → (k : ℕ) → Opn n story past run e k → m ≤ k
   open_least e a s m w p epoch is none k o = elim (cases_order o.s s) [
     | inl same_round ↦ (let one_w : o.w ≡ w = some_same (sym at ∙ (ap (λ j. seen_at n (story.takeover a) j) same_round ∙ p.at)) in

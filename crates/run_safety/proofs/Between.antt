@@ -12,7 +12,7 @@ use Rattle.journal_core.specs.declared.request.Request.{Request}
 use Rattle.journal_core.specs.declared.request.Request.TheVariants.{State, NewEpoch, Start, Journal, Finalize, Prepare, Fetch, Accept, Purge, Read, Manifest}
 use Rattle.journal_core.specs.declared.segment.Segment.{Segment}
 use Rattle.writer_core.specs.Whole.{Takeover}
-use Rattle.node_history.specs.Entries.{Entry, Move, Answer, Stop, Way, moved, node_after, Earlier, now, before}
+use Rattle.node_history.specs.Entries.{Entry, Move, Answer, Stop, Way, after_move, node_after, Earlier, now, before}
 use Rattle.run_safety.proofs.SeenLaws.{Round, Propose, Ask, Get, Open, Other, Recover, Seal, Write, Clean, Writer, seen_at}
 use Rattle.journal_core.proofs.Steps.{Acted, at_once, by_row, done, acted, none≢some}
 use Rattle.journal_core.proofs.SegmentLaws.{stopped_is_promised}
@@ -47,11 +47,11 @@ head_answer s r h is a (done b c n e) = rw n
     not_proposal (Read f) i x = x
     not_proposal Manifest i x = x
 
-pub head_promise : (s : NodeState) (move : Move) (r : Request) (h : HeadView) → Requested s move r → refused_at_once s r ≡ None → head_of r ≡ Some h → h.epoch ≤ (moved s move).promised
-head_promise s move r h (inl x) a is = to (λ m. h.epoch ≤ (moved s m).promised) (sym x.3) (head_answer s r h is a (acted s r))
-head_promise s move r h (inr x) a is = to (λ m. h.epoch ≤ (moved s m).promised) (sym x.3) (go x.2 x.4)
+pub head_promise : (s : NodeState) (move : Move) (r : Request) (h : HeadView) → Requested s move r → refused_at_once s r ≡ None → head_of r ≡ Some h → h.epoch ≤ (after_move s move).promised
+head_promise s move r h (inl x) a is = to (λ m. h.epoch ≤ (after_move s m).promised) (sym x.3) (head_answer s r h is a (acted s r))
+head_promise s move r h (inr x) a is = to (λ m. h.epoch ≤ (after_move s m).promised) (sym x.3) (go x.2 x.4)
   where
-    go : (k : ℕ) → 0 < k → h.epoch ≤ (moved s (Stop x.0 x.1 r k)).promised
+    go : (k : ℕ) → 0 < k → h.epoch ≤ (after_move s (Stop x.0 x.1 r k)).promised
     go zero lt = absurd (omega arith)
     go (suc k) lt = stopped_is_promised s r h k is a
 

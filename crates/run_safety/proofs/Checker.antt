@@ -10,8 +10,8 @@ use Rattle.journal_core.specs.declared.refusal.Refusal.TheVariants.{SegmentHasEd
 use Rattle.journal_core.specs.declared.reply.Reply.{Reply}
 use Rattle.journal_core.specs.declared.reply.Reply.TheVariants as reply
 use Rattle.journal_core.specs.Step.{node_step, effects_of}
-use Rattle.writer_core.specs.Whole.{Underway, writer_at, asked, calls}
-use Rattle.node_history.specs.Entries.{Way, Heard, Muted, Late, Move, Answer, Stop, Kill, Restart, Entry, moved, node_after, Earlier, now, before}
+use Rattle.writer_core.specs.Whole.{TaskProgress, writer_at, request_of_round, calls}
+use Rattle.node_history.specs.Entries.{Way, Heard, Muted, Late, Move, Answer, Stop, Kill, Restart, Entry, after_move, node_after, Earlier, now, before}
 use Rattle.run_safety.specs.Run.{Story, WasHeard, may_follow, IsMade, IsInTurn, IsHeardAs, IsCall, IsNext, Follows}
 use Rattle.run_safety.specs.Safe.{SaidOk, IsStart}
 use Rattle.run_safety.specs.Tables.{Told, TakeoverTable, Tables, heard_in, takeover_of, no_takeover, story_of}
@@ -215,13 +215,13 @@ in_order story a r node (x ∷ past) t old e now whose turn =
 in_order story a r node (x ∷ past) t old e (before q) whose turn = in_order story a r node past (and_parts _ (orderly story a r node past) t).1 old e q whose turn
 
 -- ## One entry
-abbrev pub calls_and_asks : Option Underway → ℕ → Request → Bool
+abbrev pub calls_and_asks : Option TaskProgress → ℕ → Request → Bool
 calls_and_asks None node request = false
-calls_and_asks (Some u) node request = calls u node && same_request request (asked u)
+calls_and_asks (Some u) node request = calls u node && same_request request (request_of_round u)
 
-asks_there : (o : Option Underway) (node : ℕ) (request : Request) → calls_and_asks o node request ≡ true → (u : Underway) × (o ≡ Some u) × (calls u node ≡ true) × (request ≡ asked u)
+asks_there : (o : Option TaskProgress) (node : ℕ) (request : Request) → calls_and_asks o node request ≡ true → (u : TaskProgress) × (o ≡ Some u) × (calls u node ≡ true) × (request ≡ request_of_round u)
 asks_there None node request e = true≢false (sym e)
-asks_there (Some u) node request e = let p = and_parts (calls u node) (same_request request (asked u)) e in (u, refl, p.0, request_same request (asked u) p.1)
+asks_there (Some u) node request e = let p = and_parts (calls u node) (same_request request (request_of_round u)) e in (u, refl, p.0, request_same request (request_of_round u) p.1)
 
 abbrev pub table_at : Tables → List Entry → TakeoverTable
 table_at t past = get_or t.takeovers ((story_of t).whose (length past)) no_takeover
@@ -317,7 +317,7 @@ is_next n t past node s Restart e = not_up s.up e
 abbrev pub passes : ℕ → Tables → List Entry → Bool
 passes n t [] = true
 passes n t (e ∷ past) =
-    (nat_le 1 e.node && (nat_le e.node n && (may_come n t past e.node (node_after e.node past) e.move && differ (moved (node_after e.node past) e.move) (node_after e.node past))))
+    (nat_le 1 e.node && (nat_le e.node n && (may_come n t past e.node (node_after e.node past) e.move && differ (after_move (node_after e.node past) e.move) (node_after e.node past))))
     && passes n t past
 
 pub follows : (n : ℕ) (t : Tables) (past : List Entry) → passes n t past ≡ true → Follows n (story_of t) past
@@ -331,7 +331,7 @@ follows n t (x ∷ past) e =
         from_one = leb-true 1 x.node q.0;
         up_to_n = leb-true x.node n r.0;
         is_next = is_next n t past x.node (node_after x.node past) x.move s.0;
-        moves = differ_from (moved (node_after x.node past) x.move) (node_after x.node past) s.1;
+        moves = differ_from (after_move (node_after x.node past) x.move) (node_after x.node past) s.1;
       },
       follows n t past p.1,
     )

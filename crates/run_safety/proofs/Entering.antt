@@ -13,20 +13,20 @@ use Rattle.node_history.specs.declared.node_ask.NodeAsk.TheVariants as ask
 use Rattle.node_history.specs.declared.node_ask.NodeAnswer.{NodeAnswer}
 use Rattle.node_history.specs.declared.node_ask.NodeAnswer.TheVariants as answer
 use Rattle.node_history.specs.declared.arming.Arming.{Arming}
-use Rattle.node_history.specs.Cell.{Cell, Taken, kept_by, replies, stops, counted, requested, killed as cell_killed, started_again, armed, cell_takes}
-use Rattle.node_history.specs.Entries.{Move, Answer, Stop, Kill, Restart, moved}
+use Rattle.node_history.specs.Cell.{Cell, Taken, kept_by, replies, stops, count_request, take_request, take_kill as cell_killed, started_again, take_arming, cell_takes}
+use Rattle.node_history.specs.Entries.{Move, Answer, Stop, Kill, Restart, after_move}
 use Rattle.node_history.specs.Moving.{epoch_of, moves, way_of, move_of}
 use Rattle.node_history.proofs.Stops.{kept_within}
 use Rattle.node_history.proofs.Moves.{Went, stays, goes, went, effects_epoch}
 use Rattle.run_safety.proofs.Fair.{IsDue}
 
 -- ## A request
--- an answer, or a stop behind some effects
+-- an answer, or a stop after some effects
 pub data Asked (s : NodeState) (r : Request) (t : Taken) : Type 0 where
   replied : t.answer ≡ answer.Replied (node_step s r).reply → t.cell.state ≡ (node_step s r).state → Asked s r t
   cut_off : (keep : ℕ) → t.answer ≡ answer.Stopped keep → t.cell.state ≡ stopped s r keep → s.up ≡ true → keep ≤ length (effects_of s r) → Asked s r t
 
-asked_counted : (s : NodeState) (r : Request) (a : Option Arming) → s.up ≡ true → Asked s r (counted s r a)
+asked_counted : (s : NodeState) (r : Request) (a : Option Arming) → s.up ≡ true → Asked s r (count_request s r a)
 asked_counted s r None up = replied refl refl
 asked_counted s r (Some a) up = by (nat_lt 1 a.calls)
   where
@@ -38,11 +38,11 @@ pub asked : (c : Cell) (late : Bool) (r : Request) → Asked c.state r (cell_tak
 unfolding cell_takes
 asked c late r = by c.state.up refl
   where
-    by : (b : Bool) → c.state.up ≡ b → Asked c.state r (requested b c r)
+    by : (b : Bool) → c.state.up ≡ b → Asked c.state r (take_request b c r)
     by true e = asked_counted c.state r c.arming e
     by false e = replied refl refl
 
--- What a request left: nothing, the entry of an answer, or the entry of a stop. `t` is the state behind it.
+-- What a request left: nothing, the entry of an answer, or the entry of a stop. `t` is the state after it.
 pub data Entered (s t : NodeState) (caller : ℕ) (muted late : Bool) (r : Request) (a : NodeAnswer) : Type 0 where
   quiet : (x : Reply) → a ≡ answer.Replied x → move_of caller muted (ask.Act late r) a ≡ None → t ≡ s → (is_some (epoch_of r) ≡ true → (f : Refusal) × (x ≡ Refused f))
       → Entered s t caller muted late r a
@@ -102,14 +102,14 @@ pub arms : (c : Cell) (caller calls : ℕ) (muted : Bool) (x : StopAt) → Opera
 unfolding cell_takes move_of
 arms c caller calls muted x = by c.state.up
   where
-    by : (b : Bool) → Operated c.state (armed b c (record { calls = calls; stop = x })).cell.state (move_of caller muted (ask.Arm calls x) (armed b c (record { calls = calls; stop = x })).answer)
+    by : (b : Bool) → Operated c.state (take_arming b c (record { calls = calls; stop = x })).cell.state (move_of caller muted (ask.Arm calls x) (take_arming b c (record { calls = calls; stop = x })).answer)
     by true = nothing refl refl
     by false = nothing refl refl
 
 -- ## Any line: what it did to its node
 pub data Did (s t : NodeState) (o : Option Move) : Type 0 where
   still : o ≡ None → t ≡ s → Did s t o
-  gone : (v : Move) → o ≡ Some v → IsDue s v → t ≡ moved s v → t ≢ s → Did s t o
+  gone : (v : Move) → o ≡ Some v → IsDue s v → t ≡ after_move s v → t ≢ s → Did s t o
 
 asked_did : (c : Cell) (caller : ℕ) (muted late : Bool) (r : Request) → Did c.state (cell_takes c (ask.Act late r)).cell.state (move_of caller muted (ask.Act late r) (cell_takes c (ask.Act late r)).answer)
 asked_did c caller muted late r = by (entered c caller muted late r)

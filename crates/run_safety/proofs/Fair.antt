@@ -3,7 +3,7 @@
 use Rattle.std.proofs.Common.{◌≡◌, ◌≢◌, ℕ, ◌<◌, ◌≤◌, List, [], ◌∷◌, true, false, length, arith}
 use Rattle.journal_core.specs.declared.node_state.NodeState.{NodeState}
 use Rattle.journal_core.specs.Step.{node_step, effects_of}
-use Rattle.node_history.specs.Entries.{Move, Answer, Stop, Kill, Restart, Entry, moved, node_after, Earlier, now, before}
+use Rattle.node_history.specs.Entries.{Move, Answer, Stop, Kill, Restart, Entry, after_move, node_after, Earlier, now, before}
 use Rattle.run_safety.specs.Run.{Story, IsHeardAs, IsCall, IsNext, Follows}
 use Rattle.run_safety.proofs.Tales.{Tale, place_below, IsLabelled, AreLabelled, Tells, labelled_still, call_still, heard_as_still}
 
@@ -31,7 +31,7 @@ pub record IsSoundEntry (n : ℕ) (past : List Entry) (e : Entry) : Type 0 where
   pub from_one : 1 ≤ e.node
   pub up_to_n : e.node ≤ n
   pub due : IsDue (node_after e.node past) e.move
-  pub moves : moved (node_after e.node past) e.move ≢ node_after e.node past
+  pub moves : after_move (node_after e.node past) e.move ≢ node_after e.node past
 
 abbrev pub Sounds : ℕ → List Entry → Type 0
 Sounds n [] = Unit {0}

@@ -13,7 +13,7 @@ use Rattle.journal_core.specs.declared.segment.Segment.{Segment}
 use Rattle.journal_core.proofs.SegmentLists.{find-start}
 use Rattle.journal_core.proofs.Steps.{front_le}
 use Rattle.journal_core.proofs.Changes.{Change, same, created, grown, made_final, replaced, removed, NoEdit, NotFinal}
-use Rattle.node_history.specs.Entries.{Heard, Answer, Entry, Earlier, moved, node_after}
+use Rattle.node_history.specs.Entries.{Heard, Answer, Entry, Earlier, after_move, node_after}
 use Rattle.run_safety.specs.Run.{Story, Follows, IsNext}
 use Rattle.run_safety.specs.Safe.{SaidOk}
 use Rattle.run_safety.specs.Parts.{IsAcknowledgedIn}
@@ -158,7 +158,7 @@ module _ (n : ℕ) (story : Story) (past : List Entry) (run : Follows n story pa
       held = finalize_held (node_after i ok.0) h m l (passed (node_after i ok.0) (Finalize h m l) Ok replied tt)
 
       first : Holds i m l (find_segment m (node_after i (ok.1 ∷ ok.0)).segments)
-      first = inl (held.held, ap (λ z. find_segment m z.segments) (node_here i ok.1 ok.0 ok.3 ∙ ap (λ z. moved (node_after i ok.0) z) ok.4.1) ∙ held.found, held.final, held.ends)
+      first = inl (held.held, ap (λ z. find_segment m z.segments) (node_here i ok.1 ok.0 ok.3 ∙ ap (λ z. after_move (node_after i ok.0) z) ok.4.1) ∙ held.found, held.final, held.ends)
 
       step : (e : Entry) (old : List Entry) → Earlier (ok.1 ∷ ok.0) old → Earlier (e ∷ old) past → Changes i e old m → Holds i m l (find_segment m (node_after i old).segments) → Holds i m l (find_segment m (node_after i (e ∷ old)).segments)
       step e old a b c (inr gone) = inr gone

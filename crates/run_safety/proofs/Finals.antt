@@ -10,7 +10,7 @@ use Rattle.journal_core.specs.declared.request.Request.{Request}
 use Rattle.journal_core.specs.declared.request.Request.TheVariants.{Accept}
 use Rattle.journal_core.specs.declared.segment.Segment.{Segment}
 use Rattle.run_safety.specs.Majority.{Member}
-use Rattle.node_history.specs.Entries.{Entry, node_after, moved, Earlier}
+use Rattle.node_history.specs.Entries.{Entry, node_after, after_move, Earlier}
 use Rattle.run_safety.specs.Run.{Story, Follows}
 use Rattle.run_safety.proofs.SeenLaws.{Round, Propose, Ask, Get, Other, Recover, Seal, Open, Write, Clean, Writer, asked, is_ok_kind}
 use Rattle.run_safety.proofs.Places.{Earlier-trans, Follows-earlier}
@@ -64,7 +64,7 @@ ok_at n story past a k w i reply r is x =
       entry = x.entry;
       within = x.within;
       passed_by = passed (node_after i x.old) (asked (story.takeover a).epoch k w.committed r) reply (to (λ z. (node_step (node_after i x.old) z).reply ≡ reply) req x.replied) (kind_passed w.round reply x.kind);
-      state = node_here i x.entry x.old x.node ∙ (ap (λ z. moved (node_after i x.old) z) x.move ∙ ap (λ z. (node_step (node_after i x.old) z).state) req);
+      state = node_here i x.entry x.old x.node ∙ (ap (λ z. after_move (node_after i x.old) z) x.move ∙ ap (λ z. (node_step (node_after i x.old) z).state) req);
     }
 
 -- either all of the list or one with the other

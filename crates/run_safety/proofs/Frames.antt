@@ -13,7 +13,7 @@ use Rattle.writer_core.specs.declared.slot.Slot.TheVariants.{Told}
 use Rattle.writer_core.specs.Answers.{fits_prepare, fits_propose, has_majority}
 use Rattle.writer_core.specs.Best.{best_of}
 use Rattle.writer_core.specs.Rounds.{start_record, batch_from}
-use Rattle.writer_core.specs.Whole.{Takeover, Underway}
+use Rattle.writer_core.specs.Whole.{Takeover, TaskProgress}
 use Rattle.run_safety.specs.Majority.{Member, IsMajority}
 use Rattle.run_safety.specs.Run.{may_follow}
 use Rattle.run_safety.proofs.Slots.{At, IsFresh, AllWait, told_newest, AtLeast}
@@ -142,7 +142,7 @@ Stands n t s slots table.Open = IsFresh slots
 Stands n t s slots (table.Write bodies) = IsFresh slots
 Stands n t s slots (table.Purge min) = IsFresh slots
 
-pub record Sound (n : ℕ) (t : Takeover) (s : ℕ) (u : Underway) : Type 0 where
+pub record Sound (n : ℕ) (t : Takeover) (s : ℕ) (u : TaskProgress) : Type 0 where
   pub epoch : u.writer.epoch ≡ t.epoch
   pub serial : u.writer.serial ≡ s
   pub left : length u.writer.left ≡ n
@@ -151,7 +151,7 @@ pub record Sound (n : ℕ) (t : Takeover) (s : ℕ) (u : Underway) : Type 0 wher
   pub frame : Frame (seen u)
   pub stands : Stands n t s u.writer.slots u.round
 
-pub record Next (n : ℕ) (t : Takeover) (s : ℕ) (u next : Underway) : Type 0 where
+pub record Next (n : ℕ) (t : Takeover) (s : ℕ) (u next : TaskProgress) : Type 0 where
   pub sound : Sound n t (suc s) next
   pub step : StepOf n t s (seen u) (seen next)
   pub done : (IsGet (seen u).round → ⊥) → Done n (seen u) (t.heard s)

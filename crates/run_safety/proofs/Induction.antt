@@ -309,7 +309,7 @@ module _ (n : ℕ) (story : Story) (past : List Entry) (run : Follows n story pa
       | inr c ↦ inr (c.0, c.1, c.2, omega (arith, c.3, x.below), c.4, c.5, c.6)
     ]
 
-    -- a finalise round with one behind it was done
+    -- a finalise round with one after it was done
     pub seal_done : (s a m l : ℕ) (w v : Writer) → (p : Sent n story past a (suc s) w) → (story.takeover a).epoch ≡ f → seen_at n (story.takeover a) s ≡ Some v → v.round ≡ Seal m l → IsFinalised n past f m l
     seal_done s a m l w v p epoch at is = (record { epoch = (story.takeover a).epoch; serial = s; committed = ans.w.committed }, epoch, (ans.nodes, ans.majority, each))
       where

@@ -18,7 +18,7 @@ use Rattle.writer_core.specs.Best.{Best, best_of, segment_told}
 use Rattle.node_history.specs.Entries.{Way, Heard, Entry, Answer, node_after, Earlier}
 use Rattle.run_safety.specs.Run.{Story, Follows, IsNext, takeover_at}
 use Rattle.run_safety.specs.Safe.{IsHeld, IsChosen, IsOf, IsStart}
-use Rattle.run_safety.specs.Parts.{KeepsPromise, IsRefused, IsBehindFinalised, ToldPrepare, IsNotAbove, IsWhole}
+use Rattle.run_safety.specs.Parts.{KeepsPromise, IsRefused, IsAfterFinalised, ToldPrepare, IsNotAbove, IsWhole}
 use Rattle.run_safety.proofs.Places.{Earlier-trans, Earlier-tail, Follows-earlier, next_of}
 use Rattle.run_safety.proofs.SoundNodes.{stored_after, led_after}
 use Rattle.run_safety.proofs.Along.{node_here}
@@ -100,7 +100,7 @@ module _ (n : ℕ) (story : Story) (past : List Entry) (run : Follows n story pa
   written_once i j g h t x y p q same has also = wrote_once n story past h.epoch g.start h.start t x y run
       (to (λ e. Wrote n story past e g.start t x) same (held_wrote n story past run i g.epoch g.start t x (held_at i g t x p has))) (held_wrote n story past run j h.epoch h.start t y (held_at j h t y q also))
 
-  behind : (e k : ℕ) → After n story past run e k → IsBehindFinalised n past e k
+  behind : (e k : ℕ) → After n story past run e k → IsAfterFinalised n past e k
   behind e k (inl one) = inl one
   behind e k (inr c) = inr (c.0, c.1, c.2, c.3, c.5, c.6)
 
@@ -110,10 +110,10 @@ module _ (n : ℕ) (story : Story) (past : List Entry) (run : Follows n story pa
       let r = start_round (story.takeover z.a).epoch z.s z.w.committed z.w.round is.0 k z.is in
       record { a = z.a; s = z.s; w = z.w; sent = z.sent; epoch = sym r.1 ∙ is.1; is = r.0 }
 
-  pub starts_chained : (old : List Entry) (e : Entry) (f k : ℕ) → Earlier (e ∷ old) past → IsStart e f k → IsBehindFinalised n past f k
+  pub starts_chained : (old : List Entry) (e : Entry) (f k : ℕ) → Earlier (e ∷ old) past → IsStart e f k → IsAfterFinalised n past f k
   starts_chained old e f k p is = behind f k ((good n story past run f).opened_chain k (opening old e f k p is))
 
-  pub segments_chained : (i : ℕ) (g : Segment) (t : ℕ) (x : List ℕ) → IsHeld past i g → HasAt g t x → IsBehindFinalised n past g.epoch g.start
+  pub segments_chained : (i : ℕ) (g : Segment) (t : ℕ) (x : List ℕ) → IsHeld past i g → HasAt g t x → IsAfterFinalised n past g.epoch g.start
   segments_chained i g t x h has = behind g.epoch g.start (start_after n story past run g.epoch g.start t x (held_wrote n story past run i g.epoch g.start t x (held_at i g t x h has)))
 
   -- ## Survival and finalised segments

@@ -52,7 +52,7 @@ all_of xs zs (rest, is) le = go rest is
     go [] e = sym (append_nil xs) ∙ e
     go (y ∷ rest) e = (let len : length (xs ++ y ∷ rest) ≡ length zs = ap length e in let sum : length (xs ++ y ∷ rest) ≡ length xs + length (y ∷ rest) = length-append xs (y ∷ rest) in absurd (omega arith))
 
--- ## What may change a segment is a request of a round behind the recovery's fetches
+-- ## What may change a segment is a request of a round after the recovery's fetches
 record WorkOf (n : ℕ) (story : Story) (past : List Entry) (r : Request) (z : OfRound n story past r) : Type 0 where
   head : HeadView
   is : head_of r ≡ Some head
@@ -131,7 +131,7 @@ module _ (n : ℕ) (story : Story) (past : List Entry) (run : Follows n story pa
     bottom = (let up : (story.takeover x.a).epoch ≤ (node_after i (q.entry ∷ q.old)).promised = to (λ u. (story.takeover x.a).epoch ≤ u.promised) (sym (node_here i q.entry q.old q.node))
         (head_promise (node_after i q.old) q.entry.move (Prepare ask_head m) ask_head (inl (q.caller, Heard, Prepared y.writer y.known y.segment, ask_move)) ask_passed.at_once refl) in omega (arith, x.epoch))
 
-    -- a request between the two that may change a segment would be of a later round of this takeover, which comes behind the fetch's answer
+    -- a request between the two that may change a segment would be of a later round of this takeover, which comes after the fetch's answer
     none_between : (e : Entry) (old : List Entry) → Earlier (q.entry ∷ q.old) old → Earlier (e ∷ old) z.old → (r : Request) → (u : OfRound n story z.old r) → (g : WorkOf n story z.old r u) →
         (node_after i old).promised ≤ g.head.epoch → g.head.epoch ≤ (node_after i (e ∷ old)).promised → ⊥
     none_between e old a b r u g low high = not_again n story past run x.a k v i (Edits batch) (Edits batch) x.sent.old x.sent.within z again
@@ -205,7 +205,7 @@ module _ (n : ℕ) (story : Story) (past : List Entry) (run : Follows n story pa
         let index : m + length pieces - g.start ≡ length pieces = omega arith in
         sym (ap (λ b. b.bodies) one) ∙ (ap (λ o. piece_of o (m + length pieces)) there ∙ ap (λ c. take most_edits (drop c g.bodies)) index)
 
-  -- a fetch comes behind the prepare
+  -- a fetch comes after the prepare
   pub fetch_late : (s : ℕ) (v : Writer) (i end : ℕ) (pieces : List (List ℕ)) → seen_at n (story.takeover x.a) s ≡ Some v → v.round ≡ Get i m end pieces → 1 < s
   fetch_late zero v i end pieces at is = let no : Get i m end pieces ≡ Propose = sym is ∙ (seen_first n (story.takeover x.a) v at).0 in cc
   fetch_late (suc zero) v i end pieces at is = (let one : v ≡ x.asks = some_same (sym at ∙ x.at) in let no : Get i m end pieces ≡ Ask m = sym is ∙ (ap (λ w. w.round) one ∙ x.is) in cc)

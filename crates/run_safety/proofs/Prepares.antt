@@ -50,7 +50,7 @@ heard_in_turn caller request reply = λ e. let same : Heard ≡ Late = e in cc
 
 module _ (n : ℕ) (story : Story) (past : List Entry) (run : Follows n story past) where
   -- ## One answer for each round and node
-  -- a call of a takeover stands behind all that it heard in that round at that node or above
+  -- a call of a takeover stands after all that it heard in that round at that node or above
   pub not_again : (a k : ℕ) (w : Writer) (i : ℕ) (reply other : Reply) (old : List Entry) → Earlier old past → (x : Answered n story old a k w i reply) → WasHeard story x.old a k i other → ⊥
   not_again a k w i reply other old p x h = clash (call.in_order (heard_in_turn x.caller (asked (story.takeover a).epoch k w.committed w.round) reply) h.0 h.1 h.2 (h.3.0 ∙ sym x.whose) (to (λ z. IsInTurn z) (sym h.3.3.2) (heard_in_turn h.3.3.0 h.3.3.1 other)))
     where

@@ -11,7 +11,7 @@ use Rattle.journal_core.specs.declared.segment.Segment.{Segment}
 use Rattle.journal_core.proofs.SegmentLists.{newest-above}
 use Rattle.journal_core.proofs.Changes.{Change, same, created, grown, made_final, replaced, removed}
 use Rattle.run_safety.specs.Majority.{Member, IsMajority}
-use Rattle.node_history.specs.Entries.{Heard, Answer, Entry, Earlier, moved, node_after}
+use Rattle.node_history.specs.Entries.{Heard, Answer, Entry, Earlier, after_move, node_after}
 use Rattle.run_safety.specs.Run.{Story, Follows, IsNext}
 use Rattle.run_safety.specs.Safe.{IsHeld, IsChosen, IsOf}
 use Rattle.run_safety.specs.Parts.{ToldNewest}
@@ -32,7 +32,7 @@ module _ (n : ℕ) (story : Story) (past : List Entry) (run : Follows n story pa
   told_at old x caller f told p is e t body g held header has lt =
       let said = to (λ m. IsNext n story old x.node (node_after x.node old) m) is (next_of n story p run).is_next in
       let y : Taken (node_after x.node old) f told = taken (node_after x.node old) f told said.1 in
-      let after : (node_after x.node (x ∷ old)).promised ≡ f = ap (λ s. s.promised) (node_here x.node x old refl ∙ ap (λ m. moved (node_after x.node old) m) is) ∙ y.promise in
+      let after : (node_after x.node (x ∷ old)).promised ≡ f = ap (λ s. s.promised) (node_here x.node x old refl ∙ ap (λ m. after_move (node_after x.node old) m) is) ∙ y.promise in
       let h : HeldAt past x.node e g.start t body = record { old = held.0; within = held.1; segment = g; found = held.2; header = header; has = has } in
       let b = held_before x.node e g.start t body x old past h p (omega arith) (asking_entry x.node g.start x old caller Heard (NewEpoch f) (EpochTaken told) is tt) in
       let top = newest-above g.start (node_after x.node b.0).segments b.1 b.3 (edit_of b.1 t body b.5) in

@@ -163,7 +163,7 @@ left_nothing n a past c v node r d h m told quiet = (
   },
 )
 
--- ## An entry: what its takeover has heard behind it
+-- ## An entry: what its takeover has heard after it
 record Heeds (n : ℕ) (a : Tale) (past : List Entry) (c : ℕ) (v : WriterView) (node : ℕ) (d : HeardOf) (h : Tracked n a past c v) (move : Move) (t : Takeover) : Type 0 where
   grows : Grows (a.top h.k) (a.story.takeover h.k) t
   by : t.caller ≡ c

@@ -14,9 +14,9 @@ use Rattle.writer_core.specs.declared.slot.Slot.TheVariants.{Waiting, Told}
 use Rattle.writer_core.specs.declared.task.Task.{Task}
 use Rattle.writer_core.specs.Views.{WriterView}
 use Rattle.writer_core.specs.Answers.{is_waiting}
-use Rattle.writer_core.specs.Rounds.{Judged, judged, fetched}
-use Rattle.writer_core.specs.Writer.{node_in, with_answer, judged_when, heard_in, heard_at, writer_heard}
-use Rattle.writer_core.specs.Whole.{Takeover, heard_of, filled, round_heard, round_after, next_round, calls_in}
+use Rattle.writer_core.specs.Rounds.{Judgment, judgment, after_fetch}
+use Rattle.writer_core.specs.Writer.{node_in, with_answer, judgment_when, heard_in, heard_at, writer_heard}
+use Rattle.writer_core.specs.Whole.{Takeover, heard_of, fill_slots, round_heard, round_after, next_round, calls_in}
 use Rattle.writer_core.proofs.Plain.{plain_heard, plain_slot, plain}
 use Rattle.writer_core.proofs.PlainRounds.{IsWhole, IsUnderEpoch, IsAlike, alike_phase, judged_alike, fetched_alike}
 use Rattle.writer_core.proofs.Filling.{Fills, fills_first, fills_more, fills_whole}
@@ -160,15 +160,15 @@ with_tracked n a past c v node d h q whole is same fills f = record {
     placed e (inr l) = inr (l.0, subst (λ (p : Phase). IsBefore p (slice_set v.slots (node - 1) (Told d)) e.node) (sym is) (λ i g. lower e.node l.1 i g))
 
 whole_alike : (q : Round) (v u : WriterView) (heard : ℕ → Option Reply) → IsWhole q → v.phase ≡ phase.InRound q → plain (unslotted v) ≡ plain (unslotted u) → Fills 1 heard v.slots u.slots
-    → list_any is_waiting v.slots ≡ false → IsAlike (judged q v).writer (round_heard q heard u).writer
+    → list_any is_waiting v.slots ≡ false → IsAlike (judgment q v).writer (round_heard q heard u).writer
 whole_alike q v u heard whole is same fills none =
-    let slots : map plain_slot v.slots ≡ map plain_slot (filled 1 heard u.slots) = fills_whole 1 heard v.slots u.slots none fills in
-    let alike : plain v ≡ plain (record u { slots = filled 1 heard u.slots }) =
-    ap (λ (l : List Slot). record (plain (unslotted v)) { slots = l }) slots ∙ ap (λ (w : WriterView). record w { slots = map plain_slot (filled 1 heard u.slots) }) same in
-    subst (λ (j : Judged). IsAlike (judged q v).writer j.writer) (sym (whole_judged q heard u whole)) (judged_alike q v (record u { slots = filled 1 heard u.slots }) whole is alike)
+    let slots : map plain_slot v.slots ≡ map plain_slot (fill_slots 1 heard u.slots) = fills_whole 1 heard v.slots u.slots none fills in
+    let alike : plain v ≡ plain (record u { slots = fill_slots 1 heard u.slots }) =
+    ap (λ (l : List Slot). record (plain (unslotted v)) { slots = l }) slots ∙ ap (λ (w : WriterView). record w { slots = map plain_slot (fill_slots 1 heard u.slots) }) same in
+    subst (λ (j : Judgment). IsAlike (judgment q v).writer j.writer) (sym (whole_judged q heard u whole)) (judged_alike q v (record u { slots = fill_slots 1 heard u.slots }) whole is alike)
 
 whole_ends : (n : ℕ) (a : Tale) (past : List Entry) (c : ℕ) (v : WriterView) (h : Tracked n a past c v) (q : Round) → IsWhole q → v.phase ≡ phase.InRound q
-    → list_any is_waiting v.slots ≡ false → Stands v h.writer ((a.story.takeover h.k).heard (a.top h.k)) → Ended n a past c (judged q v).writer
+    → list_any is_waiting v.slots ≡ false → Stands v h.writer ((a.story.takeover h.k).heard (a.top h.k)) → Ended n a past c (judgment q v).writer
 whole_ends n a past c v h q whole is none (calling r i e same fills) = record {
   k = h.k;
   known = h.known;
@@ -194,15 +194,15 @@ whole_ends n a past c v h q whole is none (writing e same silent) = absurd (off 
 hears_whole : (n : ℕ) (a : Tale) (past : List Entry) (c : ℕ) (v : WriterView) (node : ℕ) (d : HeardOf) → IsTold n a past → (q : Round) → IsWhole q → v.phase ≡ phase.InRound q
     → Tracked n a past c (with_answer v node d) → Gives n c a past past (λ b. Status n b past c (heard_in q v node d).writer)
 hears_whole n a past c v node d told q whole is h =
-    subst (λ (j : Judged). Gives n c a past past (λ b. Status n b past c j.writer)) (sym (whole_heard q v node d whole)) (by (list_any is_waiting (with_answer v node d).slots) refl)
+    subst (λ (j : Judgment). Gives n c a past past (λ b. Status n b past c j.writer)) (sym (whole_heard q v node d whole)) (by (list_any is_waiting (with_answer v node d).slots) refl)
   where
-    by : (b : Bool) → list_any is_waiting (with_answer v node d).slots ≡ b → Gives n c a past past (λ t. Status n t past c (judged_when b q (with_answer v node d)).writer)
+    by : (b : Bool) → list_any is_waiting (with_answer v node d).slots ≡ b → Gives n c a past past (λ t. Status n t past c (judgment_when b q (with_answer v node d)).writer)
     by true e = (a, told, continues_not c a past, tracked h)
-    by false e = ended_status n a past c (judged q (with_answer v node d)).writer told (whole_ends n a past c (with_answer v node d) h q whole is e h.stands)
+    by false e = ended_status n a past c (judgment q (with_answer v node d)).writer told (whole_ends n a past c (with_answer v node d) h q whole is e h.stands)
 
 -- ## An answer in a round that asks one node
 fetch_ends : (n : ℕ) (a : Tale) (past : List Entry) (c : ℕ) (v : WriterView) (node : ℕ) (d : HeardOf) (h : Called n a past c v node d) (start end : ℕ) (bodies : List (List ℕ))
-    → v.phase ≡ phase.InRound (round.Fetch node start end bodies) → plain v ≡ plain h.writer → Ended n a past c (fetched node start end bodies d v).writer
+    → v.phase ≡ phase.InRound (round.Fetch node start end bodies) → plain v ≡ plain h.writer → Ended n a past c (after_fetch node start end bodies d v).writer
 fetch_ends n a past c v node d h start end bodies is same = record {
   k = h.k;
   known = h.known;
@@ -239,7 +239,7 @@ hears_called n a past c v node d r told call h = by h.stands
     by (fetching from start end bodies is same silent) =
         let here : from ≡ node = from_is call.round node from start end bodies v.slots (round_same (round.Fetch from start end bodies) is) call.node_is in
         let at : v.phase ≡ phase.InRound (round.Fetch node start end bodies) = is ∙ ap (λ (j : ℕ). phase.InRound (round.Fetch j start end bodies)) here in
-        in_round (round.Fetch node start end bodies) at (ended_status n a past c (fetched node start end bodies d v).writer told (fetch_ends n a past c v node d h start end bodies at same))
+        in_round (round.Fetch node start end bodies) at (ended_status n a past c (after_fetch node start end bodies d v).writer told (fetch_ends n a past c v node d h start end bodies at same))
     by (writing is same silent) = absurd (off (sym call.phase ∙ is))
       where
         off : phase.InRound call.round ≡ phase.Writing → ⊥

@@ -9,7 +9,7 @@ use Rattle.journal_core.specs.declared.request.Request.{Request}
 use Rattle.journal_core.specs.declared.request.Request.TheVariants.{Start, Journal}
 use Rattle.journal_core.specs.declared.segment.Segment.{Segment}
 use Rattle.run_safety.specs.Majority.{Member}
-use Rattle.node_history.specs.Entries.{Entry, moved, node_after, Earlier}
+use Rattle.node_history.specs.Entries.{Entry, after_move, node_after, Earlier}
 use Rattle.run_safety.specs.Run.{Story, Follows, IsNextEntry, IsNext, IsRun}
 use Rattle.run_safety.specs.Safe.{IsHeld, IsChosen, IsOnLine, IsAcknowledged, Reaches, there, segment, AcknowledgedSurvive, FinalisedAgree, IsSafe}
 use Rattle.run_safety.proofs.Places.{Earlier-trans, Earlier-tail, next_of}
@@ -169,7 +169,7 @@ module _ (n : ℕ) (story : Story) (past : List Entry) (run : Follows n story pa
             old = y ∷ c.0;
             within = c.2;
             segment = h.held;
-            found = ap (λ z. find_segment k.1 z.segments) (node_here i y c.0 c.3 ∙ ap (λ z. moved (node_after i c.0) z) c.4.1) ∙ h.found;
+            found = ap (λ z. find_segment k.1 z.segments) (node_here i y c.0 c.3 ∙ ap (λ z. after_move (node_after i c.0) z) c.4.1) ∙ h.found;
             header = h.header ∙ k.3;
             has = to (λ z. HasAt h.held z x) (sym k.4.1) (h.has k.4.0 x k.4.2);
           })

@@ -13,7 +13,7 @@ use Rattle.writer_core.specs.declared.round.Round.TheVariants as table
 use Rattle.writer_core.specs.Views.{WriterView}
 use Rattle.writer_core.specs.Answers.{fits_propose, fits_prepare, is_done_reply}
 use Rattle.writer_core.specs.Rounds.{start_record, batch_from, request_in}
-use Rattle.writer_core.specs.Whole.{Takeover, Underway, writer_at, asked as asked_underway}
+use Rattle.writer_core.specs.Whole.{Takeover, TaskProgress, writer_at, request_of_round as asked_underway}
 use Rattle.run_safety.specs.Run.{may_follow}
 use Rattle.run_safety.proofs.Slots.{none≢some, some_same}
 
@@ -53,7 +53,7 @@ seen_next w table.Open = w.start + 1
 seen_next w (table.Write bodies) = w.next + length bodies
 seen_next w _ = w.next
 
-abbrev pub seen : Underway → Writer
+abbrev pub seen : TaskProgress → Writer
 seen u = record { round = seen_round u.writer u.round; committed = u.writer.committed; start = u.writer.start; next = seen_next u.writer u.round }
 
 -- ## The request of a round, under this epoch, serial and committed txid
@@ -80,7 +80,7 @@ asked_in w table.Open = refl
 asked_in w (table.Write bodies) = refl
 asked_in w (table.Purge min) = refl
 
-pub asked_seen : (u : Underway) (e s : ℕ) → u.writer.epoch ≡ e → u.writer.serial ≡ s → asked_underway u ≡ asked e s (seen u).committed (seen u).round
+pub asked_seen : (u : TaskProgress) (e s : ℕ) → u.writer.epoch ≡ e → u.writer.serial ≡ s → asked_underway u ≡ asked e s (seen u).committed (seen u).round
 asked_seen u e s p q = asked_in u.writer u.round ∙ (ap (λ k. asked k u.writer.serial u.writer.committed (seen_round u.writer u.round)) p ∙ ap (λ k. asked e k u.writer.committed (seen_round u.writer u.round)) q)
 
 -- ## The answers of the Ok kind
@@ -105,11 +105,11 @@ seen_at n t s = if list_all may_follow t.tasks then option_map seen (writer_at n
 
 pub record SeenAt (n : ℕ) (t : Takeover) (s : ℕ) (w : Writer) : Type 0 where
   pub tasks : list_all may_follow t.tasks ≡ true
-  pub underway : Underway
+  pub underway : TaskProgress
   pub at : writer_at n t s ≡ Some underway
   pub is : seen underway ≡ w
 
-from_map : (n : ℕ) (t : Takeover) (s : ℕ) (w : Writer) → list_all may_follow t.tasks ≡ true → (o : Option Underway) → writer_at n t s ≡ o → option_map seen o ≡ Some w → SeenAt n t s w
+from_map : (n : ℕ) (t : Takeover) (s : ℕ) (w : Writer) → list_all may_follow t.tasks ≡ true → (o : Option TaskProgress) → writer_at n t s ≡ o → option_map seen o ≡ Some w → SeenAt n t s w
 from_map n t s w ok None is e = none≢some w e
 from_map n t s w ok (Some u) is e = record { tasks = ok; underway = u; at = is; is = some_same e }
 
@@ -118,7 +118,7 @@ unfolding seen_at
 seen_of n t s w e = cond_both (list_all may_follow t.tasks) (option_map seen (writer_at n t s)) None (λ o. o ≡ Some w → SeenAt n t s w)
     (λ ok f. from_map n t s w ok (writer_at n t s) refl f) (λ no f. none≢some w f) e
 
-pub seen_here : (n : ℕ) (t : Takeover) (s : ℕ) (u : Underway) → list_all may_follow t.tasks ≡ true → writer_at n t s ≡ Some u → seen_at n t s ≡ Some (seen u)
+pub seen_here : (n : ℕ) (t : Takeover) (s : ℕ) (u : TaskProgress) → list_all may_follow t.tasks ≡ true → writer_at n t s ≡ Some u → seen_at n t s ≡ Some (seen u)
 unfolding seen_at
 seen_here n t s u ok at = cond-true (list_all may_follow t.tasks) (option_map seen (writer_at n t s)) None ok ∙ ap (λ o. option_map seen o) at
 

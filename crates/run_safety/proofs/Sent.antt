@@ -11,7 +11,7 @@ use Rattle.journal_core.specs.declared.reply.Reply.TheVariants.{Ok, State as Sta
 use Rattle.journal_core.specs.declared.request.Request.{Request}
 use Rattle.journal_core.specs.declared.request.Request.TheVariants.{NewEpoch}
 use Rattle.run_safety.specs.Majority.{Member, IsMajority}
-use Rattle.node_history.specs.Entries.{Entry, Answer, Heard, moved, node_after, Earlier, now, before}
+use Rattle.node_history.specs.Entries.{Entry, Answer, Heard, after_move, node_after, Earlier, now, before}
 use Rattle.run_safety.specs.Run.{Story, Follows, IsNextEntry, IsNext, IsMade, IsAnswer, WasHeard, takeover_at}
 use Rattle.writer_core.specs.Whole.{Takeover}
 use Rattle.run_safety.proofs.SeenLaws.{Propose, Writer, is_ok_kind, seen, seen_at, seen_here, asked, asked_seen, seen_first}
@@ -214,7 +214,7 @@ vote_of n story past a i w reply is x h =
       node = x.node;
       whose = x.whose;
       taken_is = t;
-      after = ap (λ z. z.promised) (node_here i x.entry x.old x.node ∙ ap (λ z. moved (node_after i x.old) z) x.move) ∙ (ap (λ z. (node_step (node_after i x.old) z).state.promised) request ∙ t.promise);
+      after = ap (λ z. z.promised) (node_here i x.entry x.old x.node ∙ ap (λ z. after_move (node_after i x.old) z) x.move) ∙ (ap (λ z. (node_step (node_after i x.old) z).state.promised) request ∙ t.promise);
       heard = h ∙ ap (λ z. Some z) k.1;
     }
 

@@ -14,7 +14,7 @@ use Rattle.journal_core.specs.declared.request.Request.TheVariants.{State, NewEp
 use Rattle.journal_core.specs.declared.segment.Segment.{Segment}
 use Rattle.std.specs.List.{filter}
 use Rattle.std.proofs.lemmas.List.{take_all}
-use Rattle.node_history.specs.Entries.{Entry, Move, Answer, Stop, Kill, Restart, moved, node_after, Earlier, now, before}
+use Rattle.node_history.specs.Entries.{Entry, Move, Answer, Stop, Kill, Restart, after_move, node_after, Earlier, now, before}
 use Rattle.run_safety.specs.Run.{Story, Follows}
 use Rattle.run_safety.specs.Safe.{IsChosen, IsOnLine, IsOf}
 use Rattle.run_safety.proofs.SeenLaws.{Round, Propose, Ask, Get, Other, Recover, Seal, Open, Write, Clean, asked}
@@ -149,13 +149,13 @@ module _ (n : ℕ) (story : Story) (past : List Entry) (run : Follows n story pa
 
   -- the head of a request of the run, at a promise that it reached
   head_up : (e : Entry) (old : List Entry) → Earlier (e ∷ old) past → (r : Request) → Requested (node_after e.node old) e.move r → (h : HeadView) → head_of r ≡ Some h → refused_at_once (node_after e.node old) r ≡ None →
-      Up (moved (node_after e.node old) e.move).promised h.committed
+      Up (after_move (node_after e.node old) e.move).promised h.committed
   head_up e old p r q h is a =
       let z : OfRound n story past r = round_within n story past old e r run p q in
       let k = head_round (story.takeover z.a).epoch z.s z.w.committed z.w.round r h z.is is in
-      let le : h.epoch ≤ (moved (node_after e.node old) e.move).promised = head_promise (node_after e.node old) e.move r h q a is in
-      to (λ c. Up (moved (node_after e.node old) e.move).promised c) (sym k.1)
-      (UpTo-more n story past run (story.takeover z.a).epoch (moved (node_after e.node old) e.move).promised z.w.committed (omega (arith, k.0)) (head_upto n story past run z.a z.s z.w z.sent))
+      let le : h.epoch ≤ (after_move (node_after e.node old) e.move).promised = head_promise (node_after e.node old) e.move r h q a is in
+      to (λ c. Up (after_move (node_after e.node old) e.move).promised c) (sym k.1)
+      (UpTo-more n story past run (story.takeover z.a).epoch (after_move (node_after e.node old) e.move).promised z.w.committed (omega (arith, k.0)) (head_upto n story past run z.a z.s z.w z.sent))
 
   nothing_done : (s : NodeState) (r : Request) (k : ℕ) → (effects_of s r ≡ []) ⊎ (k ≡ 0) → (after_effects s (take k (effects_of s r))).committed ≡ s.committed
   unfolding after_effects
@@ -166,27 +166,27 @@ module _ (n : ℕ) (story : Story) (past : List Entry) (run : Follows n story pa
       take_nothing (suc j) = refl
   nothing_done s r k (inr z) = rw z refl
 
-  knows_move : (e : Entry) (old : List Entry) → Earlier (e ∷ old) past → (m : Move) → e.move ≡ m → Knows (node_after e.node old) → Knows (moved (node_after e.node old) m)
+  knows_move : (e : Entry) (old : List Entry) → Earlier (e ∷ old) past → (m : Move) → e.move ≡ m → Knows (node_after e.node old) → Knows (after_move (node_after e.node old) m)
   knows_move e old p (Answer c w r y) is k = answer_up (node_after e.node old) r k (promise_moved (node_after e.node old) (Answer c w r y))
-      (λ h at a. to (λ m. Up (moved (node_after e.node old) m).promised h.committed) is (head_up e old p r (inl (c, w, y, is)) h at a)) (acted (node_after e.node old) r)
+      (λ h at a. to (λ m. Up (after_move (node_after e.node old) m).promised h.committed) is (head_up e old p r (inl (c, w, y, is)) h at a)) (acted (node_after e.node old) r)
   knows_move e old p (Stop c w r j) is k = (committed_up, committed_up)
     where
       s : NodeState
       s = node_after e.node old
 
-      rise : s.promised ≤ (moved s (Stop c w r j)).promised
+      rise : s.promised ≤ (after_move s (Stop c w r j)).promised
       rise = promise_moved s (Stop c w r j)
 
-      own : Up (moved s (Stop c w r j)).promised s.committed
-      own = UpTo-more n story past run s.promised (moved s (Stop c w r j)).promised s.committed rise k.1
+      own : Up (after_move s (Stop c w r j)).promised s.committed
+      own = UpTo-more n story past run s.promised (after_move s (Stop c w r j)).promised s.committed rise k.1
 
-      by : (es : List Effect) → effects_of s r ≡ es → (i : ℕ) → j ≡ i → Up (moved s (Stop c w r j)).promised (after_effects s (take j (effects_of s r))).committed
-      by [] none i at = to (λ z. Up (moved s (Stop c w r j)).promised z) (sym (nothing_done s r j (inl none))) own
-      by (x ∷ xs) some zero at = to (λ z. Up (moved s (Stop c w r j)).promised z) (sym (nothing_done s r j (inr at))) own
-      by (x ∷ xs) some (suc i) at = stop_up s r j (moved s (Stop c w r j)).promised (UpTo-more n story past run s.promised (moved s (Stop c w r j)).promised s.known rise k.0) own
-          (λ h head a. to (λ m. Up (moved s m).promised h.committed) is (head_up e old p r (inr (c, w, j, is, omega arith)) h head a)) (acted s r)
+      by : (es : List Effect) → effects_of s r ≡ es → (i : ℕ) → j ≡ i → Up (after_move s (Stop c w r j)).promised (after_effects s (take j (effects_of s r))).committed
+      by [] none i at = to (λ z. Up (after_move s (Stop c w r j)).promised z) (sym (nothing_done s r j (inl none))) own
+      by (x ∷ xs) some zero at = to (λ z. Up (after_move s (Stop c w r j)).promised z) (sym (nothing_done s r j (inr at))) own
+      by (x ∷ xs) some (suc i) at = stop_up s r j (after_move s (Stop c w r j)).promised (UpTo-more n story past run s.promised (after_move s (Stop c w r j)).promised s.known rise k.0) own
+          (λ h head a. to (λ m. Up (after_move s m).promised h.committed) is (head_up e old p r (inr (c, w, j, is, omega arith)) h head a)) (acted s r)
 
-      committed_up : Up (moved s (Stop c w r j)).promised (after_effects s (take j (effects_of s r))).committed
+      committed_up : Up (after_move s (Stop c w r j)).promised (after_effects s (take j (effects_of s r))).committed
       committed_up = by (effects_of s r) refl j refl
   knows_move e old p Kill is k = (k.1, k.1)
   knows_move e old p Restart is k = (k.1, k.1)
@@ -197,7 +197,7 @@ module _ (n : ℕ) (story : Story) (past : List Entry) (run : Follows n story pa
   knows i (e ∷ old) p = elim (cases_eq e.node i) [
     | inr other ↦ to (λ s. Knows s) (sym (node_elsewhere i e old other)) (knows i old (Earlier-trans (before now) p))
     | inl is ↦ to (λ s. Knows s) (sym (node_here i e old is))
-        (to (λ j. Knows (moved (node_after j old) e.move)) is (knows_move e old p e.move refl (to (λ j. Knows (node_after j old)) (sym is) (knows i old (Earlier-trans (before now) p)))))
+        (to (λ j. Knows (after_move (node_after j old) e.move)) is (knows_move e old p e.move refl (to (λ j. Knows (node_after j old)) (sym is) (knows i old (Earlier-trans (before now) p)))))
   ]
 
   -- ## What a node serves

@@ -14,7 +14,7 @@ use Rattle.writer_core.specs.declared.slot.Slot.TheVariants.{Waiting, LeftOut, T
 use Rattle.writer_core.specs.Answers.{is_ok, fits_round, has_majority}
 use Rattle.writer_core.specs.Best.{outranks, Best, better, told_by, segment_in, best_from, greater, newest_in, greatest_newest}
 use Rattle.writer_core.specs.Rounds.{to_all, to_others}
-use Rattle.writer_core.specs.Whole.{heard_of, filled}
+use Rattle.writer_core.specs.Whole.{heard_of, fill_slots}
 use Rattle.run_safety.specs.Majority.{Member, Distinct, IsMajority}
 
 pub none≢some : {A : Type 0} {P : Type 0} (x : A) → ◌≡◌ {A = Option A} None (Some x) → P
@@ -81,8 +81,8 @@ to_others_fresh [] = tt
 to_others_fresh (true ∷ left) = to_others_fresh left
 to_others_fresh (false ∷ left) = to_others_fresh left
 
-pub filled_length : (first : ℕ) (heard : ℕ → Option Reply) (xs : List Slot) → length (filled first heard xs) ≡ length xs
-unfolding filled
+pub filled_length : (first : ℕ) (heard : ℕ → Option Reply) (xs : List Slot) → length (fill_slots first heard xs) ≡ length xs
+unfolding fill_slots
 filled_length first heard [] = refl
 filled_length first heard (Waiting ∷ xs) = let r = filled_length (first + 1) heard xs in omega (arith, r)
 filled_length first heard (LeftOut ∷ xs) = let r = filled_length (first + 1) heard xs in omega (arith, r)
@@ -93,8 +93,8 @@ told_answer None reply e = let h : Silent ≡ Answer reply = cc in cc
 told_answer (Some x) reply e = let h : Answer x ≡ Answer reply = cc in cc
 
 -- an answer in a round that was heard is what was heard
-pub filled_heard : (first : ℕ) (heard : ℕ → Option Reply) (xs : List Slot) → IsFresh xs → (node : ℕ) (reply : Reply) → At first (filled first heard xs) node (Told (Answer reply)) → heard node ≡ Some reply
-unfolding filled
+pub filled_heard : (first : ℕ) (heard : ℕ → Option Reply) (xs : List Slot) → IsFresh xs → (node : ℕ) (reply : Reply) → At first (fill_slots first heard xs) node (Told (Answer reply)) → heard node ≡ Some reply
+unfolding fill_slots
 filled_heard first heard [] f node reply a = absurd a
 filled_heard first heard (Waiting ∷ xs) f node reply (inl a) = ap heard (sym a.0) ∙ told_answer (heard first) reply a.1
 filled_heard first heard (Waiting ∷ xs) f node reply (inr a) = filled_heard (first + 1) heard xs f node reply a
@@ -103,8 +103,8 @@ filled_heard first heard (LeftOut ∷ xs) f node reply (inr a) = filled_heard (f
 filled_heard first heard (Told h ∷ xs) f node reply a = absurd f
 
 -- what was heard in a round to all stands in it
-pub filled_all : (first : ℕ) (heard : ℕ → Option Reply) (xs : List Slot) → AllWait xs → (node : ℕ) (reply : Reply) → first ≤ node → node < first + length xs → heard node ≡ Some reply → At first (filled first heard xs) node (Told (Answer reply))
-unfolding filled
+pub filled_all : (first : ℕ) (heard : ℕ → Option Reply) (xs : List Slot) → AllWait xs → (node : ℕ) (reply : Reply) → first ≤ node → node < first + length xs → heard node ≡ Some reply → At first (fill_slots first heard xs) node (Told (Answer reply))
+unfolding fill_slots
 filled_all first heard [] f node reply le lt h = absurd (omega arith)
 filled_all first heard (Waiting ∷ xs) f node reply le lt h = elim (cases_eq first node) [
   | inl same ↦ inl (same, ap (λ o. Told (heard_of o)) (ap heard same ∙ h))

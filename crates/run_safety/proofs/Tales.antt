@@ -4,7 +4,7 @@ use Rattle.std.specs.List.{list_all}
 use Rattle.journal_core.specs.declared.request.Request.{Request}
 use Rattle.journal_core.specs.declared.reply.Reply.{Reply}
 use Rattle.writer_core.specs.declared.task.Task.{Task}
-use Rattle.writer_core.specs.Whole.{Takeover, Underway, writer_at, asked, calls}
+use Rattle.writer_core.specs.Whole.{Takeover, TaskProgress, writer_at, request_of_round, calls}
 use Rattle.writer_core.proofs.WholeLaws.{with_tasks, with_heard, going_on, heard_below, tasks_more}
 use Rattle.node_history.specs.Entries.{Way, Heard, Muted, Late, Move, Entry, Earlier, now, before}
 use Rattle.run_safety.specs.Run.{Story, WasHeard, may_follow, IsMade, IsInOrder, IsHeardAs, IsCall}
@@ -38,10 +38,10 @@ pub record IsMadeAt (n : ℕ) (a : Tale) (past : List Entry) (k s caller node : 
   pub within : s ≤ a.top k
   pub by : (a.story.takeover k).caller ≡ caller
   pub tasks_follow : list_all may_follow (a.story.takeover k).tasks ≡ true
-  pub underway : Underway
+  pub underway : TaskProgress
   pub is_there : writer_at n (a.story.takeover k) s ≡ Some underway
   pub calls_it : calls underway node ≡ true
-  pub is_asked : r ≡ asked underway
+  pub is_asked : r ≡ request_of_round underway
   pub heard_before : (x i : ℕ) (reply : Reply) → x < s → (a.story.takeover k).heard x i ≡ Some reply → WasHeard a.story past k x i reply
 
 -- at the place that has these labels

@@ -11,7 +11,7 @@ use Rattle.writer_core.specs.declared.task.Begun.{Begun}
 use Rattle.writer_core.specs.declared.task.Begun.TheVariants as begun
 use Rattle.writer_core.specs.Views.{WriterView}
 use Rattle.writer_core.specs.Writer.{is_writing, writer_begun, HasBody}
-use Rattle.writer_core.specs.Whole.{Takeover, underway, is_going, begun_or, next_task, round_after}
+use Rattle.writer_core.specs.Whole.{Takeover, progress_from, has_begun, next_begun, next_task, round_after}
 use Rattle.writer_core.proofs.Plain.{plain}
 use Rattle.writer_core.proofs.PlainRounds.{IsWhole, alike_phase}
 use Rattle.writer_core.proofs.PlainTasks.{IsUnder, BeginsAlike, goes, stays, begun_alike, Stays, not_writing}
@@ -55,8 +55,8 @@ unfolding next_task
 task_is u t r more e f g =
     let v : WriterView = (writer_begun u t).writer in
     ap (λ (p : Phase). round_after p u (t ∷ more)) e
-    ∙ ap (λ (b : Begun). begun_or (is_going b) (underway v.phase v more) (next_task u more)) f
-    ∙ ap (λ (p : Phase). underway p v more) g
+    ∙ ap (λ (b : Begun). next_begun (has_begun b) (progress_from v.phase v more) (next_task u more)) f
+    ∙ ap (λ (p : Phase). progress_from p v more) g
     ∙ sym (ap (λ (p : Phase). round_after p v more) g)
 
 abbrev task_tale : Tale → ℕ → Task → Tale

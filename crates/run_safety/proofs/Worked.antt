@@ -10,13 +10,13 @@ use Rattle.journal_core.specs.Limits.{limit_of}
 use Rattle.journal_core.specs.Effects.{after_effects}
 use Rattle.journal_core.specs.Step.{node_step, effects_of}
 use Rattle.writer_core.specs.Best.{best_from, greatest_newest}
-use Rattle.writer_core.specs.Rounds.{judged, fetched}
+use Rattle.writer_core.specs.Rounds.{judgment, after_fetch}
 use Rattle.writer_core.specs.Writer.{log_limit, writer_begun}
-use Rattle.writer_core.specs.Whole.{filled, next_task, writer_at}
+use Rattle.writer_core.specs.Whole.{fill_slots, next_task, writer_at}
 use Rattle.run_safety.specs.Majority.{Member, IsMajority}
 use Rattle.node_history.specs.Entries.{Heard, Entry, Earlier, now, before, node_after}
 use Rattle.run_safety.specs.Safe.{HasBody, IsChosen, IsOnLine, IsAcknowledged, SaidOk, HoldsFinal, IsLowestFinal, Reaches, there, segment, IsRecovered, IsSafe}
-use Rattle.run_safety.specs.Parts.{IsBehindFinalised}
+use Rattle.run_safety.specs.Parts.{IsAfterFinalised}
 use Rattle.run_safety.specs.Run.{IsRun}
 use Rattle.run_safety.specs.Tables.{story_of}
 use Rattle.run_safety.specs.Examples.{recovered_edit, recovered_log, its_line, tables, head, one_edit, heard_at, begin, edit, later, promised_twice, split}
@@ -27,7 +27,7 @@ use Rattle.run_safety.proofs.Kept.{segments_chained}
 use Rattle.run_safety.proofs.Checker.{passes, follows, said, said_is, no_start, none_starts}
 
 it_passes : passes 3 tables (reverse recovered_edit) ≡ true
-unfolding find_segment put_segment remove_segment newest limit_of after_effects node_step effects_of best_from greatest_newest judged fetched log_limit writer_begun filled next_task writer_at node_after
+unfolding find_segment put_segment remove_segment newest limit_of after_effects node_step effects_of best_from greatest_newest judgment after_fetch log_limit writer_begun fill_slots next_task writer_at node_after
 it_passes = refl
 
 pub is_run : IsRun 3 recovered_edit
@@ -117,7 +117,7 @@ starts_from_one i g holds =
     first_body [] e = absurd (cc e)
     first_body (b ∷ bodies) e = (b, refl)
 
-    by : IsBehindFinalised 3 (reverse recovered_edit) g.epoch g.start → 1 ≤ g.start
+    by : IsAfterFinalised 3 (reverse recovered_edit) g.epoch g.start → 1 ≤ g.start
     by (inl e) = omega (arith, e)
     by (inr x) = omega (arith, x.4)
 

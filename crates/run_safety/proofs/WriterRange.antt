@@ -25,8 +25,8 @@ use Rattle.writer_core.specs.declared.task.Task.TheVariants as task
 use Rattle.writer_core.specs.Views.{WriterView}
 use Rattle.writer_core.specs.Answers.{is_waiting, has_majority, fits_edits}
 use Rattle.writer_core.specs.Best.{Best, best_of, best_from, better, told_by, segment_in, outranks, greatest_promise, greatest_newest}
-use Rattle.writer_core.specs.Rounds.{request_in, numbers_fit, going, done_in, with_causes, judged_by, judged, taken_out, fetched, after_propose, recovering, after_finalize, after_open, after_write, edits_fetched, not_fetched, next_serial, missed, none_left_out, to_all, to_others, proposing, stopped, asking_all, batch_from, end_record}
-use Rattle.writer_core.specs.Writer.{new_writer, Began, writer_begun, log_begins, log_limit, is_writing, if_writing, next_call, call_in, node_in, with_answer, judged_when, heard_in, heard_at, writer_heard}
+use Rattle.writer_core.specs.Rounds.{request_in, numbers_fit, keep_going, after_round, with_causes, judgment_by, judgment, without_answer_of, after_fetch, after_propose, begin_recovery, after_finalize, after_open, after_write, after_edits, after_no_edits, next_serial, left_out_after, none_left_out, to_all, to_others, begin_propose, stops_with, asks_all, batch_from, end_record}
+use Rattle.writer_core.specs.Writer.{new_writer, Began, writer_begun, log_begins, log_limit, is_writing, if_writing, next_call, call_in, node_in, with_answer, judgment_when, heard_in, heard_at, writer_heard}
 pub use Rattle.run_safety.specs.Sized.{FetchesWithin, Sized}
 use Rattle.writer_core.proofs.LiveLaws.{of_call}
 
@@ -62,7 +62,7 @@ others_sized : (n : ℕ) (r : Round) (w : WriterView) → length w.left ≡ n �
 others_sized n r w e f = record { left = e; slots = length-map w.left _ ∙ e; fetch = f }
 
 -- ## A round that was judged
-state_by : (n : ℕ) (b : Bool) (told : ℕ) (w : WriterView) → Sized n w → Sized n (cond b (going (proposing told w)) (stopped (turn.EpochLimit told) w)).writer
+state_by : (n : ℕ) (b : Bool) (told : ℕ) (w : WriterView) → Sized n w → Sized n (cond b (keep_going (begin_propose told w)) (stops_with (turn.EpochLimit told) w)).writer
 state_by n true told w h = all_sized n round.Propose (record w { epoch = told + 1; serial = 0; committed = 0 }) h.left tt
 state_by n false told w h = record { left = h.left; slots = h.slots; fetch = tt }
 
@@ -70,7 +70,7 @@ propose_sized : (n : ℕ) (o : Option ℕ) (w : WriterView) → Sized n w → Si
 propose_sized n None w h = all_sized n round.Start (record w { start = 1 }) h.left tt
 propose_sized n (Some start) w h = all_sized n (round.Prepare start) w h.left tt
 
-recovering_sized : (n start : ℕ) (o : Option Best) (w : WriterView) → ((b : Best) → o ≡ Some b → (1 ≤ b.node) × (b.node ≤ n)) → Sized n w → Sized n (recovering start o w)
+recovering_sized : (n start : ℕ) (o : Option Best) (w : WriterView) → ((b : Best) → o ≡ Some b → (1 ≤ b.node) × (b.node ≤ n)) → Sized n w → Sized n (begin_recovery start o w)
 recovering_sized n start None w f h = all_sized n round.Start (record w { committed = start - 1; start = start }) h.left tt
 recovering_sized n start (Some b) w f h = record { left = h.left; slots = h.slots; fetch = f b refl }
 
@@ -99,54 +99,54 @@ write_sized n aim.Log first last w h = record { left = h.left; slots = h.slots; 
 write_sized n aim.Purge first last w h = record { left = h.left; slots = h.slots; fetch = tt }
 
 -- the nodes that are left out, anew
-missed_sized : (n : ℕ) (r : Round) (w : WriterView) → Sized n w → length (missed r w.slots) ≡ n
+missed_sized : (n : ℕ) (r : Round) (w : WriterView) → Sized n w → length (left_out_after r w.slots) ≡ n
 missed_sized n r w h = length-map w.slots _ ∙ h.slots
 
-done_sized : (n : ℕ) (r : Round) (w : WriterView) → Sized n w → Sized n (done_in r w).writer
+done_sized : (n : ℕ) (r : Round) (w : WriterView) → Sized n w → Sized n (after_round r w).writer
 done_sized n round.State w h = state_by n (nat_lt (greatest_promise w.slots) max_number) (greatest_promise w.slots) w h
 done_sized n round.Propose w h = propose_sized n (greatest_newest w.slots) (next_serial w) (record { left = h.left; slots = h.slots; fetch = h.fetch })
 done_sized n (round.Prepare start) w h = recovering_sized n start (best_of start w.slots) (next_serial w) (best_fits n start w.slots h.slots) (record { left = h.left; slots = h.slots; fetch = h.fetch })
 done_sized n (round.Fetch node start end bodies) w h = recovering_sized n start (best_of start w.slots) (next_serial w) (best_fits n start w.slots h.slots) (record { left = h.left; slots = h.slots; fetch = h.fetch })
 done_sized n (round.Accept batch) w h = others_sized n (round.Finalize batch.first (last_txid batch)) (record (next_serial w) { committed = last_txid batch }) h.left tt
 done_sized n (round.Finalize start end) w h = finalize_sized n w.aim end (next_serial w) (record { left = h.left; slots = h.slots; fetch = h.fetch })
-done_sized n round.Start w h = others_sized n round.Open (record (next_serial w) { left = missed round.Start w.slots }) (missed_sized n round.Start w h) tt
-done_sized n round.Open w h = open_sized n w.aim (record (next_serial w) { committed = w.start; next = w.start + 1; left = missed round.Open w.slots }) (record { left = missed_sized n round.Open w h; slots = h.slots; fetch = h.fetch })
+done_sized n round.Start w h = others_sized n round.Open (record (next_serial w) { left = left_out_after round.Start w.slots }) (missed_sized n round.Start w h) tt
+done_sized n round.Open w h = open_sized n w.aim (record (next_serial w) { committed = w.start; next = w.start + 1; left = left_out_after round.Open w.slots }) (record { left = missed_sized n round.Open w h; slots = h.slots; fetch = h.fetch })
 done_sized n (round.Write bodies) w h =
     let last : ℕ = w.next + length bodies - 1 in
-    write_sized n w.aim w.next last (record (next_serial w) { committed = last; next = last + 1; left = missed (round.Write bodies) w.slots }) (record { left = missed_sized n (round.Write bodies) w h; slots = h.slots; fetch = h.fetch })
+    write_sized n w.aim w.next last (record (next_serial w) { committed = last; next = last + 1; left = left_out_after (round.Write bodies) w.slots }) (record { left = missed_sized n (round.Write bodies) w h; slots = h.slots; fetch = h.fetch })
 done_sized n (round.Purge min) w h = record { left = h.left; slots = h.slots; fetch = tt }
 
-judged_sized : (n : ℕ) (b : Bool) (r : Round) (w : WriterView) → Sized n w → Sized n (judged_by b r w).writer
+judged_sized : (n : ℕ) (b : Bool) (r : Round) (w : WriterView) → Sized n w → Sized n (judgment_by b r w).writer
 judged_sized n true r w h = done_sized n r (with_causes r w) (record { left = h.left; slots = h.slots; fetch = h.fetch })
 judged_sized n false r w h = record { left = h.left; slots = h.slots; fetch = tt }
 
-round_sized : (n : ℕ) (b : Bool) (r : Round) (w : WriterView) → Sized n w → Sized n (judged_when b r w).writer
-unfolding judged
+round_sized : (n : ℕ) (b : Bool) (r : Round) (w : WriterView) → Sized n w → Sized n (judgment_when b r w).writer
+unfolding judgment
 round_sized n true r w h = h
 round_sized n false r w h = judged_sized n (numbers_fit w r && has_majority r w.slots) r w h
 
 -- ## A piece that was fetched
-out_sized : (n : ℕ) (node : ℕ) (heard : Heard) (w : WriterView) → Sized n w → Sized n (taken_out node heard w)
+out_sized : (n : ℕ) (node : ℕ) (heard : Heard) (w : WriterView) → Sized n w → Sized n (without_answer_of node heard w)
 out_sized n node heard w h = record { left = h.left; slots = length-set w.slots (node - 1) _ ∙ h.slots; fetch = h.fetch }
 
 pieced_by : (n : ℕ) (b : Bool) (node start end : ℕ) (bodies : List (List ℕ)) (w : WriterView) → (1 ≤ node) × (node ≤ n) → Sized n w
-    → Sized n (cond b (asking_all (round.Accept (batch_from start bodies)) w) (record w { phase = phase.InRound (round.Fetch node start end bodies) }))
+    → Sized n (cond b (asks_all (round.Accept (batch_from start bodies)) w) (record w { phase = phase.InRound (round.Fetch node start end bodies) }))
 pieced_by n true node start end bodies w f h = all_sized n (round.Accept (batch_from start bodies)) w h.left tt
 pieced_by n false node start end bodies w f h = record { left = h.left; slots = h.slots; fetch = f }
 
 edits_sized : (n : ℕ) (b : Bool) (node start end : ℕ) (bodies : List (List ℕ)) (batch : BatchView) (w : WriterView) → (1 ≤ node) × (node ≤ n) → Sized n w
-    → Sized n (edits_fetched b node start end bodies batch w).writer
+    → Sized n (after_edits b node start end bodies batch w).writer
 edits_sized n true node start end bodies batch w f h =
     pieced_by n (nat_lt end (start + length (bodies ++ take (end + 1 - (start + length bodies)) batch.bodies))) node start end (bodies ++ take (end + 1 - (start + length bodies)) batch.bodies) (next_serial w) f (record { left = h.left; slots = h.slots; fetch = h.fetch })
 edits_sized n false node start end bodies batch w f h =
-    judged_sized n (has_majority (round.Prepare start) (taken_out node Silent w).slots) (round.Prepare start) (taken_out node Silent w) (out_sized n node Silent w h)
+    judged_sized n (has_majority (round.Prepare start) (without_answer_of node Silent w).slots) (round.Prepare start) (without_answer_of node Silent w) (out_sized n node Silent w h)
 
-missing_sized : (n node start : ℕ) (heard : Heard) (w : WriterView) → Sized n w → Sized n (not_fetched node start heard w).writer
+missing_sized : (n node start : ℕ) (heard : Heard) (w : WriterView) → Sized n w → Sized n (after_no_edits node start heard w).writer
 missing_sized n node start heard w h =
-    judged_sized n (has_majority (round.Prepare start) (taken_out node heard w).slots) (round.Prepare start) (taken_out node heard w) (out_sized n node heard w h)
+    judged_sized n (has_majority (round.Prepare start) (without_answer_of node heard w).slots) (round.Prepare start) (without_answer_of node heard w) (out_sized n node heard w h)
 
-fetched_sized : (n node start end : ℕ) (bodies : List (List ℕ)) (heard : Heard) (w : WriterView) → (1 ≤ node) × (node ≤ n) → Sized n w → Sized n (fetched node start end bodies heard w).writer
-unfolding fetched
+fetched_sized : (n node start end : ℕ) (bodies : List (List ℕ)) (heard : Heard) (w : WriterView) → (1 ≤ node) × (node ≤ n) → Sized n w → Sized n (after_fetch node start end bodies heard w).writer
+unfolding after_fetch
 fetched_sized n node start end bodies (Answer (reply.Edits batch)) w f h =
     edits_sized n (numbers_fit w (round.Fetch node start end bodies) && fits_edits (start + length bodies) batch) node start end bodies batch w f h
 fetched_sized n node start end bodies (Answer reply.Ok) w f h = missing_sized n node start (Answer reply.Ok) w h

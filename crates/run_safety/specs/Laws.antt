@@ -8,7 +8,7 @@ use Rattle.journal_core.specs.declared.segment.Segment.{Segment}
 use Rattle.journal_core.specs.declared.node_state.NodeState.{NodeState}
 use Rattle.journal_core.specs.declared.request.Request.{Request}
 use Rattle.run_safety.specs.Majority.{Member, IsMajority}
-use Rattle.node_history.specs.Entries.{Entry, Earlier, moved, node_after}
+use Rattle.node_history.specs.Entries.{Entry, Earlier, after_move, node_after}
 use Rattle.run_safety.specs.Run.{IsRun}
 use Rattle.run_safety.specs.Safe.{IsChosen, IsOnLine, IsOf, IsSafe}
 
@@ -28,7 +28,7 @@ PromiseNeverFalls = (node : ℕ) (xs ys : List Entry) → (node_at node xs).prom
 -- an entry that doesn't move its node leaves every node's state
 abbrev pub UnmovedLeavesStates : Type 0
 UnmovedLeavesStates =
-    (node : ℕ) (past : List Entry) (e : Entry) → moved (node_after e.node past) e.move ≡ node_after e.node past
+    (node : ℕ) (past : List Entry) (e : Entry) → after_move (node_after e.node past) e.move ≡ node_after e.node past
     → node_after node (e ∷ past) ≡ node_after node past
 
 abbrev pub EveryRunIsSafe : Type 0

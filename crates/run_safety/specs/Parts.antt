@@ -65,9 +65,9 @@ IsFinalised n past epoch start end =
     (head : HeadView) × (head.epoch ≡ epoch)
     × ((nodes : List ℕ) × IsMajority n nodes × ((node : ℕ) → Member node nodes → SaidOk past node (Finalize head start end)))
 
--- a start is 1, or comes right behind the end of a finalise that was done, under this epoch or a lower one
-abbrev pub IsBehindFinalised : ℕ → List Entry → ℕ → ℕ → Type 0
-IsBehindFinalised n past epoch start =
+-- a start is 1, or comes right after the end of a finalise that was done, under this epoch or a lower one
+abbrev pub IsAfterFinalised : ℕ → List Entry → ℕ → ℕ → Type 0
+IsAfterFinalised n past epoch start =
     (start ≡ 1)
     ⊎ ((lower : ℕ) × (first : ℕ) × (last : ℕ) × (lower ≤ epoch) × (last + 1 ≡ start) × IsFinalised n past lower first last)
 
@@ -75,13 +75,13 @@ IsBehindFinalised n past epoch start =
 abbrev pub StartsAreChained : Type 0
 StartsAreChained =
     (n : ℕ) (entries old : List Entry) (e : Entry) (epoch start : ℕ) → IsRun n entries
-    → Earlier (e ∷ old) (reverse entries) → IsStart e epoch start → IsBehindFinalised n (reverse entries) epoch start
+    → Earlier (e ∷ old) (reverse entries) → IsStart e epoch start → IsAfterFinalised n (reverse entries) epoch start
 
 -- each segment with an edit that a node held
 abbrev pub SegmentsAreChained : Type 0
 SegmentsAreChained =
     (n : ℕ) (entries : List Entry) (node : ℕ) (g : Segment) (txid : ℕ) (body : List ℕ) → IsRun n entries
-    → IsHeld (reverse entries) node g → HasAt g txid body → IsBehindFinalised n (reverse entries) g.epoch g.start
+    → IsHeld (reverse entries) node g → HasAt g txid body → IsAfterFinalised n (reverse entries) g.epoch g.start
 
 -- Each start comes right after the end of the start before it: between a segment for which a finalise was done and its end no other segment begins.
 abbrev pub StartsAreNext : Type 0
@@ -152,7 +152,7 @@ NewestNeverFalls =
     → (later : ℕ) × (newest (node_after node (reverse (xs ++ ys))).segments ≡ Some later) × (start ≤ later)
 
 -- ## What a recovery takes over
--- the node's heard answer to a prepare under this epoch, right behind these entries
+-- the node's heard answer to a prepare under this epoch, right after these entries
 abbrev pub ToldPrepare : List Entry → List Entry → ℕ → ℕ → ℕ → Option SegmentInfo → Type 0
 ToldPrepare past old node epoch start segment =
     (e : Entry) × Earlier (e ∷ old) past × (e.node ≡ node)

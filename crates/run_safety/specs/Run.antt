@@ -8,8 +8,8 @@ use Rattle.journal_core.specs.Segments.{any_body}
 use Rattle.journal_core.specs.Step.{node_step, effects_of}
 use Rattle.writer_core.specs.declared.task.Task.{Task}
 use Rattle.writer_core.specs.declared.task.Task.TheVariants as task
-use Rattle.writer_core.specs.Whole.{Takeover, Underway, writer_at, asked, calls}
-use Rattle.node_history.specs.Entries.{Way, Heard, Muted, Late, Move, Answer, Stop, Kill, Restart, Entry, moved, node_after, Earlier}
+use Rattle.writer_core.specs.Whole.{Takeover, TaskProgress, writer_at, request_of_round, calls}
+use Rattle.node_history.specs.Entries.{Way, Heard, Muted, Late, Move, Answer, Stop, Kill, Restart, Entry, after_move, node_after, Earlier}
 
 -- What a list of entries doesn't tell: the takeovers, by number, and which takeover and which round of it each call belongs to. A place of
 -- the list is named by the number of entries before it.
@@ -48,15 +48,15 @@ may_follow (task.Purge min) = true
 pub record IsMade (n : ℕ) (story : Story) (past : List Entry) (caller node : ℕ) (request : Request) : Type 0 where
   pub by : (takeover_at story past).caller ≡ caller
   pub tasks_follow : list_all may_follow (takeover_at story past).tasks ≡ true
-  pub underway : Underway
+  pub underway : TaskProgress
   pub is_there : writer_at n (takeover_at story past) (story.round (length past)) ≡ Some underway
   pub calls_it : calls underway node ≡ true
-  pub is_asked : request ≡ asked underway
+  pub is_asked : request ≡ request_of_round underway
   pub heard_before :
       (s i : ℕ) (reply : Reply) → s < story.round (length past) → (takeover_at story past).heard s i ≡ Some reply
       → WasHeard story past (story.whose (length past)) s i reply
 
--- a call in its turn: no late copy, and not stopped behind no effect, which counts as a kill
+-- a call in its turn: no late copy, and not stopped after no effect, which counts as a kill
 abbrev pub IsInTurn : Move → Type 0
 IsInTurn (Answer caller way request reply) = way ≢ Late
 IsInTurn (Stop caller late request keep) = (late ≡ false) × (0 < keep)
@@ -79,7 +79,7 @@ pub record IsCall (n : ℕ) (story : Story) (past : List Entry) (caller node : �
   pub made : IsMade n story past caller node request
   pub in_order : IsInTurn move → IsInOrder story past node
 
--- What may come next at a node in this state. A stop behind no effect counts as a kill, whatever was asked.
+-- What may come next at a node in this state. A stop after no effect counts as a kill, whatever was asked.
 abbrev pub IsNext : ℕ → Story → List Entry → ℕ → NodeState → Move → Type 0
 IsNext n story past node s (Answer caller way request reply) =
     IsCall n story past caller node request (Answer caller way request reply)
@@ -96,7 +96,7 @@ pub record IsNextEntry (n : ℕ) (story : Story) (past : List Entry) (e : Entry)
   pub from_one : 1 ≤ e.node
   pub up_to_n : e.node ≤ n
   pub is_next : IsNext n story past e.node (node_after e.node past) e.move
-  pub moves : moved (node_after e.node past) e.move ≢ node_after e.node past
+  pub moves : after_move (node_after e.node past) e.move ≢ node_after e.node past
 
 -- each entry may come after those before it
 abbrev pub Follows : ℕ → Story → List Entry → Type 0

@@ -89,7 +89,7 @@ pub fn written_once()
     ensures { WrittenOnce }
 {}
 
-/// Each segment that is begun starts at 1 or right behind the end of a finalise that was done under its epoch or a
+/// Each segment that is begun starts at 1 or right after the end of a finalise that was done under its epoch or a
 /// lower one.
 pub fn starts_are_chained()
     ensures { StartsAreChained }

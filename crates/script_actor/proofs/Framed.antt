@@ -1,4 +1,4 @@
--- What most steps of an actor leave as it is, and take no account of: the deeds to come, the record, the marks and the copies.
+-- What most steps of an actor leave as it is, and take no account of: the actions to come, the record, the marks and the copies.
 use Rattle.std.proofs.Common.{◌≡◌, ℕ, ◌-◌, List, [], ◌∷◌, length, Bool, true, false, refl, sym, ap, ◌∙◌}
 use Rattle.std.specs.Prelude.{Option, Some, None}
 use Rattle.journal_core.specs.declared.request.Request.{Request}
@@ -11,25 +11,25 @@ use Rattle.writer_core.specs.declared.turn.Turn.TheVariants as turn
 use Rattle.writer_core.specs.declared.turn.Outcome.{Outcome as TaskOutcome}
 use Rattle.writer_core.specs.declared.turn.Outcome.TheVariants as outcome
 use Rattle.writer_core.specs.Views.{WriterView}
-use Rattle.writer_core.specs.Rounds.{Judged}
+use Rattle.writer_core.specs.Rounds.{Judgment}
 use Rattle.writer_core.specs.Writer.{is_writing, writer_begun, writer_heard}
 use Rattle.journal_core.specs.declared.heard.Heard.{Heard}
 use Rattle.edit_ops.specs.Records.{EditView}
 use Rattle.node_history.specs.declared.record.Record.{Record}
 use Rattle.node_history.specs.declared.mark.Mark.{Mark}
-use Rattle.name_node.specs.Submissions.{Submission, submitted, nothing_submitted}
+use Rattle.name_node.specs.Submissions.{Submission, submit_edits, nothing_submitted}
 use Rattle.name_node.specs.Holding.{Holding, Work, Free, Tails, Logs, Broken, min_to_keep, enters}
 use Rattle.name_node.specs.Tails.{TailEnd, Caught, Reached, PurgedFrom, BehindBy, TailStep, GoesOn, Ends, Breaks, pass_begun, tail_hears}
-use Rattle.script_actor.specs.Lines.{Deed, Does, DoDrop, DoMute, DoLate, Submits, Trims, DoTail, Saves, Reloads}
-use Rattle.script_actor.specs.Actor.{Actor, tail_ended, tail_stepped, task_begun, sync_begun, synced, logged_when, trim_at, unless_active, saving, reloading, held_deed, logs_done, task_done, held_turn, turn_with, turn_taken, judged_as, heard_in_work, heard_by}
+use Rattle.script_actor.specs.Lines.{Action, Does, DoDrop, DoMute, DoLate, Submits, Trims, DoTail, Saves, Reloads}
+use Rattle.script_actor.specs.Actor.{Actor, tail_ended, tail_stepped, task_begun, begin_sync, after_sync, logged_when, trim_at, unless_active, begin_save, begin_reload, take_named_action, logs_done, task_done, held_turn, turn_with, turn_taken, after_judgment, heard_in_work, heard_by}
 
-abbrev framed : List Deed → List Record → List Mark → Option (ℕ × Request) → Actor → Actor
+abbrev framed : List Action → List Record → List Mark → Option (ℕ × Request) → Actor → Actor
 framed x p m c a = record a { todo = x; past = p; marks = m; copies = c }
 
 abbrev pub IsFramed : (Actor → Actor) → Type 0
-IsFramed f = (a : Actor) (x : List Deed) (p : List Record) (m : List Mark) (c : Option (ℕ × Request)) → f (framed x p m c a) ≡ framed x p m c (f a)
+IsFramed f = (a : Actor) (x : List Action) (p : List Record) (m : List Mark) (c : Option (ℕ × Request)) → f (framed x p m c a) ≡ framed x p m c (f a)
 
-pub framed_todo : (f : Actor → Actor) → IsFramed f → (a : Actor) (x : List Deed) → f (record a { todo = x }) ≡ record (f a) { todo = x }
+pub framed_todo : (f : Actor → Actor) → IsFramed f → (a : Actor) (x : List Action) → f (record a { todo = x }) ≡ record (f a) { todo = x }
 framed_todo f h a x = h a x a.past a.marks a.copies ∙ sym (ap (λ (b : Actor). record b { todo = x }) (h a a.todo a.past a.marks a.copies))
 
 pub framed_keeps : (f : Actor → Actor) → IsFramed f → (a : Actor) → ((f a).todo ≡ a.todo) × ((f a).past ≡ a.past) × ((f a).marks ≡ a.marks) × ((f a).copies ≡ a.copies)
@@ -57,19 +57,19 @@ begun_framed t w begun.Going a x p m c = refl
 begun_framed t w begun.NotActive a x p m c = refl
 begun_framed t w (begun.TooLong number) a x p m c = refl
 
-sync_framed : (b : Begun) (w : WriterView) (s : Submission) (h : Holding) → IsFramed (sync_begun b w s h)
+sync_framed : (b : Begun) (w : WriterView) (s : Submission) (h : Holding) → IsFramed (begin_sync b w s h)
 sync_framed begun.Going w s h a x p m c = refl
 sync_framed begun.NotActive w s h a x p m c = refl
 sync_framed (begun.TooLong number) w s h a x p m c = refl
 
-synced_framed : (bodies : List (List ℕ)) (s : Submission) (h : Holding) → IsFramed (synced bodies s h)
+synced_framed : (bodies : List (List ℕ)) (s : Submission) (h : Holding) → IsFramed (after_sync bodies s h)
 synced_framed [] s h a x p m c = refl
 synced_framed (b ∷ bs) s h a x p m c = sync_framed (writer_begun a.writer (task.Log s.bodies)).begun (writer_begun a.writer (task.Log s.bodies)).writer s h a x p m c
 
 logged_framed : (b : Bool) (es : List EditView) (h : Holding) → IsFramed (logged_when b es h)
 unfolding logged_when
 logged_framed true es h a x p m c =
-    synced_framed (submitted a.writer es (nothing_submitted h.space)).bodies (submitted a.writer es (nothing_submitted h.space)) h a x p m c
+    synced_framed (submit_edits a.writer es (nothing_submitted h.space)).bodies (submit_edits a.writer es (nothing_submitted h.space)) h a x p m c
 logged_framed false es h a x p m c = refl
 
 trim_framed : (b : Bool) (min : Option ℕ) → IsFramed (trim_at b min)
@@ -83,8 +83,8 @@ unless_framed true f g a x p m c = refl
 unless_framed false f g a x p m c = g a x p m c
 
 -- what an actor does by what it holds
-pub held_framed : (d : Deed) (o : Option Holding) → IsFramed (held_deed d o)
-unfolding held_deed
+pub held_framed : (d : Action) (o : Option Holding) → IsFramed (take_named_action d o)
+unfolding take_named_action
 held_framed (Does t) o a x p m c = refl
 held_framed (DoDrop k n) o a x p m c = refl
 held_framed (DoMute k n) o a x p m c = refl
@@ -96,9 +96,9 @@ held_framed (Trims extra) (Some h) a x p m c = trim_framed (is_writing a.writer.
 held_framed DoTail None a x p m c = refl
 held_framed DoTail (Some h) a x p m c = unless_framed (is_writing a.writer.phase) (tail_stepped None (pass_begun None h)) (tail_framed None (pass_begun None h)) a x p m c
 held_framed Saves None a x p m c = refl
-held_framed Saves (Some h) a x p m c = unless_framed (is_writing a.writer.phase) (saving h) (λ b y q n d. refl) a x p m c
+held_framed Saves (Some h) a x p m c = unless_framed (is_writing a.writer.phase) (begin_save h) (λ b y q n d. refl) a x p m c
 held_framed Reloads None a x p m c = refl
-held_framed Reloads (Some h) a x p m c = unless_framed (is_writing a.writer.phase) (reloading h) (λ b y q n d. refl) a x p m c
+held_framed Reloads (Some h) a x p m c = unless_framed (is_writing a.writer.phase) (begin_reload h) (λ b y q n d. refl) a x p m c
 
 logs_framed : (work : Work) (first last : ℕ) (h : Holding) → IsFramed (logs_done work first last h)
 unfolding logs_done
@@ -141,7 +141,7 @@ turn_framed turn.Aborted (Some s) a x p m c = with_framed a.holds turn.Aborted s
 turn_framed (turn.EpochLimit n) None a x p m c = refl
 turn_framed (turn.EpochLimit n) (Some s) a x p m c = with_framed a.holds (turn.EpochLimit n) s (record a { doing = None }) x p m c
 
-judged_framed : (j : Judged) → IsFramed (judged_as j)
+judged_framed : (j : Judgment) → IsFramed (after_judgment j)
 judged_framed j a x p m c = turn_framed j.turn a.doing (record a { writer = j.writer }) x p m c
 
 work_framed : (work : Work) (h : Holding) (node : ℕ) (heard : Heard) → IsFramed (heard_in_work work h node heard)

@@ -17,7 +17,7 @@ use Rattle.quorum_writer.proofs.Going.{leads_none, leads_more}
 use Rattle.mesh.specs.Makers.{heard_of}
 use Rattle.script_actor.specs.KeptActor.{KeptActor}
 use Rattle.script_actor.specs.Went.{HasGone}
-use Rattle.script_actor.specs.Deeds.{IsOneCall}
+use Rattle.script_actor.specs.Actions.{IsOneCall}
 use Rattle.script_actor.proofs.WriterTurn.{call_under}
 use Rattle.script_actor.proofs.TurnsFit.{heard_taken}
 use Rattle.script_actor.proofs.TurnsTell.{turn_opens, none_open}

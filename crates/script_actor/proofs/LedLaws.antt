@@ -2,7 +2,7 @@
 use Rattle.std.proofs.Common.{◌≡◌, List, [], ◌∷◌, ◌++◌, refl, sym, ap, ◌∙◌, subst}
 use Rattle.node_history.specs.declared.record.Record.{Record}
 use Rattle.script_actor.specs.Actor.{Actor, Fits, wants, goes_on, IsLed, actor_after}
-use Rattle.script_actor.specs.Deeds.{LedTo}
+use Rattle.script_actor.specs.Actions.{LedTo}
 
 pub led_same : (x y : Actor) → x ≡ y → LedTo x y
 unfolding IsLed actor_after

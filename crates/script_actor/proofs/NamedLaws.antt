@@ -1,4 +1,4 @@
--- An actor with names behind its writer's last call of a takeover, a roll or a close.
+-- An actor with names after its writer's last call of a takeover, a roll or a close.
 use Rattle.std.proofs.Common.{◌≡◌, ℕ, ◌+◌, ◌-◌, ◌≤◌, List, [], ◌∷◌, ◌++◌, codes, Bool, true, false, if◌then◌else◌, Option, Some, None, refl, sym, ap, ◌∙◌, subst, arith}
 use Rattle.ns_replay.specs.Replay.{Image}
 use Rattle.writer_core.specs.declared.phase.Phase.{Phase}
@@ -15,12 +15,12 @@ use Rattle.writer_core.specs.declared.turn.Outcome.TheVariants as outcome
 use Rattle.writer_core.specs.Views.{WriterView}
 use Rattle.writer_core.specs.Left.{IsLive}
 use Rattle.writer_core.specs.Turns.{aim_of, SuitsIn, IsApt, IsTurnOf}
-use Rattle.writer_core.specs.Rounds.{asking_others, end_record}
+use Rattle.writer_core.specs.Rounds.{asks_others, end_record}
 use Rattle.writer_core.specs.Writer.{Began, begins, if_writing, is_writing, is_under_way, next_call, writer_begun, writer_stopped}
 use Rattle.writer_core.proofs.LiveLaws.{stopped_live}
 use Rattle.writer_core.proofs.TaskTurns.{begun_turn}
 use Rattle.active_name.proofs.WriterEnds.{outcome_of, roll_start, close_last}
-use Rattle.name_node.specs.Holding.{Holding, Work, Free, at_position, loaded, reloaded, enters}
+use Rattle.name_node.specs.Holding.{Holding, Work, Free, at_position, load_image, reload_image, enters}
 use Rattle.name_node.specs.Tails.{TailStep, Caught, Reached, pass_begun}
 use Rattle.standby_tailer.specs.declared.tailed.Tailed.{Tailed}
 use Rattle.standby_tailer.specs.declared.tailed.Tailed.TheVariants as tailed
@@ -29,12 +29,12 @@ use Rattle.script_actor.specs.Lines.{Does}
 use Rattle.script_actor.specs.Results.{word, took, cause_words, for_each, name_of}
 use Rattle.script_actor.specs.ResultLists.{texts_of, entry_texts}
 use Rattle.script_actor.specs.Actor.{Actor, is_broken_work, aborted_texts, tail_ended, tail_stepped, task_done, held_turn, turn_with, turn_taken, entry_text}
-use Rattle.script_actor.specs.KeptActor.{KeptActor, shown}
+use Rattle.script_actor.specs.KeptActor.{KeptActor, as_actor}
 use Rattle.script_actor.specs.Ready.{IsReady, is_going}
 use Rattle.script_actor.specs.Went.{HasGone, opens}
-use Rattle.script_actor.specs.Deeds.{kept_of, LedTo, is_tail, IsNoTail, GoesFar, is_idle_work, IsIdleHolding, IsIdleActor, TakesDeed, ComesToRest}
+use Rattle.script_actor.specs.Actions.{kept_of, LedTo, is_tail, IsNoTail, GoesFar, is_idle_work, IsIdleHolding, IsIdleActor, TakesAction, ComesToRest}
 use Rattle.script_actor.specs.Holdings.{rest_work, is_bad_entry, IsTailEnd, TailGoes}
-use Rattle.script_actor.specs.Named.{task_of, Stands, HasTaken, HasRolled, HasClosed, EndsSegment, MayMove, held_after, entry_opens, entry_writer, entry_held, taken_of}
+use Rattle.script_actor.specs.Named.{task_of, Stands, HasTaken, HasRolled, HasClosed, EndsSegment, MayMove, held_after, entry_opens, entry_writer, entry_held, takeover_of}
 use Rattle.script_actor.specs.declared.segment_task.SegmentTask.{SegmentTask}
 use Rattle.script_actor.specs.declared.segment_task.SegmentTask.TheVariants as segment
 use Rattle.script_actor.proofs.LedLaws.{led_same, led_on}
@@ -60,11 +60,11 @@ own_turn w x t u live none begins g =
 
 roll_open : (w : WriterView) → (writer_begun w task.Roll).begun ≡ begun.Going → is_writing w.phase ≡ true
 unfolding writer_begun
-roll_open w e = begun_open (is_writing w.phase) (begins (asking_others (round.Write end_record) (record w { aim = aim.Roll }))) w e
+roll_open w e = begun_open (is_writing w.phase) (begins (asks_others (round.Write end_record) (record w { aim = aim.Roll }))) w e
 
 close_open : (w : WriterView) → (writer_begun w task.Close).begun ≡ begun.Going → is_writing w.phase ≡ true
 unfolding writer_begun
-close_open w e = begun_open (is_writing w.phase) (begins (asking_others (round.Write end_record) (record w { aim = aim.Close }))) w e
+close_open w e = begun_open (is_writing w.phase) (begins (asks_others (round.Write end_record) (record w { aim = aim.Close }))) w e
 
 pub free_whole : (h : Holding) → h.work ≡ Free → is_broken_work h.work ≡ false
 free_whole h e = ap is_broken_work e
@@ -116,8 +116,8 @@ module _ (w x : WriterView) (h : Holding) (active : Bool) (live : IsLive w) (non
       ends_by st u begins (sym far.tells ∙ chores.at_rest x far.ready.live over) g (own_turn w x (task_of st) u live none begins g)
 
 -- ## What a round leaves
-round_shown : (st : SegmentTask) (u : Turn) (w : WriterView) (h : Holding) (log : LogView) → h.work ≡ Free → EndsSegment w h.position u → taken_of u ≡ None
-    → turn_taken u (Some (task_of st)) (shown (Some (task_of st)) [] (kept_of w (Some h) log)) ≡ shown None (texts_of (name_of (task_of st)) None u w.causes) (kept_of w (Some (held_after u h)) log)
+round_shown : (st : SegmentTask) (u : Turn) (w : WriterView) (h : Holding) (log : LogView) → h.work ≡ Free → EndsSegment w h.position u → takeover_of u ≡ None
+    → turn_taken u (Some (task_of st)) (as_actor (Some (task_of st)) [] (kept_of w (Some h) log)) ≡ as_actor None (texts_of (name_of (task_of st)) None u w.causes) (kept_of w (Some (held_after u h)) log)
 unfolding turn_taken turn_with held_turn task_done for_each
 round_shown st turn.Going w h log free ends other = absurd ends
 round_shown st (turn.Done (outcome.Takeover epoch first)) w h log free ends other = absurd (cc other)
@@ -125,17 +125,17 @@ round_shown st (turn.Done (outcome.Log first last)) w h log free ends other = ab
 round_shown st (turn.Done (outcome.Roll start)) w h log free ends other = refl
 round_shown st (turn.Done (outcome.Close last)) w h log free ends other = refl
 round_shown st (turn.Done outcome.Purge) w h log free ends other = absurd ends
-round_shown segment.Takeover turn.Aborted w h log free ends other = ap (λ (x : Work). record (shown None [] (kept_of w (Some (reloaded h)) log)) { says = aborted_texts x task.Takeover w.causes }) free
-round_shown segment.Roll turn.Aborted w h log free ends other = ap (λ (x : Work). record (shown None [] (kept_of w (Some (reloaded h)) log)) { says = aborted_texts x task.Roll w.causes }) free
-round_shown segment.Close turn.Aborted w h log free ends other = ap (λ (x : Work). record (shown None [] (kept_of w (Some (reloaded h)) log)) { says = aborted_texts x task.Close w.causes }) free
+round_shown segment.Takeover turn.Aborted w h log free ends other = ap (λ (x : Work). record (as_actor None [] (kept_of w (Some (reload_image h)) log)) { says = aborted_texts x task.Takeover w.causes }) free
+round_shown segment.Roll turn.Aborted w h log free ends other = ap (λ (x : Work). record (as_actor None [] (kept_of w (Some (reload_image h)) log)) { says = aborted_texts x task.Roll w.causes }) free
+round_shown segment.Close turn.Aborted w h log free ends other = ap (λ (x : Work). record (as_actor None [] (kept_of w (Some (reload_image h)) log)) { says = aborted_texts x task.Close w.causes }) free
 round_shown st (turn.EpochLimit told) w h log free ends other = refl
 
-loaded_free : (images : List Image) (h : Holding) → h.work ≡ Free → (loaded images h).work ≡ Free
+loaded_free : (images : List Image) (h : Holding) → h.work ≡ Free → (load_image images h).work ≡ Free
 loaded_free [] h e = e
 loaded_free (i ∷ is) h e = e
 
-pub reloaded_free : (h : Holding) → (reloaded h).work ≡ Free
-unfolding reloaded
+pub reloaded_free : (h : Holding) → (reload_image h).work ≡ Free
+unfolding reload_image
 reloaded_free h = loaded_free h.images (record h { work = Free }) refl
 
 pub after_free : (u : Turn) (h : Holding) → h.work ≡ Free → (held_after u h).work ≡ Free
@@ -156,24 +156,24 @@ free_no_tail h e = ap is_tail e
 
 -- an actor that rests with its results said
 pub at_rest : (n : ℕ) (from : Actor) (w : WriterView) (h : Holding) (mid new : LogView) (texts : List (List ℕ)) → 1 ≤ n → IsReady n w → next_call w ≡ None → IsIdleHolding (Some h)
-    → LedTo from (shown None texts (kept_of w (Some h) mid)) → IsSaid mid new texts → ComesToRest n from (kept_of w (Some h) new)
+    → LedTo from (as_actor None texts (kept_of w (Some h) mid)) → IsSaid mid new texts → ComesToRest n from (kept_of w (Some h) new)
 at_rest n from w h mid new texts some ready over idle led said =
-    record { idle = record { some = some; ready = ready; rests = over; holds = idle }; leads = led_on _ (shown None texts (kept_of w (Some h) mid)) _ led (said w (Some h)) }
+    record { idle = record { some = some; ready = ready; rests = over; holds = idle }; leads = led_on _ (as_actor None texts (kept_of w (Some h) mid)) _ led (said w (Some h)) }
 
 pub round_rests : (n : ℕ) (st : SegmentTask) (u : Turn) (w : WriterView) (h h' : Holding) (log new : LogView) (texts : List (List ℕ)) → 1 ≤ n → IsReady n w → next_call w ≡ None → h.work ≡ Free
-    → EndsSegment w h.position u → None ≡ taken_of u → texts ≡ texts_of (name_of (task_of st)) None u w.causes → h' ≡ held_after u h → IsSaid log new texts
-    → ComesToRest n (turn_taken u (Some (task_of st)) (shown (Some (task_of st)) [] (kept_of w (Some h) log))) (kept_of w (Some h') new)
+    → EndsSegment w h.position u → None ≡ takeover_of u → texts ≡ texts_of (name_of (task_of st)) None u w.causes → h' ≡ held_after u h → IsSaid log new texts
+    → ComesToRest n (turn_taken u (Some (task_of st)) (as_actor (Some (task_of st)) [] (kept_of w (Some h) log))) (kept_of w (Some h') new)
 round_rests n st u w h h' log new texts some ready over free ends other are is said =
     at_rest n _ w h' log new texts some ready over (free_idle h' (ap (λ (x : Holding). x.work) is ∙ after_free u h free))
     (led_same _ _ (round_shown st u w h log free ends (sym other)
-    ∙ ap (λ (l : List (List ℕ)). shown None l (kept_of w (Some (held_after u h)) log)) (sym are)
-    ∙ ap (λ (x : Holding). shown None texts (kept_of w (Some x) log)) (sym is)))
+    ∙ ap (λ (l : List (List ℕ)). as_actor None l (kept_of w (Some (held_after u h)) log)) (sym are)
+    ∙ ap (λ (x : Holding). as_actor None texts (kept_of w (Some x) log)) (sym is)))
     said
 
 no_both : (b : Bool) → b ≡ false → b ≡ true → ⊥
 no_both b e f = cc (e, f)
 
-stands_after : (u : Turn) (w : WriterView) (h : Holding) → EndsSegment w h.position u → taken_of u ≡ None → Stands w (held_after u h) (opens u)
+stands_after : (u : Turn) (w : WriterView) (h : Holding) → EndsSegment w h.position u → takeover_of u ≡ None → Stands w (held_after u h) (opens u)
 stands_after turn.Going w h ends other = absurd ends
 stands_after (turn.Done (outcome.Takeover epoch first)) w h ends other = absurd (cc other)
 stands_after (turn.Done (outcome.Log first last)) w h ends other = absurd ends
@@ -183,7 +183,7 @@ stands_after (turn.Done outcome.Purge) w h ends other = absurd ends
 stands_after turn.Aborted w h ends other = record { is_open = sym ends; next = λ o b. absurd (no_both (is_writing w.phase) ends o) }
 stands_after (turn.EpochLimit told) w h ends other = record { is_open = sym ends; next = λ o b. absurd (no_both (is_writing w.phase) ends o) }
 
-pub round_stands : (u : Turn) (w : WriterView) (h h' : Holding) (active : Bool) → EndsSegment w h.position u → None ≡ taken_of u → h' ≡ held_after u h → active ≡ opens u → Stands w h' active
+pub round_stands : (u : Turn) (w : WriterView) (h h' : Holding) (active : Bool) → EndsSegment w h.position u → None ≡ takeover_of u → h' ≡ held_after u h → active ≡ opens u → Stands w h' active
 round_stands u w h h' active ends other is o =
     subst (λ (x : Holding). Stands w x active) (sym is) (subst (λ (b : Bool). Stands w (held_after u h) b) (sym o) (stands_after u w h ends (sym other)))
 
@@ -206,7 +206,7 @@ first_in : Option (ℕ × ℕ) → ℕ
 first_in None = 0
 first_in (Some x) = x.1
 
-pub taken_is : (u : Turn) (w : WriterView) (position epoch first : ℕ) → Some (epoch, first) ≡ taken_of u → EndsSegment w position u → HasTaken w epoch first
+pub taken_is : (u : Turn) (w : WriterView) (position epoch first : ℕ) → Some (epoch, first) ≡ takeover_of u → EndsSegment w position u → HasTaken w epoch first
 unfolding epoch_in first_in
 taken_is turn.Going w position epoch first e ends = absurd (cc e)
 taken_is (turn.Done (outcome.Takeover a b)) w position epoch first e ends =
@@ -218,13 +218,13 @@ taken_is (turn.Done outcome.Purge) w position epoch first e ends = absurd (cc e)
 taken_is turn.Aborted w position epoch first e ends = absurd (cc e)
 taken_is (turn.EpochLimit told) w position epoch first e ends = absurd (cc e)
 
-pub taken_shown : (st : SegmentTask) (u : Turn) (w : WriterView) (h : Holding) (log : LogView) (epoch first : ℕ) → Some (epoch, first) ≡ taken_of u
-    → turn_taken u (Some (task_of st)) (shown (Some (task_of st)) [] (kept_of w (Some h) log)) ≡ tail_stepped (Some (first - 1)) (pass_begun (Some (first - 1)) (enters (first - 1) h)) (shown None [] (kept_of w (Some h) log))
+pub taken_shown : (st : SegmentTask) (u : Turn) (w : WriterView) (h : Holding) (log : LogView) (epoch first : ℕ) → Some (epoch, first) ≡ takeover_of u
+    → turn_taken u (Some (task_of st)) (as_actor (Some (task_of st)) [] (kept_of w (Some h) log)) ≡ tail_stepped (Some (first - 1)) (pass_begun (Some (first - 1)) (enters (first - 1) h)) (as_actor None [] (kept_of w (Some h) log))
 unfolding turn_taken turn_with held_turn task_done first_in
 taken_shown st turn.Going w h log epoch first e = absurd (cc e)
 taken_shown st (turn.Done (outcome.Takeover a b)) w h log epoch first e =
     let same : first ≡ b = ap first_in e in
-    ap (λ (x : ℕ). tail_stepped (Some (x - 1)) (pass_begun (Some (x - 1)) (enters (x - 1) h)) (shown None [] (kept_of w (Some h) log))) (sym same)
+    ap (λ (x : ℕ). tail_stepped (Some (x - 1)) (pass_begun (Some (x - 1)) (enters (x - 1) h)) (as_actor None [] (kept_of w (Some h) log))) (sym same)
 taken_shown st (turn.Done (outcome.Log a b)) w h log epoch first e = absurd (cc e)
 taken_shown st (turn.Done (outcome.Roll a)) w h log epoch first e = absurd (cc e)
 taken_shown st (turn.Done (outcome.Close a)) w h log epoch first e = absurd (cc e)
@@ -237,8 +237,8 @@ rests_from n x y new e c = subst (λ (z : Actor). ComesToRest n z new) (sym e) c
 
 -- a task that began and whose end comes to rest
 pub takes_from : (n m : ℕ) (w v : WriterView) (h : Holding) (old : LogView) (went new : KeptActor) (t : Task) (u : Turn) → m ≡ n → IsIdleActor n (kept_of w (Some h) old) → h.work ≡ Free
-    → (writer_begun w t).begun ≡ begun.Going → v ≡ (writer_begun w t).writer → GoesFar n (kept_of v (Some h) old) went u → ComesToRest m (turn_taken u (Some t) (shown (Some t) [] went)) new
-    → TakesDeed n (Does t) (kept_of w (Some h) old) new
+    → (writer_begun w t).begun ≡ begun.Going → v ≡ (writer_begun w t).writer → GoesFar n (kept_of v (Some h) old) went u → ComesToRest m (turn_taken u (Some t) (as_actor (Some t) [] went)) new
+    → TakesAction n (Does t) (kept_of w (Some h) old) new
 takes_from n m w v h old went new t u same idle free begins is far rests =
     record {
       idle = subst (λ (x : ℕ). IsIdleActor x new) same rests.idle;
@@ -246,20 +246,20 @@ takes_from n m w v h old went new t u same idle free begins is far rests =
     }
 
 entry_shown : (end : TailStep) (t : Tailed) (last epoch first : ℕ) (w : WriterView) (o : Option Holding) (h : Holding) (log : LogView) → IsTailEnd end h t → HasTaken w epoch first
-    → tail_stepped (Some last) end (shown None [] (kept_of w o log)) ≡ shown None (entry_texts epoch first t) (kept_of (entry_writer t w) (Some (entry_held first t h)) log)
+    → tail_stepped (Some last) end (as_actor None [] (kept_of w o log)) ≡ as_actor None (entry_texts epoch first t) (kept_of (entry_writer t w) (Some (entry_held first t h)) log)
 unfolding tail_stepped tail_ended entry_text
 entry_shown end (tailed.Caught txid) last epoch first w o h log is taken =
-    ap (λ (x : TailStep). tail_stepped (Some last) x (shown None [] (kept_of w o log))) is.0
-    ∙ ap (λ (p : ℕ). shown None (word (codes "takeover behind") p ∷ []) (kept_of (writer_stopped w) (Some h) log)) (sym is.1)
+    ap (λ (x : TailStep). tail_stepped (Some last) x (as_actor None [] (kept_of w o log))) is.0
+    ∙ ap (λ (p : ℕ). as_actor None (word (codes "takeover behind") p ∷ []) (kept_of (writer_stopped w) (Some h) log)) (sym is.1)
 entry_shown end (tailed.Reached txid) last epoch first w o h log is taken =
-    ap (λ (x : TailStep). tail_stepped (Some last) x (shown None [] (kept_of w o log))) is.0
-    ∙ ap (λ (s : ℕ). shown None (took w.epoch s ∷ []) (kept_of w (Some (at_position s h)) log)) (sym taken.same_start)
-    ∙ ap (λ (e : ℕ). shown None (took e first ∷ []) (kept_of w (Some (at_position first h)) log)) (sym taken.same_epoch)
+    ap (λ (x : TailStep). tail_stepped (Some last) x (as_actor None [] (kept_of w o log))) is.0
+    ∙ ap (λ (s : ℕ). as_actor None (took w.epoch s ∷ []) (kept_of w (Some (at_position s h)) log)) (sym taken.same_start)
+    ∙ ap (λ (e : ℕ). as_actor None (took e first ∷ []) (kept_of w (Some (at_position first h)) log)) (sym taken.same_epoch)
 entry_shown end (tailed.Behind txid causes) last epoch first w o h log is taken =
-    ap (λ (x : TailStep). tail_stepped (Some last) x (shown None [] (kept_of w o log))) is.0
-    ∙ ap (λ (p : ℕ). shown None ((word (codes "takeover behind") p ++ cause_words causes) ∷ []) (kept_of (writer_stopped w) (Some h) log)) (sym is.1)
-entry_shown end (tailed.Purged least) last epoch first w o h log is taken = ap (λ (x : TailStep). tail_stepped (Some last) x (shown None [] (kept_of w o log))) is
-entry_shown end (tailed.BadEntry txid) last epoch first w o h log is taken = ap (λ (x : TailStep). tail_stepped (Some last) x (shown None [] (kept_of w o log))) is.0
+    ap (λ (x : TailStep). tail_stepped (Some last) x (as_actor None [] (kept_of w o log))) is.0
+    ∙ ap (λ (p : ℕ). as_actor None ((word (codes "takeover behind") p ++ cause_words causes) ∷ []) (kept_of (writer_stopped w) (Some h) log)) (sym is.1)
+entry_shown end (tailed.Purged least) last epoch first w o h log is taken = ap (λ (x : TailStep). tail_stepped (Some last) x (as_actor None [] (kept_of w o log))) is
+entry_shown end (tailed.BadEntry txid) last epoch first w o h log is taken = ap (λ (x : TailStep). tail_stepped (Some last) x (as_actor None [] (kept_of w o log))) is.0
 entry_shown end tailed.OutOfMemory last epoch first w o h log is taken = absurd is
 
 stopped_ready : (n : ℕ) (w : WriterView) → IsReady n w → IsReady n (writer_stopped w)
@@ -289,18 +289,18 @@ module _ (n epoch first last : ℕ) (w w' : WriterView) (h h1 h2 h3 : Holding) (
     (writer : w' ≡ entry_writer t w) (holding : h3 ≡ entry_held first t h2) (opened : active ≡ entry_opens t) where
   pub entry_rests : (new : LogView) (texts : List (List ℕ)) → 1 ≤ n → IsReady n w → next_call w ≡ None → last ≡ first - 1 → h1 ≡ enters last h → TailGoes n (Some last) h1 log h2 mid t
       → texts ≡ entry_texts epoch first t → IsSaid mid new texts
-      → ComesToRest n (tail_stepped (Some (first - 1)) (pass_begun (Some (first - 1)) (enters (first - 1) h)) (shown None [] (kept_of w (Some h) log))) (kept_of w' (Some h3) new)
+      → ComesToRest n (tail_stepped (Some (first - 1)) (pass_begun (Some (first - 1)) (enters (first - 1) h)) (as_actor None [] (kept_of w (Some h) log))) (kept_of w' (Some h3) new)
   entry_rests new texts some ready over at begins g are said =
       let both = entry_ready (entry_opens t) n w ready over in
-      let led : LedTo (tail_stepped (Some last) (pass_begun (Some last) (enters last h)) (shown None [] (kept_of w (Some h) log))) (tail_stepped (Some last) g.end (shown None [] (kept_of w (Some h) mid))) =
-      subst (λ (x : Holding). LedTo (tail_stepped (Some last) (pass_begun (Some last) x) (shown None [] (kept_of w (Some h) log))) (tail_stepped (Some last) g.end (shown None [] (kept_of w (Some h) mid)))) begins
+      let led : LedTo (tail_stepped (Some last) (pass_begun (Some last) (enters last h)) (as_actor None [] (kept_of w (Some h) log))) (tail_stepped (Some last) g.end (as_actor None [] (kept_of w (Some h) mid))) =
+      subst (λ (x : Holding). LedTo (tail_stepped (Some last) (pass_begun (Some last) x) (as_actor None [] (kept_of w (Some h) log))) (tail_stepped (Some last) g.end (as_actor None [] (kept_of w (Some h) mid)))) begins
       (g.leads w (Some h) ready.sized.left) in
-      let ends : tail_stepped (Some last) g.end (shown None [] (kept_of w (Some h) mid)) ≡ shown None texts (kept_of w' (Some h3) mid) =
+      let ends : tail_stepped (Some last) g.end (as_actor None [] (kept_of w (Some h) mid)) ≡ as_actor None texts (kept_of w' (Some h3) mid) =
       entry_shown g.end t last epoch first w (Some h) h2 mid g.is taken
-      ∙ ap (λ (l : List (List ℕ)). shown None l (kept_of (entry_writer t w) (Some (entry_held first t h2)) mid)) (sym are)
-      ∙ ap (λ (x : WriterView). shown None texts (kept_of x (Some (entry_held first t h2)) mid)) (sym writer)
-      ∙ ap (λ (x : Holding). shown None texts (kept_of w' (Some x) mid)) (sym holding) in
-      subst (λ (k : ℕ). ComesToRest n (tail_stepped (Some k) (pass_begun (Some k) (enters k h)) (shown None [] (kept_of w (Some h) log))) (kept_of w' (Some h3) new)) at
+      ∙ ap (λ (l : List (List ℕ)). as_actor None l (kept_of (entry_writer t w) (Some (entry_held first t h2)) mid)) (sym are)
+      ∙ ap (λ (x : WriterView). as_actor None texts (kept_of x (Some (entry_held first t h2)) mid)) (sym writer)
+      ∙ ap (λ (x : Holding). as_actor None texts (kept_of w' (Some x) mid)) (sym holding) in
+      subst (λ (k : ℕ). ComesToRest n (tail_stepped (Some k) (pass_begun (Some k) (enters k h)) (as_actor None [] (kept_of w (Some h) log))) (kept_of w' (Some h3) new)) at
       (at_rest n _ w' h3 mid new texts some (subst (λ (x : WriterView). IsReady n x) (sym writer) both.0) (ap next_call writer ∙ both.1)
       (subst (λ (x : Holding). IsIdleHolding (Some x)) (sym holding) (entry_idle t first h2 work)) (led_on _ _ _ led (led_same _ _ ends)) said)
 

@@ -7,7 +7,7 @@ use Rattle.writer_core.specs.declared.turn.Turn.{Turn}
 use Rattle.writer_core.specs.declared.turn.Turn.TheVariants as turn
 use Rattle.writer_core.specs.declared.turn.Outcome.{Outcome}
 use Rattle.writer_core.specs.declared.turn.Outcome.TheVariants as outcome
-use Rattle.script_actor.specs.Results.{word, cause_word, cause_words, for_each, acked_from, acked, done_results, results_of, name_of, inactive_results, too_long_results}
+use Rattle.script_actor.specs.Results.{word, cause_word, cause_words, for_each, acked_from, acknowledged_results, outcome_results, results_of, name_of, inactive_results, too_long_results}
 use Rattle.script_actor.specs.ResultLists.{acked_texts, behind_text, aborted_text, edits_of, times, acked_for, done_texts, texts_of, IsFew, AreFew}
 
 pub not_empty : (xs : List ℕ) (y : ℕ) (ys : List ℕ) → xs ++ y ∷ ys ≢ []
@@ -24,9 +24,9 @@ pub some_aborted : (name : List ℕ) (causes : List Cause) → aborted_text name
 some_aborted [] causes e = cc
 some_aborted (x ∷ xs) causes e = cc
 
-pub some_behind : (name : List ℕ) (txid : ℕ) (causes : List Cause) → behind_text name txid causes ≢ []
-some_behind [] txid causes e = cc
-some_behind (x ∷ xs) txid causes e = cc
+pub some_after : (name : List ℕ) (txid : ℕ) (causes : List Cause) → behind_text name txid causes ≢ []
+some_after [] txid causes e = cc
+some_after (x ∷ xs) txid causes e = cc
 
 acked_from_more : (first n : ℕ) → acked_texts first (suc n) ≡ acked_texts first n ++ word (codes "acked") (first + n) ∷ []
 acked_from_more first zero = let e : first ≡ first + 0 = omega arith in ap (λ k. word (codes "acked") k ∷ []) e
@@ -67,16 +67,16 @@ unfolding acked_from
 acked_count first [] = refl
 acked_count first (b ∷ bs) = ap (λ xs. word (codes "acked") first ∷ xs) (acked_count (first + 1) bs)
 
-acked_is : (t : Task) (first : ℕ) → acked first t ≡ acked_for (edits_of t) first
-unfolding acked
+acked_is : (t : Task) (first : ℕ) → acknowledged_results first t ≡ acked_for (edits_of t) first
+unfolding acknowledged_results
 acked_is (task.Log bodies) first = acked_count first bodies
 acked_is task.Takeover first = refl
 acked_is task.Roll first = refl
 acked_is task.Close first = refl
 acked_is (task.Purge min) first = refl
 
-done_is : (t : Task) (o : Outcome) → done_results t o ≡ done_texts (edits_of t) o
-unfolding done_results
+done_is : (t : Task) (o : Outcome) → outcome_results t o ≡ done_texts (edits_of t) o
+unfolding outcome_results
 done_is t (outcome.Takeover epoch first) = refl
 done_is t (outcome.Log first last) = acked_is t first
 done_is t (outcome.Roll start) = refl

@@ -28,17 +28,17 @@ use Rattle.active_name.specs.declared.submitted.Submitted.TheVariants as answer
 use Rattle.active_name.specs.Pendings.{PendingView, none_pending, submission, PendsFrom, PendsAt, IsDue, IsOneMore, IsPended}
 use Rattle.active_name.proofs.WriterEnds.{outcome_of, log_last}
 use Rattle.active_name.proofs.ActiveLaws.{log_going}
-use Rattle.name_node.specs.Submissions.{Due, Submission, submitted_one, unless_long, unless_refused, submitted, nothing_submitted}
-use Rattle.name_node.specs.Holding.{Holding, Work, Free, Logs, working, reloaded}
+use Rattle.name_node.specs.Submissions.{Due, Submission, submitted_one, unless_long, unless_refused, submit_edits, nothing_submitted}
+use Rattle.name_node.specs.Holding.{Holding, Work, Free, Logs, with_work, reload_image}
 use Rattle.standby_tailer.specs.Standbys.{StandbyView, empty_standby, held}
 use Rattle.caller_seats.specs.Logs.{LogView}
 use Rattle.script_actor.specs.Lines.{Submits}
 use Rattle.script_actor.specs.Results.{cause_words, dues_logged, dues_aborted, abort_text}
-use Rattle.script_actor.specs.Actor.{Actor, is_broken_work, deed_taken, held_deed, logged_when, synced, sync_begun, logs_done, task_done, held_turn, turn_with, turn_taken}
-use Rattle.script_actor.specs.KeptActor.{KeptActor, shown, resting}
+use Rattle.script_actor.specs.Actor.{Actor, is_broken_work, take_action, take_named_action, logged_when, after_sync, begin_sync, logs_done, task_done, held_turn, turn_with, turn_taken}
+use Rattle.script_actor.specs.KeptActor.{KeptActor, as_actor, resting}
 use Rattle.script_actor.specs.Ready.{IsReady, is_going}
 use Rattle.script_actor.specs.Went.{HasGone, opens}
-use Rattle.script_actor.specs.Deeds.{kept_of, GoesFar, IsIdleActor, TakesDeed, ComesToRest}
+use Rattle.script_actor.specs.Actions.{kept_of, GoesFar, IsIdleActor, TakesAction, ComesToRest}
 use Rattle.script_actor.specs.Named.{Stands}
 use Rattle.script_actor.specs.declared.edit_due.EditDue.{EditDue}
 use Rattle.script_actor.specs.Submitting.{AreSubmitted, due_of, dues_of, log_texts, MayHold, log_held}
@@ -71,8 +71,8 @@ none_taken [] = refl
 none_taken (e ∷ es) = refl
 
 pub none_submitted : (room next : ℕ) (old : PendingView) (es : List EditView) → PendsFrom next old → AreSubmitted room next old (take 0 es) old []
-unfolding submitted
-none_submitted room next old es from = record { from = from; at = λ w h. h; submitted = λ w h. ap (λ (x : List EditView). submitted w x (submission [] old)) (none_taken es) }
+unfolding submit_edits
+none_submitted room next old es from = record { from = from; at = λ w h. h; submitted = λ w h. ap (λ (x : List EditView). submit_edits w x (submission [] old)) (none_taken es) }
 
 pub submitted_on : (room next : ℕ) (first old new : PendingView) (es : List EditView) (i : ℕ) (e : EditView) (a : Submitted) (dues now : List Due) (d : Due) → i < length es
     → AreSubmitted room next first (take i es) old dues → PendsFrom next new → ((w : WriterView) → PendsAt w room next old → IsPended w old (get_or es i e) new a)
@@ -85,7 +85,7 @@ submitted_on room next first old new es i e a dues now d l h from pended at due 
       let one : IsOneMore w old (get_or es i e) new a = one_more w old (get_or es i e) new next a d (pended w q) due in
       let theirs : IsDue next a one.due = subst (λ (n : ℕ). IsDue n a one.due) (sym q.is_next) one.is in
       let same : one.due ≡ d = one_due next a one.due d theirs due in
-      ap (λ (x : List EditView). submitted w x (submission [] first)) (take_more es i e l)
+      ap (λ (x : List EditView). submit_edits w x (submission [] first)) (take_more es i e l)
       ∙ submitted_more w (take i es) (get_or es i e) (submission [] first)
       ∙ ap (submitted_one w (get_or es i e)) (h.submitted w p)
       ∙ one.submitted dues
@@ -125,14 +125,14 @@ one_same w e s x h =
     refused_same s w.next (admit_of x.ahead e) (unless_long (log_limit w (x.bodies ++ record_of e ∷ [])) (w.next + length x.bodies) e x) x
     (long_same s (log_limit w (x.bodies ++ record_of e ∷ [])) (w.next + length x.bodies) e x h) h
 
-all_same : (w : WriterView) (es : List EditView) (s : Space) (x : Submission) → SameIf s x → SameIf s (submitted w es x)
-unfolding submitted
+all_same : (w : WriterView) (es : List EditView) (s : Space) (x : Submission) → SameIf s x → SameIf s (submit_edits w es x)
+unfolding submit_edits
 all_same w [] s x h = h
 all_same w (e ∷ es) s x h = all_same w es s (submitted_one w e x) (one_same w e s x h)
 
--- ## The deed
-submits_taken : (es : List EditView) (w : WriterView) (h : Holding) (log : LogView) → deed_taken (Submits es) (resting (kept_of w (Some h) log)) ≡ logged_when (is_writing w.phase) es h (resting (kept_of w (Some h) log))
-unfolding deed_taken held_deed
+-- ## The action
+submits_taken : (es : List EditView) (w : WriterView) (h : Holding) (log : LogView) → take_action (Submits es) (resting (kept_of w (Some h) log)) ≡ logged_when (is_writing w.phase) es h (resting (kept_of w (Some h) log))
+unfolding take_action take_named_action
 submits_taken es w h log = refl
 
 all_inactive : (es : List EditView) → map (λ e. codes "inactive") es ≡ replicate (length es) (codes "inactive")
@@ -140,7 +140,7 @@ all_inactive [] = refl
 all_inactive (e ∷ es) = ap (λ (x : List (List ℕ)). codes "inactive" ∷ x) (all_inactive es)
 
 pub submits_inactive : (n : ℕ) (es : List EditView) (w : WriterView) (h : Holding) (active : Bool) (old new : LogView) (count : ℕ) (text : List ℕ) (texts : List (List ℕ)) → IsIdleActor n (kept_of w (Some h) old) → h.work ≡ Free
-    → Stands w h active → active ≡ false → count ≡ length es → text ≡ codes "inactive" → texts ≡ replicate count text → IsSaid old new texts → TakesDeed n (Submits es) (kept_of w (Some h) old) (kept_of w (Some h) new)
+    → Stands w h active → active ≡ false → count ≡ length es → text ≡ codes "inactive" → texts ≡ replicate count text → IsSaid old new texts → TakesAction n (Submits es) (kept_of w (Some h) old) (kept_of w (Some h) new)
 unfolding logged_when
 submits_inactive n es w h active old new count text texts idle free stands o c t are said =
     let all : map (λ e. codes "inactive") es ≡ texts = all_inactive es ∙ ap (λ (k : ℕ). replicate k (codes "inactive")) (sym c) ∙ ap (λ (x : List ℕ). replicate count x) (sym t) ∙ sym are in
@@ -148,30 +148,30 @@ submits_inactive n es w h active old new count text texts idle free stands o c t
     (free_rest n w h old (Submits es) idle free
     ∙ ap (λ (x : Actor). record x { todo = [] }) (submits_taken es w h old)
     ∙ ap (λ (b : Bool). record (logged_when b es h (resting (kept_of w (Some h) old))) { todo = [] }) (sym stands.is_open ∙ o)
-    ∙ ap (λ (l : List (List ℕ)). shown None l (kept_of w (Some h) old)) all)
+    ∙ ap (λ (l : List (List ℕ)). as_actor None l (kept_of w (Some h) old)) all)
     said
 
-logged_todo : (es : List EditView) (h : Holding) (k : KeptActor) (x : Submission) → submitted k.writer es (nothing_submitted h.space) ≡ x → record (synced x.bodies x h (resting k)) { todo = [] } ≡ synced x.bodies x h (resting k)
+logged_todo : (es : List EditView) (h : Holding) (k : KeptActor) (x : Submission) → submit_edits k.writer es (nothing_submitted h.space) ≡ x → record (after_sync x.bodies x h (resting k)) { todo = [] } ≡ after_sync x.bodies x h (resting k)
 logged_todo es h k x e = by x.bodies
   where
-    begin : (b : Begun) → record (sync_begun b (writer_begun k.writer (task.Log x.bodies)).writer x h (resting k)) { todo = [] } ≡ sync_begun b (writer_begun k.writer (task.Log x.bodies)).writer x h (resting k)
+    begin : (b : Begun) → record (begin_sync b (writer_begun k.writer (task.Log x.bodies)).writer x h (resting k)) { todo = [] } ≡ begin_sync b (writer_begun k.writer (task.Log x.bodies)).writer x h (resting k)
     begin begun.Going = refl
     begin begun.NotActive = refl
     begin (begun.TooLong number) = refl
 
-    by : (bodies : List (List ℕ)) → record (synced bodies x h (resting k)) { todo = [] } ≡ synced bodies x h (resting k)
+    by : (bodies : List (List ℕ)) → record (after_sync bodies x h (resting k)) { todo = [] } ≡ after_sync bodies x h (resting k)
     by [] = refl
     by (b ∷ bs) = begin (writer_begun k.writer (task.Log x.bodies)).begun
 
 pub submits_takes : (n : ℕ) (es : List EditView) (w v : WriterView) (h h' : Holding) (active : Bool) (old new : LogView) → IsIdleActor n (kept_of w (Some h) old) → h.work ≡ Free → Stands w h active → active ≡ true
-    → ComesToRest n (logged_when true es h (resting (kept_of w (Some h) old))) (kept_of v (Some h') new) → TakesDeed n (Submits es) (kept_of w (Some h) old) (kept_of v (Some h') new)
+    → ComesToRest n (logged_when true es h (resting (kept_of w (Some h) old))) (kept_of v (Some h') new) → TakesAction n (Submits es) (kept_of w (Some h) old) (kept_of v (Some h') new)
 unfolding logged_when
 submits_takes n es w v h h' active old new idle free stands o rests =
     taken_from n w v h h' old new (Submits es) (logged_when true es h (resting (kept_of w (Some h) old)))
     (free_rest n w h old (Submits es) idle free
     ∙ ap (λ (x : Actor). record x { todo = [] }) (submits_taken es w h old)
     ∙ ap (λ (b : Bool). record (logged_when b es h (resting (kept_of w (Some h) old))) { todo = [] }) (sym stands.is_open ∙ o)
-    ∙ logged_todo es h (kept_of w (Some h) old) (submitted w es (nothing_submitted h.space)) refl)
+    ∙ logged_todo es h (kept_of w (Some h) old) (submit_edits w es (nothing_submitted h.space)) refl)
     rests
 
 -- ## What was submitted
@@ -184,30 +184,23 @@ pends_at w h room next writing free stands r n = record {
   fits = λ some. absurd (some refl);
 }
 
-pub pends_from : (space : Space) (position next : ℕ) → position ≤ max_number → AreRising 0 position space.calls → next ≡ position + 1 → PendsFrom next (none_pending space)
-pends_from space position next within rising e = record {
-  some = omega (arith, e);
-  within = omega (arith, e, within);
-  calls = let same : position ≡ next - 1 + 0 = omega (arith, e) in subst (λ (k : ℕ). AreRising 0 k space.calls) same rising;
-}
-
 -- nothing is to be logged
-synced_none : (bodies : List (List ℕ)) (x : Submission) (h : Holding) (k : KeptActor) → bodies ≡ [] → k.holds ≡ Some h → synced bodies x h (resting k) ≡ shown None (dues_logged 0 x.dues) k
+synced_none : (bodies : List (List ℕ)) (x : Submission) (h : Holding) (k : KeptActor) → bodies ≡ [] → k.holds ≡ Some h → after_sync bodies x h (resting k) ≡ as_actor None (dues_logged 0 x.dues) k
 synced_none [] x h k e o = refl
 synced_none (b ∷ bs) x h k e o = absurd (cc e)
 
 -- and else the log begins
 synced_some : (bodies : List (List ℕ)) (x : Submission) (h : Holding) (w : WriterView) (log : LogView) → bodies ≢ [] → (writer_begun w (task.Log x.bodies)).begun ≡ begun.Going
-    → synced bodies x h (resting (kept_of w (Some h) log))
-    ≡ shown (Some (task.Log x.bodies)) [] (kept_of (writer_begun w (task.Log x.bodies)).writer (Some (working (Logs x.ahead x.dues) h)) log)
+    → after_sync bodies x h (resting (kept_of w (Some h) log))
+    ≡ as_actor (Some (task.Log x.bodies)) [] (kept_of (writer_begun w (task.Log x.bodies)).writer (Some (with_work (Logs x.ahead x.dues) h)) log)
 synced_some [] x h w log some e = absurd (some refl)
-synced_some (b ∷ bs) x h w log some e = ap (λ (g : Begun). sync_begun g (writer_begun w (task.Log x.bodies)).writer x h (resting (kept_of w (Some h) log))) e
+synced_some (b ∷ bs) x h w log some e = ap (λ (g : Begun). begin_sync g (writer_begun w (task.Log x.bodies)).writer x h (resting (kept_of w (Some h) log))) e
 
 module _ (n room next : ℕ) (es : List EditView) (w : WriterView) (h : Holding) (old : LogView) (p : PendingView) (dues : List Due) (idle : IsIdleActor n (kept_of w (Some h) old)) (free : h.work ≡ Free)
     (at : PendsAt w room next (none_pending h.space)) (are : AreSubmitted room next (none_pending h.space) es p dues) where
-  logs_from : logged_when true es h (resting (kept_of w (Some h) old)) ≡ synced p.bodies (submission dues p) h (resting (kept_of w (Some h) old))
+  logs_from : logged_when true es h (resting (kept_of w (Some h) old)) ≡ after_sync p.bodies (submission dues p) h (resting (kept_of w (Some h) old))
   unfolding logged_when
-  logs_from = ap (λ (x : Submission). synced x.bodies x h (resting (kept_of w (Some h) old))) (are.submitted w at)
+  logs_from = ap (λ (x : Submission). after_sync x.bodies x h (resting (kept_of w (Some h) old))) (are.submitted w at)
 
   pub none_rests : (h' : Holding) (new : LogView) (texts : List (List ℕ)) → p.bodies ≡ [] → h' ≡ held h.images (record { space = p.ahead; position = h.position }) → texts ≡ dues_logged 0 dues → IsSaid old new texts
       → ComesToRest n (logged_when true es h (resting (kept_of w (Some h) old))) (kept_of w (Some h') new) × (h' ≡ h)
@@ -216,26 +209,26 @@ module _ (n room next : ℕ) (es : List EditView) (w : WriterView) (h : Holding)
       let same : h' ≡ h =
       is ∙ ap (λ (s : Space). held h.images (record { space = s; position = h.position })) ahead
       ∙ ap (λ (x : Work). record h { work = x }) (sym free) in
-      let led : logged_when true es h (resting (kept_of w (Some h) old)) ≡ shown None texts (kept_of w (Some h') old) =
+      let led : logged_when true es h (resting (kept_of w (Some h) old)) ≡ as_actor None texts (kept_of w (Some h') old) =
       logs_from ∙ synced_none p.bodies (submission dues p) h (kept_of w (Some h) old) none refl
-      ∙ ap (λ (l : List (List ℕ)). shown None l (kept_of w (Some h) old)) (sym t)
-      ∙ ap (λ (x : Holding). shown None texts (kept_of w (Some x) old)) (sym same) in (
+      ∙ ap (λ (l : List (List ℕ)). as_actor None l (kept_of w (Some h) old)) (sym t)
+      ∙ ap (λ (x : Holding). as_actor None texts (kept_of w (Some x) old)) (sym same) in (
         at_rest n _ w h' old new texts idle.some idle.ready idle.rests (free_idle h' (ap (λ (x : Holding). x.work) same ∙ free)) (led_same _ _ led) said,
         same,
       )
     where
-      all_ahead : submitted w es (nothing_submitted h.space) ≡ submission dues p → p.ahead ≡ h.space
+      all_ahead : submit_edits w es (nothing_submitted h.space) ≡ submission dues p → p.ahead ≡ h.space
       all_ahead e =
-          let all : SameIf h.space (submitted w es (nothing_submitted h.space)) = all_same w es h.space (nothing_submitted h.space) (λ x. refl) in
+          let all : SameIf h.space (submit_edits w es (nothing_submitted h.space)) = all_same w es h.space (nothing_submitted h.space) (λ x. refl) in
           let mine : SameIf h.space (submission dues p) = subst (λ (x : Submission). SameIf h.space x) e all in
           mine none
 
   pub some_from : (v : WriterView) (h' : Holding) (new : LogView) → p.bodies ≢ []
-      → ((standby : StandbyView) → ComesToRest n (shown (Some (task.Log p.bodies)) [] (kept_of (writer_begun w (task.Log p.bodies)).writer (Some (working (Logs p.ahead dues) (held h.images standby))) old)) (kept_of v (Some h') new))
+      → ((standby : StandbyView) → ComesToRest n (as_actor (Some (task.Log p.bodies)) [] (kept_of (writer_begun w (task.Log p.bodies)).writer (Some (with_work (Logs p.ahead dues) (held h.images standby))) old)) (kept_of v (Some h') new))
       → ComesToRest n (logged_when true es h (resting (kept_of w (Some h) old))) (kept_of v (Some h') new)
   some_from v h' new some rests =
       let fits : log_limit w p.bodies ≡ None = (are.at w at).fits some in
-      let e : logged_when true es h (resting (kept_of w (Some h) old)) ≡ shown (Some (task.Log p.bodies)) [] (kept_of (writer_begun w (task.Log p.bodies)).writer (Some (working (Logs p.ahead dues) h)) old) =
+      let e : logged_when true es h (resting (kept_of w (Some h) old)) ≡ as_actor (Some (task.Log p.bodies)) [] (kept_of (writer_begun w (task.Log p.bodies)).writer (Some (with_work (Logs p.ahead dues) h)) old) =
       logs_from ∙ synced_some p.bodies (submission dues p) h w old some (log_going w p.bodies at.writing fits) in
       subst (λ (x : Actor). ComesToRest n x (kept_of v (Some h') new)) (sym e) (rests (record { space = h.space; position = h.position }))
 
@@ -246,14 +239,14 @@ module _ (n room next : ℕ) (es : List EditView) (w : WriterView) (h : Holding)
   submitted_calls = subst (λ (k : ℕ). AreRising 0 (k - 1 + length p.bodies) p.ahead.calls) at.is_next are.from.calls
 
 -- ## The log
-reloaded_same : (images : List Image) (s : StandbyView) (ahead : Space) (dues : List Due) → reloaded (working (Logs ahead dues) (held images s)) ≡ reloaded (held images empty_standby)
-unfolding reloaded
+reloaded_same : (images : List Image) (s : StandbyView) (ahead : Space) (dues : List Due) → reload_image (with_work (Logs ahead dues) (held images s)) ≡ reload_image (held images empty_standby)
+unfolding reload_image
 reloaded_same [] s ahead dues = refl
 reloaded_same (i ∷ is) s ahead dues = refl
 
 log_ended : (bodies : List (List ℕ)) (u : Turn) (x : WriterView) (ahead : Space) (dues : List Due) (images : List Image) (s : StandbyView) (log : LogView) → is_going u ≡ false → IsTurnOf aim.Log x.phase u
-    → turn_taken u (Some (task.Log bodies)) (shown (Some (task.Log bodies)) [] (kept_of x (Some (working (Logs ahead dues) (held images s))) log))
-    ≡ shown None (log_texts dues u x.causes) (kept_of x (Some (log_held ahead images u)) log)
+    → turn_taken u (Some (task.Log bodies)) (as_actor (Some (task.Log bodies)) [] (kept_of x (Some (with_work (Logs ahead dues) (held images s))) log))
+    ≡ as_actor None (log_texts dues u x.causes) (kept_of x (Some (log_held ahead images u)) log)
 unfolding turn_taken turn_with held_turn task_done logs_done abort_text
 log_ended bodies turn.Going x ahead dues images s log over own = absurd (cc over)
 log_ended bodies (turn.Done (outcome.Log first last)) x ahead dues images s log over own = refl
@@ -262,7 +255,7 @@ log_ended bodies (turn.Done (outcome.Roll start)) x ahead dues images s log over
 log_ended bodies (turn.Done (outcome.Close last)) x ahead dues images s log over own = absurd own.0
 log_ended bodies (turn.Done outcome.Purge) x ahead dues images s log over own = absurd own.0
 log_ended bodies turn.Aborted x ahead dues images s log over own =
-    ap (λ (y : Holding). shown None (dues_aborted (codes "aborted" ++ cause_words x.causes) dues) (kept_of x (Some y) log)) (reloaded_same images s ahead dues)
+    ap (λ (y : Holding). as_actor None (dues_aborted (codes "aborted" ++ cause_words x.causes) dues) (kept_of x (Some y) log)) (reloaded_same images s ahead dues)
 log_ended bodies (turn.EpochLimit told) x ahead dues images s log over own = absurd (no own.0)
   where
     no : aim.Log ≡ aim.Takeover → ⊥
@@ -290,15 +283,15 @@ module _ (n : ℕ) (w v x : WriterView) (bodies : List (List ℕ)) (ahead : Spac
   log_own = own_turn w x (task.Log bodies) u live none (log_going w bodies writing fits) log_gone
 
   pub log_rests : (h' : Holding) (new : LogView) (texts : List (List ℕ)) → 1 ≤ n → texts ≡ log_texts dues u x.causes → h' ≡ log_held ahead images u → IsSaid mid new texts → (s : StandbyView)
-      → ComesToRest n (shown (Some (task.Log bodies)) [] (kept_of (writer_begun w (task.Log bodies)).writer (Some (working (Logs ahead dues) (held images s))) old)) (kept_of x (Some h') new)
+      → ComesToRest n (as_actor (Some (task.Log bodies)) [] (kept_of (writer_begun w (task.Log bodies)).writer (Some (with_work (Logs ahead dues) (held images s))) old)) (kept_of x (Some h') new)
   log_rests h' new texts some are holds said s =
-      let o : Option Holding = Some (working (Logs ahead dues) (held images s)) in
+      let o : Option Holding = Some (with_work (Logs ahead dues) (held images s)) in
       at_rest n _ x h' mid new texts some (far None).ready over (free_idle h' (ap (λ (y : Holding). y.work) holds ∙ log_free ahead images u))
-      (led_on _ (shown (Some (task.Log bodies)) [] (kept_of v o old)) _ (led_same _ _ (ap (λ (y : WriterView). shown (Some (task.Log bodies)) [] (kept_of y o old)) (sym is)))
+      (led_on _ (as_actor (Some (task.Log bodies)) [] (kept_of v o old)) _ (led_same _ _ (ap (λ (y : WriterView). as_actor (Some (task.Log bodies)) [] (kept_of y o old)) (sym is)))
       (led_on _ _ _ ((far o).leads (task.Log bodies) refl)
       (led_same _ _ (log_ended bodies u x ahead dues images s mid log_over log_own
-      ∙ ap (λ (l : List (List ℕ)). shown None l (kept_of x (Some (log_held ahead images u)) mid)) (sym are)
-      ∙ ap (λ (y : Holding). shown None texts (kept_of x (Some y) mid)) (sym holds)))))
+      ∙ ap (λ (l : List (List ℕ)). as_actor None l (kept_of x (Some (log_held ahead images u)) mid)) (sym are)
+      ∙ ap (λ (y : Holding). as_actor None texts (kept_of x (Some y) mid)) (sym holds)))))
       said
 
   log_done : (first last : ℕ) → u ≡ turn.Done (outcome.Log first last) → (x.next ≡ last + 1) × (last ≤ max_number) × (last ≡ w.next + length bodies - 1)
@@ -394,7 +387,7 @@ none_held h h' images s0 s position ahead p e f g k z a =
 -- the log of those that pend, as it was made
 abbrev LogRests : ℕ → WriterView → LogView → Space → List (List ℕ) → List Due → List Image → KeptActor → Type 0
 LogRests n w old ahead bodies dues images k =
-    (standby : StandbyView) → ComesToRest n (shown (Some (task.Log bodies)) [] (kept_of (writer_begun w (task.Log bodies)).writer (Some (working (Logs ahead dues) (held images standby))) old)) k
+    (standby : StandbyView) → ComesToRest n (as_actor (Some (task.Log bodies)) [] (kept_of (writer_begun w (task.Log bodies)).writer (Some (with_work (Logs ahead dues) (held images standby))) old)) k
 
 pub log_same : (n : ℕ) (w : WriterView) (old : LogView) (ahead space : Space) (bodies bs : List (List ℕ)) (dues ds : List Due) (images is : List Image) (k : KeptActor) → ahead ≡ space → bodies ≡ bs → dues ≡ ds → images ≡ is
     → LogRests n w old ahead bodies dues images k → LogRests n w old space bs ds is k

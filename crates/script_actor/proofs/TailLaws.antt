@@ -15,19 +15,19 @@ use Rattle.standby_tailer.specs.declared.step.Step.TheVariants as step
 use Rattle.standby_tailer.specs.declared.tailed.Tailed.{Tailed}
 use Rattle.standby_tailer.specs.declared.tailed.Tailed.TheVariants as tailed
 use Rattle.standby_tailer.specs.Standbys.{StandbyView, held}
-use Rattle.standby_tailer.specs.Tailing.{asking, is_going, IsEnd, IsStep}
+use Rattle.standby_tailer.specs.Tailing.{begin_asking, is_going, IsEnd, IsStep}
 use Rattle.standby_tailer.proofs.StepLaws.{stands_on, stands_end}
-use Rattle.script_actor.specs.Actor.{wants, says_first, copy_first, read_first, Fits, heard_by, moved_on, resettled, settled, goes_on, tail_ended, tail_stepped}
-use Rattle.script_actor.specs.KeptActor.{shown}
-use Rattle.script_actor.specs.Deeds.{kept_of}
+use Rattle.script_actor.specs.Actor.{wants, say_first, copy_first, read_first, Fits, heard_by, moved_on, settle_again, settle, goes_on, tail_ended, tail_stepped}
+use Rattle.script_actor.specs.KeptActor.{as_actor}
+use Rattle.script_actor.specs.Actions.{kept_of}
 use Rattle.script_actor.specs.Holdings.{after_tail, IsTailEnd, LeadsTo, TailGoes, IsOneRead}
 use Rattle.script_actor.proofs.LedLaws.{led_same, led_on, led_one}
 
 -- ## A step
 -- the step says what is held, and nothing is left to be done
 stepped_over : (until : Option ℕ) (s : TailStep) (w : WriterView) (o p : Option Holding) (log : LogView)
-    → resettled (tail_stepped until s (shown None [] (kept_of w p log))) ≡ tail_stepped until s (shown None [] (kept_of w o log))
-unfolding resettled settled tail_stepped tail_ended
+    → settle_again (tail_stepped until s (as_actor None [] (kept_of w p log))) ≡ tail_stepped until s (as_actor None [] (kept_of w o log))
+unfolding settle_again settle tail_stepped tail_ended
 stepped_over until (GoesOn h) w o p log = refl
 stepped_over until (Breaks h) w o p log = refl
 stepped_over None (Ends end h) w o p log = refl
@@ -38,12 +38,12 @@ stepped_over (Some last) (Ends (BehindBy causes) h) w o p log = refl
 
 -- a read, and what is heard of it
 read_led : (nodes : ℕ) (until : Option ℕ) (told : List Heard) (h : Holding) (log : LogView) (t : Told)
-    → LeadsTo nodes until (GoesOn (asking until told h)) log (tail_hears nodes until (length told + 1) told (heard_of t) (asking until told h)) (with_line log (Call (length told + 1) (Read (h.position + 1)) t))
-unfolding wants says_first copy_first read_first Fits goes_on moved_on heard_by tail_stepped
+    → LeadsTo nodes until (GoesOn (begin_asking until told h)) log (tail_hears nodes until (length told + 1) told (heard_of t) (begin_asking until told h)) (with_line log (Call (length told + 1) (Read (h.position + 1)) t))
+unfolding wants say_first copy_first read_first Fits goes_on moved_on heard_by tail_stepped
 read_led nodes until told h log t w o count =
     led_one _ _ (Call (length told + 1) (Read (h.position + 1)) t) (refl, refl)
-    (stepped_over until (tail_hears (length w.left) until (length told + 1) told (heard_of t) (asking until told h)) w o (Some (asking until told h)) (with_line log (Call (length told + 1) (Read (h.position + 1)) t))
-    ∙ ap (λ (n : ℕ). tail_stepped until (tail_hears n until (length told + 1) told (heard_of t) (asking until told h)) (shown None [] (kept_of w o (with_line log (Call (length told + 1) (Read (h.position + 1)) t))))) count)
+    (stepped_over until (tail_hears (length w.left) until (length told + 1) told (heard_of t) (begin_asking until told h)) w o (Some (begin_asking until told h)) (with_line log (Call (length told + 1) (Read (h.position + 1)) t))
+    ∙ ap (λ (n : ℕ). tail_stepped until (tail_hears n until (length told + 1) told (heard_of t) (begin_asking until told h)) (as_actor None [] (kept_of w o (with_line log (Call (length told + 1) (Read (h.position + 1)) t))))) count)
 
 -- ## The passes
 -- for each list of images it stands at some step
@@ -74,10 +74,10 @@ led_more nodes until begun old mid new told now s s' t u going p one = record {
   marks = ap (λ (l : LogView). l.marks) one.listed ∙ p.marks;
   stands = λ images.
       let x : StandsLed nodes until (begun images) old mid told images s t = p.stands images in
-      let on : LeadsTo nodes until (begun images) old (GoesOn (asking until told (held images s))) mid = subst (λ (y : TailStep). LeadsTo nodes until (begun images) old y mid) (stands_on x.here until told images s t x.is going) x.leads in
-      let hears : TailStep = tail_hears nodes until (length told + 1) told (heard_of one.answer) (asking until told (held images s)) in
-      let more : LeadsTo nodes until (GoesOn (asking until told (held images s))) mid hears new =
-      subst (λ (l : LogView). LeadsTo nodes until (GoesOn (asking until told (held images s))) mid hears l) (sym one.listed) (read_led nodes until told (held images s) mid one.answer) in
+      let on : LeadsTo nodes until (begun images) old (GoesOn (begin_asking until told (held images s))) mid = subst (λ (y : TailStep). LeadsTo nodes until (begun images) old y mid) (stands_on x.here until told images s t x.is going) x.leads in
+      let hears : TailStep = tail_hears nodes until (length told + 1) told (heard_of one.answer) (begin_asking until told (held images s)) in
+      let more : LeadsTo nodes until (GoesOn (begin_asking until told (held images s))) mid hears new =
+      subst (λ (l : LogView). LeadsTo nodes until (GoesOn (begin_asking until told (held images s))) mid hears l) (sym one.listed) (read_led nodes until told (held images s) mid one.answer) in
       record {
         here = hears;
         leads = λ w o count. led_on _ _ _ (on w o count) (more w o count);
@@ -103,9 +103,9 @@ led_end nodes until begun old new told s t end e p images =
 
 -- ## One read of the program
 pub one_read : (nodes : ℕ) (until : Option ℕ) (told now : List Heard) (s s' : StandbyView) (old new : LogView) (t : Step) (heard : Heard) → IsCalled old (length told + 1) (Read (s.position + 1)) heard new
-    → ((images : List Image) → IsStep (tail_hears nodes until (length told + 1) told heard (asking until told (held images s))) until now images s' t) → IsOneRead nodes until told s old now s' new t
+    → ((images : List Image) → IsStep (tail_hears nodes until (length told + 1) told heard (begin_asking until told (held images s))) until now images s' t) → IsOneRead nodes until told s old now s' new t
 one_read nodes until told now s s' old new t heard called is = record {
   answer = called.told;
   listed = called.listed;
-  is = λ images. subst (λ (x : Heard). IsStep (tail_hears nodes until (length told + 1) told x (asking until told (held images s))) until now images s' t) called.hears (is images);
+  is = λ images. subst (λ (x : Heard). IsStep (tail_hears nodes until (length told + 1) told x (begin_asking until told (held images s))) until now images s' t) called.hears (is images);
 }

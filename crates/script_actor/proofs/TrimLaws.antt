@@ -9,19 +9,19 @@ use Rattle.writer_core.specs.declared.turn.Turn.TheVariants as turn
 use Rattle.writer_core.specs.declared.turn.Outcome.TheVariants as outcome
 use Rattle.writer_core.specs.Views.{WriterView}
 use Rattle.writer_core.specs.Turns.{IsTurnOf}
-use Rattle.writer_core.specs.Rounds.{asking_all}
+use Rattle.writer_core.specs.Rounds.{asks_all}
 use Rattle.writer_core.specs.Writer.{begins, if_writing, is_writing, next_call, writer_begun}
 use Rattle.active_name.proofs.WriterEnds.{purge_next}
-use Rattle.name_node.specs.Holding.{Holding, Work, Free, reloaded, min_to_keep}
+use Rattle.name_node.specs.Holding.{Holding, Work, Free, reload_image, min_to_keep}
 use Rattle.caller_seats.specs.Logs.{LogView}
 use Rattle.script_actor.specs.Lines.{Trims}
 use Rattle.script_actor.specs.Results.{abort_text}
 use Rattle.script_actor.specs.ResultLists.{trim_texts}
-use Rattle.script_actor.specs.Actor.{Actor, is_broken_work, aborted_texts, handed, deed_taken, held_deed, trim_at, task_done, held_turn, turn_with, turn_taken}
-use Rattle.script_actor.specs.KeptActor.{KeptActor, shown, resting}
+use Rattle.script_actor.specs.Actor.{Actor, is_broken_work, aborted_texts, hand_action, take_action, take_named_action, trim_at, task_done, held_turn, turn_with, turn_taken}
+use Rattle.script_actor.specs.KeptActor.{KeptActor, as_actor, resting}
 use Rattle.script_actor.specs.Ready.{is_going}
 use Rattle.script_actor.specs.Went.{HasGone, opens}
-use Rattle.script_actor.specs.Deeds.{kept_of, GoesFar, IsIdleActor, TakesDeed, ComesToRest}
+use Rattle.script_actor.specs.Actions.{kept_of, GoesFar, IsIdleActor, TakesAction, ComesToRest}
 use Rattle.script_actor.specs.Named.{Stands, MayMove, held_after}
 use Rattle.script_actor.proofs.LedLaws.{led_same, led_on}
 use Rattle.script_actor.proofs.Stretches.{IsSaid}
@@ -30,13 +30,13 @@ use Rattle.script_actor.proofs.StandbyLaws.{free_rest, taken_from, taken_said}
 use Rattle.mesh.proofs.Chores as chores
 
 trims_taken : (extra : ℕ) (w : WriterView) (h : Holding) (log : LogView)
-    → deed_taken (Trims extra) (resting (kept_of w (Some h) log)) ≡ trim_at (is_writing w.phase) (min_to_keep extra h.images) (resting (kept_of w (Some h) log))
-unfolding deed_taken held_deed
+    → take_action (Trims extra) (resting (kept_of w (Some h) log)) ≡ trim_at (is_writing w.phase) (min_to_keep extra h.images) (resting (kept_of w (Some h) log))
+unfolding take_action take_named_action
 trims_taken extra w h log = refl
 
--- the deed begins so
+-- the action begins so
 begun_at : (n extra : ℕ) (w : WriterView) (h : Holding) (log : LogView) (b : Bool) (min : Option ℕ) → IsIdleActor n (kept_of w (Some h) log) → h.work ≡ Free → is_writing w.phase ≡ b → min ≡ min_to_keep extra h.images
-    → handed (Trims extra) (resting (kept_of w (Some h) log)) ≡ record (trim_at b min (resting (kept_of w (Some h) log))) { todo = [] }
+    → hand_action (Trims extra) (resting (kept_of w (Some h) log)) ≡ record (trim_at b min (resting (kept_of w (Some h) log))) { todo = [] }
 begun_at n extra w h log b min idle free writing least =
     free_rest n w h log (Trims extra) idle free
     ∙ ap (λ (x : Actor). record x { todo = [] }) (trims_taken extra w h log)
@@ -44,25 +44,25 @@ begun_at n extra w h log b min idle free writing least =
     ∙ ap (λ (m : Option ℕ). record (trim_at b m (resting (kept_of w (Some h) log))) { todo = [] }) (sym least)
 
 pub trim_inactive : (n extra : ℕ) (w : WriterView) (h : Holding) (active : Bool) (old new : LogView) (texts : List (List ℕ)) → IsIdleActor n (kept_of w (Some h) old) → h.work ≡ Free → Stands w h active → active ≡ false
-    → texts ≡ codes "trim inactive" ∷ [] → IsSaid old new texts → TakesDeed n (Trims extra) (kept_of w (Some h) old) (kept_of w (Some h) new)
+    → texts ≡ codes "trim inactive" ∷ [] → IsSaid old new texts → TakesAction n (Trims extra) (kept_of w (Some h) old) (kept_of w (Some h) new)
 unfolding trim_at
 trim_inactive n extra w h active old new texts idle free stands o are said =
     taken_said n w h old new (Trims extra) texts idle
-    (begun_at n extra w h old false (min_to_keep extra h.images) idle free (sym stands.is_open ∙ o) refl ∙ ap (λ (l : List (List ℕ)). shown None l (kept_of w (Some h) old)) (sym are)) said
+    (begun_at n extra w h old false (min_to_keep extra h.images) idle free (sym stands.is_open ∙ o) refl ∙ ap (λ (l : List (List ℕ)). as_actor None l (kept_of w (Some h) old)) (sym are)) said
 
 pub trim_noimage : (n extra : ℕ) (w : WriterView) (h : Holding) (active : Bool) (old new : LogView) (texts : List (List ℕ)) → IsIdleActor n (kept_of w (Some h) old) → h.work ≡ Free → Stands w h active → active ≡ true
-    → None ≡ min_to_keep extra h.images → texts ≡ codes "trim noimage" ∷ [] → IsSaid old new texts → TakesDeed n (Trims extra) (kept_of w (Some h) old) (kept_of w (Some h) new)
+    → None ≡ min_to_keep extra h.images → texts ≡ codes "trim noimage" ∷ [] → IsSaid old new texts → TakesAction n (Trims extra) (kept_of w (Some h) old) (kept_of w (Some h) new)
 unfolding trim_at
 trim_noimage n extra w h active old new texts idle free stands o least are said =
     taken_said n w h old new (Trims extra) texts idle
-    (begun_at n extra w h old true None idle free (sym stands.is_open ∙ o) least ∙ ap (λ (l : List (List ℕ)). shown None l (kept_of w (Some h) old)) (sym are)) said
+    (begun_at n extra w h old true None idle free (sym stands.is_open ∙ o) least ∙ ap (λ (l : List (List ℕ)). as_actor None l (kept_of w (Some h) old)) (sym are)) said
 
 trim_todo : (min : ℕ) (k : KeptActor) → record (trim_at true (Some min) (resting k)) { todo = [] } ≡ trim_at true (Some min) (resting k)
 unfolding trim_at
 trim_todo min k = refl
 
 pub trim_takes : (n extra min : ℕ) (w v : WriterView) (h h' : Holding) (active : Bool) (old new : LogView) → IsIdleActor n (kept_of w (Some h) old) → h.work ≡ Free → Stands w h active → active ≡ true
-    → Some min ≡ min_to_keep extra h.images → ComesToRest n (trim_at true (Some min) (resting (kept_of w (Some h) old))) (kept_of v (Some h') new) → TakesDeed n (Trims extra) (kept_of w (Some h) old) (kept_of v (Some h') new)
+    → Some min ≡ min_to_keep extra h.images → ComesToRest n (trim_at true (Some min) (resting (kept_of w (Some h) old))) (kept_of v (Some h') new) → TakesAction n (Trims extra) (kept_of w (Some h) old) (kept_of v (Some h') new)
 trim_takes n extra min w v h h' active old new idle free stands o least rests =
     taken_from n w v h h' old new (Trims extra) (trim_at true (Some min) (resting (kept_of w (Some h) old)))
     (begun_at n extra w h old true (Some min) idle free (sym stands.is_open ∙ o) least ∙ trim_todo min (kept_of w (Some h) old)) rests
@@ -70,15 +70,15 @@ trim_takes n extra min w v h h' active old new idle free stands o least rests =
 -- ## The purge
 pub purge_begins : (w : WriterView) (min : ℕ) → is_writing w.phase ≡ true → (writer_begun w (task.Purge min)).begun ≡ begun.Going
 unfolding writer_begun
-purge_begins w min e = ap (λ (b : Bool). (if_writing b (begins (asking_all (round.Purge min) (record w { aim = aim.Purge }))) w).begun) e
+purge_begins w min e = ap (λ (b : Bool). (if_writing b (begins (asks_all (round.Purge min) (record w { aim = aim.Purge }))) w).begun) e
 
 purge_shown : (min : ℕ) (w v : WriterView) (h : Holding) (log : LogView) → v ≡ (writer_begun w (task.Purge min)).writer
-    → trim_at true (Some min) (resting (kept_of w (Some h) log)) ≡ shown (Some (task.Purge min)) [] (kept_of v (Some h) log)
+    → trim_at true (Some min) (resting (kept_of w (Some h) log)) ≡ as_actor (Some (task.Purge min)) [] (kept_of v (Some h) log)
 unfolding trim_at
-purge_shown min w v h log e = ap (λ (x : WriterView). shown (Some (task.Purge min)) [] (kept_of x (Some h) log)) (sym e)
+purge_shown min w v h log e = ap (λ (x : WriterView). as_actor (Some (task.Purge min)) [] (kept_of x (Some h) log)) (sym e)
 
 purge_ended : (min : ℕ) (u : Turn) (x : WriterView) (h : Holding) (log : LogView) → h.work ≡ Free → is_going u ≡ false → IsTurnOf aim.Purge x.phase u
-    → turn_taken u (Some (task.Purge min)) (shown (Some (task.Purge min)) [] (kept_of x (Some h) log)) ≡ shown None (trim_texts min u x.causes) (kept_of x (Some (held_after u h)) log)
+    → turn_taken u (Some (task.Purge min)) (as_actor (Some (task.Purge min)) [] (kept_of x (Some h) log)) ≡ as_actor None (trim_texts min u x.causes) (kept_of x (Some (held_after u h)) log)
 unfolding turn_taken turn_with held_turn task_done abort_text
 purge_ended min turn.Going x h log free over own = absurd (cc over)
 purge_ended min (turn.Done outcome.Purge) x h log free over own = refl
@@ -86,7 +86,7 @@ purge_ended min (turn.Done (outcome.Takeover epoch first)) x h log free over own
 purge_ended min (turn.Done (outcome.Log first last)) x h log free over own = absurd own.0
 purge_ended min (turn.Done (outcome.Roll start)) x h log free over own = absurd own.0
 purge_ended min (turn.Done (outcome.Close last)) x h log free over own = absurd own.0
-purge_ended min turn.Aborted x h log free over own = ap (λ (y : Work). record (shown None [] (kept_of x (Some (reloaded h)) log)) { says = aborted_texts y (task.Purge min) x.causes }) free
+purge_ended min turn.Aborted x h log free over own = ap (λ (y : Work). record (as_actor None [] (kept_of x (Some (reload_image h)) log)) { says = aborted_texts y (task.Purge min) x.causes }) free
 purge_ended min (turn.EpochLimit told) x h log free over own = refl
 
 module _ (n min : ℕ) (w v x : WriterView) (h : Holding) (old mid : LogView) (u : Turn) (idle : IsIdleActor n (kept_of w (Some h) old)) (writing : is_writing w.phase ≡ true) (free : h.work ≡ Free)
@@ -104,11 +104,11 @@ module _ (n min : ℕ) (w v x : WriterView) (h : Holding) (old mid : LogView) (u
       → ComesToRest n (trim_at true (Some min) (resting (kept_of w (Some h) old))) (kept_of x (Some h') new)
   purge_rests h' new texts are held said =
       at_rest n _ x h' mid new texts idle.some far.ready over (free_idle h' (ap (λ (y : Holding). y.work) held ∙ after_free u h free))
-      (led_on _ (shown (Some (task.Purge min)) [] (kept_of v (Some h) old)) _ (led_same _ _ (purge_shown min w v h old is))
+      (led_on _ (as_actor (Some (task.Purge min)) [] (kept_of v (Some h) old)) _ (led_same _ _ (purge_shown min w v h old is))
       (led_on _ _ _ (far.leads (task.Purge min) (free_no_tail h free))
       (led_same _ _ (purge_ended min u x h mid free purge_over purge_own
-      ∙ ap (λ (l : List (List ℕ)). shown None l (kept_of x (Some (held_after u h)) mid)) (sym are)
-      ∙ ap (λ (y : Holding). shown None texts (kept_of x (Some y) mid)) (sym held)))))
+      ∙ ap (λ (l : List (List ℕ)). as_actor None l (kept_of x (Some (held_after u h)) mid)) (sym are)
+      ∙ ap (λ (y : Holding). as_actor None texts (kept_of x (Some y) mid)) (sym held)))))
       said
 
   pub purge_moves : MayMove h.position u

@@ -22,19 +22,19 @@ use Rattle.writer_core.specs.declared.turn.Turn.TheVariants as turn
 use Rattle.writer_core.specs.Views.{WriterView}
 use Rattle.writer_core.specs.Answers.{is_waiting, has_majority, fits_edits, fits}
 use Rattle.writer_core.specs.Best.{greatest_promise}
-use Rattle.writer_core.specs.Rounds.{Judged, going, stopped, next_serial, proposing, after_state, after_finalize, after_open, after_write, done_in, with_causes, judged_by, judged, taken_out, edits_fetched, not_fetched, fetched, numbers_fit, missed, head_now, batch_from}
-use Rattle.writer_core.specs.Writer.{with_answer, judged_when, heard_in, heard_at, writer_heard, writer_begun, log_begins, log_limit, is_writing, if_writing}
+use Rattle.writer_core.specs.Rounds.{Judgment, keep_going, stops_with, next_serial, begin_propose, after_state, after_finalize, after_open, after_write, after_round, with_causes, judgment_by, judgment, without_answer_of, after_edits, after_no_edits, after_fetch, numbers_fit, left_out_after, head_now, batch_from}
+use Rattle.writer_core.specs.Writer.{with_answer, judgment_when, heard_in, heard_at, writer_heard, writer_begun, log_begins, log_limit, is_writing, if_writing}
 use Rattle.script_actor.specs.ResultLists.{TurnFits, IsFew}
 use Rattle.script_actor.specs.Went.{TellsTaken}
 use Rattle.writer_core.proofs.Judging.{numbers_anyhow}
 
-abbrev Fits : Judged → Type 0
+abbrev Fits : Judgment → Type 0
 Fits j = TurnFits j.turn × TellsTaken j.turn j.writer
 
 state_fits : (told : ℕ) (w : WriterView) → Fits (after_state told w)
 state_fits told w = by_told (nat_lt told max_number)
   where
-    by_told : (b : Bool) → Fits (cond b (going (proposing told w)) (stopped (turn.EpochLimit told) w))
+    by_told : (b : Bool) → Fits (cond b (keep_going (begin_propose told w)) (stops_with (turn.EpochLimit told) w))
     by_told true = (tt, tt)
     by_told false = (tt, tt)
 
@@ -63,7 +63,7 @@ write_fits aim.Purge first last w h = (h, tt)
 second_fits : (a b : ℕ) (ns : List ℕ) → list_all fits (a ∷ b ∷ ns) ≡ true → b ≤ max_number
 second_fits a b ns h = grind (arith, nat_tests)
 
-done_fits : (r : Round) (w : WriterView) → numbers_fit w r ≡ true → Fits (done_in r w)
+done_fits : (r : Round) (w : WriterView) → numbers_fit w r ≡ true → Fits (after_round r w)
 done_fits round.State w n = state_fits (greatest_promise w.slots) w
 done_fits round.Propose w n = (tt, tt)
 done_fits (round.Prepare start) w n = (tt, tt)
@@ -71,27 +71,27 @@ done_fits (round.Fetch node start end bodies) w n = (tt, tt)
 done_fits (round.Accept batch) w n = (tt, tt)
 done_fits (round.Finalize start end) w n = finalize_fits w.aim end (next_serial w)
 done_fits round.Start w n = (tt, tt)
-done_fits round.Open w n = open_fits w.aim (record (next_serial w) { committed = w.start; next = w.start + 1; left = missed round.Open w.slots })
+done_fits round.Open w n = open_fits w.aim (record (next_serial w) { committed = w.start; next = w.start + 1; left = left_out_after round.Open w.slots })
 done_fits (round.Write bodies) w n =
     let last : ℕ = w.next + length bodies - 1 in
-    write_fits w.aim w.next last (record (next_serial w) { committed = last; next = last + 1; left = missed (round.Write bodies) w.slots })
+    write_fits w.aim w.next last (record (next_serial w) { committed = last; next = last + 1; left = left_out_after (round.Write bodies) w.slots })
     (second_fits w.start w.next (last_txid (batch_from w.next bodies) ∷ head_numbers (head_now w)) n)
 done_fits (round.Purge min) w n = (tt, tt)
 
 -- a prepare that is judged again needs no numbers
-prepare_fits : (b : Bool) (start : ℕ) (w : WriterView) → Fits (judged_by b (round.Prepare start) w)
+prepare_fits : (b : Bool) (start : ℕ) (w : WriterView) → Fits (judgment_by b (round.Prepare start) w)
 prepare_fits true start w = (tt, tt)
 prepare_fits false start w = (tt, tt)
 
-edits_fits : (b : Bool) (node start end : ℕ) (bodies : List (List ℕ)) (batch : BatchView) (w : WriterView) → Fits (edits_fetched b node start end bodies batch w)
+edits_fits : (b : Bool) (node start end : ℕ) (bodies : List (List ℕ)) (batch : BatchView) (w : WriterView) → Fits (after_edits b node start end bodies batch w)
 edits_fits true node start end bodies batch w = (tt, tt)
-edits_fits false node start end bodies batch w = prepare_fits (has_majority (round.Prepare start) (taken_out node Silent w).slots) start (taken_out node Silent w)
+edits_fits false node start end bodies batch w = prepare_fits (has_majority (round.Prepare start) (without_answer_of node Silent w).slots) start (without_answer_of node Silent w)
 
-out_fits : (node start : ℕ) (heard : Heard) (w : WriterView) → Fits (not_fetched node start heard w)
-out_fits node start heard w = prepare_fits (has_majority (round.Prepare start) (taken_out node heard w).slots) start (taken_out node heard w)
+out_fits : (node start : ℕ) (heard : Heard) (w : WriterView) → Fits (after_no_edits node start heard w)
+out_fits node start heard w = prepare_fits (has_majority (round.Prepare start) (without_answer_of node heard w).slots) start (without_answer_of node heard w)
 
-reply_fits : (node start end : ℕ) (bodies : List (List ℕ)) (answer : Reply) (w : WriterView) → Fits (fetched node start end bodies (Answer answer) w)
-unfolding fetched
+reply_fits : (node start end : ℕ) (bodies : List (List ℕ)) (answer : Reply) (w : WriterView) → Fits (after_fetch node start end bodies (Answer answer) w)
+unfolding after_fetch
 reply_fits node start end bodies (reply.Edits batch) w =
     edits_fits (numbers_fit w (round.Fetch node start end bodies) && fits_edits (start + length bodies) batch) node start end bodies batch w
 reply_fits node start end bodies reply.Ok w = out_fits node start (Answer reply.Ok) w
@@ -101,22 +101,22 @@ reply_fits node start end bodies (reply.Prepared x y z) w = out_fits node start 
 reply_fits node start end bodies (reply.Segments ls) w = out_fits node start (Answer (reply.Segments ls)) w
 reply_fits node start end bodies (reply.Refused f) w = out_fits node start (Answer (reply.Refused f)) w
 
-fetched_fits : (node start end : ℕ) (bodies : List (List ℕ)) (heard : Heard) (w : WriterView) → Fits (fetched node start end bodies heard w)
-unfolding fetched
+fetched_fits : (node start end : ℕ) (bodies : List (List ℕ)) (heard : Heard) (w : WriterView) → Fits (after_fetch node start end bodies heard w)
+unfolding after_fetch
 fetched_fits node start end bodies (Answer answer) w = reply_fits node start end bodies answer w
 fetched_fits node start end bodies Silent w = out_fits node start Silent w
 
-judged_fits : (a b : Bool) (r : Round) (w : WriterView) → numbers_fit (with_causes r w) r ≡ a → Fits (judged_by (a && b) r w)
+judged_fits : (a b : Bool) (r : Round) (w : WriterView) → numbers_fit (with_causes r w) r ≡ a → Fits (judgment_by (a && b) r w)
 judged_fits true true r w e = done_fits r (with_causes r w) e
 judged_fits true false r w e = (tt, tt)
 judged_fits false b r w e = (tt, tt)
 
-when_fits : (b : Bool) (r : Round) (w : WriterView) → Fits (judged_when b r w)
-unfolding judged
+when_fits : (b : Bool) (r : Round) (w : WriterView) → Fits (judgment_when b r w)
+unfolding judgment
 when_fits true r w = (tt, tt)
 when_fits false r w = judged_fits (numbers_fit w r) (has_majority r w.slots) r w (numbers_anyhow r w)
 
-answer_fits : (r : Round) (w : WriterView) (node : ℕ) (heard : Heard) → Fits (judged_when (list_any is_waiting (with_answer w node heard).slots) r (with_answer w node heard))
+answer_fits : (r : Round) (w : WriterView) (node : ℕ) (heard : Heard) → Fits (judgment_when (list_any is_waiting (with_answer w node heard).slots) r (with_answer w node heard))
 answer_fits r w node heard = when_fits (list_any is_waiting (with_answer w node heard).slots) r (with_answer w node heard)
 
 in_fits : (r : Round) (w : WriterView) (node : ℕ) (heard : Heard) → Fits (heard_in r w node heard)

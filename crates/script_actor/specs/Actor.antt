@@ -15,7 +15,7 @@ use Rattle.writer_core.specs.declared.turn.Outcome.{Outcome}
 use Rattle.writer_core.specs.declared.turn.Outcome.TheVariants as outcome
 use Rattle.writer_core.specs.declared.cause.Cause.{Cause}
 use Rattle.writer_core.specs.Views.{WriterView}
-use Rattle.writer_core.specs.Rounds.{Judged}
+use Rattle.writer_core.specs.Rounds.{Judgment}
 use Rattle.writer_core.specs.Writer.{new_writer, is_writing, writer_begun, next_call, writer_heard, writer_stopped}
 use Rattle.node_history.specs.declared.record.Record.{Record}
 use Rattle.node_history.specs.declared.record.Record.TheVariants.{Call, Late, Operator, Outcome as Result}
@@ -23,17 +23,17 @@ use Rattle.node_history.specs.declared.mark.Mark.{Mark}
 use Rattle.node_history.specs.declared.mark.MarkKind.TheVariants as kind
 use Rattle.mesh.specs.Marks.{mark, calls_to, next_number}
 use Rattle.mesh.specs.Makers.{heard_of}
-use Rattle.script_actor.specs.Lines.{Deed, Does, DoDrop, DoMute, DoLate, Submits, Trims, DoTail, Saves, Reloads}
+use Rattle.script_actor.specs.Lines.{Action, Does, DoDrop, DoMute, DoLate, Submits, Trims, DoTail, Saves, Reloads}
 use Rattle.script_actor.specs.Results.{word, took, cause_words, aborted_results, results_of, inactive_results, too_long_results, late_none, dues_logged, dues_aborted, abort_text}
 use Rattle.ns_tree.specs.declared.end.LastSpace.{LastSpace}
-use Rattle.name_node.specs.Submissions.{Submission, submitted, nothing_submitted}
-use Rattle.name_node.specs.Holding.{Holding, new_holding, Work, Free, Tails, Logs, Broken, working, at_position, saved, reloaded, min_to_keep}
+use Rattle.name_node.specs.Submissions.{Submission, submit_edits, nothing_submitted}
+use Rattle.name_node.specs.Holding.{Holding, new_holding, Work, Free, Tails, Logs, Broken, with_work, at_position, save_image, reload_image, min_to_keep}
 pub use Rattle.name_node.specs.Holding.{enters}
 use Rattle.name_node.specs.Tails.{TailEnd, Caught, Reached, PurgedFrom, BehindBy, TailStep, GoesOn, Ends, Breaks, pass_begun, tail_hears}
 
 pub record Actor : Type 0 where
-  -- its deeds still to come, and the task under way
-  pub todo : List Deed
+  -- its actions still to come, and the task under way
+  pub todo : List Action
   pub doing : Option Task
   pub writer : WriterView
   -- what it holds, in a script with names
@@ -41,7 +41,7 @@ pub record Actor : Type 0 where
   -- the results still to be said, and the late copy still to be sent
   pub says : List (List ℕ)
   pub copies : Option (ℕ × Request)
-  -- its record so far, and the marks that its deeds have set
+  -- its record so far, and the marks that its actions have set
   pub past : List Record
   pub marks : List Mark
 
@@ -79,12 +79,12 @@ unfoldable pub copy_first : Option (ℕ × Request) → Want → Want
 copy_first None want = want
 copy_first (Some c) want = WantsCopy c.0 c.1
 
-unfoldable pub says_first : List (List ℕ) → Want → Want
-says_first [] want = want
-says_first (text ∷ texts) want = Says text
+unfoldable pub say_first : List (List ℕ) → Want → Want
+say_first [] want = want
+say_first (text ∷ texts) want = Says text
 
 unfoldable pub wants : Actor → Want
-wants a = says_first a.says (copy_first a.copies (read_first a.holds (call_wanted (next_call a.writer))))
+wants a = say_first a.says (copy_first a.copies (read_first a.holds (call_wanted (next_call a.writer))))
 
 unfoldable pub is_wanting : Want → Bool
 is_wanting (WantsCall node request) = true
@@ -107,7 +107,7 @@ unfoldable pub is_broken : Actor → Bool
 is_broken a = is_broken_holding a.holds
 
 -- what is left to do: all while something is wanted, and nothing where it stopped at a bad entry
-abbrev pub while_wanting : Bool → List Deed → List Deed
+abbrev pub while_wanting : Bool → List Action → List Action
 while_wanting true ds = ds
 while_wanting false ds = []
 
@@ -144,32 +144,32 @@ tail_stepped until (GoesOn h) a = record a { holds = Some h }
 tail_stepped until (Ends end h) a = tail_ended until end h a
 tail_stepped until (Breaks h) a = record a { holds = Some h }
 
--- ## Its deeds: each is taken once nothing is wanted
+-- ## Its actions: each is taken once nothing is wanted
 unfoldable pub task_begun : Task → WriterView → Actor → Begun → Actor
 task_begun t w a begun.Going = record a { writer = w; doing = Some t }
 task_begun t w a begun.NotActive = record a { says = inactive_results t }
 task_begun t w a (begun.TooLong number) = record a { says = too_long_results t number }
 
-abbrev pub marked : Mark → Actor → Actor
-marked m a = record a { marks = a.marks ++ m ∷ [] }
+abbrev pub note_mark : Mark → Actor → Actor
+note_mark m a = record a { marks = a.marks ++ m ∷ [] }
 
-unfoldable pub copied : ℕ → ℕ → Option Request → Actor → Actor
-copied node call None a = record a { says = late_none ∷ [] }
-copied node call (Some r) a = record (marked (mark node call kind.Late) a) { copies = Some (node, r) }
+unfoldable pub make_copy : ℕ → ℕ → Option Request → Actor → Actor
+make_copy node call None a = record a { says = late_none ∷ [] }
+make_copy node call (Some r) a = record (note_mark (mark node call kind.Late) a) { copies = Some (node, r) }
 
 -- nothing to log: all results are known
-abbrev pub sync_begun : Begun → WriterView → Submission → Holding → Actor → Actor
-sync_begun begun.Going w x h a = record a { writer = w; doing = Some (task.Log x.bodies); holds = Some (working (Logs x.ahead x.dues) h) }
-sync_begun begun.NotActive w x h a = record a { says = dues_aborted (codes "inactive") x.dues }
-sync_begun (begun.TooLong number) w x h a = record a { says = dues_aborted (word (codes "toolong") number) x.dues }
+abbrev pub begin_sync : Begun → WriterView → Submission → Holding → Actor → Actor
+begin_sync begun.Going w x h a = record a { writer = w; doing = Some (task.Log x.bodies); holds = Some (with_work (Logs x.ahead x.dues) h) }
+begin_sync begun.NotActive w x h a = record a { says = dues_aborted (codes "inactive") x.dues }
+begin_sync (begun.TooLong number) w x h a = record a { says = dues_aborted (word (codes "toolong") number) x.dues }
 
-abbrev pub synced : List (List ℕ) → Submission → Holding → Actor → Actor
-synced [] x h a = record a { says = dues_logged 0 x.dues }
-synced (b ∷ bs) x h a = sync_begun (writer_begun a.writer (task.Log x.bodies)).begun (writer_begun a.writer (task.Log x.bodies)).writer x h a
+abbrev pub after_sync : List (List ℕ) → Submission → Holding → Actor → Actor
+after_sync [] x h a = record a { says = dues_logged 0 x.dues }
+after_sync (b ∷ bs) x h a = begin_sync (writer_begun a.writer (task.Log x.bodies)).begun (writer_begun a.writer (task.Log x.bodies)).writer x h a
 
 unfoldable pub logged_when : Bool → List EditView → Holding → Actor → Actor
 logged_when true es h a =
-    synced (submitted a.writer es (nothing_submitted h.space)).bodies (submitted a.writer es (nothing_submitted h.space)) h a
+    after_sync (submit_edits a.writer es (nothing_submitted h.space)).bodies (submit_edits a.writer es (nothing_submitted h.space)) h a
 logged_when false es h a = record a { says = map (λ e. codes "inactive") es }
 
 unfoldable pub trim_at : Bool → Option ℕ → Actor → Actor
@@ -182,40 +182,40 @@ abbrev pub unless_active : Bool → Actor → Actor → Actor
 unless_active true b a = record a { says = codes "active" ∷ [] }
 unless_active false b a = b
 
-abbrev pub saving : Holding → Actor → Actor
-saving h a = record a { holds = Some (saved h); says = word (codes "checkpoint") h.position ∷ [] }
+abbrev pub begin_save : Holding → Actor → Actor
+begin_save h a = record a { holds = Some (save_image h); says = word (codes "checkpoint") h.position ∷ [] }
 
-abbrev pub reloading : Holding → Actor → Actor
-reloading h a = record a { holds = Some (reloaded h); says = word (codes "reload") (reloaded h).position ∷ [] }
+abbrev pub begin_reload : Holding → Actor → Actor
+begin_reload h a = record a { holds = Some (reload_image h); says = word (codes "reload") (reload_image h).position ∷ [] }
 
--- a deed of an actor that holds a namespace
-unfoldable pub held_deed : Deed → Option Holding → Actor → Actor
-held_deed (Submits es) (Some h) a = logged_when (is_writing a.writer.phase) es h a
-held_deed (Trims extra) (Some h) a = trim_at (is_writing a.writer.phase) (min_to_keep extra h.images) a
-held_deed DoTail (Some h) a = unless_active (is_writing a.writer.phase) (tail_stepped None (pass_begun None h) a) a
-held_deed Saves (Some h) a = unless_active (is_writing a.writer.phase) (saving h a) a
-held_deed Reloads (Some h) a = unless_active (is_writing a.writer.phase) (reloading h a) a
-held_deed d o a = a
+-- an action of an actor that holds a namespace
+unfoldable pub take_named_action : Action → Option Holding → Actor → Actor
+take_named_action (Submits es) (Some h) a = logged_when (is_writing a.writer.phase) es h a
+take_named_action (Trims extra) (Some h) a = trim_at (is_writing a.writer.phase) (min_to_keep extra h.images) a
+take_named_action DoTail (Some h) a = unless_active (is_writing a.writer.phase) (tail_stepped None (pass_begun None h) a) a
+take_named_action Saves (Some h) a = unless_active (is_writing a.writer.phase) (begin_save h a) a
+take_named_action Reloads (Some h) a = unless_active (is_writing a.writer.phase) (begin_reload h a) a
+take_named_action d o a = a
 
 -- The calls that are lost are counted from the next one on, and the calls that are copied from the first one on.
-unfoldable pub deed_taken : Deed → Actor → Actor
-deed_taken (Does t) a = task_begun t (writer_begun a.writer t).writer a (writer_begun a.writer t).begun
-deed_taken (DoDrop node call) a = marked (mark node (next_number node a.past + (call - 1)) kind.Dropped) a
-deed_taken (DoMute node call) a = marked (mark node (next_number node a.past + (call - 1)) kind.Muted) a
-deed_taken (DoLate node call) a = copied node call (slice_get (calls_to node a.past) (call - 1)) a
-deed_taken (Submits es) a = held_deed (Submits es) a.holds a
-deed_taken (Trims extra) a = held_deed (Trims extra) a.holds a
-deed_taken DoTail a = held_deed DoTail a.holds a
-deed_taken Saves a = held_deed Saves a.holds a
-deed_taken Reloads a = held_deed Reloads a.holds a
+unfoldable pub take_action : Action → Actor → Actor
+take_action (Does t) a = task_begun t (writer_begun a.writer t).writer a (writer_begun a.writer t).begun
+take_action (DoDrop node call) a = note_mark (mark node (next_number node a.past + (call - 1)) kind.Dropped) a
+take_action (DoMute node call) a = note_mark (mark node (next_number node a.past + (call - 1)) kind.Muted) a
+take_action (DoLate node call) a = make_copy node call (slice_get (calls_to node a.past) (call - 1)) a
+take_action (Submits es) a = take_named_action (Submits es) a.holds a
+take_action (Trims extra) a = take_named_action (Trims extra) a.holds a
+take_action DoTail a = take_named_action DoTail a.holds a
+take_action Saves a = take_named_action Saves a.holds a
+take_action Reloads a = take_named_action Reloads a.holds a
 
-unfoldable pub settled : List Deed → Actor → Actor
-settled [] a = record a { todo = [] }
-settled (d ∷ ds) a = if is_wanting (wants a) || is_broken a then record a { todo = while_wanting (is_wanting (wants a)) (d ∷ ds) } else settled ds (deed_taken d a)
+unfoldable pub settle : List Action → Actor → Actor
+settle [] a = record a { todo = [] }
+settle (d ∷ ds) a = if is_wanting (wants a) || is_broken a then record a { todo = while_wanting (is_wanting (wants a)) (d ∷ ds) } else settle ds (take_action d a)
 
--- one more deed for an actor
-unfoldable pub handed : Deed → Actor → Actor
-handed d a = settled (a.todo ++ d ∷ []) a
+-- one more action for an actor
+unfoldable pub hand_action : Action → Actor → Actor
+hand_action d a = settle (a.todo ++ d ∷ []) a
 
 -- ## The end of a task
 -- The tail of a takeover goes up to the txid before the first segment; an actor that has read more begins empty.
@@ -240,7 +240,7 @@ aborted_texts work t causes = aborted_results t causes
 unfoldable pub held_turn : Turn → Task → Holding → Actor → Actor
 held_turn turn.Going t h a = a
 held_turn (turn.Done o) t h a = task_done o t h a
-held_turn turn.Aborted t h a = record a { holds = Some (reloaded h); says = aborted_texts h.work t a.writer.causes }
+held_turn turn.Aborted t h a = record a { holds = Some (reload_image h); says = aborted_texts h.work t a.writer.causes }
 held_turn (turn.EpochLimit told) t h a = record a { says = word (codes "takeover limit") told ∷ [] }
 
 unfoldable pub turn_with : Option Holding → Turn → Task → Actor → Actor
@@ -253,16 +253,16 @@ turn_taken turn.Going doing a = a
 turn_taken t None a = a
 turn_taken t (Some task) a = turn_with a.holds t task (record a { doing = None })
 
-abbrev pub judged_as : Judged → Actor → Actor
-judged_as j a = turn_taken j.turn a.doing (record a { writer = j.writer })
+abbrev pub after_judgment : Judgment → Actor → Actor
+after_judgment j a = turn_taken j.turn a.doing (record a { writer = j.writer })
 
 -- an answer is that of a read, where a tail is under way, and else the writer's
 abbrev pub heard_in_work : Work → Holding → ℕ → Heard → Actor → Actor
 heard_in_work (Tails until next told) h node heard a = tail_stepped until (tail_hears (length a.writer.left) until next told heard h) a
-heard_in_work work h node heard a = judged_as (writer_heard a.writer node heard) a
+heard_in_work work h node heard a = after_judgment (writer_heard a.writer node heard) a
 
 unfoldable pub heard_by : Option Holding → ℕ → Heard → Actor → Actor
-heard_by None node heard a = judged_as (writer_heard a.writer node heard) a
+heard_by None node heard a = after_judgment (writer_heard a.writer node heard) a
 heard_by (Some h) node heard a = heard_in_work h.work h node heard a
 
 unfoldable pub moved_on : Record → Actor → Actor
@@ -271,11 +271,11 @@ moved_on (Late node r) a = record a { copies = None }
 moved_on (Operator node ask done) a = a
 moved_on (Result text) a = record a { says = drop 1 a.says }
 
-unfoldable pub resettled : Actor → Actor
-resettled a = settled a.todo a
+unfoldable pub settle_again : Actor → Actor
+settle_again a = settle a.todo a
 
 unfoldable pub goes_on : Actor → Record → Actor
-goes_on a r = resettled (moved_on r (record a { past = a.past ++ r ∷ [] }))
+goes_on a r = settle_again (moved_on r (record a { past = a.past ++ r ∷ [] }))
 
 -- ## A record that it is led along
 -- the line is what was wanted; what a call is told is free

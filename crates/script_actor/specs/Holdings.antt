@@ -12,22 +12,22 @@ use Rattle.caller_seats.specs.Logs.{LogView, with_line}
 use Rattle.qj_disk.specs.MemDisk.{disk_view, CannotFail}
 use Rattle.qj_disk.specs.declared.mem_disk.MemDisk.{MemDisk}
 use Rattle.ns_replay.specs.Replay.{Image}
-use Rattle.name_node.specs.Holding.{Holding, Work, Free, Broken, working, saved}
+use Rattle.name_node.specs.Holding.{Holding, Work, Free, Broken, with_work, save_image}
 use Rattle.name_node.specs.Tails.{TailStep, Ends, Breaks, Caught, Reached, PurgedFrom, BehindBy, pass_begun, tail_hears}
 use Rattle.standby_tailer.specs.declared.step.Step.{Step}
 use Rattle.standby_tailer.specs.declared.tailed.Tailed.{Tailed}
 use Rattle.standby_tailer.specs.declared.tailed.Tailed.TheVariants as tailed
 use Rattle.standby_tailer.specs.Standbys.{StandbyView, held}
 use Rattle.standby_tailer.specs.Disks.{HoldsImages}
-use Rattle.standby_tailer.specs.Tailing.{asking, IsStep}
+use Rattle.standby_tailer.specs.Tailing.{begin_asking, IsStep}
 use Rattle.script_actor.specs.Actor.{tail_stepped}
-use Rattle.script_actor.specs.KeptActor.{shown}
-use Rattle.script_actor.specs.Deeds.{kept_of, LedTo}
+use Rattle.script_actor.specs.KeptActor.{as_actor}
+use Rattle.script_actor.specs.Actions.{kept_of, LedTo}
 
 -- ## Images
 -- what is kept once one more is saved
 abbrev pub one_saved : List Image → StandbyView → List Image
-one_saved images s = (saved (held images s)).images
+one_saved images s = (save_image (held images s)).images
 
 -- what is kept of all that was saved, in the order of saving
 abbrev pub kept_of_saves : List (Snapshot StandbyView) → List Image
@@ -38,7 +38,7 @@ pub record AreOnDisk (disk : MemDisk) (images : List Image) : Type 0 where
   pub steady : CannotFail disk
   pub holds : HoldsImages (disk_view disk).seen images
 
--- ## What it holds between its deeds
+-- ## What it holds between its actions
 -- nothing is under way, unless a bad entry was met
 abbrev pub rest_work : Bool → Work
 rest_work true = Broken
@@ -54,7 +54,7 @@ is_bad_entry (tailed.BadEntry txid) = true
 is_bad_entry tailed.OutOfMemory = false
 
 abbrev pub after_tail : List Image → StandbyView → Tailed → Holding
-after_tail images s t = working (rest_work (is_bad_entry t)) (held images s)
+after_tail images s t = with_work (rest_work (is_bad_entry t)) (held images s)
 
 -- It ended at this step with what is held now, and this tells how.
 abbrev pub IsTailEnd : TailStep → Holding → Tailed → Type 0
@@ -68,7 +68,7 @@ IsTailEnd end h tailed.OutOfMemory = ⊥
 -- From the one step of a tail its actor is led to the other one, along what its log has more.
 abbrev pub LeadsTo : ℕ → Option ℕ → TailStep → LogView → TailStep → LogView → Type 0
 LeadsTo nodes until begun old here new = (w : WriterView) (o : Option Holding) → length w.left ≡ nodes
-    → LedTo (tail_stepped until begun (shown None [] (kept_of w o old))) (tail_stepped until here (shown None [] (kept_of w o new)))
+    → LedTo (tail_stepped until begun (as_actor None [] (kept_of w o old))) (tail_stepped until here (as_actor None [] (kept_of w o new)))
 
 -- A tail went to its end.
 pub record TailGoes (nodes : ℕ) (until : Option ℕ) (old : Holding) (log : LogView) (new : Holding) (log' : LogView) (t : Tailed) : Type 0 where
@@ -78,8 +78,8 @@ pub record TailGoes (nodes : ℕ) (until : Option ℕ) (old : Holding) (log : Lo
   pub leads : LeadsTo nodes until (pass_begun until old) log end log'
 
 -- ## One read
--- The node that is next in this pass was asked for the edits behind the position, and what was heard of it was taken.
+-- The node that is next in this pass was asked for the edits after the position, and what was heard of it was taken.
 pub record IsOneRead (nodes : ℕ) (until : Option ℕ) (told : List Heard) (old : StandbyView) (log : LogView) (now : List Heard) (new : StandbyView) (log' : LogView) (t : Step) : Type 0 where
   pub answer : Told
   pub listed : log' ≡ with_line log (Call (length told + 1) (Read (old.position + 1)) answer)
-  pub is : (images : List Image) → IsStep (tail_hears nodes until (length told + 1) told (heard_of answer) (asking until told (held images old))) until now images new t
+  pub is : (images : List Image) → IsStep (tail_hears nodes until (length told + 1) told (heard_of answer) (begin_asking until told (held images old))) until now images new t

@@ -38,8 +38,8 @@ abbrev pub calls : KeptActor → ℕ → Request → Told → KeptActor
 calls a node r t = record a { past = a.past ++ Call node r t ∷ [] }
 
 -- ## Results
-abbrev pub says : KeptActor → List (List ℕ) → KeptActor
-says a texts = record a { past = a.past ++ map (λ text. Outcome text) texts }
+abbrev pub say_texts : KeptActor → List (List ℕ) → KeptActor
+say_texts a texts = record a { past = a.past ++ map (λ text. Outcome text) texts }
 
 -- ## Marks and copies
 -- one of the actor's next calls to the node is marked, counted from 1
@@ -55,12 +55,12 @@ copies a node call r = record a { past = a.past ++ Late node r ∷ []; marks = a
 
 -- ## The actor that this is
 -- with the task under way and the results that are due
-abbrev pub shown : Option Task → List (List ℕ) → KeptActor → Actor
-shown doing texts a =
+abbrev pub as_actor : Option Task → List (List ℕ) → KeptActor → Actor
+as_actor doing texts a =
     record { todo = []; doing = doing; writer = a.writer; holds = a.holds; says = texts; copies = None; past = a.past; marks = a.marks }
 
 abbrev pub resting : KeptActor → Actor
-resting a = shown None [] a
+resting a = as_actor None [] a
 
 -- what is under way once a call had this turn
 abbrev pub doing_after : Task → Turn → Option Task

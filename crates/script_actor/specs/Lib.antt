@@ -5,7 +5,7 @@ pub mod Actor
 pub mod KeptActor
 pub mod Ready
 pub mod Went
-pub mod Deeds
+pub mod Actions
 pub mod Holdings
 pub mod Named
 pub mod Submitting

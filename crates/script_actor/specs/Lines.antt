@@ -1,4 +1,4 @@
--- What each line of a script says: a declaration, a deed of an actor, or an operation on a node.
+-- What each line of a script says: a declaration, an action of an actor, or an operation on a node.
 use Rattle.std.specs.Prelude.{ℕ, ◌^◌, ◌+◌, ◌<◌, ◌≤◌, ◌≢◌, ◌==◌, suc, List, [], ◌∷◌, Bool, true, false, map, if◌then◌else◌}
 use Rattle.journal_core.specs.Limits.{max_number}
 use Rattle.edit_ops.specs.Records.{EditView}
@@ -16,20 +16,20 @@ use Rattle.mesh.specs.Makers.{IsOperation}
 -- What an actor is told to do: a task; to lose its next calls to a node, the request or the reply of the one with this number; to send a
 -- copy of an earlier call. With names: to submit edits in order and sync them; to purge as its images allow; to tail; to save its
 -- namespace; to begin again from its newest image.
-pub data Deed : Type 0 where
-  Does : (task : Task) → Deed
-  DoDrop : (node call : ℕ) → Deed
-  DoMute : (node call : ℕ) → Deed
-  DoLate : (node call : ℕ) → Deed
-  Submits : (edits : List EditView) → Deed
-  Trims : (extra : ℕ) → Deed
-  DoTail : Deed
-  Saves : Deed
-  Reloads : Deed
+pub data Action : Type 0 where
+  Does : (task : Task) → Action
+  DoDrop : (node call : ℕ) → Action
+  DoMute : (node call : ℕ) → Action
+  DoLate : (node call : ℕ) → Action
+  Submits : (edits : List EditView) → Action
+  Trims : (extra : ℕ) → Action
+  DoTail : Action
+  Saves : Action
+  Reloads : Action
 
 pub data Line : Type 0 where
   Declares : (name : List ℕ) → Line
-  Acts : (actor : ℕ) (deed : Deed) → Line
+  Acts : (actor : ℕ) (action : Action) → Line
   Operates : (node : ℕ) (ask : NodeAsk) → Line
 
 -- what a line says
@@ -56,25 +56,25 @@ abbrev pub lines_of : ScriptView → List Line
 lines_of s = map line_of s.lines
 
 -- how many actors are declared
-unfoldable pub declared : List Line → ℕ
-declared [] = 0
-declared (Declares name ∷ ls) = suc (declared ls)
-declared (Acts actor deed ∷ ls) = declared ls
-declared (Operates node ask ∷ ls) = declared ls
+unfoldable pub count_actors : List Line → ℕ
+count_actors [] = 0
+count_actors (Declares name ∷ ls) = suc (count_actors ls)
+count_actors (Acts actor action ∷ ls) = count_actors ls
+count_actors (Operates node ask ∷ ls) = count_actors ls
 
 -- the names that are declared
 unfoldable pub names_in : List Line → List (List ℕ)
 names_in [] = []
 names_in (Declares name ∷ ls) = name ∷ names_in ls
-names_in (Acts actor deed ∷ ls) = names_in ls
+names_in (Acts actor action ∷ ls) = names_in ls
 names_in (Operates node ask ∷ ls) = names_in ls
 
--- the deeds of one actor
-unfoldable pub deeds_of : ℕ → List Line → List Deed
-deeds_of c [] = []
-deeds_of c (Declares name ∷ ls) = deeds_of c ls
-deeds_of c (Acts actor deed ∷ ls) = if actor == c then deed ∷ deeds_of c ls else deeds_of c ls
-deeds_of c (Operates node ask ∷ ls) = deeds_of c ls
+-- the actions of one actor
+unfoldable pub actions_of : ℕ → List Line → List Action
+actions_of c [] = []
+actions_of c (Declares name ∷ ls) = actions_of c ls
+actions_of c (Acts actor action ∷ ls) = if actor == c then action ∷ actions_of c ls else actions_of c ls
+actions_of c (Operates node ask ∷ ls) = actions_of c ls
 
 -- what the operator does, and to which node
 pub record Operation : Type 0 where
@@ -84,7 +84,7 @@ pub record Operation : Type 0 where
 unfoldable pub operations_in : List Line → List Operation
 operations_in [] = []
 operations_in (Declares name ∷ ls) = operations_in ls
-operations_in (Acts actor deed ∷ ls) = operations_in ls
+operations_in (Acts actor action ∷ ls) = operations_in ls
 operations_in (Operates node ask ∷ ls) = record { node = node; ask = ask } ∷ operations_in ls
 
 -- ## Lines that can be played
@@ -110,26 +110,26 @@ WithNames true A = A
 WithNames false A = ⊥
 
 -- a log has a body, calls are counted from 1, and something is submitted
-abbrev pub IsDeed : Bool → Deed → Type 0
-IsDeed named (Does t) = IsTask named t
-IsDeed named (DoDrop node call) = 1 ≤ call
-IsDeed named (DoMute node call) = 1 ≤ call
-IsDeed named (DoLate node call) = 1 ≤ call
-IsDeed named (Submits edits) = WithNames named ((edits ≢ []) × AreEdits edits)
-IsDeed named (Trims extra) = WithNames named (Unit {0})
-IsDeed named DoTail = WithNames named (Unit {0})
-IsDeed named Saves = WithNames named (Unit {0})
-IsDeed named Reloads = WithNames named (Unit {0})
+abbrev pub IsAction : Bool → Action → Type 0
+IsAction named (Does t) = IsTask named t
+IsAction named (DoDrop node call) = 1 ≤ call
+IsAction named (DoMute node call) = 1 ≤ call
+IsAction named (DoLate node call) = 1 ≤ call
+IsAction named (Submits edits) = WithNames named ((edits ≢ []) × AreEdits edits)
+IsAction named (Trims extra) = WithNames named (Unit {0})
+IsAction named DoTail = WithNames named (Unit {0})
+IsAction named Saves = WithNames named (Unit {0})
+IsAction named Reloads = WithNames named (Unit {0})
 
-unfoldable pub AreDeeds : Bool → List Deed → Type 0
-AreDeeds named [] = Unit {0}
-AreDeeds named (d ∷ ds) = IsDeed named d × AreDeeds named ds
+unfoldable pub AreActions : Bool → List Action → Type 0
+AreActions named [] = Unit {0}
+AreActions named (d ∷ ds) = IsAction named d × AreActions named ds
 
 -- where so many actors were declared before
 unfoldable pub ArePlayable : Bool → ℕ → ℕ → List Line → Type 0
 ArePlayable named nodes actors [] = Unit {0}
 ArePlayable named nodes actors (Declares name ∷ ls) = ArePlayable named nodes (actors + 1) ls
-ArePlayable named nodes actors (Acts actor deed ∷ ls) = (actor < actors) × IsDeed named deed × ArePlayable named nodes actors ls
+ArePlayable named nodes actors (Acts actor action ∷ ls) = (actor < actors) × IsAction named action × ArePlayable named nodes actors ls
 ArePlayable named nodes actors (Operates node ask ∷ ls) = (1 ≤ node) × (node ≤ nodes) × IsOperation ask × ArePlayable named nodes actors ls
 
 -- an actor with names asks a node
@@ -154,7 +154,7 @@ unfoldable pub AreInRange : ℕ → List ScriptLine → Type 0
 AreInRange nodes [] = Unit {0}
 AreInRange nodes (l ∷ ls) = IsInRange nodes l × AreInRange nodes ls
 
--- the operator's number, behind those of all actors, is a u32
+-- the operator's number, after those of all actors, is a u32
 pub record NumbersFit (s : ScriptView) : Type 0 where
-  pub operator : declared (lines_of s) < 2 ^ 32
+  pub operator : count_actors (lines_of s) < 2 ^ 32
   pub lines : AreInRange s.nodes s.lines

@@ -8,13 +8,13 @@ use Rattle.writer_core.specs.declared.turn.Turn.TheVariants as turn
 use Rattle.writer_core.specs.declared.turn.Outcome.TheVariants as outcome
 use Rattle.writer_core.specs.Views.{WriterView}
 use Rattle.writer_core.specs.Writer.{is_writing, writer_stopped}
-use Rattle.name_node.specs.Holding.{Holding, at_position, reloaded}
+use Rattle.name_node.specs.Holding.{Holding, at_position, reload_image}
 use Rattle.standby_tailer.specs.declared.tailed.Tailed.{Tailed}
 use Rattle.standby_tailer.specs.declared.tailed.Tailed.TheVariants as tailed
 use Rattle.caller_seats.specs.Logs.{LogView}
-use Rattle.script_actor.specs.Lines.{Deed}
+use Rattle.script_actor.specs.Lines.{Action}
 use Rattle.script_actor.specs.Actor.{is_broken_work}
-use Rattle.script_actor.specs.Deeds.{kept_of, IsIdleActor, TakesDeed}
+use Rattle.script_actor.specs.Actions.{kept_of, IsIdleActor, TakesAction}
 use Rattle.script_actor.specs.declared.segment_task.SegmentTask.{SegmentTask}
 use Rattle.script_actor.specs.declared.segment_task.SegmentTask.TheVariants as segment
 
@@ -68,7 +68,7 @@ MayMove position _ = Unit {0}
 abbrev pub held_after : Turn → Holding → Holding
 held_after (turn.Done (outcome.Roll start)) h = at_position start h
 held_after (turn.Done (outcome.Close last)) h = at_position last h
-held_after turn.Aborted h = reloaded h
+held_after turn.Aborted h = reload_image h
 held_after _ h = h
 
 -- ## The end of a takeover's tail
@@ -92,17 +92,17 @@ entry_held first (tailed.Purged least) h = h
 entry_held first (tailed.BadEntry txid) h = h
 entry_held first tailed.OutOfMemory h = h
 
--- ## A deed that makes no call of the writer
-pub record StandsTaken (d : Deed) (w : WriterView) (old : Holding) (log : LogView) (new : Holding) (active : Bool) (log' : LogView) : Type 0 where
-  pub takes : TakesDeed log.nodes d (kept_of w (Some old) log) (kept_of w (Some new) log')
+-- ## An action that makes no call of the writer
+pub record StandsTaken (d : Action) (w : WriterView) (old : Holding) (log : LogView) (new : Holding) (active : Bool) (log' : LogView) : Type 0 where
+  pub takes : TakesAction log.nodes d (kept_of w (Some old) log) (kept_of w (Some new) log')
   pub stands : Stands w new active
 
 -- whatever the writer is
-abbrev pub TakesStanding : Deed → WriterView → Holding → Bool → LogView → Holding → Bool → LogView → Type 0
+abbrev pub TakesStanding : Action → WriterView → Holding → Bool → LogView → Holding → Bool → LogView → Type 0
 TakesStanding d w old active log new active' log' = IsIdleActor log.nodes (kept_of w (Some old) log) → Stands w old active → StandsTaken d w old log new active' log'
 
 -- ## A takeover that was done
 -- its epoch, and where its segment begins
-abbrev pub taken_of : Turn → Option (ℕ × ℕ)
-taken_of (turn.Done (outcome.Takeover epoch first)) = Some (epoch, first)
-taken_of _ = None
+abbrev pub takeover_of : Turn → Option (ℕ × ℕ)
+takeover_of (turn.Done (outcome.Takeover epoch first)) = Some (epoch, first)
+takeover_of _ = None

@@ -17,7 +17,7 @@ abbrev pub acked_texts : ℕ → ℕ → List (List ℕ)
 acked_texts first zero = []
 acked_texts first (suc n) = word (codes "acked") first ∷ acked_texts (first + 1) n
 
--- the text of a round that was aborted, behind a task's name
+-- the text of a round that was aborted, after a task's name
 abbrev pub aborted_text : List ℕ → List Cause → List ℕ
 aborted_text name causes = name ++ codes "aborted" ++ cause_words causes
 

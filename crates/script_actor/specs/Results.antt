@@ -13,7 +13,7 @@ use Rattle.ns_replay.specs.declared.refusal.AdmitRefusal.{AdmitRefusal}
 use Rattle.ns_replay.specs.declared.refusal.AdmitRefusal.TheVariants as refusal
 use Rattle.name_node.specs.Submissions.{Due, Pends, Refused, Repeats, TooLong}
 
--- a word with a number behind a space
+-- a word with a number after a space
 abbrev pub word : List ℕ → ℕ → List ℕ
 word name number = name ++ 32 ∷ decimal number
 
@@ -48,27 +48,27 @@ unfoldable pub acked_from : ℕ → List (List ℕ) → List (List ℕ)
 acked_from txid [] = []
 acked_from txid (body ∷ bodies) = word (codes "acked") txid ∷ acked_from (txid + 1) bodies
 
-unfoldable pub acked : ℕ → Task → List (List ℕ)
-acked first (task.Log bodies) = acked_from first bodies
-acked first _ = []
+unfoldable pub acknowledged_results : ℕ → Task → List (List ℕ)
+acknowledged_results first (task.Log bodies) = acked_from first bodies
+acknowledged_results first _ = []
 
 abbrev pub took : ℕ → ℕ → List ℕ
 took epoch first = word (word (codes "takeover") epoch) first
 
 -- ## The results of a task that ended
-unfoldable pub done_results : Task → Outcome → List (List ℕ)
-done_results t (outcome.Takeover epoch first) = took epoch first ∷ []
-done_results t (outcome.Log first last) = acked first t
-done_results t (outcome.Roll start) = word (codes "roll") start ∷ []
-done_results t (outcome.Close last) = word (codes "close") last ∷ []
-done_results t outcome.Purge = codes "purge ok" ∷ []
+unfoldable pub outcome_results : Task → Outcome → List (List ℕ)
+outcome_results t (outcome.Takeover epoch first) = took epoch first ∷ []
+outcome_results t (outcome.Log first last) = acknowledged_results first t
+outcome_results t (outcome.Roll start) = word (codes "roll") start ∷ []
+outcome_results t (outcome.Close last) = word (codes "close") last ∷ []
+outcome_results t outcome.Purge = codes "purge ok" ∷ []
 
 abbrev pub aborted_results : Task → List Cause → List (List ℕ)
 aborted_results t causes = for_each t (name_of t ++ codes "aborted" ++ cause_words causes)
 
 unfoldable pub results_of : Task → Turn → List Cause → List (List ℕ)
 results_of t turn.Going causes = []
-results_of t (turn.Done o) causes = done_results t o
+results_of t (turn.Done o) causes = outcome_results t o
 results_of t turn.Aborted causes = aborted_results t causes
 results_of t (turn.EpochLimit told) causes = word (codes "takeover limit") told ∷ []
 

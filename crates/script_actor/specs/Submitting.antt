@@ -9,8 +9,8 @@ use Rattle.writer_core.specs.declared.turn.Turn.{Turn}
 use Rattle.writer_core.specs.declared.turn.Turn.TheVariants as turn
 use Rattle.writer_core.specs.declared.turn.Outcome.TheVariants as outcome
 use Rattle.writer_core.specs.Views.{WriterView}
-use Rattle.name_node.specs.Submissions.{Due, Pends, Refused, Repeats, TooLong, submitted}
-use Rattle.name_node.specs.Holding.{Holding, reloaded}
+use Rattle.name_node.specs.Submissions.{Due, Pends, Refused, Repeats, TooLong, submit_edits}
+use Rattle.name_node.specs.Holding.{Holding, reload_image}
 use Rattle.standby_tailer.specs.Standbys.{held, empty_standby}
 use Rattle.active_name.specs.Pendings.{PendingView, PendsFrom, PendsAt, submission}
 use Rattle.script_actor.specs.declared.edit_due.EditDue.{EditDue}
@@ -32,7 +32,7 @@ dues_of dues = map due_of dues
 pub record AreSubmitted (room next : ℕ) (old : PendingView) (edits : List EditView) (new : PendingView) (dues : List Due) : Type 0 where
   pub from : PendsFrom next new
   pub at : (w : WriterView) → PendsAt w room next old → PendsAt w room next new
-  pub submitted : (w : WriterView) → PendsAt w room next old → submitted w edits (submission [] old) ≡ submission dues new
+  pub submitted : (w : WriterView) → PendsAt w room next old → submit_edits w edits (submission [] old) ≡ submission dues new
 
 -- ## Results
 abbrev pub text_if : Bool → List ℕ → List ℕ → List ℕ
@@ -72,4 +72,4 @@ MayHold ahead _ = Unit {0}
 
 abbrev pub log_held : Space → List Image → Turn → Holding
 log_held ahead images (turn.Done (outcome.Log first last)) = held images (record { space = ahead; position = last })
-log_held ahead images _ = reloaded (held images empty_standby)
+log_held ahead images _ = reload_image (held images empty_standby)

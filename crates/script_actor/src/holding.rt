@@ -2,7 +2,7 @@
 ghost use Rattle.std.specs.Option.{ForSome};
 ghost use Rattle.std.specs.Prelude.{◌≡◌, ◌≤◌, OnOk, IfOk};
 ghost use Rattle.journal_core.specs.Limits.{max_number};
-ghost use Rattle.name_node.specs.Holding.{Free, new_holding, enters, saved, reloaded, min_to_keep, at_position};
+ghost use Rattle.name_node.specs.Holding.{Free, new_holding, enters, save_image, reload_image, min_to_keep, at_position};
 ghost use Rattle.standby_tailer.specs.Standbys.{held};
 ghost use Rattle.standby_tailer.specs.Tailing.{IsExact};
 ghost use Rattle.script_actor.specs.Holdings.{TailGoes, is_bad_entry, rest_work};
@@ -18,7 +18,7 @@ use std::marker::Model;
 
 /// What a name node of a script holds beside its writer: a namespace with the position up to which the log was
 /// replayed into it, and the images that it saved. One that met a bad entry is broken, and nothing more is
-/// asked of it. Contracts see a `Holding` between two deeds.
+/// asked of it. Contracts see a `Holding` between two actions.
 #[derive(Drop)]
 pub struct NameHolding {
     standby: Standby,
@@ -27,13 +27,13 @@ pub struct NameHolding {
 }
 
 impl Model for NameHolding {
-    ghost use Rattle.name_node.specs.Holding.{Holding, working};
+    ghost use Rattle.name_node.specs.Holding.{Holding, with_work};
     ghost use Rattle.standby_tailer.specs.Standbys.{held};
     ghost use Rattle.script_actor.specs.Holdings.{rest_work};
 
     ghost Value = { Holding };
 
-    ghost view = { λ h. working (rest_work h.is_broken) (held h.images h.standby) };
+    ghost view = { λ h. with_work (rest_work h.is_broken) (held h.images h.standby) };
 }
 
 /// The tail met an entry that doesn't decode or isn't admitted.
@@ -99,14 +99,14 @@ impl NameHolding {
 
     /// Saves an image at the position, and keeps the two newest images alone. After an `Err` there is none.
     pub fn checkpoint(&mut self, alloc: Global) -> Result<(), OutOfMemory>
-        ensures { OnOk result (self.new ≡ saved self.old) }
+        ensures { OnOk result (self.new ≡ save_image self.old) }
     {
         self.images.save(alloc, &self.standby)
     }
 
     /// Begins again from the newest image, or empty at position 0 where there is none.
     pub fn reload(&mut self, alloc: Global) -> Result<(), OutOfMemory>
-        ensures { OnOk result (self.new ≡ reloaded self.old) }
+        ensures { OnOk result (self.new ≡ reload_image self.old) }
     {
         self.images.load(alloc, &mut self.standby)?;
         self.is_broken = false;

@@ -1,7 +1,7 @@
 //! An actor of a script: what it does with each of its lines, call by call, over the seats through which it calls.
 #![tactic(auto)]
 
-mod deeds;
+mod actions;
 mod edit_due;
 mod held;
 mod holding;
@@ -11,7 +11,7 @@ mod results;
 mod saved_images;
 mod script_actor;
 mod segment_task;
-mod standby_deeds;
+mod standby_actions;
 mod submissions;
 mod tailing;
 mod trims;

@@ -7,7 +7,8 @@ ghost use Rattle.script_actor.specs.Submitting.{due_of, dues_of, logged_text, ne
 
 use crate::edit_due::EditDue;
 use crate::results::{
-    aborted, bytes_of, numbered, numbered_in, numbered_twice, once, push_causes, text_room,
+    aborted_text, bytes_of, numbered_text, numbered_text_in, numbered_twice, once, push_causes,
+    text_room,
 };
 use journal_core::{Bytes, OutOfMemory};
 use ns_replay::AdmitRefusal;
@@ -16,9 +17,14 @@ use standby_tailer::Tailed;
 use std::alloc::Global;
 use writer_core::{Cause, Outcome, Turn};
 
-/// A word of one byte or more, a number, and the causes, each behind a space.
-#[tactic(auto, using(crate::proofs::ResultLaws::some_behind))]
-fn behind(alloc: Global, name: &[u8], txid: u64, causes: &[Cause]) -> Result<Bytes, OutOfMemory>
+/// A word of one byte or more, a number, and the causes, each after a space.
+#[tactic(auto, using(crate::proofs::ResultLaws::some_after))]
+fn behind_text(
+    alloc: Global,
+    name: &[u8],
+    txid: u64,
+    causes: &[Cause],
+) -> Result<Bytes, OutOfMemory>
     ensures { IfOk result (λ text. text ≡ behind_text name.now txid causes.now) }
 {
     let mut text = Vec::new(alloc);
@@ -35,13 +41,13 @@ pub(crate) fn tail_results(alloc: Global, tailed: &Tailed) -> Result<Vec<Bytes>,
 {
     match tailed {
         Tailed::Caught { txid } | Tailed::Reached { txid } => {
-            once(alloc, numbered(alloc, b"tail", *txid)?)
+            once(alloc, numbered_text(alloc, b"tail", *txid)?)
         }
-        Tailed::Purged { first } => once(alloc, numbered(alloc, b"tail purged", *first)?),
+        Tailed::Purged { first } => once(alloc, numbered_text(alloc, b"tail purged", *first)?),
         Tailed::Behind { txid, causes } => {
             once(
                 alloc,
-                behind(alloc, b"tail behind", *txid, causes.as_slice())?,
+                behind_text(alloc, b"tail behind", *txid, causes.as_slice())?,
             )
         }
         Tailed::BadEntry { .. } | Tailed::OutOfMemory => Ok(Vec::new(alloc)),
@@ -59,12 +65,12 @@ pub(crate) fn entry_results(
 {
     match tailed {
         Tailed::Reached { .. } => once(alloc, numbered_twice(alloc, b"takeover", epoch, first)?),
-        Tailed::Caught { txid } => once(alloc, numbered(alloc, b"takeover behind", *txid)?),
-        Tailed::Purged { first } => once(alloc, numbered(alloc, b"takeover purged", *first)?),
+        Tailed::Caught { txid } => once(alloc, numbered_text(alloc, b"takeover behind", *txid)?),
+        Tailed::Purged { first } => once(alloc, numbered_text(alloc, b"takeover purged", *first)?),
         Tailed::Behind { txid, causes } => {
             once(
                 alloc,
-                behind(alloc, b"takeover behind", *txid, causes.as_slice())?,
+                behind_text(alloc, b"takeover behind", *txid, causes.as_slice())?,
             )
         }
         Tailed::BadEntry { .. } | Tailed::OutOfMemory => Ok(Vec::new(alloc)),
@@ -81,16 +87,20 @@ pub(crate) fn trim_results(
     ensures { IfOk result (λ texts. texts.items ≡ trim_texts min turn causes.now) }
 {
     match turn {
-        Turn::Done(Outcome::Purge) => once(alloc, numbered(alloc, b"trim", min)?),
-        Turn::Aborted => once(alloc, aborted(alloc, b"trim ", causes)?),
-        Turn::EpochLimit { told } => once(alloc, numbered(alloc, b"takeover limit", told)?),
+        Turn::Done(Outcome::Purge) => once(alloc, numbered_text(alloc, b"trim", min)?),
+        Turn::Aborted => once(alloc, aborted_text(alloc, b"trim ", causes)?),
+        Turn::EpochLimit { told } => once(alloc, numbered_text(alloc, b"takeover limit", told)?),
         _ => Ok(Vec::new(alloc)),
     }
 }
 
 /// What the refusal of an edit says.
 #[tactic(auto, unfolding(crate::specs::Results::refusal_text))]
-fn refused(alloc: Global, room: &mut Vec<u8>, refusal: AdmitRefusal) -> Result<Bytes, OutOfMemory>
+fn refusal_text(
+    alloc: Global,
+    room: &mut Vec<u8>,
+    refusal: AdmitRefusal,
+) -> Result<Bytes, OutOfMemory>
     ensures { IfOk result (λ text. text ≡ refusal_text refusal) }
 {
     match refusal {
@@ -105,19 +115,24 @@ fn refused(alloc: Global, room: &mut Vec<u8>, refusal: AdmitRefusal) -> Result<B
         AdmitRefusal::IntoItself => bytes_of(alloc, b"refused 9 IntoItself"),
         AdmitRefusal::BadName => bytes_of(alloc, b"refused 10 BadName"),
         AdmitRefusal::BadNumber => bytes_of(alloc, b"refused 11 BadNumber"),
-        AdmitRefusal::RepeatedCall { txid } => numbered_in(alloc, room, b"repeated", txid),
+        AdmitRefusal::RepeatedCall { txid } => numbered_text_in(alloc, room, b"repeated", txid),
     }
 }
 
 /// The result of an edit, where those that were to be logged have the txids from this one on.
-fn logged(alloc: Global, room: &mut Vec<u8>, txid: u64, due: EditDue) -> Result<Bytes, OutOfMemory>
+fn logged_text(
+    alloc: Global,
+    room: &mut Vec<u8>,
+    txid: u64,
+    due: EditDue,
+) -> Result<Bytes, OutOfMemory>
     ensures { IfOk result (λ text. text ≡ logged_text txid (due_of due)) }
 {
     match due {
-        EditDue::Pends => numbered_in(alloc, room, b"acked", txid),
-        EditDue::Refused(refusal) => refused(alloc, room, refusal),
-        EditDue::Repeats { txid, .. } => numbered_in(alloc, room, b"repeated", txid),
-        EditDue::TooLong { number } => numbered_in(alloc, room, b"toolong", number),
+        EditDue::Pends => numbered_text_in(alloc, room, b"acked", txid),
+        EditDue::Refused(refusal) => refusal_text(alloc, room, refusal),
+        EditDue::Repeats { txid, .. } => numbered_text_in(alloc, room, b"repeated", txid),
+        EditDue::TooLong { number } => numbered_text_in(alloc, room, b"toolong", number),
     }
 }
 
@@ -146,21 +161,26 @@ pub(crate) fn logged_results(
     let mut room = text_room(alloc)?;
     let mut txid = first;
     for due in dues {
-        texts.push(logged(alloc, &mut room, txid, *due)?)?;
+        texts.push(logged_text(alloc, &mut room, txid, *due)?)?;
         txid = txid_after(txid, *due);
     }
     Ok(texts)
 }
 
 /// The result of an edit, where what was to be logged came to this.
-fn lost(alloc: Global, room: &mut Vec<u8>, text: &Bytes, due: EditDue) -> Result<Bytes, OutOfMemory>
+fn lost_text(
+    alloc: Global,
+    room: &mut Vec<u8>,
+    text: &Bytes,
+    due: EditDue,
+) -> Result<Bytes, OutOfMemory>
     ensures { IfOk result (λ lost. lost ≡ lost_text text.now (due_of due)) }
 {
     match due {
         EditDue::Pends | EditDue::Repeats { pends: true, .. } => text.share(),
-        EditDue::Refused(refusal) => refused(alloc, room, refusal),
-        EditDue::Repeats { txid, pends: false } => numbered_in(alloc, room, b"repeated", txid),
-        EditDue::TooLong { number } => numbered_in(alloc, room, b"toolong", number),
+        EditDue::Refused(refusal) => refusal_text(alloc, room, refusal),
+        EditDue::Repeats { txid, pends: false } => numbered_text_in(alloc, room, b"repeated", txid),
+        EditDue::TooLong { number } => numbered_text_in(alloc, room, b"toolong", number),
     }
 }
 
@@ -176,7 +196,7 @@ pub(crate) fn lost_results(
     let mut texts = Vec::with_capacity(alloc, dues.len())?;
     let mut room = text_room(alloc)?;
     for due in dues {
-        texts.push(lost(alloc, &mut room, text, *due)?)?;
+        texts.push(lost_text(alloc, &mut room, text, *due)?)?;
     }
     Ok(texts)
 }
@@ -193,5 +213,5 @@ pub(crate) fn one_word(alloc: Global, text: &[u8]) -> Result<Vec<Bytes>, OutOfMe
 pub(crate) fn one_number(alloc: Global, name: &[u8], number: u64) -> Result<Vec<Bytes>, OutOfMemory>
     ensures { IfOk result (λ texts. texts.items ≡ word name.now number ∷ []) }
 {
-    once(alloc, numbered(alloc, name, number)?)
+    once(alloc, numbered_text(alloc, name, number)?)
 }

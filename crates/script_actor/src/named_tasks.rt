@@ -2,18 +2,18 @@
 ghost use Rattle.std.specs.Prelude.{◌≡◌, ◌≤◌, ◌-◌, [], Some, None, OnOk, IfOk};
 ghost use Rattle.journal_core.specs.Limits.{max_number};
 ghost use Rattle.writer_core.specs.Writer.{next_call};
-ghost use Rattle.name_node.specs.Holding.{Free, enters, reloaded};
+ghost use Rattle.name_node.specs.Holding.{Free, enters, reload_image};
 ghost use Rattle.name_node.specs.Tails.{pass_begun};
 ghost use Rattle.standby_tailer.specs.Tailing.{IsExact};
 ghost use Rattle.script_actor.specs.Lines.{Does};
 ghost use Rattle.script_actor.specs.Actor.{tail_stepped, turn_taken};
-ghost use Rattle.script_actor.specs.KeptActor.{shown};
+ghost use Rattle.script_actor.specs.KeptActor.{as_actor};
 ghost use Rattle.script_actor.specs.Ready.{IsReady};
 ghost use Rattle.script_actor.specs.Went.{opens};
-ghost use Rattle.script_actor.specs.Named.{task_of, Stands, EndsSegment, HasTaken, taken_of, MayMove, held_after, entry_writer, entry_held, entry_opens};
-ghost use Rattle.script_actor.specs.Deeds.{kept_of, IsIdleActor, TakesDeed, ComesToRest};
+ghost use Rattle.script_actor.specs.Named.{task_of, Stands, EndsSegment, HasTaken, takeover_of, MayMove, held_after, entry_writer, entry_held, entry_opens};
+ghost use Rattle.script_actor.specs.Actions.{kept_of, IsIdleActor, TakesAction, ComesToRest};
 
-use crate::deeds::{begin, finish, say_all};
+use crate::actions::{begin, finish, say_all};
 use crate::held::Held;
 use crate::holding::NameHolding;
 use crate::name_results::entry_results;
@@ -36,7 +36,7 @@ pub(crate) fn take_segment_task<S: Seats>(
     requires idle { IsIdleActor (S.log seats.old).nodes (kept_of writer.old.view (Some held.holding) (S.log seats.old)) }
     requires free { held.holding.work ≡ Free }
     requires stands { Stands writer.old.view held.holding held.is_open }
-    ensures takes { IfOk result (λ new. TakesDeed (S.log seats.old).nodes (Does (task_of task)) (kept_of writer.old.view (Some held.holding) (S.log seats.old)) (kept_of writer.new.view (Some new.holding) (S.log seats.new))) }
+    ensures takes { IfOk result (λ new. TakesAction (S.log seats.old).nodes (Does (task_of task)) (kept_of writer.old.view (Some held.holding) (S.log seats.old)) (kept_of writer.new.view (Some new.holding) (S.log seats.new))) }
     ensures stands { IfOk result (λ new. Stands writer.new.view new.holding new.is_open) }
     ensures later { OnOk result (S.later seats.old seats.new) }
 {
@@ -63,7 +63,7 @@ fn end_task<S: Seats>(
     requires free { holding.work ≡ Free }
     requires ends { EndsSegment writer.old.view holding.position turn }
     ensures rests { IfOk result (λ new. ComesToRest (S.log seats.old).nodes
-        (turn_taken turn (Some (task_of task)) (shown (Some (task_of task)) [] (kept_of writer.old.view (Some holding) (S.log seats.old))))
+        (turn_taken turn (Some (task_of task)) (as_actor (Some (task_of task)) [] (kept_of writer.old.view (Some holding) (S.log seats.old))))
         (kept_of writer.new.view (Some new.holding) (S.log seats.new))) }
     ensures stands { IfOk result (λ new. Stands writer.new.view new.holding new.is_open) }
     ensures later { OnOk result (S.later seats.old seats.new) }
@@ -82,7 +82,7 @@ fn end_task<S: Seats>(
 
 /// The epoch of a takeover that was done, and where its segment begins.
 fn taken_of(turn: Turn) -> Option<(u64, u64)>
-    ensures { result ≡ taken_of turn }
+    ensures { result ≡ takeover_of turn }
 {
     match turn {
         Turn::Done(Outcome::Takeover { epoch, first }) => Some((epoch, first)),
@@ -114,14 +114,17 @@ pub(crate) fn hold_after(
     match turn {
         Turn::Done(Outcome::Roll { start }) => Ok(holding.moved_to(start)),
         Turn::Done(Outcome::Close { last }) => Ok(holding.moved_to(last)),
-        Turn::Aborted => reloaded(alloc, holding),
+        Turn::Aborted => reload_holding(alloc, holding),
         _ => Ok(holding),
     }
 }
 
 /// It begins again from its newest image.
-pub(crate) fn reloaded(alloc: Global, holding: NameHolding) -> Result<NameHolding, OutOfMemory>
-    ensures { IfOk result (λ new. new ≡ reloaded holding) }
+pub(crate) fn reload_holding(
+    alloc: Global,
+    holding: NameHolding,
+) -> Result<NameHolding, OutOfMemory>
+    ensures { IfOk result (λ new. new ≡ reload_image holding) }
 {
     let mut holding = holding;
     holding.reload(alloc)?;
@@ -143,7 +146,7 @@ fn enter_segment<S: Seats>(
     requires free { holding.work ≡ Free }
     requires taken { HasTaken writer.old.view epoch first }
     ensures rests { IfOk result (λ new. ComesToRest (S.log seats.old).nodes
-        (tail_stepped (Some (first - 1)) (pass_begun (Some (first - 1)) (enters (first - 1) holding)) (shown None [] (kept_of writer.old.view (Some holding) (S.log seats.old))))
+        (tail_stepped (Some (first - 1)) (pass_begun (Some (first - 1)) (enters (first - 1) holding)) (as_actor None [] (kept_of writer.old.view (Some holding) (S.log seats.old))))
         (kept_of writer.new.view (Some new.holding) (S.log seats.new))) }
     ensures stands { IfOk result (λ new. Stands writer.new.view new.holding new.is_open) }
     ensures later { OnOk result (S.later seats.old seats.new) }

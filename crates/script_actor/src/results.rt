@@ -31,9 +31,9 @@ pub(crate) fn text_room(alloc: Global) -> Result<Vec<u8>, OutOfMemory>
     Vec::with_capacity(alloc, ROOM)
 }
 
-/// A word, and a number behind a space. The text is made in `room`, which any text may have used before.
+/// A word, and a number after a space. The text is made in `room`, which any text may have used before.
 #[tactic(auto, using(crate::proofs::ResultLaws::some_word))]
-pub(crate) fn numbered_in(
+pub(crate) fn numbered_text_in(
     alloc: Global,
     room: &mut Vec<u8>,
     name: &[u8],
@@ -48,16 +48,20 @@ pub(crate) fn numbered_in(
     bytes_of(alloc, room)
 }
 
-/// A word, and a number behind a space.
-pub(crate) fn numbered(alloc: Global, name: &[u8], number: u64) -> Result<Bytes, OutOfMemory>
+/// A word, and a number after a space.
+pub(crate) fn numbered_text(alloc: Global, name: &[u8], number: u64) -> Result<Bytes, OutOfMemory>
     ensures { IfOk result (λ b. b ≡ word name.now number) }
 {
     let mut room = text_room(alloc)?;
-    numbered_in(alloc, &mut room, name, number)
+    numbered_text_in(alloc, &mut room, name, number)
 }
 
 /// One text, so many times; its bytes are shared.
-pub(crate) fn repeated(alloc: Global, text: &Bytes, count: usize) -> Result<Vec<Bytes>, OutOfMemory>
+pub(crate) fn repeat_text(
+    alloc: Global,
+    text: &Bytes,
+    count: usize,
+) -> Result<Vec<Bytes>, OutOfMemory>
     ensures { IfOk result (λ texts. texts.items ≡ replicate count text.now) }
 {
     let mut texts = Vec::with_capacity(alloc, count)?;
@@ -69,7 +73,7 @@ pub(crate) fn repeated(alloc: Global, text: &Bytes, count: usize) -> Result<Vec<
 
 /// One result for each edit from this txid on.
 #[tactic(auto, using(crate::proofs::ResultLaws::acked_more))]
-fn acked(alloc: Global, first: u64, count: u64) -> Result<Vec<Bytes>, OutOfMemory>
+fn acked_texts(alloc: Global, first: u64, count: u64) -> Result<Vec<Bytes>, OutOfMemory>
     requires first_fits { first ≤ max_number }
     requires few { count ≤ 256 }
     ensures { IfOk result (λ texts. texts.items ≡ acked_texts first count) }
@@ -77,7 +81,7 @@ fn acked(alloc: Global, first: u64, count: u64) -> Result<Vec<Bytes>, OutOfMemor
     let mut texts = Vec::with_capacity(alloc, count as usize)?;
     let mut room = text_room(alloc)?;
     for i in 0..count {
-        texts.push(numbered_in(alloc, &mut room, b"acked", first + i)?)?;
+        texts.push(numbered_text_in(alloc, &mut room, b"acked", first + i)?)?;
     }
     Ok(texts)
 }
@@ -103,7 +107,7 @@ fn push_spaced(text: &mut Vec<u8>, cause: &Cause) -> Result<(), OutOfMemory>
     push_cause(text, cause)
 }
 
-/// Adds the causes, each behind a space.
+/// Adds the causes, each after a space.
 #[tactic(auto, using(crate::proofs::ResultLaws::causes_on), unfolding(crate::specs::Results::cause_words))]
 pub(crate) fn push_causes(text: &mut Vec<u8>, causes: &[Cause]) -> Result<(), OutOfMemory>
     ensures { OnOk result (text.new.items ≡ text.old.items ++ cause_words causes.now) }
@@ -114,9 +118,13 @@ pub(crate) fn push_causes(text: &mut Vec<u8>, causes: &[Cause]) -> Result<(), Ou
     Ok(())
 }
 
-/// The result of a round that was aborted, behind the task's name.
+/// The result of a round that was aborted, after the task's name.
 #[tactic(auto, using(crate::proofs::ResultLaws::some_aborted))]
-pub(crate) fn aborted(alloc: Global, name: &[u8], causes: &[Cause]) -> Result<Bytes, OutOfMemory>
+pub(crate) fn aborted_text(
+    alloc: Global,
+    name: &[u8],
+    causes: &[Cause],
+) -> Result<Bytes, OutOfMemory>
     ensures { IfOk result (λ b. b ≡ aborted_text name.now causes.now) }
 {
     let mut text = Vec::new(alloc);
@@ -126,7 +134,7 @@ pub(crate) fn aborted(alloc: Global, name: &[u8], causes: &[Cause]) -> Result<By
     bytes_of(alloc, &text)
 }
 
-/// A word of one byte or more, and two numbers, each behind a space.
+/// A word of one byte or more, and two numbers, each after a space.
 #[tactic(auto, using(crate::proofs::ResultLaws::some_words))]
 pub(crate) fn numbered_twice(
     alloc: Global,
@@ -159,13 +167,17 @@ fn for_each(alloc: Global, edits: Option<usize>, text: Bytes) -> Result<Vec<Byte
     ensures { IfOk result (λ texts. texts.items ≡ times edits text) }
 {
     match edits {
-        Some(count) => repeated(alloc, &text, count),
+        Some(count) => repeat_text(alloc, &text, count),
         None => once(alloc, text),
     }
 }
 
 /// The results of a task that was done.
-fn done(alloc: Global, edits: Option<usize>, outcome: Outcome) -> Result<Vec<Bytes>, OutOfMemory>
+fn done_texts(
+    alloc: Global,
+    edits: Option<usize>,
+    outcome: Outcome,
+) -> Result<Vec<Bytes>, OutOfMemory>
     requires fits { OutcomeFits outcome }
     requires few { AreFew edits }
     ensures { IfOk result (λ texts. texts.items ≡ done_texts edits outcome) }
@@ -175,11 +187,11 @@ fn done(alloc: Global, edits: Option<usize>, outcome: Outcome) -> Result<Vec<Byt
             once(alloc, numbered_twice(alloc, b"takeover", epoch, first)?)
         }
         Outcome::Log { first, .. } => match edits {
-            Some(count) => acked(alloc, first, count as u64),
+            Some(count) => acked_texts(alloc, first, count as u64),
             None => Ok(Vec::new(alloc)),
         },
-        Outcome::Roll { start } => once(alloc, numbered(alloc, b"roll", start)?),
-        Outcome::Close { last } => once(alloc, numbered(alloc, b"close", last)?),
+        Outcome::Roll { start } => once(alloc, numbered_text(alloc, b"roll", start)?),
+        Outcome::Close { last } => once(alloc, numbered_text(alloc, b"close", last)?),
         Outcome::Purge => once(alloc, bytes_of(alloc, b"purge ok")?),
     }
 }
@@ -198,15 +210,15 @@ pub(crate) fn results(
 {
     match turn {
         Turn::Going => Ok(Vec::new(alloc)),
-        Turn::Done(outcome) => done(alloc, edits, outcome),
-        Turn::Aborted => for_each(alloc, edits, aborted(alloc, name, causes)?),
-        Turn::EpochLimit { told } => once(alloc, numbered(alloc, b"takeover limit", told)?),
+        Turn::Done(outcome) => done_texts(alloc, edits, outcome),
+        Turn::Aborted => for_each(alloc, edits, aborted_text(alloc, name, causes)?),
+        Turn::EpochLimit { told } => once(alloc, numbered_text(alloc, b"takeover limit", told)?),
     }
 }
 
 /// The results of a task that found no open segment.
 #[tactic(auto, using(crate::proofs::ResultLaws::some_inactive))]
-pub(crate) fn inactive(
+pub(crate) fn inactive_texts(
     alloc: Global,
     name: &[u8],
     edits: Option<usize>,
@@ -227,7 +239,7 @@ pub(crate) fn too_long(
 ) -> Result<Vec<Bytes>, OutOfMemory>
     ensures { IfOk result (λ texts. texts.items ≡ times edits (word (codes "toolong") number)) }
 {
-    for_each(alloc, edits, numbered(alloc, b"toolong", number)?)
+    for_each(alloc, edits, numbered_text(alloc, b"toolong", number)?)
 }
 
 /// The result of a late copy of no call.

@@ -1,13 +1,12 @@
 // The images that a name node of a script saves.
 ghost use Rattle.std.specs.Prelude.{◌≡◌, [], OnOk, IfOk};
-ghost use Rattle.name_node.specs.Holding.{reloaded, min_to_keep};
+ghost use Rattle.name_node.specs.Holding.{reload_image, min_to_keep};
 ghost use Rattle.standby_tailer.specs.Standbys.{held};
 ghost use Rattle.script_actor.specs.Holdings.{one_saved};
 
 use image_store::{MinToKeep, min_to_keep};
 use journal_core::OutOfMemory;
-use qj_disk::MemDisk;
-use small_files::Put;
+use qj_disk::{DiskFail, MemDisk};
 use standby_tailer::{OpenedImage, Standby};
 use std::alloc::{AllocError, Global};
 use std::marker::Model;
@@ -52,9 +51,9 @@ impl SavedImages {
     {
         self.saves.push(Snapshot::of(standby))?;
         match standby.checkpoint(alloc, &mut self.disk) {
-            Put::Done => Ok(()),
-            Put::DiskFault => unreachable!(),
-            Put::OutOfMemory => {
+            Ok(()) => Ok(()),
+            Err(DiskFail::Failed) => unreachable!(),
+            Err(DiskFail::OutOfMemory) => {
                 self.disk = MemDisk::new(alloc);
                 self.saves.clear();
                 Err(AllocError)
@@ -64,7 +63,7 @@ impl SavedImages {
 
     /// The standby becomes what the newest image tells, or empty at position 0 where there is none.
     pub fn load(&mut self, alloc: Global, standby: &mut Standby) -> Result<(), OutOfMemory>
-        ensures loaded { OnOk result (held self.old standby.new ≡ reloaded (held self.old standby.old)) }
+        ensures loaded { OnOk result (held self.old standby.new ≡ reload_image (held self.old standby.old)) }
         ensures same { self.new ≡ self.old }
     {
         match standby.open(alloc, &mut self.disk) {

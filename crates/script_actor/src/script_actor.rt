@@ -5,14 +5,14 @@ ghost use Rattle.script_actor.specs.Lines.{line_of};
 ghost use Rattle.script_actor.specs.Actor.{last_of};
 ghost use Rattle.script_actor.specs.Named.{Stands};
 ghost use Rattle.script_actor.specs.Held.{IsOther};
-ghost use Rattle.script_actor.specs.Deeds.{ActorView, new_actor_view, has_names, kept_of, kept_by, deed_of, IsIdleActor, MayCome, TakesIf};
+ghost use Rattle.script_actor.specs.Actions.{ActorView, new_actor_view, has_names, kept_of, kept_by, action_of, IsIdleActor, MayCome, TakesIf};
 
-use crate::deeds::{take_late, take_mark, take_task};
+use crate::actions::{take_late, take_mark, take_task};
 use crate::held::Held;
 use crate::holding::NameHolding;
 use crate::named_tasks::take_segment_task;
 use crate::segment_task::SegmentTask;
-use crate::standby_deeds::{take_checkpoint, take_reload, take_tail};
+use crate::standby_actions::{take_checkpoint, take_reload, take_tail};
 use crate::submissions::take_edits;
 use crate::trims::take_trim;
 use caller_seats::Seats;
@@ -32,7 +32,7 @@ pub struct ScriptActor {
 
 impl Model for ScriptActor {
     ghost use Rattle.std.specs.Prelude.{option_map};
-    ghost use Rattle.script_actor.specs.Deeds.{ActorView};
+    ghost use Rattle.script_actor.specs.Actions.{ActorView};
     ghost use Rattle.script_actor.specs.Held.{holding_of, StandsIf};
 
     ghost Value = { ActorView };
@@ -61,8 +61,8 @@ impl ScriptActor {
         })
     }
 
-    /// The deed of a line, if it is an actor's: its calls, and its results. An actor that met a bad entry does
-    /// nothing more. Want of memory leaves the actor with no namespace.
+    /// The action of a line, if it is an actor's: its calls, and its results. An actor that met a bad entry does
+    /// nothing more. Lack of memory leaves the actor with no namespace.
     pub fn take_line<S: Seats>(
         &mut self,
         alloc: Global,
@@ -71,7 +71,7 @@ impl ScriptActor {
     ) -> Result<(), OutOfMemory>
         requires idle { IsIdleActor (S.log seats.old).nodes (kept_by self.old (S.log seats.old)) }
         requires may { MayCome (has_names self.old) (S.log seats.old).nodes line.now }
-        ensures takes { OnOk result (TakesIf (S.log seats.old).nodes (deed_of (line_of line.now)) (kept_by self.old (S.log seats.old)) (kept_by self.new (S.log seats.new))) }
+        ensures takes { OnOk result (TakesIf (S.log seats.old).nodes (action_of (line_of line.now)) (kept_by self.old (S.log seats.old)) (kept_by self.new (S.log seats.new))) }
         ensures named { OnOk result (has_names self.new ≡ has_names self.old) }
         ensures later { OnOk result (S.later seats.old seats.new) }
     {
@@ -104,7 +104,7 @@ fn take_raw<S: Seats>(
 ) -> Result<(), OutOfMemory>
     requires idle { IsIdleActor (S.log seats.old).nodes (kept_of writer.old.view None (S.log seats.old)) }
     requires may { MayCome false (S.log seats.old).nodes line.now }
-    ensures takes { OnOk result (TakesIf (S.log seats.old).nodes (deed_of (line_of line.now)) (kept_of writer.old.view None (S.log seats.old)) (kept_of writer.new.view None (S.log seats.new))) }
+    ensures takes { OnOk result (TakesIf (S.log seats.old).nodes (action_of (line_of line.now)) (kept_of writer.old.view None (S.log seats.old)) (kept_of writer.new.view None (S.log seats.new))) }
     ensures later { OnOk result (S.later seats.old seats.new) }
 {
     match line {
@@ -141,7 +141,7 @@ fn take_named<S: Seats>(
     requires idle { IsIdleActor (S.log seats.old).nodes (kept_of writer.old.view (Some held.holding) (S.log seats.old)) }
     requires may { MayCome true (S.log seats.old).nodes line.now }
     requires stands { Stands writer.old.view held.holding held.is_open }
-    ensures takes { IfOk result (λ new. TakesIf (S.log seats.old).nodes (deed_of (line_of line.now)) (kept_of writer.old.view (Some held.holding) (S.log seats.old)) (kept_of writer.new.view (Some new.holding) (S.log seats.new))) }
+    ensures takes { IfOk result (λ new. TakesIf (S.log seats.old).nodes (action_of (line_of line.now)) (kept_of writer.old.view (Some held.holding) (S.log seats.old)) (kept_of writer.new.view (Some new.holding) (S.log seats.new))) }
     ensures stands { IfOk result (λ new. Stands writer.new.view new.holding new.is_open) }
     ensures later { OnOk result (S.later seats.old seats.new) }
 {
@@ -179,7 +179,7 @@ fn take_other<S: Seats>(
     requires may { MayCome true (S.log seats.old).nodes line.now }
     requires free { held.holding.work ≡ Free }
     requires other { IsOther line.now }
-    ensures takes { IfOk result (λ new. TakesIf (S.log seats.old).nodes (deed_of (line_of line.now)) (kept_of writer.now.view (Some held.holding) (S.log seats.old)) (kept_of writer.now.view (Some new.holding) (S.log seats.new))) }
+    ensures takes { IfOk result (λ new. TakesIf (S.log seats.old).nodes (action_of (line_of line.now)) (kept_of writer.now.view (Some held.holding) (S.log seats.old)) (kept_of writer.now.view (Some new.holding) (S.log seats.new))) }
     ensures same { IfOk result (λ new. new ≡ held) }
     ensures later { OnOk result (S.later seats.old seats.new) }
 {

@@ -3,25 +3,25 @@ ghost use Rattle.std.specs.Prelude.{◌≡◌, ◌≢◌, ◌≤◌, ◌+◌, �
 ghost use Rattle.ns_tree.specs.Space.{AreRising};
 ghost use Rattle.writer_core.specs.declared.task.Task.TheVariants as task;
 ghost use Rattle.writer_core.specs.Writer.{is_writing, log_limit, writer_begun};
-ghost use Rattle.name_node.specs.Holding.{Free, Logs, working};
+ghost use Rattle.name_node.specs.Holding.{Free, Logs, with_work};
 ghost use Rattle.standby_tailer.specs.Standbys.{StandbyView, held};
 ghost use Rattle.active_name.specs.Pendings.{PendsFrom};
 ghost use Rattle.script_actor.specs.Lines.{Submits};
 ghost use Rattle.script_actor.specs.ResultLists.{TurnFits};
 ghost use Rattle.script_actor.specs.Actor.{logged_when};
-ghost use Rattle.script_actor.specs.KeptActor.{shown, resting};
+ghost use Rattle.script_actor.specs.KeptActor.{as_actor, resting};
 ghost use Rattle.script_actor.specs.Ready.{IsReady};
 ghost use Rattle.script_actor.specs.Named.{Stands};
 ghost use Rattle.script_actor.specs.Submitting.{AreSubmitted, dues_of, MayHold, log_texts, log_held};
-ghost use Rattle.script_actor.specs.Deeds.{kept_of, IsIdleActor, TakesDeed, ComesToRest};
+ghost use Rattle.script_actor.specs.Actions.{kept_of, IsIdleActor, TakesAction, ComesToRest};
 
-use crate::deeds::{finish, say_all};
+use crate::actions::{finish, say_all};
 use crate::edit_due::EditDue;
 use crate::held::Held;
 use crate::holding::NameHolding;
 use crate::name_results::{logged_results, lost_results};
-use crate::named_tasks::{is_opened, reloaded};
-use crate::results::{aborted, bytes_of, repeated};
+use crate::named_tasks::{is_opened, reload_holding};
+use crate::results::{aborted_text, bytes_of, repeat_text};
 use crate::saved_images::SavedImages;
 use active_name::Pending;
 use caller_seats::Seats;
@@ -43,14 +43,14 @@ pub(crate) fn take_edits<S: Seats>(
     requires idle { IsIdleActor (S.log seats.old).nodes (kept_of writer.old.view (Some held.holding) (S.log seats.old)) }
     requires free { held.holding.work ≡ Free }
     requires stands { Stands writer.old.view held.holding held.is_open }
-    ensures takes { IfOk result (λ new. TakesDeed (S.log seats.old).nodes (Submits edits.now) (kept_of writer.old.view (Some held.holding) (S.log seats.old)) (kept_of writer.new.view (Some new.holding) (S.log seats.new))) }
+    ensures takes { IfOk result (λ new. TakesAction (S.log seats.old).nodes (Submits edits.now) (kept_of writer.old.view (Some held.holding) (S.log seats.old)) (kept_of writer.new.view (Some new.holding) (S.log seats.new))) }
     ensures stands { IfOk result (λ new. Stands writer.new.view new.holding new.is_open) }
     ensures later { OnOk result (S.later seats.old seats.new) }
 {
     let edits = edits.as_slice();
     if !held.is_open {
         let text = bytes_of(alloc, b"inactive")?;
-        say_all(seats, repeated(alloc, &text, edits.len())?)?;
+        say_all(seats, repeat_text(alloc, &text, edits.len())?)?;
         return Ok(held);
     }
     log_edits(alloc, writer, held.holding, seats, edits)
@@ -133,7 +133,7 @@ fn log_bodies<S: Seats>(
     requires fits { log_limit writer.old.view bodies ≡ None }
     requires rising { AreRising 0 (writer.old.view.next - 1 + length bodies) ahead.calls }
     ensures rests { IfOk result (λ new. (standby : StandbyView) → ComesToRest (S.log seats.old).nodes
-        (shown (Some (task.Log bodies)) [] (kept_of (writer_begun writer.old.view (task.Log bodies)).writer (Some (working (Logs ahead (dues_of dues.now)) (held images standby))) (S.log seats.old)))
+        (as_actor (Some (task.Log bodies)) [] (kept_of (writer_begun writer.old.view (task.Log bodies)).writer (Some (with_work (Logs ahead (dues_of dues.now)) (held images standby))) (S.log seats.old)))
         (kept_of writer.new.view (Some new.holding) (S.log seats.new))) }
     ensures stands { IfOk result (λ new. Stands writer.new.view new.holding new.is_open) }
     ensures later { OnOk result (S.later seats.old seats.new) }
@@ -161,7 +161,7 @@ fn log_results(
 {
     match turn {
         Turn::Done(Outcome::Log { first, .. }) => logged_results(alloc, first, dues),
-        Turn::Aborted => lost_results(alloc, &aborted(alloc, b"", causes)?, dues),
+        Turn::Aborted => lost_results(alloc, &aborted_text(alloc, b"", causes)?, dues),
         _ => Ok(Vec::new(alloc)),
     }
 }
@@ -181,6 +181,6 @@ fn hold_logged(
         Turn::Done(Outcome::Log { last, .. }) => {
             Ok(NameHolding::of(Standby::of(ahead, last), images))
         }
-        _ => reloaded(alloc, NameHolding::of(Standby::new(alloc)?, images)),
+        _ => reload_holding(alloc, NameHolding::of(Standby::new(alloc)?, images)),
     }
 }

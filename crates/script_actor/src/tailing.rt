@@ -49,8 +49,8 @@ pub(crate) fn tail<S: Seats>(
 {
     let mut told = Vec::new(alloc);
     let mut step = standby.begin_pass(until);
-    while step.is_going() {
+    while step.has_more_calls() {
         step = ask(alloc, standby, seats, until, &mut told)?;
     }
-    Ok(step.ended())
+    Ok(step.end_tail())
 }

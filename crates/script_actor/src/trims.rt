@@ -6,9 +6,9 @@ ghost use Rattle.script_actor.specs.Lines.{Trims};
 ghost use Rattle.script_actor.specs.Actor.{trim_at};
 ghost use Rattle.script_actor.specs.KeptActor.{resting};
 ghost use Rattle.script_actor.specs.Named.{Stands};
-ghost use Rattle.script_actor.specs.Deeds.{kept_of, IsIdleActor, TakesDeed, ComesToRest};
+ghost use Rattle.script_actor.specs.Actions.{kept_of, IsIdleActor, TakesAction, ComesToRest};
 
-use crate::deeds::{finish, say_all};
+use crate::actions::{finish, say_all};
 use crate::held::Held;
 use crate::holding::NameHolding;
 use crate::name_results::{one_word, trim_results};
@@ -29,7 +29,7 @@ pub(crate) fn take_trim<S: Seats>(
     requires idle { IsIdleActor (S.log seats.old).nodes (kept_of writer.old.view (Some held.holding) (S.log seats.old)) }
     requires free { held.holding.work ≡ Free }
     requires stands { Stands writer.old.view held.holding held.is_open }
-    ensures takes { IfOk result (λ new. TakesDeed (S.log seats.old).nodes (Trims extra) (kept_of writer.old.view (Some held.holding) (S.log seats.old)) (kept_of writer.new.view (Some new.holding) (S.log seats.new))) }
+    ensures takes { IfOk result (λ new. TakesAction (S.log seats.old).nodes (Trims extra) (kept_of writer.old.view (Some held.holding) (S.log seats.old)) (kept_of writer.new.view (Some new.holding) (S.log seats.new))) }
     ensures stands { IfOk result (λ new. Stands writer.new.view new.holding new.is_open) }
     ensures later { OnOk result (S.later seats.old seats.new) }
 {

@@ -15,7 +15,7 @@ use Rattle.script_maker.specs.declared.chance.Chance.{Chance}
 use Rattle.script_maker.specs.declared.chance.Chance.TheVariants as chance
 use Rattle.script_maker.specs.Draws.{next_state, drawn}
 use Rattle.script_maker.specs.declared.making.Making.{Making}
-use Rattle.script_maker.specs.Generated.{IsWithin, chance_of, after_draw, node_drawn, chance_lines, lines_before, directory_edit, file_edit, edit_behind, edit_lines, first_making, generated}
+use Rattle.script_maker.specs.Generated.{IsWithin, chance_of, after_draw, node_drawn, chance_lines, lines_before, directory_edit, file_edit, edit_after, edit_lines, first_making, generated}
 use Rattle.script_maker.proofs.EditLaws.{IsPlainWord, words_are, IsShort, directory_is_short, file_is_short, number_short}
 
 -- ## Short lines
@@ -40,7 +40,7 @@ fits said line words e h few =
 number_fits : (n : ℕ) → n ≤ 15 → IsShortWord (decimal n)
 number_fits n l = let short : length (decimal n) ≤ 5 = number_short n (omega (arith, l)) in omega (arith, short)
 
--- ## Lines behind the declarations
+-- ## Lines after the declarations
 abbrev said_all : ℕ → SaidView
 said_all nodes = record { named = true; nodes = nodes; names = codes "a" ∷ codes "b" ∷ codes "s" ∷ [] }
 
@@ -138,8 +138,8 @@ edits_may nodes (suc zero) e w s =
     }
 edits_may nodes (suc (suc n)) e w s = absurd (omega (arith, w))
 
-behind_is_short : (count : ℕ) → count < 10000 → IsShort (edit_behind count)
-behind_is_short count l = by (count % 100 == 0)
+after_is_short : (count : ℕ) → count < 10000 → IsShort (edit_after count)
+after_is_short count l = by (count % 100 == 0)
   where
     few : count / 100 ≤ 100
     few = div-le_of_le-mul 100 (omega (arith, l))
@@ -192,11 +192,11 @@ module _ (nodes : ℕ) (some : 1 ≤ nodes) (most : nodes ≤ 15) where
   edit_lines_may zero count m lines few w r = r
   edit_lines_may (suc left) count m lines few w r =
       let next : Making = (lines_before nodes m).next in
-      let line : ScriptLine = Edits next.writer (edit_behind count ∷ []) in
+      let line : ScriptLine = Edits next.writer (edit_after count ∷ []) in
       let writer : next.writer ≤ 1 = before_writer m w in
       subst (AreLines (said_all nodes)) (sym (append_assoc (lines_before nodes m).lines (line ∷ edit_lines nodes left (count + 1) next) lines))
       (before_may m (line ∷ edit_lines nodes left (count + 1) next ++ lines) w
-      (lines_on nodes line (edit_lines nodes left (count + 1) next ++ lines) (edits_may nodes next.writer (edit_behind count) writer (behind_is_short count (omega (arith, few))))
+      (lines_on nodes line (edit_lines nodes left (count + 1) next ++ lines) (edits_may nodes next.writer (edit_after count) writer (after_is_short count (omega (arith, few))))
       (edit_lines_may left (count + 1) next lines (omega (arith, few)) writer r)))
 
 -- ## The whole

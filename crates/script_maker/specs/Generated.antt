@@ -81,16 +81,16 @@ directory_edit directory number = record { op = Mkdir (directory_path directory)
 abbrev pub file_edit : ℕ → ℕ → EditView
 file_edit directory number = record { op = Add (file_path directory number) 3 number number 1 420 owner owner; call = None }
 
--- the edit behind so many others; its times are its number, from 1
-abbrev pub edit_behind : ℕ → EditView
-edit_behind count = if count % 100 == 0 then directory_edit (count / 100) (count + 1) else file_edit (count / 100) (count + 1)
+-- the edit after so many others; its times are its number, from 1
+abbrev pub edit_after : ℕ → EditView
+edit_after count = if count % 100 == 0 then directory_edit (count / 100) (count + 1) else file_edit (count / 100) (count + 1)
 
 -- ## The lines
--- so many edits, behind so many others, each with what happens before it
+-- so many edits, after so many others, each with what happens before it
 unfoldable pub edit_lines : ℕ → ℕ → ℕ → Making → List ScriptLine
 edit_lines nodes zero count m = []
 edit_lines nodes (suc edits) count m =
-    (lines_before nodes m).lines ++ Edits (lines_before nodes m).next.writer (edit_behind count ∷ []) ∷ edit_lines nodes edits (count + 1) (lines_before nodes m).next
+    (lines_before nodes m).lines ++ Edits (lines_before nodes m).next.writer (edit_after count ∷ []) ∷ edit_lines nodes edits (count + 1) (lines_before nodes m).next
 
 -- the actors, and the first takeover
 abbrev pub first_lines : List ScriptLine

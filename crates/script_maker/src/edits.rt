@@ -1,7 +1,7 @@
 // The edits of a generated script.
 ghost use Rattle.std.specs.Prelude.{◌≡◌, ◌++◌, ◌∷◌, [], ◌<◌, ◌≤◌, ◌+◌, IfOk, OnOk};
 ghost use Rattle.script_text.specs.declared.script_line.ScriptLine.TheVariants.{Edits};
-ghost use Rattle.script_maker.specs.Generated.{directory_path, file_path, owner, directory_edit, file_edit, edit_behind};
+ghost use Rattle.script_maker.specs.Generated.{directory_path, file_path, owner, directory_edit, file_edit, edit_after};
 
 use edit_ops::{Edit, EditList, Op};
 use journal_core::OutOfMemory;
@@ -75,10 +75,10 @@ fn file_edit(alloc: Global, directory: u64, number: u64) -> Result<Edit, OutOfMe
     Ok(Edit { op, call: None })
 }
 
-/// The edit behind so many others.
-fn edit_behind(alloc: Global, count: u64) -> Result<Edit, OutOfMemory>
+/// The edit after so many others.
+fn edit_after(alloc: Global, count: u64) -> Result<Edit, OutOfMemory>
     requires { count < 10000 }
-    ensures { IfOk result (λ edit. edit ≡ edit_behind count) }
+    ensures { IfOk result (λ edit. edit ≡ edit_after count) }
 {
     let directory = count / DIRECTORY_STEP;
     if count % DIRECTORY_STEP == 0 {
@@ -88,7 +88,7 @@ fn edit_behind(alloc: Global, count: u64) -> Result<Edit, OutOfMemory>
     }
 }
 
-/// Adds the line with which the writer logs the edit behind so many others.
+/// Adds the line with which the writer logs the edit after so many others.
 pub(crate) fn put_edit(
     alloc: Global,
     lines: &mut Vec<ScriptLine>,
@@ -96,10 +96,10 @@ pub(crate) fn put_edit(
     count: u64,
 ) -> Result<(), OutOfMemory>
     requires { count < 10000 }
-    ensures { OnOk result (lines.new.items ≡ lines.old.items ++ Edits writer (edit_behind count ∷ []) ∷ []) }
+    ensures { OnOk result (lines.new.items ≡ lines.old.items ++ Edits writer (edit_after count ∷ []) ∷ []) }
 {
     let mut edits = EditList::new(alloc);
-    edits.push(edit_behind(alloc, count)?)?;
+    edits.push(edit_after(alloc, count)?)?;
     lines.push(ScriptLine::Edits {
         actor: writer,
         edits,

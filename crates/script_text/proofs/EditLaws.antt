@@ -113,7 +113,7 @@ are_groups (word ∷ words) h = by (is_separator word) refl (are_groups words h.
     by true e rest = (record { lacks = tt; no_separator = refl }, rest)
     by false e rest = onto_group word (slice_split is_separator words) h.0 e rest
 
--- a group, and a word `;` behind it
+-- a group, and a word `;` after it
 split_apart : (group words : List (List ℕ)) → list_any is_separator group ≡ false → slice_split is_separator (group ++ separator ∷ words) ≡ group ∷ slice_split is_separator words
 split_apart [] words n = refl
 split_apart (word ∷ group) words n =
@@ -273,7 +273,7 @@ said_by_texts es words l t h =
     said_by_groups es words a.0 a.1
 
 -- ## Texts at their words `;`
--- words, each with a space behind it
+-- words, each with a space after it
 abbrev pub ended_words : List (List ℕ) → List ℕ
 ended_words words = flat_map (λ word. word ++ 32 ∷ []) words
 

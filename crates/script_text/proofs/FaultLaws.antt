@@ -10,12 +10,12 @@ use Rattle.script_text.specs.declared.script_line.ScriptLine.{ScriptLine}
 use Rattle.script_text.specs.Views.{ScriptView, SaidView}
 use Rattle.script_text.specs.Lines.{Line, Ended, Open, lines_of, is_line, is_whole, Lacks, longest_line}
 use Rattle.line_words.specs.Words.{words_of, first_word}
-use Rattle.script_text.specs.Grammar.{line_text, words_in, said_after, first_line, nothing_said, texts_of, MaySay, AreLines, is_silent, telling, script_lines, IsScript, IsScriptText}
-use Rattle.script_text.specs.Rules.{kind_of, bad_spacing, rule_said, rule_of, said_first, said_behind, said_next, or_later, first_fault, fault_of}
+use Rattle.script_text.specs.Grammar.{line_text, words_in, said_after, first_line, nothing_said, texts_of, MaySay, AreLines, is_silent, lines_that_say, script_lines, IsScript, IsScriptText}
+use Rattle.script_text.specs.Rules.{kind_of, bad_spacing, rule_said, rule_of, said_first, said_with_line, said_next, or_later, first_fault, fault_of}
 use Rattle.script_text.specs.Reading.{Says}
 use Rattle.line_words.proofs.WordLaws.{text_is}
 use Rattle.script_text.proofs.WordLaws.{words_more, words_all}
-use Rattle.script_text.proofs.KindLaws.{first_is, too_few, count_behind, no_kind, ill_spaced, rule_later, line_read_as}
+use Rattle.script_text.proofs.KindLaws.{first_is, too_few, count_after, no_kind, ill_spaced, rule_later, line_read_as}
 use Rattle.script_text.proofs.EditLaws.{words_lack}
 use Rattle.script_text.proofs.MeansLaws.{means_kind}
 use Rattle.script_text.proofs.FirstLaws.{first_tells}
@@ -51,7 +51,7 @@ Meaning said text = (line : ScriptLine) × Says said text line
 means_words : (said : SaidView) (text : List ℕ) (k : Kind) (words : List (List ℕ)) → AllByRecursion (Lacks 32) words → kind_of said.named (first_word (words_of text)) ≡ Some k → bad_spacing k (words_of text) ≡ false
     → words_of text ≡ first_word (words_of text) ∷ words → rule_said (Some said) text ≡ None → Meaning said text
 means_words said text k words a f b w e =
-    let m = means_kind said k words a (count_behind k (words_of text) (first_word (words_of text)) words b w) (sym (rule_later said text k words f b w) ∙ e) in
+    let m = means_kind said k words a (count_after k (words_of text) (first_word (words_of text)) words b w) (sym (rule_later said text k words f b w) ∙ e) in
     (m.0, line_read_as said text k words (line_read.Says m.0) f b w m.1)
 
 means_kind_of : (said : SaidView) (text : List ℕ) (k : Kind) → kind_of said.named (first_word (words_of text)) ≡ Some k → bad_spacing k (words_of text) ≡ false → rule_said (Some said) text ≡ None → Meaning said text
@@ -77,9 +77,9 @@ later_none number (Some rule) later e = cc
 later_none number None later e = (refl, e)
 
 fault_next : (number : ℕ) (said : Option SaidView) (text : List ℕ) (ls : List Line) → first_fault number said (Ended text ∷ ls) ≡ None
-    → (rule_of said text ≡ None) × (first_fault (number + 1) (said_behind said text) ls ≡ None)
+    → (rule_of said text ≡ None) × (first_fault (number + 1) (said_with_line said text) ls ≡ None)
 unfolding first_fault
-fault_next number said text ls e = later_none number (rule_of said text) (first_fault (number + 1) (said_behind said text) ls) e
+fault_next number said text ls e = later_none number (rule_of said text) (first_fault (number + 1) (said_with_line said text) ls) e
 
 open_faults : (number : ℕ) (said : Option SaidView) (text : List ℕ) (ls : List Line) → first_fault number said (Open text ∷ ls) ≡ None → ⊥
 unfolding first_fault
@@ -97,24 +97,24 @@ said_good : (said : Option SaidView) (text : List ℕ) → rule_of said text ≡
 unfolding rule_of
 said_good said text e w q = rw (w, q) at e
 
-behind_silent : (said : Option SaidView) (text : List ℕ) → is_silent text ≡ true → said_behind said text ≡ said
-unfolding said_behind
-behind_silent said text q = rw q refl
+after_silent : (said : Option SaidView) (text : List ℕ) → is_silent text ≡ true → said_with_line said text ≡ said
+unfolding said_with_line
+after_silent said text q = rw q refl
 
-behind_loud : (said : Option SaidView) (text : List ℕ) → is_silent text ≡ false → said_behind said text ≡ said_next said text
-unfolding said_behind
-behind_loud said text q = rw q refl
+after_loud : (said : Option SaidView) (text : List ℕ) → is_silent text ≡ false → said_with_line said text ≡ said_next said text
+unfolding said_with_line
+after_loud said text q = rw q refl
 
-pub telling_silent : (text : List ℕ) (lines : List Line) → is_silent text ≡ true → telling (Ended text ∷ lines) ≡ telling lines
+pub telling_silent : (text : List ℕ) (lines : List Line) → is_silent text ≡ true → lines_that_say (Ended text ∷ lines) ≡ lines_that_say lines
 telling_silent text lines q = rw q refl
 
-pub telling_loud : (text : List ℕ) (lines : List Line) → is_silent text ≡ false → telling (Ended text ∷ lines) ≡ text ∷ telling lines
+pub telling_loud : (text : List ℕ) (lines : List Line) → is_silent text ≡ false → lines_that_say (Ended text ∷ lines) ≡ text ∷ lines_that_say lines
 telling_loud text lines q = rw q refl
 
 -- the lines say this script's lines
 pub record AreSaid (said : SaidView) (ls : List Line) (script : List ScriptLine) : Type 0 where
   pub whole : list_all is_whole ls ≡ true
-  pub says : telling ls ≡ texts_of said script
+  pub says : lines_that_say ls ≡ texts_of said script
   pub lines : AreLines said script
 
 nothing_left : (said : SaidView) → AreSaid said [] []
@@ -132,7 +132,7 @@ said_loud said text ls line lines w q s a =
     let may : MaySay said line = record { here = s.here; sense = s.sense; fits = subst (λ (t : List ℕ). length t ≤ longest_line) same (line_fits text w) } in
     record {
       whole = rw w a.whole;
-      says = telling_loud text ls q ∙ ap (λ t. t ∷ telling ls) same ∙ ap (λ ts. line_text said line ∷ ts) a.says;
+      says = telling_loud text ls q ∙ ap (λ t. t ∷ lines_that_say ls) same ∙ ap (λ ts. line_text said line ∷ ts) a.says;
       lines = (may, a.lines);
     }
 
@@ -143,10 +143,10 @@ lines_said number said (Ended text ∷ ls) e =
     let f = fault_next number (Some said) text ls e in
     let w = line_good (Some said) text f.0 in
     elim (bool_is (is_silent text)) [
-      | inl q ↦ let rest = lines_said (number + 1) said ls (ap (λ s. first_fault (number + 1) s ls) (sym (behind_silent (Some said) text q)) ∙ f.1) in (rest.0, said_silent said text ls rest.0 w q rest.1)
+      | inl q ↦ let rest = lines_said (number + 1) said ls (ap (λ s. first_fault (number + 1) s ls) (sym (after_silent (Some said) text q)) ∙ f.1) in (rest.0, said_silent said text ls rest.0 w q rest.1)
       | inr q ↦
           let m = means said text (said_good (Some said) text f.0 w q) in
-          let next : said_behind (Some said) text ≡ Some (said_after said m.0) = behind_loud (Some said) text q ∙ said_is said text m.0 m.1.here m.1.words in
+          let next : said_with_line (Some said) text ≡ Some (said_after said m.0) = after_loud (Some said) text q ∙ said_is said text m.0 m.1.here m.1.words in
           let rest = lines_said (number + 1) (said_after said m.0) ls (ap (λ s. first_fault (number + 1) s ls) (sym next) ∙ f.1) in
           (m.0 ∷ rest.0, said_loud said text ls m.0 rest.0 w q m.1 rest.1)
     ]
@@ -154,7 +154,7 @@ lines_said number said (Ended text ∷ ls) e =
 -- the lines are a script's, from the first that says something on
 pub record AreScript (ls : List Line) (s : ScriptView) : Type 0 where
   pub whole : list_all is_whole ls ≡ true
-  pub says : telling ls ≡ script_lines s
+  pub says : lines_that_say ls ≡ script_lines s
   pub script : IsScript s
 
 end_faults : (number : ℕ) → first_fault number None [] ≡ None → ⊥
@@ -177,18 +177,18 @@ script_said number (Ended text ∷ ls) e =
     let w = line_good None text f.0 in
     elim (bool_is (is_silent text)) [
       | inl q ↦
-          let rest = script_said (number + 1) ls (ap (λ s. first_fault (number + 1) s ls) (sym (behind_silent None text q)) ∙ f.1) in
+          let rest = script_said (number + 1) ls (ap (λ s. first_fault (number + 1) s ls) (sym (after_silent None text q)) ∙ f.1) in
           (rest.0, record { whole = rw w rest.1.whole; says = telling_silent text ls q ∙ rest.1.says; script = rest.1.script })
       | inr q ↦
           let first = first_good text (said_good None text f.0 w q) in
           let told = first_tells text first.0 first.1 in
-          let next : said_behind None text ≡ Some (nothing_said first.0.named first.0.nodes) = behind_loud None text q ∙ first.1 ∙ ap (λ (v : SaidView). Some v) told.begins in
+          let next : said_with_line None text ≡ Some (nothing_said first.0.named first.0.nodes) = after_loud None text q ∙ first.1 ∙ ap (λ (v : SaidView). Some v) told.begins in
           let rest = lines_said (number + 1) (nothing_said first.0.named first.0.nodes) ls (ap (λ s. first_fault (number + 1) s ls) (sym next) ∙ f.1) in
           let s : ScriptView = record { named = first.0.named; nodes = first.0.nodes; lines = rest.0 } in (
             s,
             record {
               whole = rw w rest.1.whole;
-              says = telling_loud text ls q ∙ ap (λ t. t ∷ telling ls) told.spelled ∙ ap (λ ts. first_line first.0.named first.0.nodes ∷ ts) rest.1.says;
+              says = telling_loud text ls q ∙ ap (λ t. t ∷ lines_that_say ls) told.spelled ∙ ap (λ ts. first_line first.0.named first.0.nodes ∷ ts) rest.1.says;
               script = record { some = told.some; most = told.most; lines = rest.1.lines };
             },
           )

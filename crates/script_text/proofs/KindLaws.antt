@@ -119,36 +119,36 @@ too_few k words w s = ap (bad_spacing k) s ∙ ap (λ b. list_any is_empty (w �
 
 pub ruleset spacings = (first_is, too_few)
 
-pub count_behind : (k : Kind) (words : List (List ℕ)) (w : List ℕ) (ws : List (List ℕ)) → bad_spacing k words ≡ false → words ≡ w ∷ ws → has_length k (length ws + 1) ≡ true
-count_behind k words w ws e s =
+pub count_after : (k : Kind) (words : List (List ℕ)) (w : List ℕ) (ws : List (List ℕ)) → bad_spacing k words ≡ false → words ≡ w ∷ ws → has_length k (length ws + 1) ≡ true
+count_after k words w ws e s =
     let n : length words ≡ length ws + 1 = ap length s ∙ omega arith in
     ap (has_length k) (sym n) ∙ not_false (has_length k (length words)) (or_parts (list_any is_empty words) (not (has_length k (length words))) e).1
 
-pub behind_one : (n : ℕ) → ((n + 1) == 2) ≡ true → n ≡ 1
-behind_one n e = grind (arith, nat_tests)
+pub after_one : (n : ℕ) → ((n + 1) == 2) ≡ true → n ≡ 1
+after_one n e = grind (arith, nat_tests)
 
 pub behind_two : (n : ℕ) → ((n + 1) == 3) ≡ true → n ≡ 2
 behind_two n e = grind (arith, nat_tests)
 
-pub behind_three : (n : ℕ) → ((n + 1) == 4) ≡ true → n ≡ 3
-behind_three n e = grind (arith, nat_tests)
+pub after_three : (n : ℕ) → ((n + 1) == 4) ≡ true → n ≡ 3
+after_three n e = grind (arith, nat_tests)
 
-pub behind_four : (n : ℕ) → ((n + 1) == 5) ≡ true → n ≡ 4
-behind_four n e = grind (arith, nat_tests)
+pub after_four : (n : ℕ) → ((n + 1) == 5) ≡ true → n ≡ 4
+after_four n e = grind (arith, nat_tests)
 
-pub behind_some : (n : ℕ) → nat_le 3 (n + 1) ≡ true → 2 ≤ n
-behind_some n e = grind (arith, nat_tests)
+pub after_some : (n : ℕ) → nat_le 3 (n + 1) ≡ true → 2 ≤ n
+after_some n e = grind (arith, nat_tests)
 
 pub one_operand : (text : List ℕ) → ((length (words_of text) + 1) == 2) ≡ true → words_of text ≡ text ∷ []
-one_operand text e = one_word text (behind_one (length (words_of text)) e)
+one_operand text e = one_word text (after_one (length (words_of text)) e)
 
 pub no_bodies : (text : List ℕ) → nat_le 3 (length (words_of text) + 1) ≡ true → words_of text ≡ text ∷ [] → ⊥
 no_bodies text e s =
-    let n : 2 ≤ length (words_of text) = behind_some (length (words_of text)) e in
+    let n : 2 ≤ length (words_of text) = after_some (length (words_of text)) e in
     let m : length (words_of text) ≡ 1 = ap length s in
     omega arith
 
-pub ruleset arities = (behind_two, behind_three, behind_four, one_operand)
+pub ruleset arities = (behind_two, after_three, after_four, one_operand)
 
 -- ## The first tests
 pub no_kind : (said : SaidView) (text : List ℕ) → kind_of said.named (first_word (words_of text)) ≡ None → rule_said (Some said) text ≡ Some 2

@@ -39,7 +39,7 @@ use Rattle.script_text.proofs.EditLaws.{edits_told, said_by_texts}
 use Rattle.line_words.proofs.NumberLaws.{told_number}
 use Rattle.script_text.proofs.NumberLaws.{chosen}
 use Rattle.script_text.proofs.NameLaws.{named}
-use Rattle.script_text.proofs.KindLaws.{not_false, behind_one, behind_two, behind_three, behind_four, behind_some}
+use Rattle.script_text.proofs.KindLaws.{not_false, after_one, behind_two, after_three, after_four, after_some}
 
 -- ## Lists of so many words
 one_of : (ws : List (List ℕ)) → length ws ≡ 1 → (a : List ℕ) × (ws ≡ a ∷ [])
@@ -87,7 +87,7 @@ actor_is : (names : List (List ℕ)) (name : List ℕ) → is_none (actor_of nam
 actor_is names name e = let found = some_is (actor_of names name) e in (found.0, named names name found.0 found.1)
 
 -- ## Kind by kind
--- a line of that kind with these words behind the first
+-- a line of that kind with these words after the first
 abbrev Meaning : SaidView → Kind → List (List ℕ) → Type 0
 Meaning said k words = (l : ScriptLine) × IsRead said k words (line_read.Says l)
 
@@ -218,38 +218,38 @@ cut_words said i calls made word e =
 
 pub means_kind : (said : SaidView) (k : Kind) (words : List (List ℕ)) → AllByRecursion (Lacks 32) words → has_length k (length words + 1) ≡ true → later_rule said k words ≡ None → (l : ScriptLine) × IsRead said k words (line_read.Says l)
 means_kind said kind.Declare words l n =
-    let w = one_of words (behind_one (length words) n) in
+    let w = one_of words (after_one (length words) n) in
     with_words said kind.Declare words (w.0 ∷ []) w.1 (means_declaration said w.0)
 means_kind said (kind.Task t) words l n =
-    let w = one_of words (behind_one (length words) n) in
+    let w = one_of words (after_one (length words) n) in
     with_words said (kind.Task t) words (w.0 ∷ []) w.1 (task_words said t w.0)
 means_kind said kind.Log words l n =
-    let w = more_of words (behind_some (length words) n) in
+    let w = more_of words (after_some (length words) n) in
     with_words said kind.Log words (w.0 ∷ w.1) w.3 (means_log said w.0 w.1 w.2)
 means_kind said kind.Edits words l n =
-    let w = more_of words (behind_some (length words) n) in
+    let w = more_of words (after_some (length words) n) in
     let lacks = subst (AllByRecursion (Lacks 32)) w.3 l in
     with_words said kind.Edits words (w.0 ∷ w.1) w.3 (means_edits said w.0 w.1 lacks.1)
 means_kind said kind.Trim words l n =
     let w = two_of words (behind_two (length words) n) in
     with_words said kind.Trim words (w.0 ∷ w.1 ∷ []) w.2 (means_trim said w.0 w.1)
 means_kind said (kind.Standby t) words l n =
-    let w = one_of words (behind_one (length words) n) in
+    let w = one_of words (after_one (length words) n) in
     with_words said (kind.Standby t) words (w.0 ∷ []) w.1 (standby_words said t w.0)
 means_kind said kind.Purge words l n =
     let w = two_of words (behind_two (length words) n) in
     with_words said kind.Purge words (w.0 ∷ w.1 ∷ []) w.2 (means_purge said w.0 w.1)
 means_kind said (kind.Call c) words l n =
-    let w = three_of words (behind_three (length words) n) in
+    let w = three_of words (after_three (length words) n) in
     with_words said (kind.Call c) words (w.0 ∷ w.1 ∷ w.2 ∷ []) w.3 (call_words said c w.0 w.1 w.2)
 means_kind said (kind.Node t) words l n =
-    let w = one_of words (behind_one (length words) n) in
+    let w = one_of words (after_one (length words) n) in
     with_words said (kind.Node t) words (w.0 ∷ []) w.1 (node_words said t w.0)
 means_kind said kind.Stop words l n =
-    let w = three_of words (behind_three (length words) n) in
+    let w = three_of words (after_three (length words) n) in
     with_words said kind.Stop words (w.0 ∷ w.1 ∷ w.2 ∷ []) w.3 (stop_words said w.0 w.1 w.2)
 means_kind said kind.Cut words l n =
-    let w = four_of words (behind_four (length words) n) in
+    let w = four_of words (after_four (length words) n) in
     with_words said kind.Cut words (w.0 ∷ w.1 ∷ w.2 ∷ w.3 ∷ []) w.4 (cut_words said w.0 w.1 w.2 w.3)
 
 -- ## What is read

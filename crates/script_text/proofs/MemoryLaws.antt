@@ -8,24 +8,26 @@ use Rattle.script_text.specs.declared.script_line.ScriptLine.{ScriptLine}
 use Rattle.script_text.specs.Views.{SaidView, ReadingView}
 use Rattle.script_text.specs.Lines.{Line, Ended, Open, lines_of, is_line}
 use Rattle.line_words.specs.Words.{words_of, first_word}
-use Rattle.script_text.specs.Words.{is_name, actor_of}
+use Rattle.std.specs.List.{list_all}
+use Rattle.request_text.specs.Reading.{bodies_in}
+use Rattle.script_text.specs.Words.{is_name, actor_of, is_body}
+use Rattle.script_text.proofs.BodyLaws.{bodies_test}
 use Rattle.script_text.specs.Grammar.{most_actors, is_silent}
-use Rattle.script_text.specs.Rules.{kind_of, bad_spacing, bad_name, too_many, declared_again, bad_actor, bad_number, bad_body, bad_edits, later_rule, rule_in, rule_said, rule_of, said_in, said_behind, or_later, first_fault, fault_of}
+use Rattle.script_text.specs.Rules.{kind_of, bad_spacing, bad_name, too_many, declared_again, bad_actor, bad_number, bad_body, bad_edits, later_rule, rule_in, rule_said, rule_of, said_in, said_with_line, or_later, first_fault, fault_of}
 use Rattle.script_text.specs.Reading.{Names, Says, IsBehind, takes_memory}
 use Rattle.script_text.proofs.KindLaws.{rule_later}
 
 -- ## Kind by kind
-body_test : (b : Bool) → takes_memory (cond b (Some 8) None) ≡ true
-body_test true = refl
-body_test false = refl
-
 edit_test : (b : Bool) → takes_memory (cond b (Some 9) None) ≡ true
 edit_test true = refl
 edit_test false = refl
 
-pub log_takes : (said : SaidView) (name : List ℕ) (bodies : List (List ℕ)) (actor : ℕ) → Names said.names name actor → takes_memory (later_rule said kind.Log (name ∷ bodies)) ≡ true
-log_takes said name bodies actor n =
-    ap (λ o. takes_memory (cond (is_none o) (Some 5) (cond (bad_body kind.Log (name ∷ bodies)) (Some 8) None))) n.0 ∙ body_test (bad_body kind.Log (name ∷ bodies))
+all_bodies : (bodies : List (List ℕ)) → is_some (bodies_in bodies) ≡ true → list_all is_body bodies ≡ true
+all_bodies bodies h = bodies_test bodies ∙ h
+
+pub log_takes : (said : SaidView) (name : List ℕ) (bodies : List (List ℕ)) (actor : ℕ) → Names said.names name actor → is_some (bodies_in bodies) ≡ true → takes_memory (later_rule said kind.Log (name ∷ bodies)) ≡ true
+log_takes said name bodies actor n some =
+    ap (λ o. takes_memory (cond (is_none o) (Some 5) (cond (bad_body kind.Log (name ∷ bodies)) (Some 8) None))) n.0 ∙ ap (λ b. takes_memory (cond (not b) (Some 8) None)) (all_bodies bodies some)
 
 pub edits_take : (said : SaidView) (name : List ℕ) (words : List (List ℕ)) (actor : ℕ) → Names said.names name actor → takes_memory (later_rule said kind.Edits (name ∷ words)) ≡ true
 edits_take said name words actor n =
@@ -38,9 +40,6 @@ declared_takes said name a b c =
     ∙ ap (λ x. takes_memory (cond x (Some 11) (cond (is_some (actor_of said.names name)) (Some 6) None))) b
     ∙ ap (λ o. takes_memory (cond (is_some o) (Some 6) None)) c
 
-pub operands_take : (said : SaidView) (j k : Kind) (us ws : List (List ℕ)) → j ≡ k → us ≡ ws → takes_memory (later_rule said k ws) ≡ true → takes_memory (later_rule said j us) ≡ true
-operands_take said j k us ws e f h = (λ i. takes_memory (later_rule said (e i) (f i))) ∙ h
-
 -- ## A line
 pub line_takes : {E : Type 0} (said : SaidView) (text : List ℕ) (k : Kind) (words : List (List ℕ)) (r : Result LineRead E) → kind_of said.named (first_word (words_of text)) ≡ Some k
     → bad_spacing k (words_of text) ≡ false → words_of text ≡ first_word (words_of text) ∷ words → OnErr r (takes_memory (later_rule said k words) ≡ true)
@@ -51,7 +50,7 @@ line_takes said text k words (Err x) e b s h = ap takes_memory (rule_later said 
 pub says_takes : (said : SaidView) (text : List ℕ) (line : ScriptLine) → Says said text line → takes_memory (rule_said (Some said) text) ≡ true
 says_takes said text line s = ap takes_memory s.rule
 
--- ## Behind the first line that says something no line breaks rule 1
+-- ## After the first line that says something no line breaks rule 1
 abbrev Later : Option ℕ → Type 0
 Later None = Unit {0}
 Later (Some rule) = 2 ≤ rule
@@ -95,9 +94,9 @@ behind_is : (b : Bool) (s t : SaidView) → (v : SaidView) × (cond b (Some s) (
 behind_is true s t = (s, refl)
 behind_is false s t = (t, refl)
 
-behind_some : (said : SaidView) (text : List ℕ) → (v : SaidView) × (said_behind (Some said) text ≡ Some v)
-unfolding said_behind
-behind_some said text = behind_is (is_silent text) said (said_in said (kind_of said.named (first_word (words_of text))) (drop 1 (words_of text)))
+after_some : (said : SaidView) (text : List ℕ) → (v : SaidView) × (said_with_line (Some said) text ≡ Some v)
+unfolding said_with_line
+after_some said text = behind_is (is_silent text) said (said_in said (kind_of said.named (first_word (words_of text))) (drop 1 (words_of text)))
 
 abbrev rule_at : Option (ℕ × ℕ) → ℕ
 rule_at None = 0
@@ -114,8 +113,8 @@ faults_later : (number line : ℕ) (said : SaidView) (ls : List Line) → first_
 unfolding first_fault
 faults_later number line said [] e = cc
 faults_later number line said (Ended text ∷ ls) e =
-    let v = behind_some said text in
-    later_not_one number line (rule_of (Some said) text) (first_fault (number + 1) (said_behind (Some said) text) ls) (line_later said text)
+    let v = after_some said text in
+    later_not_one number line (rule_of (Some said) text) (first_fault (number + 1) (said_with_line (Some said) text) ls) (line_later said text)
     (λ h. faults_later (number + 1) line v.0 ls (sym (ap (λ o. first_fault (number + 1) o ls) v.1) ∙ h)) e
 faults_later number line said (Open text ∷ ls) e =
     let ten : 10 ≡ 1 = ap rule_at e in

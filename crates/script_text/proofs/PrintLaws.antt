@@ -7,7 +7,7 @@ use Rattle.std.proofs.lemmas.Bool.{and_parts}
 use Rattle.script_text.specs.declared.script_line.ScriptLine.{ScriptLine}
 use Rattle.script_text.specs.Views.{ScriptView, SaidView}
 use Rattle.script_text.specs.Lines.{Ended, lines_of, ended, Lacks, is_plain, is_line, is_whole, longest_line}
-use Rattle.script_text.specs.Grammar.{words_in, line_text, first_line, nothing_said, said_after, texts_of, MaySay, AreLines, IsScript, IsScriptText, script_lines, script_text, is_silent, telling}
+use Rattle.script_text.specs.Grammar.{words_in, line_text, first_line, nothing_said, said_after, texts_of, MaySay, AreLines, IsScript, IsScriptText, script_lines, script_text, is_silent, lines_that_say}
 use Rattle.script_text.proofs.LineLaws.{line_first, no_lines}
 use Rattle.script_text.proofs.BodyLaws.{between_from, joined_plain}
 use Rattle.script_text.proofs.NameLaws.{AreKnown, none_known}
@@ -54,7 +54,7 @@ all_whole : (lines : List (List ℕ)) → AllByRecursion IsPrinted lines → lis
 all_whole [] h = refl
 all_whole (line ∷ lines) h = rw h.0.whole (all_whole lines h.1)
 
-all_told : (lines : List (List ℕ)) → AllByRecursion IsPrinted lines → telling (map Ended lines) ≡ lines
+all_told : (lines : List (List ℕ)) → AllByRecursion IsPrinted lines → lines_that_say (map Ended lines) ≡ lines
 all_told [] h = refl
 all_told (line ∷ lines) h = rw h.0.loud (ap (λ ls. line ∷ ls) (all_told lines h.1))
 
@@ -115,7 +115,7 @@ has_its_text s h =
     let again : lines_of (script_text s) ≡ map Ended (script_lines s) = lines_again (script_lines s) printed in
     record {
       whole = ap (list_all is_whole) again ∙ all_whole (script_lines s) printed;
-      says = ap telling again ∙ all_told (script_lines s) printed;
+      says = ap lines_that_say again ∙ all_told (script_lines s) printed;
       script = h;
     }
 

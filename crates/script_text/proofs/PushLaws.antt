@@ -13,7 +13,7 @@ use Rattle.line_words.proofs.WordLaws.{words_some, words_joined}
 pub spaced : (old mid new word : List ℕ) → mid ≡ old ++ 32 ∷ [] → new ≡ mid ++ word → new ≡ old ++ 32 ∷ word
 spaced old mid new word m n = n ∙ ap (λ x. x ++ word) m ∙ append_assoc old (32 ∷ []) word
 
--- one more word behind a space
+-- one more word after a space
 spaced_more : (w : List ℕ) (ws : List (List ℕ)) (v : List ℕ) → joined (w ∷ ws) ++ 32 ∷ v ≡ joined ((w ∷ ws) ++ v ∷ [])
 spaced_more w [] v = refl
 spaced_more w (u ∷ us) v = append_assoc w (32 ∷ joined (u ∷ us)) (32 ∷ v) ∙ ap (λ t. w ++ 32 ∷ t) (spaced_more u us v)
@@ -26,7 +26,7 @@ unfolding bodies_text
 joined_bodies name [] = sym (append-nil name)
 joined_bodies name (b ∷ bs) = ap (λ t. name ++ 32 ∷ t) (joined_bodies (hex_text b) bs)
 
--- the bodies behind a name
+-- the bodies after a name
 pub log_more : (old out word name : List ℕ) (bodies : List (List ℕ)) → out ≡ old ++ joined (word ∷ name ∷ []) → out ++ bodies_text bodies ≡ old ++ joined (word ∷ name ∷ map hex_text bodies)
 log_more old out word name bodies o =
     ap (λ x. x ++ bodies_text bodies) o ∙ append_assoc old (word ++ 32 ∷ name) (bodies_text bodies)
@@ -50,11 +50,6 @@ edit_more old out mid new edits i d e l o is m n =
 pub edits_more : (old mid : List ℕ) (first : EditView) (others edits : List EditView) → edits ≡ first ∷ others → mid ≡ old ++ text_of false first → mid ++ others_text others ≡ old ++ edits_text edits
 edits_more old mid first others edits e m = ap (λ x. x ++ others_text others) m ∙ append_assoc old (text_of false first) (others_text others) ∙ ap (λ es. old ++ edits_text es) (sym e)
 
-pub sayable_at : (edits : List EditView) (i : ℕ) (d : EditView) → AllByRecursion IsSayable edits → i < length edits → IsSayable (get_or edits i d)
-sayable_at [] i d h l = absurd (omega arith)
-sayable_at (e ∷ es) zero d h l = h.0
-sayable_at (e ∷ es) (suc i) d h l = sayable_at es i d h.1 (omega arith)
-
 joined_text : (word name text : List ℕ) → joined (word ∷ name ∷ words_of text) ≡ word ++ 32 ∷ (name ++ 32 ∷ text)
 joined_text word name text = by (words_of text) refl
   where
@@ -62,7 +57,7 @@ joined_text word name text = by (words_of text) refl
     by [] e = absurd (words_some text e)
     by (w ∷ ws) e = ap (λ t. word ++ 32 ∷ (name ++ 32 ∷ t)) (ap joined (sym e) ∙ words_joined text)
 
--- a text of several words behind a name
+-- a text of several words after a name
 pub text_more : (old named mid word name text : List ℕ) → named ≡ old ++ joined (word ∷ name ∷ []) → mid ≡ named ++ 32 ∷ [] → mid ++ text ≡ old ++ joined (word ∷ name ∷ words_of text)
 text_more old named mid word name text k m =
     spaced named mid (mid ++ text) text m refl ∙ ap (λ x. x ++ 32 ∷ text) k ∙ append_assoc old (word ++ 32 ∷ name) (32 ∷ text)

@@ -6,11 +6,11 @@ use Rattle.std.proofs.lemmas.Bool.{and_parts}
 use Rattle.std.proofs.lemmas.Bool.Decides.{nat_tests}
 use Rattle.script_text.specs.declared.script_line.ScriptLine.{ScriptLine}
 use Rattle.script_text.specs.Views.{ScriptView, SaidView, ReadingView}
-use Rattle.script_text.specs.Lines.{Ended, lines_of, is_plain, is_line, is_whole, Lacks, longest_line}
+use Rattle.script_text.specs.Lines.{Line, Ended, lines_of, is_plain, is_line, is_whole, Lacks, longest_line}
 use Rattle.line_words.specs.Words.{words_of, first_word}
-use Rattle.script_text.specs.Grammar.{belongs, kind_in, words_in, operands, line_text, first_line, texts_of, nothing_said, said_after, MaySay, AreLines, IsScript, script_lines, IsScriptText, is_silent, unless_silent, telling}
-use Rattle.script_text.specs.Rules.{kind_of, rule_said, rule_of, said_in, said_first, said_next, said_behind, or_later, fault_at_end, first_fault, fault_of}
-use Rattle.script_text.specs.Reading.{Says, told_if, told, all_said, AreSaidBy, IsSoundIf, IsSound, script_of, Adds, Takes, IsBehind, nothing_read, takes_memory}
+use Rattle.script_text.specs.Grammar.{belongs, kind_in, words_in, operands, line_text, first_line, texts_of, nothing_said, said_after, MaySay, AreLines, IsScript, script_lines, IsScriptText, is_silent, unless_silent, lines_that_say}
+use Rattle.script_text.specs.Rules.{kind_of, rule_said, rule_of, said_in, said_first, said_next, said_with_line, or_later, fault_at_end, first_fault, fault_of}
+use Rattle.script_text.specs.Reading.{Says, told_if, lines_read, all_said, AreSaidBy, IsSoundIf, IsSound, script_of, Adds, Takes, IsBehind, nothing_read, takes_memory, is_later, wants_memory}
 use Rattle.script_text.proofs.LineLaws.{line_first, line_open, no_lines}
 use Rattle.line_words.proofs.WordLaws.{text_is}
 use Rattle.script_text.proofs.FirstLaws.{FirstTells, first_tells}
@@ -51,13 +51,13 @@ unfolding rule_of
 bad_line r text e = rw e refl
 
 pub takes_silent : (r : ReadingView) (text : List ℕ) → IsSound r → is_line text ≡ true → is_silent text ≡ true → Takes r text r
-unfolding rule_of said_behind
+unfolding rule_of said_with_line
 takes_silent r text s w q =
     record {
       whole = w;
       rule = rw (w, q) refl;
       behind = rw q refl;
-      told = rw q (sym (append-nil (told r)));
+      told = rw q (sym (append-nil (lines_read r)));
       sound = s;
     }
 
@@ -66,9 +66,9 @@ first_rule : (text : List ℕ) (o : Option SaidView) → is_line text ≡ true �
 unfolding rule_of rule_said
 first_rule text o w q e = rw (w, q, e) refl
 
-first_behind : (text : List ℕ) (o : Option SaidView) → is_silent text ≡ false → said_first text ≡ o → said_behind None text ≡ o
-unfolding said_behind
-first_behind text o q e = rw (q, e) refl
+first_after : (text : List ℕ) (o : Option SaidView) → is_silent text ≡ false → said_first text ≡ o → said_with_line None text ≡ o
+unfolding said_with_line
+first_after text o q e = rw (q, e) refl
 
 pub first_broken : (r : ReadingView) (text : List ℕ) → r.said ≡ None → is_line text ≡ true → is_silent text ≡ false → said_first text ≡ None → rule_of r.said text ≡ Some 1
 first_broken r text n w q e = ap (λ o. rule_of o text) n ∙ first_rule text None w q e
@@ -93,7 +93,7 @@ begun None [] text v n s w q e =
     record {
       whole = w;
       rule = first_rule text (Some v) w q e;
-      behind = sym (first_behind text (Some v) q e);
+      behind = sym (first_after text (Some v) q e);
       told = rw q (ap (λ ts. first_line v.named v.nodes ∷ ts) (texts_nothing (nothing_said v.named v.nodes)) ∙ ap (λ t. t ∷ []) (sym t.spelled));
       sound = said_nothing v text t;
     }
@@ -112,9 +112,9 @@ later_rule_of : (said : SaidView) (text : List ℕ) → is_line text ≡ true �
 unfolding rule_of
 later_rule_of said text w q = rw (w, q) refl
 
-later_behind : (said : SaidView) (text : List ℕ) → is_silent text ≡ false → said_behind (Some said) text ≡ said_next (Some said) text
-unfolding said_behind
-later_behind said text q = rw q refl
+later_after : (said : SaidView) (text : List ℕ) → is_silent text ≡ false → said_with_line (Some said) text ≡ said_next (Some said) text
+unfolding said_with_line
+later_after said text q = rw q refl
 
 gone_on : (said : SaidView) (lines : List ScriptLine) (text : List ℕ) (line : ScriptLine) → AreSaidBy said lines → is_line text ≡ true → is_silent text ≡ false → Says said text line
     → Takes (record { said = Some said; lines = lines }) text (record { said = Some (said_after said line); lines = lines ++ line ∷ [] })
@@ -130,7 +130,7 @@ gone_on said lines text line s w q e =
     record {
       whole = w;
       rule = later_rule_of said text w q ∙ e.rule;
-      behind = sym (later_behind said text q ∙ said_is said text line e.here e.words);
+      behind = sym (later_after said text q ∙ said_is said text line e.here e.words);
       told = rw q ((λ i. first_line (named i) (nodes i) ∷ texts_of (begins i) (lines ++ line ∷ [])) ∙ ap (λ ts. first_line said.named said.nodes ∷ ts) more);
       sound =
           record {
@@ -181,19 +181,20 @@ said_some r o read said is n e =
 pub ruleset takes = (bad_line, takes_silent, first_broken)
 
 -- ## All lines
-pub behind_none : (bytes : List ℕ) (r : ReadingView) → IsSound r → r.said ≡ None → told r ≡ [] → IsBehind bytes 0 r bytes
+pub behind_none : (bytes : List ℕ) (r : ReadingView) → IsSound r → r.said ≡ None → lines_read r ≡ [] → IsBehind bytes 0 r bytes
 unfolding fault_of
 behind_none bytes r s n t =
     record {
       sound = s;
       fault = ap (λ o. first_fault 1 o (lines_of bytes)) n;
       whole = refl;
-      says = ap (λ ts. ts ++ telling (lines_of bytes)) t;
+      says = ap (λ ts. ts ++ lines_that_say (lines_of bytes)) t;
+      wants = subst (λ (o : Option SaidView). wants_memory o (lines_of bytes) ≡ true → wants_memory None (lines_of bytes) ≡ true) (sym n) (λ h. h);
       room = omega arith;
     }
 
-pub behind_start : (bytes : List ℕ) → IsBehind bytes 0 nothing_read bytes
-behind_start bytes = behind_none bytes nothing_read refl refl refl
+pub after_start : (bytes : List ℕ) → IsBehind bytes 0 nothing_read bytes
+after_start bytes = behind_none bytes nothing_read refl refl refl
 
 says_more : (before text : List (List ℕ)) (line : List ℕ) → (before ++ unless_silent line []) ++ text ≡ before ++ unless_silent line text
 says_more before text line = by (is_silent line)
@@ -201,6 +202,30 @@ says_more before text line = by (is_silent line)
     by : (b : Bool) → (before ++ cond b [] (line ∷ [])) ++ text ≡ before ++ cond b text (line ∷ text)
     by true = ap (λ ts. ts ++ text) (append-nil before)
     by false = append_assoc before (line ∷ []) text
+
+-- a line that breaks no rule, and memory that is wanted after it
+wants_more : (said : Option SaidView) (line : List ℕ) (lines : List Line) → rule_of said line ≡ None → wants_memory (said_with_line said line) lines ≡ true → wants_memory said (Ended line ∷ lines) ≡ true
+unfolding wants_memory
+wants_more said line lines e h = by (is_later said line) (rule_of said line) (wants_memory (said_with_line said line) lines) e h
+  where
+    by : (b : Bool) (rule : Option ℕ) (later : Bool) → rule ≡ None → later ≡ true → cond b (takes_memory rule) (is_none rule && later) ≡ true
+    by true rule later e h = ap takes_memory e
+    by false rule later e h = rw (e, h) refl
+
+wants_here : (said : Option SaidView) (line : List ℕ) (lines : List Line) → (said ≡ None → ⊥) → is_silent line ≡ false → takes_memory (rule_of said line) ≡ true → wants_memory said (Ended line ∷ lines) ≡ true
+unfolding wants_memory
+wants_here None line lines n q t = absurd (n refl)
+wants_here (Some said) line lines n q t = rw q t
+
+-- a line for which memory is wanted
+pub after_wants : (bytes : List ℕ) (count : ℕ) (r : ReadingView) (rest line others : List ℕ) → IsBehind bytes count r rest → rest ≡ line ++ 10 ∷ others → Lacks 10 line
+    → (r.said ≡ None → ⊥) → (is_silent line ≡ true → ⊥) → takes_memory (rule_of r.said line) ≡ true → wants_memory None (lines_of bytes) ≡ true
+after_wants bytes count r rest line others b e l some said t =
+    b.wants (ap (wants_memory r.said) (line_first rest line others e l) ∙ wants_here r.said line (lines_of others) some (by (is_silent line) said) t)
+  where
+    by : (x : Bool) → (x ≡ true → ⊥) → x ≡ false
+    by true h = absurd (h refl)
+    by false h = refl
 
 pub behind_more : (bytes : List ℕ) (count : ℕ) (r : ReadingView) (rest line others : List ℕ) (new : ReadingView) → IsBehind bytes count r rest → rest ≡ line ++ 10 ∷ others → Lacks 10 line
     → length others < length rest → Takes r line new → IsBehind bytes (count + 1) new others
@@ -212,12 +237,14 @@ behind_more bytes count r rest line others new b e l n t =
       sound = t.sound;
       fault =
           ap (λ o. first_fault (count + 1 + 1) o (lines_of others)) t.behind
-          ∙ sym (ap (λ o. or_later (count + 1) o (first_fault (count + 1 + 1) (said_behind (r.said) line) (lines_of others))) t.rule)
+          ∙ sym (ap (λ o. or_later (count + 1) o (first_fault (count + 1 + 1) (said_with_line (r.said) line) (lines_of others))) t.rule)
           ∙ sym (ap (first_fault (count + 1) (r.said)) at) ∙ b.fault;
       whole = sym (ap (λ w. w && list_all is_whole (lines_of others)) t.whole) ∙ sym (ap (list_all is_whole) at) ∙ b.whole;
       says =
-          ap (λ ts. ts ++ telling (lines_of others)) t.told ∙ says_more (told r) (telling (lines_of others)) line
-          ∙ sym (ap (λ ls. told r ++ telling ls) at) ∙ b.says;
+          ap (λ ts. ts ++ lines_that_say (lines_of others)) t.told ∙ says_more (lines_read r) (lines_that_say (lines_of others)) line
+          ∙ sym (ap (λ ls. lines_read r ++ lines_that_say ls) at) ∙ b.says;
+      wants =
+          λ h. b.wants (ap (wants_memory r.said) at ∙ wants_more r.said line (lines_of others) t.rule (ap (λ o. wants_memory o (lines_of others)) (sym t.behind) ∙ h));
       room = omega arith;
     }
 
@@ -225,16 +252,16 @@ pub behind_open : (bytes : List ℕ) (count : ℕ) (r : ReadingView) (rest : Lis
 unfolding first_fault
 behind_open bytes count r rest b l n = sym b.fault ∙ ap (first_fault (count + 1) (r.said)) (line_open rest l n)
 
-pub behind_broken : (bytes : List ℕ) (count : ℕ) (r : ReadingView) (rest line others : List ℕ) (rule : ℕ) → IsBehind bytes count r rest → rest ≡ line ++ 10 ∷ others → Lacks 10 line
+pub after_broken : (bytes : List ℕ) (count : ℕ) (r : ReadingView) (rest line others : List ℕ) (rule : ℕ) → IsBehind bytes count r rest → rest ≡ line ++ 10 ∷ others → Lacks 10 line
     → rule_of (r.said) line ≡ Some rule → fault_of bytes ≡ Some (count + 1, rule)
 unfolding first_fault
-behind_broken bytes count r rest line others rule b e l f =
+after_broken bytes count r rest line others rule b e l f =
     sym b.fault ∙ ap (first_fault (count + 1) (r.said)) (line_first rest line others e l)
-    ∙ ap (λ o. or_later (count + 1) o (first_fault (count + 1 + 1) (said_behind (r.said) line) (lines_of others))) f
+    ∙ ap (λ o. or_later (count + 1) o (first_fault (count + 1 + 1) (said_with_line (r.said) line) (lines_of others))) f
 
-pub behind_nothing : (bytes : List ℕ) (count : ℕ) (r : ReadingView) (rest : List ℕ) → IsBehind bytes count r rest → rest ≡ [] → None ≡ script_of r.said r.lines → fault_of bytes ≡ Some (1, 1)
+pub after_nothing : (bytes : List ℕ) (count : ℕ) (r : ReadingView) (rest : List ℕ) → IsBehind bytes count r rest → rest ≡ [] → None ≡ script_of r.said r.lines → fault_of bytes ≡ Some (1, 1)
 unfolding first_fault
-behind_nothing bytes count r rest b e n =
+after_nothing bytes count r rest b e n =
     sym b.fault ∙ ap (first_fault (count + 1) r.said) (no_lines rest e) ∙ ap fault_at_end (no_script r.said r.lines n)
   where
     no_script : (said : Option SaidView) (lines : List ScriptLine) → None ≡ script_of said lines → said ≡ None
@@ -248,12 +275,12 @@ all_told (Some v) lines s e h =
     let same : t ≡ s = cc in
     subst (λ (x : ScriptView). (told_if (Some v) lines ≡ script_lines x) × IsScript x) same (refl, record { some = h.some; most = h.most; lines = h.lines })
 
-pub behind_all : (bytes : List ℕ) (count : ℕ) (r : ReadingView) (rest : List ℕ) (s : ScriptView) → IsBehind bytes count r rest → rest ≡ [] → Some s ≡ script_of r.said r.lines → IsScriptText bytes s
-behind_all bytes count r rest s b e n =
+pub after_all : (bytes : List ℕ) (count : ℕ) (r : ReadingView) (rest : List ℕ) (s : ScriptView) → IsBehind bytes count r rest → rest ≡ [] → Some s ≡ script_of r.said r.lines → IsScriptText bytes s
+after_all bytes count r rest s b e n =
     let none : lines_of rest ≡ [] = no_lines rest e in
     let all = all_told r.said r.lines s n b.sound in
     record {
       whole = sym b.whole ∙ ap (list_all is_whole) none;
-      says = sym b.says ∙ ap (λ ls. told r ++ telling ls) none ∙ append-nil (told r) ∙ all.0;
+      says = sym b.says ∙ ap (λ ls. lines_read r ++ lines_that_say ls) none ∙ append-nil (lines_read r) ∙ all.0;
       script = all.1;
     }

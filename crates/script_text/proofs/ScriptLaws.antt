@@ -7,8 +7,8 @@ use Rattle.script_text.specs.declared.script_line.ScriptLine.{ScriptLine}
 use Rattle.script_text.specs.Views.{ScriptView, SaidView}
 use Rattle.script_text.specs.Lines.{Line, Ended, Open, lines_of, is_line, is_whole}
 use Rattle.line_words.specs.Words.{words_of}
-use Rattle.script_text.specs.Grammar.{words_in, line_text, nothing_said, said_after, first_line, texts_of, AreLines, is_silent, telling, script_lines, IsScriptText}
-use Rattle.script_text.specs.Rules.{nodes_of, rule_said, rule_of, said_first, said_behind, said_next, or_later, first_fault, fault_of}
+use Rattle.script_text.specs.Grammar.{words_in, line_text, nothing_said, said_after, first_line, texts_of, AreLines, is_silent, lines_that_say, script_lines, IsScriptText}
+use Rattle.script_text.specs.Rules.{nodes_of, rule_said, rule_of, said_first, said_with_line, said_next, or_later, first_fault, fault_of}
 use Rattle.script_text.proofs.NameLaws.{AreKnown, none_known}
 use Rattle.script_text.proofs.SenseLaws.{AreFew, words_back, says_it, known_after, nodes_after}
 use Rattle.script_text.proofs.MadeLaws.{same_line}
@@ -52,19 +52,19 @@ told_all false (suc (suc (suc (suc (suc (suc (suc (suc (suc (suc (suc (suc (suc 
 told_all false (suc (suc (suc (suc (suc (suc (suc (suc (suc (suc (suc (suc (suc (suc (suc zero))))))))))))))) s l = refl
 told_all named (suc (suc (suc (suc (suc (suc (suc (suc (suc (suc (suc (suc (suc (suc (suc (suc n)))))))))))))))) s l = absurd (omega arith)
 
-silent_rule : (said : Option SaidView) (text : List ℕ) → is_line text ≡ true → is_silent text ≡ true → (rule_of said text ≡ None) × (said_behind said text ≡ said)
-unfolding rule_of said_behind
+silent_rule : (said : Option SaidView) (text : List ℕ) → is_line text ≡ true → is_silent text ≡ true → (rule_of said text ≡ None) × (said_with_line said text ≡ said)
+unfolding rule_of said_with_line
 silent_rule said text w q = (rw (w, q) refl, rw q refl)
 
-telling_rule : (said : Option SaidView) (text : List ℕ) → is_line text ≡ true → is_silent text ≡ false → (rule_of said text ≡ rule_said said text) × (said_behind said text ≡ said_next said text)
-unfolding rule_of said_behind
+telling_rule : (said : Option SaidView) (text : List ℕ) → is_line text ≡ true → is_silent text ≡ false → (rule_of said text ≡ rule_said said text) × (said_with_line said text ≡ said_next said text)
+unfolding rule_of said_with_line
 telling_rule said text w q = (rw (w, q) refl, rw q refl)
 
-fault_more : (number : ℕ) (said next : Option SaidView) (text : List ℕ) (lines : List Line) → rule_of said text ≡ None → said_behind said text ≡ next
+fault_more : (number : ℕ) (said next : Option SaidView) (text : List ℕ) (lines : List Line) → rule_of said text ≡ None → said_with_line said text ≡ next
     → first_fault number said (Ended text ∷ lines) ≡ first_fault (number + 1) next lines
 unfolding first_fault
 fault_more number said next text lines r b =
-    ap (λ o. or_later number o (first_fault (number + 1) (said_behind said text) lines)) r ∙ ap (λ s. first_fault (number + 1) s lines) b
+    ap (λ o. or_later number o (first_fault (number + 1) (said_with_line said text) lines)) r ∙ ap (λ s. first_fault (number + 1) s lines) b
 
 fault_end : (number : ℕ) (said : SaidView) → first_fault number (Some said) [] ≡ None
 unfolding first_fault
@@ -84,7 +84,7 @@ cons_nil x xs e = cc
 few_after : (said : SaidView) (line : ScriptLine) → AreFew said → AreFew (said_after said line)
 few_after said line f = subst (λ (n : ℕ). n < 16) (sym (nodes_after said line)) f
 
-pub no_fault : (number : ℕ) (said : SaidView) (ls : List Line) (lines : List ScriptLine) → AreKnown said.names → AreFew said → list_all is_whole ls ≡ true → telling ls ≡ texts_of said lines → AreLines said lines
+pub no_fault : (number : ℕ) (said : SaidView) (ls : List Line) (lines : List ScriptLine) → AreKnown said.names → AreFew said → list_all is_whole ls ≡ true → lines_that_say ls ≡ texts_of said lines → AreLines said lines
     → first_fault number (Some said) ls ≡ None
 no_fault number said [] lines k f w t a = fault_end number said
 no_fault number said (Open text ∷ ls) lines k f w t a = absurd (false≢true w)
@@ -98,13 +98,13 @@ no_fault number said (Ended text ∷ ls) lines k f w t a =
     ]
   where
     loud : (number : ℕ) (said : SaidView) (text : List ℕ) (ls : List Line) (lines : List ScriptLine) → AreKnown said.names → AreFew said → is_line text ≡ true
-        → ((n : ℕ) (next : SaidView) (rest : List ScriptLine) → AreKnown next.names → AreFew next → telling ls ≡ texts_of next rest → AreLines next rest → first_fault n (Some next) ls ≡ None)
-        → is_silent text ≡ false → text ∷ telling ls ≡ texts_of said lines → AreLines said lines → first_fault number (Some said) (Ended text ∷ ls) ≡ None
-    loud number said text ls [] k f w later q t a = absurd (cons_nil text (telling ls) (t ∙ texts_none said))
+        → ((n : ℕ) (next : SaidView) (rest : List ScriptLine) → AreKnown next.names → AreFew next → lines_that_say ls ≡ texts_of next rest → AreLines next rest → first_fault n (Some next) ls ≡ None)
+        → is_silent text ≡ false → text ∷ lines_that_say ls ≡ texts_of said lines → AreLines said lines → first_fault number (Some said) (Ended text ∷ ls) ≡ None
+    loud number said text ls [] k f w later q t a = absurd (cons_nil text (lines_that_say ls) (t ∙ texts_none said))
     loud number said text ls (line ∷ lines) k f w later q t a =
-        let both_are : text ∷ telling ls ≡ line_text said line ∷ texts_of (said_after said line) lines = t ∙ texts_first said line lines in
+        let both_are : text ∷ lines_that_say ls ≡ line_text said line ∷ texts_of (said_after said line) lines = t ∙ texts_first said line lines in
         let same : text ≡ line_text said line = cc in
-        let rest : telling ls ≡ texts_of (said_after said line) lines = cc in
+        let rest : lines_that_say ls ≡ texts_of (said_after said line) lines = cc in
         let may = lines_first said line lines a in
         let says = says_it said line k f may.0.here may.0.sense in
         let rule = telling_rule (Some said) text w q in
@@ -118,7 +118,7 @@ unfolding rule_said
 first_said text said e = rw e refl
 
 no_fault_yet : (number : ℕ) (ls : List Line) (named : Bool) (nodes : ℕ) (lines : List ScriptLine) → 0 < nodes → nodes < 16 → list_all is_whole ls ≡ true
-    → telling ls ≡ first_line named nodes ∷ texts_of (nothing_said named nodes) lines → AreLines (nothing_said named nodes) lines → first_fault number None ls ≡ None
+    → lines_that_say ls ≡ first_line named nodes ∷ texts_of (nothing_said named nodes) lines → AreLines (nothing_said named nodes) lines → first_fault number None ls ≡ None
 no_fault_yet number [] named nodes lines s l w t a = cc
 no_fault_yet number (Open text ∷ ls) named nodes lines s l w t a = absurd (false≢true w)
 no_fault_yet number (Ended text ∷ ls) named nodes lines s l w t a =
@@ -128,9 +128,9 @@ no_fault_yet number (Ended text ∷ ls) named nodes lines s l w t a =
           let rule = silent_rule None text good.0 q in
           fault_more number None None text ls rule.0 rule.1 ∙ no_fault_yet (number + 1) ls named nodes lines s l good.1 (sym (telling_silent text ls q) ∙ t) a
       | inr q ↦
-          let both_are : text ∷ telling ls ≡ first_line named nodes ∷ texts_of (nothing_said named nodes) lines = sym (telling_loud text ls q) ∙ t in
+          let both_are : text ∷ lines_that_say ls ≡ first_line named nodes ∷ texts_of (nothing_said named nodes) lines = sym (telling_loud text ls q) ∙ t in
           let same : text ≡ first_line named nodes = cc in
-          let rest : telling ls ≡ texts_of (nothing_said named nodes) lines = cc in
+          let rest : lines_that_say ls ≡ texts_of (nothing_said named nodes) lines = cc in
           let rule = telling_rule None text good.0 q in
           let told : said_first text ≡ Some (nothing_said named nodes) = ap said_first same ∙ told_all named nodes s l in
           fault_more number None (Some (nothing_said named nodes)) text ls (rule.0 ∙ first_said text (nothing_said named nodes) told) (rule.1 ∙ told)

@@ -16,7 +16,7 @@ split_all : (word : List ℕ) → Lacks 32 word → slice_split is_space word �
 split_all [] h = refl
 split_all (b ∷ bs) h = let n : is_space b ≡ false = not_space b h.0 in rw n (ap (onto_first b) (split_all bs h.1))
 
--- the words of a text with a space behind the first, and of one with none
+-- the words of a text with a space after the first, and of one with none
 pub words_more : (text word rest : List ℕ) → text ≡ word ++ 32 ∷ rest → Lacks 32 word → words_of text ≡ word ∷ words_of rest
 unfolding words_of
 words_more text word rest e h = rw e (split_more word rest h)

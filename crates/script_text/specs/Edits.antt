@@ -14,7 +14,7 @@ separator = codes ";"
 abbrev pub is_separator : List ℕ → Bool
 is_separator word = bytes_eq word separator
 
--- the texts before, between and behind the words `;`
+-- the texts before, between and after the words `;`
 unfoldable pub texts_between : List (List ℕ) → List (List ℕ)
 texts_between words = map joined (slice_split is_separator words)
 
@@ -22,7 +22,7 @@ texts_between words = map joined (slice_split is_separator words)
 abbrev pub are_edits : List (List ℕ) → Bool
 are_edits words = list_all is_edit_text (texts_between words)
 
--- the texts of edits, each behind ` ; `
+-- the texts of edits, each after ` ; `
 abbrev pub others_text : List EditView → List ℕ
 others_text edits = flat_map (λ e. codes " ; " ++ text_of false e) edits
 

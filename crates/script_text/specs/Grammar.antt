@@ -74,7 +74,7 @@ kind_in (line.Restart i) = kind.Node node.Restart
 kind_in (line.Arm i calls (stop.Effects keep)) = kind.Stop
 kind_in (line.Arm i calls (stop.DiskCalls made choice)) = kind.Cut
 
--- the words behind the first, after lines that declared these names
+-- the words after the first, after lines that declared these names
 abbrev pub operands : List (List ℕ) → ScriptLine → List (List ℕ)
 operands names (line.Declare name) = name ∷ []
 operands names (line.Takeover actor) = name_at names actor ∷ []
@@ -100,7 +100,7 @@ operands names (line.Arm i calls (stop.DiskCalls made choice)) = decimal i ∷ d
 abbrev pub nothing_said : Bool → ℕ → SaidView
 nothing_said named nodes = record { named = named; nodes = nodes; names = [] }
 
--- one more line of that kind with these words behind the first
+-- one more line of that kind with these words after the first
 abbrev pub said_by : SaidView → Kind → List (List ℕ) → SaidView
 said_by said kind.Declare words = record { named = said.named; nodes = said.nodes; names = said.names ++ word_at words 0 ∷ [] }
 said_by said _ words = said
@@ -115,12 +115,12 @@ abbrev pub line_text : SaidView → ScriptLine → List ℕ
 line_text said line = joined (words_in said line)
 
 -- ## The lines of a script
-abbrev pub beginning : Bool → List ℕ
-beginning true = codes "names "
-beginning false = codes "raw "
+abbrev pub header_line : Bool → List ℕ
+header_line true = codes "names "
+header_line false = codes "raw "
 
 abbrev pub first_line : Bool → ℕ → List ℕ
-first_line named nodes = beginning named ++ decimal nodes
+first_line named nodes = header_line named ++ decimal nodes
 
 unfoldable pub texts_of : SaidView → List ScriptLine → List (List ℕ)
 texts_of said [] = []
@@ -194,13 +194,13 @@ abbrev pub unless_silent : List ℕ → List (List ℕ) → List (List ℕ)
 unless_silent line lines = if is_silent line then lines else line ∷ lines
 
 -- the lines that say something
-abbrev pub telling : List Line → List (List ℕ)
-telling [] = []
-telling (Ended line ∷ lines) = unless_silent line (telling lines)
-telling (Open line ∷ lines) = unless_silent line (telling lines)
+abbrev pub lines_that_say : List Line → List (List ℕ)
+lines_that_say [] = []
+lines_that_say (Ended line ∷ lines) = unless_silent line (lines_that_say lines)
+lines_that_say (Open line ∷ lines) = unless_silent line (lines_that_say lines)
 
 -- the bytes are whole lines, and those that say something are the script's, in order
 pub record IsScriptText (bytes : List ℕ) (s : ScriptView) : Type 0 where
   pub whole : list_all is_whole (lines_of bytes) ≡ true
-  pub says : telling (lines_of bytes) ≡ script_lines s
+  pub says : lines_that_say (lines_of bytes) ≡ script_lines s
   pub script : IsScript s

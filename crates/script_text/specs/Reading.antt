@@ -1,5 +1,5 @@
 -- What the reader of scripts answers, and where it stands between two lines.
-use Rattle.std.specs.Prelude.{ℕ, ◌≡◌, ◌<◌, ◌≤◌, ◌+◌, ◌==◌, ◌||◌, List, [], ◌∷◌, ◌++◌, Option, Some, None, Bool, true, false, length}
+use Rattle.std.specs.Prelude.{ℕ, ◌≡◌, ◌<◌, ◌≤◌, ◌+◌, ◌==◌, ◌&&◌, List, [], ◌∷◌, ◌++◌, Option, Some, None, is_some, is_none, Bool, true, false, not, if◌then◌else◌, length}
 use Rattle.std.specs.List.{list_all}
 use Rattle.edit_ops.specs.Records.{EditView}
 use Rattle.edit_ops.specs.Texts.{text_of, IsText}
@@ -12,9 +12,9 @@ use Rattle.script_text.specs.declared.kind.Kind.{Kind}
 use Rattle.script_text.specs.Views.{ScriptView, SaidView, ReadingView}
 use Rattle.line_words.specs.Words.{words_of}
 use Rattle.script_text.specs.Words.{actor_of, name_at}
-use Rattle.script_text.specs.Grammar.{first_line, texts_of, operands, words_in, kind_in, belongs, nothing_said, said_after, HasSense, AreLines, unless_silent, telling}
-use Rattle.script_text.specs.Lines.{is_line, is_whole, lines_of}
-use Rattle.script_text.specs.Rules.{later_rule, rule_of, rule_said, said_behind, first_fault, fault_of}
+use Rattle.script_text.specs.Grammar.{is_silent, first_line, texts_of, operands, words_in, kind_in, belongs, nothing_said, said_after, HasSense, AreLines, unless_silent, lines_that_say}
+use Rattle.script_text.specs.Lines.{Line, Ended, Open, is_line, is_whole, lines_of}
+use Rattle.script_text.specs.Rules.{later_rule, rule_of, rule_said, said_with_line, first_fault, fault_of}
 
 -- ## Answers
 abbrev pub IfScript : ReadScript → (ScriptView → Type 0) → Type 0
@@ -39,17 +39,28 @@ abbrev pub Names : List (List ℕ) → List ℕ → ℕ → Type 0
 Names names word actor = (actor_of names word ≡ Some actor) × (name_at names actor ≡ word) × (actor < length names)
 
 -- ## Memory
--- Memory is wanted for a line that breaks no rule, and for the bodies or edits in front of one that isn't one: rules 8 and 9.
+-- Memory is wanted for a line that breaks no rule, and for the edits in front of one that isn't one: rule 9.
 abbrev pub takes_memory : Option ℕ → Bool
 takes_memory None = true
-takes_memory (Some rule) = (rule == 8) || (rule == 9)
+takes_memory (Some rule) = rule == 9
+
+-- a line that is kept, or breaks a rule: neither silent nor the first that says something
+abbrev pub is_later : Option SaidView → List ℕ → Bool
+is_later said line = is_some said && not (is_silent line)
+
+-- some line wants memory, and none before it breaks a rule
+unfoldable pub wants_memory : Option SaidView → List Line → Bool
+wants_memory said [] = false
+wants_memory said (Open line ∷ lines) = false
+wants_memory said (Ended line ∷ lines) =
+    if is_later said line then takes_memory (rule_of said line) else is_none (rule_of said line) && wants_memory (said_with_line said line) lines
 
 -- the edit has a text in a script
 abbrev pub HasText : EditView → Type 0
 HasText e = IsText (text_of false e) e
 
--- ## A line behind the first
--- what a line of that kind with these words behind the first is read as
+-- ## A line after the first
+-- what a line of that kind with these words after the first is read as
 abbrev pub IsRead : SaidView → Kind → List (List ℕ) → LineRead → Type 0
 IsRead said k words (line_read.Broken rule) = later_rule said k words ≡ Some rule
 IsRead said k words (line_read.Says line) =
@@ -75,8 +86,8 @@ told_if None lines = []
 told_if (Some said) lines = first_line said.named said.nodes ∷ texts_of (nothing_said said.named said.nodes) lines
 
 -- the lines so far that say something
-abbrev pub told : ReadingView → List (List ℕ)
-told r = told_if r.said r.lines
+abbrev pub lines_read : ReadingView → List (List ℕ)
+lines_read r = told_if r.said r.lines
 
 unfoldable pub all_said : SaidView → List ScriptLine → SaidView
 all_said said [] = said
@@ -101,7 +112,7 @@ abbrev pub script_of : Option SaidView → List ScriptLine → Option ScriptView
 script_of None lines = None
 script_of (Some said) lines = Some (record { named = said.named; nodes = said.nodes; lines = lines })
 
--- one more line behind the first, that breaks no rule
+-- one more line after the first, that breaks no rule
 pub record Adds (before : SaidView) (read : List ScriptLine) (text : List ℕ) (now : SaidView) (all : List ScriptLine) : Type 0 where
   pub line : ScriptLine
   pub says : Says before text line
@@ -112,15 +123,16 @@ pub record Adds (before : SaidView) (read : List ScriptLine) (text : List ℕ) (
 pub record Takes (old : ReadingView) (text : List ℕ) (new : ReadingView) : Type 0 where
   pub whole : is_line text ≡ true
   pub rule : rule_of old.said text ≡ None
-  pub behind : new.said ≡ said_behind old.said text
-  pub told : told new ≡ told old ++ unless_silent text []
+  pub behind : new.said ≡ said_with_line old.said text
+  pub told : lines_read new ≡ lines_read old ++ unless_silent text []
   pub sound : IsSound new
 
--- The reader is behind so many lines: what is told so far and what the rest says is what the text says, and the first fault of the
--- rest is that of the text.
+-- The reader is after so many lines: what is told so far and what the rest says is what the text says, the first fault of the
+-- rest is that of the text, and where a line of the rest wants memory the text does.
 pub record IsBehind (bytes : List ℕ) (count : ℕ) (r : ReadingView) (rest : List ℕ) : Type 0 where
   pub sound : IsSound r
   pub fault : first_fault (count + 1) r.said (lines_of rest) ≡ fault_of bytes
   pub whole : list_all is_whole (lines_of rest) ≡ list_all is_whole (lines_of bytes)
-  pub says : told r ++ telling (lines_of rest) ≡ telling (lines_of bytes)
+  pub says : lines_read r ++ lines_that_say (lines_of rest) ≡ lines_that_say (lines_of bytes)
+  pub wants : wants_memory r.said (lines_of rest) ≡ true → wants_memory None (lines_of bytes) ≡ true
   pub room : count + length rest ≤ length bytes

@@ -65,7 +65,7 @@ has_length kind.Cut n = n == 5
 abbrev pub bad_spacing : Kind → List (List ℕ) → Bool
 bad_spacing k words = list_any is_empty words || not (has_length k (length words))
 
--- ## The later rules, of the words behind the first
+-- ## The later rules, of the words after the first
 abbrev pub declares : Kind → Bool
 declares kind.Declare = true
 declares _ = false
@@ -129,7 +129,7 @@ later_rule said k words =
     else None
 
 -- ## The rules in order
--- behind the first line that says something; 2 is the first word's rule
+-- after the first line that says something; 2 is the first word's rule
 unfoldable pub rule_in : SaidView → Option Kind → List (List ℕ) → Option ℕ
 rule_in said None words = Some 2
 rule_in said (Some k) words = if bad_spacing k words then Some 3 else later_rule said k (drop 1 words)
@@ -152,8 +152,8 @@ abbrev pub said_next : Option SaidView → List ℕ → Option SaidView
 said_next None line = said_first line
 said_next (Some said) line = Some (said_in said (kind_of said.named (first_word (words_of line))) (drop 1 (words_of line)))
 
-unfoldable pub said_behind : Option SaidView → List ℕ → Option SaidView
-said_behind said line = if is_silent line then said else said_next said line
+unfoldable pub said_with_line : Option SaidView → List ℕ → Option SaidView
+said_with_line said line = if is_silent line then said else said_next said line
 
 -- ## The first line that breaks a rule, and the rule
 abbrev pub or_later : ℕ → Option ℕ → Option (ℕ × ℕ) → Option (ℕ × ℕ)
@@ -167,7 +167,7 @@ fault_at_end (Some said) = None
 
 unfoldable pub first_fault : ℕ → Option SaidView → List Line → Option (ℕ × ℕ)
 first_fault number said [] = fault_at_end said
-first_fault number said (Ended line ∷ lines) = or_later number (rule_of said line) (first_fault (number + 1) (said_behind said line) lines)
+first_fault number said (Ended line ∷ lines) = or_later number (rule_of said line) (first_fault (number + 1) (said_with_line said line) lines)
 first_fault number said (Open line ∷ lines) = Some (number, 10)
 
 -- the first line that breaks a rule, from 1, and the rule

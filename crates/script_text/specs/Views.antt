@@ -6,7 +6,7 @@ pub record ScriptView : Type 0 where
   -- its actors have namespaces: it begins with `names N`, and else with `raw N`
   pub named : Bool
   pub nodes : ℕ
-  -- the lines behind the first that say something
+  -- the lines after the first that say something
   pub lines : List ScriptLine
 
 pub record SaidView : Type 0 where

@@ -8,6 +8,6 @@ pub enum ReadScript {
     Script(Script),
     /// The first line that breaks a rule, from 1, and the rule.
     BadScript { line: u64, rule: u32 },
-    /// Want of memory.
+    /// Out of memory.
     OutOfMemory,
 }

@@ -26,7 +26,7 @@ fn before_space(text: &[u8], len: usize) -> &[u8]
     if len == 0 { &[] } else { &text[..len - 1] }
 }
 
-/// The text before the first word `;`, and the text behind that word; `None` where no word is `;`.
+/// The text before the first word `;`, and the text after that word; `None` where no word is `;`.
 pub fn split_edit(text: &[u8]) -> Option<(&[u8], &[u8])>
     ensures texts { MatchOption result (texts_between (words_of text.now) ≡ text.now ∷ [])
         (λ p. texts_between (words_of text.now) ≡ p.0.now ∷ texts_between (words_of p.1.now)) }

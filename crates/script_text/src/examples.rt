@@ -2,7 +2,7 @@
 ghost use Rattle.std.specs.Prelude.{◌≡◌, ◌∷◌, [], Some, None, codes, true};
 ghost use Rattle.std.specs.List.{list_all};
 ghost use Rattle.script_text.specs.Lines.{ended, lines_of, is_whole};
-ghost use Rattle.script_text.specs.Grammar.{script_lines, telling};
+ghost use Rattle.script_text.specs.Grammar.{script_lines, lines_that_say};
 ghost use Rattle.script_text.specs.Rules.{fault_of};
 ghost use Rattle.script_text.specs.Examples.{one_writer, one_writer_lines, commented_lines, every_kind, every_kind_lines, after_two, after_eight, cut_off, every_names_kind, every_names_kind_lines, after_two_names};
 
@@ -10,21 +10,21 @@ ghost use Rattle.script_text.specs.Examples.{one_writer, one_writer_lines, comme
 pub fn one_writer_logs()
     ensures lines { script_lines one_writer ≡ one_writer_lines }
     ensures fault { fault_of (ended one_writer_lines) ≡ None }
-    ensures says { telling (lines_of (ended one_writer_lines)) ≡ one_writer_lines }
+    ensures says { lines_that_say (lines_of (ended one_writer_lines)) ≡ one_writer_lines }
 {}
 
 /// The same script with comments and empty lines.
 pub fn comments_say_nothing()
     ensures fault { fault_of (ended commented_lines) ≡ None }
     ensures whole { list_all is_whole (lines_of (ended commented_lines)) ≡ true }
-    ensures says { telling (lines_of (ended commented_lines)) ≡ one_writer_lines }
+    ensures says { lines_that_say (lines_of (ended commented_lines)) ≡ one_writer_lines }
 {}
 
 /// A line of each kind: their text, and that it breaks no rule.
 pub fn every_kind_is_spelled()
     ensures lines { script_lines every_kind ≡ every_kind_lines }
     ensures fault { fault_of (ended every_kind_lines) ≡ None }
-    ensures says { telling (lines_of (ended every_kind_lines)) ≡ every_kind_lines }
+    ensures says { lines_that_say (lines_of (ended every_kind_lines)) ≡ every_kind_lines }
 {}
 
 /// The first line that says something, and the bytes of lines: rules 1 and 10.
@@ -39,7 +39,7 @@ pub fn first_lines_are_told()
     ensures most_names_nodes { fault_of (ended (codes "names 15" ∷ [])) ≡ None }
     ensures too_many_names_nodes { fault_of (ended (codes "names 16" ∷ [])) ≡ Some (1, 1) }
     ensures one_name { fault_of (ended (codes "name 3" ∷ [])) ≡ Some (1, 1) }
-    ensures behind_comments { fault_of (ended (codes "#" ∷ codes "kill 1" ∷ [])) ≡ Some (2, 1) }
+    ensures after_comments { fault_of (ended (codes "#" ∷ codes "kill 1" ∷ [])) ≡ Some (2, 1) }
     ensures not_ended { fault_of (cut_off (codes "raw 3" ∷ codes "writer a" ∷ []) (codes "takeo")) ≡ Some (3, 10) }
     ensures tabulator { fault_of (ended (codes "# a" ∷ (35 ∷ 9 ∷ []) ∷ [])) ≡ Some (2, 10) }
 {}
@@ -99,7 +99,7 @@ pub fn numbers_are_told()
 pub fn namespaces_are_spelled()
     ensures lines { script_lines every_names_kind ≡ every_names_kind_lines }
     ensures fault { fault_of (ended every_names_kind_lines) ≡ None }
-    ensures says { telling (lines_of (ended every_names_kind_lines)) ≡ every_names_kind_lines }
+    ensures says { lines_that_say (lines_of (ended every_names_kind_lines)) ≡ every_names_kind_lines }
 {}
 
 /// Scripts with namespaces and without: their kinds of line, and edits: rules 2, 3, 5, 7 and 9.

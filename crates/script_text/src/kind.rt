@@ -10,7 +10,7 @@ use crate::standby_word::StandbyWord;
 use crate::task_word::TaskWord;
 use line_words::{count_words, split_word};
 
-/// A kind of line behind the first, by its first word.
+/// A kind of line after the first, by its first word.
 #[derive(Clone, Copy, Debug, PartialEq, Eq)]
 pub enum Kind {
     /// `writer NAME`, or `name NAME` with namespaces
@@ -144,7 +144,7 @@ fn has_bad_spacing(kind: Kind, line: &[u8]) -> bool
     }
 }
 
-/// The words behind the first, if there are as many words as the kind wants, and none is empty.
+/// The words after the first, if there are as many words as the kind wants, and none is empty.
 #[tactic(auto, using(crate::proofs::KindLaws::spacings))]
 pub fn operands(kind: Kind, line: &[u8]) -> Option<&[u8]>
     ensures { MatchOption result (bad_spacing kind (words_of line.now) ≡ true)

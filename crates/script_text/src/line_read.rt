@@ -1,7 +1,7 @@
 // What a line is read as.
 use crate::script_line::ScriptLine;
 
-/// A line that says something, behind the first.
+/// A line that says something, after the first.
 #[derive(Drop)]
 pub enum LineRead {
     /// It breaks this rule.

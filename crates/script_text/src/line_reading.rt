@@ -1,4 +1,4 @@
-// Lines behind the first are read.
+// Lines after the first are read.
 ghost use Rattle.std.specs.Prelude.{◌≡◌, ◌+◌, ◌∷◌, [], true, Some, IfOk, OnErr, length};
 ghost use Rattle.script_text.specs.declared.kind.Kind.TheVariants as kind;
 ghost use Rattle.line_words.specs.Words.{words_of};
@@ -69,14 +69,7 @@ fn read_task(said: &Said, task: TaskWord, name: &[u8]) -> LineRead
 
 /// A batch that is logged.
 #[tactic(auto, using(crate::proofs::MemoryLaws::log_takes))]
-fn read_log(
-    alloc: Global,
-    said: &Said,
-    name: &[u8],
-    bodies: &[u8],
-    scratch: &mut [u8],
-) -> Result<LineRead, OutOfMemory>
-    requires { length scratch.old ≡ 4096 }
+fn read_log(alloc: Global, said: &Said, name: &[u8], bodies: &[u8]) -> Result<LineRead, OutOfMemory>
     ensures read { IfOk result (IsRead said.now kind.Log (name.now ∷ words_of bodies.now)) }
     ensures memory { OnErr result (takes_memory (later_rule said.now kind.Log (name.now ∷ words_of bodies.now)) ≡ true) }
 {
@@ -85,7 +78,7 @@ fn read_log(
             rule: UNKNOWN_ACTOR,
         });
     };
-    match read_bodies(alloc, bodies, scratch)? {
+    match read_bodies(alloc, bodies)? {
         Some(bodies) => Ok(LineRead::Says(ScriptLine::Log { actor, bodies })),
         None => Ok(LineRead::Broken { rule: BAD_BODY }),
     }
@@ -238,17 +231,15 @@ fn read_cut(said: &Said, node: &[u8], calls: &[u8], made: &[u8], choice: &[u8]) 
     })
 }
 
-/// The words behind the first of a line of that kind, of which there are as many as the kind wants.
+/// The words after the first of a line of that kind, of which there are as many as the kind wants.
 #[tactic(auto, using(crate::proofs::KindLaws::arities))]
 fn read_operands(
     alloc: Global,
     said: &Said,
     kind: Kind,
     text: &[u8],
-    scratch: &mut [u8],
 ) -> Result<LineRead, OutOfMemory>
-    requires room { length scratch.old ≡ 4096 }
-    requires count { has_length kind (length (words_of text.now) + 1) ≡ true }
+    requires { has_length kind (length (words_of text.now) + 1) ≡ true }
     ensures read { IfOk result (IsRead said.now kind (words_of text.now)) }
     ensures memory { OnErr result (takes_memory (later_rule said.now kind (words_of text.now)) ≡ true) }
 {
@@ -256,7 +247,7 @@ fn read_operands(
         Kind::Declare => read_declaration(alloc, said, text),
         Kind::Task(task) => Ok(read_task(said, task, text)),
         Kind::Log => match split_word(text) {
-            Some((name, bodies)) => read_log(alloc, said, name, bodies, scratch),
+            Some((name, bodies)) => read_log(alloc, said, name, bodies),
             None => Ok(LineRead::Broken { rule: WORD_COUNT }),
         },
         Kind::Edits => match split_word(text) {
@@ -288,16 +279,10 @@ fn read_operands(
     }
 }
 
-/// A line that says something, behind the first: its tests in order. No memory is taken for one that breaks a rule, but for the
-/// bodies or edits in front of a bad one.
+/// A line that says something, after the first: its tests in order. No memory is taken for one that breaks a rule, but for the
+/// edits in front of a bad one.
 #[tactic(auto, using(crate::proofs::KindLaws::first_tests))]
-pub fn read_line(
-    alloc: Global,
-    said: &Said,
-    line: &[u8],
-    scratch: &mut [u8],
-) -> Result<LineRead, OutOfMemory>
-    requires { length scratch.old ≡ 4096 }
+pub fn read_line(alloc: Global, said: &Said, line: &[u8]) -> Result<LineRead, OutOfMemory>
     ensures read { IfOk result (IsLineRead said.now line.now) }
     ensures memory { OnErr result (takes_memory (rule_said (Some said.now) line.now) ≡ true) }
 {
@@ -307,5 +292,5 @@ pub fn read_line(
     let Some(text) = operands(kind, line) else {
         return Ok(LineRead::Broken { rule: WORD_COUNT });
     };
-    read_operands(alloc, said, kind, text, scratch)
+    read_operands(alloc, said, kind, text)
 }

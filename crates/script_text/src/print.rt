@@ -5,7 +5,7 @@ ghost use Rattle.line_words.specs.Hex.{hex_text};
 ghost use Rattle.line_words.specs.Words.{joined, words_of};
 ghost use Rattle.script_text.specs.Words.{choice_word};
 ghost use Rattle.script_text.specs.Edits.{others_text, edits_text, IsSayable};
-ghost use Rattle.script_text.specs.Grammar.{beginning, declaration, first_line, line_text, script_text, HasSense, IsScript, IsScriptText};
+ghost use Rattle.script_text.specs.Grammar.{header_line, declaration, first_line, line_text, script_text, HasSense, IsScript, IsScriptText};
 
 use crate::kind::declaration;
 use crate::said::Said;
@@ -18,7 +18,7 @@ use qj_num::put_decimal;
 use request_text::put_bodies;
 use std::alloc::Global;
 
-/// The word behind a space.
+/// The word after a space.
 #[tactic(auto, using(crate::proofs::PushLaws::pushes))]
 fn push_word(out: &mut Vec<u8>, word: &[u8]) -> Result<(), OutOfMemory>
     ensures { OnOk result (out.new.items ≡ out.old.items ++ 32 ∷ word.now) }
@@ -27,7 +27,7 @@ fn push_word(out: &mut Vec<u8>, word: &[u8]) -> Result<(), OutOfMemory>
     out.extend_from_slice(word)
 }
 
-/// The number behind a space.
+/// The number after a space.
 #[tactic(auto, using(crate::proofs::PushLaws::pushes))]
 fn push_number(out: &mut Vec<u8>, number: u64) -> Result<(), OutOfMemory>
     ensures { OnOk result (out.new.items ≡ out.old.items ++ 32 ∷ decimal number) }
@@ -52,7 +52,7 @@ fn push_log(out: &mut Vec<u8>, name: &[u8], bodies: &BodyList) -> Result<(), Out
     put_bodies(out, bodies)
 }
 
-/// The texts of edits, each behind ` ; `.
+/// The texts of edits, each after ` ; `.
 #[tactic(auto, using(crate::proofs::PushLaws::pushes))]
 fn push_others(out: &mut Vec<u8>, edits: &[Edit]) -> Result<(), OutOfMemory>
     requires { AllByRecursion IsSayable edits.now }
@@ -164,7 +164,7 @@ fn push_cut(
 
 /// What stands before the number of nodes in the first line.
 fn beginning(named: bool) -> &'static [u8]
-    ensures { result.now ≡ beginning named }
+    ensures { result.now ≡ header_line named }
 {
     if named { b"names " } else { b"raw " }
 }

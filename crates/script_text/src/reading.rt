@@ -90,21 +90,19 @@ fn said_first(alloc: Global, line: &[u8]) -> Option<Said>
     }
 }
 
-/// One more line that says something, behind the first; the answer is the rule that it breaks.
+/// One more line that says something, after the first; the answer is the rule that it breaks.
 #[tactic(auto, using(crate::proofs::MemoryLaws::says_takes))]
 fn add_line(
     alloc: Global,
     said: &mut Said,
     lines: &mut Vec<ScriptLine>,
     line: &[u8],
-    scratch: &mut [u8],
 ) -> Result<Option<u32>, OutOfMemory>
-    requires { length scratch.old ≡ 4096 }
     ensures broken { IfOk result (λ o. IfSome o (λ rule. rule_said (Some said.old) line.now ≡ Some rule)) }
     ensures taken { IfOk result (λ o. IfNone o (Adds said.old lines.old.items line.now said.new lines.new.items)) }
     ensures memory { OnErr result (takes_memory (rule_said (Some said.old) line.now) ≡ true) }
 {
-    match read_line(alloc, said, line, scratch)? {
+    match read_line(alloc, said, line)? {
         LineRead::Broken { rule } => Ok(Some(rule)),
         LineRead::Says(line) => {
             said.add(&line)?;
@@ -141,16 +139,10 @@ impl Reading {
     }
 
     /// One more line; the answer is the rule that it breaks. No memory is taken for a line that says nothing, for the first that
-    /// says something, or for one that breaks a rule, but for the bodies or edits in front of a bad one.
+    /// says something, or for one that breaks a rule, but for the edits in front of a bad one.
     #[tactic(auto, using(crate::proofs::ReadLaws::takes))]
-    pub fn take_line(
-        &mut self,
-        alloc: Global,
-        line: &[u8],
-        scratch: &mut [u8],
-    ) -> Result<Option<u32>, OutOfMemory>
-        requires room { length scratch.old ≡ 4096 }
-        requires sound { IsSound self.old }
+    pub fn take_line(&mut self, alloc: Global, line: &[u8]) -> Result<Option<u32>, OutOfMemory>
+        requires { IsSound self.old }
         ensures broken { IfOk result (λ o. IfSome o (λ rule. rule_of self.old.said line.now ≡ Some rule)) }
         ensures taken { IfOk result (λ o. IfNone o (Takes self.old line.now self.new)) }
         ensures memory { OnErr result (takes_memory (rule_of self.old.said line.now) ≡ true) }
@@ -164,7 +156,7 @@ impl Reading {
             return Ok(None);
         }
         match &mut self.said {
-            Some(said) => add_line(alloc, said, &mut self.lines, line, scratch),
+            Some(said) => add_line(alloc, said, &mut self.lines, line),
             None => match said_first(alloc, line) {
                 Some(said) => {
                     self.said = Some(said);

@@ -45,7 +45,7 @@ fn index_of(names: &[Bytes], name: &[u8]) -> Option<usize>
 }
 
 impl Said {
-    /// Behind the first line, which tells whether the actors have namespaces, and the number of nodes.
+    /// After the first line, which tells whether the actors have namespaces, and the number of nodes.
     pub fn first(alloc: Global, named: bool, nodes: usize) -> Said
         ensures { result ≡ nothing_said named nodes }
     {

@@ -48,7 +48,7 @@ impl Script {
         self.nodes
     }
 
-    /// The lines behind the first.
+    /// The lines after the first.
     pub fn lines(&self) -> &[ScriptLine]
         ensures { result.now ≡ self.now.lines }
     {

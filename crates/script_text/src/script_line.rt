@@ -3,7 +3,7 @@ use edit_ops::EditList;
 use journal_core::{BodyList, Bytes};
 use node_history::Stop;
 
-/// A line of a script that says something, behind the first. An actor is its number in order of
+/// A line of a script that says something, after the first. An actor is its number in order of
 /// declaration, from 0; a node is its number from 1.
 #[derive(Drop)]
 pub enum ScriptLine {

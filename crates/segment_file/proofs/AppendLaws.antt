@@ -21,7 +21,7 @@ use Rattle.segment_file.specs.Gate.{StaysShut, Opens, IsCutAfter, GateCounts}
 use Rattle.segment_file.specs.Names.{InProgress, Final, UnderWay, name_of}
 use Rattle.segment_file.specs.Stands.{StandsFor}
 use Rattle.segment_file.specs.Effects.{IsTidy, IsReady, Touches, Becomes, AppendsAt, IsCounted, IsCut, IsLeft, choice_of}
-use Rattle.segment_file.specs.Calls.{CanAppend, AppendsFrame, behind_gate}
+use Rattle.segment_file.specs.Calls.{CanAppend, AppendsFrame, after_gate}
 use Rattle.segment_file.proofs.Frame.{kinds_apart}
 use Rattle.segment_file.proofs.FileBytes.{longer}
 use Rattle.segment_file.proofs.Single.{Before, plain_here}
@@ -29,7 +29,7 @@ use Rattle.segment_file.proofs.Changes.{shut_stands, open_stands, opened_frame}
 use Rattle.segment_file.proofs.EffectLaws.{becomes, touches, tidy_by, none_both}
 use Rattle.segment_file.proofs.PlacedLaws.{before_all}
 
-pub framed : (b : BatchView) → 165 ∷ behind_gate b ≡ frame_bytes b ++ 0 ∷ []
+pub framed : (b : BatchView) → 165 ∷ after_gate b ≡ frame_bytes b ++ 0 ∷ []
 unfolding frame_bytes
 framed b = refl
 
@@ -53,13 +53,13 @@ module _ (start at : ℕ) (b : BatchView) (v0 : View) where
   append_hands result v1 g start_is was next effect stable = both result effect.done stable
     where
       rest : List ℕ
-      rest = drop (at + 1 + length (behind_gate b)) was.bytes
+      rest = drop (at + 1 + length (after_gate b)) was.bytes
 
       bytes : List ℕ
-      bytes = take at was.bytes ++ (165 ∷ (behind_gate b ++ rest))
+      bytes = take at was.bytes ++ (165 ∷ (after_gate b ++ rest))
 
       bytes_are : bytes ≡ take at was.bytes ++ (frame_bytes b ++ (0 ∷ rest))
-      bytes_are = opened_frame b (take at was.bytes) (behind_gate b) rest (framed b)
+      bytes_are = opened_frame b (take at was.bytes) (after_gate b) rest (framed b)
 
       long : at + length (frame_bytes b) < length bytes
       long = omega (arith, ap length bytes_are, length-append (take at was.bytes) (frame_bytes b ++ (0 ∷ rest)), length-append (frame_bytes b) (0 ∷ rest), length-take-le at was.bytes (omega (arith, was.more)))
@@ -74,7 +74,7 @@ module _ (start at : ℕ) (b : BatchView) (v0 : View) where
           → OnOk r (AppendsAt v1 (record g { bodies = g.bodies ++ b.bodies }) (at + length (frame_bytes b)))
       both (Ok x) h stays = record {
         bytes = bytes;
-        there = ap v1.seen own_name ∙ subst (λ (f : Option (List ℕ)). Opens at (behind_gate b) f (v1.seen (name_of start InProgress))) (ap v0.seen (sym own_name) ∙ was.there) h.seen.change.here;
+        there = ap v1.seen own_name ∙ subst (λ (f : Option (List ℕ)). Opens at (after_gate b) f (v1.seen (name_of start InProgress))) (ap v0.seen (sym own_name) ∙ was.there) h.seen.change.here;
         edits = edits h.seen.good;
         more = long;
         stable = subst (λ (n : List ℕ). IsStable n v1) (sym own_name) stays;
@@ -108,7 +108,7 @@ module _ (start : ℕ) (first : 1 ≤ start) (small : start ≤ 2 ^ 62) (v0 : Vi
 
   then_stands : (d c : Files) → v0.may_leave d → AppendsFrame start at b d c → StandsFor c (appended b.bodies (find_segment start gs) gs)
   then_stands d c left done =
-      let deed = done.change in subst (λ (hs : List Segment). StandsFor c hs) after_is (open_stands start d gs (was d left) g can.known can.in_progress c deed.others can.appends.bytes at (there d left) edits b (behind_gate b) (framed b) (good_next b (start + length g.bodies) can.next done.good) deed.here)
+      let deed = done.change in subst (λ (hs : List Segment). StandsFor c hs) after_is (open_stands start d gs (was d left) g can.known can.in_progress c deed.others can.appends.bytes at (there d left) edits b (after_gate b) (framed b) (good_next b (start + length g.bodies) can.next done.good) deed.here)
 
   tidy_then : (c : Files) → AppendsFrame start at b v0.seen c → IsTidy c
   tidy_then c done =
@@ -122,15 +122,15 @@ module _ (start : ℕ) (first : 1 ≤ start) (small : start ≤ 2 ^ 62) (v0 : Vi
     append_becomes = becomes (ChangesOnly (name_of start InProgress) (StaysShut at)) (AppendsFrame start at b) result v0 v1 effect gs (appended b.bodies (find_segment start gs) gs) still_stands then_stands (tidy_then v1.seen)
 
     -- the gate stands open for who reads
-    module _ (sound1 : IsSound v1) (seen : ChangesOnly (name_of start InProgress) (Opens at (behind_gate b)) v0.seen v1.seen) where
+    module _ (sound1 : IsSound v1) (seen : ChangesOnly (name_of start InProgress) (Opens at (after_gate b)) v0.seen v1.seen) where
       abbrev now : List ℕ
-      now = take at can.appends.bytes ++ (165 ∷ (behind_gate b ++ drop (at + 1 + length (behind_gate b)) can.appends.bytes))
+      now = take at can.appends.bytes ++ (165 ∷ (after_gate b ++ drop (at + 1 + length (after_gate b)) can.appends.bytes))
 
       seen_is : v1.seen (name_of start InProgress) ≡ Some now
-      seen_is = subst (λ (f : Option (List ℕ)). Opens at (behind_gate b) f (v1.seen (name_of start InProgress))) (there v0.seen sound.seen_now) seen.here
+      seen_is = subst (λ (f : Option (List ℕ)). Opens at (after_gate b) f (v1.seen (name_of start InProgress))) (there v0.seen sound.seen_now) seen.here
 
       gate_open : get_or now at 0 ≡ 165
-      gate_open = get_or_at (take at can.appends.bytes) 165 (behind_gate b ++ drop (at + 1 + length (behind_gate b)) can.appends.bytes) 0 at (length-take-le at can.appends.bytes (omega (arith, can.appends.more)))
+      gate_open = get_or_at (take at can.appends.bytes) 165 (after_gate b ++ drop (at + 1 + length (after_gate b)) can.appends.bytes) 0 at (length-take-le at can.appends.bytes (omega (arith, can.appends.more)))
 
       filled_open : (old new : Option (List ℕ)) → old ≡ Some now → FilledFile 165 old new → (before : Option (List ℕ)) → StaysShut at before new → ⊥
       filled_open None new is filled before shut = absurd (cc)
@@ -150,13 +150,13 @@ module _ (start : ℕ) (first : 1 ≤ start) (small : start ≤ 2 ^ 62) (v0 : Vi
   files_are d c same = λ i n. same n i
 
   pub append_cut : {T : Type 0} (result : Result T DiskFail) (v1 : View) → IsSound v1 → Effect (ChangesOnly (name_of start InProgress) (StaysShut at)) (AppendsFrame start at b) result v0 v1 → (left : Option ℕ) → (IsErrOf result Failed → broken_rule b.first b ≡ None)
-      → ((k : ℕ) → left ≡ Some k → IsErrOf result Failed → IsCutAfter k (name_of start InProgress) at (behind_gate b) v0 v1) → IsCut append_cost gs (appended b.bodies (find_segment start gs) gs) left result v1
+      → ((k : ℕ) → left ≡ Some k → IsErrOf result Failed → IsCutAfter k (name_of start InProgress) at (after_gate b) v0 v1) → IsCut append_cost gs (appended b.bodies (find_segment start gs) gs) left result v1
   append_cut result v1 sound1 effect left good cut = record { stands = λ k is failed choice c chosen. by (good failed) k (cut k is failed) choice c chosen }
     where
-      early : (k : ℕ) → k ≤ 2 → IsCutAfter k (name_of start InProgress) at (behind_gate b) v0 v1 → (c : Files) → v1.may_leave c → StandsFor c gs
+      early : (k : ℕ) → k ≤ 2 → IsCutAfter k (name_of start InProgress) at (after_gate b) v0 v1 → (c : Files) → v1.may_leave c → StandsFor c gs
       early k few at_end c now = let from = at_end.quiet few c now in still_stands from.0 c from.1 from.2
 
-      by : broken_rule b.first b ≡ None → (k : ℕ) → IsCutAfter k (name_of start InProgress) at (behind_gate b) v0 v1 → (choice : Cut) (c : Files) → IsLeft (choice_of choice) v1 c
+      by : broken_rule b.first b ≡ None → (k : ℕ) → IsCutAfter k (name_of start InProgress) at (after_gate b) v0 v1 → (choice : Cut) (c : Files) → IsLeft (choice_of choice) v1 c
           → StandsFor c (if nat_le (append_cost choice).decides k then appended b.bodies (find_segment start gs) gs else gs)
       by fine zero at_end cuts.Old c chosen = early 0 (omega arith) at_end c chosen.0
       by fine zero at_end cuts.New c chosen = early 0 (omega arith) at_end c chosen.0

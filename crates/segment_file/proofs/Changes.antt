@@ -15,7 +15,7 @@ use Rattle.segment_file.proofs.Frame.{no_final_same, accepted_same}
 use Rattle.segment_file.proofs.FileBytes.{still, longer}
 use Rattle.segment_file.proofs.Single.{Before, IsPlain, here, nothing, plain_here, nothing_under_way, plain_holds, put_stands, remove_stands, same_stands, same_kind_there}
 
--- the bytes behind an open gate are a frame and a closed gate
+-- the bytes after an open gate are a frame and a closed gate
 pub opened_frame : (b : BatchView) (front behind rest : List ℕ) → 165 ∷ behind ≡ frame_bytes b ++ 0 ∷ [] → front ++ (165 ∷ (behind ++ rest)) ≡ front ++ (frame_bytes b ++ (0 ∷ rest))
 opened_frame b front behind rest is =
     ap (λ (l : List ℕ). front ++ (l ++ rest)) is ∙ ap (λ (l : List ℕ). front ++ l) (append_assoc (frame_bytes b) (0 ∷ []) rest)

@@ -145,7 +145,7 @@ module _ (o : List ℕ) (start epoch : ℕ) (bodies : List (List ℕ)) (w : ℕ)
   pub gate_shut : get_or o w 0 ≢ 165
   gate_shut = λ is. first_of_tail parts.tail parts.is_tail (sym gate_is ∙ is)
 
-  -- a closed gate hides what stands behind it
+  -- a closed gate hides what stands after it
   pub still : (n : List ℕ) → take w n ≡ take w o → get_or n w 0 ≢ 165 → IsSegmentFile n start epoch bodies w
   still n same shut = join n start epoch bodies w record {
     range = parts.range;

@@ -1,4 +1,4 @@
--- What is found behind a change of the list of segments, from the side of the start that is looked for.
+-- What is found after a change of the list of segments, from the side of the start that is looked for.
 use Rattle.std.proofs.Common.{ℕ, ◌≡◌, ◌≢◌, List, sym}
 use Rattle.journal_core.specs.declared.segment.Segment.{Segment}
 use Rattle.journal_core.specs.Segments.{find_segment, put_segment, remove_segment}

@@ -16,12 +16,12 @@ module _ (w : ℕ) where
   shut_same None shut = shut
   shut_same (Some o) shut = (refl, shut.0, shut.1)
 
-  -- a write behind the gate
-  pub torn_behind : (n : ℕ) (old mid new : Option (List ℕ)) → StaysShut w old mid → Torn (w + 1) n mid new → StaysShut w old new
-  torn_behind n None mid new shut torn = shut
-  torn_behind n (Some old) None new shut torn = absurd shut
-  torn_behind n (Some old) (Some mid) None shut torn = torn
-  torn_behind n (Some old) (Some mid) (Some new) shut torn = (
+  -- a write after the gate
+  pub torn_after : (n : ℕ) (old mid new : Option (List ℕ)) → StaysShut w old mid → Torn (w + 1) n mid new → StaysShut w old new
+  torn_after n None mid new shut torn = shut
+  torn_after n (Some old) None new shut torn = absurd shut
+  torn_after n (Some old) (Some mid) None shut torn = torn
+  torn_after n (Some old) (Some mid) (Some new) shut torn = (
     sym (take-take w (w + 1) new (omega arith)) ∙ ap (λ (l : List ℕ). take w l) torn.before ∙ take-take w (w + 1) mid (omega arith) ∙ shut.0,
     omega (arith, shut.1, torn.no_shorter),
     λ is. shut.2 (sym (get_or-take (w + 1) mid w 0 (omega arith)) ∙ sym (ap (λ (l : List ℕ). get_or l w 0) torn.before) ∙ get_or-take (w + 1) new w 0 (omega arith) ∙ is),
@@ -84,7 +84,7 @@ module _ (name : List ℕ) (w : ℕ) (behind : List ℕ) where
     pub staging : {T : Type 0} (v1 : View) (r : Result T DiskFail) → Writes name (w + 1) behind r v0 v1 → Quiet Noise v0 v1
     staging v1 r writes = quiet_call Noise v0 v0 v1 (ChangesOnly name (Torn (w + 1) (length behind))) sound sound at_first writes.time writes.crash writes.failed
         (λ d e c old mid noise torn. record {
-          here = torn_behind w (length behind) (d name) (e name) (c name) noise.here torn.here;
+          here = torn_after w (length behind) (d name) (e name) (c name) noise.here torn.here;
           others = λ m ne. torn.others m ne ∙ noise.others m ne;
         })
 
@@ -150,7 +150,7 @@ goes_at before now tells r x old new zero budget is ok = let p = (budget.stops i
 goes_at before now tells r x old new (suc k) budget is ok = (k, refl, (budget.counts k is).1)
 
 module _ (name : List ℕ) (w : ℕ) (behind : List ℕ) (v0 : View) (sound : IsSound v0) (o : List ℕ) (is : v0.seen name ≡ Some o) (shut : IsShut w (Some o)) (stable : IsStable name v0) where
-  -- stopped with only noise behind it
+  -- stopped with only noise after it
   pub cut_quiet : (k : ℕ) (v v' : View) → k ≤ 2 → Quiet (Noise name w behind) v0 v → Rests v v' → IsCutAfter k name w behind v0 v'
   cut_quiet k v v' le quiet rests = record {
     below = omega (arith, le);
@@ -188,7 +188,7 @@ module _ (name : List ℕ) (w : ℕ) (behind : List ℕ) (v0 : View) (sound : Is
 
       staged_shut : StaysShut w (Some o) (Some (staged w o behind shut.0))
       staged_shut = subst (λ (f : Option (List ℕ)). StaysShut w (Some o) f) is1 (subst (λ (f : Option (List ℕ)). StaysShut w f (v1.seen name)) is
-          (torn_behind w (length behind) (v0.seen name) (v0.seen name) (v1.seen name) (shut_same w (v0.seen name) (subst (λ (f : Option (List ℕ)). IsShut w f) (sym is) shut)) one.failed.here))
+          (torn_after w (length behind) (v0.seen name) (v0.seen name) (v1.seen name) (shut_same w (v0.seen name) (subst (λ (f : Option (List ℕ)). IsShut w f) (sym is) shut)) one.failed.here))
 
 -- so many calls were let through
 pub record Passed (j : ℕ) (before now : Option ℕ) : Type 0 where

@@ -22,7 +22,7 @@ content_split : (start epoch : ℕ) (frame behind : List ℕ) → content_of sta
 unfolding content_of
 content_split start epoch frame behind = append_assoc (header_bytes start epoch) (frame ++ 0 ∷ []) behind ∙ ap (λ (l : List ℕ). header_bytes start epoch ++ l) (append_assoc frame (0 ∷ []) behind)
 
--- a content of one frame, with anything behind it
+-- a content of one frame, with anything after it
 pub frame_edits : (epoch : ℕ) (b : BatchView) → InRange b.first epoch → broken_rule b.first b ≡ None → (behind : List ℕ) → IsSegmentFile (content_of b.first epoch (frame_bytes b) ++ behind) b.first epoch b.bodies (24 + length (frame_bytes b))
 frame_edits epoch b range good behind = subst (λ (l : List ℕ). IsSegmentFile l b.first epoch b.bodies (24 + length (frame_bytes b))) (sym (content_split b.first epoch (frame_bytes b) behind)) (one_frame epoch b behind range good)
 

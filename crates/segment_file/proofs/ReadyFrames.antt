@@ -1,31 +1,21 @@
 -- The bytes of a batch that were made before they are written.
 use Rattle.std.proofs.Common.{◌≡◌, ◌≤◌, ℕ, List, [], ◌∷◌, ◌++◌, length, take, drop, ap, sym, ◌∙◌, arith}
-use Rattle.std.specs.Prelude.{None}
 use Rattle.std.proofs.lemmas.List.{append-nil, drop_all, drop_at, take_all, drop-drop, length-append, length-drop}
 use Rattle.qj_num.specs.Fields.{overwritten}
 use Rattle.journal_core.specs.Views.{BatchView}
-use Rattle.batch_frame.specs.Frames.{frame_bytes, broken_rule}
+use Rattle.batch_frame.specs.Frames.{frame_bytes}
 use Rattle.batch_frame.specs.Segments.{header_bytes}
-use Rattle.segment_file.specs.Calls.{behind_gate, content_of, IsFrameOf}
+use Rattle.segment_file.specs.Calls.{after_gate, content_of, IsFrameOf}
 use Rattle.segment_file.proofs.FileBytes.{header_long}
-
--- behind its header a content has the frame and a closed gate
-pub behind_header : (start epoch : ℕ) (frame : List ℕ) → drop 24 (content_of start epoch frame) ≡ frame ++ 0 ∷ []
-unfolding content_of
-behind_header start epoch frame = drop_at (header_bytes start epoch) (frame ++ 0 ∷ []) 24 (header_long start epoch)
-
--- a content of the batch's frame is one
-pub frame_of_content : (b : BatchView) (start epoch : ℕ) (frame bytes : List ℕ) → bytes ≡ content_of start epoch frame → frame ≡ frame_bytes b → broken_rule b.first b ≡ None → IsFrameOf b bytes
-frame_of_content b start epoch frame bytes are is good = record { behind = ap (λ (l : List ℕ). drop 24 l) are ∙ behind_header start epoch frame ∙ ap (λ (l : List ℕ). l ++ 0 ∷ []) is; good = good }
 
 pub frame_long : (b : BatchView) (bytes : List ℕ) → IsFrameOf b bytes → 25 ≤ length bytes
 frame_long b bytes is = omega (arith, ap length is.behind, length-drop 24 bytes, length-append (frame_bytes b) (0 ∷ []))
 
-pub behind_is : (b : BatchView) (bytes : List ℕ) → IsFrameOf b bytes → drop 25 bytes ≡ behind_gate b
+pub behind_is : (b : BatchView) (bytes : List ℕ) → IsFrameOf b bytes → drop 25 bytes ≡ after_gate b
 behind_is b bytes is = sym (drop-drop 1 24 bytes) ∙ ap (λ (l : List ℕ). drop 1 l) is.behind
 
-pub behind_long : (b : BatchView) (bytes : List ℕ) → IsFrameOf b bytes → length (drop 25 bytes) ≡ length (frame_bytes b)
-behind_long b bytes is = ap length (behind_is b bytes is) ∙ omega (arith, length-drop 1 (frame_bytes b ++ 0 ∷ []), length-append (frame_bytes b) (0 ∷ []))
+pub after_long : (b : BatchView) (bytes : List ℕ) → IsFrameOf b bytes → length (drop 25 bytes) ≡ length (frame_bytes b)
+after_long b bytes is = ap length (behind_is b bytes is) ∙ omega (arith, length-drop 1 (frame_bytes b ++ 0 ∷ []), length-append (frame_bytes b) (0 ∷ []))
 
 -- with a header in front it is a content
 pub content_put : (b : BatchView) (epoch : ℕ) (bytes new : List ℕ) → IsFrameOf b bytes → new ≡ header_bytes b.first epoch ++ drop 24 bytes → new ≡ content_of b.first epoch (frame_bytes b)
@@ -52,4 +42,4 @@ content_whole b start epoch long bytes out is long_is first put =
     let same : length out ≡ length bytes = ap length (header_over b start epoch bytes out first put) ∙ omega (arith, length-append (header_bytes b.first epoch) (drop 24 bytes), length-drop 24 bytes, frame_long b bytes is, header_long b.first epoch) in
     ap (λ (l : List ℕ). take long (out ++ l)) (drop_all (length out) bytes (omega (arith, same))) ∙ ap (λ (l : List ℕ). take long l) (append-nil out) ∙ take_all long out (omega (arith, long_is, same)) ∙ content_over b start epoch bytes out is first put
 
-pub ruleset frames = (frame_long, behind_is, behind_long, content_over, frame_over)
+pub ruleset frames = (frame_long, behind_is, after_long, content_over, frame_over)

@@ -279,19 +279,19 @@ unfolding newest_row
 newest_above [] a m p = λ h. cc
 newest_above (row ∷ rows) a m p = above_step a m row (row_has_edit row) (newest_row rows) p.0 (λ k. newest_above rows a k p.1)
 
-behind_step : (m : ℕ) (row : SegmentRow) (b : Bool) (n : Option ℕ) → n ≡ Some m → row.info.start < m → cond b (Some (max_or row.info.start n)) n ≡ Some m
-behind_step m row true None e l = absurd (cc)
-behind_step m row true (Some x) e l = let f : x ≡ m = cc in ap (λ k. let o : Option ℕ = Some k in o) (omega arith)
-behind_step m row false n e l = e
+after_step : (m : ℕ) (row : SegmentRow) (b : Bool) (n : Option ℕ) → n ≡ Some m → row.info.start < m → cond b (Some (max_or row.info.start n)) n ≡ Some m
+after_step m row true None e l = absurd (cc)
+after_step m row true (Some x) e l = let f : x ≡ m = cc in ap (λ k. let o : Option ℕ = Some k in o) (omega arith)
+after_step m row false n e l = e
 
-newest_behind : (rows : List SegmentRow) (i m : ℕ) → RowsRise rows → newest_row (drop i rows) ≡ Some m → newest_row rows ≡ Some m
+newest_after : (rows : List SegmentRow) (i m : ℕ) → RowsRise rows → newest_row (drop i rows) ≡ Some m → newest_row rows ≡ Some m
 unfolding newest_row
-newest_behind [] zero m r h = h
-newest_behind [] (suc i) m r h = h
-newest_behind (row ∷ rows) zero m r h = h
-newest_behind (row ∷ rows) (suc i) m r h =
-    let e : newest_row rows ≡ Some m = newest_behind rows i m r.1 h in
-    behind_step m row (row_has_edit row) (newest_row rows) e (newest_above rows row.info.start m r.0 e)
+newest_after [] zero m r h = h
+newest_after [] (suc i) m r h = h
+newest_after (row ∷ rows) zero m r h = h
+newest_after (row ∷ rows) (suc i) m r h =
+    let e : newest_row rows ≡ Some m = newest_after rows i m r.1 h in
+    after_step m row (row_has_edit row) (newest_row rows) e (newest_above rows row.info.start m r.0 e)
 
 newest_here : (row : SegmentRow) (rows : List SegmentRow) → row_has_edit row ≡ true → newest_row rows ≡ None → newest_row (row ∷ rows) ≡ Some row.info.start
 unfolding newest_row
@@ -303,7 +303,7 @@ newest_skips row rows e = rw e refl
 
 pub newest_at : (rows : List SegmentRow) (i : ℕ) (d : SegmentRow) → AreSoundRows rows → i < length rows → d ≡ get_or rows i d → row_has_edit d ≡ true → newest_row (drop (i + 1) rows) ≡ None → newest_row rows ≡ Some d.info.start
 newest_at rows i d s l e h n =
-    newest_behind rows i d.info.start s.rising (ap newest_row (drop_more rows i d l ∙ ap (λ x. x ∷ drop (i + 1) rows) (sym e)) ∙ newest_here d (drop (i + 1) rows) h n)
+    newest_after rows i d.info.start s.rising (ap newest_row (drop_more rows i d l ∙ ap (λ x. x ∷ drop (i + 1) rows) (sym e)) ∙ newest_here d (drop (i + 1) rows) h n)
 
 pub newest_less : (rows : List SegmentRow) (i : ℕ) (d : SegmentRow) → i < length rows → d ≡ get_or rows i d → row_has_edit d ≡ false → newest_row (drop (i + 1) rows) ≡ None → newest_row (drop i rows) ≡ None
 newest_less rows i d l e h n =

@@ -13,11 +13,11 @@ use Rattle.segment_file.specs.Names.{InProgress, Final, Record, Fresh, name_of, 
 use Rattle.segment_file.specs.Stands.{HasEpoch}
 use Rattle.segment_file.specs.Effects.{AppendsAt}
 
--- what is written behind the gate of a batch's frame: the rest of the frame, and a closed gate
-abbrev pub behind_gate : BatchView → List ℕ
-behind_gate b = drop 1 (frame_bytes b ++ 0 ∷ [])
+-- what is written after the gate of a batch's frame: the rest of the frame, and a closed gate
+abbrev pub after_gate : BatchView → List ℕ
+after_gate b = drop 1 (frame_bytes b ++ 0 ∷ [])
 
--- behind room for a header the frame of the batch stands, which breaks no rule of its own, and a closed gate
+-- after room for a header the frame of the batch stands, which breaks no rule of its own, and a closed gate
 pub record IsFrameOf (b : BatchView) (bytes : List ℕ) : Type 0 where
   pub behind : drop 24 bytes ≡ frame_bytes b ++ 0 ∷ []
   pub good : broken_rule b.first b ≡ None
@@ -28,10 +28,10 @@ content_of start epoch frame = header_bytes start epoch ++ (frame ++ 0 ∷ [])
 
 -- the gate at this place is opened, with the frame of the batch, which breaks no rule of its own
 pub record AppendsFrame (start at : ℕ) (b : BatchView) (old new : Files) : Type 0 where
-  pub change : ChangesOnly (name_of start InProgress) (Opens at (behind_gate b)) old new
+  pub change : ChangesOnly (name_of start InProgress) (Opens at (after_gate b)) old new
   pub good : broken_rule b.first b ≡ None
 
--- the frame of the batch stands behind a header in the file in progress, and breaks no rule of its own
+-- the frame of the batch stands after a header in the file in progress, and breaks no rule of its own
 pub record PlacesFrame (epoch : ℕ) (b : BatchView) (old new : Files) : Type 0 where
   pub places : Places (name_of b.first InProgress) (name_of b.first Fresh) (content_of b.first epoch (frame_bytes b)) old new
   pub good : broken_rule b.first b ≡ None

@@ -1,4 +1,4 @@
--- What is written behind a closed gate counts once the gate is opened: four calls, of which the third decides.
+-- What is written after a closed gate counts once the gate is opened: four calls, of which the third decides.
 use Rattle.std.specs.Prelude.{◌<◌, ◌≡◌, ◌≢◌, ◌≤◌, ℕ, ◌+◌, List, ◌∷◌, ◌++◌, length, take, drop, get_or, Option, Some, None, Result, OnOk, IsErr, IsErrOf}
 use Rattle.qj_disk.specs.Files.{ChangesOnly, Follows}
 use Rattle.qj_disk.specs.View.{View}
@@ -16,7 +16,7 @@ StaysShut w None new = ⊥
 StaysShut w (Some old) None = ⊥
 StaysShut w (Some old) (Some new) = (take w new ≡ take w old) × (w < length new) × (get_or new w 0 ≢ 165)
 
--- the gate open, with these bytes behind it
+-- the gate open, with these bytes after it
 abbrev pub Opens : ℕ → List ℕ → Option (List ℕ) → Option (List ℕ) → Type 0
 Opens w behind None new = ⊥
 Opens w behind (Some old) new = new ≡ Some (take w old ++ (165 ∷ (behind ++ drop (w + 1 + length behind) old)))

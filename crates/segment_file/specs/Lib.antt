@@ -4,8 +4,8 @@ pub mod Stands
 pub mod Places
 pub mod Effects
 pub mod Calls
-pub mod Answers
 pub mod Scans
 pub mod Reads
 pub mod Rows
 pub mod RowsTell
+pub mod Clauses

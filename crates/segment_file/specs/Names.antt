@@ -35,7 +35,7 @@ front_text progress = codes "edits_inprogress_"
 front_text final = codes "edits_"
 front_text record_ = codes "paxos/"
 
--- what stands behind the start
+-- what stands after the start
 abbrev pub rest_of : Kind → List ℕ
 rest_of InProgress = []
 rest_of (Final last) = codes "-" ++ padded 19 last

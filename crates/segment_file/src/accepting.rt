@@ -1,36 +1,33 @@
 //! A recovery is accepted.
-ghost use Rattle.std.specs.Prelude.{◌≡◌, ◌≢◌, ◌↔◌, ◌≤◌, ◌^◌, List, ◌∷◌, [], None, IsSome, OnOk, false};
+ghost use Rattle.std.specs.Prelude.{◌≡◌, ◌≤◌, ◌^◌, ◌∷◌, [], None, OnOk, false};
 ghost use Rattle.qj_disk.specs.Files.{Moves};
-ghost use Rattle.qj_disk.specs.Calls.{Atomic, Effect, HasCause, HasShortage};
+ghost use Rattle.qj_disk.specs.Calls.{Atomic};
 ghost use Rattle.qj_disk.specs.Runs.{Quiet};
-ghost use Rattle.small_files.specs.Puts.{Disturbs, Puts, PutCut, OneCut};
-ghost use Rattle.small_files.specs.Answers.{put_result};
+ghost use Rattle.qj_disk.specs.DiskCalls.{HasFile, IfTold, IsDiskCall, LacksFile};
+ghost use Rattle.small_files.specs.Puts.{Disturbs, IsPut, IsPutCut, IsOneCut};
 ghost use Rattle.small_files.specs.Records.{record_bytes};
 ghost use Rattle.journal_core.specs.Views.{last_txid};
-ghost use Rattle.journal_core.specs.declared.segment.Segment.{Segment};
-ghost use Rattle.journal_core.specs.Effects.{Replace, segments_after};
+ghost use Rattle.journal_core.specs.Effects.{Replace};
 ghost use Rattle.journal_core.specs.Cuts.{accept_cost};
 ghost use Rattle.batch_frame.specs.Frames.{frame_bytes, broken_rule};
 ghost use Rattle.segment_file.specs.Names.{name_of, InProgress, Record, UnderWay, FreshRecord};
 ghost use Rattle.segment_file.specs.Places.{IsStaged};
-ghost use Rattle.segment_file.specs.Effects.{IsReady, Becomes, Touches, IsCounted, IsCut};
+ghost use Rattle.segment_file.specs.Effects.{Touches, IsCounted};
 ghost use Rattle.segment_file.specs.Calls.{CanReplace, IsFrameOf, content_of};
+ghost use Rattle.segment_file.specs.Clauses.{Makes, IsCutOff};
 
 use crate::names::{progress_name, under_way_name};
 use crate::ready_frame::ReadyFrame;
 use journal_core::Batch;
 use qj_disk::{Disk, DiskFail};
-use small_files::{PaxosFile, Put};
+use small_files::PaxosFile;
 
 // Writes a content and syncs it.
 fn stage_by<D: Disk>(disk: &mut D, way: &str, bytes: &[u8]) -> Result<(), DiskFail>
-    ensures tells { D.tells disk.old ↔ D.tells disk.new }
-    ensures quiet { D.tells disk.old → Quiet (Disturbs way.now) (D.view disk.old) (D.view disk.new) }
+    ensures call { IsDiskCall D.DiskModel disk.old disk.new result }
+    ensures quiet { IfTold D.DiskModel disk.old disk.new (Quiet (Disturbs way.now)) }
     ensures staged { D.tells disk.old → OnOk result (IsStaged way.now bytes.now (D.view disk.new)) }
     ensures counts { IsCounted 2 (D.left disk.old) (D.left disk.new) result }
-    ensures reads { D.reads disk.new ≡ D.reads disk.old }
-    ensures cause { HasCause (D.faults disk.old) (D.faults disk.new) (D.steady disk.old) (D.steady disk.new) result }
-    ensures shortage { HasShortage (D.shortages disk.old) (D.shortages disk.new) result }
 {
     disk.write_at(way, 0, bytes)?;
     disk.sync(way)
@@ -46,15 +43,14 @@ fn stage<D: Disk>(
     requires start { batch.now.first ≤ 2 ^ 62 }
     requires frame { IsFrameOf batch.now frame.old }
 
-    ensures tells { D.tells disk.old ↔ D.tells disk.new }
-    ensures quiet { D.tells disk.old → Quiet (Disturbs (name_of batch.now.first (UnderWay epoch))) (D.view disk.old) (D.view disk.new) }
-    ensures staged { D.tells disk.old → OnOk result (IsStaged (name_of batch.now.first (UnderWay epoch)) (content_of batch.now.first epoch (frame_bytes batch.now)) (D.view disk.new)) }
+    ensures call { IsDiskCall D.DiskModel disk.old disk.new result }
+    ensures quiet { IfTold D.DiskModel disk.old disk.new
+        (Quiet (Disturbs (name_of batch.now.first (UnderWay epoch)))) }
+    ensures staged { D.tells disk.old
+        → OnOk result (IsStaged (name_of batch.now.first (UnderWay epoch)) (content_of batch.now.first epoch (frame_bytes batch.now)) (D.view disk.new)) }
     ensures good { OnOk result (broken_rule batch.now.first batch.now ≡ None) }
     ensures frame { IsFrameOf batch.now frame.new }
     ensures counts { IsCounted 2 (D.left disk.old) (D.left disk.new) result }
-    ensures reads { D.reads disk.new ≡ D.reads disk.old }
-    ensures cause { HasCause (D.faults disk.old) (D.faults disk.new) (D.steady disk.old) (D.steady disk.new) result }
-    ensures shortage { HasShortage (D.shortages disk.old) (D.shortages disk.new) result }
 {
     let way = under_way_name(batch.first(), epoch);
     frame.put_header(epoch, batch);
@@ -66,46 +62,41 @@ fn put_record<D: Disk>(disk: &mut D, epoch: u64, batch: &Batch) -> Result<(), Di
     requires start { batch.now.first ≤ 2 ^ 62 }
     requires epoch { epoch ≤ 2 ^ 62 }
     requires last { last_txid batch.now ≤ 2 ^ 62 }
-    requires absent { D.tells disk.old → (D.view disk.old).seen (name_of batch.now.first FreshRecord) ≡ None }
+    requires absent { LacksFile D.DiskModel disk.old (name_of batch.now.first FreshRecord) }
 
-    ensures tells { D.tells disk.old ↔ D.tells disk.new }
-    ensures put { D.tells disk.old → Effect (Disturbs (name_of batch.now.first FreshRecord)) (Puts (name_of batch.now.first Record) (name_of batch.now.first FreshRecord) (record_bytes (record { epoch = epoch; end = last_txid batch.now }))) result (D.view disk.old) (D.view disk.new) }
-    ensures cut { PutCut (D.left disk.old) (D.left disk.new) (D.tells disk.old) (name_of batch.now.first FreshRecord) result (D.view disk.old) (D.view disk.new) }
-    ensures reads { D.reads disk.new ≡ D.reads disk.old }
-    ensures cause { HasCause (D.faults disk.old) (D.faults disk.new) (D.steady disk.old) (D.steady disk.new) result }
-    ensures shortage { HasShortage (D.shortages disk.old) (D.shortages disk.new) result }
+    ensures call { IsDiskCall D.DiskModel disk.old disk.new result }
+    ensures put { IfTold D.DiskModel disk.old disk.new
+        (IsPut (name_of batch.now.first Record) (name_of batch.now.first FreshRecord) (record_bytes (record { epoch = epoch; end = last_txid batch.now })) result) }
+    ensures cut { IsPutCut D.DiskModel disk.old disk.new (name_of batch.now.first FreshRecord) result }
 {
-    as_result(PaxosFile::put(disk, batch.first(), epoch, batch.last()))
-}
-
-fn as_result(put: Put) -> Result<(), DiskFail>
-    ensures { result ≡ put_result put }
-{
-    match put {
-        Put::Done => Ok(()),
-        Put::DiskFault => Err(DiskFail::Failed),
-        Put::OutOfMemory => Err(DiskFail::OutOfMemory),
-    }
+    PaxosFile::put(disk, batch.first(), epoch, batch.last())
 }
 
 // Puts the content of an acceptance in the place of the file in progress.
 fn settle<D: Disk>(disk: &mut D, epoch: u64, batch: &Batch) -> Result<(), DiskFail>
     requires start { batch.now.first ≤ 2 ^ 62 }
-    requires there { D.tells disk.old → IsSome ((D.view disk.old).seen (name_of batch.now.first (UnderWay epoch))) }
+    requires there { HasFile D.DiskModel disk.old (name_of batch.now.first (UnderWay epoch)) }
 
-    ensures tells { D.tells disk.old ↔ D.tells disk.new }
-    ensures moves { D.tells disk.old → Atomic (Moves (name_of batch.now.first (UnderWay epoch)) (name_of batch.now.first InProgress)) result (D.view disk.old) (D.view disk.new) }
-    ensures cut { OneCut (D.left disk.old) (D.left disk.new) (D.tells disk.old) result (D.view disk.old) (D.view disk.new) }
-    ensures reads { D.reads disk.new ≡ D.reads disk.old }
-    ensures cause { HasCause (D.faults disk.old) (D.faults disk.new) (D.steady disk.old) (D.steady disk.new) result }
-    ensures shortage { HasShortage (D.shortages disk.old) (D.shortages disk.new) result }
+    ensures call { IsDiskCall D.DiskModel disk.old disk.new result }
+    ensures moves { IfTold D.DiskModel disk.old disk.new
+        (Atomic (Moves (name_of batch.now.first (UnderWay epoch)) (name_of batch.now.first InProgress)) result) }
+    ensures cut { IsOneCut D.DiskModel disk.old disk.new result }
 {
     let from = under_way_name(batch.first(), epoch);
     let to = progress_name(batch.first());
     disk.rename(from.as_str(), to.as_str())
 }
 
-fn accept_by<D: Disk>(
+/// Accepts the edits of the batch under this epoch as the segment in progress with its start, in the
+/// place of one that may be there. Six disk calls: a header, one frame and a closed gate are written to
+/// the `.epoch=` file; sync; the paxos record is put, which takes three calls; the `.epoch=` file is
+/// renamed to the file in progress. The rename of the record decides. Where the files stand for segments
+/// among which no final one has this start, and the record isn't of this epoch, a crash at any moment
+/// leaves files that stand for the old edits or for the accepted ones, and once this answered Ok only
+/// for these. The temporary file of the record isn't there, and is gone again once this answered Ok. The
+/// batch's start and the epoch are from 1 to 2^62, and the frame was made of the batch, as it still is. It takes no memory
+/// but what the disk takes.
+pub fn replace<D: Disk>(
     disk: &mut D,
     epoch: u64,
     batch: &Batch,
@@ -114,55 +105,19 @@ fn accept_by<D: Disk>(
     requires start { (1 ≤ batch.now.first) × (batch.now.first ≤ 2 ^ 62) }
     requires epoch { (1 ≤ epoch) × (epoch ≤ 2 ^ 62) }
     requires last { last_txid batch.now ≤ 2 ^ 62 }
-    requires absent { D.tells disk.old → (D.view disk.old).seen (name_of batch.now.first FreshRecord) ≡ None }
+    requires absent { LacksFile D.DiskModel disk.old (name_of batch.now.first FreshRecord) }
     requires frame { IsFrameOf batch.now frame.old }
 
-    ensures tells { D.tells disk.old ↔ D.tells disk.new }
+    ensures call { IsDiskCall D.DiskModel disk.old disk.new result }
     ensures frame { IsFrameOf batch.now frame.new }
-    ensures effect { D.tells disk.old → (gs : List Segment) → IsReady (D.view disk.old) gs → CanReplace epoch batch.now gs (D.view disk.old)
-        → Becomes gs (segments_after gs (Replace epoch batch.now)) result (D.view disk.old) (D.view disk.new) }
-    ensures touches { D.tells disk.old → Touches batch.now.first (UnderWay epoch ∷ Record ∷ FreshRecord ∷ InProgress ∷ []) (D.view disk.old) (D.view disk.new) }
+    ensures effect { IfTold D.DiskModel disk.old disk.new (Makes (Replace epoch batch.now) (CanReplace epoch batch.now) result) }
+    ensures touches { IfTold D.DiskModel disk.old disk.new (Touches batch.now.first (UnderWay epoch ∷ Record ∷ FreshRecord ∷ InProgress ∷ [])) }
     ensures fresh { D.tells disk.old → OnOk result ((D.view disk.new).seen (name_of batch.now.first FreshRecord) ≡ None) }
     ensures counts { IsCounted 6 (D.left disk.old) (D.left disk.new) result }
-    ensures cut { D.tells disk.old → (gs : List Segment) → IsReady (D.view disk.old) gs → CanReplace epoch batch.now gs (D.view disk.old)
-        → IsCut (λ _. accept_cost false) gs (segments_after gs (Replace epoch batch.now)) (D.left disk.old) result (D.view disk.new) }
-    ensures reads { D.reads disk.new ≡ D.reads disk.old }
-    ensures cause { HasCause (D.faults disk.old) (D.faults disk.new) (D.steady disk.old) (D.steady disk.new) result }
-    ensures shortage { HasShortage (D.shortages disk.old) (D.shortages disk.new) result }
+    ensures cut { IfTold D.DiskModel disk.old disk.new
+        (IsCutOff (λ _. accept_cost false) (Replace epoch batch.now) (CanReplace epoch batch.now) (D.left disk.old) result) }
 {
     stage(disk, epoch, batch, frame)?;
     put_record(disk, epoch, batch)?;
     settle(disk, epoch, batch)
-}
-
-/// Accepts the edits of the batch under this epoch as the segment in progress with its start, in the
-/// place of one that may be there. Six disk calls: a header, one frame and a closed gate are written to
-/// the `.epoch=` file; sync; the paxos record is put, which takes three calls; the `.epoch=` file is
-/// renamed to the file in progress. The rename of the record decides. Where the files stand for segments
-/// among which no final one has this start, and the record isn't of this epoch, a crash at any moment
-/// leaves files that stand for the old edits or for the accepted ones, and once this answered Done only
-/// for these. The temporary file of the record isn't there, and is gone again once this answered Done. The
-/// batch's start and the epoch are from 1 to 2^62, and the frame was made of the batch, as it still is. It takes no memory
-/// but what the disk takes.
-pub fn replace<D: Disk>(disk: &mut D, epoch: u64, batch: &Batch, frame: &mut ReadyFrame) -> Put
-    requires start { (1 ≤ batch.now.first) × (batch.now.first ≤ 2 ^ 62) }
-    requires epoch { (1 ≤ epoch) × (epoch ≤ 2 ^ 62) }
-    requires last { last_txid batch.now ≤ 2 ^ 62 }
-    requires absent { D.tells disk.old → (D.view disk.old).seen (name_of batch.now.first FreshRecord) ≡ None }
-    requires frame { IsFrameOf batch.now frame.old }
-
-    ensures tells { D.tells disk.old ↔ D.tells disk.new }
-    ensures frame { IsFrameOf batch.now frame.new }
-    ensures effect { D.tells disk.old → (gs : List Segment) → IsReady (D.view disk.old) gs → CanReplace epoch batch.now gs (D.view disk.old)
-        → Becomes gs (segments_after gs (Replace epoch batch.now)) (put_result result) (D.view disk.old) (D.view disk.new) }
-    ensures touches { D.tells disk.old → Touches batch.now.first (UnderWay epoch ∷ Record ∷ FreshRecord ∷ InProgress ∷ []) (D.view disk.old) (D.view disk.new) }
-    ensures fresh { D.tells disk.old → OnOk (put_result result) ((D.view disk.new).seen (name_of batch.now.first FreshRecord) ≡ None) }
-    ensures counts { IsCounted 6 (D.left disk.old) (D.left disk.new) (put_result result) }
-    ensures cut { D.tells disk.old → (gs : List Segment) → IsReady (D.view disk.old) gs → CanReplace epoch batch.now gs (D.view disk.old)
-        → IsCut (λ _. accept_cost false) gs (segments_after gs (Replace epoch batch.now)) (D.left disk.old) (put_result result) (D.view disk.new) }
-    ensures reads { D.reads disk.new ≡ D.reads disk.old }
-    ensures cause { HasCause (D.faults disk.old) (D.faults disk.new) (D.steady disk.old) (D.steady disk.new) (put_result result) }
-    ensures shortage { HasShortage (D.shortages disk.old) (D.shortages disk.new) (put_result result) }
-{
-    Put::from(accept_by(disk, epoch, batch, frame))
 }

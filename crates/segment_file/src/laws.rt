@@ -10,7 +10,8 @@ ghost use Rattle.segment_file.specs.declared.segment_row.SegmentRow.{SegmentRow}
 
 /// Files stand for one list of segments at most.
 pub fn files_stand_for_one_list()
-    ensures { (files : Files) (gs hs : List Segment) → StandsFor files gs → StandsFor files hs → AreSound gs → AreStarts gs → AreSound hs → AreStarts hs → gs ≡ hs }
+    ensures { (files : Files) (gs hs : List Segment) → StandsFor files gs → StandsFor files hs
+        → AreSound gs → AreStarts gs → AreSound hs → AreStarts hs → gs ≡ hs }
 {}
 
 /// The rows of every table tell some list of segments, whatever the disk was that they were read from.

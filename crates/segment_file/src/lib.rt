@@ -2,7 +2,6 @@
 #![tactic(auto)]
 
 mod accepting;
-mod appended;
 mod appending;
 mod asked;
 mod content;
@@ -25,14 +24,13 @@ mod window_end;
 pub mod worked;
 
 pub use accepting::replace;
-pub use appended::Appended;
 pub use appending::append;
 pub use asked::Asked;
 pub use creating::create;
 pub use discarding::discard;
 pub use file_scan::FileScan;
 pub use finalizing::finalize;
-pub use gate::append_behind_gate;
+pub use gate::append_after_gate;
 pub use given::Given;
 pub use names::progress_name;
 pub use reading::read_from;

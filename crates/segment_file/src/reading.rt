@@ -1,9 +1,10 @@
 //! The edits of a segment are read.
-ghost use Rattle.std.specs.Prelude.{◌≡◌, ◌↔◌, ◌≤◌, ◌+◌, ◌-◌, ◌^◌, List, ℕ};
-ghost use Rattle.qj_disk.specs.Calls.{HasCause, Rests};
-ghost use Rattle.segment_file.specs.Names.{name_of, kind_of};
+ghost use Rattle.std.specs.Prelude.{◌≡◌, ◌≤◌, ◌+◌, ◌-◌, ◌^◌, List, ℕ};
+ghost use Rattle.qj_disk.specs.Calls.{Rests};
+ghost use Rattle.qj_disk.specs.DiskCalls.{IfTold, IsDiskRun};
 ghost use Rattle.segment_file.specs.Scans.{IsFileScan};
 ghost use Rattle.segment_file.specs.Reads.{IsFound, IsGiven, given_result, IsBad};
+ghost use Rattle.segment_file.specs.Clauses.{file_of};
 
 use crate::asked::Asked;
 use crate::file_scan::FileScan;
@@ -21,7 +22,9 @@ fn find(file: FileScan, segment: &SegmentLine, from: u64) -> Option<Batch>
     requires start { segment.now.start ≤ from }
     requires end_within { segment.now.end ≤ 2 ^ 62 }
     requires limit { segment.now.start + file.scan.count ≤ 2 ^ 62 + 1 }
-    ensures { (bytes : List ℕ) → IsFileScan segment.now.start bytes (from - segment.now.start) 256 file → IsFound segment.now.start segment.now.end segment.now.is_final from bytes result }
+    ensures { (bytes : List ℕ)
+        → IsFileScan segment.now.start bytes (from - segment.now.start) 256 file
+        → IsFound segment.now.start segment.now.end segment.now.is_final from bytes result }
 {
     if segment.is_final && segment.end + 1 != segment.start + file.scan.count {
         return None;
@@ -49,15 +52,15 @@ fn read_by<D: Disk>(
     segment: &SegmentLine,
     from: u64,
 ) -> Given
-    requires named { name.now ≡ name_of segment.now.start (kind_of segment.now.end segment.now.is_final) }
+    requires named { name.now ≡ file_of segment.now }
     requires start { segment.now.start ≤ from }
     requires start_within { segment.now.start ≤ 2 ^ 62 }
     requires end_within { segment.now.end ≤ 2 ^ 62 }
 
-    ensures tells { D.tells disk.old ↔ D.tells disk.new }
-    ensures given { D.tells disk.old → IsGiven segment.now.start segment.now.end segment.now.is_final from ((D.view disk.old).seen name.now) result }
-    ensures disk { D.tells disk.old → Rests (D.view disk.old) (D.view disk.new) }
-    ensures cause { HasCause (D.faults disk.old) (D.faults disk.new) (D.steady disk.old) (D.steady disk.new) (given_result result) }
+    ensures call { IsDiskRun D.DiskModel disk.old disk.new (given_result result) }
+    ensures given { D.tells disk.old
+        → IsGiven segment.now.start segment.now.end segment.now.is_final from ((D.view disk.old).seen name.now) result }
+    ensures disk { IfTold D.DiskModel disk.old disk.new Rests }
     ensures shortages { D.shortages disk.old ≤ D.shortages disk.new }
 {
     let asked = Asked {
@@ -87,10 +90,10 @@ pub fn read_from<D: Disk>(alloc: Global, disk: &mut D, segment: &SegmentLine, fr
     requires end { from ≤ segment.now.end }
     requires end_within { segment.now.end ≤ 2 ^ 62 }
 
-    ensures tells { D.tells disk.old ↔ D.tells disk.new }
-    ensures given { D.tells disk.old → IsGiven segment.now.start segment.now.end segment.now.is_final from ((D.view disk.old).seen (name_of segment.now.start (kind_of segment.now.end segment.now.is_final))) result }
-    ensures disk { D.tells disk.old → Rests (D.view disk.old) (D.view disk.new) }
-    ensures cause { HasCause (D.faults disk.old) (D.faults disk.new) (D.steady disk.old) (D.steady disk.new) (given_result result) }
+    ensures call { IsDiskRun D.DiskModel disk.old disk.new (given_result result) }
+    ensures given { D.tells disk.old
+        → IsGiven segment.now.start segment.now.end segment.now.is_final from ((D.view disk.old).seen (file_of segment.now)) result }
+    ensures disk { IfTold D.DiskModel disk.old disk.new Rests }
     ensures shortages { D.shortages disk.old ≤ D.shortages disk.new }
 {
     let name = kind_name(segment.start, segment.end, segment.is_final);

@@ -2,16 +2,15 @@
 ghost use Rattle.std.specs.Prelude.{◌≡◌, ◌≤◌, ◌^◌, [], length, IfOk};
 ghost use Rattle.journal_core.specs.Views.{last_txid};
 ghost use Rattle.batch_frame.specs.Frames.{frame_bytes};
-ghost use Rattle.segment_file.specs.Calls.{behind_gate, content_of, IsFrameOf};
+ghost use Rattle.segment_file.specs.Calls.{after_gate, content_of, IsFrameOf};
 
-use crate::content::{content_bytes, good_frame};
-use batch_frame::put_header;
+use batch_frame::{Framed, HEADER_LENGTH, frame_after, put_header};
 use journal_core::Batch;
 use qj_num::OutOfMemory;
-use std::alloc::Global;
+use std::alloc::{AllocError, Global};
 use std::marker::Model;
 
-/// The frame of a batch with a closed gate behind it, and 24 bytes for a header in front. It is made before
+/// The frame of a batch with a closed gate after it, and 24 bytes for a header in front. It is made before
 /// the first disk call of a request, so that no call wants memory for it.
 #[derive(Drop)]
 pub struct ReadyFrame {
@@ -37,21 +36,25 @@ impl ReadyFrame {
     }
 
     /// The frame of this batch. One with a body of more than 4,096 bytes, or of more than 16,384 bodies, is
-    /// answered as want of memory.
+    /// answered as lack of memory.
     pub fn of(alloc: Global, batch: &Batch) -> Result<ReadyFrame, OutOfMemory>
         requires { last_txid batch.now ≤ 2 ^ 62 }
         ensures { IfOk result (IsFrameOf batch.now) }
     {
-        let frame = good_frame(alloc, batch)?;
-        let bytes = content_bytes(alloc, batch.first(), 0, &frame)?;
-        Ok(ReadyFrame { bytes })
+        match frame_after(alloc, &[0; HEADER_LENGTH], batch) {
+            Framed::Bytes(mut bytes) => {
+                bytes.push(0)?;
+                Ok(ReadyFrame { bytes })
+            }
+            Framed::TooLong { .. } | Framed::OutOfMemory => Err(AllocError),
+        }
     }
 
-    /// What is written behind the gate of the batch's frame: the rest of the frame, and a closed gate.
+    /// What is written after the gate of the batch's frame: the rest of the frame, and a closed gate.
     #[tactic(auto, using(crate::proofs::ReadyFrames::frames))]
-    pub(crate) fn behind_gate(&self, batch: &Batch) -> &[u8]
+    pub(crate) fn after_gate(&self, batch: &Batch) -> &[u8]
         requires { IsFrameOf batch.now self.now }
-        ensures bytes { result.now ≡ behind_gate batch.now }
+        ensures bytes { result.now ≡ after_gate batch.now }
         ensures length { length result.now ≡ length (frame_bytes batch.now) }
     {
         let _batch = batch;

@@ -1,7 +1,8 @@
 //! The frames of a segment's file are scanned, window by window.
-ghost use Rattle.std.specs.Prelude.{◌≡◌, ◌≢◌, ◌↔◌, ◌≤◌, ◌<◌, ◌+◌, ◌^◌, List, ℕ, Some, Ok, IfOk, IfSome, MatchBool, length, take, drop};
+ghost use Rattle.std.specs.Prelude.{◌≡◌, ◌≢◌, ◌≤◌, ◌<◌, ◌+◌, ◌^◌, List, ℕ, Some, Ok, IfOk, IfSome, MatchBool, length, take, drop};
 ghost use Rattle.qj_disk.specs.Files.{bytes_of};
-ghost use Rattle.qj_disk.specs.Calls.{HasCause, Rests};
+ghost use Rattle.qj_disk.specs.Calls.{Rests};
+ghost use Rattle.qj_disk.specs.DiskCalls.{IfTold, IsDiskRun};
 ghost use Rattle.batch_frame.specs.Answers.{IsScan};
 ghost use Rattle.segment_file.specs.Scans.{IsInside, IsWindowEnd, AreScanned, ScansFile};
 
@@ -23,11 +24,11 @@ fn read_window<D: Disk>(
     at: u64,
     most: u64,
 ) -> Result<Vec<u8>, DiskFail>
-    ensures tells { D.tells disk.old ↔ D.tells disk.new }
-    ensures bytes { D.tells disk.old → IfOk result (λ v. v.items ≡ take most (drop at (bytes_of ((D.view disk.old).seen name.now)))) }
+    ensures call { IsDiskRun D.DiskModel disk.old disk.new result }
+    ensures bytes { D.tells disk.old
+        → IfOk result (λ v. v.items ≡ take most (drop at (bytes_of ((D.view disk.old).seen name.now)))) }
     ensures length { IfOk result (λ v. length v.items ≤ most) }
-    ensures disk { D.tells disk.old → Rests (D.view disk.old) (D.view disk.new) }
-    ensures cause { HasCause (D.faults disk.old) (D.faults disk.new) (D.steady disk.old) (D.steady disk.new) result }
+    ensures disk { IfTold D.DiskModel disk.old disk.new Rests }
     ensures shortages { D.shortages disk.old ≤ D.shortages disk.new }
 {
     let mut window = vec![in alloc; 0u8; most as usize]?;
@@ -59,15 +60,14 @@ fn scan_next<D: Disk>(
     requires limit { asked.now.start + scan.old.count ≤ 2 ^ 62 + 1 }
     requires places { 24 + scan.old.whole_length + rest < 2 ^ 64 }
 
-    ensures tells { D.tells disk.old ↔ D.tells disk.new }
+    ensures call { IsDiskRun D.DiskModel disk.old disk.new result }
     ensures told { D.tells disk.old → (bytes : List ℕ) → (D.view disk.old).seen asked.now.name.now ≡ Some bytes → length bytes ≡ 24 + scan.old.whole_length + rest
         → IsScan asked.now.start (drop 24 bytes) asked.now.skip asked.now.most scan.old → IfOk result (IsWindowEnd asked.now.start (drop 24 bytes) asked.now.skip asked.now.most scan.new) }
     ensures limit { asked.now.start + scan.new.count ≤ 2 ^ 62 + 1 }
     ensures later { scan.old.whole_length ≤ scan.new.whole_length }
     ensures places { scan.new.whole_length ≤ scan.old.whole_length + rest }
     ensures beyond { rest ≤ size → result ≢ Ok WindowEnd.Beyond }
-    ensures disk { D.tells disk.old → Rests (D.view disk.old) (D.view disk.new) }
-    ensures cause { HasCause (D.faults disk.old) (D.faults disk.new) (D.steady disk.old) (D.steady disk.new) result }
+    ensures disk { IfTold D.DiskModel disk.old disk.new Rests }
     ensures shortages { D.shortages disk.old ≤ D.shortages disk.new }
 {
     let before = scan.whole_length;
@@ -93,12 +93,13 @@ fn scan_frames<D: Disk>(
     requires limit { asked.now.start ≤ 2 ^ 62 }
     requires header { 24 ≤ size }
 
-    ensures tells { D.tells disk.old ↔ D.tells disk.new }
-    ensures told { D.tells disk.old → (bytes : List ℕ) → (D.view disk.old).seen asked.now.name.now ≡ Some bytes → length bytes ≡ size → IfOk result (AreScanned asked.now.start (drop 24 bytes) asked.now.skip asked.now.most) }
+    ensures call { IsDiskRun D.DiskModel disk.old disk.new result }
+    ensures told { D.tells disk.old → (bytes : List ℕ)
+        → (D.view disk.old).seen asked.now.name.now ≡ Some bytes → length bytes ≡ size
+        → IfOk result (AreScanned asked.now.start (drop 24 bytes) asked.now.skip asked.now.most) }
     ensures limit { IfOk result (λ o. IfSome o (λ s. asked.now.start + s.count ≤ 2 ^ 62 + 1)) }
     ensures places { IfOk result (λ o. IfSome o (λ s. 24 + s.whole_length ≤ size)) }
-    ensures disk { D.tells disk.old → Rests (D.view disk.old) (D.view disk.new) }
-    ensures cause { HasCause (D.faults disk.old) (D.faults disk.new) (D.steady disk.old) (D.steady disk.new) result }
+    ensures disk { IfTold D.DiskModel disk.old disk.new Rests }
     ensures shortages { D.shortages disk.old ≤ D.shortages disk.new }
 {
     let mut scan = Scan::new(alloc);
@@ -126,12 +127,12 @@ pub fn scan_file<D: Disk>(
 ) -> Result<Option<FileScan>, DiskFail>
     requires { asked.now.start ≤ 2 ^ 62 }
 
-    ensures tells { D.tells disk.old ↔ D.tells disk.new }
-    ensures told { D.tells disk.old → IfOk result (ScansFile asked.now.start ((D.view disk.old).seen asked.now.name.now) asked.now.skip asked.now.most) }
+    ensures call { IsDiskRun D.DiskModel disk.old disk.new result }
+    ensures told { D.tells disk.old
+        → IfOk result (ScansFile asked.now.start ((D.view disk.old).seen asked.now.name.now) asked.now.skip asked.now.most) }
     ensures limit { IfOk result (λ o. IfSome o (λ f. asked.now.start + f.scan.count ≤ 2 ^ 62 + 1)) }
     ensures places { IfOk result (λ o. IfSome o (λ f. 24 + f.scan.whole_length < 2 ^ 64)) }
-    ensures disk { D.tells disk.old → Rests (D.view disk.old) (D.view disk.new) }
-    ensures cause { HasCause (D.faults disk.old) (D.faults disk.new) (D.steady disk.old) (D.steady disk.new) result }
+    ensures disk { IfTold D.DiskModel disk.old disk.new Rests }
     ensures shortages { D.shortages disk.old ≤ D.shortages disk.new }
 {
     let Some(size) = disk.length(asked.name)? else {

@@ -204,7 +204,8 @@ impl SegmentTable {
         ensures ok { OnOk result (self.new ≡ put_row row self.old) }
         ensures err { OnErr result (self.new ≡ self.old) }
         ensures there { IsSome (find_row row.info.start self.old) → IsOk result }
-        ensures long { IsSome (find_row row.info.start self.old) → length self.new ≡ length self.old }
+        ensures long { IsSome (find_row row.info.start self.old)
+            → length self.new ≡ length self.old }
     {
         match place_in(&self.rows, row.info.start) {
             Ok(place) => self.rows[place] = row,

@@ -16,19 +16,8 @@ spelled_out name start kind is = is.spelled
 spelled_as : (front : Front) (name : List ℕ) (start : ℕ) (kind : Kind) → IsNamed name start kind → front_of kind ≡ front → name ≡ front_text front ++ (padded 19 start ++ rest_of kind)
 spelled_as front name start kind is same = spelled_out name start kind is ∙ ap (λ (f : Front). front_text f ++ (padded 19 start ++ rest_of kind)) same
 
-pub front_progress : (name rest : List ℕ) (start : ℕ) (kind : Kind) → name ≡ front_text progress ++ rest → IsNamed name start kind → front_of kind ≡ progress
-front_progress name rest start kind begins is = sym (front_is start kind) ∙ ap front_in (sym is.spelled ∙ begins)
-
-pub front_record : (name rest : List ℕ) (start : ℕ) (kind : Kind) → name ≡ front_text record_ ++ rest → IsNamed name start kind → front_of kind ≡ record_
-front_record name rest start kind begins is = sym (front_is start kind) ∙ ap front_in (sym is.spelled ∙ begins)
-
 pub not_front : (front : Front) (name : List ℕ) → ((rest : List ℕ) → name ≡ front_text front ++ rest → ⊥) → (start : ℕ) (kind : Kind) → IsNamed name start kind → front_of kind ≢ front
 not_front front name none start kind is same = none (padded 19 start ++ rest_of kind) (spelled_as front name start kind is same)
-
-pub front_final : (front : Front) → front ≢ progress → front ≢ record_ → front ≡ final
-front_final progress no_progress no_record = absurd (no_progress refl)
-front_final record_ no_progress no_record = absurd (no_record refl)
-front_final final no_progress no_record = refl
 
 module _ (front : Front) (name rest : List ℕ) (begins : name ≡ front_text front ++ rest) where
   rest_is : (start : ℕ) (kind : Kind) → IsNamed name start kind → front_of kind ≡ front → rest ≡ padded 19 start ++ rest_of kind
@@ -59,37 +48,3 @@ module _ (front : Front) (name rest : List ℕ) (begins : name ≡ front_text fr
       valid = is.valid;
       spelled = begins ∙ ap (λ (l : List ℕ). front_text front ++ l) (number.spelled ∙ ap (λ (l : List ℕ). padded 19 n ++ l) is.spelled) ∙ ap (λ (f : Front). front_text f ++ (padded 19 n ++ rest_of kind)) (sym is.front_is);
     }
-
--- what may stand behind the start in the name of a file in progress
-pub progress_rest : (start : ℕ) (rest : List ℕ) → rest ≢ [] → rest ≢ codes ".new" → ((epoch : ℕ) → 1 ≤ epoch → epoch ≤ 2 ^ 62 → rest ≢ codes ".epoch=" ++ decimal epoch) → (kind : Kind) → IsRest progress start rest kind → ⊥
-progress_rest start rest some other no_epoch InProgress is = some is.spelled
-progress_rest start rest some other no_epoch (Final last) is = let p = is.front_is in absurd (cc)
-progress_rest start rest some other no_epoch Record is = let p = is.front_is in absurd (cc)
-progress_rest start rest some other no_epoch (UnderWay epoch) is = no_epoch epoch is.valid.0 is.valid.1 is.spelled
-progress_rest start rest some other no_epoch Fresh is = other is.spelled
-progress_rest start rest some other no_epoch FreshRecord is = let p = is.front_is in absurd (cc)
-
-pub under_way_rest : (start epoch : ℕ) (rest digits : List ℕ) → 1 ≤ epoch → epoch ≤ 2 ^ 62 → rest ≡ codes ".epoch=" ++ digits → digits ≡ decimal epoch → IsRest progress start rest (UnderWay epoch)
-under_way_rest start epoch rest digits first small begins is = record { front_is = refl; valid = (first, small); spelled = begins ∙ ap (λ (l : List ℕ). codes ".epoch=" ++ l) is }
-
--- the digits behind .epoch= are of one number
-pub epoch_behind : (epoch : ℕ) (rest digits : List ℕ) → rest ≡ codes ".epoch=" ++ digits → rest ≡ codes ".epoch=" ++ decimal epoch → digits ≡ decimal epoch
-epoch_behind epoch rest digits begins is = append_cancel_left (codes ".epoch=") digits (decimal epoch) (sym begins ∙ is)
-
-pub final_rest : (start : ℕ) (rest : List ℕ) → ((last : ℕ) → start ≤ last → last ≤ 2 ^ 62 → rest ≢ codes "-" ++ padded 19 last) → (kind : Kind) → IsRest final start rest kind → ⊥
-final_rest start rest none InProgress is = let p = is.front_is in absurd (cc)
-final_rest start rest none (Final last) is = none last is.valid.0 is.valid.1 is.spelled
-final_rest start rest none Record is = let p = is.front_is in absurd (cc)
-final_rest start rest none (UnderWay epoch) is = let p = is.front_is in absurd (cc)
-final_rest start rest none Fresh is = let p = is.front_is in absurd (cc)
-final_rest start rest none FreshRecord is = let p = is.front_is in absurd (cc)
-
--- a name of none of the three fronts
-pub no_front : (name : List ℕ) → ((start : ℕ) (kind : Kind) → IsNamed name start kind → front_of kind ≡ progress → ⊥) → ((start : ℕ) (kind : Kind) → IsNamed name start kind → front_of kind ≡ final → ⊥)
-    → ((start : ℕ) (kind : Kind) → IsTold kind → IsNamed name start kind → front_of kind ≡ record_ → ⊥) → (start : ℕ) (kind : Kind) → IsTold kind → IsNamed name start kind → ⊥
-no_front name no_progress no_final no_record start kind told is = by (front_of kind) refl
-  where
-    by : (front : Front) → front_of kind ≡ front → ⊥
-    by progress same = no_progress start kind is same
-    by final same = no_final start kind is same
-    by record_ same = no_record start kind told is same

@@ -41,17 +41,11 @@ moved_stable v w from to apart stable_from happens all = record { each = λ othe
     by other (inr ne) (inl is) = λ own c left. let step = happens.crash c left in ap c is ∙ step.2.moved ∙ stable_from step.0 step.1 ∙ sym (ap w.seen is ∙ happens.seen.moved)
     by other (inr ne) (inr ne_to) = same_settled v w other (all.each other) (λ c stable left. let step = happens.crash c left in step.2.others other ne ne_to ∙ stable step.0 step.1 ∙ sym (happens.seen.others other ne ne_to))
 
-pub keeps_self : (v : View) → Keeps v v
-keeps_self v = record { seen = refl; crash = λ c left. left; time = record { later = omega arith; nothing_else = λ t c le left. inl left; keeps = λ t c le left. left } }
-
 pub mends_keeps : (v w : View) → IsSound v → Keeps v w → SegmentsStable v → Mends v w
 mends_keeps v w sound keeps all = record {
   quiet = quiet_keeps Cleans v v w (quiet_start Cleans v sound (λ c now. cleans_none c)) keeps;
   stable = keeps_stable v w keeps all;
 }
-
-pub mends_none : (v : View) → IsSound v → SegmentsStable v → Mends v v
-mends_none v sound all = mends_keeps v v sound (keeps_self v) all
 
 -- one repair after another
 pub mends_then : (u v w : View) → Mends u v → Mends v w → Mends u w
@@ -102,7 +96,7 @@ one_kind name s t j k one two =
     let at_t : IsNamed name t j = subst (λ (n : ℕ). IsNamed name n j) (one_start name s t j k one two) one in
     same_kind t j k at_t.valid two.valid (sym at_t.spelled ∙ two.spelled)
 
--- the content of an acceptance is handled, behind calls that only read
+-- the content of an acceptance is handled, after calls that only read
 module _ (v0 v1 w : View) (sound0 : IsSound v0) (sound1 : IsSound v1) (rests : Rests v0 v1) (way : List ℕ) (start epoch : ℕ) (named : IsNamed way start (UnderWay epoch)) {T : Type 0} (r : Result T DiskFail) where
   first_mends : SegmentsStable v0 → Mends v0 v1
   first_mends all = mends_keeps v0 v1 sound0 rests.keeps all
@@ -163,6 +157,3 @@ module _ (v w : View) (sound : IsSound v) (finals name : List ℕ) (is : IsLeftO
 
   pub sweep_clears : OnOk r (Clears (IsLeftOver finals) NoName name v.seen w.seen)
   sweep_clears = on_ok_weaker r (λ (happens : Happens (ChangesOnly name IsGone) v w). record { here = inl (is, happens.seen.here); others = λ other ne free. happens.seen.others other ne }) removes.done
-
-pub clears_none : (P Free : List ℕ → Type 0) (name : List ℕ) (d : Files) → (P name → ⊥) → Clears P Free name d d
-clears_none P Free name d not = record { here = inr (not, refl); others = λ other ne free. refl }

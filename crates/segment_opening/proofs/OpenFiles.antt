@@ -56,12 +56,6 @@ module _ (start : ℕ) (bytes : List ℕ) (f : FileScan) (is : IsFileScan start 
     },
   )
 
-pub row_in_within : (start : ℕ) (f : FileScan) (is_final : Bool) (row : SegmentRow) → row ≡ row_in start f is_final → 1 ≤ start → start ≤ 4611686018427387904 → start + f.scan.count ≤ 4611686018427387905 → IsRowWithin row
-row_in_within start f is_final row is first small limit =
-    let begins : row.info.start ≡ start = ap (λ (r : SegmentRow). r.info.start) is in
-    let ends : row.info.end ≡ start + f.scan.count - 1 = ap (λ (r : SegmentRow). r.info.end) is in
-    (omega (arith, begins, first), omega (arith, begins, small), omega (arith, begins, ends, first), omega (arith, ends, limit, first))
-
 -- a file that isn't that of a segment with the start isn't good
 pub no_scan : (seen : Files) (start : ℕ) (kind : Kind) → ScansFile start (seen (name_of start kind)) 0 0 None → IsGoodFile seen start kind → ⊥
 no_scan seen start kind none good = none good.bytes good.there good.epoch good.whole_length good.bodies good.edits
@@ -91,13 +85,6 @@ module _ (file : Option (List ℕ)) (row : SegmentRow) (open_ : row.info.is_fina
   pub marked_absent : row.info.accepted ≡ false → file ≡ None → IsMarked file row row
   marked_absent free none = as_marked row refl refl (subst (λ (b : Bool). IsAccepted file row.info.epoch b) (sym free) (λ has. let p = sym none ∙ has.there in absurd (cc)))
 
-pub marked_final : (file : Option (List ℕ)) (row : SegmentRow) → row.info.is_final ≡ true → row.info.accepted ≡ false → IsMarked file row row
-marked_final file row closed free = record {
-  whole = refl;
-  info = refl;
-  accepted = subst (λ (b : Bool). IsAcceptedAs b file row.info.epoch row.info.accepted) (sym closed) free;
-}
-
 pub bad_record : (name bad : List ℕ) (file : Option (List ℕ)) → FoundIn name file (got.BadFile bad) → IsRecordFile file → ⊥
 bad_record name bad file found (inl none) = let p = sym none ∙ found.2 in absurd (cc)
 bad_record name bad file found (inr has) =
@@ -125,9 +112,6 @@ read_as seen start last bytes g row new there is marked = record {
 pub not_good : (seen : Files) (start : ℕ) (last : Option ℕ) (bytes : List ℕ) → seen (name_of start (kind_by last)) ≡ Some bytes → IsRowFound start last bytes None → IsGoodFile seen start (kind_by last) → ⊥
 not_good seen start last bytes there none good =
     none good.epoch good.whole_length good.bodies (subst (λ (l : List ℕ). IsSegmentFile l start good.epoch good.bodies good.whole_length) (same_Some good.bytes bytes (sym good.there ∙ there)) good.edits) good.ends
-
-pub absent_not_good : (seen : Files) (start : ℕ) (kind : Kind) → seen (name_of start kind) ≡ None → IsGoodFile seen start kind → ⊥
-absent_not_good seen start kind none good = let p = sym none ∙ good.there in absurd (cc)
 
 pub row_within : (start : ℕ) (last : Option ℕ) (bytes : List ℕ) (g : Segment) (row : SegmentRow) → 1 ≤ start → start ≤ 4611686018427387904 → IsRowIn start last bytes g row → IsRowWithin row
 row_within start last bytes g row first small is =

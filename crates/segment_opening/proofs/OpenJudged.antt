@@ -12,8 +12,8 @@ use Rattle.segment_opening.specs.declared.file_kind.FileKind.{FileKind}
 use Rattle.segment_opening.specs.declared.file_kind.FileKind.TheVariants as told
 use Rattle.segment_file.specs.Rows.{find_row}
 use Rattle.segment_file.specs.declared.segment_row.SegmentRow.{SegmentRow}
-use Rattle.segment_opening.specs.declared.judged.Judged.{Judged}
-use Rattle.segment_opening.specs.declared.judged.Judged.TheVariants as judged
+use Rattle.segment_opening.specs.declared.judged.Judgment.{Judgment}
+use Rattle.segment_opening.specs.declared.judged.Judgment.TheVariants as judged
 use Rattle.segment_opening.specs.Opened.{HoldsSegment, IsGoodFile}
 use Rattle.segment_opening.specs.OpenSteps.{kind_by, IsRowIn, IsMarkedBy, IsBadAt, IsJudged, IsJudgedName, IsJudgedBeside, IsSegmentName, IsNoSegment, IsReadAs, IsIdle, IsFree}
 use Rattle.segment_file.proofs.NamesLemmas.{same_start, same_kind}
@@ -36,7 +36,7 @@ idle_or_not name start rows true named free = record { start = start; named = na
 idle_or_not name start rows false named taken = λ idle. taken (subst (λ (n : ℕ). IsFree (find_row n rows)) (same_named name idle.start start Record Record idle.named named).0 idle.free)
 
 module _ (seen : Files) (start : ℕ) where
-  pub bad_judged : (kind : Kind) (name : List ℕ) (j : Judged) → name ≡ name_of start kind → (IsGoodFile seen start kind → ⊥) → IsBadAt name j → IsJudged seen start kind j
+  pub bad_judged : (kind : Kind) (name : List ℕ) (j : Judgment) → name ≡ name_of start kind → (IsGoodFile seen start kind → ⊥) → IsBadAt name j → IsJudged seen start kind j
   bad_judged kind name judged.Other named bad is = is
   bad_judged kind name (judged.Row row) named bad is = absurd is
   bad_judged kind name (judged.BadFile other) named bad is = inl (is ∙ named, bad)
@@ -44,27 +44,20 @@ module _ (seen : Files) (start : ℕ) where
   bad_judged kind name judged.OutOfMemory named bad is = tt
 
   module _ (last : Option ℕ) (bytes : List ℕ) (g : Segment) (row : SegmentRow) (there : seen (name_of start (kind_by last)) ≡ Some bytes) (is : IsRowIn start last bytes g row) where
-    marked_at : (j : Judged) → IsMarkedBy start (seen (name_of start Record)) row j → IsJudged seen start (kind_by last) j
+    marked_at : (j : Judgment) → IsMarkedBy start (seen (name_of start Record)) row j → IsJudged seen start (kind_by last) j
     marked_at judged.Other marked = marked
     marked_at (judged.Row new) marked = (record g { accepted = new.info.accepted }, read_as seen start last bytes g row new there is marked)
     marked_at (judged.BadFile bad) marked = inr (marked.0, marked.1)
     marked_at judged.DiskFault marked = tt
     marked_at judged.OutOfMemory marked = tt
 
-    pub judged_by : (mid : Files) (j : Judged) → mid ≡ seen → IsMarkedBy row.info.start (mid (name_of row.info.start Record)) row j → IsJudged seen start (kind_by last) j
+    pub judged_by : (mid : Files) (j : Judgment) → mid ≡ seen → IsMarkedBy row.info.start (mid (name_of row.info.start Record)) row j → IsJudged seen start (kind_by last) j
     judged_by mid j same marked =
         let at : row.info.start ≡ start = ap (λ (i : SegmentInfo). i.start) is.info ∙ is.start_is in
         marked_at j (subst (λ (n : ℕ). IsMarkedBy n (seen (name_of n Record)) row j) at (subst (λ (files : Files). IsMarkedBy row.info.start (files (name_of row.info.start Record)) row j) same marked))
 
-pub named_judged : (seen : Files) (name : List ℕ) (start : ℕ) (kind : Kind) (j : Judged) → HoldsSegment kind → IsNamed name start kind → IsJudged seen start kind j → IsJudgedName seen name j
-named_judged seen name start kind judged.Other holds named is = absurd is
-named_judged seen name start kind (judged.Row row) holds named is = (start, kind, record { holds = holds; named = named }, is)
-named_judged seen name start kind (judged.BadFile bad) holds named is = (start, kind, record { holds = holds; named = named }, is)
-named_judged seen name start kind judged.DiskFault holds named is = tt
-named_judged seen name start kind judged.OutOfMemory holds named is = tt
-
 module _ (seen : Files) (name : List ℕ) (rows : List SegmentRow) (start : ℕ) (kind : Kind) (named : IsSegmentName name start kind) where
-  pub second_refused : (j : Judged) → IsBadAt name j → IsSome (find_row start rows) → IsJudgedBeside seen name rows j
+  pub second_refused : (j : Judgment) → IsBadAt name j → IsSome (find_row start rows) → IsJudgedBeside seen name rows j
   second_refused judged.Other is there = absurd is
   second_refused (judged.Row row) is there = absurd is
   second_refused (judged.BadFile bad) is there = record { start = start; kind = kind; named = named; why = inr (is, there) }

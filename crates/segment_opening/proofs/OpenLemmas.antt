@@ -84,7 +84,3 @@ elsewhere name is start Record same = is.no_record (ap (λ (l : List ℕ). get_o
 elsewhere name is start (UnderWay epoch) same = is.no_segment (ap (λ (l : List ℕ). get_or l 0 0) (sym same))
 elsewhere name is start Fresh same = is.no_segment (ap (λ (l : List ℕ). get_or l 0 0) (sym same))
 elsewhere name is start FreshRecord same = is.no_record (ap (λ (l : List ℕ). get_or l 0 0) (sym same))
-
--- files of such names may change
-pub put_elsewhere_stands : (name tmp : List ℕ) → IsElsewhere name → IsElsewhere tmp → (d c : Files) (gs : List Segment) → ((other : List ℕ) → other ≢ name → other ≢ tmp → c other ≡ d other) → StandsFor d gs → StandsFor c gs
-put_elsewhere_stands name tmp name_is tmp_is d c gs others stands = stands_same d c gs (λ start kind first small valid lasts. others (name_of start kind) (elsewhere name name_is start kind) (elsewhere tmp tmp_is start kind)) stands

@@ -49,12 +49,6 @@ module _ (start : ℕ) (files : Files) where
 pub bad_file : (start : ℕ) (name : List ℕ) (files : Files) → IsNamed name start Record → (IsRecordFile (files (name_of start Record)) → ⊥) → IsBadRecordFile files name
 bad_file start name files named bad = record { start = start; first = named.first; small = named.small; named = named.spelled; bad = subst (λ (n : List ℕ). IsRecordFile (files n) → ⊥) (sym named.spelled) bad }
 
-pub good_file : (start : ℕ) (name : List ℕ) (files : Files) → IsNamed name start Record → IsRecordFile (files (name_of start Record)) → IsBadRecordFile files name → ⊥
-good_file start name files named good is = is.bad (subst (λ (n : List ℕ). IsRecordFile (files n)) (sym named.spelled) good)
-
-pub not_record : (name : List ℕ) (files : Files) → ((start : ℕ) → IsNamed name start Record → ⊥) → IsBadRecordFile files name → ⊥
-not_record name files none is = none is.start record { first = is.first; small = is.small; valid = tt; spelled = is.named }
-
 bad_there : (files : Files) (name : List ℕ) → IsBadRecordFile files name → IsSome (files name)
 bad_there files name is = by (files name) is.bad
   where

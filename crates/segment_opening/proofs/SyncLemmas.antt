@@ -94,10 +94,6 @@ module _ (told : Type 0) (v0 : View) (sound : told → IsSound v0) (names : List
     same = so_far.same;
   }
 
--- a sync of a file that counts stores no other
-pub one_synced : (v w : View) (name : List ℕ) → IsLastingFile name → ChangesOnly name (λ _ n. n ≡ v.seen name) v.synced w.synced → SyncsOnly IsLastingFile v w
-one_synced v w name own change other not = change.others other (λ same. not (subst IsLastingFile (sym same) own))
-
 -- the names of a list, one after the other
 module _ {X : Type 0} (f : X → List ℕ) where
   pub next_done : (xs : List X) (i : ℕ) (x : X) → i < length xs → x ≡ get_or xs i x → map f (take (i + 1) xs) ≡ map f (take i xs) ++ f x ∷ []

@@ -46,17 +46,6 @@ left_file finals name s k false named not = λ file.
     not (subst (λ (kind : Kind). IsLeftKind finals s kind) (sym (one_kind name s file.start k file.kind named file.named))
     (subst (λ (start : ℕ). IsLeftKind finals start file.kind) (sym (one_start name s file.start k file.kind named file.named)) file.left))
 
-left_told : (finals : List ℕ) (s : ℕ) (k : Kind) → IsLeftKind finals s k → IsTold k
-left_told finals s InProgress left = tt
-left_told finals s (Final last) left = tt
-left_told finals s Record left = tt
-left_told finals s (UnderWay epoch) left = tt
-left_told finals s Fresh left = tt
-left_told finals s FreshRecord left = left
-
-pub no_left_file : (finals name : List ℕ) → ((start : ℕ) (kind : Kind) → IsTold kind → IsNamed name start kind → ⊥) → IsLeftFile finals name → ⊥
-no_left_file finals name none file = none file.start file.kind (left_told finals file.start file.kind file.left) file.named
-
 -- what counts, by what its name tells
 pub lasting_file : (name : List ℕ) (s : ℕ) (k : Kind) (b : Bool) → IsNamed name s k → MatchBool b (IsLasting k) (IsLasting k → ⊥) → MatchBool b (IsLastingFile name) (IsLastingFile name → ⊥)
 lasting_file name s k true named lasts = record { start = s; kind = k; named = named; lasting = lasts }

@@ -15,7 +15,7 @@ use Rattle.std.proofs.lemmas.Map.Keys.{sorted_head, sorted_tail}
 abbrev pub by_bytes : List ℕ → List ℕ → Ordering
 by_bytes = slice_cmp nat_cmp
 
--- the name stands behind those that are done
+-- the name stands after those that are done
 pub record Turn (names done : List (List ℕ)) (name : List ℕ) : Type 0 where
   pub rest : List (List ℕ)
   pub split : names ≡ done ++ name ∷ rest

@@ -24,7 +24,7 @@ pub record IsNamed (name : List ℕ) (start : ℕ) (kind : Kind) : Type 0 where
   pub valid : IsKind start kind
   pub spelled : name ≡ name_of start kind
 
--- the bytes are what stands behind the start in the name of such a kind
+-- the bytes are what stands after the start in the name of such a kind
 pub record IsRest (front : Front) (start : ℕ) (rest : List ℕ) (kind : Kind) : Type 0 where
   pub front_is : front_of kind ≡ front
   pub valid : IsKind start kind

@@ -3,3 +3,4 @@ pub mod Opening
 pub mod Completing
 pub mod Opened
 pub mod OpenSteps
+pub mod Clauses

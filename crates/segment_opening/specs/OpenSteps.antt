@@ -19,8 +19,8 @@ use Rattle.segment_file.specs.declared.file_scan.FileScan.{FileScan}
 use Rattle.segment_file.specs.declared.segment_row.SegmentRow.{SegmentRow}
 use Rattle.segment_opening.specs.declared.opened.Opened.{Opened}
 use Rattle.segment_opening.specs.declared.opened.Opened.TheVariants as opened
-use Rattle.segment_opening.specs.declared.judged.Judged.{Judged}
-use Rattle.segment_opening.specs.declared.judged.Judged.TheVariants as judged
+use Rattle.segment_opening.specs.declared.judged.Judgment.{Judgment}
+use Rattle.segment_opening.specs.declared.judged.Judgment.TheVariants as judged
 
 -- a final segment with this last txid, or one in progress
 abbrev pub kind_by : Option ℕ → Kind
@@ -66,19 +66,19 @@ pub record IsMarked (file : Option (List ℕ)) (old new : SegmentRow) : Type 0 w
   pub info : new.info ≡ record old.info { accepted = new.info.accepted }
   pub accepted : IsAcceptedAs old.info.is_final file old.info.epoch new.info.accepted
 
-abbrev pub IsMarkedBy : ℕ → Option (List ℕ) → SegmentRow → Judged → Type 0
+abbrev pub IsMarkedBy : ℕ → Option (List ℕ) → SegmentRow → Judgment → Type 0
 IsMarkedBy start file row judged.Other = ⊥
 IsMarkedBy start file row (judged.Row new) = IsMarked file row new
 IsMarkedBy start file row (judged.BadFile bad) = (bad ≡ name_of start Record) × (IsRecordFile file → ⊥)
 IsMarkedBy start file row judged.DiskFault = Unit {0}
 IsMarkedBy start file row judged.OutOfMemory = Unit {0}
 
-abbrev pub IsWithinRow : Judged → Type 0
+abbrev pub IsWithinRow : Judgment → Type 0
 IsWithinRow (judged.Row row) = IsRowWithin row
 IsWithinRow _ = Unit {0}
 
 -- that the file of this name is bad, unless memory is wanted
-abbrev pub IsBadAt : List ℕ → Judged → Type 0
+abbrev pub IsBadAt : List ℕ → Judgment → Type 0
 IsBadAt name (judged.BadFile bad) = bad ≡ name
 IsBadAt name judged.OutOfMemory = Unit {0}
 IsBadAt name _ = ⊥
@@ -101,7 +101,7 @@ IsFault seen start kind bad =
     ⊎ ((bad ≡ name_of start Record) × (IsRecordFile (seen (name_of start Record)) → ⊥))
 
 -- what a segment's file is
-abbrev pub IsJudged : Files → ℕ → Kind → Judged → Type 0
+abbrev pub IsJudged : Files → ℕ → Kind → Judgment → Type 0
 IsJudged seen start kind judged.Other = ⊥
 IsJudged seen start kind (judged.Row row) = (g : Segment) × IsReadAs seen start kind g row
 IsJudged seen start kind (judged.BadFile bad) = IsFault seen start kind bad
@@ -117,7 +117,7 @@ abbrev pub IsNoSegment : List ℕ → Type 0
 IsNoSegment name = (start : ℕ) (kind : Kind) → IsSegmentName name start kind → ⊥
 
 -- what the file of this name is
-abbrev pub IsJudgedName : Files → List ℕ → Judged → Type 0
+abbrev pub IsJudgedName : Files → List ℕ → Judgment → Type 0
 IsJudgedName seen name judged.Other = IsNoSegment name
 IsJudgedName seen name (judged.Row row) = (start : ℕ) × (kind : Kind) × IsSegmentName name start kind × IsJudged seen start kind (judged.Row row)
 IsJudgedName seen name (judged.BadFile bad) = (start : ℕ) × (kind : Kind) × IsSegmentName name start kind × IsJudged seen start kind (judged.BadFile bad)
@@ -141,7 +141,7 @@ pub record IsRefused (seen : Files) (name : List ℕ) (rows : List SegmentRow) (
   pub why : IsFault seen start kind bad ⊎ ((bad ≡ name) × IsSome (find_row start rows))
 
 -- what the file of this name is beside those of the rows
-abbrev pub IsJudgedBeside : Files → List ℕ → List SegmentRow → Judged → Type 0
+abbrev pub IsJudgedBeside : Files → List ℕ → List SegmentRow → Judgment → Type 0
 IsJudgedBeside seen name rows judged.Other = IsNoSegment name
 IsJudgedBeside seen name rows (judged.Row row) = IsNewRow seen name rows row
 IsJudgedBeside seen name rows (judged.BadFile bad) = IsRefused seen name rows bad
@@ -190,7 +190,7 @@ pub record RemovesIdle {T : Type 0} (rows : List SegmentRow) (name : List ℕ) (
   pub either : (IsIdle rows name × Atomic (ChangesOnly name IsGone) result old new) ⊎ ((IsIdle rows name → ⊥) × Keeps old new)
 
 -- a judgement as the result of a disk call
-abbrev pub judged_result : Judged → Result (Unit {0}) DiskFail
+abbrev pub judged_result : Judgment → Result (Unit {0}) DiskFail
 judged_result judged.Other = Ok tt
 judged_result (judged.Row row) = Ok tt
 judged_result (judged.BadFile name) = Ok tt

@@ -1,6 +1,7 @@
 //! Records that aren't in their grammar.
-ghost use Rattle.std.specs.Prelude.{◌≡◌, ◌↔◌, ◌≤◌, ◌^◌, ℕ, List, IfOk, MatchOption};
-ghost use Rattle.qj_disk.specs.Calls.{HasCause, Rests};
+ghost use Rattle.std.specs.Prelude.{◌≡◌, ◌≤◌, ◌^◌, ℕ, List, IfOk, MatchOption};
+ghost use Rattle.qj_disk.specs.Calls.{Rests};
+ghost use Rattle.qj_disk.specs.DiskCalls.{IfTold, IsDiskRun};
 ghost use Rattle.segment_file.specs.Names.{name_of, Record};
 ghost use Rattle.segment_opening.specs.Kinds.{IsNamed};
 ghost use Rattle.segment_file.specs.Stands.{IsRecordFile};
@@ -30,11 +31,10 @@ fn record_start(name: &[u8]) -> Option<u64>
 fn bad_record_of<D: Disk>(alloc: Global, disk: &mut D, start: u64) -> Result<Option<Name>, DiskFail>
     requires { start ≤ 2 ^ 62 }
 
-    ensures tells { D.tells disk.old ↔ D.tells disk.new }
+    ensures call { IsDiskRun D.DiskModel disk.old disk.new result }
     ensures bad { D.tells disk.old → IfOk result (λ o. MatchOption o (IsRecordFile ((D.view disk.old).seen (name_of start Record)))
         (λ bad. (bad ≡ name_of start Record) × (IsRecordFile ((D.view disk.old).seen (name_of start Record)) → ⊥))) }
-    ensures disk { D.tells disk.old → Rests (D.view disk.old) (D.view disk.new) }
-    ensures cause { HasCause (D.faults disk.old) (D.faults disk.new) (D.steady disk.old) (D.steady disk.new) result }
+    ensures disk { IfTold D.DiskModel disk.old disk.new Rests }
 {
     match PaxosFile::get(alloc, disk, start) {
         GotRecord::Found { .. } => Ok(None),
@@ -47,11 +47,10 @@ fn bad_record_of<D: Disk>(alloc: Global, disk: &mut D, start: u64) -> Result<Opt
 
 // The name, if it is that of a bad record.
 fn bad_record<D: Disk>(alloc: Global, disk: &mut D, name: &[u8]) -> Result<Option<Name>, DiskFail>
-    ensures tells { D.tells disk.old ↔ D.tells disk.new }
+    ensures call { IsDiskRun D.DiskModel disk.old disk.new result }
     ensures bad { D.tells disk.old → IfOk result (λ o. MatchOption o (IsBadRecordFile (D.view disk.old).seen name.now → ⊥)
         (λ bad. (bad ≡ name.now) × IsBadRecordFile (D.view disk.old).seen name.now)) }
-    ensures disk { D.tells disk.old → Rests (D.view disk.old) (D.view disk.new) }
-    ensures cause { HasCause (D.faults disk.old) (D.faults disk.new) (D.steady disk.old) (D.steady disk.new) result }
+    ensures disk { IfTold D.DiskModel disk.old disk.new Rests }
 {
     match record_start(name) {
         Some(start) => bad_record_of(alloc, disk, start),
@@ -61,11 +60,10 @@ fn bad_record<D: Disk>(alloc: Global, disk: &mut D, name: &[u8]) -> Result<Optio
 
 /// The name of the first bad record in byte order, if there is one.
 pub fn first_bad_record<D: Disk>(alloc: Global, disk: &mut D) -> Result<Option<Name>, DiskFail>
-    ensures tells { D.tells disk.old ↔ D.tells disk.new }
+    ensures call { IsDiskRun D.DiskModel disk.old disk.new result }
     ensures bad { D.tells disk.old → IfOk result (λ o. MatchOption o ((name : List ℕ) → IsBadRecordFile (D.view disk.old).seen name → ⊥)
         (λ bad. IsFirst (IsBadRecordFile (D.view disk.old).seen) bad)) }
-    ensures disk { D.tells disk.old → Rests (D.view disk.old) (D.view disk.new) }
-    ensures cause { HasCause (D.faults disk.old) (D.faults disk.new) (D.steady disk.old) (D.steady disk.new) result }
+    ensures disk { IfTold D.DiskModel disk.old disk.new Rests }
 {
     let names = disk.list()?;
     for name in &names {

@@ -1,9 +1,10 @@
 //! What stopped calls left half done is repaired, as opening does before it reads the segments.
-ghost use Rattle.std.specs.Prelude.{◌≡◌, ◌↔◌, OnOk, Result};
-ghost use Rattle.qj_disk.specs.Calls.{HasCause};
+ghost use Rattle.std.specs.Prelude.{◌≡◌, OnOk};
 ghost use Rattle.qj_disk.specs.Runs.{Quiet};
+ghost use Rattle.qj_disk.specs.DiskCalls.{IfTold, IsDiskRun};
 ghost use Rattle.segment_opening.specs.Opening.{SegmentsStable, Repairs, IsCompleted, completed_result};
 ghost use Rattle.segment_opening.specs.Completing.{Mends, Spares, Completes};
+ghost use Rattle.segment_opening.specs.Clauses.{IfStable, StayStable};
 
 use crate::bad_record::first_bad_record;
 use crate::completed::Completed;
@@ -15,10 +16,10 @@ use std::alloc::Global;
 
 // Repairs the files whatever the records are.
 fn repair<D: Disk>(alloc: Global, disk: &mut D) -> Result<(), DiskFail>
-    ensures tells { D.tells disk.old ↔ D.tells disk.new }
-    ensures mends { D.tells disk.old → SegmentsStable (D.view disk.old) → Mends (D.view disk.old) (D.view disk.new) }
-    ensures completes { D.tells disk.old → OnOk result (Completes (D.view disk.old).seen (D.view disk.new).seen) }
-    ensures cause { HasCause (D.faults disk.old) (D.faults disk.new) (D.steady disk.old) (D.steady disk.new) result }
+    ensures call { IsDiskRun D.DiskModel disk.old disk.new result }
+    ensures mends { IfStable D.DiskModel disk.old disk.new Mends }
+    ensures completes { D.tells disk.old
+        → OnOk result (Completes (D.view disk.old).seen (D.view disk.new).seen) }
 {
     let finals = final_starts(alloc, disk)?;
     settle_all(alloc, disk, &finals)?;
@@ -46,12 +47,12 @@ fn completed(done: Result<(), DiskFail>) -> Completed
 /// so do files of other names. After DiskFault, which comes only where the disk failed, and OutOfMemory it
 /// may be called again.
 pub fn complete_half_done<D: Disk>(alloc: Global, disk: &mut D) -> Completed
-    ensures tells { D.tells disk.old ↔ D.tells disk.new }
-    ensures quiet { D.tells disk.old → SegmentsStable (D.view disk.old) → Quiet Repairs (D.view disk.old) (D.view disk.new) }
-    ensures spares { D.tells disk.old → SegmentsStable (D.view disk.old) → Quiet Spares (D.view disk.old) (D.view disk.new) }
-    ensures stable { D.tells disk.old → SegmentsStable (D.view disk.old) → SegmentsStable (D.view disk.new) }
-    ensures told { D.tells disk.old → SegmentsStable (D.view disk.old) → IsCompleted (D.view disk.old).seen (D.view disk.new).seen result }
-    ensures cause { HasCause (D.faults disk.old) (D.faults disk.new) (D.steady disk.old) (D.steady disk.new) (completed_result result) }
+    ensures call { IsDiskRun D.DiskModel disk.old disk.new (completed_result result) }
+    ensures quiet { IfStable D.DiskModel disk.old disk.new (Quiet Repairs) }
+    ensures spares { IfStable D.DiskModel disk.old disk.new (Quiet Spares) }
+    ensures stable { IfTold D.DiskModel disk.old disk.new StayStable }
+    ensures told { D.tells disk.old → SegmentsStable (D.view disk.old)
+        → IsCompleted (D.view disk.old).seen (D.view disk.new).seen result }
 {
     match first_bad_record(alloc, disk) {
         Ok(Some(name)) => Completed::BadFile { name },

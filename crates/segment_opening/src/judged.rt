@@ -4,7 +4,7 @@ use segment_file::SegmentRow;
 
 /// What a file is to opening.
 #[derive(Drop)]
-pub enum Judged {
+pub enum Judgment {
     /// No segment's.
     Other,
     /// That of a segment, with this row.

@@ -8,7 +8,7 @@ ghost use Rattle.segment_opening.specs.Kinds.{kind_told, IsTold, IsNamed, IsRest
 use crate::file_kind::FileKind;
 use qj_num::{MAX, read_number, read19};
 
-// What stands behind a front, if the bytes begin with it.
+// What stands after a front, if the bytes begin with it.
 fn behind<'a>(bytes: &'a [u8], front: &[u8]) -> Option<&'a [u8]>
     ensures { MatchOption result ((rest : List ℕ) → bytes.now ≡ front.now ++ rest → ⊥) (λ rest. bytes.now ≡ front.now ++ rest.now) }
 {
@@ -37,7 +37,7 @@ fn whole_number(digits: &[u8]) -> Option<u64>
     }
 }
 
-// The number from 1 to 2^62 that 19 digits at the front write, and what stands behind them.
+// The number from 1 to 2^62 that 19 digits at the front write, and what stands after them.
 fn number_of(bytes: &[u8]) -> Option<(u64, &[u8])>
     ensures { MatchOption result ((n : ℕ) (rest : List ℕ) → BeginsWith bytes.now n rest → ⊥) (λ r. BeginsWith bytes.now r.0 r.1.now) }
 {
@@ -69,7 +69,7 @@ fn epoch_of(digits: &[u8]) -> Option<u64>
     }
 }
 
-// The kind of a file whose name begins as that of one in progress, by what stands behind the start.
+// The kind of a file whose name begins as that of one in progress, by what stands after the start.
 fn progress_kind(start: u64, rest: &[u8]) -> Option<FileKind>
     ensures { MatchOption result ((kind : Kind) → IsRest progress start rest.now kind → ⊥) (λ k. IsRest progress start rest.now (kind_told k)) }
 {
@@ -88,7 +88,7 @@ fn progress_kind(start: u64, rest: &[u8]) -> Option<FileKind>
     }
 }
 
-// The last txid of a final segment that these bytes write, and nothing behind it.
+// The last txid of a final segment that these bytes write, and nothing after it.
 fn last_of(start: u64, bytes: &[u8]) -> Option<u64>
     ensures { MatchOption result ((n : ℕ) → start ≤ n → n ≤ 2 ^ 62 → bytes.now ≢ padded 19 n) (λ n. (start ≤ n) × (n ≤ 2 ^ 62) × (bytes.now ≡ padded 19 n)) }
 {

@@ -10,5 +10,7 @@ use qj_disk::Disk;
 /// Where each file of a segment that counts is stable, each crash leaves files that stand for the segments that the files
 /// that are read stand for.
 pub fn stable_files_stand<D: Disk>(_disk: &D)
-    ensures { (gs : List Segment) → SegmentsStable (D.view _disk.now) → IsTidy (D.view _disk.now).seen → StandsFor (D.view _disk.now).seen gs → IsReady (D.view _disk.now) gs }
+    ensures { (gs : List Segment) → SegmentsStable (D.view _disk.now)
+        → IsTidy (D.view _disk.now).seen → StandsFor (D.view _disk.now).seen gs
+        → IsReady (D.view _disk.now) gs }
 {}

@@ -1,15 +1,17 @@
 //! The segments of a disk are opened.
-ghost use Rattle.std.specs.Prelude.{◌≡◌, ◌↔◌, ◌≤◌, ◌<◌, ◌+◌, ◌^◌, length, MatchOption, MatchBool, OnOk, IsSome, map, string_bytes, false};
-ghost use Rattle.qj_disk.specs.Calls.{HasCause, Rests, Lists};
+ghost use Rattle.std.specs.Prelude.{◌≡◌, ◌≤◌, ◌<◌, ◌+◌, ◌^◌, MatchOption, MatchBool, OnOk, map, string_bytes, false};
+ghost use Rattle.qj_disk.specs.Calls.{Rests, Lists};
 ghost use Rattle.qj_disk.specs.Runs.{Quiet};
+ghost use Rattle.qj_disk.specs.DiskCalls.{HasFile, IfTold, IsDiskCall, IsDiskRun};
 ghost use Rattle.segment_file.specs.Names.{name_of, Record};
 ghost use Rattle.segment_file.specs.Rows.{find_row, IsRowWithin};
 ghost use Rattle.segment_opening.specs.Opening.{SegmentsStable, IsRepaired, Repairs};
 ghost use Rattle.segment_opening.specs.Opened.{EndsAt, AreOpened, IsOpened, opened_result};
 ghost use Rattle.segment_opening.specs.OpenSteps.{kind_by, is_final_by, row_in, IsMarkedBy, IsWithinRow, IsBadAt, IsJudged, IsJudgedName, IsJudgedBeside, IsStep, AreRead, IsReadWhole, IsFree, IsIdle, RemovesIdle, judged_result, step_result};
+ghost use Rattle.segment_opening.specs.Clauses.{IfRepaired, StayStable, StayRepaired};
 
 use crate::file_kind::FileKind;
-use crate::judged::Judged;
+use crate::judged::Judgment;
 use crate::kinds::file_named;
 use crate::opened::Opened;
 use batch_frame::HEADER_LENGTH;
@@ -69,36 +71,36 @@ fn marked(row: SegmentRow, accepted: bool) -> SegmentRow
 }
 
 // Marks the row of a segment in progress as accepted, where its record has the epoch of its header.
-fn with_record<D: Disk>(alloc: Global, disk: &mut D, row: SegmentRow) -> Judged
+fn with_record<D: Disk>(alloc: Global, disk: &mut D, row: SegmentRow) -> Judgment
     requires start { row.info.start ≤ 2 ^ 62 }
     requires accepted { row.info.accepted ≡ false }
     requires within { IsRowWithin row }
 
-    ensures tells { D.tells disk.old ↔ D.tells disk.new }
-    ensures told { D.tells disk.old → IsMarkedBy row.info.start ((D.view disk.old).seen (name_of row.info.start Record)) row result }
+    ensures call { IsDiskRun D.DiskModel disk.old disk.new (judged_result result) }
+    ensures told { D.tells disk.old
+        → IsMarkedBy row.info.start ((D.view disk.old).seen (name_of row.info.start Record)) row result }
     ensures within { IsWithinRow result }
-    ensures disk { D.tells disk.old → Rests (D.view disk.old) (D.view disk.new) }
-    ensures cause { HasCause (D.faults disk.old) (D.faults disk.new) (D.steady disk.old) (D.steady disk.new) (judged_result result) }
+    ensures disk { IfTold D.DiskModel disk.old disk.new Rests }
 {
     if row.info.is_final {
-        return Judged::Row(row);
+        return Judgment::Row(row);
     }
     match PaxosFile::get(alloc, disk, row.info.start) {
-        GotRecord::Found { epoch, .. } => Judged::Row(marked(row, epoch == row.info.epoch)),
-        GotRecord::Absent => Judged::Row(row),
-        GotRecord::BadFile { name } => Judged::BadFile { name },
-        GotRecord::DiskFault => Judged::DiskFault,
-        GotRecord::OutOfMemory => Judged::OutOfMemory,
+        GotRecord::Found { epoch, .. } => Judgment::Row(marked(row, epoch == row.info.epoch)),
+        GotRecord::Absent => Judgment::Row(row),
+        GotRecord::BadFile { name } => Judgment::BadFile { name },
+        GotRecord::DiskFault => Judgment::DiskFault,
+        GotRecord::OutOfMemory => Judgment::OutOfMemory,
     }
 }
 
 // The answer that the file of this name is bad.
-fn bad_file(alloc: Global, name: &str) -> Judged
+fn bad_file(alloc: Global, name: &str) -> Judgment
     ensures { IsBadAt name.now result }
 {
     match Name::from_slice(alloc, name.as_bytes()) {
-        Ok(name) => Judged::BadFile { name },
-        Err(_) => Judged::OutOfMemory,
+        Ok(name) => Judgment::BadFile { name },
+        Err(_) => Judgment::OutOfMemory,
     }
 }
 
@@ -109,15 +111,14 @@ fn read_row<D: Disk>(
     name: &str,
     start: u64,
     last: Option<u64>,
-) -> Judged
+) -> Judgment
     requires start { (1 ≤ start) × (start ≤ 2 ^ 62) }
     requires named { name.now ≡ name_of start (kind_by last) }
 
-    ensures tells { D.tells disk.old ↔ D.tells disk.new }
+    ensures call { IsDiskRun D.DiskModel disk.old disk.new (judged_result result) }
     ensures told { D.tells disk.old → IsJudged (D.view disk.old).seen start (kind_by last) result }
     ensures within { IsWithinRow result }
-    ensures disk { D.tells disk.old → Rests (D.view disk.old) (D.view disk.new) }
-    ensures cause { HasCause (D.faults disk.old) (D.faults disk.new) (D.steady disk.old) (D.steady disk.new) (judged_result result) }
+    ensures disk { IfTold D.DiskModel disk.old disk.new Rests }
 {
     let asked = Asked {
         name,
@@ -131,48 +132,47 @@ fn read_row<D: Disk>(
             None => bad_file(alloc, name),
         },
         Ok(None) => bad_file(alloc, name),
-        Err(DiskFail::Failed) => Judged::DiskFault,
-        Err(DiskFail::OutOfMemory) => Judged::OutOfMemory,
+        Err(DiskFail::Failed) => Judgment::DiskFault,
+        Err(DiskFail::OutOfMemory) => Judgment::OutOfMemory,
     }
 }
 
 // Reads the file of this name, if it is a segment's.
-fn judge<D: Disk>(alloc: Global, disk: &mut D, name: &str) -> Judged
-    ensures tells { D.tells disk.old ↔ D.tells disk.new }
+fn judge<D: Disk>(alloc: Global, disk: &mut D, name: &str) -> Judgment
+    ensures call { IsDiskRun D.DiskModel disk.old disk.new (judged_result result) }
     ensures told { D.tells disk.old → IsJudgedName (D.view disk.old).seen name.now result }
     ensures within { IsWithinRow result }
-    ensures disk { D.tells disk.old → Rests (D.view disk.old) (D.view disk.new) }
-    ensures cause { HasCause (D.faults disk.old) (D.faults disk.new) (D.steady disk.old) (D.steady disk.new) (judged_result result) }
+    ensures disk { IfTold D.DiskModel disk.old disk.new Rests }
 {
     match file_named(name.as_bytes()) {
         Some((start, FileKind::InProgress)) => read_row(alloc, disk, name, start, None),
         Some((start, FileKind::Final { last })) => read_row(alloc, disk, name, start, Some(last)),
-        Some((_, FileKind::Record)) => Judged::Other,
-        Some((_, FileKind::UnderWay { .. })) => Judged::Other,
-        Some((_, FileKind::Fresh)) => Judged::Other,
-        None => Judged::Other,
+        Some((_, FileKind::Record)) => Judgment::Other,
+        Some((_, FileKind::UnderWay { .. })) => Judgment::Other,
+        Some((_, FileKind::Fresh)) => Judgment::Other,
+        None => Judgment::Other,
     }
 }
 
 // The same, where each start has one file.
-fn judge_beside<D: Disk>(alloc: Global, disk: &mut D, name: &str, table: &SegmentTable) -> Judged
-    ensures tells { D.tells disk.old ↔ D.tells disk.new }
-    ensures told { D.tells disk.old → IsJudgedBeside (D.view disk.old).seen name.now table.now result }
+fn judge_beside<D: Disk>(alloc: Global, disk: &mut D, name: &str, table: &SegmentTable) -> Judgment
+    ensures call { IsDiskRun D.DiskModel disk.old disk.new (judged_result result) }
+    ensures told { D.tells disk.old
+        → IsJudgedBeside (D.view disk.old).seen name.now table.now result }
     ensures within { IsWithinRow result }
-    ensures disk { D.tells disk.old → Rests (D.view disk.old) (D.view disk.new) }
-    ensures cause { HasCause (D.faults disk.old) (D.faults disk.new) (D.steady disk.old) (D.steady disk.new) (judged_result result) }
+    ensures disk { IfTold D.DiskModel disk.old disk.new Rests }
 {
     match judge(alloc, disk, name) {
-        Judged::Row(row) => {
+        Judgment::Row(row) => {
             if table.find(row.info.start).is_some() {
                 return bad_file(alloc, name);
             }
-            Judged::Row(row)
+            Judgment::Row(row)
         }
-        Judged::BadFile { name } => Judged::BadFile { name },
-        Judged::Other => Judged::Other,
-        Judged::DiskFault => Judged::DiskFault,
-        Judged::OutOfMemory => Judged::OutOfMemory,
+        Judgment::BadFile { name } => Judgment::BadFile { name },
+        Judgment::Other => Judgment::Other,
+        Judgment::DiskFault => Judgment::DiskFault,
+        Judgment::OutOfMemory => Judgment::OutOfMemory,
     }
 }
 
@@ -183,20 +183,20 @@ fn read_one<D: Disk>(
     name: &str,
     table: &mut SegmentTable,
 ) -> Option<Opened>
-    ensures tells { D.tells disk.old ↔ D.tells disk.new }
-    ensures told { D.tells disk.old → IsStep (D.view disk.old).seen name.now table.old table.new result }
-    ensures disk { D.tells disk.old → Rests (D.view disk.old) (D.view disk.new) }
-    ensures cause { HasCause (D.faults disk.old) (D.faults disk.new) (D.steady disk.old) (D.steady disk.new) (step_result result) }
+    ensures call { IsDiskRun D.DiskModel disk.old disk.new (step_result result) }
+    ensures told { D.tells disk.old
+        → IsStep (D.view disk.old).seen name.now table.old table.new result }
+    ensures disk { IfTold D.DiskModel disk.old disk.new Rests }
 {
     match judge_beside(alloc, disk, name, table) {
-        Judged::Row(row) => match table.put(row) {
+        Judgment::Row(row) => match table.put(row) {
             Ok(()) => None,
             Err(_) => Some(Opened::OutOfMemory),
         },
-        Judged::BadFile { name } => Some(Opened::BadFile { name }),
-        Judged::Other => None,
-        Judged::DiskFault => Some(Opened::DiskFault),
-        Judged::OutOfMemory => Some(Opened::OutOfMemory),
+        Judgment::BadFile { name } => Some(Opened::BadFile { name }),
+        Judgment::Other => None,
+        Judgment::DiskFault => Some(Opened::DiskFault),
+        Judgment::OutOfMemory => Some(Opened::OutOfMemory),
     }
 }
 
@@ -204,10 +204,10 @@ fn read_one<D: Disk>(
 fn read_all<D: Disk>(alloc: Global, disk: &mut D, names: &[String]) -> Opened
     requires { D.tells disk.old → Lists (map string_bytes names.now) (D.view disk.old).seen }
 
-    ensures tells { D.tells disk.old ↔ D.tells disk.new }
-    ensures told { D.tells disk.old → IsRepaired (D.view disk.old).seen → IsReadWhole (D.view disk.old).seen result }
-    ensures disk { D.tells disk.old → Rests (D.view disk.old) (D.view disk.new) }
-    ensures cause { HasCause (D.faults disk.old) (D.faults disk.new) (D.steady disk.old) (D.steady disk.new) (opened_result result) }
+    ensures call { IsDiskRun D.DiskModel disk.old disk.new (opened_result result) }
+    ensures told { D.tells disk.old → IsRepaired (D.view disk.old).seen
+        → IsReadWhole (D.view disk.old).seen result }
+    ensures disk { IfTold D.DiskModel disk.old disk.new Rests }
 {
     let mut table = SegmentTable::new(alloc);
     for name in names {
@@ -244,11 +244,10 @@ fn is_idle(name: &str, table: &SegmentTable) -> bool
 
 // Removes the file of this name, if it is the record of a segment that isn't an accepted one.
 fn remove_one<D: Disk>(disk: &mut D, name: &str, table: &SegmentTable) -> Result<(), DiskFail>
-    requires { D.tells disk.old → IsSome ((D.view disk.old).seen name.now) }
+    requires { HasFile D.DiskModel disk.old name.now }
 
-    ensures tells { D.tells disk.old ↔ D.tells disk.new }
-    ensures removes { D.tells disk.old → RemovesIdle table.now name.now result (D.view disk.old) (D.view disk.new) }
-    ensures cause { HasCause (D.faults disk.old) (D.faults disk.new) (D.steady disk.old) (D.steady disk.new) result }
+    ensures call { IsDiskCall D.DiskModel disk.old disk.new result }
+    ensures removes { IfTold D.DiskModel disk.old disk.new (RemovesIdle table.now name.now result) }
 {
     if is_idle(name, table) {
         disk.remove(name)
@@ -265,12 +264,15 @@ fn remove_idle<D: Disk>(
 ) -> Result<(), DiskFail>
     requires { D.tells disk.old → Lists (map string_bytes names.now) (D.view disk.old).seen }
 
-    ensures tells { D.tells disk.old ↔ D.tells disk.new }
-    ensures quiet { D.tells disk.old → SegmentsStable (D.view disk.old) → IsRepaired (D.view disk.old).seen → AreRead (D.view disk.old).seen table.now → Quiet Repairs (D.view disk.old) (D.view disk.new) }
-    ensures stable { D.tells disk.old → SegmentsStable (D.view disk.old) → SegmentsStable (D.view disk.new) }
-    ensures repaired { D.tells disk.old → IsRepaired (D.view disk.old).seen → IsRepaired (D.view disk.new).seen }
-    ensures told { D.tells disk.old → SegmentsStable (D.view disk.old) → IsRepaired (D.view disk.old).seen → AreRead (D.view disk.old).seen table.now → OnOk result (AreOpened (D.view disk.old).seen (D.view disk.new) table.now) }
-    ensures cause { HasCause (D.faults disk.old) (D.faults disk.new) (D.steady disk.old) (D.steady disk.new) result }
+    ensures call { IsDiskRun D.DiskModel disk.old disk.new result }
+    ensures quiet { D.tells disk.old → SegmentsStable (D.view disk.old)
+        → IsRepaired (D.view disk.old).seen → AreRead (D.view disk.old).seen table.now
+        → Quiet Repairs (D.view disk.old) (D.view disk.new) }
+    ensures stable { IfTold D.DiskModel disk.old disk.new StayStable }
+    ensures repaired { IfTold D.DiskModel disk.old disk.new StayRepaired }
+    ensures told { D.tells disk.old → SegmentsStable (D.view disk.old)
+        → IsRepaired (D.view disk.old).seen → AreRead (D.view disk.old).seen table.now
+        → OnOk result (AreOpened (D.view disk.old).seen (D.view disk.new) table.now) }
 {
     for name in names {
         remove_one(disk, name.as_str(), table)?;
@@ -282,12 +284,15 @@ fn remove_idle<D: Disk>(
 fn finish<D: Disk>(disk: &mut D, names: &[String], table: SegmentTable) -> Opened
     requires { D.tells disk.old → Lists (map string_bytes names.now) (D.view disk.old).seen }
 
-    ensures tells { D.tells disk.old ↔ D.tells disk.new }
-    ensures quiet { D.tells disk.old → SegmentsStable (D.view disk.old) → IsRepaired (D.view disk.old).seen → AreRead (D.view disk.old).seen table → Quiet Repairs (D.view disk.old) (D.view disk.new) }
-    ensures stable { D.tells disk.old → SegmentsStable (D.view disk.old) → SegmentsStable (D.view disk.new) }
-    ensures repaired { D.tells disk.old → IsRepaired (D.view disk.old).seen → IsRepaired (D.view disk.new).seen }
-    ensures told { D.tells disk.old → SegmentsStable (D.view disk.old) → IsRepaired (D.view disk.old).seen → AreRead (D.view disk.old).seen table → IsOpened (D.view disk.old) (D.view disk.new) result }
-    ensures cause { HasCause (D.faults disk.old) (D.faults disk.new) (D.steady disk.old) (D.steady disk.new) (opened_result result) }
+    ensures call { IsDiskRun D.DiskModel disk.old disk.new (opened_result result) }
+    ensures quiet { D.tells disk.old → SegmentsStable (D.view disk.old)
+        → IsRepaired (D.view disk.old).seen → AreRead (D.view disk.old).seen table
+        → Quiet Repairs (D.view disk.old) (D.view disk.new) }
+    ensures stable { IfTold D.DiskModel disk.old disk.new StayStable }
+    ensures repaired { IfTold D.DiskModel disk.old disk.new StayRepaired }
+    ensures told { D.tells disk.old → SegmentsStable (D.view disk.old)
+        → IsRepaired (D.view disk.old).seen → AreRead (D.view disk.old).seen table
+        → IsOpened (D.view disk.old) (D.view disk.new) result }
 {
     match remove_idle(disk, names, &table) {
         Ok(()) => Opened::Segments(table),
@@ -299,12 +304,11 @@ fn finish<D: Disk>(disk: &mut D, names: &[String], table: SegmentTable) -> Opene
 fn open_named<D: Disk>(alloc: Global, disk: &mut D, names: &[String]) -> Opened
     requires { D.tells disk.old → Lists (map string_bytes names.now) (D.view disk.old).seen }
 
-    ensures tells { D.tells disk.old ↔ D.tells disk.new }
-    ensures quiet { D.tells disk.old → SegmentsStable (D.view disk.old) → IsRepaired (D.view disk.old).seen → Quiet Repairs (D.view disk.old) (D.view disk.new) }
-    ensures stable { D.tells disk.old → SegmentsStable (D.view disk.old) → SegmentsStable (D.view disk.new) }
-    ensures repaired { D.tells disk.old → IsRepaired (D.view disk.old).seen → IsRepaired (D.view disk.new).seen }
-    ensures told { D.tells disk.old → SegmentsStable (D.view disk.old) → IsRepaired (D.view disk.old).seen → IsOpened (D.view disk.old) (D.view disk.new) result }
-    ensures cause { HasCause (D.faults disk.old) (D.faults disk.new) (D.steady disk.old) (D.steady disk.new) (opened_result result) }
+    ensures call { IsDiskRun D.DiskModel disk.old disk.new (opened_result result) }
+    ensures quiet { IfRepaired D.DiskModel disk.old disk.new (Quiet Repairs) }
+    ensures stable { IfTold D.DiskModel disk.old disk.new StayStable }
+    ensures repaired { IfTold D.DiskModel disk.old disk.new StayRepaired }
+    ensures told { IfRepaired D.DiskModel disk.old disk.new (λ old new. IsOpened old new result) }
 {
     match read_all(alloc, disk, names) {
         Opened::Segments(table) => finish(disk, names, table),
@@ -326,12 +330,11 @@ fn open_named<D: Disk>(alloc: Global, disk: &mut D, names: &[String]) -> Opened
 /// `Segments`, the rows tell these segments by rising start, and each crash leaves files that stand for
 /// them.
 pub fn open_all<D: Disk>(alloc: Global, disk: &mut D) -> Opened
-    ensures tells { D.tells disk.old ↔ D.tells disk.new }
-    ensures quiet { D.tells disk.old → SegmentsStable (D.view disk.old) → IsRepaired (D.view disk.old).seen → Quiet Repairs (D.view disk.old) (D.view disk.new) }
-    ensures stable { D.tells disk.old → SegmentsStable (D.view disk.old) → SegmentsStable (D.view disk.new) }
-    ensures repaired { D.tells disk.old → IsRepaired (D.view disk.old).seen → IsRepaired (D.view disk.new).seen }
-    ensures told { D.tells disk.old → SegmentsStable (D.view disk.old) → IsRepaired (D.view disk.old).seen → IsOpened (D.view disk.old) (D.view disk.new) result }
-    ensures cause { HasCause (D.faults disk.old) (D.faults disk.new) (D.steady disk.old) (D.steady disk.new) (opened_result result) }
+    ensures call { IsDiskRun D.DiskModel disk.old disk.new (opened_result result) }
+    ensures quiet { IfRepaired D.DiskModel disk.old disk.new (Quiet Repairs) }
+    ensures stable { IfTold D.DiskModel disk.old disk.new StayStable }
+    ensures repaired { IfTold D.DiskModel disk.old disk.new StayRepaired }
+    ensures told { IfRepaired D.DiskModel disk.old disk.new (λ old new. IsOpened old new result) }
 {
     match disk.list() {
         Ok(names) => open_named(alloc, disk, &names),

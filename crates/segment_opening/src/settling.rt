@@ -1,12 +1,13 @@
 //! Acceptances that were stopped are settled.
-ghost use Rattle.std.specs.Prelude.{◌⊎◌, ◌↔◌, ◌≤◌, ◌^◌, IsSome, IfOk, OnOk, MatchOption, MatchBool, Contains};
+ghost use Rattle.std.specs.Prelude.{◌⊎◌, ◌≤◌, ◌^◌, IsSome, IfOk, OnOk, MatchOption, MatchBool, Contains};
 ghost use Rattle.qj_disk.specs.Files.{Moves};
-ghost use Rattle.qj_disk.specs.Calls.{Atomic, HasCause, Rests};
+ghost use Rattle.qj_disk.specs.Calls.{Atomic, Rests};
+ghost use Rattle.qj_disk.specs.DiskCalls.{HasFile, IfTold, IsDiskCall, IsDiskRun};
 ghost use Rattle.segment_file.specs.Names.{name_of, InProgress, Record, UnderWay};
 ghost use Rattle.segment_opening.specs.Kinds.{IsNamed};
 ghost use Rattle.segment_file.specs.Stands.{HasEpoch};
-ghost use Rattle.segment_opening.specs.Opening.{SegmentsStable};
 ghost use Rattle.segment_opening.specs.Completing.{Mends, AreFinals, IsWay, IsProgress, Clears, ClearsAll};
+ghost use Rattle.segment_opening.specs.Clauses.{IfStable};
 
 use crate::file_kind::FileKind;
 use crate::kinds::file_named;
@@ -32,10 +33,10 @@ fn way_named(name: &[u8]) -> Option<(u64, u64)>
 fn has_epoch<D: Disk>(alloc: Global, disk: &mut D, start: u64, epoch: u64) -> Result<bool, DiskFail>
     requires { start ≤ 2 ^ 62 }
 
-    ensures tells { D.tells disk.old ↔ D.tells disk.new }
-    ensures value { D.tells disk.old → IfOk result (λ b. MatchBool b (HasEpoch ((D.view disk.old).seen (name_of start Record)) epoch) (HasEpoch ((D.view disk.old).seen (name_of start Record)) epoch → ⊥)) }
-    ensures disk { D.tells disk.old → Rests (D.view disk.old) (D.view disk.new) }
-    ensures cause { HasCause (D.faults disk.old) (D.faults disk.new) (D.steady disk.old) (D.steady disk.new) result }
+    ensures call { IsDiskRun D.DiskModel disk.old disk.new result }
+    ensures value { D.tells disk.old
+        → IfOk result (λ b. MatchBool b (HasEpoch ((D.view disk.old).seen (name_of start Record)) epoch) (HasEpoch ((D.view disk.old).seen (name_of start Record)) epoch → ⊥)) }
+    ensures disk { IfTold D.DiskModel disk.old disk.new Rests }
 {
     match PaxosFile::get(alloc, disk, start) {
         GotRecord::Found {
@@ -60,12 +61,11 @@ fn is_segment<D: Disk>(
 ) -> Result<bool, DiskFail>
     requires { start ≤ 2 ^ 62 }
 
-    ensures tells { D.tells disk.old ↔ D.tells disk.new }
+    ensures call { IsDiskRun D.DiskModel disk.old disk.new result }
     ensures value { D.tells disk.old → IfOk result (λ b. MatchBool b
         (HasEpoch ((D.view disk.old).seen (name_of start Record)) epoch × (Contains finals.now start → ⊥))
         ((HasEpoch ((D.view disk.old).seen (name_of start Record)) epoch → ⊥) ⊎ Contains finals.now start)) }
-    ensures disk { D.tells disk.old → Rests (D.view disk.old) (D.view disk.new) }
-    ensures cause { HasCause (D.faults disk.old) (D.faults disk.new) (D.steady disk.old) (D.steady disk.new) result }
+    ensures disk { IfTold D.DiskModel disk.old disk.new Rests }
 {
     if finals.contains(&start) {
         return Ok(false);
@@ -76,11 +76,11 @@ fn is_segment<D: Disk>(
 // Puts the content of an acceptance in the place of the file in progress.
 fn put_in_place<D: Disk>(disk: &mut D, way: &str, start: u64) -> Result<(), DiskFail>
     requires start { start ≤ 2 ^ 62 }
-    requires there { D.tells disk.old → IsSome ((D.view disk.old).seen way.now) }
+    requires there { HasFile D.DiskModel disk.old way.now }
 
-    ensures tells { D.tells disk.old ↔ D.tells disk.new }
-    ensures moves { D.tells disk.old → Atomic (Moves way.now (name_of start InProgress)) result (D.view disk.old) (D.view disk.new) }
-    ensures cause { HasCause (D.faults disk.old) (D.faults disk.new) (D.steady disk.old) (D.steady disk.new) result }
+    ensures call { IsDiskCall D.DiskModel disk.old disk.new result }
+    ensures moves { IfTold D.DiskModel disk.old disk.new
+        (Atomic (Moves way.now (name_of start InProgress)) result) }
 {
     let name = progress_name(start);
     disk.rename(way, name.as_str())
@@ -97,12 +97,12 @@ fn settle_way<D: Disk>(
 ) -> Result<(), DiskFail>
     requires named { IsNamed way.now start (UnderWay epoch) }
     requires finals { D.tells disk.old → AreFinals finals.now (D.view disk.old).seen }
-    requires there { D.tells disk.old → IsSome ((D.view disk.old).seen way.now) }
+    requires there { HasFile D.DiskModel disk.old way.now }
 
-    ensures tells { D.tells disk.old ↔ D.tells disk.new }
-    ensures mends { D.tells disk.old → SegmentsStable (D.view disk.old) → Mends (D.view disk.old) (D.view disk.new) }
-    ensures clears { D.tells disk.old → OnOk result (Clears IsWay IsProgress way.now (D.view disk.old).seen (D.view disk.new).seen) }
-    ensures cause { HasCause (D.faults disk.old) (D.faults disk.new) (D.steady disk.old) (D.steady disk.new) result }
+    ensures call { IsDiskRun D.DiskModel disk.old disk.new result }
+    ensures mends { IfStable D.DiskModel disk.old disk.new Mends }
+    ensures clears { D.tells disk.old
+        → OnOk result (Clears IsWay IsProgress way.now (D.view disk.old).seen (D.view disk.new).seen) }
 {
     if is_segment(alloc, disk, finals, start, epoch)? {
         put_in_place(disk, way, start)
@@ -121,10 +121,10 @@ fn settle_one<D: Disk>(
     requires finals { D.tells disk.old → AreFinals finals.now (D.view disk.old).seen }
     requires there { D.tells disk.old → IsWay name.now → IsSome ((D.view disk.old).seen name.now) }
 
-    ensures tells { D.tells disk.old ↔ D.tells disk.new }
-    ensures mends { D.tells disk.old → SegmentsStable (D.view disk.old) → Mends (D.view disk.old) (D.view disk.new) }
-    ensures clears { D.tells disk.old → OnOk result (Clears IsWay IsProgress name.now (D.view disk.old).seen (D.view disk.new).seen) }
-    ensures cause { HasCause (D.faults disk.old) (D.faults disk.new) (D.steady disk.old) (D.steady disk.new) result }
+    ensures call { IsDiskRun D.DiskModel disk.old disk.new result }
+    ensures mends { IfStable D.DiskModel disk.old disk.new Mends }
+    ensures clears { D.tells disk.old
+        → OnOk result (Clears IsWay IsProgress name.now (D.view disk.old).seen (D.view disk.new).seen) }
 {
     match way_named(name.as_bytes()) {
         Some((start, epoch)) => settle_way(alloc, disk, finals, name, start, epoch),
@@ -137,10 +137,10 @@ fn settle_one<D: Disk>(
 pub fn settle_all<D: Disk>(alloc: Global, disk: &mut D, finals: &[u64]) -> Result<(), DiskFail>
     requires { D.tells disk.old → AreFinals finals.now (D.view disk.old).seen }
 
-    ensures tells { D.tells disk.old ↔ D.tells disk.new }
-    ensures mends { D.tells disk.old → SegmentsStable (D.view disk.old) → Mends (D.view disk.old) (D.view disk.new) }
-    ensures clears { D.tells disk.old → OnOk result (ClearsAll IsWay IsProgress (D.view disk.old).seen (D.view disk.new).seen) }
-    ensures cause { HasCause (D.faults disk.old) (D.faults disk.new) (D.steady disk.old) (D.steady disk.new) result }
+    ensures call { IsDiskRun D.DiskModel disk.old disk.new result }
+    ensures mends { IfStable D.DiskModel disk.old disk.new Mends }
+    ensures clears { D.tells disk.old
+        → OnOk result (ClearsAll IsWay IsProgress (D.view disk.old).seen (D.view disk.new).seen) }
 {
     let names = disk.list()?;
     for name in &names {

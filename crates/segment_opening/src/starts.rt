@@ -1,6 +1,7 @@
 //! The starts of the final segments.
-ghost use Rattle.std.specs.Prelude.{◌↔◌, ℕ, IfOk, OnOk, MatchOption, map, string_bytes};
-ghost use Rattle.qj_disk.specs.Calls.{HasCause, Rests};
+ghost use Rattle.std.specs.Prelude.{ℕ, IfOk, OnOk, MatchOption, map, string_bytes};
+ghost use Rattle.qj_disk.specs.Calls.{Rests};
+ghost use Rattle.qj_disk.specs.DiskCalls.{IfTold, IsDiskRun};
 ghost use Rattle.segment_opening.specs.Completing.{IsFinalFile, AreFinals, AreStartsIn, AddsStart};
 
 use crate::file_kind::FileKind;
@@ -47,10 +48,10 @@ fn starts_in(alloc: Global, names: &[String]) -> Result<Vec<u64>, AllocError>
 
 /// The starts of the final segments whose files are there.
 pub fn final_starts<D: Disk>(alloc: Global, disk: &mut D) -> Result<Vec<u64>, DiskFail>
-    ensures tells { D.tells disk.old ↔ D.tells disk.new }
-    ensures starts { D.tells disk.old → IfOk result (λ starts. AreFinals starts.items (D.view disk.old).seen) }
-    ensures disk { D.tells disk.old → Rests (D.view disk.old) (D.view disk.new) }
-    ensures cause { HasCause (D.faults disk.old) (D.faults disk.new) (D.steady disk.old) (D.steady disk.new) result }
+    ensures call { IsDiskRun D.DiskModel disk.old disk.new result }
+    ensures starts { D.tells disk.old
+        → IfOk result (λ starts. AreFinals starts.items (D.view disk.old).seen) }
+    ensures disk { IfTold D.DiskModel disk.old disk.new Rests }
 {
     let names = disk.list()?;
     Ok(starts_in(alloc, &names)?)

@@ -1,9 +1,9 @@
 //! Files that no longer count are removed.
-ghost use Rattle.std.specs.Prelude.{◌≡◌, ◌↔◌, ◌++◌, List, ℕ, IsSome, OnOk, MatchBool, codes};
-ghost use Rattle.qj_disk.specs.Calls.{HasCause};
+ghost use Rattle.std.specs.Prelude.{◌≡◌, ◌++◌, List, ℕ, OnOk, MatchBool, codes};
+ghost use Rattle.qj_disk.specs.DiskCalls.{HasFile, IsDiskCall, IsDiskRun};
 ghost use Rattle.segment_opening.specs.Kinds.{kind_told};
-ghost use Rattle.segment_opening.specs.Opening.{SegmentsStable};
 ghost use Rattle.segment_opening.specs.Completing.{Mends, AreFinals, IsLeftKind, IsLeftFile, IsLeftOver, NoName, Clears, ClearsAll};
+ghost use Rattle.segment_opening.specs.Clauses.{IfStable};
 
 use crate::file_kind::FileKind;
 use crate::kinds::file_named;
@@ -47,12 +47,12 @@ fn is_left_over(finals: &[u64], name: &[u8]) -> bool
 // Removes a file if it is left over.
 fn sweep_one<D: Disk>(disk: &mut D, finals: &[u64], name: &str) -> Result<(), DiskFail>
     requires finals { D.tells disk.old → AreFinals finals.now (D.view disk.old).seen }
-    requires there { D.tells disk.old → IsSome ((D.view disk.old).seen name.now) }
+    requires there { HasFile D.DiskModel disk.old name.now }
 
-    ensures tells { D.tells disk.old ↔ D.tells disk.new }
-    ensures mends { D.tells disk.old → SegmentsStable (D.view disk.old) → Mends (D.view disk.old) (D.view disk.new) }
-    ensures clears { D.tells disk.old → OnOk result (Clears (IsLeftOver finals.now) NoName name.now (D.view disk.old).seen (D.view disk.new).seen) }
-    ensures cause { HasCause (D.faults disk.old) (D.faults disk.new) (D.steady disk.old) (D.steady disk.new) result }
+    ensures call { IsDiskCall D.DiskModel disk.old disk.new result }
+    ensures mends { IfStable D.DiskModel disk.old disk.new Mends }
+    ensures clears { D.tells disk.old
+        → OnOk result (Clears (IsLeftOver finals.now) NoName name.now (D.view disk.old).seen (D.view disk.new).seen) }
 {
     if is_left_over(finals, name.as_bytes()) {
         return disk.remove(name);
@@ -65,10 +65,10 @@ fn sweep_one<D: Disk>(disk: &mut D, finals: &[u64], name: &str) -> Result<(), Di
 pub fn sweep_all<D: Disk>(disk: &mut D, finals: &[u64]) -> Result<(), DiskFail>
     requires { D.tells disk.old → AreFinals finals.now (D.view disk.old).seen }
 
-    ensures tells { D.tells disk.old ↔ D.tells disk.new }
-    ensures mends { D.tells disk.old → SegmentsStable (D.view disk.old) → Mends (D.view disk.old) (D.view disk.new) }
-    ensures clears { D.tells disk.old → OnOk result (ClearsAll (IsLeftOver finals.now) NoName (D.view disk.old).seen (D.view disk.new).seen) }
-    ensures cause { HasCause (D.faults disk.old) (D.faults disk.new) (D.steady disk.old) (D.steady disk.new) result }
+    ensures call { IsDiskRun D.DiskModel disk.old disk.new result }
+    ensures mends { IfStable D.DiskModel disk.old disk.new Mends }
+    ensures clears { D.tells disk.old
+        → OnOk result (ClearsAll (IsLeftOver finals.now) NoName (D.view disk.old).seen (D.view disk.new).seen) }
 {
     let names = disk.list()?;
     for name in &names {

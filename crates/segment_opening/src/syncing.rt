@@ -1,8 +1,9 @@
 //! The files of segments are made stable, as opening does first.
-ghost use Rattle.std.specs.Prelude.{◌≡◌, ◌↔◌, IsSome, OnOk, MatchBool};
+ghost use Rattle.std.specs.Prelude.{◌≡◌, OnOk, MatchBool};
 ghost use Rattle.qj_disk.specs.Files.{IsSame};
-ghost use Rattle.qj_disk.specs.Calls.{HasCause, Keeps};
+ghost use Rattle.qj_disk.specs.Calls.{Keeps};
 ghost use Rattle.qj_disk.specs.Runs.{Quiet};
+ghost use Rattle.qj_disk.specs.DiskCalls.{HasFile, IfTold, IsDiskCall, IsDiskRun};
 ghost use Rattle.segment_file.specs.Names.{IsLasting};
 ghost use Rattle.segment_opening.specs.Kinds.{kind_told};
 ghost use Rattle.segment_opening.specs.Opening.{IsLastingFile, Settled, SegmentsStable, SyncsOnly};
@@ -33,13 +34,13 @@ fn is_lasting_file(name: &[u8]) -> bool
 
 // Syncs a file, if it is a segment's that counts.
 fn sync_one<D: Disk>(disk: &mut D, name: &str) -> Result<(), DiskFail>
-    requires { D.tells disk.old → IsSome ((D.view disk.old).seen name.now) }
+    requires { HasFile D.DiskModel disk.old name.now }
 
-    ensures tells { D.tells disk.old ↔ D.tells disk.new }
-    ensures keeps { D.tells disk.old → Keeps (D.view disk.old) (D.view disk.new) }
+    ensures call { IsDiskCall D.DiskModel disk.old disk.new result }
+    ensures keeps { IfTold D.DiskModel disk.old disk.new Keeps }
     ensures settled { D.tells disk.old → OnOk result (Settled (D.view disk.new) name.now) }
-    ensures spared { D.tells disk.old → OnOk result (SyncsOnly IsLastingFile (D.view disk.old) (D.view disk.new)) }
-    ensures cause { HasCause (D.faults disk.old) (D.faults disk.new) (D.steady disk.old) (D.steady disk.new) result }
+    ensures spared { D.tells disk.old
+        → OnOk result (SyncsOnly IsLastingFile (D.view disk.old) (D.view disk.new)) }
 {
     if !is_lasting_file(name.as_bytes()) {
         return Ok(());
@@ -51,11 +52,11 @@ fn sync_one<D: Disk>(disk: &mut D, name: &str) -> Result<(), DiskFail>
 /// what a crash leaves. No other file is synced, so that what is wrong with a foreign one is no fault. Nothing changes for who
 /// reads, and a crash at any moment leaves what it could leave before.
 pub fn sync_segments<D: Disk>(disk: &mut D) -> Result<(), DiskFail>
-    ensures tells { D.tells disk.old ↔ D.tells disk.new }
-    ensures quiet { D.tells disk.old → Quiet IsSame (D.view disk.old) (D.view disk.new) }
+    ensures call { IsDiskRun D.DiskModel disk.old disk.new result }
+    ensures quiet { IfTold D.DiskModel disk.old disk.new (Quiet IsSame) }
     ensures stable { D.tells disk.old → OnOk result (SegmentsStable (D.view disk.new)) }
-    ensures spared { D.tells disk.old → OnOk result (SyncsOnly IsLastingFile (D.view disk.old) (D.view disk.new)) }
-    ensures cause { HasCause (D.faults disk.old) (D.faults disk.new) (D.steady disk.old) (D.steady disk.new) result }
+    ensures spared { D.tells disk.old
+        → OnOk result (SyncsOnly IsLastingFile (D.view disk.old) (D.view disk.new)) }
 {
     let names = disk.list()?;
     for name in &names {

@@ -22,7 +22,7 @@ same tmp c = record { here = tt; others = λ m ne. refl }
 abbrev Disturbed : View → List ℕ → Files → Type 0
 Disturbed v0 tmp c = (d : Files) × v0.may_leave d × Disturbs tmp d c
 
--- a call that gave up with only noise behind it
+-- a call that gave up with only noise after it
 pub gave_up : {T E : Type 0} (noise step : Files → Files → Type 0) (result : Result T E) (v0 v1 : View) → IsErr result
     → LeavesOnly v0 v1 (λ c. (d : Files) × v0.may_leave d × (noise d c ⊎ step d c)) → noise v0.seen v1.seen → Effect noise step result v0 v1
 gave_up noise step result v0 v1 err moments seen = record { any_moment = moments; done = IfOk-from_err result (λ _. Happens step v0 v1) err; failed = inl seen }

@@ -3,20 +3,12 @@ use Rattle.std.specs.Prelude.{◌≡◌, ℕ, ◌≤◌, ◌^◌, List, Option, 
 use Rattle.qj_disk.specs.declared.disk.DiskFail.{DiskFail}
 use Rattle.qj_disk.specs.declared.disk.DiskFail.TheVariants as fail
 use Rattle.small_files.specs.Records.{IsNumber, Record, IsRecord}
-use Rattle.small_files.specs.declared.answers.Put.{Put}
-use Rattle.small_files.specs.declared.answers.Put.TheVariants as put
 use Rattle.small_files.specs.declared.answers.Got.{Got}
 use Rattle.small_files.specs.declared.answers.Got.TheVariants as got
 use Rattle.small_files.specs.declared.answers.GotRecord.{GotRecord}
 use Rattle.small_files.specs.declared.answers.GotRecord.TheVariants as found
 
--- a put as the result of a disk call
-abbrev pub put_result : Put → Result (Unit {0}) DiskFail
-put_result put.Done = Ok tt
-put_result put.DiskFault = Err fail.Failed
-put_result put.OutOfMemory = Err fail.OutOfMemory
-
--- the same of a number that was asked for, a bad file being an answer
+-- a number that was asked for as the result of disk calls, a bad file being an answer
 abbrev pub got_result : Got → Result (Unit {0}) DiskFail
 got_result (got.Value n) = Ok tt
 got_result (got.BadFile name) = Ok tt

@@ -2,10 +2,12 @@
 use Rattle.std.specs.Prelude.{◌≡◌, ◌≢◌, ℕ, ◌+◌, ◌<◌, List, ◌++◌, Option, Some, None, Result, OnOk, IsErr, IsErrOf, codes}
 use Rattle.qj_disk.specs.Files.{Files, ChangesOnly, Follows}
 use Rattle.qj_disk.specs.View.{View}
+use Rattle.qj_disk.specs.Calls.{Effect}
+use Rattle.qj_disk.specs.declared.disk.DiskModel.{Ghosts}
 use Rattle.qj_disk.specs.declared.disk.DiskFail.{DiskFail}
 use Rattle.qj_disk.specs.declared.disk.DiskFail.TheVariants.{Failed}
 
--- the name with .tmp behind it
+-- the name with .tmp after it
 abbrev pub temporary : List ℕ → List ℕ
 temporary name = name ++ codes ".tmp"
 
@@ -29,3 +31,14 @@ pub record PutCut {T : Type 0} (before now : Option ℕ) (tells : Type 0) (tmp :
 pub record OneCut {T : Type 0} (before now : Option ℕ) (tells : Type 0) (result : Result T DiskFail) (old new : View) : Type 0 where
   pub stops : before ≡ Some 0 → IsErr result × (tells → (c : Files) → new.may_leave c → old.may_leave c)
   pub counts : (k : ℕ) → before ≡ Some (1 + k) → (IsErrOf result Failed → ⊥) × OnOk result (now ≡ Some k)
+
+-- a put as one effect: all or nothing but for the temporary file
+abbrev pub IsPut : {T : Type 0} → List ℕ → List ℕ → List ℕ → Result T DiskFail → View → View → Type 0
+IsPut name tmp bytes result = Effect (Disturbs tmp) (Puts name tmp bytes) result
+
+-- what is left after a put, and after a single call, of a disk
+abbrev pub IsPutCut : {D T : Type 0} → Ghosts D → D → D → List ℕ → Result T DiskFail → Type 0
+IsPutCut disk old new tmp result = PutCut (disk.left old) (disk.left new) (disk.tells old) tmp result (disk.view old) (disk.view new)
+
+abbrev pub IsOneCut : {D T : Type 0} → Ghosts D → D → D → Result T DiskFail → Type 0
+IsOneCut disk old new result = OneCut (disk.left old) (disk.left new) (disk.tells old) result (disk.view old) (disk.view new)

@@ -16,7 +16,7 @@ pub record Record : Type 0 where
   pub epoch : ℕ
   pub end : ℕ
 
--- both of 19 digits, with a space between and a line feed behind
+-- both of 19 digits, with a space between and a line feed after
 abbrev pub record_bytes : Record → List ℕ
 record_bytes r = padded 19 r.epoch ++ 32 ∷ (padded 19 r.end ++ 10 ∷ [])
 

@@ -1,19 +1,6 @@
 //! The answers of the calls on small files.
-ghost use Rattle.std.specs.Prelude.{◌≡◌};
 
-use qj_disk::DiskFail;
 use qj_num::Name;
-
-/// What became of a write.
-#[derive(Clone, Copy, Debug, PartialEq, Eq)]
-pub enum Put {
-    /// It is done, and no crash undoes it.
-    Done,
-    /// The disk failed. The file is as before or as put.
-    DiskFault,
-    /// There was no memory. The file is as before or as put.
-    OutOfMemory,
-}
 
 /// A number that a file holds.
 #[derive(Drop)]
@@ -41,19 +28,4 @@ pub enum GotRecord {
     DiskFault,
     /// There was no memory.
     OutOfMemory,
-}
-
-impl From<Result<(), DiskFail>> for Put {
-    ghost use Rattle.std.specs.Prelude.{◌≡◌};
-    ghost use Rattle.small_files.specs.Answers.{put_result};
-
-    ghost from_gives = { λ result put. put_result put ≡ result };
-
-    fn from(done: Result<(), DiskFail>) -> Put {
-        match done {
-            Ok(()) => Put::Done,
-            Err(DiskFail::Failed) => Put::DiskFault,
-            Err(DiskFail::OutOfMemory) => Put::OutOfMemory,
-        }
-    }
 }

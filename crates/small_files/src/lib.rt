@@ -10,7 +10,7 @@ mod put;
 mod whole;
 pub mod worked;
 
-pub use answers::{Got, GotRecord, Put};
+pub use answers::{Got, GotRecord};
 pub use names::{FileName, paxos_name, push_padded};
 pub use number_file::NumberFile;
 pub use paxos_file::PaxosFile;

@@ -1,11 +1,12 @@
 //! Files that hold one number.
-ghost use Rattle.std.specs.Prelude.{◌≡◌, ◌↔◌, ◌≤◌, ◌^◌, None, length};
-ghost use Rattle.qj_disk.specs.Calls.{Effect, HasCause, HasShortage, Rests};
-ghost use Rattle.small_files.specs.Puts.{temporary, Disturbs, Puts, PutCut};
+ghost use Rattle.std.specs.Prelude.{◌≡◌, ◌≤◌, ◌^◌, length};
+ghost use Rattle.qj_disk.specs.Calls.{Rests};
+ghost use Rattle.qj_disk.specs.DiskCalls.{IfTold, IsDiskCall, IsDiskRun, LacksFile};
+ghost use Rattle.small_files.specs.Puts.{temporary, IsPut, IsPutCut};
 ghost use Rattle.small_files.specs.Records.{number_bytes};
-ghost use Rattle.small_files.specs.Answers.{GotOf, IsSmallGot, got_result, put_result, IsBadNumber};
+ghost use Rattle.small_files.specs.Answers.{GotOf, IsSmallGot, got_result, IsBadNumber};
 
-use crate::answers::{Got, Put};
+use crate::answers::Got;
 use crate::grammar::{print_number, read_number};
 use crate::put::put_bytes;
 use crate::whole::{Whole, read_whole};
@@ -20,11 +21,10 @@ impl NumberFile {
     /// The number that the file of this name holds, 0 where there is no such file. `BadFile` comes
     /// exactly where its bytes hold no number.
     pub fn get<D: Disk>(alloc: Global, disk: &mut D, name: &str) -> Got
-        ensures tells { D.tells disk.old ↔ D.tells disk.new }
+        ensures call { IsDiskRun D.DiskModel disk.old disk.new (got_result result) }
         ensures value { D.tells disk.old → GotOf name.now ((D.view disk.old).seen name.now) result }
         ensures small { IsSmallGot result }
-        ensures disk { D.tells disk.old → Rests (D.view disk.old) (D.view disk.new) }
-        ensures cause { HasCause (D.faults disk.old) (D.faults disk.new) (D.steady disk.old) (D.steady disk.new) (got_result result) }
+        ensures disk { IfTold D.DiskModel disk.old disk.new Rests }
     {
         let mut bytes = [0; 20];
         match read_whole(disk, name, &mut bytes) {
@@ -40,17 +40,15 @@ impl NumberFile {
     }
 
     /// Puts a number of at most 2^62 into the file of this name, all or nothing, as `put_bytes` does.
-    pub fn put<D: Disk>(disk: &mut D, name: &str, value: u64) -> Put
+    pub fn put<D: Disk>(disk: &mut D, name: &str, value: u64) -> Result<(), DiskFail>
         requires short { length name.now ≤ 60 }
         requires value { value ≤ 2 ^ 62 }
-        requires absent { D.tells disk.old → (D.view disk.old).seen (temporary name.now) ≡ None }
+        requires absent { LacksFile D.DiskModel disk.old (temporary name.now) }
 
-        ensures tells { D.tells disk.old ↔ D.tells disk.new }
-        ensures put { D.tells disk.old → Effect (Disturbs (temporary name.now)) (Puts name.now (temporary name.now) (number_bytes value)) (put_result result) (D.view disk.old) (D.view disk.new) }
-        ensures cut { PutCut (D.left disk.old) (D.left disk.new) (D.tells disk.old) (temporary name.now) (put_result result) (D.view disk.old) (D.view disk.new) }
-        ensures reads { D.reads disk.new ≡ D.reads disk.old }
-        ensures cause { HasCause (D.faults disk.old) (D.faults disk.new) (D.steady disk.old) (D.steady disk.new) (put_result result) }
-        ensures shortage { HasShortage (D.shortages disk.old) (D.shortages disk.new) (put_result result) }
+        ensures call { IsDiskCall D.DiskModel disk.old disk.new result }
+        ensures put { IfTold D.DiskModel disk.old disk.new
+            (IsPut name.now (temporary name.now) (number_bytes value) result) }
+        ensures cut { IsPutCut D.DiskModel disk.old disk.new (temporary name.now) result }
     {
         put_bytes(disk, name, &print_number(value))
     }

@@ -1,12 +1,13 @@
 //! Files that hold an accepted recovery.
-ghost use Rattle.std.specs.Prelude.{◌≡◌, ◌↔◌, ◌≤◌, ◌^◌, None, IsSome};
+ghost use Rattle.std.specs.Prelude.{◌≡◌, ◌≤◌, ◌^◌};
 ghost use Rattle.qj_disk.specs.Files.{ChangesOnly, IsGone};
-ghost use Rattle.qj_disk.specs.Calls.{Atomic, Budget, Effect, HasCause, HasShortage, Rests};
-ghost use Rattle.small_files.specs.Puts.{temporary, Disturbs, Puts, PutCut, OneCut};
+ghost use Rattle.qj_disk.specs.Calls.{Atomic, Rests};
+ghost use Rattle.qj_disk.specs.DiskCalls.{HasFile, IfTold, IsDiskCall, IsDiskRun, LacksFile};
+ghost use Rattle.small_files.specs.Puts.{temporary, IsPut, IsPutCut, IsOneCut};
 ghost use Rattle.small_files.specs.Records.{paxos_name as name_of, record_bytes};
-ghost use Rattle.small_files.specs.Answers.{FoundIn, found_result, put_result, IsBadRecord};
+ghost use Rattle.small_files.specs.Answers.{FoundIn, found_result, IsBadRecord};
 
-use crate::answers::{GotRecord, Put};
+use crate::answers::GotRecord;
 use crate::grammar::{print_record, read_record};
 use crate::names::paxos_name;
 use crate::put::put_bytes;
@@ -16,7 +17,7 @@ use qj_num::Name;
 use std::alloc::Global;
 
 /// The paxos record of a segment: the epoch under which its edits were accepted and their last txid, of
-/// at most 2^62 both, as two numbers of 19 digits with a space between and a line feed behind.
+/// at most 2^62 both, as two numbers of 19 digits with a space between and a line feed after.
 pub struct PaxosFile;
 
 impl PaxosFile {
@@ -25,55 +26,50 @@ impl PaxosFile {
     pub fn get<D: Disk>(alloc: Global, disk: &mut D, start: u64) -> GotRecord
         requires { start ≤ 2 ^ 62 }
 
-        ensures tells { D.tells disk.old ↔ D.tells disk.new }
-        ensures record_ { D.tells disk.old → FoundIn (name_of start) ((D.view disk.old).seen (name_of start)) result }
-        ensures disk { D.tells disk.old → Rests (D.view disk.old) (D.view disk.new) }
-        ensures cause { HasCause (D.faults disk.old) (D.faults disk.new) (D.steady disk.old) (D.steady disk.new) (found_result result) }
+        ensures call { IsDiskRun D.DiskModel disk.old disk.new (found_result result) }
+        ensures record_ { D.tells disk.old
+            → FoundIn (name_of start) ((D.view disk.old).seen (name_of start)) result }
+        ensures disk { IfTold D.DiskModel disk.old disk.new Rests }
     {
         let name = paxos_name(start);
         get_by(alloc, disk, name.as_str())
     }
 
     /// Puts the record of the segment with this start, all or nothing, as `put_bytes` does.
-    pub fn put<D: Disk>(disk: &mut D, start: u64, epoch: u64, end: u64) -> Put
+    pub fn put<D: Disk>(disk: &mut D, start: u64, epoch: u64, end: u64) -> Result<(), DiskFail>
         requires start { start ≤ 2 ^ 62 }
         requires epoch { epoch ≤ 2 ^ 62 }
         requires end { end ≤ 2 ^ 62 }
-        requires absent { D.tells disk.old → (D.view disk.old).seen (temporary (name_of start)) ≡ None }
+        requires absent { LacksFile D.DiskModel disk.old (temporary (name_of start)) }
 
-        ensures tells { D.tells disk.old ↔ D.tells disk.new }
-        ensures put { D.tells disk.old → Effect (Disturbs (temporary (name_of start))) (Puts (name_of start) (temporary (name_of start)) (record_bytes (record { epoch = epoch; end = end }))) (put_result result) (D.view disk.old) (D.view disk.new) }
-        ensures cut { PutCut (D.left disk.old) (D.left disk.new) (D.tells disk.old) (temporary (name_of start)) (put_result result) (D.view disk.old) (D.view disk.new) }
-        ensures reads { D.reads disk.new ≡ D.reads disk.old }
-        ensures cause { HasCause (D.faults disk.old) (D.faults disk.new) (D.steady disk.old) (D.steady disk.new) (put_result result) }
-        ensures shortage { HasShortage (D.shortages disk.old) (D.shortages disk.new) (put_result result) }
+        ensures call { IsDiskCall D.DiskModel disk.old disk.new result }
+        ensures put { IfTold D.DiskModel disk.old disk.new
+            (IsPut (name_of start) (temporary (name_of start)) (record_bytes (record { epoch = epoch; end = end })) result) }
+        ensures cut { IsPutCut D.DiskModel disk.old disk.new (temporary (name_of start)) result }
     {
         let name = paxos_name(start);
         put_bytes(disk, name.as_str(), &print_record(epoch, end))
     }
 
     /// Removes the record of the segment with this start, which is there, in one call.
-    pub fn remove<D: Disk>(disk: &mut D, start: u64) -> Put
+    pub fn remove<D: Disk>(disk: &mut D, start: u64) -> Result<(), DiskFail>
         requires start { start ≤ 2 ^ 62 }
-        requires there { D.tells disk.old → IsSome ((D.view disk.old).seen (name_of start)) }
+        requires there { HasFile D.DiskModel disk.old (name_of start) }
 
-        ensures tells { D.tells disk.old ↔ D.tells disk.new }
-        ensures disk { D.tells disk.old → Atomic (ChangesOnly (name_of start) IsGone) (put_result result) (D.view disk.old) (D.view disk.new) }
-        ensures cut { OneCut (D.left disk.old) (D.left disk.new) (D.tells disk.old) (put_result result) (D.view disk.old) (D.view disk.new) }
-        ensures reads { D.reads disk.new ≡ D.reads disk.old }
-        ensures cause { HasCause (D.faults disk.old) (D.faults disk.new) (D.steady disk.old) (D.steady disk.new) (put_result result) }
-        ensures shortage { HasShortage (D.shortages disk.old) (D.shortages disk.new) (put_result result) }
+        ensures call { IsDiskCall D.DiskModel disk.old disk.new result }
+        ensures disk { IfTold D.DiskModel disk.old disk.new
+            (Atomic (ChangesOnly (name_of start) IsGone) result) }
+        ensures cut { IsOneCut D.DiskModel disk.old disk.new result }
     {
         let name = paxos_name(start);
-        Put::from(disk.remove(name.as_str()))
+        disk.remove(name.as_str())
     }
 }
 
 fn get_by<D: Disk>(alloc: Global, disk: &mut D, name: &str) -> GotRecord
-    ensures tells { D.tells disk.old ↔ D.tells disk.new }
+    ensures call { IsDiskRun D.DiskModel disk.old disk.new (found_result result) }
     ensures record_ { D.tells disk.old → FoundIn name.now ((D.view disk.old).seen name.now) result }
-    ensures disk { D.tells disk.old → Rests (D.view disk.old) (D.view disk.new) }
-    ensures cause { HasCause (D.faults disk.old) (D.faults disk.new) (D.steady disk.old) (D.steady disk.new) (found_result result) }
+    ensures disk { IfTold D.DiskModel disk.old disk.new Rests }
 {
     let mut bytes = [0; 40];
     match read_whole(disk, name, &mut bytes) {

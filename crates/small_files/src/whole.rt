@@ -1,6 +1,7 @@
 //! A file of a known length is read whole.
-ghost use Rattle.std.specs.Prelude.{◌≡◌, ◌≢◌, ◌↔◌, IfOk, length};
-ghost use Rattle.qj_disk.specs.Calls.{HasCause, Rests};
+ghost use Rattle.std.specs.Prelude.{◌≡◌, ◌≢◌, IfOk};
+ghost use Rattle.qj_disk.specs.Calls.{Rests};
+ghost use Rattle.qj_disk.specs.DiskCalls.{IfTold, IsDiskRun};
 ghost use Rattle.small_files.specs.Whole.{IsWhole};
 
 use qj_disk::{Disk, DiskFail};
@@ -18,10 +19,10 @@ pub enum Whole {
 
 /// Reads a file that is to have as many bytes as `into`.
 pub fn read_whole<D: Disk>(disk: &mut D, name: &str, into: &mut [u8]) -> Result<Whole, DiskFail>
-    ensures tells { D.tells disk.old ↔ D.tells disk.new }
-    ensures whole { D.tells disk.old → IfOk result (IsWhole ((D.view disk.old).seen name.now) into.new) }
-    ensures disk { D.tells disk.old → Rests (D.view disk.old) (D.view disk.new) }
-    ensures cause { HasCause (D.faults disk.old) (D.faults disk.new) (D.steady disk.old) (D.steady disk.new) result }
+    ensures call { IsDiskRun D.DiskModel disk.old disk.new result }
+    ensures whole { D.tells disk.old
+        → IfOk result (IsWhole ((D.view disk.old).seen name.now) into.new) }
+    ensures disk { IfTold D.DiskModel disk.old disk.new Rests }
 {
     match disk.length(name)? {
         None => Ok(Whole::Absent),

@@ -6,7 +6,7 @@ use Rattle.std.proofs.lemmas.Bool.{cases_eq}
 use Rattle.qj_disk.specs.Files.{Files}
 use Rattle.ns_tree.specs.Space.{Space, empty_space}
 use Rattle.ns_replay.specs.Replay.{Image}
-use Rattle.name_node.specs.Holding.{image_put, saved, reloaded, min_to_keep}
+use Rattle.name_node.specs.Holding.{image_put, save_image, reload_image, min_to_keep}
 use Rattle.image_store.specs.Images.{image_in, Counts, ListsImages}
 use Rattle.image_store.specs.Images as stored
 use Rattle.image_store.specs.Lists.{older_than, second_newest, kept_from}
@@ -28,7 +28,7 @@ use Rattle.image_store.proofs.ThinLaws.{one_list}
 use Rattle.standby_tailer.specs.declared.opened.OpenedImage.{OpenedImage}
 use Rattle.standby_tailer.specs.declared.opened.OpenedImage.TheVariants as opened
 use Rattle.standby_tailer.specs.Standbys.{StandbyView, empty_standby, held}
-use Rattle.standby_tailer.specs.Disks.{AreFalling, HasTxid, HoldsImages, rising, IsOpened, OpensAs, IsReloaded, IsMinOf}
+use Rattle.standby_tailer.specs.Disks.{AreFalling, HasTxid, HoldsImages, rising_txids, IsOpened, OpensAs, IsReloaded, IsMinOf}
 use Rattle.standby_tailer.proofs.ImageLists.{Each, each_both, each_of, at_txid, has_or_not, put_has, put_has_it, put_falling, put_each, rising_has, has_rising, rising_sorted, rising_two, older_two}
 
 -- ## One image in two folders
@@ -99,7 +99,7 @@ removed_none files t e c = lacks (subst (λ (o : Option (List ℕ)). IsSome (sto
     lacks : IsSome (stored.image_of None (files (name_of t Digest))) → ⊥
     lacks h = absurd (cc h)
 
-pub thinned_holds : (images keep gone : List Image) (old new : Files) → HoldsImages old images → Parts images keep gone → Thins (rising gone) old new → AreRemoved (rising gone) new → HoldsImages new keep
+pub thinned_holds : (images keep gone : List Image) (old new : Files) → HoldsImages old images → Parts images keep gone → Thins (rising_txids gone) old new → AreRemoved (rising_txids gone) new → HoldsImages new keep
 thinned_holds images keep gone old new h p thins removed = record {
   falling = p.falling;
   counts = λ t. (λ c. to t c (has_or_not t gone), λ has. counts_as old new t (same t (small_in old images h t (p.kept t has)) (λ g. p.apart t has g)) ((h.counts t).1 (p.kept t has)));
@@ -109,7 +109,7 @@ thinned_holds images keep gone old new h p thins removed = record {
 }
   where
     same : (t : ℕ) → t ≤ 2 ^ 62 → (HasTxid t gone → ⊥) → image_in new t ≡ image_in old t
-    same t s lacks = thin_others (rising gone) t old new (λ u c. small_in old images h u (p.left u (rising_has u gone c))) s (λ c. lacks (rising_has t gone c)) thins
+    same t s lacks = thin_others (rising_txids gone) t old new (λ u c. small_in old images h u (p.left u (rising_has u gone c))) s (λ c. lacks (rising_has t gone c)) thins
 
     kept : (t : ℕ) → HasTxid t keep ⊎ HasTxid t gone → (HasTxid t gone → ⊥) → HasTxid t keep
     kept t (inl k) lacks = k
@@ -119,13 +119,13 @@ thinned_holds images keep gone old new h p thins removed = record {
     to t c (inl g) = absurd (removed_none new t (removed t (has_rising t gone g)).itself c)
     to t c (inr lacks) = kept t (p.either t ((h.counts t).0 (counts_as new old t (sym (same t c.0 lacks)) c))) lacks
 
-pub lists : (files : Files) (images : List Image) → HoldsImages files images → ListsImages (rising images) files
+pub lists : (files : Files) (images : List Image) → HoldsImages files images → ListsImages (rising_txids images) files
 lists files images h = record {
   each = λ t. (λ c. (h.counts t).1 (rising_has t images c), λ c. has_rising t images ((h.counts t).0 c));
   sorted = rising_sorted images h.falling;
 }
 
-pub retained_holds : (images : List Image) (old new : Files) → HoldsImages old images → Thins (older_than 2 (rising images)) old new → AreRemoved (older_than 2 (rising images)) new
+pub retained_holds : (images : List Image) (old new : Files) → HoldsImages old images → Thins (older_than 2 (rising_txids images)) old new → AreRemoved (older_than 2 (rising_txids images)) new
     → HoldsImages new (take 2 images)
 retained_holds images old new h thins removed =
     thinned_holds images (take 2 images) (drop 2 images) old new h (parts images h.falling)
@@ -161,12 +161,12 @@ txid_of : Loaded → ℕ
 txid_of (loading.Image namespace txid) = txid
 txid_of _ = 0
 
-first_of : (images is : List Image) (i : Image) (old : StandbyView) → images ≡ i ∷ is → held images (record { space = i.space; position = i.txid }) ≡ reloaded (held images old)
-unfolding reloaded
-first_of images is i old e = subst (λ (l : List Image). held l (record { space = i.space; position = i.txid }) ≡ reloaded (held l old)) (sym e) refl
+first_of : (images is : List Image) (i : Image) (old : StandbyView) → images ≡ i ∷ is → held images (record { space = i.space; position = i.txid }) ≡ reload_image (held images old)
+unfolding reload_image
+first_of images is i old e = subst (λ (l : List Image). held l (record { space = i.space; position = i.txid }) ≡ reload_image (held l old)) (sym e) refl
 
-empty_of : (files : Files) (images : List Image) (old new : StandbyView) → HoldsImages files images → ((t : ℕ) → Counts files t → ⊥) → new ≡ empty_standby → held images new ≡ reloaded (held images old)
-unfolding reloaded
+empty_of : (files : Files) (images : List Image) (old new : StandbyView) → HoldsImages files images → ((t : ℕ) → Counts files t → ⊥) → new ≡ empty_standby → held images new ≡ reload_image (held images old)
+unfolding reload_image
 empty_of files [] old new h none s = ap (held []) s
 empty_of files (i ∷ is) old new h none s = absurd (none i.txid ((h.counts i.txid).1 (inl refl)))
 
@@ -187,15 +187,15 @@ reload_of files images old new opened.DiskFault h o s = tt
 reload_of files images old new opened.OutOfMemory h o s = tt
 
 -- ## What is to keep
-kept_of : (images : List Image) (extra : ℕ) → (images ≡ [] → ⊥) → min_to_keep extra images ≡ Some (kept_from extra (rising images))
+kept_of : (images : List Image) (extra : ℕ) → (images ≡ [] → ⊥) → min_to_keep extra images ≡ Some (kept_from extra (rising_txids images))
 unfolding min_to_keep
 kept_of [] extra ne = absurd (ne refl)
 kept_of (i ∷ []) extra ne = refl
 kept_of (i ∷ j ∷ is) extra ne =
-    let size : length (rising is ++ j.txid ∷ i.txid ∷ []) ≡ length (rising is) + 2 = length-append (rising is) (j.txid ∷ i.txid ∷ []) in
-    let at : length (rising is ++ j.txid ∷ i.txid ∷ []) - 2 ≡ length (rising is) = omega (arith, size) in
-    let here : slice_index (rising is ++ j.txid ∷ i.txid ∷ []) (length (rising is)) ≡ j.txid = get_or-append_seam (rising is) j.txid (i.txid ∷ []) 0 in
-    let second : second_newest (rising (i ∷ j ∷ is)) ≡ j.txid = ap second_newest (rising_two i j is) ∙ (ap (slice_index (rising is ++ j.txid ∷ i.txid ∷ [])) at ∙ here) in
+    let size : length (rising_txids is ++ j.txid ∷ i.txid ∷ []) ≡ length (rising_txids is) + 2 = length-append (rising_txids is) (j.txid ∷ i.txid ∷ []) in
+    let at : length (rising_txids is ++ j.txid ∷ i.txid ∷ []) - 2 ≡ length (rising_txids is) = omega (arith, size) in
+    let here : slice_index (rising_txids is ++ j.txid ∷ i.txid ∷ []) (length (rising_txids is)) ≡ j.txid = get_or-append_seam (rising_txids is) j.txid (i.txid ∷ []) 0 in
+    let second : second_newest (rising_txids (i ∷ j ∷ is)) ≡ j.txid = ap second_newest (rising_two i j is) ∙ (ap (slice_index (rising_txids is ++ j.txid ∷ i.txid ∷ [])) at ∙ here) in
     ap (λ (k : ℕ). Some (max 1 (k + 1 - extra))) (sym second)
 
 none_kept : (files : Files) (images : List Image) (extra : ℕ) → HoldsImages files images → ((t : ℕ) → Counts files t → ⊥) → min_to_keep extra images ≡ None
@@ -205,8 +205,8 @@ none_kept files (i ∷ is) extra h none = absurd (none i.txid ((h.counts i.txid)
 
 pub min_of : (files : Files) (images : List Image) (extra : ℕ) (answer : MinToKeep) → HoldsImages files images → IsKeptFrom files extra answer → IsMinOf (min_to_keep extra images) answer
 min_of files images extra (kept.Min txid) h (txids, are, some, is) =
-    let e : txids ≡ rising images = one_list files txids (rising images) are (lists files images h) in
-    kept_of images extra (λ none. some (e ∙ ap rising none)) ∙ ap (λ (l : List ℕ). Some (kept_from extra l)) (sym e) ∙ ap (λ (k : ℕ). Some k) (sym is)
+    let e : txids ≡ rising_txids images = one_list files txids (rising_txids images) are (lists files images h) in
+    kept_of images extra (λ none. some (e ∙ ap rising_txids none)) ∙ ap (λ (l : List ℕ). Some (kept_from extra l)) (sym e) ∙ ap (λ (k : ℕ). Some k) (sym is)
 min_of files images extra kept.NoImage h none = none_kept files images extra h none
 min_of files images extra kept.DiskFault h x = tt
 min_of files images extra kept.OutOfMemory h x = tt
@@ -221,12 +221,12 @@ holds_none files empty = record {
 
 -- ## A checkpoint
 pub checkpoint_holds : (before : List Image) (s : StandbyView) (old : Files) (v1 v2 : View) (r : Result (Unit {0}) DiskFail) → s.position ≤ 2 ^ 62 → HoldsImages old before
-    → SavesImage s.position s.space old v1.seen → Retains 2 r v1 v2 → OnOk r (HoldsImages v2.seen (saved (held before s)).images)
-unfolding saved
+    → SavesImage s.position s.space old v1.seen → Retains 2 r v1 v2 → OnOk r (HoldsImages v2.seen (save_image (held before s)).images)
+unfolding save_image
 checkpoint_holds before s old v1 v2 r small h saves retains =
     let i : Image = record { space = s.space; txid = s.position } in
     let mid : HoldsImages v1.seen (image_put i before) = saved_holds before i old v1.seen small h saves in
-    let listed : ListsImages (rising (image_put i before)) v1.seen = lists v1.seen (image_put i before) mid in
+    let listed : ListsImages (rising_txids (image_put i before)) v1.seen = lists v1.seen (image_put i before) mid in
     on_ok_weaker r
-    (λ removed. retained_holds (image_put i before) v1.seen v2.seen mid (retains.quiet (rising (image_put i before)) listed).seen (removed (rising (image_put i before)) listed))
+    (λ removed. retained_holds (image_put i before) v1.seen v2.seen mid (retains.quiet (rising_txids (image_put i before)) listed).seen (removed (rising_txids (image_put i before)) listed))
     retains.removed

@@ -12,7 +12,7 @@ use Rattle.std.proofs.lemmas.List.Elements.{Contains-push, Contains-push_cases, 
 use Rattle.ns_replay.specs.Replay.{Image}
 use Rattle.name_node.specs.Holding.{image_put}
 use Rattle.image_store.specs.Lists.{older_than}
-use Rattle.standby_tailer.specs.Disks.{AreFalling, HasTxid, rising}
+use Rattle.standby_tailer.specs.Disks.{AreFalling, HasTxid, rising_txids}
 
 abbrev pub Each : (Image → Type 0) → List Image → Type 0
 Each P is = AllByRecursion P is
@@ -115,14 +115,14 @@ module _ (i : Image) where
       by rec false false l e = (all.0 (other_number j.txid i.txid e), rec)
 
 -- ## Their txids, the newest last
-pub rising_has : (t : ℕ) (is : List Image) → Contains (rising is) t → HasTxid t is
+pub rising_has : (t : ℕ) (is : List Image) → Contains (rising_txids is) t → HasTxid t is
 rising_has t [] c = let lt : c.0 < 0 = c.1 in absurd (omega (arith, lt))
-rising_has t (i ∷ is) c = ⊎_elim (λ x. inr (rising_has t is x)) (λ e. inl (sym e)) (Contains-push_cases (rising is) i.txid t c)
+rising_has t (i ∷ is) c = ⊎_elim (λ x. inr (rising_has t is x)) (λ e. inl (sym e)) (Contains-push_cases (rising_txids is) i.txid t c)
 
-pub has_rising : (t : ℕ) (is : List Image) → HasTxid t is → Contains (rising is) t
+pub has_rising : (t : ℕ) (is : List Image) → HasTxid t is → Contains (rising_txids is) t
 has_rising t [] h = absurd h
-has_rising t (i ∷ is) (inl e) = subst (λ (k : ℕ). Contains (rising is ++ i.txid ∷ []) k) (sym e) (Contains-push (rising is) i.txid)
-has_rising t (i ∷ is) (inr h) = Contains-append_left (rising is) (i.txid ∷ []) t (has_rising t is h)
+has_rising t (i ∷ is) (inl e) = subst (λ (k : ℕ). Contains (rising_txids is ++ i.txid ∷ []) k) (sym e) (Contains-push (rising_txids is) i.txid)
+has_rising t (i ∷ is) (inr h) = Contains-append_left (rising_txids is) (i.txid ∷ []) t (has_rising t is h)
 
 all_push : (P : ℕ → Type 0) (xs : List ℕ) (x : ℕ) → AllByRecursion P xs → P x → AllByRecursion P (xs ++ x ∷ [])
 all_push P [] x all p = (p, tt)
@@ -136,22 +136,22 @@ sorted_push (y ∷ xs) x s all = (all_push (λ z. nat_cmp y z ≡ Less) xs x s.0
 below_less : (a b : ℕ) → a < b → nat_cmp a b ≡ Less
 below_less a b h = grind (arith, nat_tests)
 
-rising_below : (k : ℕ) (is : List Image) → AreBelow k is → AllByRecursion (λ y. nat_cmp y k ≡ Less) (rising is)
+rising_below : (k : ℕ) (is : List Image) → AreBelow k is → AllByRecursion (λ y. nat_cmp y k ≡ Less) (rising_txids is)
 rising_below k [] all = tt
-rising_below k (i ∷ is) all = all_push (λ y. nat_cmp y k ≡ Less) (rising is) i.txid (rising_below k is all.1) (below_less i.txid k all.0)
+rising_below k (i ∷ is) all = all_push (λ y. nat_cmp y k ≡ Less) (rising_txids is) i.txid (rising_below k is all.1) (below_less i.txid k all.0)
 
-pub rising_sorted : (is : List Image) → AreFalling is → IsStrictlySortedBy nat_cmp (rising is)
+pub rising_sorted : (is : List Image) → AreFalling is → IsStrictlySortedBy nat_cmp (rising_txids is)
 unfolding IsStrictlySortedBy
 rising_sorted [] f = tt
-rising_sorted (i ∷ is) f = sorted_push (rising is) i.txid (rising_sorted is f.1) (rising_below i.txid is f.0)
+rising_sorted (i ∷ is) f = sorted_push (rising_txids is) i.txid (rising_sorted is f.1) (rising_below i.txid is f.0)
 
-pub rising_two : (i j : Image) (is : List Image) → rising (i ∷ j ∷ is) ≡ rising is ++ j.txid ∷ i.txid ∷ []
-rising_two i j is = append_assoc (rising is) (j.txid ∷ []) (i.txid ∷ [])
+pub rising_two : (i j : Image) (is : List Image) → rising_txids (i ∷ j ∷ is) ≡ rising_txids is ++ j.txid ∷ i.txid ∷ []
+rising_two i j is = append_assoc (rising_txids is) (j.txid ∷ []) (i.txid ∷ [])
 
-pub older_two : (is : List Image) → older_than 2 (rising is) ≡ rising (drop 2 is)
+pub older_two : (is : List Image) → older_than 2 (rising_txids is) ≡ rising_txids (drop 2 is)
 older_two [] = refl
 older_two (i ∷ []) = refl
 older_two (i ∷ j ∷ is) =
-    let size : length (rising is ++ j.txid ∷ i.txid ∷ []) ≡ length (rising is) + 2 = length-append (rising is) (j.txid ∷ i.txid ∷ []) in
-    let less : length (rising is ++ j.txid ∷ i.txid ∷ []) - 2 ≡ length (rising is) = omega (arith, size) in
-    ap (older_than 2) (rising_two i j is) ∙ take_at (rising is) (j.txid ∷ i.txid ∷ []) (length (rising is ++ j.txid ∷ i.txid ∷ []) - 2) (sym less)
+    let size : length (rising_txids is ++ j.txid ∷ i.txid ∷ []) ≡ length (rising_txids is) + 2 = length-append (rising_txids is) (j.txid ∷ i.txid ∷ []) in
+    let less : length (rising_txids is ++ j.txid ∷ i.txid ∷ []) - 2 ≡ length (rising_txids is) = omega (arith, size) in
+    ap (older_than 2) (rising_two i j is) ∙ take_at (rising_txids is) (j.txid ∷ i.txid ∷ []) (length (rising_txids is ++ j.txid ∷ i.txid ∷ []) - 2) (sym less)

@@ -6,8 +6,8 @@ use Rattle.std.proofs.lemmas.Bool.Decides.{nat_tests}
 use Rattle.std.proofs.lemmas.List.{map-append}
 use Rattle.journal_core.specs.declared.heard.Heard.{Heard}
 use Rattle.writer_core.specs.declared.cause.Cause.{Cause}
-use Rattle.name_node.specs.Holding.{Holding, Free, Tails, working}
-use Rattle.name_node.specs.Tails.{Ends, GoesOn, Caught, Reached, PurgedFrom, BehindBy, told_purged, least_or, least_purged, read_cause, is_until, pass_begun, pass_end, behind_or}
+use Rattle.name_node.specs.Holding.{Holding, Free, Tails, with_work}
+use Rattle.name_node.specs.Tails.{Ends, GoesOn, Caught, Reached, PurgedFrom, BehindBy, told_purged, least_or, least_purged, read_cause, is_until, pass_begun, pass_end, after_or}
 use Rattle.standby_tailer.specs.Tailing.{is_caught}
 
 least_none : (o : Option ℕ) → least_or o None ≡ o
@@ -43,35 +43,35 @@ causes_next told i h d causes within is e =
     ap (λ (l : List Cause). l ++ read_cause h ∷ []) e ∙ sym (map-append read_cause (take i told) (h ∷ [])) ∙ ap (map read_cause) (sym (one_more told i h d within is))
 
 -- ## A pass begins
-pub pass_ends : (until : Option ℕ) (h : Holding) → is_until until h.position ≡ true → pass_begun until h ≡ Ends Reached (working Free h)
+pub pass_ends : (until : Option ℕ) (h : Holding) → is_until until h.position ≡ true → pass_begun until h ≡ Ends Reached (with_work Free h)
 unfolding pass_begun
-pass_ends until h e = ap (λ (b : Bool). if b then Ends Reached (working Free h) else GoesOn (working (Tails until 1 []) h)) e
+pass_ends until h e = ap (λ (b : Bool). if b then Ends Reached (with_work Free h) else GoesOn (with_work (Tails until 1 []) h)) e
 
-pub pass_goes : (until : Option ℕ) (h : Holding) → is_until until h.position ≡ false → pass_begun until h ≡ GoesOn (working (Tails until 1 []) h)
+pub pass_goes : (until : Option ℕ) (h : Holding) → is_until until h.position ≡ false → pass_begun until h ≡ GoesOn (with_work (Tails until 1 []) h)
 unfolding pass_begun
-pass_goes until h e = ap (λ (b : Bool). if b then Ends Reached (working Free h) else GoesOn (working (Tails until 1 []) h)) e
+pass_goes until h e = ap (λ (b : Bool). if b then Ends Reached (with_work Free h) else GoesOn (with_work (Tails until 1 []) h)) e
 
 -- ## A pass ends
 pub half_below : (n c : ℕ) → nat_lt (n / 2) c ≡ nat_lt n (2 * c)
 half_below n c = grind (arith, nat_tests)
 
-pass_end_is : (until : Option ℕ) (told : List Heard) → pass_end until told ≡ (if is_caught until told then Caught else behind_or (least_purged told) told)
+pass_end_is : (until : Option ℕ) (told : List Heard) → pass_end until told ≡ (if is_caught until told then Caught else after_or (least_purged told) told)
 unfolding pass_end
 pass_end_is None told = refl
 pass_end_is (Some last) told = refl
 
 pub ends_caught : (until : Option ℕ) (told : List Heard) → is_caught until told ≡ true → pass_end until told ≡ Caught
-ends_caught until told e = pass_end_is until told ∙ ap (λ (b : Bool). if b then Caught else behind_or (least_purged told) told) e
+ends_caught until told e = pass_end_is until told ∙ ap (λ (b : Bool). if b then Caught else after_or (least_purged told) told) e
 
-not_caught : (until : Option ℕ) (told : List Heard) → is_caught until told ≡ false → pass_end until told ≡ behind_or (least_purged told) told
-not_caught until told e = pass_end_is until told ∙ ap (λ (b : Bool). if b then Caught else behind_or (least_purged told) told) e
+not_caught : (until : Option ℕ) (told : List Heard) → is_caught until told ≡ false → pass_end until told ≡ after_or (least_purged told) told
+not_caught until told e = pass_end_is until told ∙ ap (λ (b : Bool). if b then Caught else after_or (least_purged told) told) e
 
 pub ends_purged : (until : Option ℕ) (told : List Heard) (first : ℕ) → is_caught until told ≡ false → least_purged told ≡ Some first → pass_end until told ≡ PurgedFrom first
-ends_purged until told first e least = not_caught until told e ∙ ap (λ (o : Option ℕ). behind_or o told) least
+ends_purged until told first e least = not_caught until told e ∙ ap (λ (o : Option ℕ). after_or o told) least
 
 pub ends_behind : (until : Option ℕ) (told : List Heard) (causes : List Cause) → is_caught until told ≡ false → least_purged told ≡ None → causes ≡ map read_cause told
     → pass_end until told ≡ BehindBy causes
-ends_behind until told causes e none is = not_caught until told e ∙ ap (λ (o : Option ℕ). behind_or o told) none ∙ ap BehindBy (sym is)
+ends_behind until told causes e none is = not_caught until told e ∙ ap (λ (o : Option ℕ). after_or o told) none ∙ ap BehindBy (sym is)
 
 -- ## What an end tells of the position
 pub caught_open : (until : Option ℕ) (told : List Heard) (b : Bool) → b ≡ is_caught until told → b ≡ true → until ≡ None

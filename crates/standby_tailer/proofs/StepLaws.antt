@@ -15,14 +15,14 @@ use Rattle.journal_core.specs.declared.reply.Reply.TheVariants as reply
 use Rattle.journal_core.specs.declared.peer_call.PeerCall.{PeerCall}
 use Rattle.ns_replay.specs.Replay.{Image, applied}
 use Rattle.ns_replay.proofs.Splits.{nothing_replayed}
-use Rattle.name_node.specs.Holding.{Holding, Work, Free, Tails, working}
+use Rattle.name_node.specs.Holding.{Holding, Work, Free, Tails, with_work}
 use Rattle.name_node.specs.Tails.{TailStep, GoesOn, Ends, pass_begun, pass_end, tail_hears, up_to, after_applied, no_edits}
 use Rattle.standby_tailer.specs.declared.step.Step.{Step}
 use Rattle.standby_tailer.specs.declared.step.Step.TheVariants as step
 use Rattle.standby_tailer.specs.declared.tailed.Tailed.{Tailed}
 use Rattle.standby_tailer.specs.Standbys.{StandbyView, held}
 use Rattle.standby_tailer.specs.Reads.{LeadsTail}
-use Rattle.standby_tailer.specs.Tailing.{asking, IsEnd, IsStep, StandsAt, edits_in, IsPart, StopsShort, TailEnds, gives_edits, is_going, IsLater, IsExact, IsGoing, Goes, tail_left}
+use Rattle.standby_tailer.specs.Tailing.{begin_asking, IsEnd, IsStep, StandsAt, edits_in, IsPart, StopsShort, TailEnds, gives_edits, is_going, IsLater, IsExact, IsGoing, Goes, tail_left}
 use Rattle.standby_tailer.proofs.LedLaws.{leads_none, leads_more}
 
 -- ## What is heard
@@ -50,11 +50,11 @@ hears_other nodes node until told (Answer (reply.Refused refusal)) h e = refl
 -- the last node of a pass
 pub pass_over : (nodes : ℕ) (until : Option ℕ) (told now : List Heard) (heard : Heard) (images : List Image) (s : StandbyView) (work : Work) (t : Tailed) → now ≡ told ++ heard ∷ []
     → nat_lt (length told + 1) nodes ≡ false → IsEnd (Ends (pass_end until now) (held images s)) images s t
-    → IsEnd (no_edits nodes until (length told + 1) (told ++ heard ∷ []) (working work (held images s))) images s t
+    → IsEnd (no_edits nodes until (length told + 1) (told ++ heard ∷ []) (with_work work (held images s))) images s t
 pass_over nodes until told now heard images s work t e over h =
     let end : Ends (pass_end until now) (held images s) ≡ Ends (pass_end until (told ++ heard ∷ [])) (held images s) = ap (λ (l : List Heard). Ends (pass_end until l) (held images s)) e in
-    let last : no_edits nodes until (length told + 1) (told ++ heard ∷ []) (working work (held images s)) ≡ Ends (pass_end until (told ++ heard ∷ [])) (held images s) =
-    ap (λ (b : Bool). if b then GoesOn (working (Tails until (length told + 1 + 1) (told ++ heard ∷ [])) (held images s)) else Ends (pass_end until (told ++ heard ∷ [])) (held images s)) over in
+    let last : no_edits nodes until (length told + 1) (told ++ heard ∷ []) (with_work work (held images s)) ≡ Ends (pass_end until (told ++ heard ∷ [])) (held images s) =
+    ap (λ (b : Bool). if b then GoesOn (with_work (Tails until (length told + 1 + 1) (told ++ heard ∷ [])) (held images s)) else Ends (pass_end until (told ++ heard ∷ [])) (held images s)) over in
     subst (λ (x : TailStep). IsEnd x images s t) (end ∙ sym last) h
 
 pub over_when : (nodes : ℕ) (told now : List Heard) (heard : Heard) (count : ℕ) → now ≡ told ++ heard ∷ [] → count ≡ length now → nodes ≤ count → nat_lt (length told + 1) nodes ≡ false
@@ -64,21 +64,8 @@ over_when nodes told now heard count e is f =
     grind (arith, nat_tests)
 
 -- ## How many reads are left
-pub left_falls : (nodes p q k : ℕ) → IsLater p q → (nodes + 1) * (max_number - q) + (nodes - 0) + 1 < (nodes + 1) * (max_number - p) + (nodes - k) + 1
-left_falls nodes p q k h =
-    let rise : max_number - q + 1 ≤ max_number - p = omega (arith, h.higher, h.within) in
-    let m : (nodes + 1) * (max_number - q + 1) ≤ (nodes + 1) * (max_number - p) = mul-le-mul_left (nodes + 1) rise in
-    omega (arith, m)
 
-pub taken_fewer : (r : Result Step AllocError) (nodes p q : ℕ) (told now : List Heard) → now ≡ [] → IfOk r (λ t. t ≡ step.Going → IsLater p q)
-    → IfOk r (λ t. tail_left nodes now q t < tail_left nodes told p step.Going)
-taken_fewer r nodes p q told now e h = IfOk-weaker r (λ t. t ≡ step.Going → IsLater p q) (λ t. tail_left nodes now q t < tail_left nodes told p step.Going) (λ t f. by t f) h
-  where
-    by : (t : Step) → (t ≡ step.Going → IsLater p q) → tail_left nodes now q t < tail_left nodes told p step.Going
-    by step.Going f = subst (λ (l : List Heard). tail_left nodes l q step.Going < tail_left nodes told p step.Going) (sym e) (left_falls nodes p q (length told) (f refl))
-    by (step.Ended t) f = omega arith
-
--- ## Want of memory
+-- ## Lack of memory
 pub part_none : (bodies : List (List ℕ)) (s : StandbyView) → IsPart bodies s s
 part_none bodies s = record { count = 0; applied = nothing_replayed s.position s.space; position = omega arith }
 
@@ -87,10 +74,10 @@ err_of (Ok x) p = tt
 err_of (Err e) p = p
 
 pub stops_silent : (nodes : ℕ) (begun : TailStep) (images : List Image) (before mid after : List PeerCall) (until : Option ℕ) (told : List Heard) (s : StandbyView)
-    → LeadsTail nodes begun before mid (GoesOn (asking until told (held images s))) → after ≡ mid → StopsShort nodes begun images before after s
+    → LeadsTail nodes begun before mid (GoesOn (begin_asking until told (held images s))) → after ≡ mid → StopsShort nodes begun images before after s
 stops_silent nodes begun images before mid after until told s l e = record {
   mid = mid;
-  here = asking until told (held images s);
+  here = begin_asking until told (held images s);
   leads = l;
   last = None;
   asked = tt;
@@ -102,10 +89,10 @@ stops_silent nodes begun images before mid after until told s l e = record {
 
 pub stops_within : (nodes : ℕ) (begun : TailStep) (images : List Image) (before mid after : List PeerCall) (until : Option ℕ) (told : List Heard) (s new : StandbyView) (heard : Heard)
     → after ≡ mid ++ record { node = length told + 1; request = Read (s.position + 1); heard = heard } ∷ [] → IsPart (edits_in heard) s new
-    → LeadsTail nodes begun before mid (GoesOn (asking until told (held images s))) → StopsShort nodes begun images before after new
+    → LeadsTail nodes begun before mid (GoesOn (begin_asking until told (held images s))) → StopsShort nodes begun images before after new
 stops_within nodes begun images before mid after until told s new heard e p l = record {
   mid = mid;
-  here = asking until told (held images s);
+  here = begin_asking until told (held images s);
   leads = l;
   last = Some (record { node = length told + 1; request = Read (s.position + 1); heard = heard });
   asked = refl;
@@ -118,11 +105,11 @@ stops_within nodes begun images before mid after until told s new heard e p l = 
 -- ## One read more
 pub stands_more : (nodes : ℕ) (begun : TailStep) (images : List Image) (before mid after : List PeerCall) (until : Option ℕ) (told now : List Heard) (s new : StandbyView) (heard : Heard) (t : Step)
     → after ≡ mid ++ record { node = length told + 1; request = Read (s.position + 1); heard = heard } ∷ []
-    → IsStep (tail_hears nodes until (length told + 1) told heard (asking until told (held images s))) until now images new t
-    → LeadsTail nodes begun before mid (GoesOn (asking until told (held images s))) → StandsAt nodes begun before after until now images new t
+    → IsStep (tail_hears nodes until (length told + 1) told heard (begin_asking until told (held images s))) until now images new t
+    → LeadsTail nodes begun before mid (GoesOn (begin_asking until told (held images s))) → StandsAt nodes begun before after until now images new t
 stands_more nodes begun images before mid after until told now s new heard t e is l = record {
-  here = tail_hears nodes until (length told + 1) told heard (asking until told (held images s));
-  leads = leads_more nodes begun before mid after (GoesOn (asking until told (held images s))) (tail_hears nodes until (length told + 1) told heard (asking until told (held images s)))
+  here = tail_hears nodes until (length told + 1) told heard (begin_asking until told (held images s));
+  leads = leads_more nodes begun before mid after (GoesOn (begin_asking until told (held images s))) (tail_hears nodes until (length told + 1) told heard (begin_asking until told (held images s)))
       (record { node = length told + 1; request = Read (s.position + 1); heard = heard }) l refl e refl;
   is = is;
 }
@@ -156,7 +143,7 @@ module _ (until : Option ℕ) (nodes : ℕ) (told : List Heard) (position : ℕ)
   goes_exact end e = subst (λ (u : Step). Goes until nodes told position u) e g
 
 module _ (x : TailStep) (until : Option ℕ) (told : List Heard) (images : List Image) (s : StandbyView) (t : Step) (h : IsStep x until told images s t) where
-  pub stands_on : is_going t ≡ true → x ≡ GoesOn (asking until told (held images s))
+  pub stands_on : is_going t ≡ true → x ≡ GoesOn (begin_asking until told (held images s))
   stands_on e = subst (λ (u : Step). IsStep x until told images s u) (going_is t e) h
 
   pub stands_end : (end : Tailed) → t ≡ step.Ended end → IsEnd x images s end
@@ -171,7 +158,7 @@ pub record Passes (nodes : ℕ) (until : Option ℕ) (begun : List Image → Tai
   pub goes : Goes until nodes told s.position t
 
 module _ (nodes : ℕ) (until : Option ℕ) (begun : List Image → TailStep) (before after : List PeerCall) (told : List Heard) (s : StandbyView) (t : Step) (h : Passes nodes until begun before after told s t) where
-  pub passes_on : is_going t ≡ true → (images : List Image) → LeadsTail nodes (begun images) before after (GoesOn (asking until told (held images s)))
+  pub passes_on : is_going t ≡ true → (images : List Image) → LeadsTail nodes (begun images) before after (GoesOn (begin_asking until told (held images s)))
   passes_on e images =
       let x = h.stands images in
       subst (λ (y : TailStep). LeadsTail nodes (begun images) before after y) (stands_on x.here until told images s t x.is e) x.leads
@@ -190,7 +177,7 @@ pub passes_exact : (nodes : ℕ) (until : Option ℕ) (begun : List Image → Ta
 passes_exact nodes until begun before after told s t h end e = goes_exact until nodes told s.position t h.goes end e
 
 pub passes_begin : (nodes : ℕ) (until : Option ℕ) (calls : List PeerCall) (told : List Heard) (s : StandbyView) (t : Step) → 1 ≤ nodes → told ≡ [] → IsGoing until s.position t
-    → ((images : List Image) (work : Work) → IsStep (pass_begun until (working work (held images s))) until [] images s t) → Passes nodes until (λ images. pass_begun until (held images s)) calls calls told s t
+    → ((images : List Image) (work : Work) → IsStep (pass_begun until (with_work work (held images s))) until [] images s t) → Passes nodes until (λ images. pass_begun until (held images s)) calls calls told s t
 passes_begin nodes until calls told s t some e goes is = record {
   stands = λ images. record {
     here = pass_begun until (held images s);

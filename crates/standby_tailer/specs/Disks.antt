@@ -5,7 +5,7 @@ use Rattle.qj_disk.specs.Files.{Files}
 use Rattle.qj_disk.specs.declared.disk.DiskFail.{DiskFail}
 use Rattle.qj_disk.specs.declared.disk.DiskFail.TheVariants as fail
 use Rattle.ns_replay.specs.Replay.{Image}
-use Rattle.name_node.specs.Holding.{reloaded}
+use Rattle.name_node.specs.Holding.{reload_image}
 use Rattle.image_store.specs.Images.{Counts}
 use Rattle.image_store.specs.Answers.{IsNewest}
 use Rattle.image_store.specs.Loads.{LoadsAs, IsAnswer}
@@ -35,9 +35,9 @@ pub record HoldsImages (files : Files) (images : List Image) : Type 0 where
   pub loads : AllByRecursion (λ i. LoadsAs i.txid i.space files) images
 
 -- their txids, the newest last
-abbrev pub rising : List Image → List ℕ
-rising [] = []
-rising (i ∷ is) = rising is ++ i.txid ∷ []
+abbrev pub rising_txids : List Image → List ℕ
+rising_txids [] = []
+rising_txids (i ∷ is) = rising_txids is ++ i.txid ∷ []
 
 -- ## Opening
 abbrev pub opened_result : OpenedImage → Result (Unit {0}) DiskFail
@@ -83,8 +83,8 @@ OpensAs old new _ = new ≡ old
 
 -- Over a disk that holds these images: it is as a name node that reloads, and no image is bad.
 abbrev pub IsReloaded : List Image → StandbyView → StandbyView → OpenedImage → Type 0
-IsReloaded images old new (opened.Loaded txid) = held images new ≡ reloaded (held images old)
-IsReloaded images old new opened.Empty = held images new ≡ reloaded (held images old)
+IsReloaded images old new (opened.Loaded txid) = held images new ≡ reload_image (held images old)
+IsReloaded images old new opened.Empty = held images new ≡ reload_image (held images old)
 IsReloaded images old new (opened.DigestDiffers stored computed) = ⊥
 IsReloaded images old new (opened.BadImage place cause) = ⊥
 IsReloaded images old new opened.DiskFault = Unit {0}

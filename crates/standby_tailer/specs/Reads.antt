@@ -7,7 +7,7 @@ use Rattle.journal_core.specs.declared.peer_call.PeerCall.{PeerCall}
 use Rattle.name_node.specs.Holding.{Holding, Work, Free, Tails, Logs, Broken}
 use Rattle.name_node.specs.Tails.{TailStep, GoesOn, Ends, Breaks, tail_hears}
 
--- the read that comes next: of the edits behind the position, at the node that is asked next
+-- the read that comes next: of the edits after the position, at the node that is asked next
 abbrev pub read_of : Work → ℕ → Option (ℕ × Request)
 read_of (Tails until node told) position = Some (node, Read (position + 1))
 read_of Free position = None

@@ -7,7 +7,7 @@ use Rattle.journal_core.specs.declared.heard.Heard.TheVariants.{Answer}
 use Rattle.journal_core.specs.declared.reply.Reply.TheVariants as reply
 use Rattle.journal_core.specs.declared.peer_call.PeerCall.{PeerCall}
 use Rattle.ns_replay.specs.Replay.{Image, replay_from}
-use Rattle.name_node.specs.Holding.{Holding, Tails, Broken, working}
+use Rattle.name_node.specs.Holding.{Holding, Tails, Broken, with_work}
 use Rattle.name_node.specs.Tails.{TailStep, GoesOn, Ends, Breaks, Caught, Reached, PurgedFrom, BehindBy, without_end, is_not_here}
 use Rattle.standby_tailer.specs.declared.step.Step.{Step}
 use Rattle.standby_tailer.specs.declared.step.Step.TheVariants as step
@@ -17,8 +17,8 @@ use Rattle.standby_tailer.specs.Standbys.{StandbyView, held}
 use Rattle.standby_tailer.specs.Reads.{LeadsTail, next_read}
 
 -- a pass in which the first nodes told this: the next node is asked next
-abbrev pub asking : Option ℕ → List Heard → Holding → Holding
-asking until told h = working (Tails until (length told + 1) told) h
+abbrev pub begin_asking : Option ℕ → List Heard → Holding → Holding
+begin_asking until told h = with_work (Tails until (length told + 1) told) h
 
 -- The tail ended at this step, with this answer.
 abbrev pub IsEnd : TailStep → List Image → StandbyView → Tailed → Type 0
@@ -26,21 +26,21 @@ IsEnd x images s (tailed.Caught txid) = (x ≡ Ends Caught (held images s)) × (
 IsEnd x images s (tailed.Reached txid) = (x ≡ Ends Reached (held images s)) × (txid ≡ s.position)
 IsEnd x images s (tailed.Behind txid causes) = (x ≡ Ends (BehindBy causes) (held images s)) × (txid ≡ s.position)
 IsEnd x images s (tailed.Purged first) = x ≡ Ends (PurgedFrom first) (held images s)
-IsEnd x images s (tailed.BadEntry txid) = (x ≡ Breaks (working Broken (held images s))) × (txid ≡ s.position + 1)
+IsEnd x images s (tailed.BadEntry txid) = (x ≡ Breaks (with_work Broken (held images s))) × (txid ≡ s.position + 1)
 IsEnd x images s tailed.OutOfMemory = ⊥
 
 -- It stands at this step: it goes on, or it ended.
 abbrev pub IsStep : TailStep → Option ℕ → List Heard → List Image → StandbyView → Step → Type 0
-IsStep x until told images s step.Going = x ≡ GoesOn (asking until told (held images s))
+IsStep x until told images s step.Going = x ≡ GoesOn (begin_asking until told (held images s))
 IsStep x until told images s (step.Ended t) = IsEnd x images s t
 
--- it stands so behind these calls
+-- it stands so after these calls
 pub record StandsAt (nodes : ℕ) (begun : TailStep) (before after : List PeerCall) (until : Option ℕ) (told : List Heard) (images : List Image) (s : StandbyView) (t : Step) : Type 0 where
   pub here : TailStep
   pub leads : LeadsTail nodes begun before after here
   pub is : IsStep here until told images s t
 
--- ## Want of memory
+-- ## Lack of memory
 -- the edits that a call gave
 abbrev pub edits_in : Heard → List (List ℕ)
 edits_in (Answer (reply.Edits batch)) = batch.bodies
@@ -50,7 +50,7 @@ abbrev pub edits_given : Option PeerCall → List (List ℕ)
 edits_given None = []
 edits_given (Some c) = edits_in c.heard
 
--- Memory was wanting behind some reads, or while the last of them was taken: what was applied of it stays.
+-- Memory was wanting after some reads, or while the last of them was taken: what was applied of it stays.
 pub record StopsShort (nodes : ℕ) (begun : TailStep) (images : List Image) (before after : List PeerCall) (s : StandbyView) : Type 0 where
   pub mid : List PeerCall
   pub here : Holding

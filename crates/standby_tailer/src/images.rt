@@ -1,9 +1,9 @@
 // The images of a standby: it opens the newest one, and saves checkpoints.
-ghost use Rattle.std.specs.Prelude.{◌≡◌, ◌↔◌, ◌⊎◌, List, OnOk};
-ghost use Rattle.qj_disk.specs.Calls.{HasCause, Rests};
-ghost use Rattle.small_files.specs.Answers.{put_result};
+ghost use Rattle.std.specs.Prelude.{◌≡◌, ◌⊎◌, List, OnOk};
+ghost use Rattle.qj_disk.specs.Calls.{Rests};
+ghost use Rattle.qj_disk.specs.DiskCalls.{IfTold, IsDiskRun};
 ghost use Rattle.ns_replay.specs.Replay.{Image};
-ghost use Rattle.name_node.specs.Holding.{saved};
+ghost use Rattle.name_node.specs.Holding.{save_image};
 ghost use Rattle.image_store.specs.Loads.{IsWithin};
 ghost use Rattle.standby_tailer.specs.Standbys.{held};
 ghost use Rattle.standby_tailer.specs.Disks.{HoldsImages, opened_result, IsLoadedAt, IsTakenAs, IsOpened, OpensAs, IsReloaded};
@@ -13,7 +13,6 @@ use crate::standby::Standby;
 use image_store::{Loaded, Newest, load, newest, retain, save};
 use ns_tree::Namespace;
 use qj_disk::{Disk, DiskFail};
-use small_files::Put;
 use std::alloc::Global;
 
 impl Standby {
@@ -21,23 +20,22 @@ impl Standby {
     /// position 0. After a refusal it is as before. No file changes.
     #[tactic(auto, using(crate::proofs::DiskLaws::reload_of))]
     pub fn open<D: Disk>(&mut self, alloc: Global, images: &mut D) -> OpenedImage
-        ensures tells { D.tells images.old ↔ D.tells images.new }
+        ensures call { IsDiskRun D.DiskModel images.old images.new (opened_result result) }
         ensures opened { D.tells images.old → IsOpened (D.view images.old).seen self.new result }
-        ensures reloaded { D.tells images.old → (held : List Image) → HoldsImages (D.view images.old).seen held → IsReloaded held self.old self.new result }
+        ensures reloaded { D.tells images.old → (held : List Image)
+            → HoldsImages (D.view images.old).seen held → IsReloaded held self.old self.new result }
         ensures stands { OpensAs self.old self.new result }
-        ensures disk { D.tells images.old → Rests (D.view images.old) (D.view images.new) }
-        ensures cause { HasCause (D.faults images.old) (D.faults images.new) (D.steady images.old) (D.steady images.new) (opened_result result) }
+        ensures disk { IfTold D.DiskModel images.old images.new Rests }
     {
         self.open_newest(alloc, images)
     }
 
     /// The same, told of the files alone.
     fn open_newest<D: Disk>(&mut self, alloc: Global, images: &mut D) -> OpenedImage
-        ensures tells { D.tells images.old ↔ D.tells images.new }
+        ensures call { IsDiskRun D.DiskModel images.old images.new (opened_result result) }
         ensures opened { D.tells images.old → IsOpened (D.view images.old).seen self.new result }
         ensures stands { OpensAs self.old self.new result }
-        ensures disk { D.tells images.old → Rests (D.view images.old) (D.view images.new) }
-        ensures cause { HasCause (D.faults images.old) (D.faults images.new) (D.steady images.old) (D.steady images.new) (opened_result result) }
+        ensures disk { IfTold D.DiskModel images.old images.new Rests }
     {
         match newest(alloc, images) {
             Newest::Image { txid } => self.load(alloc, images, txid),
@@ -49,11 +47,11 @@ impl Standby {
 
     /// Takes the namespace and the position of the image of this txid.
     fn load<D: Disk>(&mut self, alloc: Global, images: &mut D, txid: u64) -> OpenedImage
-        ensures tells { D.tells images.old ↔ D.tells images.new }
-        ensures loaded { D.tells images.old → IsLoadedAt (D.view images.old).seen txid self.new result }
+        ensures call { IsDiskRun D.DiskModel images.old images.new (opened_result result) }
+        ensures loaded { D.tells images.old
+            → IsLoadedAt (D.view images.old).seen txid self.new result }
         ensures stands { OpensAs self.old self.new result }
-        ensures disk { D.tells images.old → Rests (D.view images.old) (D.view images.new) }
-        ensures cause { HasCause (D.faults images.old) (D.faults images.new) (D.steady images.old) (D.steady images.new) (opened_result result) }
+        ensures disk { IfTold D.DiskModel images.old images.new Rests }
     {
         match load(alloc, images, txid) {
             Ok(loaded) => self.become_loaded(alloc, loaded),
@@ -98,16 +96,12 @@ impl Standby {
     }
 
     /// Saves an image at the position, and then keeps the two newest images alone.
-    pub fn checkpoint<D: Disk>(&self, alloc: Global, images: &mut D) -> Put
-        ensures tells { D.tells images.old ↔ D.tells images.new }
+    pub fn checkpoint<D: Disk>(&self, alloc: Global, images: &mut D) -> Result<(), DiskFail>
+        ensures call { IsDiskRun D.DiskModel images.old images.new result }
         ensures saved { D.tells images.old → (before : List Image) → HoldsImages (D.view images.old).seen before
-            → OnOk (put_result result) (HoldsImages (D.view images.new).seen (saved (held before self.now)).images) }
-        ensures cause { HasCause (D.faults images.old) (D.faults images.new) (D.steady images.old) (D.steady images.new) (put_result result) }
+            → OnOk result (HoldsImages (D.view images.new).seen (save_image (held before self.now)).images) }
     {
-        match save(alloc, images, &self.namespace, self.position) {
-            Put::Done => retain(alloc, images, 2),
-            Put::DiskFault => Put::DiskFault,
-            Put::OutOfMemory => Put::OutOfMemory,
-        }
+        save(alloc, images, &self.namespace, self.position)?;
+        retain(alloc, images, 2)
     }
 }

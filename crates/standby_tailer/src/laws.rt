@@ -14,5 +14,7 @@ pub fn a_new_disk_holds_no_image()
 
 /// What the images on a disk tell of the first txid to keep is what a name node with these images keeps.
 pub fn images_tell_what_to_keep()
-    ensures { (files : Files) (images : List Image) (extra : ℕ) (answer : MinToKeep) → HoldsImages files images → IsKeptFrom files extra answer → IsMinOf (min_to_keep extra images) answer }
+    ensures { (files : Files) (images : List Image) (extra : ℕ) (answer : MinToKeep)
+        → HoldsImages files images → IsKeptFrom files extra answer
+        → IsMinOf (min_to_keep extra images) answer }
 {}

@@ -15,14 +15,14 @@ pub enum Step {
 
 impl Step {
     /// It goes on.
-    pub fn is_going(&self) -> bool
+    pub fn has_more_calls(&self) -> bool
         ensures { result ≡ is_going self.now }
     {
         matches!(self, Step::Going)
     }
 
     /// How it ended; only of a tail that doesn't go on.
-    pub fn ended(self) -> Tailed
+    pub fn end_tail(self) -> Tailed
         requires { is_going self ≡ false }
         ensures { self ≡ Step.Ended result }
     {

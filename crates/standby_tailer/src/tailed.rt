@@ -4,7 +4,7 @@ use writer_core::CauseList;
 /// What came of a tail. What was applied stays, whatever it is.
 #[derive(Drop)]
 pub enum Tailed {
-    /// No node has the edit behind this position, by a majority. Only a tail without an end comes to it.
+    /// No node has the edit after this position, by a majority. Only a tail without an end comes to it.
     Caught { txid: u64 },
     /// The position is the end of the tail.
     Reached { txid: u64 },

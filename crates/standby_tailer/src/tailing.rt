@@ -1,6 +1,6 @@
 // A standby reads the log.
 ghost use Rattle.std.specs.Option.{ForSome};
-ghost use Rattle.std.specs.Prelude.{◌≡◌, ◌≤◌, ◌<◌, ◌+◌, ◌++◌, ◌∷◌, [], List, true, false, Some, length, IfOk, OnErr, IfSome, MatchResult};
+ghost use Rattle.std.specs.Prelude.{◌≡◌, ◌≤◌, ◌<◌, ◌+◌, ◌++◌, ◌∷◌, [], List, true, false, length, IfOk, OnErr, IfSome, MatchResult};
 ghost use Rattle.journal_core.specs.Limits.{max_number};
 ghost use Rattle.journal_core.specs.Views.{last_txid};
 ghost use Rattle.journal_core.specs.Peers.{Lists, FitsHeard};
@@ -9,11 +9,11 @@ ghost use Rattle.journal_core.specs.declared.heard.Heard.TheVariants as hearing;
 ghost use Rattle.journal_core.specs.declared.reply.Reply.TheVariants as replies;
 ghost use Rattle.journal_core.specs.declared.peer_call.PeerCall.{PeerCall};
 ghost use Rattle.ns_replay.specs.Replay.{Image, applied};
-ghost use Rattle.name_node.specs.Holding.{Work, working};
+ghost use Rattle.name_node.specs.Holding.{Work, with_work};
 ghost use Rattle.name_node.specs.Tails.{TailStep, Ends, GoesOn, pass_begun, pass_end, tail_hears, is_until, up_to, after_applied, no_edits};
 ghost use Rattle.standby_tailer.specs.Standbys.{held};
 ghost use Rattle.standby_tailer.specs.Reads.{LeadsTail};
-ghost use Rattle.standby_tailer.specs.Tailing.{asking, gives_edits, edits_in, IsEnd, IsStep, StandsAt, IsPart, IsGoing, Goes, IsMore, IsLater, IsExact, tail_left, IsTailed, StopsShort, TailEnds};
+ghost use Rattle.standby_tailer.specs.Tailing.{begin_asking, gives_edits, edits_in, IsEnd, IsStep, StandsAt, IsPart, IsGoing, Goes, IsMore, IsLater, IsExact, tail_left, IsTailed, StopsShort, TailEnds};
 
 use crate::passes::{is_caught, is_end, least_purged, read_causes};
 use crate::standby::Standby;
@@ -33,7 +33,7 @@ fn edits_of(heard: Heard) -> Result<Batch, Heard>
     }
 }
 
-/// No edit past the end of the tail, of a batch from behind the position on.
+/// No edit past the end of the tail, of a batch from after the position on.
 fn cut(until: Option<u64>, position: u64, batch: Batch) -> Batch
     requires until { ForSome until (λ last. position < last) }
     ensures { result ≡ record { first = batch.first; bodies = up_to until position batch.bodies } }
@@ -48,7 +48,7 @@ fn cut(until: Option<u64>, position: u64, batch: Batch) -> Batch
 }
 
 impl Standby {
-    /// Reads the log and applies what is read: asks nodes 1 to N in order for the edit behind the position
+    /// Reads the log and applies what is read: asks nodes 1 to N in order for the edit after the position
     /// until one gives edits, applies them, and begins again at node 1. The pass in which no node gives any
     /// ends the tail. With an end, no edit past it is applied.
     pub fn tail<P: Peers>(&mut self, alloc: Global, peers: &mut P, until: Option<u64>) -> Tailed
@@ -84,10 +84,10 @@ impl Standby {
     {
         let mut told = Vec::new(alloc);
         let mut step = self.begin_pass(until);
-        while step.is_going() {
+        while step.has_more_calls() {
             step = self.ask(alloc, peers, until, &mut told)?;
         }
-        Ok(step.ended())
+        Ok(step.end_tail())
     }
 
     /// A pass of a tail begins, unless its end, at or above the position, is reached. A caller that makes the
@@ -96,7 +96,8 @@ impl Standby {
     pub fn begin_pass(&self, until: Option<u64>) -> Step
         requires { ForSome until (λ last. self.now.position ≤ last) }
         ensures going { IsGoing until self.now.position result }
-        ensures step { (images : List Image) (work : Work) → IsStep (pass_begun until (working work (held images self.now))) until [] images self.now result }
+        ensures step { (images : List Image) (work : Work)
+            → IsStep (pass_begun until (with_work work (held images self.now))) until [] images self.now result }
     {
         if is_end(until, self.position) {
             return Step::Ended(Tailed::Reached {
@@ -117,12 +118,12 @@ impl Standby {
         requires some { length told.old.items < P.nodes peers.old }
         requires until { ForSome until (λ last. self.old.position < last) }
         ensures ok { IfOk result (λ step. (images : List Image) (begun : TailStep) (before : List PeerCall)
-            → LeadsTail (P.nodes peers.old) begun before (P.calls peers.old) (GoesOn (asking until told.old.items (held images self.old)))
+            → LeadsTail (P.nodes peers.old) begun before (P.calls peers.old) (GoesOn (begin_asking until told.old.items (held images self.old)))
             → StandsAt (P.nodes peers.old) begun before (P.calls peers.new) until told.new.items images self.new step) }
         ensures goes { IfOk result (λ step. Goes until (P.nodes peers.old) told.new.items self.new.position step) }
         ensures fewer { IfOk result (λ step. tail_left (P.nodes peers.old) told.new.items self.new.position step < tail_left (P.nodes peers.old) told.old.items self.old.position Step.Going) }
         ensures err { OnErr result ((images : List Image) (begun : TailStep) (before : List PeerCall)
-            → LeadsTail (P.nodes peers.old) begun before (P.calls peers.old) (GoesOn (asking until told.old.items (held images self.old)))
+            → LeadsTail (P.nodes peers.old) begun before (P.calls peers.old) (GoesOn (begin_asking until told.old.items (held images self.old)))
             → StopsShort (P.nodes peers.old) begun images before (P.calls peers.new) self.new) }
         ensures nodes { P.nodes peers.new ≡ P.nodes peers.old }
     {
@@ -130,7 +131,7 @@ impl Standby {
         self.hear(alloc, peers.nodes(), until, told, heard)
     }
 
-    /// What is heard of a read of the edits behind the position, at this node.
+    /// What is heard of a read of the edits after the position, at this node.
     fn read_next<P: Peers>(
         &self,
         alloc: Global,
@@ -149,7 +150,7 @@ impl Standby {
     }
 
     /// Takes what was heard of the next node, of `nodes`: the one after those that `told` something in this
-    /// pass, which was asked for the edits behind the position. `told` is then what was told in the pass that
+    /// pass, which was asked for the edits after the position. `told` is then what was told in the pass that
     /// goes on. `OutOfMemory` leaves what was applied so far; the tail is over.
     pub fn hear(
         &mut self,
@@ -163,7 +164,7 @@ impl Standby {
         requires until { ForSome until (λ last. self.old.position < last) }
         requires fits { FitsHeard (request.Read (self.old.position + 1)) heard }
         ensures ok { IfOk result (λ step. (images : List Image)
-            → IsStep (tail_hears nodes until (length told.old.items + 1) told.old.items heard (asking until told.old.items (held images self.old))) until told.new.items images self.new step) }
+            → IsStep (tail_hears nodes until (length told.old.items + 1) told.old.items heard (begin_asking until told.old.items (held images self.old))) until told.new.items images self.new step) }
         ensures goes { IfOk result (λ step. Goes until nodes told.new.items self.new.position step) }
         ensures fewer { IfOk result (λ step. tail_left nodes told.new.items self.new.position step < tail_left nodes told.old.items self.old.position Step.Going) }
         ensures err { OnErr result (IsPart (edits_in heard) self.old self.new) }
@@ -183,7 +184,7 @@ impl Standby {
         requires first { batch.first ≡ self.old.position + 1 }
         requires last { last_txid batch ≤ max_number }
         ensures ok { IfOk result (λ step. (images : List Image) (work : Work)
-            → IsStep (after_applied until (applied self.old.position (up_to until self.old.position batch.bodies) self.old.space) (working work (held images self.old))) until [] images self.new step) }
+            → IsStep (after_applied until (applied self.old.position (up_to until self.old.position batch.bodies) self.old.space) (with_work work (held images self.old))) until [] images self.new step) }
         ensures goes { IfOk result (λ step. IsGoing until self.new.position step) }
         ensures later { IfOk result (λ step. (step ≡ Step.Going) → IsLater self.old.position self.new.position) }
         ensures err { OnErr result (IsPart batch.bodies self.old self.new) }
@@ -217,7 +218,7 @@ impl Standby {
         requires some { length told.old.items < nodes }
         requires until { ForSome until (λ last. self.now.position < last) }
         ensures ok { IfOk result (λ step. (images : List Image) (work : Work)
-            → IsStep (no_edits nodes until (length told.old.items + 1) (told.old.items ++ heard ∷ []) (working work (held images self.now))) until told.new.items images self.now step) }
+            → IsStep (no_edits nodes until (length told.old.items + 1) (told.old.items ++ heard ∷ []) (with_work work (held images self.now))) until told.new.items images self.now step) }
         ensures going { IfOk result (λ step. IsGoing until self.now.position step) }
         ensures more { IfOk result (λ step. IsMore nodes (length told.old.items) (length told.new.items) step) }
     {

@@ -20,12 +20,12 @@ use Rattle.caller_seats.specs.Logs.{LogView}
 use Rattle.gate_seats.specs.Seated.{Seat}
 use Rattle.gate_seats.specs.Gates.{row_at, IsLeft}
 use Rattle.gate_seats.proofs.GateLaws.{element}
-use Rattle.script_actor.specs.Lines.{Line, ArePlayable, declared, deeds_of, operations_in}
+use Rattle.script_actor.specs.Lines.{Line, ArePlayable, count_actors, actions_of, operations_in}
 use Rattle.cluster_runner.specs.Follows.{AreOperations}
 use Rattle.cluster_runner.proofs.ChoresMade.{chores_made}
-use Rattle.thread_runner.specs.Threads.{DoesLines, HasOperated, FollowsDeeds}
+use Rattle.thread_runner.specs.Threads.{DoesLines, HasOperated, FollowsActions}
 use Rattle.thread_runner.specs.Gathered.{CallerLeaves, AreGathered, IsRunOf, last_in}
-use Rattle.cluster_runner.proofs.PlayableDeeds.{playable_deeds}
+use Rattle.cluster_runner.proofs.PlayableActions.{playable_actions}
 
 le_cases : (c d : ℕ) → c ≤ d → (c < d) ⊎ (c ≡ d)
 le_cases c d l = elim (eqb_tells c d) [ inl e ↦ inr e.1 | inr e ↦ inl (lt_of_le-ne l e.1) ]
@@ -60,10 +60,10 @@ module _ (named : Bool) (n operator c : ℕ) (lines : List Line) (tables : List 
       let e = seats_long in
       subst (λ r. AreSame (reached (i + 1) r) (get_or seats i d).own) past (h.does.5.same h.does.1 i d (omega (arith, l, e)))
 
-  pub its_follows : c < operator → FollowsDeeds named n (deeds_of c lines) rs plan last
+  pub its_follows : c < operator → FollowsActions named n (actions_of c lines) rs plan last
   its_follows l =
-      let f : FollowsDeeds named n (deeds_of c lines) log.past log.marks last = subst (λ b. DoesLines named b n c lines log last) (other_test c operator (λ e. omega (arith, l, e))) does in
-      subst (λ r. FollowsDeeds named n (deeds_of c lines) r plan last) past (subst (λ m. FollowsDeeds named n (deeds_of c lines) log.past m last) marks f)
+      let f : FollowsActions named n (actions_of c lines) log.past log.marks last = subst (λ b. DoesLines named b n c lines log last) (other_test c operator (λ e. omega (arith, l, e))) does in
+      subst (λ r. FollowsActions named n (actions_of c lines) r plan last) past (subst (λ m. FollowsActions named n (actions_of c lines) log.past m last) marks f)
 
   pub its_operations : c ≡ operator → HasOperated lines rs
   its_operations e = subst (HasOperated lines) past (subst (λ b. DoesLines named b n c lines log last) (same_test c operator e) does)
@@ -82,9 +82,9 @@ node_same columns i c d rs hs l left same =
 -- ## All
 module _ (named : Bool) (nodes : ℕ) (lines : List Line) (m : Mesh) (ends : List End) (playable : ArePlayable named nodes 0 lines) (g : AreGathered named nodes lines m ends) where
   abbrev actors : ℕ
-  actors = declared lines
+  actors = count_actors lines
 
-  actor : (c : ℕ) → c < actors → FollowsDeeds named nodes (deeds_of c lines) (record_of m c) (plan_of m c) (last_in ends c)
+  actor : (c : ℕ) → c < actors → FollowsActions named nodes (actions_of c lines) (record_of m c) (plan_of m c) (last_in ends c)
   actor c l = its_follows named nodes actors c lines g.tables (get_or g.columns c []) (record_of m c) (plan_of m c) (last_in ends c) (g.actors c l) l
 
   operator : HasOperated lines (record_of m actors)
@@ -128,7 +128,7 @@ module _ (named : Bool) (nodes : ℕ) (lines : List Line) (m : Mesh) (ends : Lis
       }
 
   made : (c : ℕ) → c < actors → IsOfChores nodes (record_of m c)
-  made c l = chores_made named nodes (deeds_of c lines) (record_of m c) (playable_deeds named nodes 0 lines playable c) (actor c l (record { name = []; last = last_in ends c }) refl).led
+  made c l = chores_made named nodes (actions_of c lines) (record_of m c) (playable_actions named nodes 0 lines playable c) (actor c l (record { name = []; last = last_in ends c }) refl).led
 
   pub assembled : IsRunOf named nodes lines m ends
   assembled =

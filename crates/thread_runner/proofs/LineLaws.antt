@@ -5,8 +5,8 @@ use Rattle.script_text.specs.declared.script_line.ScriptLine.{ScriptLine}
 use Rattle.script_text.specs.declared.script_line.ScriptLine.TheVariants as line
 use Rattle.edit_ops.specs.Records.{EditView}
 use Rattle.writer_core.specs.declared.task.Task.TheVariants as task
-use Rattle.script_actor.specs.Lines.{Does, Submits, line_of, ArePlayable, AreInRange, IsDeed}
-use Rattle.script_actor.specs.Deeds.{MayCome}
+use Rattle.script_actor.specs.Lines.{Does, Submits, line_of, ArePlayable, AreInRange, IsAction}
+use Rattle.script_actor.specs.Actions.{MayCome}
 use Rattle.cluster_runner.proofs.PlayLaws.{names_may}
 
 no_lines : (named : Bool) (n : ℕ) → All (MayCome named n) []
@@ -17,15 +17,15 @@ one_line named n x ls h t zero d l = h
 one_line named n x ls h t (suc k) d l = t k d (omega (arith, l))
 
 -- ## What belongs to scripts with names or without
-raw_log : (named : Bool) (bodies : List (List ℕ)) → IsDeed named (Does (task.Log bodies)) → (named ≡ false) × (bodies ≢ [])
+raw_log : (named : Bool) (bodies : List (List ℕ)) → IsAction named (Does (task.Log bodies)) → (named ≡ false) × (bodies ≢ [])
 raw_log false bodies h = (refl, h)
 raw_log true bodies h = absurd h
 
-raw_purge : (named : Bool) (min : ℕ) → IsDeed named (Does (task.Purge min)) → named ≡ false
+raw_purge : (named : Bool) (min : ℕ) → IsAction named (Does (task.Purge min)) → named ≡ false
 raw_purge false min h = refl
 raw_purge true min h = absurd h
 
-some_edits : (named : Bool) (edits : List EditView) → IsDeed named (Submits edits) → (named ≡ true) × (edits ≢ [])
+some_edits : (named : Bool) (edits : List EditView) → IsAction named (Submits edits) → (named ≡ true) × (edits ≢ [])
 some_edits true edits h = (refl, h.0)
 some_edits false edits h = absurd h
 

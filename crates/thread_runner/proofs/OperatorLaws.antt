@@ -20,9 +20,9 @@ unfolding operations_in
 operated_more ls (Declares name) old new h e =
     subst (λ x. HasOperated (ls ++ Declares name ∷ []) x) (sym e)
     (record { operations = subst (λ os. AreOperations os old) (sym (operations_append ls (Declares name ∷ []) ∙ append-nil (operations_in ls))) h.operations; operates = h.operates })
-operated_more ls (Acts actor deed) old new h e =
-    subst (λ x. HasOperated (ls ++ Acts actor deed ∷ []) x) (sym e)
-    (record { operations = subst (λ os. AreOperations os old) (sym (operations_append ls (Acts actor deed ∷ []) ∙ append-nil (operations_in ls))) h.operations; operates = h.operates })
+operated_more ls (Acts actor action) old new h e =
+    subst (λ x. HasOperated (ls ++ Acts actor action ∷ []) x) (sym e)
+    (record { operations = subst (λ os. AreOperations os old) (sym (operations_append ls (Acts actor action ∷ []) ∙ append-nil (operations_in ls))) h.operations; operates = h.operates })
 operated_more ls (Operates node ask) old new h e =
     subst (λ x. HasOperated (ls ++ Operates node ask ∷ []) x) (sym e.1.1)
     (record {
@@ -36,8 +36,5 @@ operated_first items past e = nothing_operated past e
 pub operated_next : (items : List ScriptLine) (i : ℕ) (x : ScriptLine) (old new : List Record) → i < length items → x ≡ get_or items i x → HasOperated (map line_of (take i items)) old
     → OperatesOn (line_of x) old new → HasOperated (map line_of (take (i + 1) items)) new
 operated_next items i x old new h e done more = subst (λ ls. HasOperated ls new) (sym (lines_next items i x h e)) (operated_more (map line_of (take i items)) (line_of x) old new done more)
-
-pub operated_last : (items : List ScriptLine) (i : ℕ) (past : List Record) → i ≡ length items → HasOperated (map line_of (take i items)) past → HasOperated (map line_of items) past
-operated_last items i past e h = subst (λ l. HasOperated (map line_of l) past) (take_all items i e) h
 
 pub ruleset operators = (later_same, later_on)

@@ -18,8 +18,8 @@ use Rattle.caller_seats.specs.Logs.{new_log}
 use Rattle.gate_seats.specs.Seated.{Seat, AreSeated}
 use Rattle.gate_seats.specs.Gates.{fresh_seat, fresh_columns, row_at, AreOf, IsLeft}
 use Rattle.gate_seats.proofs.GateLaws.{element}
-use Rattle.script_actor.specs.Deeds.{MayCome}
-use Rattle.script_actor.specs.Lines.{Line, declared, names_in}
+use Rattle.script_actor.specs.Actions.{MayCome}
+use Rattle.script_actor.specs.Lines.{Line, count_actors, names_in}
 use Rattle.mesh.proofs.Lists.{same_test}
 use Rattle.thread_runner.specs.Threads.{DoesLines, HasOperated}
 use Rattle.thread_runner.specs.Gathered.{MayAct, CallerLeaves, AreGathered, numbered_from, last_in}
@@ -146,7 +146,7 @@ module _ {S E : Type 0} (named : Bool) (shown : S → List Seat) (n operator : �
         let s : AreSeated c ts (leaves_at c d (omega (arith, l, k))).does.0 (get_or (map shown seats) c d) = (leaves_at c d (omega (arith, l, k))).does.5 in
         record { gates = s.gates; callers = s.callers }
 
-    pub gathered : (m : Mesh) (ends : List End) (rest : List (List Mark)) (held : List (Option LastSpace)) → operator ≡ declared lines → length columns ≡ operator + 1 → m.nodes ≡ n → length m.histories ≡ n → m.records ≡ records → rest ≡ take (length plans - 1) plans → m.plan ≡ rest
+    pub gathered : (m : Mesh) (ends : List End) (rest : List (List Mark)) (held : List (Option LastSpace)) → operator ≡ count_actors lines → length columns ≡ operator + 1 → m.nodes ≡ n → length m.histories ≡ n → m.records ≡ records → rest ≡ take (length plans - 1) plans → m.plan ≡ rest
         → map (λ e. e.name) ends ≡ names_in lines → held ≡ take (length lasts - 1) lasts → map (λ e. e.last) ends ≡ held → ((d : Seat) → AllAt (λ i h. IsLeft (row_at i d (map shown seats)) h) m.histories) → AreGathered named n lines m ends
     gathered m ends rest held op many nodes histories recs less plan names fewer its left =
         let p : length plans ≡ operator + 1 = plans_long ∙ many in

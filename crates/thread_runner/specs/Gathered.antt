@@ -14,8 +14,8 @@ use Rattle.script_text.specs.declared.script_line.ScriptLine.{ScriptLine}
 use Rattle.caller_seats.specs.Logs.{LogView, new_log}
 use Rattle.gate_seats.specs.Seated.{Seat, AreSeated}
 use Rattle.gate_seats.specs.Gates.{row_at, IsLeft}
-use Rattle.script_actor.specs.Deeds.{MayCome}
-use Rattle.script_actor.specs.Lines.{Line, ArePlayable, declared, names_in}
+use Rattle.script_actor.specs.Actions.{MayCome}
+use Rattle.script_actor.specs.Lines.{Line, ArePlayable, count_actors, names_in}
 use Rattle.cluster_runner.specs.Follows.{FollowsLines}
 use Rattle.thread_runner.specs.Threads.{DoesLines}
 
@@ -49,17 +49,17 @@ last_in ends c = (slice_index_or ends c (record { name = []; last = None })).las
 pub record AreGathered (named : Bool) (nodes : ℕ) (lines : List Line) (m : Mesh) (ends : List End) : Type 0 where
   pub nodes_are : m.nodes ≡ nodes
   pub histories : length m.histories ≡ nodes
-  pub records : length m.records ≡ declared lines + 1
-  pub plan : length m.plan ≡ declared lines
+  pub records : length m.records ≡ count_actors lines + 1
+  pub plan : length m.plan ≡ count_actors lines
   pub names : map (λ e. e.name) ends ≡ names_in lines
   pub tables : List TableId
   -- each caller's seats
   pub columns : List (List Seat)
-  pub callers : length columns ≡ declared lines + 1
+  pub callers : length columns ≡ count_actors lines + 1
   -- the operator's marks, which are no actor's
   pub last : List Mark
-  pub actors : (c : ℕ) → c < declared lines → CallerLeaves named nodes (declared lines) c lines tables (slice_index_or columns c []) (record_of m c) (plan_of m c) (last_in ends c)
-  pub operator : CallerLeaves named nodes (declared lines) (declared lines) lines tables (slice_index_or columns (declared lines) []) (record_of m (declared lines)) last None
+  pub actors : (c : ℕ) → c < count_actors lines → CallerLeaves named nodes (count_actors lines) c lines tables (slice_index_or columns c []) (record_of m c) (plan_of m c) (last_in ends c)
+  pub operator : CallerLeaves named nodes (count_actors lines) (count_actors lines) lines tables (slice_index_or columns (count_actors lines) []) (record_of m (count_actors lines)) last None
   pub at_nodes : (i : ℕ) (d : Seat) → i < nodes → IsLeft (row_at i d columns) (history_at m i)
 
 -- whatever the schedule was
@@ -67,5 +67,5 @@ pub record IsRunOf (named : Bool) (nodes : ℕ) (lines : List Line) (m : Mesh) (
   pub agrees : Agrees m
   pub follows : FollowsLines named nodes lines m ends
 
-abbrev pub Assembled : Type 0
-Assembled = (named : Bool) → (nodes : ℕ) → (lines : List Line) → (m : Mesh) → (ends : List End) → ArePlayable named nodes 0 lines → AreGathered named nodes lines m ends → IsRunOf named nodes lines m ends
+abbrev pub GatheredListsAgree : Type 0
+GatheredListsAgree = (named : Bool) → (nodes : ℕ) → (lines : List Line) → (m : Mesh) → (ends : List End) → ArePlayable named nodes 0 lines → AreGathered named nodes lines m ends → IsRunOf named nodes lines m ends

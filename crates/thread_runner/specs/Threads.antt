@@ -7,32 +7,32 @@ use Rattle.ns_tree.specs.declared.end.End.{End}
 use Rattle.ns_tree.specs.declared.end.LastSpace.{LastSpace}
 use Rattle.mesh.specs.Makers.{IsOperation, IsOperators}
 use Rattle.caller_seats.specs.Logs.{LogView}
-use Rattle.script_actor.specs.Lines.{Deed, Line, Declares, Acts, Operates, deeds_of, operations_in}
+use Rattle.script_actor.specs.Lines.{Action, Line, Declares, Acts, Operates, actions_of, operations_in}
 use Rattle.cluster_runner.specs.Follows.{actor_with, Follows, AreOperations}
 use Rattle.script_actor.specs.KeptActor.{KeptActor, resting}
-use Rattle.script_actor.specs.Deeds.{LedTo, IsIdleActor, TakesIf}
+use Rattle.script_actor.specs.Actions.{LedTo, IsIdleActor, TakesIf}
 
 -- ## An actor
 -- the line is this actor's
-abbrev pub is_by : ℕ → Option (ℕ × Deed) → Bool
+abbrev pub is_by : ℕ → Option (ℕ × Action) → Bool
 is_by c None = false
 is_by c (Some d) = d.0 == c
 
--- the deed was taken, if it is this actor's
-abbrev pub TakesOwn : Bool → ℕ → Option (ℕ × Deed) → KeptActor → KeptActor → Type 0
+-- the action was taken, if it is this actor's
+abbrev pub TakesOwn : Bool → ℕ → Option (ℕ × Action) → KeptActor → KeptActor → Type 0
 TakesOwn true nodes d old new = TakesIf nodes d old new
 TakesOwn false nodes d old new = new ≡ old
 
--- these deeds were taken, from the beginning on
-pub record HasDone (named : Bool) (nodes : ℕ) (deeds : List Deed) (k : KeptActor) : Type 0 where
+-- these actions were taken, from the beginning on
+pub record HasDone (named : Bool) (nodes : ℕ) (actions : List Action) (k : KeptActor) : Type 0 where
   pub idle : IsIdleActor nodes k
-  pub leads : LedTo (actor_with named nodes deeds) (resting k)
+  pub leads : LedTo (actor_with named nodes actions) (resting k)
 
 -- ## The operator
 -- what it lists of a line
 abbrev pub OperatesOn : Line → List Record → List Record → Type 0
 OperatesOn (Declares name) old new = new ≡ old
-OperatesOn (Acts actor deed) old new = new ≡ old
+OperatesOn (Acts actor action) old new = new ≡ old
 OperatesOn (Operates node ask) old new = IsOperation ask × ((done : Bool) × (new ≡ old ++ Operator node ask done ∷ []))
 
 -- these lines' operations were done, from the beginning on
@@ -41,11 +41,11 @@ pub record HasOperated (lines : List Line) (past : List Record) : Type 0 where
   pub operates : IsOperators past
 
 -- ## A caller: the operator, or an actor
--- an actor does its deeds, and holds this at last; its end has its name beside it
-abbrev pub FollowsDeeds : Bool → ℕ → List Deed → List Record → List Mark → Option LastSpace → Type 0
-FollowsDeeds named nodes deeds rs plan last = (e : End) → e.last ≡ last → Follows named nodes deeds rs plan e
+-- an actor does its actions, and holds this at last; its end has its name beside it
+abbrev pub FollowsActions : Bool → ℕ → List Action → List Record → List Mark → Option LastSpace → Type 0
+FollowsActions named nodes actions rs plan last = (e : End) → e.last ≡ last → Follows named nodes actions rs plan e
 
 -- in a script with names or without, by the operator or by an actor
 abbrev pub DoesLines : Bool → Bool → ℕ → ℕ → List Line → LogView → Option LastSpace → Type 0
 DoesLines named true nodes caller lines log last = HasOperated lines log.past
-DoesLines named false nodes caller lines log last = FollowsDeeds named nodes (deeds_of caller lines) log.past log.marks last
+DoesLines named false nodes caller lines log last = FollowsActions named nodes (actions_of caller lines) log.past log.marks last

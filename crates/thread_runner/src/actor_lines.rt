@@ -2,9 +2,9 @@
 ghost use Rattle.std.specs.List.{All};
 ghost use Rattle.std.specs.Prelude.{◌≡◌, ◌≤◌, map, true, OnOk, IfOk};
 ghost use Rattle.caller_seats.specs.Logs.{new_log};
-ghost use Rattle.script_actor.specs.Lines.{deeds_of, line_of};
-ghost use Rattle.script_actor.specs.Deeds.{kept_by, new_actor_view, has_names, deed_of, IsIdleActor, MayCome};
-ghost use Rattle.thread_runner.specs.Threads.{is_by, TakesOwn, HasDone, FollowsDeeds};
+ghost use Rattle.script_actor.specs.Lines.{actions_of, line_of};
+ghost use Rattle.script_actor.specs.Actions.{kept_by, new_actor_view, has_names, action_of, IsIdleActor, MayCome};
+ghost use Rattle.thread_runner.specs.Threads.{is_by, TakesOwn, HasDone, FollowsActions};
 
 use caller_seats::Seats;
 use journal_core::OutOfMemory;
@@ -15,7 +15,7 @@ use std::alloc::Global;
 
 /// Whether the line is this actor's.
 fn is_by(line: &ScriptLine, actor: u32) -> bool
-    ensures { result ≡ is_by actor (deed_of (line_of line.now)) }
+    ensures { result ≡ is_by actor (action_of (line_of line.now)) }
 {
     match line {
         ScriptLine::Takeover { actor: by } => *by == actor,
@@ -48,7 +48,7 @@ fn take_own<S: Seats>(
 ) -> Result<(), OutOfMemory>
     requires idle { IsIdleActor (S.log seats.old).nodes (kept_by by.old (S.log seats.old)) }
     requires may { MayCome (has_names by.old) (S.log seats.old).nodes line.now }
-    ensures takes { OnOk result (TakesOwn (is_by actor (deed_of (line_of line.now))) (S.log seats.old).nodes (deed_of (line_of line.now)) (kept_by by.old (S.log seats.old)) (kept_by by.new (S.log seats.new))) }
+    ensures takes { OnOk result (TakesOwn (is_by actor (action_of (line_of line.now))) (S.log seats.old).nodes (action_of (line_of line.now)) (kept_by by.old (S.log seats.old)) (kept_by by.new (S.log seats.new))) }
     ensures named { OnOk result (has_names by.new ≡ has_names by.old) }
     ensures later { OnOk result (S.later seats.old seats.new) }
 {
@@ -71,7 +71,7 @@ fn act<S: Seats>(
     requires new { by.old ≡ new_actor_view (has_names by.old) (S.log seats.old).nodes }
     requires log { S.log seats.old ≡ new_log (S.log seats.old).nodes true }
     requires may { All (MayCome (has_names by.old) (S.log seats.old).nodes) lines.now }
-    ensures done { OnOk result (HasDone (has_names by.old) (S.log seats.old).nodes (deeds_of actor (map line_of lines.now)) (kept_by by.new (S.log seats.new))) }
+    ensures done { OnOk result (HasDone (has_names by.old) (S.log seats.old).nodes (actions_of actor (map line_of lines.now)) (kept_by by.new (S.log seats.new))) }
     ensures later { OnOk result (S.later seats.old seats.new) }
 {
     for line in lines {
@@ -92,7 +92,7 @@ pub fn act_alone<S: Seats>(
     requires some { 1 ≤ (S.log seats.old).nodes }
     requires log { S.log seats.old ≡ new_log (S.log seats.old).nodes true }
     requires may { All (MayCome named (S.log seats.old).nodes) lines.now }
-    ensures follows { IfOk result (λ last. FollowsDeeds named (S.log seats.old).nodes (deeds_of actor (map line_of lines.now)) (S.log seats.new).past (S.log seats.new).marks last) }
+    ensures follows { IfOk result (λ last. FollowsActions named (S.log seats.old).nodes (actions_of actor (map line_of lines.now)) (S.log seats.new).past (S.log seats.new).marks last) }
     ensures later { OnOk result (S.later seats.old seats.new) }
 {
     let mut by = ScriptActor::new(alloc, named, seats.nodes())?;

@@ -4,7 +4,7 @@ ghost use Rattle.std.specs.Prelude.{◌≡◌, ◌≤◌, ◌==◌, map, length,
 ghost use Rattle.caller_seats.specs.Logs.{new_log};
 ghost use Rattle.gate_seats.specs.Seated.{seat_of, AreSeated, AreLater};
 ghost use Rattle.script_actor.specs.Lines.{line_of};
-ghost use Rattle.script_actor.specs.Deeds.{MayCome};
+ghost use Rattle.script_actor.specs.Actions.{MayCome};
 ghost use Rattle.thread_runner.specs.Threads.{DoesLines};
 ghost use Rattle.thread_runner.specs.Gathered.{CallerLeaves};
 

@@ -4,7 +4,7 @@ ghost use Rattle.std.specs.Prelude.{◌≡◌, map, true, OnOk};
 ghost use Rattle.caller_seats.specs.Logs.{new_log};
 ghost use Rattle.gate_seats.specs.Seated.{AreLater};
 ghost use Rattle.script_actor.specs.Lines.{line_of};
-ghost use Rattle.script_actor.specs.Deeds.{MayCome};
+ghost use Rattle.script_actor.specs.Actions.{MayCome};
 ghost use Rattle.thread_runner.specs.Threads.{OperatesOn, HasOperated};
 
 use gate_seats::{GateSeats, NodeGate, Pass};

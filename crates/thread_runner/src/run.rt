@@ -2,9 +2,9 @@
 ghost use Rattle.std.specs.List.{All};
 ghost use Rattle.std.specs.Prelude.{◌≡◌, ◌<◌, ◌+◌, ◌-◌, ◌^◌, Some, map, take, length, IfOk};
 ghost use Rattle.journal_core.specs.Step.{fresh_state};
-ghost use Rattle.cluster_runner.specs.Kept.{states_behind};
+ghost use Rattle.cluster_runner.specs.Kept.{states_after};
 ghost use Rattle.script_actor.specs.Lines.{lines_of, IsPlayable, NumbersFit};
-ghost use Rattle.thread_runner.specs.Gathered.{Assembled, IsRunOf};
+ghost use Rattle.thread_runner.specs.Gathered.{GatheredListsAgree, IsRunOf};
 
 use crate::ends::ends_in;
 use crate::threads::{jobs_of, side_by_side, take_all};
@@ -20,7 +20,7 @@ use std::thread::Threads;
 
 /// What the threads of all callers and the gates of all nodes leave, whatever the schedule was, is a mesh that agrees and follows.
 pub fn gathered_lists_agree()
-    ensures { Assembled }
+    ensures { GatheredListsAgree }
 {}
 
 /// The actors and the operator. `OutOfMemory` where they are 2^32 or more, whose threads no memory holds.
@@ -71,7 +71,7 @@ pub fn run_on<R: Threads + Wait + Sync, N: CutNode + Drop + Send, G: Pass + Sync
     requires fresh { All (λ n. N.state n ≡ Some fresh_state) nodes.items }
     requires steady { All (λ n. N.steady n) nodes.items }
     ensures run { IfOk result (λ played. IsRunOf script.now.named script.now.nodes (lines_of script.now) played.mesh played.ends) }
-    ensures states { IfOk result (λ played. map (λ n. N.state n) played.nodes.items ≡ states_behind played.mesh.histories) }
+    ensures states { IfOk result (λ played. map (λ n. N.state n) played.nodes.items ≡ states_after played.mesh.histories) }
     ensures steady { IfOk result (λ played. All (λ n. N.steady n) played.nodes.items) }
 {
     let lines = script.lines();

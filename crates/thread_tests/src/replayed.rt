@@ -1,5 +1,6 @@
 // The epoch order of a run, taken by fresh nodes.
-use journal_core::{Node, NodeState, PlainNode, Segment};
+use journal_core::{Node, NodeState, Segment};
+use memory_node::PlainNode;
 use node_history::{Event, Fate};
 use std::alloc::Global;
 

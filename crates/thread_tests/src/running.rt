@@ -3,7 +3,7 @@ ghost use Rattle.script_text.specs.Grammar.{IsScript};
 
 use cluster_runner::{Played, plain_nodes, play, scripts_are_playable};
 use gate_seats::Pass;
-use journal_core::PlainNode;
+use memory_node::PlainNode;
 use mesh_agreement::agrees;
 use mesh_judge::ordered;
 use node_history::Event;

@@ -1,5 +1,6 @@
 //! What a node holds, body by body.
-use journal_core::{BodyList, PlainNode, Segment};
+use journal_core::{BodyList, Segment};
+use memory_node::PlainNode;
 
 /// A segment as a test wants it: its start, its header's epoch, whether it is final, and its bodies.
 pub type Wanted<'a> = (u64, u64, bool, &'a [&'a [u8]]);

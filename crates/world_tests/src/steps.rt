@@ -2,7 +2,8 @@
 ghost use Rattle.std.specs.Prelude.{◌≢◌, [], IfOk};
 ghost use Rattle.writer_core.specs.Writer.{HasBody};
 
-use journal_core::{BodyList, Bytes, PlainNode, Refusal, Reply, Request, SharedRequest};
+use journal_core::{BodyList, Bytes, Refusal, Reply, Request, SharedRequest};
+use memory_node::PlainNode;
 use node_history::{Event, Fate, NodeAnswer, NodeAsk, Stop};
 use node_world::{Seen, World};
 use std::alloc::Global;

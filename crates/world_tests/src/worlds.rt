@@ -1,7 +1,8 @@
 //! Three known scripts as events, and a writer that gives up.
 use crate::segments::{Wanted, has_segments};
 use crate::steps::{Act, Losses, What, play};
-use journal_core::{PlainNode, Refusal};
+use journal_core::Refusal;
+use memory_node::PlainNode;
 use node_world::World;
 use std::alloc::Global;
 use std::process::Abort;

@@ -6,7 +6,7 @@ use Rattle.journal_core.specs.declared.heard.Heard.{Heard}
 use Rattle.writer_core.specs.declared.slot.Slot.{Slot}
 use Rattle.writer_core.specs.declared.slot.Slot.TheVariants.{Waiting, LeftOut, Told}
 use Rattle.writer_core.specs.Answers.{is_waiting}
-use Rattle.writer_core.specs.Whole.{heard_of, filled}
+use Rattle.writer_core.specs.Whole.{heard_of, fill_slots}
 use Rattle.writer_core.proofs.Plain.{plain_heard, plain_slot, cons_same}
 
 abbrev pub fill : Option Reply → Slot → Slot
@@ -95,8 +95,8 @@ fills_more node (suc i) heard more h (x ∷ xs) (y ∷ ys) e is off f =
     )
 
 -- ## A round that was heard whole
-filled_cons : (node : ℕ) (heard : ℕ → Option Reply) (y : Slot) (ys : List Slot) → filled node heard (y ∷ ys) ≡ fill (heard node) y ∷ filled (node + 1) heard ys
-unfolding filled
+filled_cons : (node : ℕ) (heard : ℕ → Option Reply) (y : Slot) (ys : List Slot) → fill_slots node heard (y ∷ ys) ≡ fill (heard node) y ∷ fill_slots (node + 1) heard ys
+unfolding fill_slots
 filled_cons node heard Waiting ys = refl
 filled_cons node heard LeftOut ys = refl
 filled_cons node heard (Told h) ys = refl
@@ -112,11 +112,11 @@ none_waits LeftOut xs e = (refl, e)
 none_waits (Told h) xs e = (refl, e)
 
 pub fills_whole : (node : ℕ) (heard : ℕ → Option Reply) (xs ys : List Slot) → list_any is_waiting xs ≡ false → Fills node heard xs ys
-    → map plain_slot xs ≡ map plain_slot (filled node heard ys)
-fills_whole node heard [] [] none f = unfold filled in refl
+    → map plain_slot xs ≡ map plain_slot (fill_slots node heard ys)
+fills_whole node heard [] [] none f = unfold fill_slots in refl
 fills_whole node heard [] (y ∷ ys) none f = absurd f
 fills_whole node heard (x ∷ xs) [] none f = absurd f
 fills_whole node heard (x ∷ xs) (y ∷ ys) none f =
     let w : (is_waiting x ≡ false) × (list_any is_waiting xs ≡ false) = none_waits x xs none in
-    cons_same (plain_slot x) (plain_slot (fill (heard node) y)) (map plain_slot xs) (map plain_slot (filled (node + 1) heard ys)) (whole_one x (heard node) y w.0 f.0) (fills_whole (node + 1) heard xs ys w.1 f.1)
+    cons_same (plain_slot x) (plain_slot (fill (heard node) y)) (map plain_slot xs) (map plain_slot (fill_slots (node + 1) heard ys)) (whole_one x (heard node) y w.0 f.0) (fills_whole (node + 1) heard xs ys w.1 f.1)
     ∙ ap (λ (l : List Slot). map plain_slot l) (sym (filled_cons node heard y ys))

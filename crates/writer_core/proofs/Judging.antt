@@ -22,7 +22,7 @@ use Rattle.writer_core.specs.declared.turn.Turn.TheVariants as turn
 use Rattle.writer_core.specs.Views.{WriterView}
 use Rattle.writer_core.specs.Answers.{is_ok, cause_of, has_majority}
 use Rattle.writer_core.specs.Best.{Best, best_of}
-use Rattle.writer_core.specs.Rounds.{numbers_fit, with_causes, Judged, judged, judged_by, going, stopped, next_serial, recovering, failed, taken_out, not_fetched, fetched}
+use Rattle.writer_core.specs.Rounds.{numbers_fit, with_causes, Judgment, judgment, judgment_by, keep_going, stops_with, next_serial, begin_recovery, failure_of, without_answer_of, after_no_edits, after_fetch}
 use Rattle.writer_core.specs.Sound.{IsOkAt}
 use Rattle.writer_core.specs.Stages.{round_of}
 use Rattle.writer_core.specs.Current.{round_in, piece_fits, fetched_in, edits_heard}
@@ -70,12 +70,12 @@ numbers_anyhow round.Open w = refl
 numbers_anyhow (round.Write bodies) w = refl
 numbers_anyhow (round.Purge min) w = refl
 
-pub judged_is : (r : Round) (w : WriterView) (b : Bool) → b ≡ (numbers_fit w r && has_majority r w.slots) → judged r w ≡ judged_by b r w
-unfolding judged
+pub judged_is : (r : Round) (w : WriterView) (b : Bool) → b ≡ (numbers_fit w r && has_majority r w.slots) → judgment r w ≡ judgment_by b r w
+unfolding judgment
 judged_is r w b e = rw e refl
 
 -- ## A fetch that failed
-pub failed_out : (start : ℕ) (heard : Heard) → failed heard ≡ heard → is_ok (round.Prepare start) (Told heard) ≡ false
+pub failed_out : (start : ℕ) (heard : Heard) → failure_of heard ≡ heard → is_ok (round.Prepare start) (Told heard) ≡ false
 failed_out start Silent h = refl
 failed_out start (Answer (reply.Refused refusal)) h = refl
 failed_out start (Answer (reply.Prepared writer committed segment)) h = cc
@@ -96,34 +96,28 @@ edits_are (Answer (reply.Edits b)) batch e = let t : b ≡ batch = cc in rw t re
 edits_are (Answer _) batch e = cc
 
 lost_round : (node start end : ℕ) (bodies : List (List ℕ)) (heard lost : Heard) (w : WriterView) → edits_heard heard ≡ Err lost
-    → fetched node start end bodies heard w ≡ not_fetched node start lost w
-unfolding fetched
+    → after_fetch node start end bodies heard w ≡ after_no_edits node start lost w
+unfolding after_fetch
 lost_round node start end bodies Silent lost w e = let t : Silent ≡ lost = cc in rw (← t) refl
 lost_round node start end bodies (Answer (reply.Edits b)) lost w e = cc
 lost_round node start end bodies (Answer (reply.Refused r)) lost w e = let t : Answer (reply.Refused r) ≡ lost = cc in rw (← t) refl
 lost_round node start end bodies (Answer _) lost w e = let t : Silent ≡ lost = cc in rw (← t) refl
 
-pub lost_is : (heard lost : Heard) → edits_heard heard ≡ Err lost → failed lost ≡ lost
-lost_is Silent lost e = let t : Silent ≡ lost = cc in rw (← t) refl
-lost_is (Answer (reply.Edits b)) lost e = cc
-lost_is (Answer (reply.Refused r)) lost e = let t : Answer (reply.Refused r) ≡ lost = cc in rw (← t) refl
-lost_is (Answer _) lost e = let t : Silent ≡ lost = cc in rw (← t) refl
-
 pub piece_lost : (node start end : ℕ) (bodies : List (List ℕ)) (r : Round) (heard lost : Heard) (w : WriterView) → r ≡ round.Fetch node start end bodies
-    → edits_heard heard ≡ Err lost → fetched_in r heard w ≡ not_fetched node start lost w
+    → edits_heard heard ≡ Err lost → fetched_in r heard w ≡ after_no_edits node start lost w
 piece_lost node start end bodies r heard lost w is e = rw is (lost_round node start end bodies heard lost w e)
 
 pub piece_unfit : (node start end : ℕ) (bodies : List (List ℕ)) (r : Round) (heard : Heard) (batch : BatchView) (w : WriterView)
-    → r ≡ round.Fetch node start end bodies → edits_heard heard ≡ Ok batch → piece_fits r batch w ≡ false → fetched_in r heard w ≡ not_fetched node start Silent w
-unfolding fetched
+    → r ≡ round.Fetch node start end bodies → edits_heard heard ≡ Ok batch → piece_fits r batch w ≡ false → fetched_in r heard w ≡ after_no_edits node start Silent w
+unfolding after_fetch
 piece_unfit node start end bodies r heard batch w is e h =
     let f : piece_fits (round.Fetch node start end bodies) batch w ≡ false = rw is at h in rw (is, edits_are heard batch e, f) refl
 
-pub recovering_anyhow : (start : ℕ) (o : Option Best) (w : WriterView) (p : Phase) → recovering start o (record w { phase = p }) ≡ recovering start o w
+pub recovering_anyhow : (start : ℕ) (o : Option Best) (w : WriterView) (p : Phase) → begin_recovery start o (record w { phase = p }) ≡ begin_recovery start o w
 recovering_anyhow start None w p = refl
 recovering_anyhow start (Some best) w p = refl
 
-pub fewer_left : (start node : ℕ) (heard : Heard) (slots : List Slot) → failed heard ≡ heard → IsOkAt (round.Prepare start) node slots
+pub fewer_left : (start node : ℕ) (heard : Heard) (slots : List Slot) → failure_of heard ≡ heard → IsOkAt (round.Prepare start) node slots
     → count_by (is_ok (round.Prepare start)) (set slots (node - 1) (Told heard)) + 1 ≡ count_by (is_ok (round.Prepare start)) slots
 fewer_left start node heard slots h c =
     one_fewer (is_ok (round.Prepare start)) slots (node - 1) c.0 (Told heard) c.2 c.3 (failed_out start heard h)
@@ -138,35 +132,35 @@ place_is p xs i h =
     let f = place_of (position_or_len p xs) (length xs) i (nat_lt (position_or_len p xs) (length xs)) refl h in (f.0, omega (arith, f.0, f.1))
 
 -- ## A node that counts no more: what follows over the writer without it
-pub without : (node start : ℕ) (heard : Heard) (w v v' : WriterView) → v ≡ record (taken_out node heard w) { phase = phase.InRound (round.Prepare start) }
-    → v' ≡ with_causes (round_in v.phase) v → v' ≡ with_causes (round.Prepare start) (record (taken_out node heard w) { phase = phase.InRound (round.Prepare start) })
+pub without : (node start : ℕ) (heard : Heard) (w v v' : WriterView) → v ≡ record (without_answer_of node heard w) { phase = phase.InRound (round.Prepare start) }
+    → v' ≡ with_causes (round_in v.phase) v → v' ≡ with_causes (round.Prepare start) (record (without_answer_of node heard w) { phase = phase.InRound (round.Prepare start) })
 without node start heard w v v' e e' = rw e at e'
 
-pub next_best : (node start : ℕ) (heard : Heard) (w v : WriterView) (j : Judged)
-    → v ≡ with_causes (round.Prepare start) (record (taken_out node heard w) { phase = phase.InRound (round.Prepare start) })
-    → has_majority (round_in v.phase) v.slots ≡ true → going (recovering start (best_of start v.slots) (next_serial v)) ≡ j → not_fetched node start heard w ≡ j
+pub next_best : (node start : ℕ) (heard : Heard) (w v : WriterView) (j : Judgment)
+    → v ≡ with_causes (round.Prepare start) (record (without_answer_of node heard w) { phase = phase.InRound (round.Prepare start) })
+    → has_majority (round_in v.phase) v.slots ≡ true → keep_going (begin_recovery start (best_of start v.slots) (next_serial v)) ≡ j → after_no_edits node start heard w ≡ j
 next_best node start heard w v j e h r =
-    let t = taken_out node heard w in
+    let t = without_answer_of node heard w in
     let m : has_majority (round.Prepare start) t.slots ≡ true = rw e at h in
     let q = rw e at r in
-    rw m (ap going (sym (recovering_anyhow start (best_of start t.slots) (next_serial (with_causes (round.Prepare start) t)) (phase.InRound (round.Prepare start)))) ∙ q)
+    rw m (ap keep_going (sym (recovering_anyhow start (best_of start t.slots) (next_serial (with_causes (round.Prepare start) t)) (phase.InRound (round.Prepare start)))) ∙ q)
 
-pub none_best : (node start : ℕ) (heard : Heard) (w v : WriterView) (j : Judged)
-    → v ≡ with_causes (round.Prepare start) (record (taken_out node heard w) { phase = phase.InRound (round.Prepare start) })
-    → has_majority (round_in v.phase) v.slots ≡ false → stopped turn.Aborted v ≡ j → not_fetched node start heard w ≡ j
+pub none_best : (node start : ℕ) (heard : Heard) (w v : WriterView) (j : Judgment)
+    → v ≡ with_causes (round.Prepare start) (record (without_answer_of node heard w) { phase = phase.InRound (round.Prepare start) })
+    → has_majority (round_in v.phase) v.slots ≡ false → stops_with turn.Aborted v ≡ j → after_no_edits node start heard w ≡ j
 none_best node start heard w v j e h r =
-    let t = taken_out node heard w in
+    let t = without_answer_of node heard w in
     let m : has_majority (round.Prepare start) t.slots ≡ false = rw e at h in
     let q = rw e at r in
     rw m q
 
 pub serials_left : (node start : ℕ) (heard : Heard) (w v : WriterView)
-    → v ≡ with_causes (round.Prepare start) (record (taken_out node heard w) { phase = phase.InRound (round.Prepare start) })
-    → failed heard ≡ heard → IsOkAt (round.Prepare start) node w.slots
+    → v ≡ with_causes (round.Prepare start) (record (without_answer_of node heard w) { phase = phase.InRound (round.Prepare start) })
+    → failure_of heard ≡ heard → IsOkAt (round.Prepare start) node w.slots
     → w.serial + count_by (is_ok (round.Prepare start)) w.slots ≤ max_number + 1 + length w.slots
     → v.serial + count_by (is_ok (round.Prepare start)) v.slots ≤ max_number + length v.slots
 serials_left node start heard w v e h o s =
     let n : length (set w.slots (node - 1) (Told heard)) ≡ length w.slots = length-set w.slots (node - 1) (Told heard) in
-    let g : count_by (is_ok (round.Prepare start)) (set w.slots (node - 1) (Told (failed heard))) + 1 ≡ count_by (is_ok (round.Prepare start)) w.slots =
+    let g : count_by (is_ok (round.Prepare start)) (set w.slots (node - 1) (Told (failure_of heard))) + 1 ≡ count_by (is_ok (round.Prepare start)) w.slots =
     rw h (fewer_left start node heard w.slots h o) in
     rw (e, h) (omega (arith, n, rw h at g, s))

@@ -25,8 +25,8 @@ use Rattle.writer_core.specs.declared.turn.Turn.TheVariants as turn
 use Rattle.writer_core.specs.Views.{WriterView}
 use Rattle.writer_core.specs.Answers.{fits, fits_edits, is_ok, is_waiting, has_majority}
 use Rattle.writer_core.specs.Best.{Best, best_of, greatest_promise, greatest_newest}
-use Rattle.writer_core.specs.Rounds.{to_all, to_others, missed, numbers_fit, judged, judged_by, done_in, going, stopped, with_causes, next_serial, proposing, after_propose, recovering, after_finalize, after_open, after_write, failed, taken_out, not_fetched, pieced, edits_fetched, fetched}
-use Rattle.writer_core.specs.Writer.{is_under_way, next_call, call_in, writer_heard, heard_at, heard_in, judged_when, with_answer}
+use Rattle.writer_core.specs.Rounds.{to_all, to_others, left_out_after, numbers_fit, judgment, judgment_by, after_round, keep_going, stops_with, with_causes, next_serial, begin_propose, after_propose, begin_recovery, after_finalize, after_open, after_write, failure_of, without_answer_of, after_no_edits, keep_piece, after_edits, after_fetch}
+use Rattle.writer_core.specs.Writer.{is_under_way, next_call, call_in, writer_heard, heard_at, heard_in, judgment_when, with_answer}
 use Rattle.writer_core.specs.Current.{is_fetch}
 use Rattle.writer_core.specs.Sound.{IsOkAt, IsSound, PhaseIsSound}
 use Rattle.writer_core.specs.Left.{most_pieces, calls_now, calls_after, calls_left_in, calls_left, FetchGoesOn, HasCall, IsLive}
@@ -45,13 +45,13 @@ others_wait (true ∷ bs) = omega (arith, others_wait bs, count_cons is_waiting 
 others_wait (false ∷ bs) = omega (arith, others_wait bs, count_cons is_waiting Waiting (to_others bs))
 
 -- ## What is left after a round
-pub left_missed : (r : Round) (slots : List Slot) → length (missed r slots) ≡ length slots
+pub left_missed : (r : Round) (slots : List Slot) → length (left_out_after r slots) ≡ length slots
 left_missed r slots = simp length-map
 
 done_left : (r : Round) (w : WriterView) → is_fetch r ≡ false → length w.left ≡ length w.slots
-    → calls_left (done_in r w).writer ≤ calls_after r (length w.left)
+    → calls_left (after_round r w).writer ≤ calls_after r (length w.left)
 done_left round.State w f e =
-    elim (nat_lt (greatest_promise w.slots) max_number) as (λ b. calls_left (cond b (going (proposing (greatest_promise w.slots) w)) (stopped (turn.EpochLimit (greatest_promise w.slots)) w)).writer ≤ (most_pieces + 6) * length w.left)
+    elim (nat_lt (greatest_promise w.slots) max_number) as (λ b. calls_left (cond b (keep_going (begin_propose (greatest_promise w.slots) w)) (stops_with (turn.EpochLimit (greatest_promise w.slots)) w)).writer ≤ (most_pieces + 6) * length w.left)
     [ true ↦ omega (arith, all_wait w.left) | false ↦ omega arith ]
 done_left round.Propose w f e = proposed (greatest_newest w.slots)
   where
@@ -60,7 +60,7 @@ done_left round.Propose w f e = proposed (greatest_newest w.slots)
     proposed (Some start) = omega (arith, all_wait w.left)
 done_left (round.Prepare start) w f e = recovered (best_of start w.slots)
   where
-    recovered : (o : Option Best) → calls_left (recovering start o (next_serial w)) ≤ (most_pieces + 4) * length w.left
+    recovered : (o : Option Best) → calls_left (begin_recovery start o (next_serial w)) ≤ (most_pieces + 4) * length w.left
     recovered None = omega (arith, all_wait w.left)
     recovered (Some best) = omega (arith, count_by-le-length (is_ok (round.Prepare start)) w.slots, e)
 done_left (round.Fetch node start end bodies) w f e = cc
@@ -73,10 +73,10 @@ done_left (round.Finalize start end) w f e = finalized w.aim
     finalized aim.Log = omega (arith, all_wait w.left)
     finalized aim.Roll = omega (arith, all_wait w.left)
     finalized aim.Purge = omega (arith, all_wait w.left)
-done_left round.Start w f e = omega (arith, others_wait (missed round.Start w.slots), left_missed round.Start w.slots, e)
+done_left round.Start w f e = omega (arith, others_wait (left_out_after round.Start w.slots), left_missed round.Start w.slots, e)
 done_left round.Open w f e = opened w.aim
   where
-    opened : (a : Aim) → calls_left (after_open a (record (next_serial w) { committed = w.start; next = w.start + 1; left = missed round.Open w.slots })).writer ≤ 0
+    opened : (a : Aim) → calls_left (after_open a (record (next_serial w) { committed = w.start; next = w.start + 1; left = left_out_after round.Open w.slots })).writer ≤ 0
     opened aim.Roll = omega arith
     opened aim.Takeover = omega arith
     opened aim.Log = omega arith
@@ -87,19 +87,19 @@ done_left (round.Write bodies) w f e = written w.aim
     last : ℕ
     last = w.next + length bodies - 1
 
-    written : (a : Aim) → calls_left (after_write a w.next (w.next + length bodies - 1) (record (next_serial w) { committed = w.next + length bodies - 1; next = w.next + length bodies - 1 + 1; left = missed (round.Write bodies) w.slots })).writer ≤ 3 * length w.left
-    written aim.Roll = omega (arith, others_wait (missed (round.Write bodies) w.slots), left_missed (round.Write bodies) w.slots, e)
-    written aim.Close = omega (arith, others_wait (missed (round.Write bodies) w.slots), left_missed (round.Write bodies) w.slots, e)
+    written : (a : Aim) → calls_left (after_write a w.next (w.next + length bodies - 1) (record (next_serial w) { committed = w.next + length bodies - 1; next = w.next + length bodies - 1 + 1; left = left_out_after (round.Write bodies) w.slots })).writer ≤ 3 * length w.left
+    written aim.Roll = omega (arith, others_wait (left_out_after (round.Write bodies) w.slots), left_missed (round.Write bodies) w.slots, e)
+    written aim.Close = omega (arith, others_wait (left_out_after (round.Write bodies) w.slots), left_missed (round.Write bodies) w.slots, e)
     written aim.Takeover = omega arith
     written aim.Log = omega arith
     written aim.Purge = omega arith
 done_left (round.Purge min) w f e = omega arith
 
 judged_left : (r : Round) (w : WriterView) → is_fetch r ≡ false → length w.left ≡ length w.slots
-    → calls_left (judged r w).writer ≤ calls_after r (length w.left)
-unfolding judged
+    → calls_left (judgment r w).writer ≤ calls_after r (length w.left)
+unfolding judgment
 judged_left r w f e =
-    elim (numbers_fit w r && has_majority r w.slots) as (λ b. calls_left (judged_by b r w).writer ≤ calls_after r (length w.left))
+    elim (numbers_fit w r && has_majority r w.slots) as (λ b. calls_left (judgment_by b r w).writer ≤ calls_after r (length w.left))
     [ true ↦ done_left r (with_causes r w) f e | false ↦ omega arith ]
 
 -- ## A round that asks several nodes
@@ -159,7 +159,7 @@ one_less slots node h e =
     one_fewer is_waiting slots (node - 1) Waiting (Told h) (waits_at slots (node - 1) p.0 p.1) refl refl
 
 several_left : (r : Round) (w : WriterView) (node : ℕ) (h : Heard) (b : Bool) → is_fetch r ≡ false → length w.left ≡ length w.slots → w.phase ≡ phase.InRound r
-    → position is_waiting w.slots ≡ Some (node - 1) → calls_left (judged_when b r (with_answer w node h)).writer < count_by is_waiting w.slots + calls_after r (length w.left)
+    → position is_waiting w.slots ≡ Some (node - 1) → calls_left (judgment_when b r (with_answer w node h)).writer < count_by is_waiting w.slots + calls_after r (length w.left)
 several_left r w node h true f e p n =
     let o = one_less w.slots node h n in
     let c : calls_left (with_answer w node h) ≡ count_by is_waiting (set w.slots (node - 1) (Told h)) + calls_after r (length w.left) =
@@ -179,32 +179,32 @@ some_counted r slots node c = omega (arith, one_fewer (is_ok r) slots (node - 1)
 
 lost_left : (start : ℕ) (t : WriterView) (b : Bool) (c len : ℕ) → length t.left ≡ length t.slots
     → count_by (is_ok (round.Prepare start)) t.slots + 1 ≡ c → len < most_pieces
-    → calls_left (judged_by b (round.Prepare start) t).writer < most_pieces * c - len + 4 * length t.left
+    → calls_left (judgment_by b (round.Prepare start) t).writer < most_pieces * c - len + 4 * length t.left
 lost_left start t true c len e k l = recovered (best_of start t.slots)
   where
-    recovered : (o : Option Best) → calls_left (recovering start o (next_serial (with_causes (round.Prepare start) t))) < most_pieces * c - len + 4 * length t.left
+    recovered : (o : Option Best) → calls_left (begin_recovery start o (next_serial (with_causes (round.Prepare start) t))) < most_pieces * c - len + 4 * length t.left
     recovered None = omega (arith, all_wait t.left, k)
     recovered (Some best) = omega (arith, k)
 lost_left start t false c len e k l = omega (arith, k)
 
-failed_twice : (h : Heard) → failed (failed h) ≡ failed h
+failed_twice : (h : Heard) → failure_of (failure_of h) ≡ failure_of h
 failed_twice Silent = refl
 failed_twice (Answer (reply.Refused r)) = refl
 failed_twice (Answer _) = refl
 
 not_fetched_left : (node start end : ℕ) (bodies : List (List ℕ)) (h : Heard) (w : WriterView) → length w.left ≡ length w.slots
     → FetchGoesOn node start end bodies w.slots
-    → calls_left (not_fetched node start h w).writer < calls_now (round.Fetch node start end bodies) w.slots + 4 * length w.left
+    → calls_left (after_no_edits node start h w).writer < calls_now (round.Fetch node start end bodies) w.slots + 4 * length w.left
 not_fetched_left node start end bodies h w e g =
-    let s : length (set w.slots (node - 1) (Told (failed h))) ≡ length w.slots = length-set w.slots (node - 1) (Told (failed h)) in
-    let k : count_by (is_ok (round.Prepare start)) (set w.slots (node - 1) (Told (failed h))) + 1 ≡ count_by (is_ok (round.Prepare start)) w.slots =
-    fewer_left start node (failed h) w.slots (failed_twice h) g.counted in
-    lost_left start (taken_out node h w) (has_majority (round.Prepare start) (taken_out node h w).slots) (count_by (is_ok (round.Prepare start)) w.slots) (length bodies)
+    let s : length (set w.slots (node - 1) (Told (failure_of h))) ≡ length w.slots = length-set w.slots (node - 1) (Told (failure_of h)) in
+    let k : count_by (is_ok (round.Prepare start)) (set w.slots (node - 1) (Told (failure_of h))) + 1 ≡ count_by (is_ok (round.Prepare start)) w.slots =
+    fewer_left start node (failure_of h) w.slots (failed_twice h) g.counted in
+    lost_left start (without_answer_of node h w) (has_majority (round.Prepare start) (without_answer_of node h w).slots) (count_by (is_ok (round.Prepare start)) w.slots) (length bodies)
     (e ∙ sym s) k (omega (arith, g.missing, g.end_fits))
 
 pieced_left : (node start end len c : ℕ) (bodies : List (List ℕ)) (w : WriterView) (b : Bool) → nat_lt end (start + length bodies) ≡ b
     → len < length bodies → len + start ≤ end → end ≤ max_number → c ≡ count_by (is_ok (round.Prepare start)) w.slots → 0 < c
-    → calls_left (pieced node start end bodies w) < most_pieces * c - len + 4 * length w.left
+    → calls_left (keep_piece node start end bodies w) < most_pieces * c - len + 4 * length w.left
 pieced_left node start end len c bodies w true t l m e k p =
     rw t (omega (arith, all_wait w.left))
 pieced_left node start end len c bodies w false t l m e k p =
@@ -213,7 +213,7 @@ pieced_left node start end len c bodies w false t l m e k p =
 
 edits_left : (b : Bool) (node start end : ℕ) (bodies : List (List ℕ)) (batch : BatchView) (w : WriterView) → length w.left ≡ length w.slots
     → FetchGoesOn node start end bodies w.slots → (b ≡ true → any_body batch.bodies ≡ true)
-    → calls_left (edits_fetched b node start end bodies batch w).writer < calls_now (round.Fetch node start end bodies) w.slots + 4 * length w.left
+    → calls_left (after_edits b node start end bodies batch w).writer < calls_now (round.Fetch node start end bodies) w.slots + 4 * length w.left
 edits_left true node start end bodies batch w e g some =
     let room : ℕ = end + 1 - (start + length bodies) in
     let more : List (List ℕ) = bodies ++ take room batch.bodies in
@@ -239,8 +239,8 @@ edits_some w r from batch h = last_of (numbers_fit w r) (batch.first == from) (a
 
 fetched_left : (node start end : ℕ) (bodies : List (List ℕ)) (h : Heard) (w : WriterView) → length w.left ≡ length w.slots
     → FetchGoesOn node start end bodies w.slots
-    → calls_left (fetched node start end bodies h w).writer < calls_now (round.Fetch node start end bodies) w.slots + 4 * length w.left
-unfolding fetched
+    → calls_left (after_fetch node start end bodies h w).writer < calls_now (round.Fetch node start end bodies) w.slots + 4 * length w.left
+unfolding after_fetch
 fetched_left node start end bodies (Answer (reply.Edits batch)) w e g =
     edits_left (numbers_fit w (round.Fetch node start end bodies) && fits_edits (start + length bodies) batch) node start end bodies batch w e g
     (edits_some w (round.Fetch node start end bodies) (start + length bodies) batch)

@@ -24,8 +24,8 @@ use Rattle.writer_core.specs.declared.turn.Turn.TheVariants as turn
 use Rattle.writer_core.specs.Views.{WriterView}
 use Rattle.writer_core.specs.Answers.{fits_edits, is_ok, is_waiting, has_majority}
 use Rattle.writer_core.specs.Best.{Best, best_of, greatest_promise, greatest_newest}
-use Rattle.writer_core.specs.Rounds.{asking_all, asking_others, end_record, to_all, to_others, none_left_out, missed, numbers_fit, judged, judged_by, done_in, going, stopped, with_causes, next_serial, proposing, after_propose, recovering, after_finalize, after_open, after_write, failed, taken_out, not_fetched, pieced, edits_fetched, fetched}
-use Rattle.writer_core.specs.Writer.{new_writer, Began, writer_begun, log_begins, log_limit, is_writing, if_writing, writer_stopped, is_under_way, next_call, call_in, writer_heard, heard_at, heard_in, judged_when, with_answer}
+use Rattle.writer_core.specs.Rounds.{asks_all, asks_others, end_record, to_all, to_others, none_left_out, left_out_after, numbers_fit, judgment, judgment_by, after_round, keep_going, stops_with, with_causes, next_serial, begin_propose, after_propose, begin_recovery, after_finalize, after_open, after_write, failure_of, without_answer_of, after_no_edits, keep_piece, after_edits, after_fetch}
+use Rattle.writer_core.specs.Writer.{new_writer, Began, writer_begun, log_begins, log_limit, is_writing, if_writing, writer_stopped, is_under_way, next_call, call_in, writer_heard, heard_at, heard_in, judgment_when, with_answer}
 use Rattle.writer_core.specs.Current.{is_fetch}
 use Rattle.writer_core.specs.Sound.{IsOkAt, IsCounted}
 use Rattle.writer_core.specs.Left.{FetchGoesOn, HasCall, HasCallIn, IsLive, IsReached}
@@ -57,7 +57,7 @@ any_passes p (s ∷ slots) h = passes (p s) (any_passes p slots) (omega (arith, 
     passes true rest k = refl
     passes false rest k = rest (omega (arith, k))
 
-any_missed : (r : Round) (slots : List Slot) → has_majority r slots ≡ true → list_any not (missed r slots) ≡ true
+any_missed : (r : Round) (slots : List Slot) → has_majority r slots ≡ true → list_any not (left_out_after r slots) ≡ true
 any_missed r slots h =
     let m : length slots < 2 * count_by (is_ok r) slots = grind (arith, nat_tests) in any_passes (is_ok r) slots (omega (arith, m))
 
@@ -90,17 +90,17 @@ call_in_round (round.Purge min) slots f h = h
 call_in_round (round.Fetch node start end bodies) slots f h = cc
 
 -- a round that all nodes, or those that aren't left out, are asked
-live_all : (r : Round) (w : WriterView) → is_fetch r ≡ false → list_any not w.left ≡ true → IsLive (asking_all r w)
+live_all : (r : Round) (w : WriterView) → is_fetch r ≡ false → list_any not w.left ≡ true → IsLive (asks_all r w)
 live_all r w f s = record { same = len_all w.left; some = s; call = call_in_round r (to_all w.left) f (any_all w.left s) }
 
-live_others : (r : Round) (w : WriterView) → is_fetch r ≡ false → list_any not w.left ≡ true → IsLive (asking_others r w)
+live_others : (r : Round) (w : WriterView) → is_fetch r ≡ false → list_any not w.left ≡ true → IsLive (asks_others r w)
 live_others r w f s = record { same = len_others w.left; some = s; call = call_in_round r (to_others w.left) f (any_others w.left s) }
 
 -- ## After a round
 live_done : (r : Round) (w : WriterView) → is_fetch r ≡ false → length w.left ≡ length w.slots → list_any not w.left ≡ true → has_majority r w.slots ≡ true
-    → IsLive (done_in r w).writer
+    → IsLive (after_round r w).writer
 live_done round.State w f e s m =
-    elim (nat_lt (greatest_promise w.slots) max_number) as (λ b. IsLive (cond b (going (proposing (greatest_promise w.slots) w)) (stopped (turn.EpochLimit (greatest_promise w.slots)) w)).writer)
+    elim (nat_lt (greatest_promise w.slots) max_number) as (λ b. IsLive (cond b (keep_going (begin_propose (greatest_promise w.slots) w)) (stops_with (turn.EpochLimit (greatest_promise w.slots)) w)).writer)
     [ true ↦ record { same = len_all w.left; some = s; call = any_all w.left s } | false ↦ record { same = e; some = s; call = tt } ]
 live_done round.Propose w f e s m = proposed (greatest_newest w.slots)
   where
@@ -109,7 +109,7 @@ live_done round.Propose w f e s m = proposed (greatest_newest w.slots)
     proposed (Some start) = record { same = len_all w.left; some = s; call = any_all w.left s }
 live_done (round.Prepare start) w f e s m = recovered (best_of start w.slots) (best_counted start w.slots)
   where
-    recovered : (o : Option Best) → IfSome o (λ b. IsCounted start b w.slots) → IsLive (recovering start o (next_serial w))
+    recovered : (o : Option Best) → IfSome o (λ b. IsCounted start b w.slots) → IsLive (begin_recovery start o (next_serial w))
     recovered None h = record { same = len_all w.left; some = s; call = any_all w.left s }
     recovered (Some best) h =
         record { same = e; some = s; call = record { missing = omega (arith, h.told); end_fits = h.end_fits; counted = h.counted } }
@@ -125,10 +125,10 @@ live_done (round.Finalize start end) w f e s m = finalized w.aim
     finalized aim.Purge = record { same = len_all w.left; some = s; call = any_all w.left s }
 live_done round.Start w f e s m =
     let o = any_missed round.Start w.slots m in
-    record { same = len_others (missed round.Start w.slots); some = o; call = any_others (missed round.Start w.slots) o }
+    record { same = len_others (left_out_after round.Start w.slots); some = o; call = any_others (left_out_after round.Start w.slots) o }
 live_done round.Open w f e s m = opened w.aim
   where
-    opened : (a : Aim) → IsLive (after_open a (record (next_serial w) { committed = w.start; next = w.start + 1; left = missed round.Open w.slots })).writer
+    opened : (a : Aim) → IsLive (after_open a (record (next_serial w) { committed = w.start; next = w.start + 1; left = left_out_after round.Open w.slots })).writer
     opened aim.Roll = record { same = left_missed round.Open w.slots; some = any_missed round.Open w.slots m; call = tt }
     opened aim.Takeover = record { same = left_missed round.Open w.slots; some = any_missed round.Open w.slots m; call = tt }
     opened aim.Log = record { same = left_missed round.Open w.slots; some = any_missed round.Open w.slots m; call = tt }
@@ -136,30 +136,30 @@ live_done round.Open w f e s m = opened w.aim
     opened aim.Purge = record { same = left_missed round.Open w.slots; some = any_missed round.Open w.slots m; call = tt }
 live_done (round.Write bodies) w f e s m = written w.aim
   where
-    o : list_any not (missed (round.Write bodies) w.slots) ≡ true
+    o : list_any not (left_out_after (round.Write bodies) w.slots) ≡ true
     o = any_missed (round.Write bodies) w.slots m
 
-    written : (a : Aim) → IsLive (after_write a w.next (w.next + length bodies - 1) (record (next_serial w) { committed = w.next + length bodies - 1; next = w.next + length bodies - 1 + 1; left = missed (round.Write bodies) w.slots })).writer
-    written aim.Roll = record { same = len_others (missed (round.Write bodies) w.slots); some = o; call = any_others (missed (round.Write bodies) w.slots) o }
-    written aim.Close = record { same = len_others (missed (round.Write bodies) w.slots); some = o; call = any_others (missed (round.Write bodies) w.slots) o }
+    written : (a : Aim) → IsLive (after_write a w.next (w.next + length bodies - 1) (record (next_serial w) { committed = w.next + length bodies - 1; next = w.next + length bodies - 1 + 1; left = left_out_after (round.Write bodies) w.slots })).writer
+    written aim.Roll = record { same = len_others (left_out_after (round.Write bodies) w.slots); some = o; call = any_others (left_out_after (round.Write bodies) w.slots) o }
+    written aim.Close = record { same = len_others (left_out_after (round.Write bodies) w.slots); some = o; call = any_others (left_out_after (round.Write bodies) w.slots) o }
     written aim.Takeover = record { same = left_missed (round.Write bodies) w.slots; some = o; call = tt }
     written aim.Log = record { same = left_missed (round.Write bodies) w.slots; some = o; call = tt }
     written aim.Purge = record { same = left_missed (round.Write bodies) w.slots; some = o; call = tt }
 live_done (round.Purge min) w f e s m = record { same = e; some = s; call = tt }
 
 judged_live : (r : Round) (w : WriterView) (b : Bool) → is_fetch r ≡ false → length w.left ≡ length w.slots → list_any not w.left ≡ true
-    → (b ≡ true → has_majority r w.slots ≡ true) → IsLive (judged_by b r w).writer
+    → (b ≡ true → has_majority r w.slots ≡ true) → IsLive (judgment_by b r w).writer
 judged_live r w true f e s m = live_done r (with_causes r w) f e s (m refl)
 judged_live r w false f e s m = record { same = e; some = s; call = tt }
 
-whole_live : (r : Round) (w : WriterView) → is_fetch r ≡ false → length w.left ≡ length w.slots → list_any not w.left ≡ true → IsLive (judged r w).writer
-unfolding judged
+whole_live : (r : Round) (w : WriterView) → is_fetch r ≡ false → length w.left ≡ length w.slots → list_any not w.left ≡ true → IsLive (judgment r w).writer
+unfolding judgment
 whole_live r w f e s = judged_live r w (numbers_fit w r && has_majority r w.slots) f e s (λ m. (and_parts (numbers_fit w r) (has_majority r w.slots) m).1)
 
 -- ## After an answer
 several_live : (r : Round) (w : WriterView) (node : ℕ) (h : Heard) (b : Bool) → is_fetch r ≡ false → w.phase ≡ phase.InRound r
     → list_any is_waiting (with_answer w node h).slots ≡ b → length w.left ≡ length w.slots → list_any not w.left ≡ true
-    → IsLive (judged_when b r (with_answer w node h)).writer
+    → IsLive (judgment_when b r (with_answer w node h)).writer
 several_live r w node h true f p a e s =
     let n : length w.left ≡ length (set w.slots (node - 1) (Told h)) = e ∙ sym (length-set w.slots (node - 1) (Told h)) in
     record { same = n; some = s; call = rw p (call_in_round r (set w.slots (node - 1) (Told h)) f a) }
@@ -168,14 +168,14 @@ several_live r w node h false f p a e s =
     whole_live r (with_answer w node h) f n s
 
 not_fetched_live : (node start : ℕ) (h : Heard) (w : WriterView) → length w.left ≡ length w.slots → list_any not w.left ≡ true
-    → IsLive (not_fetched node start h w).writer
+    → IsLive (after_no_edits node start h w).writer
 not_fetched_live node start h w e s =
-    let n : length w.left ≡ length (set w.slots (node - 1) (Told (failed h))) = e ∙ sym (length-set w.slots (node - 1) (Told (failed h))) in
-    judged_live (round.Prepare start) (taken_out node h w) (has_majority (round.Prepare start) (taken_out node h w).slots) refl n s (λ m. m)
+    let n : length w.left ≡ length (set w.slots (node - 1) (Told (failure_of h))) = e ∙ sym (length-set w.slots (node - 1) (Told (failure_of h))) in
+    judged_live (round.Prepare start) (without_answer_of node h w) (has_majority (round.Prepare start) (without_answer_of node h w).slots) refl n s (λ m. m)
 
 pieced_live : (node start end : ℕ) (bodies : List (List ℕ)) (w : WriterView) (b : Bool) → nat_lt end (start + length bodies) ≡ b
     → length w.left ≡ length w.slots → list_any not w.left ≡ true → end ≤ max_number → IsOkAt (round.Prepare start) node w.slots
-    → IsLive (pieced node start end bodies w)
+    → IsLive (keep_piece node start end bodies w)
 pieced_live node start end bodies w true t e s m c = rw t (live_all (round.Accept (record { first = start; bodies = bodies })) w refl s)
 pieced_live node start end bodies w false t e s m c =
     let n : start + length bodies ≤ end = grind (arith, nat_tests) in
@@ -184,15 +184,15 @@ pieced_live node start end bodies w false t e s m c =
     rw t l
 
 edits_live : (b : Bool) (node start end : ℕ) (bodies : List (List ℕ)) (batch : BatchView) (w : WriterView) → length w.left ≡ length w.slots
-    → list_any not w.left ≡ true → FetchGoesOn node start end bodies w.slots → IsLive (edits_fetched b node start end bodies batch w).writer
+    → list_any not w.left ≡ true → FetchGoesOn node start end bodies w.slots → IsLive (after_edits b node start end bodies batch w).writer
 edits_live true node start end bodies batch w e s g =
     let more : List (List ℕ) = bodies ++ take (end + 1 - (start + length bodies)) batch.bodies in
     pieced_live node start end more (next_serial w) (nat_lt end (start + length more)) refl e s g.end_fits g.counted
 edits_live false node start end bodies batch w e s g = not_fetched_live node start Silent w e s
 
 fetched_live : (node start end : ℕ) (bodies : List (List ℕ)) (h : Heard) (w : WriterView) → length w.left ≡ length w.slots → list_any not w.left ≡ true
-    → FetchGoesOn node start end bodies w.slots → IsLive (fetched node start end bodies h w).writer
-unfolding fetched
+    → FetchGoesOn node start end bodies w.slots → IsLive (after_fetch node start end bodies h w).writer
+unfolding after_fetch
 fetched_live node start end bodies (Answer (reply.Edits batch)) w e s g =
     edits_live (numbers_fit w (round.Fetch node start end bodies) && fits_edits (start + length bodies) batch) node start end bodies batch w e s g
 fetched_live node start end bodies Silent w e s g = not_fetched_live node start Silent w e s

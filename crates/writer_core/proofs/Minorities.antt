@@ -21,8 +21,8 @@ use Rattle.writer_core.specs.declared.turn.Turn.TheVariants as turn
 use Rattle.writer_core.specs.Views.{WriterView}
 use Rattle.writer_core.specs.Answers.{is_waiting, is_ok, has_majority, fits_edits, fits_round, cause_of, cause_unless_ok}
 use Rattle.writer_core.specs.Best.{greatest_promise}
-use Rattle.writer_core.specs.Rounds.{Judged, going, stopped, numbers_fit, proposing, after_finalize, after_open, after_write, done_in, with_causes, judged_by, judged, taken_out, edits_fetched, not_fetched, fetched, next_serial, missed}
-use Rattle.writer_core.specs.Writer.{with_answer, judged_when, heard_in, writer_heard}
+use Rattle.writer_core.specs.Rounds.{Judgment, keep_going, stops_with, numbers_fit, begin_propose, after_finalize, after_open, after_write, after_round, with_causes, judgment_by, judgment, without_answer_of, after_edits, after_no_edits, after_fetch, next_serial, left_out_after}
+use Rattle.writer_core.specs.Writer.{with_answer, judgment_when, heard_in, writer_heard}
 use Rattle.writer_core.specs.Minorities.{is_ok_cause, IsMinority, AbortsAreMinorities, MinoritiesAbort}
 use Rattle.writer_core.proofs.RoundLaws.{count_cons}
 use Rattle.writer_core.proofs.Steps.{heard_round}
@@ -60,10 +60,10 @@ few_causes r slots m =
     omega (arith, few, same, all_causes r slots)
 
 -- ## A round that is done isn't aborted
-abbrev NoAbort : Judged → Type 0
+abbrev NoAbort : Judgment → Type 0
 NoAbort j = j.turn ≡ turn.Aborted → ⊥
 
-state_goes : (b : Bool) (told : ℕ) (w : WriterView) → NoAbort (cond b (going (proposing told w)) (stopped (turn.EpochLimit told) w))
+state_goes : (b : Bool) (told : ℕ) (w : WriterView) → NoAbort (cond b (keep_going (begin_propose told w)) (stops_with (turn.EpochLimit told) w))
 state_goes true told w e = cc
 state_goes false told w e = cc
 
@@ -88,7 +88,7 @@ write_goes aim.Log first last w e = cc
 write_goes aim.Roll first last w e = cc
 write_goes aim.Purge first last w e = cc
 
-done_goes : (r : Round) (w : WriterView) → NoAbort (done_in r w)
+done_goes : (r : Round) (w : WriterView) → NoAbort (after_round r w)
 done_goes round.State w e = state_goes (nat_lt (greatest_promise w.slots) max_number) (greatest_promise w.slots) w e
 done_goes round.Propose w e = cc
 done_goes (round.Prepare start) w e = cc
@@ -96,14 +96,14 @@ done_goes (round.Fetch node start end bodies) w e = cc
 done_goes (round.Accept batch) w e = cc
 done_goes (round.Finalize start end) w e = finalize_goes w.aim end (next_serial w) e
 done_goes round.Start w e = cc
-done_goes round.Open w e = open_goes w.aim (record (next_serial w) { committed = w.start; next = w.start + 1; left = missed round.Open w.slots }) e
+done_goes round.Open w e = open_goes w.aim (record (next_serial w) { committed = w.start; next = w.start + 1; left = left_out_after round.Open w.slots }) e
 done_goes (round.Write bodies) w e =
     let last : ℕ = w.next + length bodies - 1 in
-    write_goes w.aim w.next last (record (next_serial w) { committed = last; next = last + 1; left = missed (round.Write bodies) w.slots }) e
+    write_goes w.aim w.next last (record (next_serial w) { committed = last; next = last + 1; left = left_out_after (round.Write bodies) w.slots }) e
 done_goes (round.Purge min) w e = cc
 
 -- ## A round that is aborted
-judged_few : (b : Bool) (r : Round) (w : WriterView) → (b ≡ false → has_majority r w.slots ≡ false) → (judged_by b r w).turn ≡ turn.Aborted → IsMinority (judged_by b r w).writer.causes
+judged_few : (b : Bool) (r : Round) (w : WriterView) → (b ≡ false → has_majority r w.slots ≡ false) → (judgment_by b r w).turn ≡ turn.Aborted → IsMinority (judgment_by b r w).writer.causes
 judged_few true r w m e = absurd (done_goes r (with_causes r w) e)
 judged_few false r w m e = few_causes r w.slots (m refl)
 
@@ -124,27 +124,27 @@ same_numbers w round.Open slots = refl
 same_numbers w (round.Write bodies) slots = refl
 same_numbers w (round.Purge min) slots = refl
 
-when_few : (b : Bool) (r : Round) (w : WriterView) → numbers_fit w r ≡ true → (judged_when b r w).turn ≡ turn.Aborted → IsMinority (judged_when b r w).writer.causes
-unfolding judged
+when_few : (b : Bool) (r : Round) (w : WriterView) → numbers_fit w r ≡ true → (judgment_when b r w).turn ≡ turn.Aborted → IsMinority (judgment_when b r w).writer.causes
+unfolding judgment
 when_few true r w n e = absurd (cc e)
 when_few false r w n e = judged_few (numbers_fit w r && has_majority r w.slots) r w (and_false (numbers_fit w r) (has_majority r w.slots) n) e
 
 answer_few : (r : Round) (w : WriterView) (node : ℕ) (h : Heard) → numbers_fit w r ≡ true
-    → (judged_when (list_any is_waiting (with_answer w node h).slots) r (with_answer w node h)).turn ≡ turn.Aborted
-    → IsMinority (judged_when (list_any is_waiting (with_answer w node h).slots) r (with_answer w node h)).writer.causes
+    → (judgment_when (list_any is_waiting (with_answer w node h).slots) r (with_answer w node h)).turn ≡ turn.Aborted
+    → IsMinority (judgment_when (list_any is_waiting (with_answer w node h).slots) r (with_answer w node h)).writer.causes
 answer_few r w node h n e = when_few (list_any is_waiting (with_answer w node h).slots) r (with_answer w node h) (same_numbers w r (with_answer w node h).slots ∙ n) e
 
-lost_few : (node start : ℕ) (h : Heard) (w : WriterView) → (not_fetched node start h w).turn ≡ turn.Aborted → IsMinority (not_fetched node start h w).writer.causes
-lost_few node start h w e = judged_few (has_majority (round.Prepare start) (taken_out node h w).slots) (round.Prepare start) (taken_out node h w) (λ m. m) e
+lost_few : (node start : ℕ) (h : Heard) (w : WriterView) → (after_no_edits node start h w).turn ≡ turn.Aborted → IsMinority (after_no_edits node start h w).writer.causes
+lost_few node start h w e = judged_few (has_majority (round.Prepare start) (without_answer_of node h w).slots) (round.Prepare start) (without_answer_of node h w) (λ m. m) e
 
-edits_few : (b : Bool) (node start end : ℕ) (bodies : List (List ℕ)) (batch : BatchView) (w : WriterView) → (edits_fetched b node start end bodies batch w).turn ≡ turn.Aborted
-    → IsMinority (edits_fetched b node start end bodies batch w).writer.causes
+edits_few : (b : Bool) (node start end : ℕ) (bodies : List (List ℕ)) (batch : BatchView) (w : WriterView) → (after_edits b node start end bodies batch w).turn ≡ turn.Aborted
+    → IsMinority (after_edits b node start end bodies batch w).writer.causes
 edits_few true node start end bodies batch w e = absurd (cc e)
 edits_few false node start end bodies batch w e = lost_few node start Silent w e
 
-fetched_few : (node start end : ℕ) (bodies : List (List ℕ)) (h : Heard) (w : WriterView) → (fetched node start end bodies h w).turn ≡ turn.Aborted
-    → IsMinority (fetched node start end bodies h w).writer.causes
-unfolding fetched
+fetched_few : (node start end : ℕ) (bodies : List (List ℕ)) (h : Heard) (w : WriterView) → (after_fetch node start end bodies h w).turn ≡ turn.Aborted
+    → IsMinority (after_fetch node start end bodies h w).writer.causes
+unfolding after_fetch
 fetched_few node start end bodies (Answer (reply.Edits batch)) w e =
     edits_few (numbers_fit w (round.Fetch node start end bodies) && fits_edits (start + length bodies) batch) node start end bodies batch w e
 fetched_few node start end bodies Silent w e = lost_few node start Silent w e
@@ -173,11 +173,11 @@ aborts_few w r node h p n e =
     rw is few
 
 -- ## A minority aborts its round
-judged_no : (r : Round) (w : WriterView) → has_majority r w.slots ≡ false → (judged r w).turn ≡ turn.Aborted
-unfolding judged
+judged_no : (r : Round) (w : WriterView) → has_majority r w.slots ≡ false → (judgment r w).turn ≡ turn.Aborted
+unfolding judgment
 judged_no r w m = rw (and_right (numbers_fit w r) (has_majority r w.slots) m) refl
 
 pub few_abort : MinoritiesAbort
 few_abort w r node h p f a m =
-    let is : writer_heard w node h ≡ judged_when (list_any is_waiting (with_answer w node h).slots) r (with_answer w node h) = heard_is w r node h p ∙ heard_round r w node h f in
+    let is : writer_heard w node h ≡ judgment_when (list_any is_waiting (with_answer w node h).slots) r (with_answer w node h) = heard_is w r node h p ∙ heard_round r w node h f in
     rw (is, a) (judged_no r (with_answer w node h) m)

@@ -10,7 +10,7 @@ use Rattle.writer_core.specs.declared.slot.Slot.{Slot}
 use Rattle.writer_core.specs.declared.slot.Slot.TheVariants.{Waiting, LeftOut, Told}
 use Rattle.writer_core.specs.Views.{WriterView}
 use Rattle.writer_core.specs.Answers.{is_waiting}
-use Rattle.writer_core.specs.Rounds.{request_in, Judged, going}
+use Rattle.writer_core.specs.Rounds.{request_in, Judgment, keep_going}
 use Rattle.writer_core.specs.Writer.{call_in, writer_heard, heard_at, heard_in}
 use Rattle.writer_core.specs.Current.{is_fetch}
 use Rattle.writer_core.specs.RoundCalls.{waiting_from, nodes_of, calls_in, round_calls, NamesInOrder}
@@ -92,11 +92,11 @@ named_several r w node others f p e =
           let after : List Slot = set w.slots (node - 1) (Told h) in
           let left : waiting_from 1 after ≡ others = rw n (o.rest h) in
           let some : list_any is_waiting after ≡ true = some_left 1 second more after (left ∙ m) in
-          let heard : heard_in r w node h ≡ going (record w { slots = after }) = heard_round r w node h f ∙ rw some refl in
+          let heard : heard_in r w node h ≡ keep_going (record w { slots = after }) = heard_round r w node h f ∙ rw some refl in
           let calls : calls_in (phase.InRound r) (record w { slots = after }) ≡ Some (record { nodes = others; request = request_in w r }) =
           rw (nodes_wait r after f, left, request_same r w after) refl in
-          let now : writer_heard w node h ≡ going (record w { slots = after }) = ap (λ (q : Phase). heard_at q w node h) p ∙ heard in
-          ap (λ (j : Judged). round_calls j.writer) now ∙ ap (λ (q : Phase). calls_in q (record w { slots = after })) p ∙ calls;
+          let now : writer_heard w node h ≡ keep_going (record w { slots = after }) = ap (λ (q : Phase). heard_at q w node h) p ∙ heard in
+          ap (λ (j : Judgment). round_calls j.writer) now ∙ ap (λ (q : Phase). calls_in q (record w { slots = after })) p ∙ calls;
     }
 
 pub named : (w : WriterView) (r : Round) (node : ℕ) (others : List ℕ) → w.phase ≡ phase.InRound r → nodes_of r w.slots ≡ node ∷ others

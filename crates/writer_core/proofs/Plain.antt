@@ -16,7 +16,7 @@ use Rattle.writer_core.specs.declared.slot.Slot.TheVariants.{Waiting, LeftOut, T
 use Rattle.writer_core.specs.Views.{WriterView}
 use Rattle.writer_core.specs.Answers.{fits_round, is_ok, has_majority}
 use Rattle.writer_core.specs.Best.{Best, better, told_by, segment_in, best_from, newest_in, greater, greatest_newest}
-use Rattle.writer_core.specs.Rounds.{missed}
+use Rattle.writer_core.specs.Rounds.{left_out_after}
 
 -- a refusal counts as hearing nothing
 abbrev pub plain_heard : Heard → Heard
@@ -99,9 +99,9 @@ majority_plain r xs = by (count_by (is_ok r) (map plain_slot xs)) (length (map p
     by : (a b : ℕ) → a ≡ count_by (is_ok r) xs → b ≡ length xs → nat_lt b (2 * a) ≡ nat_lt (length xs) (2 * count_by (is_ok r) xs)
     by a b e f = ap (λ (x : ℕ). nat_lt x (2 * a)) f ∙ ap (λ (x : ℕ). nat_lt (length xs) (2 * x)) e
 
-pub missed_plain : (r : Round) (xs : List Slot) → missed r (map plain_slot xs) ≡ missed r xs
+pub missed_plain : (r : Round) (xs : List Slot) → left_out_after r (map plain_slot xs) ≡ left_out_after r xs
 missed_plain r [] = refl
-missed_plain r (x ∷ xs) = cons_same (not (is_ok r (plain_slot x))) (not (is_ok r x)) (missed r (map plain_slot xs)) (missed r xs) (ap not (ok_plain r x)) (missed_plain r xs)
+missed_plain r (x ∷ xs) = cons_same (not (is_ok r (plain_slot x))) (not (is_ok r x)) (left_out_after r (map plain_slot xs)) (left_out_after r xs) (ap not (ok_plain r x)) (missed_plain r xs)
 
 segment_plain : (start : ℕ) (x : Slot) → segment_in start (plain_slot x) ≡ segment_in start x
 segment_plain start Waiting = refl

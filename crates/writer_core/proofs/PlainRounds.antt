@@ -17,7 +17,7 @@ use Rattle.writer_core.specs.declared.cause.Cause.{Cause}
 use Rattle.writer_core.specs.Views.{WriterView}
 use Rattle.writer_core.specs.Answers.{has_majority, fits_edits, cause_of}
 use Rattle.writer_core.specs.Best.{Best, best_of, greatest_newest}
-use Rattle.writer_core.specs.Rounds.{numbers_fit, missed, Judged, next_serial, with_causes, judged_by, judged, failed, taken_out, edits_fetched, not_fetched, fetched, after_propose, recovering, after_finalize, after_open, after_write}
+use Rattle.writer_core.specs.Rounds.{numbers_fit, left_out_after, Judgment, next_serial, with_causes, judgment_by, judgment, failure_of, without_answer_of, after_edits, after_no_edits, after_fetch, after_propose, begin_recovery, after_finalize, after_open, after_write}
 use Rattle.writer_core.proofs.Plain.{plain_heard, plain_slot, plain_start, plain_next, plain, slots_twice, majority_plain, missed_plain, best_plain, newest_plain}
 
 -- a round that is heard slot by slot, under an epoch
@@ -50,9 +50,9 @@ proposed : (o : Option ℕ) (w : WriterView) (start next : ℕ) (causes : List C
 proposed None w start next causes = (refl, tt)
 proposed (Some at) w start next causes = (refl, tt)
 
-recovered : (o : Option Best) (at : ℕ) (w : WriterView) (start next : ℕ) (causes : List Cause) → IsAlike (recovering at o (next_serial (with_causes (round.Prepare at) (parted w start next causes)))) (recovering at o (next_serial (with_causes (round.Prepare at) w)))
+recovered : (o : Option Best) (at : ℕ) (w : WriterView) (start next : ℕ) (causes : List Cause) → IsAlike (begin_recovery at o (next_serial (with_causes (round.Prepare at) (parted w start next causes)))) (begin_recovery at o (next_serial (with_causes (round.Prepare at) w)))
 recovered None at w start next causes = (refl, tt)
-recovered (Some b) at w start next causes = (kept (plain (recovering at (Some b) (next_serial (with_causes (round.Prepare at) w)))) _ _ (slots_twice w.slots), tt)
+recovered (Some b) at w start next causes = (kept (plain (begin_recovery at (Some b) (next_serial (with_causes (round.Prepare at) w)))) _ _ (slots_twice w.slots), tt)
 
 finalized : (a : Aim) (end : ℕ) (w : WriterView) (start next : ℕ) (causes : List Cause) → IsAlike (after_finalize a end (next_serial (parted w start next causes))).writer (after_finalize a end (next_serial w)).writer
 finalized aim.Close end w start next causes = (kept (plain (after_finalize aim.Close end (next_serial w)).writer) _ _ (slots_twice w.slots), tt)
@@ -86,35 +86,35 @@ written aim.Purge first last w left causes = (kept (plain (after_write aim.Purge
 swap : {A : Type 0} (f : A → WriterView) (v : WriterView) (x y : A) → x ≡ y → IsAlike (f y) v → IsAlike (f x) v
 swap f v x y e h = subst (λ z. IsAlike (f z) v) (sym e) h
 
-round_by : (b : Bool) (r : Round) (w : WriterView) → IsWhole r → IsAlike (judged_by b r (plain (at_phase (phase.InRound r) w))).writer (judged_by b r (at_phase (phase.InRound r) w)).writer
-round_by false r w i = (kept (plain (judged_by false r (at_phase (phase.InRound r) w)).writer) _ _ (slots_twice w.slots), tt)
+round_by : (b : Bool) (r : Round) (w : WriterView) → IsWhole r → IsAlike (judgment_by b r (plain (at_phase (phase.InRound r) w))).writer (judgment_by b r (at_phase (phase.InRound r) w)).writer
+round_by false r w i = (kept (plain (judgment_by false r (at_phase (phase.InRound r) w)).writer) _ _ (slots_twice w.slots), tt)
 round_by true round.State w i = absurd i
 round_by true (round.Fetch node start end bodies) w i = absurd i
 round_by true round.Propose w i =
     swap (λ (o : Option ℕ). after_propose o (next_serial (with_causes round.Propose (plain (at_phase (phase.InRound round.Propose) w))))) (after_propose (greatest_newest w.slots) (next_serial (with_causes round.Propose (at_phase (phase.InRound round.Propose) w)))) _ _ (newest_plain w.slots)
     (proposed (greatest_newest w.slots) (at_phase (phase.InRound round.Propose) w) 0 0 [])
 round_by true (round.Prepare start) w i =
-    swap (λ (o : Option Best). recovering start o (next_serial (with_causes (round.Prepare start) (plain (at_phase (phase.InRound (round.Prepare start)) w))))) (recovering start (best_of start w.slots) (next_serial (with_causes (round.Prepare start) (at_phase (phase.InRound (round.Prepare start)) w)))) _ _ (best_plain start 1 w.slots)
+    swap (λ (o : Option Best). begin_recovery start o (next_serial (with_causes (round.Prepare start) (plain (at_phase (phase.InRound (round.Prepare start)) w))))) (begin_recovery start (best_of start w.slots) (next_serial (with_causes (round.Prepare start) (at_phase (phase.InRound (round.Prepare start)) w)))) _ _ (best_plain start 1 w.slots)
     (recovered (best_of start w.slots) start (at_phase (phase.InRound (round.Prepare start)) w) 0 0 [])
 round_by true (round.Accept batch) w i = (refl, tt)
 round_by true (round.Finalize start end) w i =
     let r : Round = round.Finalize start end in
     finalized w.aim end (with_causes r (at_phase (phase.InRound r) w)) 0 0 (map (cause_of r) (map plain_slot w.slots))
 round_by true round.Start w i =
-    (ap (λ (left : List Bool). plain (record (judged_by true round.Start (at_phase (phase.InRound round.Start) w)).writer { left = left; slots = map (λ l. cond l LeftOut Waiting) left })) (missed_plain round.Start w.slots), tt)
+    (ap (λ (left : List Bool). plain (record (judgment_by true round.Start (at_phase (phase.InRound round.Start) w)).writer { left = left; slots = map (λ l. cond l LeftOut Waiting) left })) (missed_plain round.Start w.slots), tt)
 round_by true round.Open w i =
     let v : WriterView = with_causes round.Open (at_phase (phase.InRound round.Open) w) in
     let causes : List Cause = map (cause_of round.Open) (map plain_slot w.slots) in
-    swap (λ (left : List Bool). (after_open w.aim (opened_with (parted v w.start 0 causes) left)).writer) (after_open w.aim (opened_with v (missed round.Open w.slots))).writer _ _ (missed_plain round.Open w.slots)
-    (opened w.aim v (missed round.Open w.slots) 0 causes)
+    swap (λ (left : List Bool). (after_open w.aim (opened_with (parted v w.start 0 causes) left)).writer) (after_open w.aim (opened_with v (left_out_after round.Open w.slots))).writer _ _ (missed_plain round.Open w.slots)
+    (opened w.aim v (left_out_after round.Open w.slots) 0 causes)
 round_by true (round.Write bodies) w i =
     let r : Round = round.Write bodies in
     let v : WriterView = with_causes r (at_phase (phase.InRound r) w) in
     let causes : List Cause = map (cause_of r) (map plain_slot w.slots) in
     let last : ℕ = w.next + length bodies - 1 in
-    swap (λ (left : List Bool). (after_write w.aim w.next last (written_with (parted v w.start w.next causes) last left)).writer) (after_write w.aim w.next last (written_with v last (missed r w.slots))).writer _ _ (missed_plain r w.slots)
-    (written w.aim w.next last v (missed r w.slots) causes)
-round_by true (round.Purge min) w i = (kept (plain (judged_by true (round.Purge min) (at_phase (phase.InRound (round.Purge min)) w)).writer) _ _ (slots_twice w.slots), tt)
+    swap (λ (left : List Bool). (after_write w.aim w.next last (written_with (parted v w.start w.next causes) last left)).writer) (after_write w.aim w.next last (written_with v last (left_out_after r w.slots))).writer _ _ (missed_plain r w.slots)
+    (written w.aim w.next last v (left_out_after r w.slots) causes)
+round_by true (round.Purge min) w i = (kept (plain (judgment_by true (round.Purge min) (at_phase (phase.InRound (round.Purge min)) w)).writer) _ _ (slots_twice w.slots), tt)
 
 -- the test of a round reads the numbers and the parts that count
 test_alike : (r : Round) (w : WriterView) → IsWhole r
@@ -130,10 +130,10 @@ test_alike round.Open w i = ap (λ (b : Bool). numbers_fit (at_phase (phase.InRo
 test_alike (round.Write bodies) w i = ap (λ (b : Bool). numbers_fit (at_phase (phase.InRound (round.Write bodies)) w) (round.Write bodies) && b) (majority_plain (round.Write bodies) w.slots)
 test_alike (round.Purge min) w i = ap (λ (b : Bool). numbers_fit (at_phase (phase.InRound (round.Purge min)) w) (round.Purge min) && b) (majority_plain (round.Purge min) w.slots)
 
-judged_plain : (r : Round) (w : WriterView) → IsWhole r → IsAlike (judged r (plain (at_phase (phase.InRound r) w))).writer (judged r (at_phase (phase.InRound r) w)).writer
-unfolding judged
+judged_plain : (r : Round) (w : WriterView) → IsWhole r → IsAlike (judgment r (plain (at_phase (phase.InRound r) w))).writer (judgment r (at_phase (phase.InRound r) w)).writer
+unfolding judgment
 judged_plain r w i =
-    swap (λ (b : Bool). (judged_by b r (plain (at_phase (phase.InRound r) w))).writer) (judged_by (numbers_fit (at_phase (phase.InRound r) w) r && has_majority r w.slots) r (at_phase (phase.InRound r) w)).writer _ _ (test_alike r w i)
+    swap (λ (b : Bool). (judgment_by b r (plain (at_phase (phase.InRound r) w))).writer) (judgment_by (numbers_fit (at_phase (phase.InRound r) w) r && has_majority r w.slots) r (at_phase (phase.InRound r) w)).writer _ _ (test_alike r w i)
     (round_by (numbers_fit (at_phase (phase.InRound r) w) r && has_majority r w.slots) r w i)
 
 -- ## For two writers that are alike
@@ -158,48 +158,45 @@ by_plain f p h v u e same = alike_trans (f v) (f (plain v)) (f u) (alike_sym (f 
     one : (w : WriterView) → w.phase ≡ p → IsAlike (f (plain w)) (f w)
     one w is = subst (λ (x : WriterView). IsAlike (f (plain x)) (f x)) (sym (phase_same p w is)) (h w)
 
-pub judged_alike : (r : Round) (v u : WriterView) → IsWhole r → v.phase ≡ phase.InRound r → plain v ≡ plain u → IsAlike (judged r v).writer (judged r u).writer
-judged_alike r v u i e same = by_plain (λ (w : WriterView). (judged r w).writer) (phase.InRound r) (λ w. judged_plain r w i) v u e same
+pub judged_alike : (r : Round) (v u : WriterView) → IsWhole r → v.phase ≡ phase.InRound r → plain v ≡ plain u → IsAlike (judgment r v).writer (judgment r u).writer
+judged_alike r v u i e same = by_plain (λ (w : WriterView). (judgment r w).writer) (phase.InRound r) (λ w. judged_plain r w i) v u e same
 
 -- ## A piece that was heard
 -- without edits, a node is taken out of the count, whatever it answered
-lost_plain : (h : Heard) → plain_slot (Told (failed h)) ≡ Told Silent
+lost_plain : (h : Heard) → plain_slot (Told (failure_of h)) ≡ Told Silent
 lost_plain Silent = refl
 lost_plain (Answer (reply.Refused f)) = refl
 lost_plain (Answer _) = refl
 
-abbrev prepared : ℕ → WriterView → Judged
-prepared start w = judged_by (has_majority (round.Prepare start) w.slots) (round.Prepare start) w
+abbrev prepared : ℕ → WriterView → Judgment
+prepared start w = judgment_by (has_majority (round.Prepare start) w.slots) (round.Prepare start) w
 
-prepared_by : (b : Bool) (start : ℕ) (p : Phase) (w : WriterView) → IsAlike (judged_by b (round.Prepare start) (plain (at_phase p w))).writer (judged_by b (round.Prepare start) (at_phase p w)).writer
-prepared_by false start p w = (kept (plain (judged_by false (round.Prepare start) (at_phase p w)).writer) _ _ (slots_twice w.slots), tt)
+prepared_by : (b : Bool) (start : ℕ) (p : Phase) (w : WriterView) → IsAlike (judgment_by b (round.Prepare start) (plain (at_phase p w))).writer (judgment_by b (round.Prepare start) (at_phase p w)).writer
+prepared_by false start p w = (kept (plain (judgment_by false (round.Prepare start) (at_phase p w)).writer) _ _ (slots_twice w.slots), tt)
 prepared_by true start p w =
     let r : Round = round.Prepare start in
-    swap (λ (o : Option Best). recovering start o (next_serial (with_causes r (plain (at_phase p w))))) (recovering start (best_of start w.slots) (next_serial (with_causes r (at_phase p w)))) _ _ (best_plain start 1 w.slots)
+    swap (λ (o : Option Best). begin_recovery start o (next_serial (with_causes r (plain (at_phase p w))))) (begin_recovery start (best_of start w.slots) (next_serial (with_causes r (at_phase p w)))) _ _ (best_plain start 1 w.slots)
     (recovered (best_of start w.slots) start (at_phase p w) (plain_start p w.start) (plain_next p w.next) [])
 
 prepared_plain : (start : ℕ) (p : Phase) (w : WriterView) → IsAlike (prepared start (plain (at_phase p w))).writer (prepared start (at_phase p w)).writer
 prepared_plain start p w =
-    swap (λ (b : Bool). (judged_by b (round.Prepare start) (plain (at_phase p w))).writer) (prepared start (at_phase p w)).writer _ _ (majority_plain (round.Prepare start) w.slots)
+    swap (λ (b : Bool). (judgment_by b (round.Prepare start) (plain (at_phase p w))).writer) (prepared start (at_phase p w)).writer _ _ (majority_plain (round.Prepare start) w.slots)
     (prepared_by (has_majority (round.Prepare start) w.slots) start p w)
 
 prepared_alike : (start : ℕ) (v u : WriterView) → plain v ≡ plain u → IsAlike (prepared start v).writer (prepared start u).writer
 prepared_alike start v u same = by_plain (λ (w : WriterView). (prepared start w).writer) v.phase (λ w. prepared_plain start v.phase w) v u refl same
 
-set_alike : (w : WriterView) (xs ys : List Slot) → map plain_slot xs ≡ map plain_slot ys → plain (record w { slots = xs }) ≡ plain (record w { slots = ys })
-set_alike w xs ys e = ap (λ (l : List Slot). record (plain w) { slots = l }) e
+told_alike : (xs : List Slot) (i : ℕ) (h : Heard) → map plain_slot (set xs i (Told (failure_of h))) ≡ set (map plain_slot xs) i (Told Silent)
+told_alike xs i h = map-set plain_slot xs i (Told (failure_of h)) ∙ ap (λ (x : Slot). set (map plain_slot xs) i x) (lost_plain h)
 
-told_alike : (xs : List Slot) (i : ℕ) (h : Heard) → map plain_slot (set xs i (Told (failed h))) ≡ set (map plain_slot xs) i (Told Silent)
-told_alike xs i h = map-set plain_slot xs i (Told (failed h)) ∙ ap (λ (x : Slot). set (map plain_slot xs) i x) (lost_plain h)
-
-taken_alike : (node : ℕ) (h g : Heard) (v u : WriterView) → plain v ≡ plain u → plain (taken_out node h v) ≡ plain (taken_out node g u)
+taken_alike : (node : ℕ) (h g : Heard) (v u : WriterView) → plain v ≡ plain u → plain (without_answer_of node h v) ≡ plain (without_answer_of node g u)
 taken_alike node h g v u same =
     ap (λ (l : List Slot). record (plain v) { slots = l }) (told_alike v.slots (node - 1) h)
     ∙ ap (λ (w : WriterView). record w { slots = set w.slots (node - 1) (Told Silent) }) same
     ∙ sym (ap (λ (l : List Slot). record (plain u) { slots = l }) (told_alike u.slots (node - 1) g))
 
-pub lost_alike : (node start : ℕ) (h g : Heard) (v u : WriterView) → plain v ≡ plain u → IsAlike (not_fetched node start h v).writer (not_fetched node start g u).writer
-lost_alike node start h g v u same = prepared_alike start (taken_out node h v) (taken_out node g u) (taken_alike node h g v u same)
+pub lost_alike : (node start : ℕ) (h g : Heard) (v u : WriterView) → plain v ≡ plain u → IsAlike (after_no_edits node start h v).writer (after_no_edits node start g u).writer
+lost_alike node start h g v u same = prepared_alike start (without_answer_of node h v) (without_answer_of node g u) (taken_alike node h g v u same)
 
 abbrev get : ℕ → ℕ → ℕ → List (List ℕ) → Phase
 get node start end bodies = phase.InRound (round.Fetch node start end bodies)
@@ -211,7 +208,7 @@ pieced_plain true node start end bodies p w = (refl, tt)
 pieced_plain false node start end bodies p w = (kept (plain (at_phase (get node start end bodies) w)) _ _ (slots_twice w.slots), tt)
 
 edits_plain : (b : Bool) (node start end : ℕ) (bodies : List (List ℕ)) (batch : BatchView) (w : WriterView)
-    → IsAlike (edits_fetched b node start end bodies batch (plain (at_phase (get node start end bodies) w))).writer (edits_fetched b node start end bodies batch (at_phase (get node start end bodies) w)).writer
+    → IsAlike (after_edits b node start end bodies batch (plain (at_phase (get node start end bodies) w))).writer (after_edits b node start end bodies batch (at_phase (get node start end bodies) w)).writer
 edits_plain true node start end bodies batch w =
     let more : List (List ℕ) = bodies ++ take (end + 1 - (start + length bodies)) batch.bodies in
     pieced_plain (nat_lt end (start + length more)) node start end more (get node start end bodies) (next_serial w)
@@ -219,25 +216,25 @@ edits_plain false node start end bodies batch w =
     lost_alike node start Silent Silent (plain (at_phase (get node start end bodies) w)) (at_phase (get node start end bodies) w) (kept (plain (at_phase (get node start end bodies) w)) _ _ (slots_twice w.slots))
 
 edits_alike : (node start end : ℕ) (bodies : List (List ℕ)) (batch : BatchView) (v u : WriterView) → v.phase ≡ get node start end bodies → plain v ≡ plain u
-    → IsAlike (fetched node start end bodies (Answer (reply.Edits batch)) v).writer (fetched node start end bodies (Answer (reply.Edits batch)) u).writer
-unfolding fetched
+    → IsAlike (after_fetch node start end bodies (Answer (reply.Edits batch)) v).writer (after_fetch node start end bodies (Answer (reply.Edits batch)) u).writer
+unfolding after_fetch
 edits_alike node start end bodies batch v u e same =
-    by_plain (λ (w : WriterView). (fetched node start end bodies (Answer (reply.Edits batch)) w).writer) (get node start end bodies)
+    by_plain (λ (w : WriterView). (after_fetch node start end bodies (Answer (reply.Edits batch)) w).writer) (get node start end bodies)
     (λ w. edits_plain (numbers_fit w (round.Fetch node start end bodies) && fits_edits (start + length bodies) batch) node start end bodies batch w) v u e same
 
 -- a piece is heard alike where both heard the same, or a refusal and nothing
 pub fetched_alike : (node start end : ℕ) (bodies : List (List ℕ)) (h g : Heard) (v u : WriterView) → v.phase ≡ get node start end bodies → plain v ≡ plain u → plain_heard h ≡ plain_heard g
-    → IsAlike (fetched node start end bodies h v).writer (fetched node start end bodies g u).writer
-unfolding fetched
+    → IsAlike (after_fetch node start end bodies h v).writer (after_fetch node start end bodies g u).writer
+unfolding after_fetch
 fetched_alike node start end bodies h g v u e same eq = go h g eq
   where
     lost : Heard → Heard → Type 0
-    lost x y = IsAlike (not_fetched node start x v).writer (not_fetched node start y u).writer
+    lost x y = IsAlike (after_no_edits node start x v).writer (after_no_edits node start y u).writer
 
-    go : (x y : Heard) → plain_heard x ≡ plain_heard y → IsAlike (fetched node start end bodies x v).writer (fetched node start end bodies y u).writer
+    go : (x y : Heard) → plain_heard x ≡ plain_heard y → IsAlike (after_fetch node start end bodies x v).writer (after_fetch node start end bodies y u).writer
     go (Answer (reply.Edits a)) (Answer (reply.Edits b)) i =
         let one : a ≡ b = cc i in
-        subst (λ (z : BatchView). IsAlike (fetched node start end bodies (Answer (reply.Edits a)) v).writer (fetched node start end bodies (Answer (reply.Edits z)) u).writer) one
+        subst (λ (z : BatchView). IsAlike (after_fetch node start end bodies (Answer (reply.Edits a)) v).writer (after_fetch node start end bodies (Answer (reply.Edits z)) u).writer) one
         (edits_alike node start end bodies a v u e same)
     go (Answer (reply.Edits a)) Silent i = absurd (cc i)
     go (Answer (reply.Edits a)) (Answer (reply.Refused f)) i = absurd (cc i)

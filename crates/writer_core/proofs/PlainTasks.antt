@@ -17,11 +17,6 @@ abbrev pub IsUnder : Task → Type 0
 IsUnder task.Takeover = ⊥
 IsUnder _ = Unit {0}
 
--- in a whole round
-abbrev pub InWhole : Phase → Type 0
-InWhole (phase.InRound r) = IsWhole r
-InWhole _ = ⊥
-
 -- It begins, in a whole round, for both; or for neither, and leaves the writer as it was.
 pub data BeginsAlike (v u : WriterView) (t : Task) : Type 0 where
   goes : (r : Round) → IsWhole r → (writer_begun v t).begun ≡ begun.Going → (writer_begun u t).begun ≡ begun.Going

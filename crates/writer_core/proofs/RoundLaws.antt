@@ -12,9 +12,9 @@ use Rattle.writer_core.specs.declared.slot.Slot.{Slot}
 use Rattle.writer_core.specs.declared.slot.Slot.TheVariants.{Waiting, LeftOut, Told}
 use Rattle.writer_core.specs.Views.{WriterView}
 use Rattle.writer_core.specs.Answers.{is_ok, is_waiting, has_majority}
-use Rattle.writer_core.specs.Rounds.{judged, going, request_in}
-use Rattle.writer_core.specs.Writer.{is_under_way, next_call, call_in, writer_heard, judged_when}
-use Rattle.writer_core.specs.Whole.{heard_of, filled, round_heard}
+use Rattle.writer_core.specs.Rounds.{judgment, keep_going, request_in}
+use Rattle.writer_core.specs.Writer.{is_under_way, next_call, call_in, writer_heard, judgment_when}
+use Rattle.writer_core.specs.Whole.{heard_of, fill_slots, round_heard}
 use Rattle.writer_core.specs.Current.{is_fetch, round_in}
 use Rattle.writer_core.specs.Calls.{hear_next, hear_more, calls_of, AnswersBoth}
 use Rattle.writer_core.proofs.Steps.{heard_whole}
@@ -53,8 +53,8 @@ none_wait (Waiting ∷ slots) h = absurd (omega (arith, h, count_cons is_waiting
 none_wait (LeftOut ∷ slots) h = none_wait slots (omega (arith, h))
 none_wait (Told t ∷ slots) h = none_wait slots (omega (arith, h))
 
-filled_none : (node : ℕ) (heard : ℕ → Option Reply) (slots : List Slot) → count_by is_waiting slots ≡ 0 → filled node heard slots ≡ slots
-unfolding filled
+filled_none : (node : ℕ) (heard : ℕ → Option Reply) (slots : List Slot) → count_by is_waiting slots ≡ 0 → fill_slots node heard slots ≡ slots
+unfolding fill_slots
 filled_none node heard [] h = refl
 filled_none node heard (Waiting ∷ slots) h = absurd (omega (arith, h, count_cons is_waiting Waiting slots))
 filled_none node heard (LeftOut ∷ slots) h = ap (λ ss. LeftOut ∷ ss) (filled_none (node + 1) heard slots (omega (arith, h)))
@@ -62,8 +62,8 @@ filled_none node heard (Told t ∷ slots) h = ap (λ ss. Told t ∷ ss) (filled_
 
 -- the first one that waits may be filled before the others
 filled_first : (node : ℕ) (heard : ℕ → Option Reply) (slots : List Slot) (i : ℕ) → slice_get slots i ≡ Some Waiting
-    → filled node heard (set slots i (Told (heard_of (heard (node + i))))) ≡ filled node heard slots
-unfolding filled
+    → fill_slots node heard (set slots i (Told (heard_of (heard (node + i))))) ≡ fill_slots node heard slots
+unfolding fill_slots
 filled_first node heard [] i h = cc
 filled_first node heard (s ∷ slots) zero h =
     let e : s ≡ Waiting = cc in let n : node + 0 ≡ node = omega arith in rw (e, n) refl
@@ -102,7 +102,7 @@ call_round (round.Fetch node start end bodies) w i f e = cc
 pub one_heard : (w : WriterView) (r : Round) (heard : ℕ → Option Reply) (f : FirstWaiting w.slots) → w.phase ≡ phase.InRound r → is_fetch r ≡ false
     → hear_next heard w
     ≡ (let after : List Slot = set w.slots f.place (Told (heard_of (heard (1 + f.place)))) in
-    judged_when (list_any is_waiting after) r (record w { slots = after }))
+    judgment_when (list_any is_waiting after) r (record w { slots = after }))
 unfolding writer_heard
 one_heard w r heard f p n =
     let c : next_call w ≡ Some (f.place + 1, request_in w r) = rw p (call_round r w f.place n (placed w.slots f.place f.is f.within)) in
@@ -113,7 +113,7 @@ one_heard w r heard f p n =
     rw c (heard_whole w.phase w (f.place + 1) (heard_of (heard (f.place + 1))) u k ∙ rw (p, q, o) refl)
 
 whole_round : (r : Round) (heard : ℕ → Option Reply) (w : WriterView) → is_fetch r ≡ false
-    → round_heard r heard w ≡ judged r (record w { slots = filled 1 heard w.slots })
+    → round_heard r heard w ≡ judgment r (record w { slots = fill_slots 1 heard w.slots })
 whole_round round.State heard w n = refl
 whole_round round.Propose heard w n = refl
 whole_round (round.Prepare start) heard w n = refl
@@ -125,37 +125,25 @@ whole_round (round.Write bodies) heard w n = refl
 whole_round (round.Purge min) heard w n = refl
 whole_round (round.Fetch node start end bodies) heard w n = cc
 
-calls_wait : (r : Round) (slots : List Slot) → is_fetch r ≡ false → calls_of r slots ≡ count_by is_waiting slots
-calls_wait round.State slots n = refl
-calls_wait round.Propose slots n = refl
-calls_wait (round.Prepare start) slots n = refl
-calls_wait (round.Accept batch) slots n = refl
-calls_wait (round.Finalize start end) slots n = refl
-calls_wait round.Start slots n = refl
-calls_wait round.Open slots n = refl
-calls_wait (round.Write bodies) slots n = refl
-calls_wait (round.Purge min) slots n = refl
-calls_wait (round.Fetch node start end bodies) slots n = cc
-
 several : (w : WriterView) (r : Round) (heard : ℕ → Option Reply) (more : ℕ) → w.phase ≡ phase.InRound r → is_fetch r ≡ false
-    → count_by is_waiting w.slots ≡ more + 1 → hear_more more heard w ≡ judged r (record w { slots = filled 1 heard w.slots })
+    → count_by is_waiting w.slots ≡ more + 1 → hear_more more heard w ≡ judgment r (record w { slots = fill_slots 1 heard w.slots })
 unfolding hear_more
 several w r heard zero p n e =
     let f = first_waiting w.slots (omega (arith, e)) in
     let h : Heard = heard_of (heard (1 + f.place)) in
     let after : List Slot = set w.slots f.place (Told h) in
     let z : count_by is_waiting after ≡ 0 = omega (arith, fewer_wait w.slots f.place h f.waits, e) in
-    let same : filled 1 heard after ≡ filled 1 heard w.slots = filled_first 1 heard w.slots f.place f.waits in
-    one_heard w r heard f p n ∙ rw (none_wait after z) (ap (λ ss. judged r (record w { slots = ss })) (sym (filled_none 1 heard after z) ∙ same))
+    let same : fill_slots 1 heard after ≡ fill_slots 1 heard w.slots = filled_first 1 heard w.slots f.place f.waits in
+    one_heard w r heard f p n ∙ rw (none_wait after z) (ap (λ ss. judgment r (record w { slots = ss })) (sym (filled_none 1 heard after z) ∙ same))
 several w r heard (suc more) p n e =
     let f = first_waiting w.slots (omega (arith, e)) in
     let h : Heard = heard_of (heard (1 + f.place)) in
     let after : List Slot = set w.slots f.place (Told h) in
     let left : count_by is_waiting after ≡ more + 1 = omega (arith, fewer_wait w.slots f.place h f.waits, e) in
     let some : list_any is_waiting after ≡ true = some_wait after (omega (arith, left)) in
-    let one : hear_next heard w ≡ going (record w { slots = after }) = one_heard w r heard f p n ∙ rw some refl in
-    let same : filled 1 heard after ≡ filled 1 heard w.slots = filled_first 1 heard w.slots f.place f.waits in
-    rw one (several (record w { slots = after }) r heard more p n left ∙ ap (λ ss. judged r (record w { slots = ss })) same)
+    let one : hear_next heard w ≡ keep_going (record w { slots = after }) = one_heard w r heard f p n ∙ rw some refl in
+    let same : fill_slots 1 heard after ≡ fill_slots 1 heard w.slots = filled_first 1 heard w.slots f.place f.waits in
+    rw one (several (record w { slots = after }) r heard more p n left ∙ ap (λ ss. judgment r (record w { slots = ss })) same)
 
 -- a fetch makes one call
 fetch_heard : (w : WriterView) (node start end : ℕ) (bodies : List (List ℕ)) (heard : ℕ → Option Reply) → w.phase ≡ phase.InRound (round.Fetch node start end bodies)

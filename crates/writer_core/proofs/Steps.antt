@@ -8,12 +8,12 @@ use Rattle.writer_core.specs.declared.phase.Phase.{Phase}
 use Rattle.writer_core.specs.declared.phase.Phase.TheVariants as phase
 use Rattle.writer_core.specs.Views.{WriterView}
 use Rattle.writer_core.specs.Answers.{is_waiting}
-use Rattle.writer_core.specs.Writer.{is_under_way, heard_in, heard_at, judged_when, with_answer}
+use Rattle.writer_core.specs.Writer.{is_under_way, heard_in, heard_at, judgment_when, with_answer}
 use Rattle.writer_core.specs.Current.{is_fetch, round_in, fetched_in}
 
 -- a round that asks several nodes
 pub heard_round : (r : Round) (w : WriterView) (node : ℕ) (heard : Heard) → is_fetch r ≡ false
-    → heard_in r w node heard ≡ judged_when (list_any is_waiting (with_answer w node heard).slots) r (with_answer w node heard)
+    → heard_in r w node heard ≡ judgment_when (list_any is_waiting (with_answer w node heard).slots) r (with_answer w node heard)
 heard_round round.State w node heard h = refl
 heard_round round.Propose w node heard h = refl
 heard_round (round.Prepare start) w node heard h = refl
@@ -26,7 +26,7 @@ heard_round (round.Purge min) w node heard h = refl
 heard_round (round.Fetch f start end bodies) w node heard h = cc
 
 pub heard_whole : (p : Phase) (w : WriterView) (node : ℕ) (heard : Heard) → is_under_way p ≡ true → is_fetch (round_in p) ≡ false
-    → heard_at p w node heard ≡ judged_when (list_any is_waiting (with_answer w node heard).slots) (round_in p) (with_answer w node heard)
+    → heard_at p w node heard ≡ judgment_when (list_any is_waiting (with_answer w node heard).slots) (round_in p) (with_answer w node heard)
 heard_whole (phase.InRound r) w node heard u h = heard_round r w node heard h
 heard_whole phase.Idle w node heard u h = cc
 heard_whole phase.Writing w node heard u h = cc

@@ -6,7 +6,7 @@ use Rattle.writer_core.specs.declared.phase.Phase.TheVariants as phase
 use Rattle.writer_core.specs.declared.task.Task.{Task}
 use Rattle.writer_core.specs.Views.{WriterView}
 use Rattle.writer_core.specs.Writer.{writer_begun}
-use Rattle.writer_core.specs.Whole.{Takeover, Underway, round_heard, underway, is_going, begun_or, next_task, round_after, next_round, writer_at}
+use Rattle.writer_core.specs.Whole.{Takeover, TaskProgress, round_heard, progress_from, has_begun, next_begun, next_task, round_after, next_round, writer_at}
 
 abbrev pub with_tasks : Takeover → List Task → Takeover
 with_tasks t more = record t { tasks = t.tasks ++ more }
@@ -14,7 +14,7 @@ with_tasks t more = record t { tasks = t.tasks ++ more }
 abbrev pub with_heard : Takeover → (ℕ → ℕ → Option Reply) → Takeover
 with_heard t heard = record t { heard = heard }
 
-abbrev pub going_on : Underway → List Task → Underway
+abbrev pub going_on : TaskProgress → List Task → TaskProgress
 going_on u more = record u { tasks = u.tasks ++ more }
 
 -- a round is as what was heard in earlier rounds makes it
@@ -23,51 +23,51 @@ unfolding writer_at
 heard_below n t heard zero e = refl
 heard_below n t heard (suc s) e =
     ap (λ (f : ℕ → Option Reply). next_round f (writer_at n (with_heard t heard) s)) (e s (omega arith))
-    ∙ ap (λ (o : Option Underway). next_round (t.heard s) o) (heard_below n t heard s (λ x l. e x (omega arith)))
+    ∙ ap (λ (o : Option TaskProgress). next_round (t.heard s) o) (heard_below n t heard s (λ x l. e x (omega arith)))
 
 -- ## More tasks
-under_more : (p : Phase) (w : WriterView) (ts more : List Task) (u : Underway) → underway p w ts ≡ Some u → underway p w (ts ++ more) ≡ Some (going_on u more)
+under_more : (p : Phase) (w : WriterView) (ts more : List Task) (u : TaskProgress) → progress_from p w ts ≡ Some u → progress_from p w (ts ++ more) ≡ Some (going_on u more)
 under_more (phase.InRound r) w ts more u e =
     let one : record { writer = w; round = r; tasks = ts } ≡ u = cc e in
-    ap (λ (x : Underway). Some (going_on x more)) one
+    ap (λ (x : TaskProgress). Some (going_on x more)) one
 under_more phase.Idle w ts more u e = absurd (cc e)
 under_more phase.Writing w ts more u e = absurd (cc e)
 under_more phase.Stopped w ts more u e = absurd (cc e)
 
-or_more : (b : Bool) (x y : Option Underway) (z v : Option Underway) (u w : Underway) → (x ≡ Some u → z ≡ Some w) → (y ≡ Some u → v ≡ Some w) → begun_or b x y ≡ Some u → begun_or b z v ≡ Some w
+or_more : (b : Bool) (x y : Option TaskProgress) (z v : Option TaskProgress) (u w : TaskProgress) → (x ≡ Some u → z ≡ Some w) → (y ≡ Some u → v ≡ Some w) → next_begun b x y ≡ Some u → next_begun b z v ≡ Some w
 or_more true x y z v u w f g e = f e
 or_more false x y z v u w f g e = g e
 
-next_more : (w : WriterView) (ts more : List Task) (u : Underway) → next_task w ts ≡ Some u → next_task w (ts ++ more) ≡ Some (going_on u more)
+next_more : (w : WriterView) (ts more : List Task) (u : TaskProgress) → next_task w ts ≡ Some u → next_task w (ts ++ more) ≡ Some (going_on u more)
 unfolding next_task
 next_more w [] more u e = absurd (cc e)
 next_more w (t ∷ ts) more u e =
-    or_more (is_going (writer_begun w t).begun)
-    (underway (writer_begun w t).writer.phase (writer_begun w t).writer ts) (next_task w ts)
-    (underway (writer_begun w t).writer.phase (writer_begun w t).writer (ts ++ more)) (next_task w (ts ++ more)) u (going_on u more)
+    or_more (has_begun (writer_begun w t).begun)
+    (progress_from (writer_begun w t).writer.phase (writer_begun w t).writer ts) (next_task w ts)
+    (progress_from (writer_begun w t).writer.phase (writer_begun w t).writer (ts ++ more)) (next_task w (ts ++ more)) u (going_on u more)
     (λ f. under_more (writer_begun w t).writer.phase (writer_begun w t).writer ts more u f) (λ f. next_more w ts more u f) e
 
-after_more : (p : Phase) (w : WriterView) (ts more : List Task) (u : Underway) → round_after p w ts ≡ Some u → round_after p w (ts ++ more) ≡ Some (going_on u more)
+after_more : (p : Phase) (w : WriterView) (ts more : List Task) (u : TaskProgress) → round_after p w ts ≡ Some u → round_after p w (ts ++ more) ≡ Some (going_on u more)
 after_more (phase.InRound r) w ts more u e = under_more (phase.InRound r) w ts more u e
 after_more phase.Writing w ts more u e = next_more w ts more u e
 after_more phase.Idle w ts more u e = absurd (cc e)
 after_more phase.Stopped w ts more u e = absurd (cc e)
 
-abbrev all_going_on : List Task → Option Underway → Option Underway
+abbrev all_going_on : List Task → Option TaskProgress → Option TaskProgress
 all_going_on more None = None
 all_going_on more (Some x) = Some (going_on x more)
 
-pub tasks_more : (n : ℕ) (t : Takeover) (more : List Task) (s : ℕ) (u : Underway) → writer_at n t s ≡ Some u → writer_at n (with_tasks t more) s ≡ Some (going_on u more)
+pub tasks_more : (n : ℕ) (t : Takeover) (more : List Task) (s : ℕ) (u : TaskProgress) → writer_at n t s ≡ Some u → writer_at n (with_tasks t more) s ≡ Some (going_on u more)
 unfolding writer_at
 tasks_more n t more zero u e = ap (all_going_on more) e
 tasks_more n t more (suc s) u e = by (writer_at n t s) refl (λ x is. tasks_more n t more s x is) e
   where
-    by : (o : Option Underway) → writer_at n t s ≡ o → ((x : Underway) → writer_at n t s ≡ Some x → writer_at n (with_tasks t more) s ≡ Some (going_on x more))
+    by : (o : Option TaskProgress) → writer_at n t s ≡ o → ((x : TaskProgress) → writer_at n t s ≡ Some x → writer_at n (with_tasks t more) s ≡ Some (going_on x more))
         → next_round (t.heard s) o ≡ Some u → next_round (t.heard s) (writer_at n (with_tasks t more) s) ≡ Some (going_on u more)
     by None is ih f = absurd (cc f)
     by (Some x) is ih f =
         let w : WriterView = (round_heard x.round (t.heard s) x.writer).writer in
-        ap (λ (o : Option Underway). next_round (t.heard s) o) (ih x is) ∙ after_more w.phase w x.tasks more u f
+        ap (λ (o : Option TaskProgress). next_round (t.heard s) o) (ih x is) ∙ after_more w.phase w x.tasks more u f
 
 -- ## A round of the story so far: whatever tasks are still to come
 abbrev pub Reaches : ℕ → Takeover → ℕ → WriterView → Type 0
@@ -76,7 +76,7 @@ Reaches n t s w = (more : List Task) → writer_at n (with_tasks t more) s ≡ r
 pub reaches_next : (n : ℕ) (t : Takeover) (s : ℕ) (w : WriterView) (v : WriterView) → Reaches n t s w
     → ((more : List Task) → next_round (t.heard s) (round_after w.phase w more) ≡ round_after v.phase v more) → Reaches n t (suc s) v
 unfolding writer_at
-reaches_next n t s w v h f more = ap (λ (o : Option Underway). next_round (t.heard s) o) (h more) ∙ f more
+reaches_next n t s w v h f more = ap (λ (o : Option TaskProgress). next_round (t.heard s) o) (h more) ∙ f more
 
 pub reaches_heard : (n : ℕ) (t : Takeover) (heard : ℕ → ℕ → Option Reply) (s : ℕ) (w : WriterView) → ((x : ℕ) → x < s → heard x ≡ t.heard x) → Reaches n t s w → Reaches n (with_heard t heard) s w
 reaches_heard n t heard s w e h more = heard_below n (with_tasks t more) heard s e ∙ h more

@@ -14,13 +14,13 @@ use Rattle.writer_core.specs.declared.slot.Slot.{Slot}
 use Rattle.writer_core.specs.declared.slot.Slot.TheVariants.{Waiting, LeftOut, Told}
 use Rattle.writer_core.specs.Views.{WriterView}
 use Rattle.writer_core.specs.Answers.{is_waiting}
-use Rattle.writer_core.specs.Rounds.{request_in, judged}
-use Rattle.writer_core.specs.Writer.{next_call, call_in, node_in, with_answer, judged_when, heard_in}
-use Rattle.writer_core.specs.Whole.{filled, round_heard, is_called, is_waiting_at, calls_in}
+use Rattle.writer_core.specs.Rounds.{request_in, judgment}
+use Rattle.writer_core.specs.Writer.{next_call, call_in, node_in, with_answer, judgment_when, heard_in}
+use Rattle.writer_core.specs.Whole.{fill_slots, round_heard, is_called, is_waiting_at, calls_in}
 use Rattle.writer_core.proofs.Plain.{plain}
 use Rattle.writer_core.proofs.PlainRounds.{IsWhole}
 
-pub whole_judged : (r : Round) (heard : ℕ → Option Reply) (w : WriterView) → IsWhole r → round_heard r heard w ≡ judged r (record w { slots = filled 1 heard w.slots })
+pub whole_judged : (r : Round) (heard : ℕ → Option Reply) (w : WriterView) → IsWhole r → round_heard r heard w ≡ judgment r (record w { slots = fill_slots 1 heard w.slots })
 whole_judged round.State heard w i = absurd i
 whole_judged (round.Fetch node start end bodies) heard w i = absurd i
 whole_judged round.Propose heard w i = refl
@@ -32,7 +32,7 @@ whole_judged round.Open heard w i = refl
 whole_judged (round.Write bodies) heard w i = refl
 whole_judged (round.Purge min) heard w i = refl
 
-pub whole_heard : (r : Round) (w : WriterView) (node : ℕ) (h : Heard) → IsWhole r → heard_in r w node h ≡ judged_when (list_any is_waiting (with_answer w node h).slots) r (with_answer w node h)
+pub whole_heard : (r : Round) (w : WriterView) (node : ℕ) (h : Heard) → IsWhole r → heard_in r w node h ≡ judgment_when (list_any is_waiting (with_answer w node h).slots) r (with_answer w node h)
 whole_heard round.State w node h i = absurd i
 whole_heard (round.Fetch from start end bodies) w node h i = absurd i
 whole_heard round.Propose w node h i = refl

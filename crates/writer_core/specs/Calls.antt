@@ -8,20 +8,20 @@ use Rattle.writer_core.specs.declared.phase.Phase.TheVariants as phase
 use Rattle.writer_core.specs.declared.slot.Slot.{Slot}
 use Rattle.writer_core.specs.Views.{WriterView}
 use Rattle.writer_core.specs.Answers.{is_ok, is_waiting, has_majority}
-use Rattle.writer_core.specs.Rounds.{Judged, going}
+use Rattle.writer_core.specs.Rounds.{Judgment, keep_going}
 use Rattle.writer_core.specs.Writer.{next_call, writer_heard}
 use Rattle.writer_core.specs.Whole.{heard_of, round_heard}
 
-abbrev pub answered_by : Option (ℕ × Request) → (ℕ → Option Reply) → WriterView → Judged
-answered_by None heard w = going w
+abbrev pub answered_by : Option (ℕ × Request) → (ℕ → Option Reply) → WriterView → Judgment
+answered_by None heard w = keep_going w
 answered_by (Some (node, r)) heard w = writer_heard w node (heard_of (heard node))
 
 -- the call to make next is made, and heard as the table of answers says
-abbrev pub hear_next : (ℕ → Option Reply) → WriterView → Judged
+abbrev pub hear_next : (ℕ → Option Reply) → WriterView → Judgment
 hear_next heard w = answered_by (next_call w) heard w
 
 -- that call, and so many more after it
-unfoldable pub hear_more : ℕ → (ℕ → Option Reply) → WriterView → Judged
+unfoldable pub hear_more : ℕ → (ℕ → Option Reply) → WriterView → Judgment
 hear_more zero heard w = hear_next heard w
 hear_more (suc more) heard w = hear_more more heard (hear_next heard w).writer
 

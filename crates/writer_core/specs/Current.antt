@@ -10,7 +10,7 @@ use Rattle.writer_core.specs.declared.phase.Phase.{Phase}
 use Rattle.writer_core.specs.declared.phase.Phase.TheVariants as phase
 use Rattle.writer_core.specs.Views.{WriterView}
 use Rattle.writer_core.specs.Answers.{fits_edits}
-use Rattle.writer_core.specs.Rounds.{numbers_fit, next_serial, pieced, Judged, going, failed, fetched}
+use Rattle.writer_core.specs.Rounds.{numbers_fit, next_serial, keep_piece, Judgment, keep_going, failure_of, after_fetch}
 
 -- the round under way; the first one where none is
 abbrev pub round_in : Phase → Round
@@ -22,9 +22,9 @@ abbrev pub is_fetch : Round → Bool
 is_fetch (round.Fetch node start end bodies) = true
 is_fetch _ = false
 
-abbrev pub fetched_in : Round → Heard → WriterView → Judged
-fetched_in (round.Fetch node start end bodies) heard w = fetched node start end bodies heard w
-fetched_in _ heard w = going w
+abbrev pub fetched_in : Round → Heard → WriterView → Judgment
+fetched_in (round.Fetch node start end bodies) heard w = after_fetch node start end bodies heard w
+fetched_in _ heard w = keep_going w
 
 -- a piece is kept, where it fits the round
 abbrev pub piece_fits : Round → BatchView → WriterView → Bool
@@ -32,12 +32,12 @@ piece_fits (round.Fetch node start end bodies) batch w =
     numbers_fit w (round.Fetch node start end bodies) && fits_edits (start + length bodies) batch
 piece_fits _ batch w = false
 
-abbrev pub piece_kept : Round → BatchView → WriterView → Judged
+abbrev pub piece_kept : Round → BatchView → WriterView → Judgment
 piece_kept (round.Fetch node start end bodies) batch w =
-    going (pieced node start end (bodies ++ take (end + 1 - (start + length bodies)) batch.bodies) (next_serial w))
-piece_kept _ batch w = going w
+    keep_going (keep_piece node start end (bodies ++ take (end + 1 - (start + length bodies)) batch.bodies) (next_serial w))
+piece_kept _ batch w = keep_going w
 
 -- the edits of an answer to a fetch, or what is left of another answer
 abbrev pub edits_heard : Heard → Result BatchView Heard
 edits_heard (Answer (reply.Edits batch)) = Ok batch
-edits_heard heard = Err (failed heard)
+edits_heard heard = Err (failure_of heard)

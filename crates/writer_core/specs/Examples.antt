@@ -18,7 +18,7 @@ use Rattle.writer_core.specs.declared.turn.Turn.{Turn}
 use Rattle.writer_core.specs.declared.turn.Turn.TheVariants as turn
 use Rattle.writer_core.specs.declared.turn.Outcome.TheVariants as outcome
 use Rattle.writer_core.specs.Views.{WriterView}
-use Rattle.writer_core.specs.Rounds.{Judged}
+use Rattle.writer_core.specs.Rounds.{Judgment}
 use Rattle.writer_core.specs.Writer.{new_writer, writer_begun, next_call, writer_heard}
 
 -- ## A cluster of nodes, and one writer's calls to them
@@ -35,7 +35,7 @@ pub record Cluster : Type 0 where
   pub calls : List (ℕ × Request)
   pub turn : Turn
 
-abbrev pub after_call : Cluster → List NodeState → ℕ → Request → Judged → Cluster
+abbrev pub after_call : Cluster → List NodeState → ℕ → Request → Judgment → Cluster
 after_call c nodes node r judged = record { nodes = nodes; writer = judged.writer; calls = (node, r) ∷ c.calls; turn = judged.turn }
 
 abbrev pub with_node : List NodeState → ℕ → NodeState → List NodeState

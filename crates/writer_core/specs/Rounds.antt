@@ -65,122 +65,122 @@ abbrev pub none_left_out : List Bool → List Bool
 none_left_out left = map (λ l. false) left
 
 -- the nodes whose answer isn't of the Ok kind are left out from now on
-abbrev pub missed : Round → List Slot → List Bool
-missed r slots = map (λ slot. not (is_ok r slot)) slots
+abbrev pub left_out_after : Round → List Slot → List Bool
+left_out_after r slots = map (λ slot. not (is_ok r slot)) slots
 
-abbrev pub asking_all : Round → WriterView → WriterView
-asking_all r w = record w { phase = phase.InRound r; slots = to_all w.left }
+abbrev pub asks_all : Round → WriterView → WriterView
+asks_all r w = record w { phase = phase.InRound r; slots = to_all w.left }
 
-abbrev pub asking_others : Round → WriterView → WriterView
-asking_others r w = record w { phase = phase.InRound r; slots = to_others w.left }
+abbrev pub asks_others : Round → WriterView → WriterView
+asks_others r w = record w { phase = phase.InRound r; slots = to_others w.left }
 
 -- a fetch asks one node, and the prepare answers stay
-abbrev pub fetching : ℕ → Best → List (List ℕ) → WriterView → WriterView
-fetching start best bodies w = record w { phase = phase.InRound (round.Fetch best.node start best.info.end bodies) }
+abbrev pub begin_fetch : ℕ → Best → List (List ℕ) → WriterView → WriterView
+begin_fetch start best bodies w = record w { phase = phase.InRound (round.Fetch best.node start best.info.end bodies) }
 
 -- each round with a head has a serial of its own
 abbrev pub next_serial : WriterView → WriterView
 next_serial w = record w { serial = w.serial + 1 }
 
 -- ## What follows a round that was done
-pub record Judged : Type 0 where
+pub record Judgment : Type 0 where
   pub writer : WriterView
   pub turn : Turn
 
-abbrev pub going : WriterView → Judged
-going w = record { writer = w; turn = turn.Going }
+abbrev pub keep_going : WriterView → Judgment
+keep_going w = record { writer = w; turn = turn.Going }
 
-abbrev pub ended : Phase → Outcome → WriterView → Judged
-ended p o w = record { writer = record w { phase = p }; turn = turn.Done o }
+abbrev pub ends_with : Phase → Outcome → WriterView → Judgment
+ends_with p o w = record { writer = record w { phase = p }; turn = turn.Done o }
 
-abbrev pub stopped : Turn → WriterView → Judged
-stopped t w = record { writer = record w { phase = phase.Stopped }; turn = t }
+abbrev pub stops_with : Turn → WriterView → Judgment
+stops_with t w = record { writer = record w { phase = phase.Stopped }; turn = t }
 
-abbrev pub proposing : ℕ → WriterView → WriterView
-proposing told w = asking_all round.Propose (record w { epoch = told + 1; serial = 0; committed = 0 })
+abbrev pub begin_propose : ℕ → WriterView → WriterView
+begin_propose told w = asks_all round.Propose (record w { epoch = told + 1; serial = 0; committed = 0 })
 
-abbrev pub after_state : ℕ → WriterView → Judged
-after_state told w = if nat_lt told max_number then going (proposing told w) else stopped (turn.EpochLimit told) w
+abbrev pub after_state : ℕ → WriterView → Judgment
+after_state told w = if nat_lt told max_number then keep_going (begin_propose told w) else stops_with (turn.EpochLimit told) w
 
-abbrev pub starting : ℕ → WriterView → WriterView
-starting start w = asking_all round.Start (record w { start = start })
+abbrev pub begin_start : ℕ → WriterView → WriterView
+begin_start start w = asks_all round.Start (record w { start = start })
 
 abbrev pub after_propose : Option ℕ → WriterView → WriterView
-after_propose None w = starting 1 w
-after_propose (Some start) w = asking_all (round.Prepare start) w
+after_propose None w = begin_start 1 w
+after_propose (Some start) w = asks_all (round.Prepare start) w
 
 -- the best of the prepare answers: its edits are fetched; where none has the segment, the writer starts there
-abbrev pub recovering : ℕ → Option Best → WriterView → WriterView
-recovering start None w = starting start (record w { committed = start - 1 })
-recovering start (Some best) w = fetching start best [] w
+abbrev pub begin_recovery : ℕ → Option Best → WriterView → WriterView
+begin_recovery start None w = begin_start start (record w { committed = start - 1 })
+begin_recovery start (Some best) w = begin_fetch start best [] w
 
 abbrev pub after_accept : BatchView → WriterView → WriterView
-after_accept batch w = asking_others (round.Finalize batch.first (last_txid batch)) (record w { committed = last_txid batch })
+after_accept batch w = asks_others (round.Finalize batch.first (last_txid batch)) (record w { committed = last_txid batch })
 
-abbrev pub after_finalize : Aim → ℕ → WriterView → Judged
-after_finalize aim.Close end w = ended phase.Idle (outcome.Close end) w
-after_finalize _ end w = going (starting (end + 1) w)
+abbrev pub after_finalize : Aim → ℕ → WriterView → Judgment
+after_finalize aim.Close end w = ends_with phase.Idle (outcome.Close end) w
+after_finalize _ end w = keep_going (begin_start (end + 1) w)
 
-abbrev pub after_open : Aim → WriterView → Judged
-after_open aim.Roll w = ended phase.Writing (outcome.Roll w.start) w
-after_open _ w = ended phase.Writing (outcome.Takeover w.epoch w.start) w
+abbrev pub after_open : Aim → WriterView → Judgment
+after_open aim.Roll w = ends_with phase.Writing (outcome.Roll w.start) w
+after_open _ w = ends_with phase.Writing (outcome.Takeover w.epoch w.start) w
 
-abbrev pub after_write : Aim → ℕ → ℕ → WriterView → Judged
-after_write aim.Roll first last w = going (asking_others (round.Finalize w.start last) w)
-after_write aim.Close first last w = going (asking_others (round.Finalize w.start last) w)
-after_write _ first last w = ended phase.Writing (outcome.Log first last) w
+abbrev pub after_write : Aim → ℕ → ℕ → WriterView → Judgment
+after_write aim.Roll first last w = keep_going (asks_others (round.Finalize w.start last) w)
+after_write aim.Close first last w = keep_going (asks_others (round.Finalize w.start last) w)
+after_write _ first last w = ends_with phase.Writing (outcome.Log first last) w
 
-abbrev pub done_in : Round → WriterView → Judged
-done_in round.State w = after_state (greatest_promise w.slots) w
-done_in round.Propose w = going (after_propose (greatest_newest w.slots) (next_serial w))
-done_in (round.Prepare start) w = going (recovering start (best_of start w.slots) (next_serial w))
-done_in (round.Fetch node start end bodies) w = going (recovering start (best_of start w.slots) (next_serial w))
-done_in (round.Accept batch) w = going (after_accept batch (next_serial w))
-done_in (round.Finalize start end) w = after_finalize w.aim end (next_serial w)
-done_in round.Start w = going (asking_others round.Open (record (next_serial w) { left = missed round.Start w.slots }))
-done_in round.Open w = after_open w.aim (record (next_serial w) { committed = w.start; next = w.start + 1; left = missed round.Open w.slots })
-done_in (round.Write bodies) w =
+abbrev pub after_round : Round → WriterView → Judgment
+after_round round.State w = after_state (greatest_promise w.slots) w
+after_round round.Propose w = keep_going (after_propose (greatest_newest w.slots) (next_serial w))
+after_round (round.Prepare start) w = keep_going (begin_recovery start (best_of start w.slots) (next_serial w))
+after_round (round.Fetch node start end bodies) w = keep_going (begin_recovery start (best_of start w.slots) (next_serial w))
+after_round (round.Accept batch) w = keep_going (after_accept batch (next_serial w))
+after_round (round.Finalize start end) w = after_finalize w.aim end (next_serial w)
+after_round round.Start w = keep_going (asks_others round.Open (record (next_serial w) { left = left_out_after round.Start w.slots }))
+after_round round.Open w = after_open w.aim (record (next_serial w) { committed = w.start; next = w.start + 1; left = left_out_after round.Open w.slots })
+after_round (round.Write bodies) w =
     let last = w.next + length bodies - 1 in
-    after_write w.aim w.next last (record (next_serial w) { committed = last; next = last + 1; left = missed (round.Write bodies) w.slots })
-done_in (round.Purge min) w = ended phase.Writing outcome.Purge (next_serial w)
+    after_write w.aim w.next last (record (next_serial w) { committed = last; next = last + 1; left = left_out_after (round.Write bodies) w.slots })
+after_round (round.Purge min) w = ends_with phase.Writing outcome.Purge (next_serial w)
 
 -- ## A round that was heard whole
 abbrev pub with_causes : Round → WriterView → WriterView
 with_causes r w = record w { causes = map (cause_of r) w.slots }
 
 -- done where a majority answered with the Ok kind, and aborted otherwise
-abbrev pub judged_by : Bool → Round → WriterView → Judged
-judged_by true r w = done_in r (with_causes r w)
-judged_by false r w = stopped turn.Aborted (with_causes r w)
+abbrev pub judgment_by : Bool → Round → WriterView → Judgment
+judgment_by true r w = after_round r (with_causes r w)
+judgment_by false r w = stops_with turn.Aborted (with_causes r w)
 
-unfoldable pub judged : Round → WriterView → Judged
-judged r w = judged_by (numbers_fit w r && has_majority r w.slots) r w
+unfoldable pub judgment : Round → WriterView → Judgment
+judgment r w = judgment_by (numbers_fit w r && has_majority r w.slots) r w
 
 -- ## A piece that was fetched
 -- what a node's part is once its fetch failed: out of the count, with what was heard as its cause
-abbrev pub failed : Heard → Heard
-failed (Answer (reply.Refused refusal)) = Answer (reply.Refused refusal)
-failed _ = Silent
+abbrev pub failure_of : Heard → Heard
+failure_of (Answer (reply.Refused refusal)) = Answer (reply.Refused refusal)
+failure_of _ = Silent
 
-abbrev pub taken_out : ℕ → Heard → WriterView → WriterView
-taken_out node heard w = record w { slots = slice_set w.slots (node - 1) (Told (failed heard)) }
+abbrev pub without_answer_of : ℕ → Heard → WriterView → WriterView
+without_answer_of node heard w = record w { slots = slice_set w.slots (node - 1) (Told (failure_of heard)) }
 
 -- the pieces so far: they go on until the told end is reached
-abbrev pub pieced : ℕ → ℕ → ℕ → List (List ℕ) → WriterView → WriterView
-pieced node start end bodies w =
-    if nat_lt end (start + length bodies) then asking_all (round.Accept (batch_from start bodies)) w
+abbrev pub keep_piece : ℕ → ℕ → ℕ → List (List ℕ) → WriterView → WriterView
+keep_piece node start end bodies w =
+    if nat_lt end (start + length bodies) then asks_all (round.Accept (batch_from start bodies)) w
     else record w { phase = phase.InRound (round.Fetch node start end bodies) }
 
--- Edits that fit go behind the pieces, but for those past the told end. Anything else takes the node out of the count, and its pieces are dropped.
-abbrev pub edits_fetched : Bool → ℕ → ℕ → ℕ → List (List ℕ) → BatchView → WriterView → Judged
-edits_fetched true node start end bodies batch w =
-    going (pieced node start end (bodies ++ take (end + 1 - (start + length bodies)) batch.bodies) (next_serial w))
-edits_fetched false node start end bodies batch w = judged_by (has_majority (round.Prepare start) (taken_out node Silent w).slots) (round.Prepare start) (taken_out node Silent w)
+-- Edits that fit go after the pieces, but for those past the told end. Anything else takes the node out of the count, and its pieces are dropped.
+abbrev pub after_edits : Bool → ℕ → ℕ → ℕ → List (List ℕ) → BatchView → WriterView → Judgment
+after_edits true node start end bodies batch w =
+    keep_going (keep_piece node start end (bodies ++ take (end + 1 - (start + length bodies)) batch.bodies) (next_serial w))
+after_edits false node start end bodies batch w = judgment_by (has_majority (round.Prepare start) (without_answer_of node Silent w).slots) (round.Prepare start) (without_answer_of node Silent w)
 
-abbrev pub not_fetched : ℕ → ℕ → Heard → WriterView → Judged
-not_fetched node start heard w = judged_by (has_majority (round.Prepare start) (taken_out node heard w).slots) (round.Prepare start) (taken_out node heard w)
+abbrev pub after_no_edits : ℕ → ℕ → Heard → WriterView → Judgment
+after_no_edits node start heard w = judgment_by (has_majority (round.Prepare start) (without_answer_of node heard w).slots) (round.Prepare start) (without_answer_of node heard w)
 
-unfoldable pub fetched : ℕ → ℕ → ℕ → List (List ℕ) → Heard → WriterView → Judged
-fetched node start end bodies (Answer (reply.Edits batch)) w =
-    edits_fetched (numbers_fit w (round.Fetch node start end bodies) && fits_edits (start + length bodies) batch) node start end bodies batch w
-fetched node start end bodies heard w = not_fetched node start heard w
+unfoldable pub after_fetch : ℕ → ℕ → ℕ → List (List ℕ) → Heard → WriterView → Judgment
+after_fetch node start end bodies (Answer (reply.Edits batch)) w =
+    after_edits (numbers_fit w (round.Fetch node start end bodies) && fits_edits (start + length bodies) batch) node start end bodies batch w
+after_fetch node start end bodies heard w = after_no_edits node start heard w

@@ -14,7 +14,7 @@ use Rattle.writer_core.specs.declared.task.Task.{Task}
 use Rattle.writer_core.specs.declared.task.Begun.{Begun}
 use Rattle.writer_core.specs.declared.task.Begun.TheVariants as begun
 use Rattle.writer_core.specs.Views.{WriterView}
-use Rattle.writer_core.specs.Rounds.{request_in, asking_all, Judged, judged, fetched}
+use Rattle.writer_core.specs.Rounds.{request_in, asks_all, Judgment, judgment, after_fetch}
 use Rattle.writer_core.specs.Writer.{new_writer, writer_begun}
 
 -- Who proposes which epoch, what it does then, and what it heard from which node in which round. Round 0 is the proposal, and each
@@ -26,7 +26,7 @@ pub record Takeover : Type 0 where
   pub heard : ℕ → ℕ → Option Reply
 
 -- a writer in a round, and the tasks that are still to come
-pub record Underway : Type 0 where
+pub record TaskProgress : Type 0 where
   pub writer : WriterView
   pub round : Round
   pub tasks : List Task
@@ -36,16 +36,16 @@ heard_of None = Silent
 heard_of (Some answer) = Answer answer
 
 -- the parts of the nodes from this one on, once each that was to be called was heard
-unfoldable pub filled : ℕ → (ℕ → Option Reply) → List Slot → List Slot
-filled node heard [] = []
-filled node heard (Waiting ∷ slots) = Told (heard_of (heard node)) ∷ filled (node + 1) heard slots
-filled node heard (LeftOut ∷ slots) = LeftOut ∷ filled (node + 1) heard slots
-filled node heard (Told h ∷ slots) = Told h ∷ filled (node + 1) heard slots
+unfoldable pub fill_slots : ℕ → (ℕ → Option Reply) → List Slot → List Slot
+fill_slots node heard [] = []
+fill_slots node heard (Waiting ∷ slots) = Told (heard_of (heard node)) ∷ fill_slots (node + 1) heard slots
+fill_slots node heard (LeftOut ∷ slots) = LeftOut ∷ fill_slots (node + 1) heard slots
+fill_slots node heard (Told h ∷ slots) = Told h ∷ fill_slots (node + 1) heard slots
 
 -- a whole round is heard
-abbrev pub round_heard : Round → (ℕ → Option Reply) → WriterView → Judged
-round_heard (round.Fetch node start end bodies) heard w = fetched node start end bodies (heard_of (heard node)) w
-round_heard r heard w = judged r (record w { slots = filled 1 heard w.slots })
+abbrev pub round_heard : Round → (ℕ → Option Reply) → WriterView → Judgment
+round_heard (round.Fetch node start end bodies) heard w = after_fetch node start end bodies (heard_of (heard node)) w
+round_heard r heard w = judgment r (record w { slots = fill_slots 1 heard w.slots })
 
 -- whether this node is called in the round
 abbrev pub is_called : Option Slot → Bool
@@ -53,46 +53,46 @@ is_called (Some Waiting) = true
 is_called _ = false
 
 -- the next task that the writer takes
-abbrev pub underway : Phase → WriterView → List Task → Option Underway
-underway (phase.InRound r) w tasks = Some (record { writer = w; round = r; tasks = tasks })
-underway _ w tasks = None
+abbrev pub progress_from : Phase → WriterView → List Task → Option TaskProgress
+progress_from (phase.InRound r) w tasks = Some (record { writer = w; round = r; tasks = tasks })
+progress_from _ w tasks = None
 
-abbrev pub is_going : Begun → Bool
-is_going begun.Going = true
-is_going _ = false
+abbrev pub has_begun : Begun → Bool
+has_begun begun.Going = true
+has_begun _ = false
 
 -- The task that the writer takes next; those that it refuses are passed over. No takeover is among them.
-abbrev pub begun_or : Bool → Option Underway → Option Underway → Option Underway
-begun_or true first rest = first
-begun_or false first rest = rest
+abbrev pub next_begun : Bool → Option TaskProgress → Option TaskProgress → Option TaskProgress
+next_begun true first rest = first
+next_begun false first rest = rest
 
-unfoldable pub next_task : WriterView → List Task → Option Underway
+unfoldable pub next_task : WriterView → List Task → Option TaskProgress
 next_task w [] = None
-next_task w (t ∷ ts) = begun_or (is_going (writer_begun w t).begun) (underway (writer_begun w t).writer.phase (writer_begun w t).writer ts) (next_task w ts)
+next_task w (t ∷ ts) = next_begun (has_begun (writer_begun w t).begun) (progress_from (writer_begun w t).writer.phase (writer_begun w t).writer ts) (next_task w ts)
 
 -- after a round: the next one, or the next task's first
-abbrev pub round_after : Phase → WriterView → List Task → Option Underway
-round_after (phase.InRound r) w tasks = underway (phase.InRound r) w tasks
+abbrev pub round_after : Phase → WriterView → List Task → Option TaskProgress
+round_after (phase.InRound r) w tasks = progress_from (phase.InRound r) w tasks
 round_after phase.Writing w tasks = next_task w tasks
 round_after phase.Idle w tasks = None
 round_after phase.Stopped w tasks = None
 
-abbrev pub next_round : (ℕ → Option Reply) → Option Underway → Option Underway
+abbrev pub next_round : (ℕ → Option Reply) → Option TaskProgress → Option TaskProgress
 next_round heard None = None
 next_round heard (Some u) = let w = (round_heard u.round heard u.writer).writer in round_after w.phase w u.tasks
 
 -- a writer that proposes its epoch
 abbrev pub proposer : ℕ → ℕ → WriterView
-proposer nodes epoch = asking_all round.Propose (record (new_writer nodes) { epoch = epoch })
+proposer nodes epoch = asks_all round.Propose (record (new_writer nodes) { epoch = epoch })
 
 -- the writer in the round of this number, where all rounds before it were done
-unfoldable pub writer_at : ℕ → Takeover → ℕ → Option Underway
+unfoldable pub writer_at : ℕ → Takeover → ℕ → Option TaskProgress
 writer_at nodes t zero = Some (record { writer = proposer nodes t.epoch; round = round.Propose; tasks = t.tasks })
 writer_at nodes t (suc s) = next_round (t.heard s) (writer_at nodes t s)
 
 -- what the round asks, and whether it calls this node
-abbrev pub asked : Underway → Request
-asked u = request_in u.writer u.round
+abbrev pub request_of_round : TaskProgress → Request
+request_of_round u = request_in u.writer u.round
 
 abbrev pub is_waiting_at : ℕ → List Slot → Bool
 is_waiting_at node slots = is_called (slice_get slots (node - 1))
@@ -101,5 +101,5 @@ abbrev pub calls_in : Round → List Slot → ℕ → Bool
 calls_in (round.Fetch from start end bodies) slots node = node == from
 calls_in r slots node = nat_lt 0 node && is_waiting_at node slots
 
-abbrev pub calls : Underway → ℕ → Bool
+abbrev pub calls : TaskProgress → ℕ → Bool
 calls u node = calls_in u.round u.writer.slots node

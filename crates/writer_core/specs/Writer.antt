@@ -18,7 +18,7 @@ use Rattle.writer_core.specs.declared.task.Begun.{Begun}
 use Rattle.writer_core.specs.declared.task.Begun.TheVariants as begun
 use Rattle.writer_core.specs.Views.{WriterView}
 use Rattle.writer_core.specs.Answers.{is_waiting}
-use Rattle.writer_core.specs.Rounds.{request_in, asking_all, asking_others, none_left_out, end_record, Judged, going, judged, fetched}
+use Rattle.writer_core.specs.Rounds.{request_in, asks_all, asks_others, none_left_out, end_record, Judgment, keep_going, judgment, after_fetch}
 
 -- a writer of that many nodes, before its first task
 abbrev pub new_writer : ℕ → WriterView
@@ -44,8 +44,8 @@ pub record Began : Type 0 where
 abbrev pub begins : WriterView → Began
 begins w = record { writer = w; begun = begun.Going }
 
-abbrev pub not_begun : Begun → WriterView → Began
-not_begun b w = record { writer = w; begun = b }
+abbrev pub begin_nothing : Begun → WriterView → Began
+begin_nothing b w = record { writer = w; begun = b }
 
 -- the first limit that a batch would pass
 unfoldable pub log_limit : WriterView → List (List ℕ) → Option ℕ
@@ -56,8 +56,8 @@ log_limit w bodies =
     else None
 
 abbrev pub log_begins : Option ℕ → List (List ℕ) → WriterView → Began
-log_begins (Some number) bodies w = not_begun (begun.TooLong number) w
-log_begins None bodies w = begins (asking_others (round.Write bodies) (record w { aim = aim.Log }))
+log_begins (Some number) bodies w = begin_nothing (begun.TooLong number) w
+log_begins None bodies w = begins (asks_others (round.Write bodies) (record w { aim = aim.Log }))
 
 -- only a takeover may begin at any time
 abbrev pub is_writing : Phase → Bool
@@ -66,14 +66,14 @@ is_writing _ = false
 
 abbrev pub if_writing : Bool → Began → WriterView → Began
 if_writing true b w = b
-if_writing false b w = not_begun begun.NotActive w
+if_writing false b w = begin_nothing begun.NotActive w
 
 unfoldable pub writer_begun : WriterView → Task → Began
-writer_begun w task.Takeover = begins (asking_all round.State (record w { aim = aim.Takeover; left = none_left_out w.left }))
+writer_begun w task.Takeover = begins (asks_all round.State (record w { aim = aim.Takeover; left = none_left_out w.left }))
 writer_begun w (task.Log bodies) = if_writing (is_writing w.phase) (log_begins (log_limit w bodies) bodies w) w
-writer_begun w task.Roll = if_writing (is_writing w.phase) (begins (asking_others (round.Write end_record) (record w { aim = aim.Roll }))) w
-writer_begun w task.Close = if_writing (is_writing w.phase) (begins (asking_others (round.Write end_record) (record w { aim = aim.Close }))) w
-writer_begun w (task.Purge min) = if_writing (is_writing w.phase) (begins (asking_all (round.Purge min) (record w { aim = aim.Purge }))) w
+writer_begun w task.Roll = if_writing (is_writing w.phase) (begins (asks_others (round.Write end_record) (record w { aim = aim.Roll }))) w
+writer_begun w task.Close = if_writing (is_writing w.phase) (begins (asks_others (round.Write end_record) (record w { aim = aim.Close }))) w
+writer_begun w (task.Purge min) = if_writing (is_writing w.phase) (begins (asks_all (round.Purge min) (record w { aim = aim.Purge }))) w
 
 -- a log task has a body
 abbrev pub HasBody : Task → Type 0
@@ -101,19 +101,19 @@ next_call w = call_in w.phase w
 abbrev pub with_answer : WriterView → ℕ → Heard → WriterView
 with_answer w node heard = record w { slots = slice_set w.slots (node - 1) (Told heard) }
 
-abbrev pub judged_when : Bool → Round → WriterView → Judged
-judged_when true r w = going w
-judged_when false r w = judged r w
+abbrev pub judgment_when : Bool → Round → WriterView → Judgment
+judgment_when true r w = keep_going w
+judgment_when false r w = judgment r w
 
-abbrev pub heard_in : Round → WriterView → ℕ → Heard → Judged
-heard_in (round.Fetch node start end bodies) w from heard = fetched node start end bodies heard w
-heard_in r w from heard = judged_when (list_any is_waiting (with_answer w from heard).slots) r (with_answer w from heard)
+abbrev pub heard_in : Round → WriterView → ℕ → Heard → Judgment
+heard_in (round.Fetch node start end bodies) w from heard = after_fetch node start end bodies heard w
+heard_in r w from heard = judgment_when (list_any is_waiting (with_answer w from heard).slots) r (with_answer w from heard)
 
-abbrev pub heard_at : Phase → WriterView → ℕ → Heard → Judged
+abbrev pub heard_at : Phase → WriterView → ℕ → Heard → Judgment
 heard_at (phase.InRound r) w node heard = heard_in r w node heard
-heard_at _ w node heard = going w
+heard_at _ w node heard = keep_going w
 
-unfoldable pub writer_heard : WriterView → ℕ → Heard → Judged
+unfoldable pub writer_heard : WriterView → ℕ → Heard → Judgment
 writer_heard w node heard = heard_at w.phase w node heard
 
 -- a writer that gives up what it does

@@ -12,7 +12,7 @@ pub enum Round {
     Prepare {
         start: u64,
     },
-    /// The edits of the best answer's segment, from its node, behind these bodies.
+    /// The edits of the best answer's segment, from its node, after these bodies.
     Fetch {
         node: usize,
         start: u64,

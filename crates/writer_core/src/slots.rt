@@ -4,7 +4,7 @@ ghost use Rattle.std.specs.List.{position_or_len};
 ghost use Rattle.journal_core.specs.Limits.{max_number};
 ghost use Rattle.writer_core.specs.Answers.{fits_newest, fits_told, fits_prepare, fits_round, is_ok, is_waiting, has_majority, cause_of};
 ghost use Rattle.writer_core.specs.Best.{greater, promise_in, greatest_promise, newest_in, greatest_newest};
-ghost use Rattle.writer_core.specs.Rounds.{to_all, to_others, missed};
+ghost use Rattle.writer_core.specs.Rounds.{to_all, to_others, left_out_after};
 ghost use Rattle.writer_core.specs.RoundCalls.{waiting_from};
 ghost use Rattle.writer_core.specs.Stages.{round_of};
 ghost use Rattle.writer_core.specs.Current.{edits_heard};
@@ -173,7 +173,7 @@ pub(crate) fn tell_causes(causes: &mut [Cause], kind: RoundKind, slots: &[Slot])
 #[tactic(auto, using(crate::proofs::InPlace::written_more))]
 pub(crate) fn leave_out(left: &mut [bool], kind: RoundKind, slots: &[Slot])
     requires { length left.old ≡ length slots.now }
-    ensures { left.new ≡ missed (round_of kind []) slots.now }
+    ensures { left.new ≡ left_out_after (round_of kind []) slots.now }
 {
     for i in 0..left.len() {
         left[i] = !is_ok(kind, &slots[i]);

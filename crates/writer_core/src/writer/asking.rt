@@ -4,7 +4,7 @@ ghost use Rattle.std.specs.List.{list_all};
 ghost use Rattle.journal_core.specs.Limits.{head_numbers};
 ghost use Rattle.writer_core.specs.declared.round.Round.TheVariants as round;
 ghost use Rattle.writer_core.specs.Answers.{fits};
-ghost use Rattle.writer_core.specs.Rounds.{head_now, end_record, request_in, numbers_fit, asking_all, asking_others, none_left_out};
+ghost use Rattle.writer_core.specs.Rounds.{head_now, end_record, request_in, numbers_fit, asks_all, asks_others, none_left_out};
 ghost use Rattle.writer_core.specs.Current.{round_in};
 ghost use Rattle.writer_core.specs.Writer.{log_limit, log_begins, is_writing, next_call};
 ghost use Rattle.writer_core.specs.RoundCalls.{nodes_in};
@@ -15,7 +15,10 @@ use crate::phase::Aim;
 use crate::slots::{MAX_NUMBER, ask_all, ask_others, leave_none_out, next_waiting, waiting_nodes};
 use crate::stage::{RoundKind, Stage};
 use crate::task::Begun;
-use journal_core::{Batch, BodyList, Bytes, Head, OutOfMemory, Request, SharedRequest};
+use journal_core::{
+    Batch, BodyList, Bytes, Head, MAX_BATCH, MAX_BODY, MAX_SEGMENT, OutOfMemory, Request,
+    SharedRequest,
+};
 use std::alloc::Global;
 
 const START_RECORD: u8 = 24;
@@ -41,7 +44,7 @@ impl Writer {
     }
 
     pub(super) fn begin_takeover(&mut self)
-        ensures { self.new.view ≡ asking_all round.State (record self.old.view { aim = Aim.Takeover; left = none_left_out self.old.view.left }) }
+        ensures { self.new.view ≡ asks_all round.State (record self.old.view { aim = Aim.Takeover; left = none_left_out self.old.view.left }) }
     {
         self.request = None;
         self.aim = Aim::Takeover;
@@ -57,14 +60,14 @@ impl Writer {
         ensures limit { result ≡ log_limit self.now.view bodies.now }
         ensures few { IfNone result (length bodies.now ≤ 256) }
     {
-        if bodies.any_longer(4096) {
-            return Some(4096);
+        if bodies.any_longer(MAX_BODY) {
+            return Some(MAX_BODY as u64);
         }
-        if bodies.len() > 256 {
-            return Some(256);
+        if bodies.len() > MAX_BATCH {
+            return Some(MAX_BATCH as u64);
         }
-        if self.start + 16383 <= (self.next + bodies.len() as u64).saturating_sub(1) {
-            return Some(16384);
+        if self.start + (MAX_SEGMENT - 1) <= (self.next + bodies.len() as u64).saturating_sub(1) {
+            return Some(MAX_SEGMENT);
         }
         None
     }
@@ -88,7 +91,7 @@ impl Writer {
 
     pub(super) fn begin_end(&mut self, aim: Aim)
         requires { is_writing self.old.view.phase ≡ true }
-        ensures { self.new.view ≡ asking_others (round.Write end_record) (record self.old.view { aim = aim }) }
+        ensures { self.new.view ≡ asks_others (round.Write end_record) (record self.old.view { aim = aim }) }
     {
         self.request = None;
         self.aim = aim;
@@ -99,7 +102,7 @@ impl Writer {
 
     pub(super) fn begin_purge(&mut self, min: u64)
         requires { is_writing self.old.view.phase ≡ true }
-        ensures { self.new.view ≡ asking_all (round.Purge min) (record self.old.view { aim = Aim.Purge }) }
+        ensures { self.new.view ≡ asks_all (round.Purge min) (record self.old.view { aim = Aim.Purge }) }
     {
         self.request = None;
         self.aim = Aim::Purge;

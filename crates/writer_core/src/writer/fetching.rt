@@ -5,7 +5,7 @@ ghost use Rattle.writer_core.specs.declared.round.Round.TheVariants as round;
 ghost use Rattle.writer_core.specs.declared.phase.Phase.TheVariants as phase;
 ghost use Rattle.writer_core.specs.Answers.{fits, is_ok};
 ghost use Rattle.writer_core.specs.Best.{best_of};
-ghost use Rattle.writer_core.specs.Rounds.{next_serial, going, recovering, taken_out, not_fetched, failed};
+ghost use Rattle.writer_core.specs.Rounds.{next_serial, keep_going, begin_recovery, without_answer_of, after_no_edits, failure_of};
 ghost use Rattle.writer_core.specs.Current.{round_in, is_fetch, piece_fits, piece_kept, fetched_in};
 ghost use Rattle.writer_core.specs.Sound.{HasHead, IsOkAt, IsSound};
 
@@ -30,7 +30,7 @@ impl Writer {
         requires head { HasHead self.old.view }
         requires start_fits { start ≤ max_number }
         requires serials { self.old.view.serial + count_by (is_ok (round.Prepare start)) self.old.view.slots ≤ max_number + length self.old.view.slots }
-        ensures { going (recovering start (best_of start self.old.view.slots) (next_serial self.old.view)) ≡ record { writer = self.new.view; turn = result } }
+        ensures { keep_going (begin_recovery start (best_of start self.old.view.slots) (next_serial self.old.view)) ≡ record { writer = self.new.view; turn = result } }
     {
         self.request = None;
         self.serial += 1;
@@ -97,8 +97,8 @@ impl Writer {
         requires head { HasHead self.old.view }
         requires start_fits { start ≤ max_number }
         requires counted { IsOkAt (round.Prepare start) node self.old.view.slots }
-        requires lost { failed heard ≡ heard }
-        ensures { self.new.view ≡ record (taken_out node heard self.old.view) { phase = phase.InRound (round.Prepare start) } }
+        requires lost { failure_of heard ≡ heard }
+        ensures { self.new.view ≡ record (without_answer_of node heard self.old.view) { phase = phase.InRound (round.Prepare start) } }
     {
         self.request = None;
         self.slots[node - 1] = Slot::Told(heard);
@@ -112,9 +112,9 @@ impl Writer {
         requires head { HasHead self.old.view }
         requires start_fits { start ≤ max_number }
         requires counted { IsOkAt (round.Prepare start) node self.old.view.slots }
-        requires lost { failed heard ≡ heard }
+        requires lost { failure_of heard ≡ heard }
         requires serials { self.old.view.serial + count_by (is_ok (round.Prepare start)) self.old.view.slots ≤ max_number + 1 + length self.old.view.slots }
-        ensures { not_fetched node start heard self.old.view ≡ record { writer = self.new.view; turn = result } }
+        ensures { after_no_edits node start heard self.old.view ≡ record { writer = self.new.view; turn = result } }
     {
         self.take_out(node, start, heard);
         self.tell_causes();
@@ -126,7 +126,7 @@ impl Writer {
     }
 
     /// An answer to a fetch.
-    #[tactic(auto, unfolding(crate::specs::Rounds::fetched))]
+    #[tactic(auto, unfolding(crate::specs::Rounds::after_fetch))]
     pub(super) fn hear_piece(&mut self, heard: Heard) -> Turn
         requires fetch { is_fetch (round_in self.old.view.phase) ≡ true }
         requires room { self.old.room ≡ true }

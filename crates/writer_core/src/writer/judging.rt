@@ -7,9 +7,9 @@ ghost use Rattle.writer_core.specs.declared.phase.Phase.TheVariants as phase;
 ghost use Rattle.writer_core.specs.declared.turn.Turn.TheVariants as turn;
 ghost use Rattle.writer_core.specs.Answers.{fits, is_waiting, has_majority};
 ghost use Rattle.writer_core.specs.Best.{greatest_promise, greatest_newest};
-ghost use Rattle.writer_core.specs.Rounds.{numbers_fit, next_serial, going, ended, stopped, after_state, after_propose, after_finalize, after_open, after_write, done_in, asking_others, missed, with_causes, judged};
+ghost use Rattle.writer_core.specs.Rounds.{numbers_fit, next_serial, keep_going, ends_with, stops_with, after_state, after_propose, after_finalize, after_open, after_write, after_round, asks_others, left_out_after, with_causes, judgment};
 ghost use Rattle.writer_core.specs.Current.{round_in, is_fetch};
-ghost use Rattle.writer_core.specs.Writer.{is_under_way, judged_when, with_answer};
+ghost use Rattle.writer_core.specs.Writer.{is_under_way, judgment_when, with_answer};
 ghost use Rattle.writer_core.specs.Sound.{HasHead};
 
 use super::Writer;
@@ -25,14 +25,14 @@ use journal_core::Heard;
 
 impl Writer {
     pub(super) fn abort(&mut self) -> Turn
-        ensures { stopped turn.Aborted self.old.view ≡ record { writer = self.new.view; turn = result } }
+        ensures { stops_with turn.Aborted self.old.view ≡ record { writer = self.new.view; turn = result } }
     {
         self.request = None;
         self.stage = Stage::Stopped;
         Turn::Aborted
     }
 
-    pub(super) fn state_done(&mut self) -> Turn
+    pub(super) fn finish_state(&mut self) -> Turn
         ensures { after_state (greatest_promise self.old.view.slots) self.old.view ≡ record { writer = self.new.view; turn = result } }
     {
         let told = greatest_promise(&self.slots);
@@ -50,10 +50,10 @@ impl Writer {
         Turn::Going
     }
 
-    pub(super) fn propose_done(&mut self) -> Turn
+    pub(super) fn finish_propose(&mut self) -> Turn
         requires epoch { 0 < self.old.view.epoch }
         requires serial { self.old.view.serial ≡ 0 }
-        ensures { going (after_propose (greatest_newest self.old.view.slots) (next_serial self.old.view)) ≡ record { writer = self.new.view; turn = result } }
+        ensures { keep_going (after_propose (greatest_newest self.old.view.slots) (next_serial self.old.view)) ≡ record { writer = self.new.view; turn = result } }
     {
         self.request = None;
         self.serial += 1;
@@ -69,10 +69,10 @@ impl Writer {
         Turn::Going
     }
 
-    pub(super) fn accept_done(&mut self, start: u64, last: u64) -> Turn
+    pub(super) fn finish_accept(&mut self, start: u64, last: u64) -> Turn
         requires head { HasHead self.old.view }
         requires fits { self.old.view.serial ≤ max_number }
-        ensures { going (asking_others (round.Finalize start last) (record (next_serial self.old.view) { committed = last })) ≡ record { writer = self.new.view; turn = result } }
+        ensures { keep_going (asks_others (round.Finalize start last) (record (next_serial self.old.view) { committed = last })) ≡ record { writer = self.new.view; turn = result } }
     {
         self.request = None;
         self.serial += 1;
@@ -83,7 +83,7 @@ impl Writer {
         Turn::Going
     }
 
-    pub(super) fn finalize_done(&mut self, end: u64) -> Turn
+    pub(super) fn finish_finalize(&mut self, end: u64) -> Turn
         requires head { HasHead self.old.view }
         requires fits { self.old.view.serial ≤ max_number }
         requires end_fits { end ≤ max_number }
@@ -102,10 +102,10 @@ impl Writer {
         Turn::Going
     }
 
-    pub(super) fn start_done(&mut self) -> Turn
+    pub(super) fn finish_start(&mut self) -> Turn
         requires head { HasHead self.old.view }
         requires fits { self.old.view.serial ≤ max_number }
-        ensures { going (asking_others round.Open (record (next_serial self.old.view) { left = missed round.Start self.old.view.slots })) ≡ record { writer = self.new.view; turn = result } }
+        ensures { keep_going (asks_others round.Open (record (next_serial self.old.view) { left = left_out_after round.Start self.old.view.slots })) ≡ record { writer = self.new.view; turn = result } }
     {
         self.request = None;
         self.serial += 1;
@@ -116,11 +116,11 @@ impl Writer {
         Turn::Going
     }
 
-    pub(super) fn open_done(&mut self) -> Turn
+    pub(super) fn finish_open(&mut self) -> Turn
         requires head { HasHead self.old.view }
         requires fits { self.old.view.serial ≤ max_number }
         requires start_fits { self.old.view.start ≤ max_number }
-        ensures { after_open self.old.view.aim (record (next_serial self.old.view) { committed = self.old.view.start; next = self.old.view.start + 1; left = missed round.Open self.old.view.slots }) ≡ record { writer = self.new.view; turn = result } }
+        ensures { after_open self.old.view.aim (record (next_serial self.old.view) { committed = self.old.view.start; next = self.old.view.start + 1; left = left_out_after round.Open self.old.view.slots }) ≡ record { writer = self.new.view; turn = result } }
     {
         self.request = None;
         self.serial += 1;
@@ -137,11 +137,11 @@ impl Writer {
         })
     }
 
-    pub(super) fn write_done(&mut self, last: u64) -> Turn
+    pub(super) fn finish_write(&mut self, last: u64) -> Turn
         requires head { HasHead self.old.view }
         requires fits { self.old.view.serial ≤ max_number }
         requires last_fits { last ≤ max_number }
-        ensures { after_write self.old.view.aim self.old.view.next last (record (next_serial self.old.view) { committed = last; next = last + 1; left = missed (round.Write []) self.old.view.slots }) ≡ record { writer = self.new.view; turn = result } }
+        ensures { after_write self.old.view.aim self.old.view.next last (record (next_serial self.old.view) { committed = last; next = last + 1; left = left_out_after (round.Write []) self.old.view.slots }) ≡ record { writer = self.new.view; turn = result } }
     {
         let first = self.next;
         self.request = None;
@@ -162,10 +162,10 @@ impl Writer {
         Turn::Done(Outcome::Log { first, last })
     }
 
-    pub(super) fn purge_done(&mut self) -> Turn
+    pub(super) fn finish_purge(&mut self) -> Turn
         requires head { HasHead self.old.view }
         requires fits { self.old.view.serial ≤ max_number }
-        ensures { ended phase.Writing Outcome.Purge (next_serial self.old.view) ≡ record { writer = self.new.view; turn = result } }
+        ensures { ends_with phase.Writing Outcome.Purge (next_serial self.old.view) ≡ record { writer = self.new.view; turn = result } }
     {
         self.request = None;
         self.serial += 1;
@@ -174,34 +174,34 @@ impl Writer {
     }
 
     /// What follows a round that was done.
-    pub(super) fn round_done(&mut self) -> Turn
+    pub(super) fn finish_round(&mut self) -> Turn
         requires under_way { is_under_way self.old.view.phase ≡ true }
         requires fits { numbers_fit self.old.view (round_in self.old.view.phase) ≡ true }
-        ensures { done_in (round_in self.old.view.phase) self.old.view ≡ record { writer = self.new.view; turn = result } }
+        ensures { after_round (round_in self.old.view.phase) self.old.view ≡ record { writer = self.new.view; turn = result } }
     {
         let Stage::Round(kind) = self.stage else {
             unreachable!()
         };
         match kind {
-            RoundKind::State => self.state_done(),
-            RoundKind::Propose => self.propose_done(),
+            RoundKind::State => self.finish_state(),
+            RoundKind::Propose => self.finish_propose(),
             RoundKind::Prepare { start } | RoundKind::Fetch { start, .. } => self.recover(start),
             RoundKind::Accept { start } => {
                 let last = start + (self.pieces.len() as u64 - 1);
-                self.accept_done(start, last)
+                self.finish_accept(start, last)
             }
-            RoundKind::Finalize { end, .. } => self.finalize_done(end),
-            RoundKind::Start => self.start_done(),
-            RoundKind::Open => self.open_done(),
+            RoundKind::Finalize { end, .. } => self.finish_finalize(end),
+            RoundKind::Start => self.finish_start(),
+            RoundKind::Open => self.finish_open(),
             RoundKind::Write => {
                 let last = self.next + (self.pieces.len() as u64 - 1);
-                self.write_done(last)
+                self.finish_write(last)
             }
             RoundKind::End => {
                 let last = self.next;
-                self.write_done(last)
+                self.finish_write(last)
             }
-            RoundKind::Purge { .. } => self.purge_done(),
+            RoundKind::Purge { .. } => self.finish_purge(),
         }
     }
 
@@ -242,12 +242,12 @@ impl Writer {
     #[tactic(auto, using(crate::proofs::Judging::judged_is, crate::proofs::Judging::numbers_anyhow))]
     pub(super) fn judge(&mut self) -> Turn
         requires { is_under_way self.old.view.phase ≡ true }
-        ensures { judged (round_in self.old.view.phase) self.old.view ≡ record { writer = self.new.view; turn = result } }
+        ensures { judgment (round_in self.old.view.phase) self.old.view ≡ record { writer = self.new.view; turn = result } }
     {
         let done = self.is_done();
         self.tell_causes();
         if done {
-            self.round_done()
+            self.finish_round()
         } else {
             self.abort()
         }
@@ -259,7 +259,7 @@ impl Writer {
         requires no_fetch { is_fetch (round_in self.old.view.phase) ≡ false }
         requires node { 0 < node }
         requires place { position is_waiting self.old.view.slots ≡ Some (node - 1) }
-        ensures { judged_when (list_any is_waiting (with_answer self.old.view node heard).slots) (round_in self.old.view.phase) (with_answer self.old.view node heard) ≡ record { writer = self.new.view; turn = result } }
+        ensures { judgment_when (list_any is_waiting (with_answer self.old.view node heard).slots) (round_in self.old.view.phase) (with_answer self.old.view node heard) ≡ record { writer = self.new.view; turn = result } }
     {
         self.slots[node - 1] = Slot::Told(heard);
         self.place = next_waiting(&self.slots, node);

@@ -2,9 +2,9 @@ use Rattle.std.proofs.Common.{◌≡◌, ◌∙◌, ap, sym, subst, arith, lengt
 use Rattle.mesh.specs.declared.whole.Mesh.{Mesh}
 use Rattle.ns_tree.specs.declared.end.End.{End}
 use Rattle.script_text.specs.declared.script_line.ScriptLine.{ScriptLine}
-use Rattle.script_actor.specs.Lines.{line_of, lines_of, declared}
+use Rattle.script_actor.specs.Lines.{line_of, lines_of, count_actors}
 use Rattle.cluster_runner.specs.Goal.{MayTake, IsUnderWay}
-use Rattle.cluster_runner.specs.Kept.{IsPlayed, mesh_kept, states_behind}
+use Rattle.cluster_runner.specs.Kept.{IsPlayed, mesh_kept, states_after}
 use Rattle.cluster_runner.proofs.Sound.{has_nodes}
 use Rattle.cluster_runner.proofs.PlayLaws.{may_on, under_way_first, under_way_end}
 use Rattle.cluster_runner.proofs.NodesLeft.{states_left}
@@ -30,7 +30,7 @@ returns-clause-played g c =
 pub loop-line-init : goal.loop-line-init
 loop-line-init g c =
     under_way_first c.args.script.now c.names.result (length c.args.nodes.items) c.actors_in-operator.result c.lines-line-items.result.now c.in_ok-cluster.cluster c.requires.playable c.requires.numbers c.names.ensures c.requires.count
-    c.lines-line-items.ensures (c.actors_in-operator.ensures ∙ ap (λ xs. declared (map line_of xs)) (c.lines.ensures ∙ sym c.lines-line-items.ensures)) c.in_ok-cluster.ensures
+    c.lines-line-items.ensures (c.actors_in-operator.ensures ∙ ap (λ xs. count_actors (map line_of xs)) (c.lines.ensures ∙ sym c.lines-line-items.ensures)) c.in_ok-cluster.ensures
 
 pub returns-clause-states : goal.returns-clause-states
 returns-clause-states g c =
@@ -38,4 +38,4 @@ returns-clause-states g c =
     let lines = c.lines-line-items.result.now in
     c.in_ok-played.ensures.states
     ∙ states_left s.named s.nodes (lines_of s) (drop c.loop-line.line-index lines) c.loop-line.cluster (has_nodes s.named s.nodes c.requires.playable.nodes) c.requires.playable.lines c.loop-line.invariant
-    ∙ ap (λ m. states_behind m.histories) (sym c.in_ok-played.ensures.mesh)
+    ∙ ap (λ m. states_after m.histories) (sym c.in_ok-played.ensures.mesh)

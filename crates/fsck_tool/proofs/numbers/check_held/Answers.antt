@@ -7,5 +7,5 @@ use Rattle.fsck_tool.proofs.numbers.check_held.Goals as goal
 
 pub returns-in-Writer-clause-found : goal.returns-in-Writer-clause-found
 returns-in-Writer-clause-found g c = λ t.
-    let seen = (g.D.Disk.view c.args.disk.now).seen in
+    let seen = (g.D.DiskModel.view c.args.disk.now).seen in
     subst (λ (n : NodeNumber). IfOk c.check_writer.result (λ found. (before : ℕ) (name : List ℕ) → IsVerdict seen before name (role.Number n) found)) (sym c.in-Writer.is) (c.check_writer.ensures.found t)

@@ -8,4 +8,4 @@ use Rattle.fsck_tool.proofs.numbers.check_number.Goals as goal
 pub returns-in-Some-clause-found : goal.returns-in-Some-clause-found
 returns-in-Some-clause-found g c = λ t.
     subst (λ (files : Files). IfOk c.check_held.result (λ found. (before : ℕ) (name : List ℕ) → IsVerdict files before name (role.Number c.args.number) found)) (c.read_held.ensures.disk t).keeps.seen
-    (c.check_held.ensures.found (c.read_held.ensures.tells.0 t))
+    (c.check_held.ensures.found (c.read_held.ensures.call.tells.0 t))

@@ -11,6 +11,6 @@ use Rattle.fsck_tool.proofs.numbers.check_writer.Goals as goal
 
 pub returns-in-Some-clause-found : goal.returns-in-Some-clause-found
 returns-in-Some-clause-found g c = λ t before name.
-    let seen = (g.D.Disk.view c.args.disk.now).seen in
+    let seen = (g.D.DiskModel.view c.args.disk.now).seen in
     let held = subst (HeldIn (seen (number_name Promised))) c.in-Some.is (c.in_ok-promised.ensures.held t) in
     subst (λ (f : Option Finding). IsVerdict seen before name (role.Number Writer) f) (sym c.above_promise.ensures) (writer_judged seen before name c.args.writer c.in-Some.promised (c.requires t) held)

@@ -1,4 +1,4 @@
-use Rattle.std.proofs.Common.{sym, subst, Bool}
+use Rattle.std.proofs.Common.{sym, subst, Bool, rules}
 use Rattle.std.specs.Prelude.{Result, IfOk, MatchBool}
 use Rattle.qj_disk.specs.Calls.{HasCause}
 use Rattle.qj_disk.specs.declared.disk.DiskFail.{DiskFail}
@@ -9,11 +9,14 @@ use Rattle.fsck_tool.proofs.numbers.is_good_record.Goals as goal
 
 pub returns-clause-good : goal.returns-clause-good
 returns-clause-good g c = λ t.
-    let seen = (g.D.Disk.view c.args.disk.now).seen in
+    let seen = (g.D.DiskModel.view c.args.disk.now).seen in
     let file = seen (name_of c.args.start Record) in
     subst (λ (r : Result Bool DiskFail). IfOk r (λ good. MatchBool good (IsRecordFile file) (IsRecordFile file → ⊥))) (sym c.is_fine.ensures) (fine_right seen c.args.start c.get.result (c.get.ensures.record_ t))
 
-pub returns-clause-cause : goal.returns-clause-cause
-returns-clause-cause g c =
-    subst (λ (r : Result Bool DiskFail). HasCause (g.D.Disk.faults c.args.disk.now) (g.D.Disk.faults c.get.new.disk) (g.D.Disk.steady c.args.disk.now) (g.D.Disk.steady c.get.new.disk) r) (sym c.is_fine.ensures)
-    (fine_cause _ _ _ _ c.get.result c.get.ensures.cause)
+pub returns-clause-call : goal.returns-clause-call
+returns-clause-call g c = record {
+  tells = search rules;
+  cause =
+      subst (λ (r : Result Bool DiskFail). HasCause (g.D.DiskModel.faults c.args.disk.now) (g.D.DiskModel.faults c.get.new.disk) (g.D.DiskModel.steady c.args.disk.now) (g.D.DiskModel.steady c.get.new.disk) r) (sym c.is_fine.ensures)
+      (fine_cause _ _ _ _ c.get.result c.get.ensures.call.cause);
+}

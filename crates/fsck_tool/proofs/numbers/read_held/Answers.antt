@@ -1,4 +1,4 @@
-use Rattle.std.proofs.Common.{ℕ, List, sym, subst}
+use Rattle.std.proofs.Common.{ℕ, List, sym, subst, rules}
 use Rattle.std.specs.Prelude.{Option, Result, IfOk}
 use Rattle.qj_disk.specs.Calls.{HasCause}
 use Rattle.qj_disk.specs.declared.disk.DiskFail.{DiskFail}
@@ -10,11 +10,14 @@ use Rattle.fsck_tool.proofs.numbers.read_held.Goals as goal
 
 pub returns-clause-held : goal.returns-clause-held
 returns-clause-held g c = λ t.
-    let seen = (g.D.Disk.view c.args.disk.now).seen in
+    let seen = (g.D.DiskModel.view c.args.disk.now).seen in
     let is = subst (λ (n : List ℕ). GotOf n (seen n) c.get.result) c.name.ensures (c.get.ensures.value t) in
     subst (λ (r : Result (Option ℕ) DiskFail). IfOk r (HeldIn (seen (number_name c.args.number)))) (sym c.held_of.ensures) (held_right (number_name c.args.number) (seen (number_name c.args.number)) c.get.result is)
 
-pub returns-clause-cause : goal.returns-clause-cause
-returns-clause-cause g c =
-    subst (λ (r : Result (Option ℕ) DiskFail). HasCause (g.D.Disk.faults c.args.disk.now) (g.D.Disk.faults c.get.new.disk) (g.D.Disk.steady c.args.disk.now) (g.D.Disk.steady c.get.new.disk) r) (sym c.held_of.ensures)
-    (held_cause _ _ _ _ c.get.result c.get.ensures.cause)
+pub returns-clause-call : goal.returns-clause-call
+returns-clause-call g c = record {
+  tells = search rules;
+  cause =
+      subst (λ (r : Result (Option ℕ) DiskFail). HasCause (g.D.DiskModel.faults c.args.disk.now) (g.D.DiskModel.faults c.get.new.disk) (g.D.DiskModel.steady c.args.disk.now) (g.D.DiskModel.steady c.get.new.disk) r) (sym c.held_of.ensures)
+      (held_cause _ _ _ _ c.get.result c.get.ensures.call.cause);
+}

@@ -1,8 +1,8 @@
 use Rattle.image_codec.proofs.Stepping.{all_told}
 use Rattle.image_codec.proofs.reading.sink_of.Goals as goal
 
-pub returns : goal.returns
-returns g c =
+pub returns-clause-told : goal.returns-clause-told
+returns-clause-told g c =
     let read = c.in_ok-sink.ensures in (
       record { layout = c.in_ok-layout.layout; space = record { pairs = read.0.0; calls = c.calls_of.new.namespace.calls }; txid = c.in_ok-layout.txid },
       all_told c.args.bytes.now c.in_ok-layout.layout c.in_ok-layout.txid c.in_ok-layout.rest.now c.in_ok-sink.rest.now c.in_ok-rest.rest.now read.0 c.calls_of.new.namespace.calls

@@ -6,7 +6,7 @@ use Rattle.image_store.proofs.counting.counting.Goals as goal
 
 pub returns-clause-images : goal.returns-clause-images
 returns-clause-images g c = λ t.
-    lists_images (map string_bytes c.in_ok-names.names.items) (g.D.Disk.view c.args.disk.now).seen (c.in_ok-names.ensures.names t) c.in_ok-txids_in.field-0.items
+    lists_images (map string_bytes c.in_ok-names.names.items) (g.D.DiskModel.view c.args.disk.now).seen (c.in_ok-names.ensures.names t) c.in_ok-txids_in.field-0.items
     (subst (λ (l : List (List ℕ)). ListsNamed l c.in_ok-txids_in.field-0.items) (ap (map string_bytes) c.deref.ensures.value) c.in_ok-txids_in.ensures)
 
 pub returns-clause-small : goal.returns-clause-small

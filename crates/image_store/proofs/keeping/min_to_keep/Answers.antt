@@ -9,5 +9,5 @@ kept_in-requires g c = subst (λ (l : List ℕ). AllSmall l) (sym c.deref.ensure
 
 pub returns-in-Ok-clause-kept : goal.returns-in-Ok-clause-kept
 returns-in-Ok-clause-kept g c = λ t.
-    kept_told c.deref.result.now (g.D.Disk.view c.args.disk.now).seen c.args.extra c.kept_in.result
-    (subst (λ (l : List ℕ). ListsImages l (g.D.Disk.view c.args.disk.now).seen) (sym c.deref.ensures.value) (c.in-Ok.ensures.images t)) c.kept_in.ensures
+    kept_told c.deref.result.now (g.D.DiskModel.view c.args.disk.now).seen c.args.extra c.kept_in.result
+    (subst (λ (l : List ℕ). ListsImages l (g.D.DiskModel.view c.args.disk.now).seen) (sym c.deref.ensures.value) (c.in-Ok.ensures.images t)) c.kept_in.ensures

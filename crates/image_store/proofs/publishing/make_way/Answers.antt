@@ -7,7 +7,7 @@ use Rattle.image_store.proofs.publishing.make_way.Goals as goal
 
 pub returns-clause-quiet : goal.returns-clause-quiet
 returns-clause-quiet g c = λ t.
-    let t1 = c.has_line.ensures.tells.0 t in
-    keeps_then (MayGo (name_of c.args.names.now Itself)) (g.D.Disk.view c.args.disk.now) (g.D.Disk.view c.has_line.new.disk) (g.D.Disk.view c.clear.new.disk) (g.met.D.Disk.sound _ t)
+    let t1 = c.has_line.ensures.call.tells.0 t in
+    keeps_then (MayGo (name_of c.args.names.now Itself)) (g.D.DiskModel.view c.args.disk.now) (g.D.DiskModel.view c.has_line.new.disk) (g.D.DiskModel.view c.clear.new.disk) (g.met.D.Disk.sound _ t)
     (λ d. record { here = inl refl; others = λ name ne. refl }) (c.has_line.ensures.disk t).keeps
-    (subst (λ (n : List ℕ). Quiet (MayGo n) (g.D.Disk.view c.has_line.new.disk) (g.D.Disk.view c.clear.new.disk)) c.itself.ensures (c.clear.ensures.quiet t1))
+    (subst (λ (n : List ℕ). Quiet (MayGo n) (g.D.DiskModel.view c.has_line.new.disk) (g.D.DiskModel.view c.clear.new.disk)) c.itself.ensures (c.clear.ensures.quiet t1))

@@ -10,79 +10,79 @@ use Rattle.journal_node.proofs.acting.answer_by.Goals as goal
 
 pub returns-in-Ok-clause-answer : goal.returns-in-Ok-clause-answer
 returns-in-Ok-clause-answer g c = λ t s up.
-    c.finish.ensures.answer (c.foretell.ensures.tells.0 t) s (rests_up (g.D.Disk.view c.args.disk.now) (g.D.Disk.view c.foretell.new.disk) (c.foretell.ensures.disk t) c.args.memory.now c.args.table.now s up)
-    (foretold_by c.args.memory.now s c.args.request.now c.behind_front-front.result c.row_refusal-refusal.result c.in-Ok.reply up.held.memory c.behind_front-front.ensures (c.row_refusal-refusal.ensures s.segments up.held.told)
+    c.finish.ensures.answer (c.foretell.ensures.call.tells.0 t) s (rests_up (g.D.DiskModel.view c.args.disk.now) (g.D.DiskModel.view c.foretell.new.disk) (c.foretell.ensures.disk t) c.args.memory.now c.args.table.now s up)
+    (foretold_by c.args.memory.now s c.args.request.now c.step_after_front-front.result c.row_refusal-refusal.result c.in-Ok.reply up.held.memory c.step_after_front-front.ensures (c.row_refusal-refusal.ensures s.segments up.held.told)
     (c.in-Ok.ensures.reply t s.segments up.held.files.segments up.held.sound up.held.told (c.requires.recalls t s (is_up c.args.memory.now c.args.request.now c.requires.at_once) up)))
 
 pub returns-in-Ok-clause-moments : goal.returns-in-Ok-clause-moments
 returns-in-Ok-clause-moments g c = λ t s up.
-    rests_then (g.D.Disk.view c.args.disk.now) (g.D.Disk.view c.foretell.new.disk) (g.D.Disk.view c.finish.new.disk) s c.args.request.now (g.met.D.Disk.sound _ t) (c.foretell.ensures.disk t) (up_stands (g.D.Disk.view c.args.disk.now) c.args.memory.now c.args.table.now s up)
-    (c.finish.ensures.moments (c.foretell.ensures.tells.0 t) s (rests_up (g.D.Disk.view c.args.disk.now) (g.D.Disk.view c.foretell.new.disk) (c.foretell.ensures.disk t) c.args.memory.now c.args.table.now s up))
+    rests_then (g.D.DiskModel.view c.args.disk.now) (g.D.DiskModel.view c.foretell.new.disk) (g.D.DiskModel.view c.finish.new.disk) s c.args.request.now (g.met.D.Disk.sound _ t) (c.foretell.ensures.disk t) (up_stands (g.D.DiskModel.view c.args.disk.now) c.args.memory.now c.args.table.now s up)
+    (c.finish.ensures.moments (c.foretell.ensures.call.tells.0 t) s (rests_up (g.D.DiskModel.view c.args.disk.now) (g.D.DiskModel.view c.foretell.new.disk) (c.foretell.ensures.disk t) c.args.memory.now c.args.table.now s up))
 
 pub returns-in-Ok-clause-stable : goal.returns-in-Ok-clause-stable
 returns-in-Ok-clause-stable g c = λ t s up own.
-    c.finish.ensures.stable (c.foretell.ensures.tells.0 t) s (rests_up (g.D.Disk.view c.args.disk.now) (g.D.Disk.view c.foretell.new.disk) (c.foretell.ensures.disk t) c.args.memory.now c.args.table.now s up) own
+    c.finish.ensures.stable (c.foretell.ensures.call.tells.0 t) s (rests_up (g.D.DiskModel.view c.args.disk.now) (g.D.DiskModel.view c.foretell.new.disk) (c.foretell.ensures.disk t) c.args.memory.now c.args.table.now s up) own
 
 pub returns-in-Err-Failed-clause-node : goal.returns-in-Err-Failed-clause-node
 returns-in-Err-Failed-clause-node g c =
-    node_down (g.D.Disk.tells c.args.disk.now) (g.D.Disk.tells c.foretell.new.disk) (g.D.Disk.view c.foretell.new.disk) c.args.memory.now c.go_down.new.memory c.args.table.now c.args.request.now c.foretell.ensures.tells c.requires.node.told c.go_down.ensures.memory
+    node_down (g.D.DiskModel.tells c.args.disk.now) (g.D.DiskModel.tells c.foretell.new.disk) (g.D.DiskModel.view c.foretell.new.disk) c.args.memory.now c.go_down.new.memory c.args.table.now c.args.request.now c.foretell.ensures.call.tells c.requires.node.told c.go_down.ensures.memory
     (λ t. let s = c.requires.node.stands t in (
       s.0,
-      rests_up (g.D.Disk.view c.args.disk.now) (g.D.Disk.view c.foretell.new.disk) (c.foretell.ensures.disk t) c.args.memory.now c.args.table.now s.0
-          (up_of (g.D.Disk.view c.args.disk.now) c.args.memory.now c.args.table.now s.0 (is_up c.args.memory.now c.args.request.now c.requires.at_once) s.1),
+      rests_up (g.D.DiskModel.view c.args.disk.now) (g.D.DiskModel.view c.foretell.new.disk) (c.foretell.ensures.disk t) c.args.memory.now c.args.table.now s.0
+          (up_of (g.D.DiskModel.view c.args.disk.now) c.args.memory.now c.args.table.now s.0 (is_up c.args.memory.now c.args.request.now c.requires.at_once) s.1),
     ))
     (λ t. (g.met.D.Disk.sound _ t).seen_now) c.go_down.ensures.rise
 
 pub returns-in-Err-Failed-clause-answer : goal.returns-in-Err-Failed-clause-answer
 returns-in-Err-Failed-clause-answer g c = λ t s up.
-    fault_down (g.D.Disk.view c.foretell.new.disk) c.args.memory.now c.go_down.new.memory c.args.table.now s c.args.request.now (g.met.D.Disk.sound _ (c.foretell.ensures.tells.0 t)).seen_now
-    (rests_up (g.D.Disk.view c.args.disk.now) (g.D.Disk.view c.foretell.new.disk) (c.foretell.ensures.disk t) c.args.memory.now c.args.table.now s up) c.go_down.ensures.memory c.go_down.ensures.rise
+    fault_down (g.D.DiskModel.view c.foretell.new.disk) c.args.memory.now c.go_down.new.memory c.args.table.now s c.args.request.now (g.met.D.Disk.sound _ (c.foretell.ensures.call.tells.0 t)).seen_now
+    (rests_up (g.D.DiskModel.view c.args.disk.now) (g.D.DiskModel.view c.foretell.new.disk) (c.foretell.ensures.disk t) c.args.memory.now c.args.table.now s up) c.go_down.ensures.memory c.go_down.ensures.rise
 
 pub returns-in-Err-Failed-clause-moments : goal.returns-in-Err-Failed-clause-moments
 returns-in-Err-Failed-clause-moments g c = λ t s up.
-    rests_moments (g.D.Disk.view c.args.disk.now) (g.D.Disk.view c.foretell.new.disk) s c.args.request.now (g.met.D.Disk.sound _ t) (c.foretell.ensures.disk t) (up_stands (g.D.Disk.view c.args.disk.now) c.args.memory.now c.args.table.now s up)
+    rests_moments (g.D.DiskModel.view c.args.disk.now) (g.D.DiskModel.view c.foretell.new.disk) s c.args.request.now (g.met.D.Disk.sound _ t) (c.foretell.ensures.disk t) (up_stands (g.D.DiskModel.view c.args.disk.now) c.args.memory.now c.args.table.now s up)
 
 pub returns-clause-answer : goal.returns-clause-answer
 returns-clause-answer g c = λ t s up.
-    memory_same (g.D.Disk.view c.foretell.new.disk) c.args.memory.now c.args.table.now s c.args.request.now (is_up c.args.memory.now c.args.request.now c.requires.at_once)
-    (rests_up (g.D.Disk.view c.args.disk.now) (g.D.Disk.view c.foretell.new.disk) (c.foretell.ensures.disk t) c.args.memory.now c.args.table.now s up)
+    memory_same (g.D.DiskModel.view c.foretell.new.disk) c.args.memory.now c.args.table.now s c.args.request.now (is_up c.args.memory.now c.args.request.now c.requires.at_once)
+    (rests_up (g.D.DiskModel.view c.args.disk.now) (g.D.DiskModel.view c.foretell.new.disk) (c.foretell.ensures.disk t) c.args.memory.now c.args.table.now s up)
 
 pub returns-clause-moments : goal.returns-clause-moments
 returns-clause-moments g c = λ t s up.
-    rests_moments (g.D.Disk.view c.args.disk.now) (g.D.Disk.view c.foretell.new.disk) s c.args.request.now (g.met.D.Disk.sound _ t) (c.foretell.ensures.disk t) (up_stands (g.D.Disk.view c.args.disk.now) c.args.memory.now c.args.table.now s up)
+    rests_moments (g.D.DiskModel.view c.args.disk.now) (g.D.DiskModel.view c.foretell.new.disk) s c.args.request.now (g.met.D.Disk.sound _ t) (c.foretell.ensures.disk t) (up_stands (g.D.DiskModel.view c.args.disk.now) c.args.memory.now c.args.table.now s up)
 
 pub finish-requires-clause-recalls : goal.finish-requires-clause-recalls
 finish-requires-clause-recalls g c = λ t1.
-    let t = c.foretell.ensures.tells.1 t1 in
-    recalls_rests (g.D.Disk.tells c.args.disk.now) (g.D.Disk.view c.args.disk.now) (g.D.Disk.view c.foretell.new.disk) c.args.memory.now c.args.table.now c.args.recent.now c.requires.node t (g.met.D.Disk.sound _ t1).seen_now (c.foretell.ensures.disk t) (c.requires.recalls t)
+    let t = c.foretell.ensures.call.tells.1 t1 in
+    recalls_rests (g.D.DiskModel.tells c.args.disk.now) (g.D.DiskModel.view c.args.disk.now) (g.D.DiskModel.view c.foretell.new.disk) c.args.memory.now c.args.table.now c.args.recent.now c.requires.node t (g.met.D.Disk.sound _ t1).seen_now (c.foretell.ensures.disk t) (c.requires.recalls t)
 
 pub returns-in-Ok-clause-cached : goal.returns-in-Ok-clause-cached
 returns-in-Ok-clause-cached g c = λ t s up own.
-    c.finish.ensures.cached (c.foretell.ensures.tells.0 t) s (rests_up (g.D.Disk.view c.args.disk.now) (g.D.Disk.view c.foretell.new.disk) (c.foretell.ensures.disk t) c.args.memory.now c.args.table.now s up) own
+    c.finish.ensures.cached (c.foretell.ensures.call.tells.0 t) s (rests_up (g.D.DiskModel.view c.args.disk.now) (g.D.DiskModel.view c.foretell.new.disk) (c.foretell.ensures.disk t) c.args.memory.now c.args.table.now s up) own
 
 pub returns-in-Ok-clause-unread : goal.returns-in-Ok-clause-unread
 returns-in-Ok-clause-unread g c = λ t s up asks.
     c.finish.ensures.reads
     ∙ c.foretell.ensures.unread s.segments up.held.told (c.requires.recalls t s (is_up c.args.memory.now c.args.request.now c.requires.at_once) up)
-    (subst (λ (x : NodeState). AsksRecent c.args.recent.now.start x c.args.request.now) (sym (front_same c.args.memory.now s c.behind_front-front.result c.args.request.now up.held.memory c.behind_front-front.ensures)) (asks_front c.args.recent.now.start s c.args.request.now asks))
+    (subst (λ (x : NodeState). AsksRecent c.args.recent.now.start x c.args.request.now) (sym (front_same c.args.memory.now s c.step_after_front-front.result c.args.request.now up.held.memory c.step_after_front-front.ensures)) (asks_front c.args.recent.now.start s c.args.request.now asks))
 
 pub returns-in-Err-Failed-clause-unread : goal.returns-in-Err-Failed-clause-unread
 returns-in-Err-Failed-clause-unread g c = λ t s up asks.
     c.foretell.ensures.unread s.segments up.held.told (c.requires.recalls t s (is_up c.args.memory.now c.args.request.now c.requires.at_once) up)
-    (subst (λ (x : NodeState). AsksRecent c.args.recent.now.start x c.args.request.now) (sym (front_same c.args.memory.now s c.behind_front-front.result c.args.request.now up.held.memory c.behind_front-front.ensures)) (asks_front c.args.recent.now.start s c.args.request.now asks))
+    (subst (λ (x : NodeState). AsksRecent c.args.recent.now.start x c.args.request.now) (sym (front_same c.args.memory.now s c.step_after_front-front.result c.args.request.now up.held.memory c.step_after_front-front.ensures)) (asks_front c.args.recent.now.start s c.args.request.now asks))
 
 pub returns-clause-recalls : goal.returns-clause-recalls
 returns-clause-recalls g c = λ t.
-    recalls_rests (g.D.Disk.tells c.args.disk.now) (g.D.Disk.view c.args.disk.now) (g.D.Disk.view c.foretell.new.disk) c.args.memory.now c.args.table.now c.args.recent.now c.requires.node t (g.met.D.Disk.sound _ (c.foretell.ensures.tells.0 t)).seen_now (c.foretell.ensures.disk t)
+    recalls_rests (g.D.DiskModel.tells c.args.disk.now) (g.D.DiskModel.view c.args.disk.now) (g.D.DiskModel.view c.foretell.new.disk) c.args.memory.now c.args.table.now c.args.recent.now c.requires.node t (g.met.D.Disk.sound _ (c.foretell.ensures.call.tells.0 t)).seen_now (c.foretell.ensures.disk t)
     (c.requires.recalls t)
 
 pub returns-clause-unread : goal.returns-clause-unread
 returns-clause-unread g c = λ t s up asks.
     c.foretell.ensures.unread s.segments up.held.told (c.requires.recalls t s (is_up c.args.memory.now c.args.request.now c.requires.at_once) up)
-    (subst (λ (x : NodeState). AsksRecent c.args.recent.now.start x c.args.request.now) (sym (front_same c.args.memory.now s c.behind_front-front.result c.args.request.now up.held.memory c.behind_front-front.ensures)) (asks_front c.args.recent.now.start s c.args.request.now asks))
+    (subst (λ (x : NodeState). AsksRecent c.args.recent.now.start x c.args.request.now) (sym (front_same c.args.memory.now s c.step_after_front-front.result c.args.request.now up.held.memory c.step_after_front-front.ensures)) (asks_front c.args.recent.now.start s c.args.request.now asks))
 
 pub returns-in-Ok-clause-spared : goal.returns-in-Ok-clause-spared
-returns-in-Ok-clause-spared g c = λ e. inl (rose_since (g.D.Disk.shortages c.args.disk.now) (g.D.Disk.shortages c.foretell.new.disk) (g.D.Disk.shortages c.finish.new.disk) c.foretell.ensures.shortages (c.finish.ensures.short e))
+returns-in-Ok-clause-spared g c = λ e. inl (rose_since (g.D.DiskModel.shortages c.args.disk.now) (g.D.DiskModel.shortages c.foretell.new.disk) (g.D.DiskModel.shortages c.finish.new.disk) c.foretell.ensures.shortages (c.finish.ensures.short e))
 
 pub returns-clause-spared : goal.returns-clause-spared
 returns-clause-spared g c = λ e. inr (record { disk = c.foretell.ensures.disk; memory = refl; rows = refl; recent = refl })

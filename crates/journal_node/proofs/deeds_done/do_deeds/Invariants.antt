@@ -4,13 +4,13 @@ use Rattle.journal_node.specs.Done.{HasRoom}
 use Rattle.journal_node.proofs.DoneLaws.{IsUnderWay}
 use Rattle.journal_node.proofs.deeds_done.do_deeds.Given as goal
 
--- the deeds up to the loop's place are done, nothing is read, and those behind have their frame and room
+-- the deeds up to the loop's place are done, nothing is read, and those after have their frame and room
 abbrev pub invariant-loop-deed : goal.invariant-loop-deed
 invariant-loop-deed g l = record {
-  way : IsUnderWay (g.D.Disk.tells l.fn.disk) (g.D.Disk.tells l.disk) (g.D.Disk.view l.fn.disk) (g.D.Disk.view l.disk) l.fn.memory l.memory l.fn.table l.table l.request l.deeds (take l.deed-index l.deeds) (drop l.deed-index l.deeds)
-      (g.D.Disk.faults l.fn.disk) (g.D.Disk.faults l.disk) (g.D.Disk.steady l.fn.disk) (g.D.Disk.steady l.disk) (g.D.Disk.left l.fn.disk) (g.D.Disk.left l.disk);
+  way : IsUnderWay (g.D.DiskModel.tells l.fn.disk) (g.D.DiskModel.tells l.disk) (g.D.DiskModel.view l.fn.disk) (g.D.DiskModel.view l.disk) l.fn.memory l.memory l.fn.table l.table l.request l.deeds (take l.deed-index l.deeds) (drop l.deed-index l.deeds)
+      (g.D.DiskModel.faults l.fn.disk) (g.D.DiskModel.faults l.disk) (g.D.DiskModel.steady l.fn.disk) (g.D.DiskModel.steady l.disk) (g.D.DiskModel.left l.fn.disk) (g.D.DiskModel.left l.disk);
   frame : HasFrame l.request l.ready.frame;
   room : HasRoom (drop l.deed-index l.deeds) (length l.table) l.ready.room;
-  shortages : g.D.Disk.shortages l.fn.disk ≤ g.D.Disk.shortages l.disk;
-  unread : g.D.Disk.reads l.disk ≡ g.D.Disk.reads l.fn.disk;
+  shortages : g.D.DiskModel.shortages l.fn.disk ≤ g.D.DiskModel.shortages l.disk;
+  unread : g.D.DiskModel.reads l.disk ≡ g.D.DiskModel.reads l.fn.disk;
 }

@@ -1,11 +1,10 @@
-use Rattle.std.proofs.Common.{arith, subst, sym}
+use Rattle.std.proofs.Common.{arith, subst, sym, refl, rules}
 use Rattle.journal_core.specs.Views.{BatchView}
-use Rattle.small_files.specs.Answers.{put_result}
 use Rattle.segment_file.specs.Calls.{IsFrameOf}
 use Rattle.segment_file.proofs.GateLemmas.{carried}
 use Rattle.node_deeds.specs.declared.deed.Deed.TheVariants as deed
 use Rattle.node_deeds.proofs.ApplyLaws.{due_in_range}
-use Rattle.journal_node.proofs.DoingCalls.{can_accept, accept_does, does_as}
+use Rattle.journal_node.proofs.DoingCalls.{can_accept, accept_does}
 use Rattle.journal_node.proofs.DoingDeed.{left_not_begun, done_before}
 use Rattle.journal_node.proofs.doing.accept_batch.Goals as goal
 
@@ -19,22 +18,26 @@ pub returns-clause-frame : goal.returns-clause-frame
 returns-clause-frame g c = λ some. subst (λ (b : BatchView). IsFrameOf b c.accept_edits.new.frame) c.requires.batch_is c.accept_edits.ensures.frame
 
 pub returns-in_err-note_row-clause-left : goal.returns-in_err-note_row-clause-left
-returns-in_err-note_row-clause-left g c = λ t s can. left_not_begun (g.D.Disk.view c.args.disk.now) c.args.table.now s c.args.request.now (deed.Accept c.args.epoch c.args.again) can c.note_row.new.table c.in_err-note_row.ensures.err
+returns-in_err-note_row-clause-left g c = λ t s can. left_not_begun (g.D.DiskModel.view c.args.disk.now) c.args.table.now s c.args.request.now (deed.Accept c.args.epoch c.args.again) can c.note_row.new.table c.in_err-note_row.ensures.err
 
 pub returns-clause-does : goal.returns-clause-does
 returns-clause-does g c = λ t s can.
-    does_as s c.args.request.now (deed.Accept c.args.epoch c.args.again) (g.D.Disk.view c.args.disk.now) (g.D.Disk.view c.accept_edits.new.disk) (g.D.Disk.left c.args.disk.now) (g.D.Disk.left c.accept_edits.new.disk) (put_result c.accept_edits.result) c.outcome.result c.outcome.ensures
-    (accept_does s c.args.request.now (put_result c.accept_edits.result) (g.D.Disk.view c.args.disk.now) (g.D.Disk.view c.accept_edits.new.disk) (g.D.Disk.left c.args.disk.now) (g.D.Disk.left c.accept_edits.new.disk) c.args.epoch c.args.again c.args.batch.now c.requires.batch_is can.due.record_is
-    (c.accept_edits.ensures.effect t s can.held.files (can_accept (g.D.Disk.view c.args.disk.now) c.args.table.now s c.args.request.now c.args.epoch c.args.again c.args.batch.now c.requires.batch_is can)) (c.accept_edits.ensures.others t) c.accept_edits.ensures.counts
-    (c.accept_edits.ensures.cut t s can.held.files (can_accept (g.D.Disk.view c.args.disk.now) c.args.table.now s c.args.request.now c.args.epoch c.args.again c.args.batch.now c.requires.batch_is can)))
+    accept_does s c.args.request.now c.accept_edits.result (g.D.DiskModel.view c.args.disk.now) (g.D.DiskModel.view c.accept_edits.new.disk) (g.D.DiskModel.left c.args.disk.now) (g.D.DiskModel.left c.accept_edits.new.disk) c.args.epoch c.args.again c.args.batch.now c.requires.batch_is can.due.record_is
+    (c.accept_edits.ensures.effect t s can.held.files (can_accept (g.D.DiskModel.view c.args.disk.now) c.args.table.now s c.args.request.now c.args.epoch c.args.again c.args.batch.now c.requires.batch_is can)) (c.accept_edits.ensures.others t) c.accept_edits.ensures.counts
+    (c.accept_edits.ensures.cut t s can.held.files (can_accept (g.D.DiskModel.view c.args.disk.now) c.args.table.now s c.args.request.now c.args.epoch c.args.again c.args.batch.now c.requires.batch_is can))
 
 pub returns-clause-left : goal.returns-clause-left
 returns-clause-left g c = λ t s can.
-    done_before (g.D.Disk.view c.args.disk.now) c.args.table.now s c.args.request.now (deed.Accept c.args.epoch c.args.again) can (g.D.Disk.view c.accept_edits.new.disk) (g.met.D.Disk.sound _ (c.accept_edits.ensures.tells.0 t)) (g.D.Disk.left c.args.disk.now) (g.D.Disk.left c.accept_edits.new.disk)
-    c.outcome.result (returns-clause-does g c t s can) c.note_row.new.table tt c.in_ok-note_row.ensures.noted.done
+    done_before (g.D.DiskModel.view c.args.disk.now) c.args.table.now s c.args.request.now (deed.Accept c.args.epoch c.args.again) can (g.D.DiskModel.view c.accept_edits.new.disk) (g.met.D.Disk.sound _ (c.accept_edits.ensures.call.tells.0 t)) (g.D.DiskModel.left c.args.disk.now) (g.D.DiskModel.left c.accept_edits.new.disk)
+    c.accept_edits.result (returns-clause-does g c t s can) c.note_row.new.table tt c.in_ok-note_row.ensures.noted.done
 
-pub returns-in_err-note_row-clause-shortage : goal.returns-in_err-note_row-clause-shortage
-returns-in_err-note_row-clause-shortage g c = record {
-  later = omega arith;
-  short = λ failed. absurd (c.note_row.ensures.shortage (λ puts. c.requires.room) (carried c.note_row.result c.from_residual.result c.in_err-note_row.field-0.0 c.in_err-note_row.was c.from_residual.ensures.1 failed));
+pub returns-in_err-note_row-clause-call : goal.returns-in_err-note_row-clause-call
+returns-in_err-note_row-clause-call g c = record {
+  tells = search rules;
+  reads = refl;
+  cause = search rules;
+  shortage = record {
+    later = omega arith;
+    short = λ failed. absurd (c.note_row.ensures.shortage (λ puts. c.requires.room) (carried c.note_row.result c.from_residual.result c.in_err-note_row.field-0.0 c.in_err-note_row.was c.from_residual.ensures.1 failed));
+  };
 }

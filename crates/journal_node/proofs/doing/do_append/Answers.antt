@@ -4,6 +4,6 @@ use Rattle.node_deeds.specs.Due.{batch_of}
 use Rattle.journal_node.proofs.DoingCalls.{append_some}
 use Rattle.journal_node.proofs.doing.do_append.Goals as goal
 
-pub returns-in-None-clause-shortage : goal.returns-in-None-clause-shortage
-returns-in-None-clause-shortage g c =
+pub returns-in-None-clause-call : goal.returns-in-None-clause-call
+returns-in-None-clause-call g c =
     absurd (omega (arith, ap (λ (b : BatchView). b.first) c.in-None.ensures, append_some c.args.start c.args.at (batch_of c.args.request.now) c.requires.due.0 c.args.table.now c.requires.due.1 c.requires.due.2))

@@ -1,9 +1,8 @@
-use Rattle.std.proofs.Common.{arith}
-use Rattle.small_files.specs.Answers.{put_result}
+use Rattle.std.proofs.Common.{arith, refl, rules}
 use Rattle.segment_file.proofs.GateLemmas.{carried}
 use Rattle.node_deeds.specs.declared.deed.Deed.TheVariants as deed
 use Rattle.node_deeds.proofs.ApplyLaws.{due_in_range}
-use Rattle.journal_node.proofs.DoingCalls.{begin_does, does_as}
+use Rattle.journal_node.proofs.DoingCalls.{begin_does}
 use Rattle.journal_node.proofs.DoingDeed.{left_not_begun, done_before}
 use Rattle.journal_node.proofs.doing.do_begin.Goals as goal
 
@@ -11,22 +10,26 @@ pub note_row-requires-clause-range : goal.note_row-requires-clause-range
 note_row-requires-clause-range g c = due_in_range c.args.request.now (deed.Begin c.args.start c.args.epoch) c.requires.due.0 c.args.table.now c.requires.due.2
 
 pub returns-in_err-note_row-clause-left : goal.returns-in_err-note_row-clause-left
-returns-in_err-note_row-clause-left g c = λ t s can. left_not_begun (g.D.Disk.view c.args.disk.now) c.args.table.now s c.args.request.now (deed.Begin c.args.start c.args.epoch) can c.note_row.new.table c.in_err-note_row.ensures.err
+returns-in_err-note_row-clause-left g c = λ t s can. left_not_begun (g.D.DiskModel.view c.args.disk.now) c.args.table.now s c.args.request.now (deed.Begin c.args.start c.args.epoch) can c.note_row.new.table c.in_err-note_row.ensures.err
 
 pub returns-clause-does : goal.returns-clause-does
 returns-clause-does g c = λ t s can.
-    does_as s c.args.request.now (deed.Begin c.args.start c.args.epoch) (g.D.Disk.view c.args.disk.now) (g.D.Disk.view c.begin_segment.new.disk) (g.D.Disk.left c.args.disk.now) (g.D.Disk.left c.begin_segment.new.disk) (put_result c.begin_segment.result) c.outcome.result c.outcome.ensures
-    (begin_does s c.args.request.now (put_result c.begin_segment.result) (g.D.Disk.view c.args.disk.now) (g.D.Disk.view c.begin_segment.new.disk) (g.D.Disk.left c.args.disk.now) (g.D.Disk.left c.begin_segment.new.disk) c.args.start c.args.epoch
+    begin_does s c.args.request.now c.begin_segment.result (g.D.DiskModel.view c.args.disk.now) (g.D.DiskModel.view c.begin_segment.new.disk) (g.D.DiskModel.left c.args.disk.now) (g.D.DiskModel.left c.begin_segment.new.disk) c.args.start c.args.epoch
     (c.begin_segment.ensures.effect t s can.held.files (record { not_final = can.due.not_final; no_edit = can.due.no_edit })) (c.begin_segment.ensures.others t) (c.begin_segment.ensures.appends t) c.begin_segment.ensures.counts
-    (c.begin_segment.ensures.cut t s can.held.files (record { not_final = can.due.not_final; no_edit = can.due.no_edit })))
+    (c.begin_segment.ensures.cut t s can.held.files (record { not_final = can.due.not_final; no_edit = can.due.no_edit }))
 
 pub returns-clause-left : goal.returns-clause-left
 returns-clause-left g c = λ t s can.
-    done_before (g.D.Disk.view c.args.disk.now) c.args.table.now s c.args.request.now (deed.Begin c.args.start c.args.epoch) can (g.D.Disk.view c.begin_segment.new.disk) (g.met.D.Disk.sound _ (c.begin_segment.ensures.tells.0 t)) (g.D.Disk.left c.args.disk.now) (g.D.Disk.left c.begin_segment.new.disk)
-    c.outcome.result (returns-clause-does g c t s can) c.note_row.new.table tt c.in_ok-note_row.ensures.noted.done
+    done_before (g.D.DiskModel.view c.args.disk.now) c.args.table.now s c.args.request.now (deed.Begin c.args.start c.args.epoch) can (g.D.DiskModel.view c.begin_segment.new.disk) (g.met.D.Disk.sound _ (c.begin_segment.ensures.call.tells.0 t)) (g.D.DiskModel.left c.args.disk.now) (g.D.DiskModel.left c.begin_segment.new.disk)
+    c.begin_segment.result (returns-clause-does g c t s can) c.note_row.new.table tt c.in_ok-note_row.ensures.noted.done
 
-pub returns-in_err-note_row-clause-shortage : goal.returns-in_err-note_row-clause-shortage
-returns-in_err-note_row-clause-shortage g c = record {
-  later = omega arith;
-  short = λ failed. absurd (c.note_row.ensures.shortage (λ puts. c.requires.room) (carried c.note_row.result c.from_residual.result c.in_err-note_row.field-0.0 c.in_err-note_row.was c.from_residual.ensures.1 failed));
+pub returns-in_err-note_row-clause-call : goal.returns-in_err-note_row-clause-call
+returns-in_err-note_row-clause-call g c = record {
+  tells = search rules;
+  reads = refl;
+  cause = search rules;
+  shortage = record {
+    later = omega arith;
+    short = λ failed. absurd (c.note_row.ensures.shortage (λ puts. c.requires.room) (carried c.note_row.result c.from_residual.result c.in_err-note_row.field-0.0 c.in_err-note_row.was c.from_residual.ensures.1 failed));
+  };
 }

@@ -15,9 +15,9 @@ returns-in_err-do_calls-clause-covers g c = λ gs t due failed.
 
 pub returns-in_err-do_calls-clause-cut : goal.returns-in_err-do_calls-clause-cut
 returns-in_err-do_calls-clause-cut g c = λ t s can.
-    cut_carried (λ cut. cost_of cut s.segments (effect_of c.args.request.now c.args.deed)) s (after_effect s (effect_of c.args.request.now c.args.deed)) (g.D.Disk.left c.args.disk.now) c.do_calls.result c.from_residual.result (g.D.Disk.view c.do_calls.new.disk)
+    cut_carried (λ cut. cost_of cut s.segments (effect_of c.args.request.now c.args.deed)) s (after_effect s (effect_of c.args.request.now c.args.deed)) (g.D.DiskModel.left c.args.disk.now) c.do_calls.result c.from_residual.result (g.D.DiskModel.view c.do_calls.new.disk)
     (carried c.do_calls.result c.from_residual.result c.in_err-do_calls.field-0.0 c.in_err-do_calls.was c.from_residual.ensures.1)
-    (c.do_calls.ensures.does t s (can_apart (g.D.Disk.view c.args.disk.now) c.args.memory.now c.args.table.now s c.args.request.now c.args.deed can)).cut
+    (c.do_calls.ensures.does t s (can_apart (g.D.DiskModel.view c.args.disk.now) c.args.memory.now c.args.table.now s c.args.request.now c.args.deed can)).cut
 
 pub returns-clause-rows : goal.returns-clause-rows
 returns-clause-rows g c = λ gs t due. rows_then c.args.request.now c.args.deed gs c.args.table.now c.do_calls.new.table t due c.in_ok-do_calls.ensures.noted.done
@@ -30,9 +30,9 @@ returns-clause-memory g c = numbers_noted c.args.request.now c.args.deed c.args.
 
 pub returns-clause-held : goal.returns-clause-held
 returns-clause-held g c = λ t s can.
-    held_then (g.D.Disk.view c.args.disk.now) (g.D.Disk.view c.do_calls.new.disk) c.args.memory.now c.note.new.memory c.args.table.now c.do_calls.new.table s c.args.request.now c.args.deed can c.in_ok-do_calls.ensures.noted.done (returns-clause-memory g c) (c.in_ok-do_calls.ensures.does t s (can_apart (g.D.Disk.view c.args.disk.now) c.args.memory.now c.args.table.now s c.args.request.now c.args.deed can)).effect.done
+    held_then (g.D.DiskModel.view c.args.disk.now) (g.D.DiskModel.view c.do_calls.new.disk) c.args.memory.now c.note.new.memory c.args.table.now c.do_calls.new.table s c.args.request.now c.args.deed can c.in_ok-do_calls.ensures.noted.done (returns-clause-memory g c) (c.in_ok-do_calls.ensures.does t s (can_apart (g.D.DiskModel.view c.args.disk.now) c.args.memory.now c.args.table.now s c.args.request.now c.args.deed can)).effect.done
 
 pub returns-clause-opened : goal.returns-clause-opened
 returns-clause-opened g c = λ t s o can.
-    let does = c.in_ok-do_calls.ensures.does t s (can_apart (g.D.Disk.view c.args.disk.now) c.args.memory.now c.args.table.now s c.args.request.now c.args.deed can) in
-    opened_then c.args.request.now c.args.deed (g.D.Disk.view c.args.disk.now) (g.D.Disk.view c.do_calls.new.disk) s.segments c.args.table.now c.do_calls.new.table can.held.told can.due c.in_ok-do_calls.ensures.noted.done does.others does.appends o
+    let does = c.in_ok-do_calls.ensures.does t s (can_apart (g.D.DiskModel.view c.args.disk.now) c.args.memory.now c.args.table.now s c.args.request.now c.args.deed can) in
+    opened_then c.args.request.now c.args.deed (g.D.DiskModel.view c.args.disk.now) (g.D.DiskModel.view c.do_calls.new.disk) s.segments c.args.table.now c.do_calls.new.table can.held.told can.due c.in_ok-do_calls.ensures.noted.done does.others does.appends o

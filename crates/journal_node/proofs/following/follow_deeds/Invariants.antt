@@ -3,7 +3,7 @@ use Rattle.journal_core.specs.declared.node_state.NodeState.{NodeState}
 use Rattle.journal_core.specs.Effects.{after_effects}
 use Rattle.segment_file.specs.declared.segment_row.SegmentRow.{SegmentRow}
 use Rattle.node_deeds.specs.Due.{AreDue}
-use Rattle.recent_edits.specs.Recent.{IsRecent, cached_behind}
+use Rattle.recent_edits.specs.Recent.{IsRecent, cached_then}
 use Rattle.journal_node.specs.Done.{effects_by}
 use Rattle.journal_node.proofs.Followed.{IsFollowed}
 use Rattle.journal_node.proofs.following.follow_deeds.Given as goal
@@ -11,6 +11,6 @@ use Rattle.journal_node.proofs.following.follow_deeds.Given as goal
 -- the deeds from the loop's place on are left
 abbrev pub invariant-loop-deed : goal.invariant-loop-deed
 invariant-loop-deed l = record {
-  start : cached_behind l.fn.recent.start (effects_by l.request l.deeds) ≡ cached_behind l.recent.start (effects_by l.request (drop l.deed-index l.deeds));
+  start : cached_then l.fn.recent.start (effects_by l.request l.deeds) ≡ cached_then l.recent.start (effects_by l.request (drop l.deed-index l.deeds));
   held : (s : NodeState) (rows : List SegmentRow) → AreDue s.segments rows l.request l.deeds → IsRecent l.fn.recent s.segments → IsFollowed l.request l.recent (drop l.deed-index l.deeds) (after_effects s (effects_by l.request l.deeds));
 }

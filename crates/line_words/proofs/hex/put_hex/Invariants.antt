@@ -3,7 +3,7 @@ use Rattle.line_words.specs.Appends.{Keeps}
 use Rattle.line_words.specs.Hex.{hex_text}
 use Rattle.line_words.proofs.hex.put_hex.Given as goal
 
--- what was added, and the text of the rest behind it
+-- what was added, and the text of the rest after it
 abbrev pub invariant-loop-rest : goal.invariant-loop-rest
 invariant-loop-rest l = (l.out.items ++ hex_text l.rest ≡ l.fn.out.items ++ hex_text l.fn.bytes) × Keeps l.fn.out.items l.out.items
 

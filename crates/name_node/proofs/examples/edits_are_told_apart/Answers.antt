@@ -2,10 +2,10 @@ use Rattle.std.proofs.Common.{refl}
 use Rattle.writer_core.specs.Writer.{log_limit}
 use Rattle.ns_replay.specs.Admit.{admit_op, admit_of}
 use Rattle.ns_replay.specs.Apply.{apply_op, apply_of}
-use Rattle.name_node.specs.Submissions.{submitted}
+use Rattle.name_node.specs.Submissions.{submit_edits}
 use Rattle.name_node.specs.Examples.{three_edits}
 use Rattle.name_node.proofs.examples.edits_are_told_apart.Goals as goal
 
 pub returns : goal.returns
-unfolding log_limit admit_op admit_of apply_op apply_of submitted three_edits
+unfolding log_limit admit_op admit_of apply_op apply_of submit_edits three_edits
 returns c = record { dues = refl; bodies = refl }

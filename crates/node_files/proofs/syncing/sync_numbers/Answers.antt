@@ -9,12 +9,12 @@ use Rattle.node_files.proofs.syncing.sync_numbers.Goals as goal
 
 pub returns-clause-spared : goal.returns-clause-spared
 returns-clause-spared g c = λ t.
-    let v0 = g.D.Disk.view c.args.disk.now in
-    let v1 = g.D.Disk.view c.sync_number.new.disk in
-    let v2 = g.D.Disk.view c.sync_number-2.new.disk in
-    let v3 = g.D.Disk.view c.sync_number-3.new.disk in
-    let t1 = c.sync_number.ensures.tells.0 t in
-    let t2 = c.sync_number-2.ensures.tells.0 t1 in
+    let v0 = g.D.DiskModel.view c.args.disk.now in
+    let v1 = g.D.DiskModel.view c.sync_number.new.disk in
+    let v2 = g.D.DiskModel.view c.sync_number-2.new.disk in
+    let v3 = g.D.DiskModel.view c.sync_number-3.new.disk in
+    let t1 = c.sync_number.ensures.call.tells.0 t in
+    let t2 = c.sync_number-2.ensures.call.tells.0 t1 in
     on_ok_weaker c.sync_number-3.result
     (λ (last : SyncsOnly (λ name. name ≡ number_name Writer) v2 v3).
     spared_then IsNumberFile (λ name. name ≡ number_name Writer) IsNumberFile (λ name is. is) (λ name is. (Writer, is)) v0 v2 v3

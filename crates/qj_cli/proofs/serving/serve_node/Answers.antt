@@ -11,9 +11,9 @@ use Rattle.qj_cli.proofs.serving.serve_node.Goals as goal
 pub returns-in-Ok-clause-served : goal.returns-in-Ok-clause-served
 returns-in-Ok-clause-served g c =
     let disk = c.in-Ok.node.disk in
-    opened (serves_opened (done_to g.D.Disk.tells g.D.Disk.view g.D.Disk.faults g.D.Disk.steady g.D.Disk.left c.args.disk c.serve_opened.result.disk) (g.D.Disk.is_told disk) c.in-Ok.node
+    opened (serves_opened (done_to g.D.DiskModel.tells g.D.DiskModel.view g.D.DiskModel.faults g.D.DiskModel.steady g.D.DiskModel.left c.args.disk c.serve_opened.result.disk) (g.D.DiskModel.is_told disk) c.in-Ok.node
     (read_from g.S.Source.left g.S.Source.faults c.args.source.now c.serve_opened.new.source) (written_to g.K.Sink.taken g.K.Sink.faults c.args.sink.now c.serve_opened.new.sink)
-    c.serve_opened.result.status (g.D.Disk.tells c.serve_opened.result.disk)
+    c.serve_opened.result.status (g.D.DiskModel.tells c.serve_opened.result.disk)
     (λ t. (g.met.D.Disk.told_so disk).0 (c.in-Ok.ensures.tells_ok.0 t)) c.in-Ok.ensures.tells_ok.0 (λ t. g.met.D.Disk.sound disk (c.in-Ok.ensures.tells_ok.0 t))
     (λ t. c.serve_opened.ensures.tells.0 (c.in-Ok.ensures.tells_ok.0 t)) c.in-Ok.ensures.opened c.in-Ok.ensures.moments_ok c.serve_opened.ensures.session)
 
@@ -22,9 +22,9 @@ returns-in-Err-clause-served g c =
     let last = disk_in c.in-Err.fail in
     let source = read_from g.S.Source.left g.S.Source.faults c.args.source.now c.args.source.now in
     let sink = written_to g.K.Sink.taken g.K.Sink.faults c.args.sink.now c.end_unopened.new.sink in
-    let disk = done_to g.D.Disk.tells g.D.Disk.view g.D.Disk.faults g.D.Disk.steady g.D.Disk.left c.args.disk last in
+    let disk = done_to g.D.DiskModel.tells g.D.DiskModel.view g.D.DiskModel.faults g.D.DiskModel.steady g.D.DiskModel.left c.args.disk last in
     subst
-    (λ d. IsServedOrNot source sink (done_to g.D.Disk.tells g.D.Disk.view g.D.Disk.faults g.D.Disk.steady g.D.Disk.left c.args.disk d) c.end_unopened.result.status)
+    (λ d. IsServedOrNot source sink (done_to g.D.DiskModel.tells g.D.DiskModel.view g.D.DiskModel.faults g.D.DiskModel.steady g.D.DiskModel.left c.args.disk d) c.end_unopened.result.status)
     (sym c.end_unopened.ensures.disk)
     (unopened (record {
       unread = refl;
@@ -38,8 +38,8 @@ pub returns-in-Err-clause-cause : goal.returns-in-Err-clause-cause
 returns-in-Err-clause-cause g c =
     let last = disk_in c.in-Err.fail in
     let sink = written_to g.K.Sink.taken g.K.Sink.faults c.args.sink.now c.end_unopened.new.sink in
-    let disk = done_to g.D.Disk.tells g.D.Disk.view g.D.Disk.faults g.D.Disk.steady g.D.Disk.left c.args.disk last in
+    let disk = done_to g.D.DiskModel.tells g.D.DiskModel.view g.D.DiskModel.faults g.D.DiskModel.steady g.D.DiskModel.left c.args.disk last in
     subst
-    (λ d. IsCauseOf (g.D.Disk.faults c.args.disk) (g.D.Disk.faults d) (g.D.Disk.steady c.args.disk) (g.D.Disk.steady d) (is_disk_fault c.end_unopened.result.status))
+    (λ d. IsCauseOf (g.D.DiskModel.faults c.args.disk) (g.D.DiskModel.faults d) (g.D.DiskModel.steady c.args.disk) (g.D.DiskModel.steady d) (is_disk_fault c.end_unopened.result.status))
     (sym c.end_unopened.ensures.disk)
     (opening_cause sink disk c.end_unopened.result.status c.in-Err.fail _ _ _ _ c.end_unopened.ensures.told c.in-Err.ensures.cause_err)

@@ -20,7 +20,7 @@ pub returns-in-Err-clause-done : goal.returns-in-Err-clause-done
 returns-in-Err-clause-done g c =
     let source = read_from g.S.Source.left g.S.Source.faults c.args.source.now c.run_script.new.source in
     let sink = written_to g.K.Sink.taken g.K.Sink.faults c.args.sink.now c.run_script.new.sink in
-    let disk = done_to g.D.Disk.tells g.D.Disk.view g.D.Disk.faults g.D.Disk.steady g.D.Disk.left c.args.disk c.in-Err.disk in
+    let disk = done_to g.D.DiskModel.tells g.D.DiskModel.view g.D.DiskModel.faults g.D.DiskModel.steady g.D.DiskModel.left c.args.disk c.in-Err.disk in
     let plays : Plays AreSound source sink c.run_script.result =
     subst (λ k. Plays AreSound source (written_to g.K.Sink.taken g.K.Sink.faults k c.run_script.new.sink) c.run_script.result) c.in-Err.ensures.threads.3
     (subst (λ s. Plays AreSound (read_from g.S.Source.left g.S.Source.faults s c.run_script.new.source) (written_to g.K.Sink.taken g.K.Sink.faults c.qjm_alone.new.sink c.run_script.new.sink) c.run_script.result) c.in-Err.ensures.threads.2 c.run_script.ensures) in
@@ -33,8 +33,8 @@ pub returns-in-Err-clause-complete : goal.returns-in-Err-clause-complete
 returns-in-Err-clause-complete g c =
     let source = read_from g.S.Source.left g.S.Source.faults c.args.source.now c.run_script.new.source in
     let sink = written_to g.K.Sink.taken g.K.Sink.faults c.args.sink.now c.run_script.new.sink in
-    let disk = done_to g.D.Disk.tells g.D.Disk.view g.D.Disk.faults g.D.Disk.steady g.D.Disk.left c.args.disk c.in-Err.disk in
+    let disk = done_to g.D.DiskModel.tells g.D.DiskModel.view g.D.DiskModel.faults g.D.DiskModel.steady g.D.DiskModel.left c.args.disk c.in-Err.disk in
     λ asked e. completes asked source sink disk c.run_script.result breaks_no_rule (returns-in-Err-clause-done g c asked e)
 
 pub returns-in-Err-clause-tells : goal.returns-in-Err-clause-tells
-returns-in-Err-clause-tells g c = subst (λ d. (g.D.Disk.tells c.args.disk → g.D.Disk.tells d) × (g.D.Disk.tells d → g.D.Disk.tells c.args.disk)) (sym c.in-Err.ensures.threads.1) ((λ t. t), (λ t. t))
+returns-in-Err-clause-tells g c = subst (λ d. (g.D.DiskModel.tells c.args.disk → g.D.DiskModel.tells d) × (g.D.DiskModel.tells d → g.D.DiskModel.tells c.args.disk)) (sym c.in-Err.ensures.threads.1) ((λ t. t), (λ t. t))

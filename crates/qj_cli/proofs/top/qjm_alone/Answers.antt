@@ -22,7 +22,7 @@ returns-in-Ok-clause-done g c =
     λ asked e.
     IfOk-weaker c.do_command.result _ _
     (λ exit does. does_for (bytes_of c.args.words.now) (asked_in c.in-Ok.command) asked source sink
-    (done_to g.D.Disk.tells g.D.Disk.view g.D.Disk.faults g.D.Disk.steady g.D.Disk.left c.args.disk exit.disk) exit.status c.in-Ok.ensures e does)
+    (done_to g.D.DiskModel.tells g.D.DiskModel.view g.D.DiskModel.faults g.D.DiskModel.steady g.D.DiskModel.left c.args.disk exit.disk) exit.status c.in-Ok.ensures e does)
     c.do_command.ensures.done
 
 pub returns-in-Ok-clause-unread : goal.returns-in-Ok-clause-unread
@@ -36,7 +36,7 @@ returns-in-Ok-clause-complete g c =
     λ asked e.
     IfOk-weaker c.do_command.result _ _
     (λ exit does.
-    let disk = done_to g.D.Disk.tells g.D.Disk.view g.D.Disk.faults g.D.Disk.steady g.D.Disk.left c.args.disk exit.disk in
+    let disk = done_to g.D.DiskModel.tells g.D.DiskModel.view g.D.DiskModel.faults g.D.DiskModel.steady g.D.DiskModel.left c.args.disk exit.disk in
     completes asked source sink disk exit.status breaks_no_rule (does_for (bytes_of c.args.words.now) (asked_in c.in-Ok.command) asked source sink disk exit.status c.in-Ok.ensures e does))
     c.do_command.ensures.done
 
@@ -59,7 +59,7 @@ pub returns-in-Err-clause-refused : goal.returns-in-Err-clause-refused
 returns-in-Err-clause-refused g c =
     λ place e.
     refused c.in-Err.place place (written_to g.K.Sink.taken g.K.Sink.faults c.args.sink.now c.write_fault.new.sink)
-    (done_to g.D.Disk.tells g.D.Disk.view g.D.Disk.faults g.D.Disk.steady g.D.Disk.left c.args.disk c.args.disk) c.write_fault.result
+    (done_to g.D.DiskModel.tells g.D.DiskModel.view g.D.DiskModel.faults g.D.DiskModel.steady g.D.DiskModel.left c.args.disk c.args.disk) c.write_fault.result
     (sym c.in-Err.ensures ∙ e) (c.write_fault.ensures, refl)
 
 pub returns-in-Err-clause-refused_unread : goal.returns-in-Err-clause-refused_unread

@@ -1,6 +1,6 @@
-use Rattle.std.proofs.Common.{◌≡◌, ◌+◌, ◌-◌, refl, sym, arith, length-set}
+use Rattle.std.proofs.Common.{◌≡◌, ◌+◌, ◌-◌, append-nil, refl, sym, arith, length-set}
 use Rattle.qj_num.specs.Padded.{padded}
-use Rattle.qj_num.proofs.PaddedLaws.{padded_goes_on}
+use Rattle.qj_num.proofs.PaddedLaws.{padded_goes_on, padded_zeros}
 use Rattle.qj_num.proofs.padded.print19.Goals as goal
 
 pub loop-step-preserved : goal.loop-step-preserved
@@ -10,6 +10,7 @@ loop-step-preserved c =
     record {
       len = omega (arith, length-set l.out);
       text = rw place (padded_goes_on (19 - l.step) (18 - l.step) l.left _ l.out (padded 19 c.args.value) (omega arith) (omega arith) refl l.invariant.text);
+      zeros = rw place (padded_zeros (19 - l.step) (18 - l.step) _ l.out (omega arith) (omega arith) l.invariant.zeros);
     }
 
 pub returns : goal.returns
@@ -18,3 +19,7 @@ returns c =
     let none_left : 19 - c.loop-step.step ≡ 0 = omega arith in
     let text = c.loop-step.invariant.text in
     sym (rw none_left at text)
+
+pub loop-step-init : goal.loop-step-init
+unfolding padded
+loop-step-init c = record { len = refl; text = sym (append-nil (padded 19 c.args.value)); zeros = refl }

@@ -1,10 +1,10 @@
 use Rattle.std.proofs.Common.{◌≡◌, sym, ap, ◌∙◌}
 use Rattle.script_actor.specs.ResultLists.{texts_of}
 use Rattle.script_actor.specs.Results.{name_of}
-use Rattle.script_actor.specs.Named.{task_of, taken_of}
+use Rattle.script_actor.specs.Named.{task_of, takeover_of}
 use Rattle.std.specs.Prelude.{Some, None}
 use Rattle.std.proofs.lemmas.Result.{IfOk-weaker}
-use Rattle.script_actor.specs.Deeds.{kept_of}
+use Rattle.script_actor.specs.Actions.{kept_of}
 use Rattle.script_actor.proofs.NamedLaws.{round_rests, round_stands, may_move, rests_from, taken_shown}
 use Rattle.script_actor.proofs.named_tasks.end_task.Goals as goal
 
@@ -13,7 +13,7 @@ returns-in-Some-clause-rests g c =
     let log = g.S.Seats.log c.args.seats.now in
     let mid = g.S.Seats.log c.enter_segment.new.seats in
     let w = c.args.writer.now.view in
-    let e : Some (c.in-Some.epoch, c.in-Some.first) ≡ taken_of c.args.turn = sym c.in-Some.is ∙ c.taken_of.ensures in
+    let e : Some (c.in-Some.epoch, c.in-Some.first) ≡ takeover_of c.args.turn = sym c.in-Some.is ∙ c.taken_of.ensures in
     IfOk-weaker c.enter_segment.result _ _
     (λ new h.
     rests_from log.nodes _ _ (kept_of c.enter_segment.new.writer.view (Some new.holding) mid)

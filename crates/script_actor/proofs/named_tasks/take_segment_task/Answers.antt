@@ -5,7 +5,7 @@ use Rattle.writer_core.specs.Views.{WriterView}
 use Rattle.script_actor.specs.Named.{task_of, Stands}
 use Rattle.script_actor.specs.Ready.{IsReady}
 use Rattle.script_actor.specs.Went.{refused_results}
-use Rattle.script_actor.specs.Deeds.{kept_of}
+use Rattle.script_actor.specs.Actions.{kept_of}
 use Rattle.script_actor.proofs.WriterTurn.{none_refused, refused_writer}
 use Rattle.script_actor.proofs.Stretches.{begun_ready, going_under, takes_refused}
 use Rattle.script_actor.proofs.NamedLaws.{ends_segment, free_whole, takes_from}

@@ -2,19 +2,19 @@ use Rattle.std.proofs.Common.{◌≡◌, ℕ, Option, Some, None, refl, ap, ◌�
 use Rattle.writer_core.specs.Views.{WriterView}
 use Rattle.name_node.specs.Holding.{Holding, Broken}
 use Rattle.caller_seats.specs.Logs.{LogView}
-use Rattle.script_actor.specs.Lines.{Deed, line_of}
+use Rattle.script_actor.specs.Lines.{Action, line_of}
 use Rattle.script_actor.specs.Holdings.{rest_work}
-use Rattle.script_actor.specs.Deeds.{kept_of, deed_of, IsIdleActor, TakesIf}
+use Rattle.script_actor.specs.Actions.{kept_of, action_of, IsIdleActor, TakesIf}
 use Rattle.script_actor.proofs.LedLaws.{led_same}
 use Rattle.script_actor.proofs.KeptActor.{handed_broken}
 use Rattle.script_actor.proofs.script_actor.take_named.Goals as goal
 
 -- an actor that met a bad entry does nothing more
-broken_takes : (n : ℕ) (o : Option (ℕ × Deed)) (w : WriterView) (h : Holding) (log : LogView) → IsIdleActor n (kept_of w (Some h) log) → h.work ≡ Broken → TakesIf n o (kept_of w (Some h) log) (kept_of w (Some h) log)
+broken_takes : (n : ℕ) (o : Option (ℕ × Action)) (w : WriterView) (h : Holding) (log : LogView) → IsIdleActor n (kept_of w (Some h) log) → h.work ≡ Broken → TakesIf n o (kept_of w (Some h) log) (kept_of w (Some h) log)
 broken_takes n None w h log idle broken = refl
 broken_takes n (Some d) w h log idle broken = record { idle = idle; leads = led_same _ _ (handed_broken (kept_of w (Some h) log) h d.1 refl broken idle.rests) }
 
 pub returns-then-is_broken-clause-takes : goal.returns-then-is_broken-clause-takes
 returns-then-is_broken-clause-takes g c =
     let log = g.S.Seats.log c.args.seats.now in
-    broken_takes log.nodes (deed_of (line_of c.args.line.now)) c.args.writer.now.view c.args.held.holding log c.requires.idle (c.is_broken.ensures ∙ ap rest_work c.if-is_broken.true)
+    broken_takes log.nodes (action_of (line_of c.args.line.now)) c.args.writer.now.view c.args.held.holding log c.requires.idle (c.is_broken.ensures ∙ ap rest_work c.if-is_broken.true)

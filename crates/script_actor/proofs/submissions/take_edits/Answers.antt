@@ -3,15 +3,15 @@ use Rattle.std.proofs.lemmas.Result.{IfOk-weaker}
 use Rattle.edit_ops.specs.Records.{EditView}
 use Rattle.script_actor.specs.Actor.{logged_when}
 use Rattle.script_actor.specs.KeptActor.{KeptActor, resting}
-use Rattle.script_actor.specs.Deeds.{kept_of, ComesToRest}
+use Rattle.script_actor.specs.Actions.{kept_of, ComesToRest}
 use Rattle.script_actor.proofs.SubmitLaws.{submits_inactive, submits_takes}
 use Rattle.script_actor.proofs.submissions.take_edits.Goals as goal
 
 pub returns-then-not-held-clause-takes : goal.returns-then-not-held-clause-takes
 returns-then-not-held-clause-takes g c =
     let old = g.S.Seats.log c.args.seats.now in
-    submits_inactive old.nodes c.args.edits.now c.args.writer.now.view c.args.held.holding c.args.held.is_open old (g.S.Seats.log c.say_all.new.seats) (length c.as_slice-edits.result.now) c.in_ok-text.text c.in_ok-repeated.field-0.items
-    c.requires.idle c.requires.free c.requires.stands c.if-not-held.true (ap length c.as_slice-edits.ensures) c.in_ok-text.ensures c.in_ok-repeated.ensures c.in_ok-say_all.ensures.leads
+    submits_inactive old.nodes c.args.edits.now c.args.writer.now.view c.args.held.holding c.args.held.is_open old (g.S.Seats.log c.say_all.new.seats) (length c.as_slice-edits.result.now) c.in_ok-text.text c.in_ok-repeat_text.field-0.items
+    c.requires.idle c.requires.free c.requires.stands c.if-not-held.true (ap length c.as_slice-edits.ensures) c.in_ok-text.ensures c.in_ok-repeat_text.ensures c.in_ok-say_all.ensures.leads
 
 pub returns-clause-takes : goal.returns-clause-takes
 returns-clause-takes g c =

@@ -7,7 +7,7 @@ use Rattle.ns_replay.specs.Replay.{Image}
 use Rattle.name_node.specs.Tails.{tail_hears}
 use Rattle.standby_tailer.specs.declared.step.Step.{Step}
 use Rattle.standby_tailer.specs.Standbys.{held}
-use Rattle.standby_tailer.specs.Tailing.{asking, IsStep}
+use Rattle.standby_tailer.specs.Tailing.{begin_asking, IsStep}
 use Rattle.script_actor.specs.Holdings.{IsOneRead}
 use Rattle.script_actor.proofs.TailLaws.{one_read}
 use Rattle.script_actor.proofs.tailing.ask.Goals as goal
@@ -25,7 +25,7 @@ returns-clause-one g c =
     let called : IsCalled log (length told + 1) (Read (old.position + 1)) heard new =
     subst (λ (k : ℕ). IsCalled log (k + 1) (Read (old.position + 1)) heard new) size (subst (λ (r : Request). IsCalled log (c.len.result + 1) r heard new) request c.in_ok-heard.ensures.called) in
     IfOk-weaker c.hear.result
-    (λ (t : Step). (images : List Image) → IsStep (tail_hears c.nodes.result c.args.until (length told + 1) told heard (asking c.args.until told (held images old))) c.args.until c.hear.new.told.items images c.hear.new.self t)
+    (λ (t : Step). (images : List Image) → IsStep (tail_hears c.nodes.result c.args.until (length told + 1) told heard (begin_asking c.args.until told (held images old))) c.args.until c.hear.new.told.items images c.hear.new.self t)
     (λ (t : Step). IsOneRead log.nodes c.args.until told old log c.hear.new.told.items c.hear.new.self new t)
     (λ t is. subst (λ (n : ℕ). IsOneRead n c.args.until told old log c.hear.new.told.items c.hear.new.self new t) nodes (one_read c.nodes.result c.args.until told c.hear.new.told.items old c.hear.new.self log new t heard called is))
     c.hear.ensures.ok

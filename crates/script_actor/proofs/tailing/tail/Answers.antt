@@ -25,7 +25,7 @@ loop-alloc-preserved g c =
     let told = c.ask.new.told.items in
     let step = c.in_ok-step.step in
     let nodes : mid.nodes ≡ log.nodes = g.met.S.Seats.later_nodes c.args.seats.now c.loop-alloc.seats c.loop-alloc.invariant.2 in
-    let going : is_going c.loop-alloc.step ≡ true = sym c.is_going.ensures ∙ c.loop-alloc-test.true in (
+    let going : is_going c.loop-alloc.step ≡ true = sym c.has_more_calls.ensures ∙ c.loop-alloc-test.true in (
       led_more log.nodes c.args.until (λ images. pass_begun c.args.until (held images c.args.standby.now)) log mid new c.loop-alloc.told.items told c.loop-alloc.standby c.ask.new.standby c.loop-alloc.step step
           going c.loop-alloc.invariant.0
           (subst (λ (n : ℕ). IsOneRead n c.args.until c.loop-alloc.told.items c.loop-alloc.standby mid told c.ask.new.standby new step) nodes c.in_ok-step.ensures.one),
@@ -37,4 +37,4 @@ pub returns-clause-goes : goal.returns-clause-goes
 returns-clause-goes g c =
     λ images.
     led_end (g.S.Seats.log c.args.seats.now).nodes c.args.until c.args.standby.now (g.S.Seats.log c.args.seats.now) (g.S.Seats.log c.loop-alloc.seats) c.loop-alloc.told.items c.loop-alloc.standby c.loop-alloc.step
-    c.ended.result c.ended.ensures c.loop-alloc.invariant.0 images
+    c.end_tail.result c.end_tail.ensures c.loop-alloc.invariant.0 images

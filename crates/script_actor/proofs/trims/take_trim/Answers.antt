@@ -4,7 +4,7 @@ use Rattle.name_node.specs.Holding.{Holding}
 use Rattle.script_actor.specs.Lines.{Trims}
 use Rattle.script_actor.specs.Actor.{trim_at}
 use Rattle.script_actor.specs.KeptActor.{resting}
-use Rattle.script_actor.specs.Deeds.{kept_of, TakesDeed, ComesToRest}
+use Rattle.script_actor.specs.Actions.{kept_of, TakesAction, ComesToRest}
 use Rattle.script_actor.proofs.TrimLaws.{trim_inactive, trim_noimage, trim_takes}
 use Rattle.script_actor.proofs.trims.take_trim.Goals as goal
 
@@ -19,7 +19,7 @@ returns-in_default-clause-takes g c =
     let log = g.S.Seats.log c.args.seats.now in
     let w = c.args.writer.now.view in
     let h = c.args.held.holding in
-    subst (λ (x : Holding). TakesDeed log.nodes (Trims c.args.extra) (kept_of w (Some h) log) (kept_of w (Some x) (g.S.Seats.log c.say_all-in_default.new.seats))) (sym c.min_to_keep.ensures.same)
+    subst (λ (x : Holding). TakesAction log.nodes (Trims c.args.extra) (kept_of w (Some h) log) (kept_of w (Some x) (g.S.Seats.log c.say_all-in_default.new.seats))) (sym c.min_to_keep.ensures.same)
     (trim_noimage log.nodes c.args.extra w h c.args.held.is_open log (g.S.Seats.log c.say_all-in_default.new.seats) c.in_ok-one_word-2.field-0.items
     c.requires.idle c.requires.free c.requires.stands c.if-not-held.false (sym c.in_default.is ∙ c.in_ok-min.ensures.least) c.in_ok-one_word-2.ensures c.in_ok-say_all-2.ensures.leads)
 

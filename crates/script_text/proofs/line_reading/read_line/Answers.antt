@@ -1,13 +1,13 @@
 use Rattle.std.proofs.Common.{sym, ◌∙◌}
 use Rattle.line_words.specs.Words.{words_of, first_word}
 use Rattle.script_text.specs.Rules.{kind_of}
-use Rattle.script_text.proofs.KindLaws.{count_behind, line_reads}
+use Rattle.script_text.proofs.KindLaws.{count_after, line_reads}
 use Rattle.script_text.proofs.MemoryLaws.{line_takes}
 use Rattle.script_text.proofs.line_reading.read_line.Goals as goal
 
-pub read_operands-requires-clause-count : goal.read_operands-requires-clause-count
-read_operands-requires-clause-count c =
-    count_behind c.in-Some.kind (words_of c.args.line.now) (first_word (words_of c.args.line.now)) (words_of c.in-Some-operands.text.now) c.in-Some-operands.ensures.0 c.in-Some-operands.ensures.1
+pub read_operands-requires : goal.read_operands-requires
+read_operands-requires c =
+    count_after c.in-Some.kind (words_of c.args.line.now) (first_word (words_of c.args.line.now)) (words_of c.in-Some-operands.text.now) c.in-Some-operands.ensures.0 c.in-Some-operands.ensures.1
 
 pub returns-clause-read : goal.returns-clause-read
 returns-clause-read c =

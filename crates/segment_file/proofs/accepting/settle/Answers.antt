@@ -3,4 +3,4 @@ use Rattle.small_files.proofs.PutsLemmas.{one_cut}
 use Rattle.segment_file.proofs.accepting.settle.Goals as goal
 
 pub returns-clause-cut : goal.returns-clause-cut
-returns-clause-cut g c = one_cut _ _ _ _ (g.D.Disk.view c.args.disk.now) (g.D.Disk.view c.rename.new.self) c.rename.result refl c.rename.ensures.budget
+returns-clause-cut g c = one_cut _ _ _ _ (g.D.DiskModel.view c.args.disk.now) (g.D.DiskModel.view c.rename.new.self) c.rename.result refl c.rename.ensures.budget

@@ -18,14 +18,14 @@ returns-in_err-write_at-clause-counts g c =
 
 pub returns-clause-quiet : goal.returns-clause-quiet
 returns-clause-quiet g c = λ t.
-    quiet_keeps _ _ _ _ (disturbed c.args.way.now c.args.bytes.now _ (g.met.D.Disk.sound _ t) _ _ (c.write_at.ensures.disk t)) (c.sync.ensures.disk (c.write_at.ensures.tells.0 t)).keeps
+    quiet_keeps _ _ _ _ (disturbed c.args.way.now c.args.bytes.now _ (g.met.D.Disk.sound _ t) _ _ (c.write_at.ensures.disk t)) (c.sync.ensures.disk (c.write_at.ensures.call.tells.0 t)).keeps
 
 pub returns-clause-staged : goal.returns-clause-staged
 returns-clause-staged g c = λ t.
-    let t1 = c.write_at.ensures.tells.0 t in
+    let t1 = c.write_at.ensures.call.tells.0 t in
     let syncs = c.sync.ensures.disk t1 in
-    let begun = starts_with c.args.bytes.now ((g.D.Disk.view c.args.disk.now).seen c.args.way.now) ((g.D.Disk.view c.write_at.new.self).seen c.args.way.now) (c.in_ok-write_at.ensures.disk t).done.here in
-    on_ok_weaker c.sync.result (λ (stable : IsStable c.args.way.now (g.D.Disk.view c.sync.new.self)). record { behind = begun.behind; there = ap (λ (f : Files). f c.args.way.now) syncs.keeps.seen ∙ begun.is; stable = stable }) syncs.done
+    let begun = starts_with c.args.bytes.now ((g.D.DiskModel.view c.args.disk.now).seen c.args.way.now) ((g.D.DiskModel.view c.write_at.new.self).seen c.args.way.now) (c.in_ok-write_at.ensures.disk t).done.here in
+    on_ok_weaker c.sync.result (λ (stable : IsStable c.args.way.now (g.D.DiskModel.view c.sync.new.self)). record { behind = begun.behind; there = ap (λ (f : Files). f c.args.way.now) syncs.keeps.seen ∙ begun.is; stable = stable }) syncs.done
 
 pub returns-clause-counts : goal.returns-clause-counts
 returns-clause-counts g c =

@@ -12,7 +12,7 @@ returns-clause-effect g c = λ t gs ready can.
     (empty_edits c.args.start c.args.epoch (in_range _ _ c.requires.start c.requires.epoch)) can.other_epoch _ _ (c.place_empty.ensures.place t)
 
 pub returns-clause-touches : goal.returns-clause-touches
-returns-clause-touches g c = λ t. placed_touches c.args.start _ _ _ _ (g.met.D.Disk.sound _ (c.place_empty.ensures.tells.0 t)) (c.place_empty.ensures.place t)
+returns-clause-touches g c = λ t. placed_touches c.args.start _ _ _ _ (g.met.D.Disk.sound _ (c.place_empty.ensures.call.tells.0 t)) (c.place_empty.ensures.place t)
 
 pub returns-clause-appends : goal.returns-clause-appends
 returns-clause-appends g c = λ t. placed_appends c.args.start c.args.epoch (in_range _ _ c.requires.start c.requires.epoch) _ _ _ (c.place_empty.ensures.place t) (c.place_empty.ensures.stable t)

@@ -11,7 +11,7 @@ returns-clause-effect g c = λ t gs s ready can.
     again_becomes c.args.epoch c.args.batch.now (in_range _ _ c.requires.start c.requires.epoch) _ (g.met.D.Disk.sound _ t) gs ready s can _ _ (c.place_frame.ensures.place t)
 
 pub returns-clause-touches : goal.returns-clause-touches
-returns-clause-touches g c = λ t. again_touches c.args.epoch c.args.batch.now _ _ _ (g.met.D.Disk.sound _ (c.place_frame.ensures.tells.0 t)) (c.place_frame.ensures.place t)
+returns-clause-touches g c = λ t. again_touches c.args.epoch c.args.batch.now _ _ _ (g.met.D.Disk.sound _ (c.place_frame.ensures.call.tells.0 t)) (c.place_frame.ensures.place t)
 
 pub returns-clause-counts : goal.returns-clause-counts
 returns-clause-counts g c = counted_put _ _ _ _ _ _ _ c.place_frame.ensures.cut

@@ -8,26 +8,26 @@ use Rattle.segment_file.proofs.scanning.scan_file.Goals as goal
 
 pub returns-in_default-read_header-clause-told : goal.returns-in_default-read_header-clause-told
 returns-in_default-read_header-clause-told g c = λ t bytes there epoch whole bodies file.
-    let t1 = c.length.ensures.tells.0 t in
+    let t1 = c.length.ensures.call.tells.0 t in
     let is : c.deref.result.now ≡ take 24 bytes =
     c.deref.ensures.value ∙ (c.in_ok-front.ensures.bytes t1 ∙ ap (λ (o : Option (List ℕ)). take 24 (drop 0 (bytes_of o))) (ap (λ (files : Files). files c.args.asked.now.name.now) (c.length.ensures.disk t).keeps.seen ∙ there)) in
     c.in_default-read_header.ensures c.args.asked.now.start epoch (header_in_front bytes c.deref.result.now is c.args.asked.now.start epoch file.header)
 
 pub returns-in_err-scan-clause-disk : goal.returns-in_err-scan-clause-disk
 returns-in_err-scan-clause-disk g c = λ t.
-    let t1 = c.length.ensures.tells.0 t in
-    rests_then _ _ _ (g.met.D.Disk.sound _ t) (c.length.ensures.disk t) (rests_then _ _ _ (g.met.D.Disk.sound _ t1) (c.read_window.ensures.disk t1) (c.scan_frames.ensures.disk (c.read_window.ensures.tells.0 t1)))
+    let t1 = c.length.ensures.call.tells.0 t in
+    rests_then _ _ _ (g.met.D.Disk.sound _ t) (c.length.ensures.disk t) (rests_then _ _ _ (g.met.D.Disk.sound _ t1) (c.read_window.ensures.disk t1) (c.scan_frames.ensures.disk (c.read_window.ensures.call.tells.0 t1)))
 
 pub returns-in-Some-2-clause-told : goal.returns-in-Some-2-clause-told
 returns-in-Some-2-clause-told g c = λ t.
-    let some = some_file ((g.D.Disk.view c.args.disk.now).seen c.args.asked.now.name.now) c.in-Some.size (sym (c.in_ok-size.ensures.length t) ∙ c.in-Some.is) in
+    let some = some_file ((g.D.DiskModel.view c.args.disk.now).seen c.args.asked.now.name.now) c.in-Some.size (sym (c.in_ok-size.ensures.length t) ∙ c.in-Some.is) in
     let bytes = some.0 in
     let there = some.1 in
-    let t1 = c.length.ensures.tells.0 t in
+    let t1 = c.length.ensures.call.tells.0 t in
     let is : c.deref.result.now ≡ take 24 bytes =
     c.deref.ensures.value ∙ (c.in_ok-front.ensures.bytes t1 ∙ ap (λ (o : Option (List ℕ)). take 24 (drop 0 (bytes_of o))) (ap (λ (files : Files). files c.args.asked.now.name.now) (c.length.ensures.disk t).keeps.seen ∙ there)) in
-    let t2 = c.read_window.ensures.tells.0 t1 in
-    let there2 : (g.D.Disk.view c.read_window.new.disk).seen c.args.asked.now.name.now ≡ Some bytes =
+    let t2 = c.read_window.ensures.call.tells.0 t1 in
+    let there2 : (g.D.DiskModel.view c.read_window.new.disk).seen c.args.asked.now.name.now ≡ Some bytes =
     ap (λ (files : Files). files c.args.asked.now.name.now) ((c.read_window.ensures.disk t1).keeps.seen ∙ (c.length.ensures.disk t).keeps.seen) ∙ there in
     let scans = rw c.in-Some-2.is at (c.in_ok-scan.ensures.told t2 bytes there2 some.2) in (
       bytes,
@@ -38,16 +38,16 @@ returns-in-Some-2-clause-told g c = λ t.
 
 pub returns-in-Some-2-clause-disk : goal.returns-in-Some-2-clause-disk
 returns-in-Some-2-clause-disk g c = λ t.
-    let t1 = c.length.ensures.tells.0 t in
-    rests_then _ _ _ (g.met.D.Disk.sound _ t) (c.length.ensures.disk t) (rests_then _ _ _ (g.met.D.Disk.sound _ t1) (c.read_window.ensures.disk t1) (c.scan_frames.ensures.disk (c.read_window.ensures.tells.0 t1)))
+    let t1 = c.length.ensures.call.tells.0 t in
+    rests_then _ _ _ (g.met.D.Disk.sound _ t) (c.length.ensures.disk t) (rests_then _ _ _ (g.met.D.Disk.sound _ t1) (c.read_window.ensures.disk t1) (c.scan_frames.ensures.disk (c.read_window.ensures.call.tells.0 t1)))
 
 pub returns-clause-told : goal.returns-clause-told
 returns-clause-told g c = λ t bytes there.
-    let t1 = c.length.ensures.tells.0 t in
+    let t1 = c.length.ensures.call.tells.0 t in
     let is : c.deref.result.now ≡ take 24 bytes =
     c.deref.ensures.value ∙ (c.in_ok-front.ensures.bytes t1 ∙ ap (λ (o : Option (List ℕ)). take 24 (drop 0 (bytes_of o))) (ap (λ (files : Files). files c.args.asked.now.name.now) (c.length.ensures.disk t).keeps.seen ∙ there)) in
-    let t2 = c.read_window.ensures.tells.0 t1 in
-    let there2 : (g.D.Disk.view c.read_window.new.disk).seen c.args.asked.now.name.now ≡ Some bytes =
+    let t2 = c.read_window.ensures.call.tells.0 t1 in
+    let there2 : (g.D.DiskModel.view c.read_window.new.disk).seen c.args.asked.now.name.now ≡ Some bytes =
     ap (λ (files : Files). files c.args.asked.now.name.now) ((c.read_window.ensures.disk t1).keeps.seen ∙ (c.length.ensures.disk t).keeps.seen) ∙ there in
     let long : length bytes ≡ c.in-Some.size = same_Some (length bytes) c.in-Some.size (ap (λ (o : Option (List ℕ)). option_map length o) (sym there) ∙ (sym (c.in_ok-size.ensures.length t) ∙ c.in-Some.is)) in
     let bad = rw c.in-None.is at (c.in_ok-scan.ensures.told t2 bytes there2 long) in
@@ -56,5 +56,5 @@ returns-clause-told g c = λ t bytes there.
 
 pub returns-clause-disk : goal.returns-clause-disk
 returns-clause-disk g c = λ t.
-    let t1 = c.length.ensures.tells.0 t in
-    rests_then _ _ _ (g.met.D.Disk.sound _ t) (c.length.ensures.disk t) (rests_then _ _ _ (g.met.D.Disk.sound _ t1) (c.read_window.ensures.disk t1) (c.scan_frames.ensures.disk (c.read_window.ensures.tells.0 t1)))
+    let t1 = c.length.ensures.call.tells.0 t in
+    rests_then _ _ _ (g.met.D.Disk.sound _ t) (c.length.ensures.disk t) (rests_then _ _ _ (g.met.D.Disk.sound _ t1) (c.read_window.ensures.disk t1) (c.scan_frames.ensures.disk (c.read_window.ensures.call.tells.0 t1)))

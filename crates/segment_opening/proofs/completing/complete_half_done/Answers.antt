@@ -8,40 +8,40 @@ use Rattle.segment_opening.proofs.CompleteLemmas.{read_then, completed_told, men
 use Rattle.segment_opening.proofs.completing.complete_half_done.Goals as goal
 
 pub returns-in-Ok-Some-clause-quiet : goal.returns-in-Ok-Some-clause-quiet
-returns-in-Ok-Some-clause-quiet g c = λ t all. mended_quiet (g.D.Disk.view c.args.disk.now) (g.D.Disk.view c.first_bad_record.new.disk) (mends_keeps (g.D.Disk.view c.args.disk.now) (g.D.Disk.view c.first_bad_record.new.disk) (g.met.D.Disk.sound _ t) (c.first_bad_record.ensures.disk t).keeps all)
+returns-in-Ok-Some-clause-quiet g c = λ t all. mended_quiet (g.D.DiskModel.view c.args.disk.now) (g.D.DiskModel.view c.first_bad_record.new.disk) (mends_keeps (g.D.DiskModel.view c.args.disk.now) (g.D.DiskModel.view c.first_bad_record.new.disk) (g.met.D.Disk.sound _ t) (c.first_bad_record.ensures.disk t).keeps all)
 
 pub returns-in-Ok-Some-clause-spares : goal.returns-in-Ok-Some-clause-spares
-returns-in-Ok-Some-clause-spares g c = λ t all. mended_spares (g.D.Disk.view c.args.disk.now) (g.D.Disk.view c.first_bad_record.new.disk) (mends_keeps (g.D.Disk.view c.args.disk.now) (g.D.Disk.view c.first_bad_record.new.disk) (g.met.D.Disk.sound _ t) (c.first_bad_record.ensures.disk t).keeps all)
+returns-in-Ok-Some-clause-spares g c = λ t all. mended_spares (g.D.DiskModel.view c.args.disk.now) (g.D.DiskModel.view c.first_bad_record.new.disk) (mends_keeps (g.D.DiskModel.view c.args.disk.now) (g.D.DiskModel.view c.first_bad_record.new.disk) (g.met.D.Disk.sound _ t) (c.first_bad_record.ensures.disk t).keeps all)
 
 pub returns-in-Ok-Some-clause-stable : goal.returns-in-Ok-Some-clause-stable
-returns-in-Ok-Some-clause-stable g c = λ t all. (mends_keeps (g.D.Disk.view c.args.disk.now) (g.D.Disk.view c.first_bad_record.new.disk) (g.met.D.Disk.sound _ t) (c.first_bad_record.ensures.disk t).keeps all).stable
+returns-in-Ok-Some-clause-stable g c = λ t all. (mends_keeps (g.D.DiskModel.view c.args.disk.now) (g.D.DiskModel.view c.first_bad_record.new.disk) (g.met.D.Disk.sound _ t) (c.first_bad_record.ensures.disk t).keeps all).stable
 
 pub returns-in-Err-clause-quiet : goal.returns-in-Err-clause-quiet
-returns-in-Err-clause-quiet g c = λ t all. mended_quiet (g.D.Disk.view c.args.disk.now) (g.D.Disk.view c.first_bad_record.new.disk) (mends_keeps (g.D.Disk.view c.args.disk.now) (g.D.Disk.view c.first_bad_record.new.disk) (g.met.D.Disk.sound _ t) (c.first_bad_record.ensures.disk t).keeps all)
+returns-in-Err-clause-quiet g c = λ t all. mended_quiet (g.D.DiskModel.view c.args.disk.now) (g.D.DiskModel.view c.first_bad_record.new.disk) (mends_keeps (g.D.DiskModel.view c.args.disk.now) (g.D.DiskModel.view c.first_bad_record.new.disk) (g.met.D.Disk.sound _ t) (c.first_bad_record.ensures.disk t).keeps all)
 
 pub returns-in-Err-clause-spares : goal.returns-in-Err-clause-spares
-returns-in-Err-clause-spares g c = λ t all. mended_spares (g.D.Disk.view c.args.disk.now) (g.D.Disk.view c.first_bad_record.new.disk) (mends_keeps (g.D.Disk.view c.args.disk.now) (g.D.Disk.view c.first_bad_record.new.disk) (g.met.D.Disk.sound _ t) (c.first_bad_record.ensures.disk t).keeps all)
+returns-in-Err-clause-spares g c = λ t all. mended_spares (g.D.DiskModel.view c.args.disk.now) (g.D.DiskModel.view c.first_bad_record.new.disk) (mends_keeps (g.D.DiskModel.view c.args.disk.now) (g.D.DiskModel.view c.first_bad_record.new.disk) (g.met.D.Disk.sound _ t) (c.first_bad_record.ensures.disk t).keeps all)
 
 pub returns-in-Err-clause-stable : goal.returns-in-Err-clause-stable
-returns-in-Err-clause-stable g c = λ t all. (mends_keeps (g.D.Disk.view c.args.disk.now) (g.D.Disk.view c.first_bad_record.new.disk) (g.met.D.Disk.sound _ t) (c.first_bad_record.ensures.disk t).keeps all).stable
+returns-in-Err-clause-stable g c = λ t all. (mends_keeps (g.D.DiskModel.view c.args.disk.now) (g.D.DiskModel.view c.first_bad_record.new.disk) (g.met.D.Disk.sound _ t) (c.first_bad_record.ensures.disk t).keeps all).stable
 
 pub returns-in-Ok-None-clause-quiet : goal.returns-in-Ok-None-clause-quiet
 returns-in-Ok-None-clause-quiet g c = λ t all.
-    mended_quiet (g.D.Disk.view c.args.disk.now) (g.D.Disk.view c.repair.new.disk)
-    (read_then (g.D.Disk.view c.args.disk.now) (g.D.Disk.view c.first_bad_record.new.disk) (g.D.Disk.view c.repair.new.disk) (c.first_bad_record.ensures.disk t) (g.met.D.Disk.sound _ t) all (λ all1. c.repair.ensures.mends (c.first_bad_record.ensures.tells.0 t) all1))
+    mended_quiet (g.D.DiskModel.view c.args.disk.now) (g.D.DiskModel.view c.repair.new.disk)
+    (read_then (g.D.DiskModel.view c.args.disk.now) (g.D.DiskModel.view c.first_bad_record.new.disk) (g.D.DiskModel.view c.repair.new.disk) (c.first_bad_record.ensures.disk t) (g.met.D.Disk.sound _ t) all (λ all1. c.repair.ensures.mends (c.first_bad_record.ensures.call.tells.0 t) all1))
 
 pub returns-in-Ok-None-clause-spares : goal.returns-in-Ok-None-clause-spares
 returns-in-Ok-None-clause-spares g c = λ t all.
-    mended_spares (g.D.Disk.view c.args.disk.now) (g.D.Disk.view c.repair.new.disk)
-    (read_then (g.D.Disk.view c.args.disk.now) (g.D.Disk.view c.first_bad_record.new.disk) (g.D.Disk.view c.repair.new.disk) (c.first_bad_record.ensures.disk t) (g.met.D.Disk.sound _ t) all (λ all1. c.repair.ensures.mends (c.first_bad_record.ensures.tells.0 t) all1))
+    mended_spares (g.D.DiskModel.view c.args.disk.now) (g.D.DiskModel.view c.repair.new.disk)
+    (read_then (g.D.DiskModel.view c.args.disk.now) (g.D.DiskModel.view c.first_bad_record.new.disk) (g.D.DiskModel.view c.repair.new.disk) (c.first_bad_record.ensures.disk t) (g.met.D.Disk.sound _ t) all (λ all1. c.repair.ensures.mends (c.first_bad_record.ensures.call.tells.0 t) all1))
 
 pub returns-in-Ok-None-clause-stable : goal.returns-in-Ok-None-clause-stable
 returns-in-Ok-None-clause-stable g c = λ t all.
-    (read_then (g.D.Disk.view c.args.disk.now) (g.D.Disk.view c.first_bad_record.new.disk) (g.D.Disk.view c.repair.new.disk) (c.first_bad_record.ensures.disk t) (g.met.D.Disk.sound _ t) all (λ all1. c.repair.ensures.mends (c.first_bad_record.ensures.tells.0 t) all1)).stable
+    (read_then (g.D.DiskModel.view c.args.disk.now) (g.D.DiskModel.view c.first_bad_record.new.disk) (g.D.DiskModel.view c.repair.new.disk) (c.first_bad_record.ensures.disk t) (g.met.D.Disk.sound _ t) all (λ all1. c.repair.ensures.mends (c.first_bad_record.ensures.call.tells.0 t) all1)).stable
 
 pub returns-in-Ok-None-clause-told : goal.returns-in-Ok-None-clause-told
 returns-in-Ok-None-clause-told g c = λ t all.
-    let t1 = c.first_bad_record.ensures.tells.0 t in
-    let good : (name : List ℕ) → IsBadRecordFile (g.D.Disk.view c.args.disk.now).seen name → ⊥ = rw c.in-Ok-None.field-0-is at (c.in-Ok-None.ensures.bad t) in
-    completed_told (g.D.Disk.view c.args.disk.now).seen (g.D.Disk.view c.repair.new.disk).seen c.completed.result c.repair.result c.completed.ensures.result c.completed.ensures.done
-    (subst (λ (files : Files). OnOk c.repair.result (Completes files (g.D.Disk.view c.repair.new.disk).seen)) (c.first_bad_record.ensures.disk t).keeps.seen (c.repair.ensures.completes t1)) good
+    let t1 = c.first_bad_record.ensures.call.tells.0 t in
+    let good : (name : List ℕ) → IsBadRecordFile (g.D.DiskModel.view c.args.disk.now).seen name → ⊥ = rw c.in-Ok-None.field-0-is at (c.in-Ok-None.ensures.bad t) in
+    completed_told (g.D.DiskModel.view c.args.disk.now).seen (g.D.DiskModel.view c.repair.new.disk).seen c.completed.result c.repair.result c.completed.ensures.result c.completed.ensures.done
+    (subst (λ (files : Files). OnOk c.repair.result (Completes files (g.D.DiskModel.view c.repair.new.disk).seen)) (c.first_bad_record.ensures.disk t).keeps.seen (c.repair.ensures.completes t1)) good

@@ -3,5 +3,5 @@ use Rattle.segment_opening.proofs.RemoveLoop.{IsRemoving}
 use Rattle.segment_opening.proofs.opening.remove_idle.Given as goal
 
 abbrev pub invariant-loop-name : goal.invariant-loop-name
-invariant-loop-name g l = IsRemoving (g.D.Disk.tells l.fn.disk) (g.D.Disk.tells l.disk) (g.D.Disk.view l.fn.disk) (g.D.Disk.view l.disk) l.table (map string_bytes l.names) l.name-index
-    (g.D.Disk.faults l.fn.disk) (g.D.Disk.faults l.disk) (g.D.Disk.steady l.fn.disk) (g.D.Disk.steady l.disk)
+invariant-loop-name g l = IsRemoving (g.D.DiskModel.tells l.fn.disk) (g.D.DiskModel.tells l.disk) (g.D.DiskModel.view l.fn.disk) (g.D.DiskModel.view l.disk) l.table (map string_bytes l.names) l.name-index
+    (g.D.DiskModel.faults l.fn.disk) (g.D.DiskModel.faults l.disk) (g.D.DiskModel.steady l.fn.disk) (g.D.DiskModel.steady l.disk)

@@ -5,7 +5,7 @@ use Rattle.segment_opening.proofs.settling.has_epoch.Goals.{in-Found, in-Absent,
 
 pub returns-clause-value : goal.returns-clause-value
 returns-clause-value g c = λ t.
-    let files = (g.D.Disk.view c.args.disk.now).seen in
+    let files = (g.D.DiskModel.view c.args.disk.now).seen in
     elim c.match-get.branch [
       | in-Found w ↦ ok_told c.match-get.result _ _ _ w.result-is
           (epoch_found c.args.start files w.in-Found.accepted c.args.epoch _ refl (found_epoch c.args.start files w.in-Found.accepted w.in-Found.end (w.in-Found.ensures.record_ t)))

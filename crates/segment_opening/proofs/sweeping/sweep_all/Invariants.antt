@@ -5,5 +5,5 @@ use Rattle.segment_opening.proofs.ClearLemmas.{IsClearing}
 use Rattle.segment_opening.proofs.sweeping.sweep_all.Given as goal
 
 abbrev pub invariant-loop-name : goal.invariant-loop-name
-invariant-loop-name g l = IsClearing (IsLeftOver l.fn.finals) NoName (g.D.Disk.tells l.fn.disk) (g.D.Disk.tells l.disk) (g.D.Disk.view l.fn.disk) (g.D.Disk.view l.disk) (map string_bytes l.name-items) (map string_bytes (take l.name-index l.name-items))
-    (g.D.Disk.faults l.fn.disk) (g.D.Disk.faults l.disk) (g.D.Disk.steady l.fn.disk) (g.D.Disk.steady l.disk)
+invariant-loop-name g l = IsClearing (IsLeftOver l.fn.finals) NoName (g.D.DiskModel.tells l.fn.disk) (g.D.DiskModel.tells l.disk) (g.D.DiskModel.view l.fn.disk) (g.D.DiskModel.view l.disk) (map string_bytes l.name-items) (map string_bytes (take l.name-index l.name-items))
+    (g.D.DiskModel.faults l.fn.disk) (g.D.DiskModel.faults l.disk) (g.D.DiskModel.steady l.fn.disk) (g.D.DiskModel.steady l.disk)

@@ -1,5 +1,5 @@
 use Rattle.std.proofs.Common.{arith}
-use Rattle.batch_frame.proofs.ReadLaws.{step, no_step, no_entries}
+use Rattle.batch_frame.proofs.ReadLaws.{step}
 use Rattle.batch_frame.proofs.entries.Entries.next_entry.Goals as goal
 
 pub overflow_add-entry : goal.overflow_add-entry

@@ -1,4 +1,4 @@
-use Rattle.std.proofs.Common.{ℕ, List, ◌+◌, ◌-◌, take, ap, length, ◌∙◌, arith}
+use Rattle.std.proofs.Common.{◌+◌, ◌-◌, take, ap, length, ◌∙◌, arith}
 use Rattle.std.proofs.lemmas.List.{length-drop}
 use Rattle.batch_frame.proofs.ReadLaws.{placed, cursor_of, cursor_view}
 use Rattle.batch_frame.proofs.entries.Entries.of.Goals as goal

@@ -15,23 +15,23 @@ use Rattle.journal_node.proofs.journal_node.JournalNode.act.Goals as goal
 
 pub returns-clause-step : goal.returns-clause-step
 returns-clause-step g c =
-    subst (λ p. Answers (told_state (g.D.Disk.is_told p.disk) (g.D.Disk.view p.disk).seen p.memory p.rows) c.args.request.now c.answer.result (told_state (g.D.Disk.is_told c.answer.new.disk) (g.D.Disk.view c.answer.new.disk).seen c.answer.new.memory c.answer.new.table)) c.self.view_is
-    (told_both (λ (x y : Option NodeState). Answers x c.args.request.now c.answer.result y) tt (g.D.Disk.tells c.self.inside.disk) (g.D.Disk.tells c.answer.new.disk) (g.D.Disk.is_told c.self.inside.disk) (g.D.Disk.is_told c.answer.new.disk) (g.met.D.Disk.told_so c.self.inside.disk) (g.met.D.Disk.told_so c.answer.new.disk) c.answer.ensures.tells
-    (g.D.Disk.view c.self.inside.disk) (g.D.Disk.view c.answer.new.disk) c.self.inside.memory c.answer.new.memory c.self.inside.table c.answer.new.table (λ t. (g.met.D.Disk.sound _ t).seen_now) (λ t. (g.met.D.Disk.sound _ t).seen_now) c.self.invariant.node c.answer.ensures.node
+    subst (λ p. Answers (told_state (g.D.DiskModel.is_told p.disk) (g.D.DiskModel.view p.disk).seen p.memory p.rows) c.args.request.now c.answer.result (told_state (g.D.DiskModel.is_told c.answer.new.disk) (g.D.DiskModel.view c.answer.new.disk).seen c.answer.new.memory c.answer.new.table)) c.self.view_is
+    (told_both (λ (x y : Option NodeState). Answers x c.args.request.now c.answer.result y) tt (g.D.DiskModel.tells c.self.inside.disk) (g.D.DiskModel.tells c.answer.new.disk) (g.D.DiskModel.is_told c.self.inside.disk) (g.D.DiskModel.is_told c.answer.new.disk) (g.met.D.Disk.told_so c.self.inside.disk) (g.met.D.Disk.told_so c.answer.new.disk) c.answer.ensures.tells
+    (g.D.DiskModel.view c.self.inside.disk) (g.D.DiskModel.view c.answer.new.disk) c.self.inside.memory c.answer.new.memory c.self.inside.table c.answer.new.table (λ t. (g.met.D.Disk.sound _ t).seen_now) (λ t. (g.met.D.Disk.sound _ t).seen_now) c.self.invariant.node c.answer.ensures.node
     (λ t s has. c.answer.ensures.answer t s has))
 
 pub returns-clause-stable : goal.returns-clause-stable
 returns-clause-stable g c =
-    subst (λ p. g.D.Disk.tells p.disk → (s : NodeState) → IsUp (g.D.Disk.view p.disk) p.memory p.rows s → IsNoFault c.answer.result → AllLeave (g.D.Disk.view c.answer.new.disk) (λ x. StandsAs x (after_effects s (effects_of s c.args.request.now)))) c.self.view_is c.answer.ensures.stable
+    subst (λ p. g.D.DiskModel.tells p.disk → (s : NodeState) → IsUp (g.D.DiskModel.view p.disk) p.memory p.rows s → IsNoFault c.answer.result → AllLeave (g.D.DiskModel.view c.answer.new.disk) (λ x. StandsAs x (after_effects s (effects_of s c.args.request.now)))) c.self.view_is c.answer.ensures.stable
 
 pub returns-clause-unread : goal.returns-clause-unread
 returns-clause-unread g c =
-    subst (λ p. g.D.Disk.tells p.disk → (s : NodeState) → IsUp (g.D.Disk.view p.disk) p.memory p.rows s → AsksRecent p.recent.start s c.args.request.now → g.D.Disk.reads c.answer.new.disk ≡ g.D.Disk.reads p.disk) c.self.view_is c.answer.ensures.unread
+    subst (λ p. g.D.DiskModel.tells p.disk → (s : NodeState) → IsUp (g.D.DiskModel.view p.disk) p.memory p.rows s → AsksRecent p.recent.start s c.args.request.now → g.D.DiskModel.reads c.answer.new.disk ≡ g.D.DiskModel.reads p.disk) c.self.view_is c.answer.ensures.unread
 
 pub returns-clause-acted : goal.returns-clause-acted
 returns-clause-acted g c =
     subst
-    (λ p. IsActed g.D.Disk.tells g.D.Disk.view p c.args.request.now c.answer.result
+    (λ p. IsActed g.D.DiskModel.tells g.D.DiskModel.view p c.args.request.now c.answer.result
     (record { disk = c.answer.new.disk; memory = c.answer.new.memory; rows = c.answer.new.table; recent = c.answer.new.recent })) c.self.view_is
     (record {
       tells_still = c.answer.ensures.tells.0;
@@ -43,5 +43,5 @@ returns-clause-acted g c =
 pub returns-clause-spared : goal.returns-clause-spared
 returns-clause-spared g c =
     subst
-    (λ p. c.answer.result ≡ Refused OutOfMemory → Rose (g.D.Disk.shortages p.disk) (g.D.Disk.shortages c.answer.new.disk)
-    ⊎ IsUnchanged (g.D.Disk.tells p.disk) (g.D.Disk.view p.disk) (g.D.Disk.view c.answer.new.disk) p.memory c.answer.new.memory p.rows c.answer.new.table p.recent c.answer.new.recent) c.self.view_is c.answer.ensures.spared
+    (λ p. c.answer.result ≡ Refused OutOfMemory → Rose (g.D.DiskModel.shortages p.disk) (g.D.DiskModel.shortages c.answer.new.disk)
+    ⊎ IsUnchanged (g.D.DiskModel.tells p.disk) (g.D.DiskModel.view p.disk) (g.D.DiskModel.view c.answer.new.disk) p.memory c.answer.new.memory p.rows c.answer.new.table p.recent c.answer.new.recent) c.self.view_is c.answer.ensures.spared

@@ -1,5 +1,5 @@
 use Rattle.std.proofs.Common.{ℕ, ◌≡◌, [], ◌+◌, ◌-◌, ◌++◌, ◌∷◌, List, length, get_or, sym, ap, subst, ◌∙◌, arith}
-use Rattle.edit_cache.specs.Edits.{Edit, bodies_of, kept}
+use Rattle.edit_cache.specs.Edits.{Edit, bodies_of, kept_edits}
 use Rattle.recent_edits.specs.Recent.{AreFilled, most_stored}
 use Rattle.recent_edits.proofs.Pushing.{filled_kept, kept_next, not_empty}
 use Rattle.recent_edits.proofs.recent_edits.RecentEdits.push_all.Goals as goal
@@ -7,11 +7,11 @@ use Rattle.recent_edits.proofs.recent_edits.RecentEdits.push_all.Goals as goal
 item : (c : goal.After-push) → c.as_slice.result.now ≡ get_or c.args.bodies.now c.loop-body.body-index c.body-item.result
 item c = c.as_slice.ensures ∙ c.body-item.is ∙ ap (λ (bodies : List (List ℕ)). get_or bodies c.loop-body.body-index c.body-item.result) c.as_slice-body-items.ensures
 
-pushed : (c : goal.After-push) → c.push.new.self.edits ≡ kept most_stored (c.loop-body.self-inside.ring.edits ++ record { txid = c.args.first + c.loop-body.body-index; body = c.as_slice.result.now } ∷ [])
+pushed : (c : goal.After-push) → c.push.new.self.edits ≡ kept_edits most_stored (c.loop-body.self-inside.ring.edits ++ record { txid = c.args.first + c.loop-body.body-index; body = c.as_slice.result.now } ∷ [])
 pushed c =
     c.push.ensures.kept
-    ∙ ap (λ (n : ℕ). kept (n - 4098) (c.loop-body.self-inside.ring.edits ++ record { txid = c.loop-body.txid; body = c.as_slice.result.now } ∷ [])) c.loop-body.invariant.bytes
-    ∙ ap (λ (n : ℕ). kept most_stored (c.loop-body.self-inside.ring.edits ++ record { txid = n; body = c.as_slice.result.now } ∷ [])) c.loop-body.invariant.place
+    ∙ ap (λ (n : ℕ). kept_edits (n - 4098) (c.loop-body.self-inside.ring.edits ++ record { txid = c.loop-body.txid; body = c.as_slice.result.now } ∷ [])) c.loop-body.invariant.bytes
+    ∙ ap (λ (n : ℕ). kept_edits most_stored (c.loop-body.self-inside.ring.edits ++ record { txid = n; body = c.as_slice.result.now } ∷ [])) c.loop-body.invariant.place
 
 pub loop-body-preserved : goal.loop-body-preserved
 loop-body-preserved c =

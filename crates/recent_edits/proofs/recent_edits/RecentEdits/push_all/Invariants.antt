@@ -1,5 +1,5 @@
 use Rattle.std.proofs.Common.{◌≡◌, ◌+◌, ◌++◌, List, take}
-use Rattle.edit_cache.specs.Edits.{Edit, Follows, kept, numbered, bodies_of}
+use Rattle.edit_cache.specs.Edits.{Edit, Follows, kept_edits, number_edits, bodies_of}
 use Rattle.recent_edits.specs.Recent.{AreFilled, most_stored}
 use Rattle.recent_edits.proofs.recent_edits.RecentEdits.push_all.Given as goal
 
@@ -12,5 +12,5 @@ invariant-loop-body l = record {
   bytes : l.self-inside.ring.bytes ≡ 1048576;
   filled : AreFilled (bodies_of l.self-inside.ring.edits);
   follows : Follows l.self-inside.ring.edits l.txid;
-  held : (before : List Edit) → l.fn.self.edits ≡ kept most_stored before → l.self-inside.ring.edits ≡ kept most_stored (before ++ numbered l.first (take l.body-index l.bodies));
+  held : (before : List Edit) → l.fn.self.edits ≡ kept_edits most_stored before → l.self-inside.ring.edits ≡ kept_edits most_stored (before ++ number_edits l.first (take l.body-index l.bodies));
 }

@@ -4,7 +4,7 @@ use Rattle.script_text.proofs.reading.Reading.take_line.Goals as goal
 
 pub returns-then-is_silent-clause-taken : goal.returns-then-is_silent-clause-taken
 returns-then-is_silent-clause-taken c =
-    takes_silent c.args.self.now c.args.line.now c.requires.sound (sym c.is_line.ensures ∙ c.if-not-is_line.false) (sym c.is_silent.ensures ∙ c.if-is_silent.true)
+    takes_silent c.args.self.now c.args.line.now c.requires (sym c.is_line.ensures ∙ c.if-not-is_line.false) (sym c.is_silent.ensures ∙ c.if-is_silent.true)
 
 pub returns-in-Some-clause-broken : goal.returns-in-Some-clause-broken
 returns-in-Some-clause-broken c =
@@ -13,12 +13,12 @@ returns-in-Some-clause-broken c =
 
 pub returns-in-Some-clause-taken : goal.returns-in-Some-clause-taken
 returns-in-Some-clause-taken c =
-    later_taken c.args.self.now c.self.inside.said c.self.inside.lines.items c.add_line.new.lines.items c.in-Some.said c.add_line.new.said c.args.line.now c.add_line.result c.self.view_is c.in-Some.is c.requires.sound
+    later_taken c.args.self.now c.self.inside.said c.self.inside.lines.items c.add_line.new.lines.items c.in-Some.said c.add_line.new.said c.args.line.now c.add_line.result c.self.view_is c.in-Some.is c.requires
     (sym c.is_line.ensures ∙ c.if-not-is_line.false) (sym c.is_silent.ensures ∙ c.if-is_silent.false) c.add_line.ensures.taken
 
 pub returns-in-Some-said_first-clause-taken : goal.returns-in-Some-said_first-clause-taken
 returns-in-Some-said_first-clause-taken c =
-    first_taken c.args.self.now c.self.inside.said c.self.inside.lines.items c.in-Some-said_first.said c.args.line.now c.self.view_is c.in-None.is c.requires.sound
+    first_taken c.args.self.now c.self.inside.said c.self.inside.lines.items c.in-Some-said_first.said c.args.line.now c.self.view_is c.in-None.is c.requires
     (sym c.is_line.ensures ∙ c.if-not-is_line.false) (sym c.is_silent.ensures ∙ c.if-is_silent.false) (sym c.in-Some-said_first.ensures)
 
 pub returns-in-Some-clause-memory : goal.returns-in-Some-clause-memory

@@ -7,7 +7,7 @@ use Rattle.name_node.specs.Tails.{TailStep, GoesOn, tail_hears}
 use Rattle.standby_tailer.specs.declared.step.Step.{Step}
 use Rattle.standby_tailer.specs.Standbys.{held}
 use Rattle.standby_tailer.specs.Reads.{LeadsTail}
-use Rattle.standby_tailer.specs.Tailing.{asking, IsStep, StandsAt}
+use Rattle.standby_tailer.specs.Tailing.{begin_asking, IsStep, StandsAt}
 use Rattle.standby_tailer.proofs.StepLaws.{err_of, stops_silent, stops_within, stands_more}
 use Rattle.standby_tailer.proofs.standby.Standby.ask.Goals as goal
 
@@ -26,8 +26,8 @@ returns-clause-ok g c =
     let listed : g.P.Peers.calls c.read_next.new.peers ≡ g.P.Peers.calls c.args.peers.now ++ record { node = length c.args.told.now.items + 1; request = Read (c.args.self.now.position + 1); heard = c.in_ok-heard.heard } ∷ [] =
     c.in_ok-heard.ensures.listed ∙ ap (λ (k : ℕ). g.P.Peers.calls c.args.peers.now ++ record { node = k + 1; request = Read (c.args.self.now.position + 1); heard = c.in_ok-heard.heard } ∷ []) size in
     IfOk-weaker c.hear.result
-    (λ (t : Step). (images : List Image) → IsStep (tail_hears here c.args.until (length c.args.told.now.items + 1) c.args.told.now.items c.in_ok-heard.heard (asking c.args.until c.args.told.now.items (held images c.args.self.now))) c.args.until c.hear.new.told.items images c.hear.new.self t)
-    (λ (t : Step). (images : List Image) (begun : TailStep) (before : List PeerCall) → LeadsTail nodes begun before (g.P.Peers.calls c.args.peers.now) (GoesOn (asking c.args.until c.args.told.now.items (held images c.args.self.now)))
+    (λ (t : Step). (images : List Image) → IsStep (tail_hears here c.args.until (length c.args.told.now.items + 1) c.args.told.now.items c.in_ok-heard.heard (begin_asking c.args.until c.args.told.now.items (held images c.args.self.now))) c.args.until c.hear.new.told.items images c.hear.new.self t)
+    (λ (t : Step). (images : List Image) (begun : TailStep) (before : List PeerCall) → LeadsTail nodes begun before (g.P.Peers.calls c.args.peers.now) (GoesOn (begin_asking c.args.until c.args.told.now.items (held images c.args.self.now)))
     → StandsAt nodes begun before (g.P.Peers.calls c.read_next.new.peers) c.args.until c.hear.new.told.items images c.hear.new.self t)
     (λ t f images begun before l.
     stands_more nodes begun images before (g.P.Peers.calls c.args.peers.now) (g.P.Peers.calls c.read_next.new.peers) c.args.until c.args.told.now.items c.hear.new.told.items c.args.self.now c.hear.new.self c.in_ok-heard.heard t listed

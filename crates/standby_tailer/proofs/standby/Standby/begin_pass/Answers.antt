@@ -1,5 +1,5 @@
 use Rattle.std.proofs.Common.{◌≡◌, true, false, sym, ap, ◌∙◌}
-use Rattle.name_node.specs.Holding.{working}
+use Rattle.name_node.specs.Holding.{with_work}
 use Rattle.name_node.specs.Tails.{is_until}
 use Rattle.standby_tailer.specs.Standbys.{held}
 use Rattle.standby_tailer.proofs.PassLaws.{pass_ends, pass_goes}
@@ -9,11 +9,11 @@ pub returns-then-is_end-clause-step : goal.returns-then-is_end-clause-step
 returns-then-is_end-clause-step c =
     let here : c.self.inside.position ≡ c.args.self.now.position = ap (λ s. s.position) c.self.view_is in
     λ images work. (
-      pass_ends c.args.until (working work (held images c.args.self.now)) (ap (is_until c.args.until) (sym here) ∙ (sym c.is_end.ensures ∙ c.if-is_end.true)),
+      pass_ends c.args.until (with_work work (held images c.args.self.now)) (ap (is_until c.args.until) (sym here) ∙ (sym c.is_end.ensures ∙ c.if-is_end.true)),
       here,
     )
 
 pub returns-clause-step : goal.returns-clause-step
 returns-clause-step c =
     let here : c.self.inside.position ≡ c.args.self.now.position = ap (λ s. s.position) c.self.view_is in
-    λ images work. pass_goes c.args.until (working work (held images c.args.self.now)) (ap (is_until c.args.until) (sym here) ∙ (sym c.is_end.ensures ∙ c.if-is_end.false))
+    λ images work. pass_goes c.args.until (with_work work (held images c.args.self.now)) (ap (is_until c.args.until) (sym here) ∙ (sym c.is_end.ensures ∙ c.if-is_end.false))

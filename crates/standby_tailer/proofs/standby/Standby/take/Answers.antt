@@ -1,7 +1,7 @@
 use Rattle.std.proofs.Common.{◌≡◌, ℕ, ◌+◌, ◌-◌, ◌≤◌, ◌<◌, [], refl, sym, ap, ◌∙◌, subst, arith}
 use Rattle.std.specs.Option.{ForSome}
 use Rattle.ns_replay.specs.Replay.{All, applied}
-use Rattle.name_node.specs.Holding.{Broken, working}
+use Rattle.name_node.specs.Holding.{Broken, with_work}
 use Rattle.name_node.specs.Tails.{up_to, after_applied, pass_begun, Breaks}
 use Rattle.standby_tailer.specs.Standbys.{StandbyView, held}
 use Rattle.standby_tailer.specs.Tailing.{IsStep}
@@ -24,11 +24,11 @@ returns-in-Done-clause-ok c =
     let all : applied (c.cut-batch.result.first - 1) c.cut-batch.result.bodies c.self.inside.namespace ≡ All c.replay.new.ns c.last-self-inside.result =
     c.in-Done.ensures ∙ ap (λ (k : ℕ). All c.replay.new.ns k) (sym c.last-self-inside.ensures) in
     λ images work.
-    subst (λ (v : StandbyView). IsStep (after_applied c.args.until (applied v.position (up_to c.args.until v.position c.args.batch.bodies) v.space) (working work (held images v))) c.args.until [] images new c.begin_pass.result)
+    subst (λ (v : StandbyView). IsStep (after_applied c.args.until (applied v.position (up_to c.args.until v.position c.args.batch.bodies) v.space) (with_work work (held images v))) c.args.until [] images new c.begin_pass.result)
     c.self.view_is
-    (step_as (pass_begun c.args.until (working work (held images new))) (after_applied c.args.until (applied s.position (up_to c.args.until s.position c.args.batch.bodies) s.space) (working work (held images s)))
+    (step_as (pass_begun c.args.until (with_work work (held images new))) (after_applied c.args.until (applied s.position (up_to c.args.until s.position c.args.batch.bodies) s.space) (with_work work (held images s)))
     c.args.until [] [] images new c.begin_pass.result
-    (sym (all_goes c.args.until s c.args.batch c.cut-batch.result cut (working work (held images s)) c.replay.new.ns c.last-self-inside.result all)) refl (c.begin_pass.ensures.step images work))
+    (sym (all_goes c.args.until s c.args.batch c.cut-batch.result cut (with_work work (held images s)) c.replay.new.ns c.last-self-inside.result all)) refl (c.begin_pass.ensures.step images work))
 
 pub overflow_sub-self : goal.overflow_sub-self
 overflow_sub-self c =
@@ -47,8 +47,8 @@ returns-in-BadEntry-clause-ok c =
     let positive : 1 ≤ c.in-BadEntry.txid =
     bad_positive (c.cut-batch.result.first - 1) c.cut-batch.result.bodies c.self.inside.namespace c.replay.new.ns c.in-BadEntry.txid c.in-BadEntry.ensures in
     λ images work. (
-      subst (λ (v : StandbyView). after_applied c.args.until (applied v.position (up_to c.args.until v.position c.args.batch.bodies) v.space) (working work (held images v)) ≡ Breaks (working Broken (held images (record { space = c.replay.new.ns; position = c.in-BadEntry.txid - 1 })))) c.self.view_is
-          (bad_breaks c.args.until s c.args.batch c.cut-batch.result cut (working work (held images s)) c.replay.new.ns c.in-BadEntry.txid c.in-BadEntry.ensures),
+      subst (λ (v : StandbyView). after_applied c.args.until (applied v.position (up_to c.args.until v.position c.args.batch.bodies) v.space) (with_work work (held images v)) ≡ Breaks (with_work Broken (held images (record { space = c.replay.new.ns; position = c.in-BadEntry.txid - 1 })))) c.self.view_is
+          (bad_breaks c.args.until s c.args.batch c.cut-batch.result cut (with_work work (held images s)) c.replay.new.ns c.in-BadEntry.txid c.in-BadEntry.ensures),
       omega (arith, positive),
     )
 

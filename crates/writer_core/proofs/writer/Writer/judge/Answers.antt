@@ -6,7 +6,7 @@ use Rattle.writer_core.proofs.writer.Writer.judge.Goals as goal
 pub returns-then-done : goal.returns-then-done
 returns-then-done c =
     let w = c.args.self.now.view in
-    judged_is (round_in w.phase) w true (sym c.if-done.true ∙ c.is_done-done.ensures) ∙ (rw c.tell_causes.ensures at c.round_done.ensures)
+    judged_is (round_in w.phase) w true (sym c.if-done.true ∙ c.is_done-done.ensures) ∙ (rw c.tell_causes.ensures at c.finish_round.ensures)
 
 pub returns-else-done : goal.returns-else-done
 returns-else-done c =

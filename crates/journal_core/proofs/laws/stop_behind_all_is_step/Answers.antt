@@ -1,5 +1,0 @@
-use Rattle.journal_core.proofs.NodeLaws.{stop_all}
-use Rattle.journal_core.proofs.laws.stop_behind_all_is_step.Goals as goal
-
-pub returns : goal.returns
-returns c = stop_all

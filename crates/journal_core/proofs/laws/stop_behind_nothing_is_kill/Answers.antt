@@ -1,5 +1,0 @@
-use Rattle.journal_core.proofs.NodeLaws.{stop_nothing}
-use Rattle.journal_core.proofs.laws.stop_behind_nothing_is_kill.Goals as goal
-
-pub returns : goal.returns
-returns c = stop_nothing

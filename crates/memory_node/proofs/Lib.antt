@@ -1,0 +1,4 @@
+pub mod FetchLaws
+pub mod ApplyLaws
+pub mod AnswerLaws
+pub mod CutLaws

@@ -1,0 +1,4 @@
+pub mod IndexLaws
+pub mod LimitLaws
+pub mod DecisionLaws
+pub mod BudgetLaws

@@ -1,0 +1,4 @@
+pub mod Index
+pub mod Durable
+pub mod Budgets
+pub mod Decisions
