@@ -17,11 +17,11 @@ use Rattle.node_history.specs.declared.mark.Mark.{Mark}
 use Rattle.node_history.specs.declared.mark.MarkKind.{MarkKind}
 use Rattle.node_history.specs.declared.mark.MarkKind.TheVariants as kind
 use Rattle.run_safety.proofs.Values.{get_append_left}
-use Rattle.mesh.specs.Marks.{calls_to, next_number, mark}
+use Rattle.mesh.specs.Marks.{calls_to, next_number, mark, same_kind, is_marked}
 use Rattle.mesh.proofs.Lists.{same_test, other_test}
 use Rattle.mesh.proofs.CallLists.{calls_append}
 use Rattle.caller_seats.specs.declared.calls_to.CallsTo.{CallsTo}
-use Rattle.caller_seats.specs.Deliveries.{Delivery, Delivered, ReplyLost, NotDelivered, delivery, is_marked, same_kind}
+use Rattle.caller_seats.specs.Deliveries.{Delivery, Delivered, ReplyLost, NotDelivered, delivery}
 use Rattle.caller_seats.specs.Indexes.{asked_of, asked_at, IsIndex, AreIndexes}
 
 -- ## One mark more

@@ -1,6 +1,5 @@
 -- How a call goes, by its caller's marks, and what the caller is told of it.
-use Rattle.std.specs.Prelude.{ℕ, ◌==◌, ◌&&◌, Bool, true, false, List, if◌then◌else◌}
-use Rattle.std.specs.List.{list_any}
+use Rattle.std.specs.Prelude.{ℕ, Bool, true, false, List, if◌then◌else◌}
 use Rattle.node_history.specs.declared.node_ask.NodeAnswer.{NodeAnswer}
 use Rattle.node_history.specs.declared.node_ask.NodeAnswer.TheVariants.{Replied, Done}
 use Rattle.node_history.specs.declared.record.Told.{Told}
@@ -8,19 +7,11 @@ use Rattle.node_history.specs.declared.record.Told.TheVariants as told
 use Rattle.node_history.specs.declared.mark.Mark.{Mark}
 use Rattle.node_history.specs.declared.mark.MarkKind.{MarkKind}
 use Rattle.node_history.specs.declared.mark.MarkKind.TheVariants as kind
+use Rattle.mesh.specs.Marks.{is_marked}
 pub use Rattle.caller_seats.specs.declared.delivery.Delivery.{Delivery}
 pub use Rattle.caller_seats.specs.declared.delivery.Delivery.TheVariants.{Delivered, ReplyLost, NotDelivered}
 
 -- a call that is marked twice is dropped
-unfoldable pub same_kind : MarkKind → MarkKind → Bool
-same_kind kind.Dropped kind.Dropped = true
-same_kind kind.Muted kind.Muted = true
-same_kind kind.Late kind.Late = true
-same_kind _ _ = false
-
-unfoldable pub is_marked : List Mark → ℕ → ℕ → MarkKind → Bool
-is_marked marks node number kind = list_any (λ m. (m.node == node) && ((m.number == number) && same_kind m.kind kind)) marks
-
 unfoldable pub delivery : List Mark → ℕ → ℕ → Delivery
 delivery marks node number =
     if is_marked marks node number kind.Dropped then NotDelivered

@@ -7,9 +7,8 @@ use Rattle.node_history.specs.declared.record.Record.{Record}
 use Rattle.node_history.specs.declared.record.Record.TheVariants.{Call, Late, Operator, Outcome}
 use Rattle.node_history.specs.declared.mark.Mark.{Mark}
 use Rattle.node_history.specs.declared.mark.MarkKind.TheVariants as kind
-use Rattle.mesh.specs.Marks.{calls_to}
+use Rattle.mesh.specs.Marks.{calls_to, is_marked}
 use Rattle.caller_seats.specs.declared.calls_to.CallsTo.{CallsTo}
-use Rattle.caller_seats.specs.Deliveries.{is_marked}
 
 -- what a call in the record asked
 abbrev pub asked_in : Record → Option Request

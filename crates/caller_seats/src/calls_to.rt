@@ -39,7 +39,7 @@ fn asked_at(past: &[Record], place: usize) -> Result<Option<SharedRequest>, OutO
 
 impl CallsTo {
     /// No calls.
-    #[tactic(auto, unfolding(crate::specs::Deliveries::is_marked, mesh::specs::Marks::calls_to))]
+    #[tactic(auto, unfolding(mesh::specs::Marks::is_marked, mesh::specs::Marks::calls_to))]
     pub(crate) fn new(alloc: Global) -> CallsTo
         ensures { (node : ℕ) → IsIndex node [] [] result }
     {

@@ -45,7 +45,7 @@ use Rattle.script_actor.proofs.WriterTurn.{call_under}
 use Rattle.script_actor.proofs.TurnsTell.{turn_tells}
 use Rattle.script_actor.proofs.TrimLaws.{purge_begins}
 use Rattle.cluster_runner.proofs.Sound.{or_false, waiting_actions}
-use Rattle.cluster_runner.proofs.NamedResults.{loaded_work}
+use Rattle.script_actor.proofs.NamedLaws.{loaded_work}
 
 -- ## The maker's writer: the actor's, or what it was before it gave up
 abbrev Alike : WriterView → WriterView → Type 0

@@ -24,17 +24,18 @@ use Rattle.writer_core.specs.Views.{WriterView}
 use Rattle.writer_core.specs.Rounds.{Judgment}
 use Rattle.writer_core.specs.Writer.{is_writing, writer_begun, next_call, writer_heard, writer_stopped}
 use Rattle.ns_tree.specs.Space.{Space}
-use Rattle.ns_replay.specs.Replay.{Image, Applied, All, BadEntry, applied}
+use Rattle.ns_replay.specs.Replay.{Applied, All, BadEntry, applied}
 use Rattle.node_history.specs.declared.record.Record.{Record}
 use Rattle.node_history.specs.declared.record.Record.TheVariants.{Call, Late, Operator, Outcome}
 use Rattle.node_history.specs.declared.record.Told.{Told}
 use Rattle.mesh.specs.Makers.{heard_of}
 use Rattle.name_node.specs.Submissions.{Due, Submission, submit_edits, nothing_submitted}
-use Rattle.name_node.specs.Holding.{Holding, new_holding, Work, Free, Tails, Logs, Broken, with_work, at_position, save_image, load_image, reload_image, min_to_keep, enters}
+use Rattle.name_node.specs.Holding.{Holding, new_holding, Work, Free, Tails, Logs, Broken, with_work, at_position, save_image, reload_image, min_to_keep, enters}
 use Rattle.name_node.specs.Tails.{TailEnd, Caught, Reached, PurgedFrom, BehindBy, TailStep, GoesOn, Ends, Breaks, is_until, pass_begun, up_to, after_applied, pass_end, no_edits, tail_hears}
 use Rattle.script_actor.specs.Lines.{Action, Does, DoDrop, DoMute, DoLate, Submits, Trims, DoTail, Saves, Reloads, IsNamesTask, IsAction, AreActions}
 use Rattle.script_actor.specs.Results.{dues_logged, dues_aborted, abort_text, inactive_results, too_long_results, late_none}
 use Rattle.script_actor.specs.Actor.{Actor, Rests, WantsCall, fresh_actor, call_wanted, work_read, read_first, wants, is_wanting, is_broken_work, is_broken_holding, is_broken, tail_ended, tail_stepped, task_begun, make_copy, begin_sync, after_sync, logged_when, trim_at, unless_active, begin_save, begin_reload, take_named_action, take_action, while_wanting, settle, logs_done, aborted_texts, task_done, held_turn, turn_with, turn_taken, heard_in_work, heard_by, moved_on, settle_again, goes_on, Fits, IsLed, actor_after}
+use Rattle.script_actor.proofs.NamedLaws.{reloaded_free}
 use Rattle.script_actor.proofs.TrimLaws.{purge_begins}
 use Rattle.cluster_runner.specs.Told.{results_in}
 use Rattle.cluster_runner.specs.EditResults.{results_due, AreResultsOf, AreResults, NeverBroken}
@@ -257,14 +258,6 @@ tail_taken h a i = record {
   owes = λ ds texts o. owes_action DoTail a.says 1 ds texts (λ xs f. one_more a.says xs i.quiet f) (subst (λ (t : Option Task). Owes a.says (due_of t (Tails None 1 [])) ds texts) i.none o);
 }
 
-pub loaded_work : (images : List Image) (h : Holding) → (load_image images h).work ≡ h.work
-loaded_work [] h = refl
-loaded_work (i ∷ is) h = refl
-
-reloaded_work : (h : Holding) → (reload_image h).work ≡ Free
-unfolding reload_image
-reloaded_work h = loaded_work h.images (record h { work = Free })
-
 saved_work : (h : Holding) → (save_image h).work ≡ h.work
 unfolding save_image
 saved_work h = refl
@@ -302,7 +295,7 @@ held_taken Saves (Some h) a is e i =
     (said Saves a (begin_save h a) i (save_image h) refl (saved_work h ∙ held_work h i.live.holding a.holds e i.live.holds ∙ i.free) refl i.none (as_many (begin_save h a).says 1 refl))
 held_taken Reloads None a is e i = no_holding a i e
 held_taken Reloads (Some h) a is e i =
-    unless_taken Reloads (is_writing a.writer.phase) (begin_reload h a) a i (λ xs f. f) (said Reloads a (begin_reload h a) i (reload_image h) refl (reloaded_work h) refl i.none (as_many (begin_reload h a).says 1 refl))
+    unless_taken Reloads (is_writing a.writer.phase) (begin_reload h a) a i (λ xs f. f) (said Reloads a (begin_reload h a) i (reload_image h) refl (reloaded_free h) refl i.none (as_many (begin_reload h a).says 1 refl))
 
 action_taken_so : (d : Action) (a : Actor) → IsAction true d → Idle a → Taken d a (take_action d a)
 unfolding take_action
@@ -531,7 +524,7 @@ single_turn : (t : Task) (u : Turn) (h : Holding) (a : Actor) (k : Aim) → Sing
 unfolding held_turn
 single_turn t turn.Going h a k s e f o off is = absurd (off refl)
 single_turn t (turn.Done x) h a k s e f o off is = single_done t x h a k s (subst (λ (z : Aim). IsOf z x) (sym e) is.0) f o.0 o.1 o.2 o.3 is.1
-single_turn t turn.Aborted h a k s e f o off is = inr (says_next 1 _ (reload_image h) k refl (reloaded_work h) o.1 o.3 is (single_aborted t a.writer.causes h.work s f))
+single_turn t turn.Aborted h a k s e f o off is = inr (says_next 1 _ (reload_image h) k refl (reloaded_free h) o.1 o.3 is (single_aborted t a.writer.causes h.work s f))
 single_turn t (turn.EpochLimit m) h a k s e f o off is = inr (says_next 1 _ h k o.0 f o.1 o.3 is.1 refl)
 
 log_done : (t : Task) (x : TaskOutcome) (h : Holding) (ahead : Space) (dues : List Due) (a : Actor) (k : Aim) → IsLog t → IsOf (aim_of t) x → h.work ≡ Logs ahead dues → Over a h k → IsBetween a.writer.phase → Moved (length dues) (task_done x t h a)
@@ -561,7 +554,7 @@ unfolding held_turn
 log_turn t turn.Going h ahead dues a k s e f o off is = absurd (off refl)
 log_turn t (turn.Done x) h ahead dues a k s e f o off is = log_done t x h ahead dues a k s (subst (λ (z : Aim). IsOf z x) (sym e) is.0) f o is.1
 log_turn t turn.Aborted h ahead dues a k s e f o off is =
-    inr (says_next (length dues) _ (reload_image h) k refl (reloaded_work h) o.1 o.3 is (ap (λ (w : Work). length (aborted_texts w t a.writer.causes)) f ∙ aborted_length (abort_text a.writer.causes) dues))
+    inr (says_next (length dues) _ (reload_image h) k refl (reloaded_free h) o.1 o.3 is (ap (λ (w : Work). length (aborted_texts w t a.writer.causes)) f ∙ aborted_length (abort_text a.writer.causes) dues))
 log_turn t (turn.EpochLimit m) h ahead dues a k s e f o off is = absurd (log_limit_apart t k s e is.0)
 
 -- a task goes on

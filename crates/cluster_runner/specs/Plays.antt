@@ -16,7 +16,8 @@ use Rattle.ns_tree.specs.declared.end.End.{End}
 use Rattle.script_text.specs.Views.{ScriptView}
 pub use Rattle.caller_seats.specs.declared.delivery.Delivery.{Delivery}
 pub use Rattle.caller_seats.specs.declared.delivery.Delivery.TheVariants.{Delivered, ReplyLost, NotDelivered}
-unfoldable pub use Rattle.caller_seats.specs.Deliveries.{same_kind, is_marked, delivery, told_of, is_done}
+unfoldable pub use Rattle.mesh.specs.Marks.{same_kind, is_marked}
+unfoldable pub use Rattle.caller_seats.specs.Deliveries.{delivery, told_of, is_done}
 use Rattle.script_actor.specs.Lines.{Line, Declares, Acts, Operates, lines_of, count_actors}
 use Rattle.script_actor.specs.Actor.{Actor, fresh_actor, hand_action, Want, WantsCall, WantsCopy, Says, Rests, wants, goes_on, last_of}
 

@@ -1,8 +1,7 @@
 //! Each kind of edit once, as text and as bytes; each fault; texts from outside.
 use crate::rows::is_so;
-use edit_ops::{
-    Decoded, Edit, NameList, NumberList, OpKind, ReadText, decode, edit_text, encode, read_text,
-};
+use edit_fields::{NameList, NumberList};
+use edit_ops::{Decoded, Edit, OpKind, ReadText, decode, edit_text, encode, read_text};
 use qj_num::{Bytes, Name, OutOfMemory};
 use std::alloc::Global;
 use std::test::Fail;

@@ -3,8 +3,8 @@ use journal_core::{Batch, BodyList, Bytes, Head, Reply, Request, SharedRequest};
 use mesh::{HistoryTable, Mesh, RecordTable};
 use node_history::{Plan, Record, RecordList, Told};
 use ns_tree::{End, EndList, LastSpace, RowList};
+use play_summary::summary_of;
 use qj_num::{Name, OutOfMemory};
-use report_text::summary_of;
 use std::alloc::Global;
 use std::test::Fail;
 

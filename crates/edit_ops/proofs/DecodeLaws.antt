@@ -1,24 +1,25 @@
 -- Each body has one right answer, and no record begins another.
-use Rattle.std.proofs.Common.{◌≡◌, ◌≢◌, ◌⊎◌, ℕ, suc, ◌+◌, ◌-◌, ◌<◌, ◌≤◌, List, [], ◌∷◌, ◌++◌, length, length-append, Bool, true, Result, Ok, Err, refl, sym, ap, subst, ◌∙◌, arith, inl, inr}
-use Rattle.std.specs.List.{flat_map, AllByRecursion}
+use Rattle.std.proofs.Common.{◌≡◌, ◌≢◌, ◌⊎◌, ℕ, suc, ◌+◌, ◌-◌, ◌<◌, ◌≤◌, List, [], ◌∷◌, ◌++◌, length, length-append, Bool, true, Result, Ok, Err, refl, sym, ap, ◌∙◌, arith, inl, inr}
+use Rattle.std.specs.List.{flat_map}
 use Rattle.std.proofs.lemmas.List.{append-nil, nil_from_length}
-use Rattle.edit_ops.specs.declared.fault.Fault.{Fault}
-use Rattle.edit_ops.specs.declared.fault.Fault.TheVariants as faults
-use Rattle.edit_ops.specs.declared.fault.ReadError.{ReadError}
-use Rattle.edit_ops.specs.declared.fault.ReadError.TheVariants as errors
+use Rattle.edit_fields.specs.declared.fault.Fault.{Fault}
+use Rattle.edit_fields.specs.declared.fault.Fault.TheVariants as faults
+use Rattle.edit_fields.specs.declared.fault.ReadError.{ReadError}
+use Rattle.edit_fields.specs.declared.fault.ReadError.TheVariants as errors
 use Rattle.edit_ops.specs.declared.kind.OpKind.{OpKind}
 use Rattle.edit_ops.specs.declared.decoded.Decoded.{Decoded}
 use Rattle.edit_ops.specs.declared.decoded.Decoded.TheVariants.{Edit, UnknownOpcode, Short, Trailing, BadField, OutOfMemory}
-use Rattle.edit_ops.specs.Fields.{Kind, Field, client, call_number, IsGood, field_bytes}
+use Rattle.edit_fields.specs.Fields.{Kind, Field, client, call_number, field_bytes}
 use Rattle.edit_ops.specs.Records.{EditView, kind_of, layout, full_layout, opcode, called, edit_fields, record_of}
 use Rattle.edit_ops.specs.Grammar.{MayCall, IsEdit, IsRecord}
-use Rattle.edit_ops.specs.Decoding.{least, Matches, Begins, EndsInside, BreaksRule, HasTrailing, IsDecoded}
-use Rattle.edit_ops.specs.Sources.{Fails}
-use Rattle.edit_ops.specs.Reading.{field_at, group_at, fields_at}
-use Rattle.edit_ops.proofs.SourceLaws.{with_front, ok_is, fields-append}
-use Rattle.edit_ops.proofs.ReadFields.{broken_field, short_field}
-use Rattle.edit_ops.proofs.FieldLaws.{IsBytes, is_wrong, least_bound}
-use Rattle.edit_ops.proofs.WalkLaws.{runs, Outcome, outcome, Stops, Ends, matches_good}
+use Rattle.edit_fields.specs.Rules.{least, Matches}
+use Rattle.edit_ops.specs.Decoding.{Begins, EndsInside, BreaksRule, HasTrailing, IsDecoded}
+use Rattle.edit_fields.specs.Sources.{Fails}
+use Rattle.edit_fields.specs.Reading.{field_at, group_at, fields_at}
+use Rattle.edit_fields.proofs.SourceLaws.{with_front, ok_is, fields-append}
+use Rattle.edit_fields.proofs.ReadFields.{broken_field, short_field}
+use Rattle.edit_fields.proofs.FieldLaws.{IsBytes, is_wrong, least_bound}
+use Rattle.edit_fields.proofs.WalkLaws.{runs, fields_good, fields_wrong}
 use Rattle.edit_ops.proofs.EditLaws.{edit_matches, same_edit, same_opcode}
 
 abbrev Read : Type 0
@@ -203,15 +204,6 @@ no_prefix a b x y p q e =
     (same_edit a b o.0 o.1 (ap (λ (r : List Field × List ℕ). r.0) same), ap (λ (r : List Field × List ℕ). r.1) same)
 
 -- ---- what was read says what the body is
-
-pub fields_good : (kinds : List Kind) (bytes : List ℕ) (fields : List Field) (rest : List ℕ) → IsBytes bytes → fields_at kinds bytes ≡ Ok (fields, rest) → Ends kinds bytes fields rest
-fields_good kinds bytes fields rest fits e = subst (Outcome kinds bytes) e (outcome (suc (length bytes)) kinds bytes fits (omega arith))
-
-pub fields_wrong : (kinds : List Kind) (bytes : List ℕ) (fault : Fault) → IsBytes bytes → fields_at kinds bytes ≡ Err fault → Stops kinds bytes fault
-fields_wrong kinds bytes fault fits e = subst (Outcome kinds bytes) e (outcome (suc (length bytes)) kinds bytes fits (omega arith))
-
-pub fields_all_good : (kinds : List Kind) (bytes : List ℕ) (fields : List Field) (rest : List ℕ) → IsBytes bytes → fields_at kinds bytes ≡ Ok (fields, rest) → AllByRecursion IsGood fields
-fields_all_good kinds bytes fields rest fits e = matches_good kinds fields [] (fields_good kinds bytes fields rest fits e).matches
 
 -- a call, and then the fields of its edit
 pub both_read : (kind : OpKind) (bytes : List ℕ) (front fields : List Field) (after rest : List ℕ) → fields_at (client ∷ call_number ∷ []) bytes ≡ Ok (front, after) → fields_at (layout kind) after ≡ Ok (fields, rest) → fields_at (full_layout kind true) bytes ≡ Ok (front ++ fields, rest)

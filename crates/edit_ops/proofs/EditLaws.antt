@@ -8,10 +8,10 @@ use Rattle.edit_ops.specs.declared.op.Op.{Op}
 use Rattle.edit_ops.specs.declared.op.Op.TheVariants.{Add, RenameOld, Delete, Mkdir, SetReplication, SetPermissions, SetOwner, Close, Times, SetQuota, Rename, ConcatDelete, EndLogSegment, StartLogSegment}
 use Rattle.edit_ops.specs.declared.edit.Call.{Call}
 use Rattle.edit_ops.specs.Kinds.{code}
-use Rattle.edit_ops.specs.Fields.{Kind, Field, path, text, number, Text_, Number_, kind_of_field, IsGood, follow}
+use Rattle.edit_fields.specs.Fields.{Kind, Field, path, text, number, Text_, Number_, kind_of_field, IsGood, follow}
 use Rattle.edit_ops.specs.Records.{EditView, kind_of, fields_of, layout, full_layout, call_fields, opcode, called, edit_fields}
 use Rattle.edit_ops.specs.Grammar.{IsEdit}
-use Rattle.edit_ops.specs.Decoding.{Matches}
+use Rattle.edit_fields.specs.Rules.{Matches}
 use Rattle.edit_ops.specs.FromFields.{text_in, number_in, op_from, edit_from}
 
 -- ---- fields match their layout

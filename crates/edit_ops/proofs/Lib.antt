@@ -1,15 +1,7 @@
-pub mod SourceLaws
-pub mod Goods
-pub mod ReadFields
-pub mod ReadItems
-pub mod FieldLaws
-pub mod WalkLaws
 pub mod EditLaws
 pub mod DecodeLaws
-pub mod SayNumbers
-pub mod SayItems
-pub mod SayWords
-pub mod SayLaws
 pub mod SayEdits
 pub mod TestLaws
 pub mod TextWords
+pub mod SayOps
+pub mod OpReads

@@ -1,29 +1,32 @@
 -- Whole texts: each has one edit or none.
-use Rattle.std.proofs.Common.{◌≡◌, ◌≢◌, ◌⊎◌, ℕ, suc, ◌+◌, ◌<◌, Bool, true, false, cond, eqb, drop, List, [], ◌∷◌, ◌++◌, length, Option, Some, None, Ok, Err, refl, sym, ap, subst, ◌∙◌, append_assoc, arith, inl, inr}
-use Rattle.std.specs.Prelude.{codes, not, ◌==◌}
-use Rattle.std.specs.List.{flat_map, AllByRecursion, position_or_len}
-use Rattle.std.proofs.lemmas.Bool.{eqb-true}
-use Rattle.std.proofs.lemmas.List.{append-nil, nil_from_length, append_cancel_left, take-append-drop}
+use Rattle.std.proofs.Common.{◌≡◌, ◌≢◌, ◌⊎◌, ℕ, ◌<◌, false, List, [], ◌∷◌, ◌++◌, length, Option, Some, None, Ok, Err, refl, sym, ap, subst, ◌∙◌, append_assoc, arith, inl, inr}
+use Rattle.std.specs.Prelude.{codes}
+use Rattle.std.specs.List.{flat_map, AllByRecursion}
+use Rattle.std.proofs.lemmas.List.{append-nil, nil_from_length, append_cancel_left}
 use Rattle.edit_ops.specs.declared.kind.OpKind.{OpKind}
 use Rattle.edit_ops.specs.declared.op.Op.{Op}
 use Rattle.edit_ops.specs.declared.edit.Call.{Call}
 use Rattle.edit_ops.specs.declared.said_text.ReadText.{ReadText}
 use Rattle.edit_ops.specs.declared.said_text.ReadText.TheVariants as answers
-use Rattle.edit_ops.specs.declared.fault.BadText.{BadText}
-use Rattle.edit_ops.specs.declared.fault.ReadError.{ReadError}
-use Rattle.edit_ops.specs.declared.fault.ReadError.TheVariants as errors
+use Rattle.edit_fields.specs.declared.fault.BadText.{BadText}
+use Rattle.edit_fields.specs.declared.fault.ReadError.{ReadError}
+use Rattle.edit_fields.specs.declared.fault.ReadError.TheVariants as errors
 use Rattle.edit_ops.specs.Kinds.{is_mark}
 use Rattle.edit_ops.specs.Words.{verb}
-use Rattle.edit_ops.specs.Fields.{Field, client, call_number, IsGood}
+use Rattle.edit_fields.specs.Fields.{Field, client, call_number, IsGood}
 use Rattle.edit_ops.specs.Records.{EditView, kind_of, fields_of, layout, call_fields}
-use Rattle.edit_ops.specs.Texts.{spaced, IsText}
+use Rattle.edit_fields.specs.Spaced.{spaced}
+use Rattle.edit_ops.specs.Texts.{IsText}
 use Rattle.edit_ops.specs.ReadTexts.{IsLine, IsReadLine, IsReadEdit, IsReadText}
-use Rattle.edit_ops.specs.Sources.{Fails, op_read}
-use Rattle.edit_ops.specs.Saying.{Boundary, split_word, words_group, fields_said}
-use Rattle.edit_ops.proofs.SourceLaws.{ok_is, op_is_read, op_fails}
+use Rattle.edit_fields.specs.Sources.{Fails}
+use Rattle.edit_ops.specs.OpRead.{op_read}
+use Rattle.edit_fields.specs.Saying.{Boundary, split_word, words_group, fields_said}
+use Rattle.edit_fields.proofs.SourceLaws.{ok_is}
+use Rattle.edit_ops.proofs.OpReads.{op_is_read, op_fails}
 use Rattle.edit_ops.proofs.EditLaws.{same_op}
-use Rattle.edit_ops.proofs.SayWords.{NoSpace, split_again}
-use Rattle.edit_ops.proofs.SayLaws.{runs, fields_taken, op_says, op_bound, same_verb, verb_plain, no_call_verb}
+use Rattle.edit_fields.proofs.SayWords.{NoSpace, split_again}
+use Rattle.edit_fields.proofs.SayLaws.{runs, fields_taken}
+use Rattle.edit_ops.proofs.SayOps.{op_says, op_bound, same_verb, verb_plain, no_call_verb}
 
 abbrev flat : List Field → List ℕ
 flat fields = flat_map (spaced false) fields
@@ -223,16 +226,3 @@ line_fails text words line fields (errors.Fault f) whole bound read none = no_li
 pub plain_fails : (text : List ℕ) (e : ReadError BadText) → (split_word text).0 ≢ codes "call" → IsReadLine text (Err e) → IsReadEdit text (Err e)
 plain_fails text errors.Memory other none = tt
 plain_fails text (errors.Fault f) other none = no_edit text other none
-
-pub split_bound : (words : List ℕ) → Boundary (split_word words).1
-split_bound [] = tt
-split_bound (b ∷ words) = by (eqb b 32) refl (split_bound words)
-  where
-    by : (t : Bool) → eqb b 32 ≡ t → Boundary (split_word words).1 → Boundary (drop (cond (not t) (1 + position_or_len (λ c. c == 32) words) 0) (b ∷ words))
-    by true is rest = eqb-true b 32 is
-    by false is rest =
-        let next : suc (position_or_len (λ c. c == 32) words) ≡ 1 + position_or_len (λ c. c == 32) words = omega arith in
-        subst (λ (n : ℕ). Boundary (drop n (b ∷ words))) next rest
-
-pub split_whole : (words : List ℕ) → (split_word words).0 ++ (split_word words).1 ≡ words
-split_whole words = take-append-drop (position_or_len (λ b. b == 32) words) words

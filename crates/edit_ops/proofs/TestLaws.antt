@@ -5,7 +5,7 @@ use Rattle.std.specs.Str.{bytes_eq}
 use Rattle.std.specs.List.{find, flat_map, AllByRecursion}
 use Rattle.std.proofs.lemmas.Bool.{eqb-true, false≢true, and_parts}
 use Rattle.std.proofs.lemmas.List.{append-nil, nil_from_length}
-use Rattle.edit_ops.specs.declared.fault.BadText.{BadText}
+use Rattle.edit_fields.specs.declared.fault.BadText.{BadText}
 use Rattle.edit_ops.specs.declared.kind.OpKind.{OpKind}
 use Rattle.edit_ops.specs.declared.kind.OpKind.TheVariants as kinds
 use Rattle.edit_ops.specs.declared.op.Op.{Op}
@@ -13,17 +13,19 @@ use Rattle.edit_ops.specs.declared.op.Op.TheVariants.{Add, RenameOld, Delete, Mk
 use Rattle.edit_ops.specs.declared.edit.Call.{Call}
 use Rattle.edit_ops.specs.Kinds.{is_mark}
 use Rattle.edit_ops.specs.Words.{verb}
-use Rattle.edit_ops.specs.Fields.{Kind, Field, path, replication, permission, numbers, paths, text, small, number, flag, client, call_number, Text_, Small_, Number_, Flag_, Client_, Call_, kind_of_field, IsGood}
+use Rattle.edit_fields.specs.Fields.{Kind, Field, path, replication, permission, numbers, paths, text, small, number, flag, client, call_number, Text_, Small_, Number_, Flag_, Client_, Call_, kind_of_field, IsGood}
 use Rattle.edit_ops.specs.Records.{EditView, kind_of, fields_of, layout, call_fields}
-use Rattle.edit_ops.specs.Texts.{spaced, CanSay, IsText}
+use Rattle.edit_fields.specs.Spaced.{spaced, CanSay}
+use Rattle.edit_ops.specs.Texts.{IsText}
 use Rattle.edit_ops.specs.ReadTexts.{IsLine}
-use Rattle.edit_ops.specs.Saying.{◌>>=◌, Boundary, split_word, field_said, items_said, group_said, fields_said}
+use Rattle.edit_fields.specs.Saying.{◌>>=◌, Boundary, split_word, field_said, items_said, group_said, fields_said}
 use Rattle.edit_ops.specs.SaidTexts.{said_kinds, kind_said, says_all, says_fields, is_line_text, is_line_after, is_called_text, is_edit_text}
-use Rattle.edit_ops.proofs.SayNumbers.{same_bytes}
-use Rattle.edit_ops.proofs.SayWords.{split_again, field_said_takes}
-use Rattle.edit_ops.proofs.SourceLaws.{ok_is, with_front}
-use Rattle.edit_ops.proofs.SayLaws.{Group, group_then, fields_taken, some_group, some_is, no_call_verb}
-use Rattle.edit_ops.proofs.SayEdits.{line_says, line_word, line_rest, called_text, plain_text, call_plain, call_bound, call_says, called_edit, plain_edit, split_whole}
+use Rattle.edit_fields.proofs.SayNumbers.{same_bytes}
+use Rattle.edit_fields.proofs.SayWords.{split_again, field_said_takes, split_whole}
+use Rattle.edit_fields.proofs.SourceLaws.{ok_is, with_front}
+use Rattle.edit_fields.proofs.SayLaws.{Group, group_then, fields_taken, some_group, some_is}
+use Rattle.edit_ops.proofs.SayOps.{no_call_verb}
+use Rattle.edit_ops.proofs.SayEdits.{line_says, line_word, line_rest, called_text, plain_text, call_plain, call_bound, call_says, called_edit, plain_edit}
 use Rattle.std.proofs.lemmas.Slice.Eq.{bytes_eq-Decides}
 
 abbrev Read : Type 0

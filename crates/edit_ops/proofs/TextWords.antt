@@ -13,11 +13,12 @@ use Rattle.edit_ops.specs.declared.kind.OpKind.{OpKind}
 use Rattle.edit_ops.specs.declared.kind.OpKind.TheVariants as kinds
 use Rattle.edit_ops.specs.declared.edit.Call.{Call}
 use Rattle.edit_ops.specs.Words.{verb}
-use Rattle.edit_ops.specs.Fields.{Field, path, owner, new_owner, replication, permission, numbers, paths, Text_, Small_, Number_, Flag_, Client_, Call_, IsGood}
+use Rattle.edit_fields.specs.Fields.{Field, path, owner, new_owner, replication, permission, numbers, paths, Text_, Small_, Number_, Flag_, Client_, Call_, IsGood}
 use Rattle.edit_ops.specs.Records.{EditView, kind_of, fields_of, call_fields}
 use Rattle.line_words.specs.Hex.{hex_text}
 use Rattle.line_words.proofs.HexLaws.{length-hex_text, hex_graphic}
-use Rattle.edit_ops.specs.Texts.{spaced, CanSay, IsText}
+use Rattle.edit_fields.specs.Spaced.{spaced, CanSay}
+use Rattle.edit_ops.specs.Texts.{IsText}
 use Rattle.edit_ops.specs.ReadTexts.{IsLine}
 use Rattle.edit_ops.specs.SaidTexts.{IsGraphic, IsWorded}
 use Rattle.edit_ops.proofs.SayEdits.{called_text, plain_text}

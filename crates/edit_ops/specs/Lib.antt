@@ -1,15 +1,10 @@
 pub mod Kinds
-pub mod Fields
 pub mod Records
 pub mod Grammar
-pub mod Shown
 pub mod Words
 pub mod Texts
-pub mod Forms
 pub mod Decoding
-pub mod Sources
-pub mod Reading
 pub mod FromFields
-pub mod Saying
 pub mod ReadTexts
 pub mod SaidTexts
+pub mod OpRead

@@ -2,16 +2,17 @@
 use Rattle.std.specs.Prelude.{◌≡◌, ℕ, List, ◌++◌, false, Result, Ok, Err}
 use Rattle.std.specs.List.{flat_map, AllByRecursion}
 use Rattle.edit_ops.specs.declared.op.Op.{Op}
-use Rattle.edit_ops.specs.declared.fault.BadText.{BadText}
-use Rattle.edit_ops.specs.declared.fault.ReadError.{ReadError}
-use Rattle.edit_ops.specs.declared.fault.ReadError.TheVariants as errors
+use Rattle.edit_fields.specs.declared.fault.BadText.{BadText}
+use Rattle.edit_fields.specs.declared.fault.ReadError.{ReadError}
+use Rattle.edit_fields.specs.declared.fault.ReadError.TheVariants as errors
 use Rattle.edit_ops.specs.declared.said_text.ReadText.{ReadText}
 use Rattle.edit_ops.specs.declared.said_text.ReadText.TheVariants as answers
 use Rattle.edit_ops.specs.Kinds.{is_mark}
 use Rattle.edit_ops.specs.Words.{verb}
-use Rattle.edit_ops.specs.Fields.{IsGood}
+use Rattle.edit_fields.specs.Fields.{IsGood}
 use Rattle.edit_ops.specs.Records.{EditView, kind_of, fields_of}
-use Rattle.edit_ops.specs.Texts.{spaced, CanSay, IsText}
+use Rattle.edit_fields.specs.Spaced.{spaced, CanSay}
+use Rattle.edit_ops.specs.Texts.{IsText}
 
 -- the words are those of what an edit does
 pub record IsLine (words : List ℕ) (op : Op) : Type 0 where

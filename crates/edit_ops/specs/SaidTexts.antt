@@ -3,14 +3,14 @@ use Rattle.std.specs.Prelude.{◌≡◌, ℕ, ◌<◌, List, [], ◌∷◌, ◌+
 use Rattle.std.specs.List.{find, flat_map, list_all, AllByRecursion}
 use Rattle.std.specs.Char.{is_ascii_graphic}
 use Rattle.std.specs.Str.{bytes_eq}
-use Rattle.edit_ops.specs.declared.fault.BadText.{BadText}
+use Rattle.edit_fields.specs.declared.fault.BadText.{BadText}
 use Rattle.edit_ops.specs.declared.kind.OpKind.{OpKind}
 use Rattle.edit_ops.specs.declared.kind.OpKind.TheVariants as kinds
 use Rattle.edit_ops.specs.Words.{verb}
-use Rattle.edit_ops.specs.Fields.{Field, client, call_number}
+use Rattle.edit_fields.specs.Fields.{Field, client, call_number}
 use Rattle.edit_ops.specs.Records.{EditView, layout}
 use Rattle.edit_ops.specs.Texts.{IsText}
-use Rattle.edit_ops.specs.Saying.{split_word, fields_said}
+use Rattle.edit_fields.specs.Saying.{split_word, fields_said}
 
 -- ## The test
 -- the kinds of which a script has edits: all but the marks

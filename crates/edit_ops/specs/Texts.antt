@@ -1,40 +1,17 @@
 -- Edits as texts: a line of a script, or of the listing of edits.
-use Rattle.std.specs.Prelude.{◌≡◌, ◌≢◌, ℕ, ◌<◌, List, [], ◌∷◌, ◌++◌, Bool, true, false, Option, Some, None, codes}
+use Rattle.std.specs.Prelude.{◌≡◌, ℕ, List, [], ◌∷◌, ◌++◌, Bool, true, false, Option, Some, None, codes}
 use Rattle.std.specs.List.{flat_map, AllByRecursion}
-use Rattle.std.specs.Fmt.{decimal, digits}
-use Rattle.line_words.specs.Hex.{hex_text}
 use Rattle.edit_ops.specs.declared.kind.OpKind.{OpKind}
 use Rattle.edit_ops.specs.declared.edit.Call.{Call}
 use Rattle.edit_ops.specs.Kinds.{is_mark}
 use Rattle.edit_ops.specs.Words.{verb, name}
-use Rattle.edit_ops.specs.Fields.{Field, Text, path, owner, new_owner, replication, permission, numbers, paths, Text_, Small_, Number_, Flag_, Client_, Call_}
 use Rattle.edit_ops.specs.Records.{EditView, kind_of, fields_of, call_fields}
 use Rattle.edit_ops.specs.Grammar.{IsEdit}
+use Rattle.edit_fields.specs.Spaced.{spaced, CanSay}
 
 abbrev pub first_word : Bool → OpKind → List ℕ
 first_word true kind = name kind
 first_word false kind = verb kind
-
--- An empty text is `-` in a listing. In a script that says of a user or a group that it stays as it is.
-abbrev pub text_word : Bool → Text → List ℕ → List ℕ
-text_word listing t (b ∷ bytes) = b ∷ bytes
-text_word true t [] = 45 ∷ []
-text_word false new_owner [] = 45 ∷ []
-text_word false path [] = []
-text_word false owner [] = []
-
--- the word of a field after a space; a count has none
-abbrev pub spaced : Bool → Field → List ℕ
-spaced listing (Text_ t bytes) = 32 ∷ text_word listing t bytes
-spaced listing (Small_ replication n) = 32 ∷ decimal n
-spaced listing (Small_ permission n) = 32 ∷ digits 8 false n
-spaced listing (Small_ numbers n) = []
-spaced listing (Small_ paths n) = []
-spaced listing (Number_ n) = 32 ∷ decimal n
-spaced listing (Flag_ true) = codes " yes"
-spaced listing (Flag_ false) = codes " no"
-spaced listing (Client_ bytes) = 32 ∷ hex_text bytes
-spaced listing (Call_ n) = 32 ∷ decimal n
 
 -- what stands before an edit that a client's call asked for
 abbrev pub call_text : Option Call → List ℕ
@@ -44,15 +21,6 @@ call_text (Some call) = codes "call" ++ (flat_map (spaced false) (call_fields (S
 -- the text of an edit, in a script or (true) in a listing
 abbrev pub text_of : Bool → EditView → List ℕ
 text_of listing e = call_text e.call ++ (first_word listing (kind_of e.op) ++ flat_map (spaced listing) (fields_of e.op))
-
--- a field that a word of a script can say: a text has a byte, only a user or a group may stay as it is, and a
--- permission has at most four octal digits
-abbrev pub CanSay : Field → Type 0
-CanSay (Text_ path bytes) = bytes ≢ []
-CanSay (Text_ owner bytes) = bytes ≢ []
-CanSay (Text_ new_owner bytes) = bytes ≢ 45 ∷ []
-CanSay (Small_ permission n) = n < 4096
-CanSay field = Unit {0}
 
 -- the text is that of the edit in a script
 pub record IsText (text : List ℕ) (e : EditView) : Type 0 where

@@ -4,15 +4,14 @@ ghost use Rattle.edit_ops.specs.Records.{kind_of, edit_fields, full_layout, opco
 ghost use Rattle.edit_ops.specs.Grammar.{MayCall, IsEdit};
 ghost use Rattle.edit_ops.specs.Kinds.{is_mark};
 ghost use Rattle.edit_ops.specs.Decoding.{IsDecoded};
-ghost use Rattle.edit_ops.specs.Sources.{Gives};
-ghost use Rattle.edit_ops.specs.Reading.{fields_at};
+ghost use Rattle.edit_fields.specs.Sources.{Gives};
+ghost use Rattle.edit_fields.specs.Reading.{fields_at};
 
 use crate::decoded::Decoded;
 use crate::edit::Edit;
-use crate::fault::{Fault, ReadError};
 use crate::kind::OpKind;
-use crate::record_source::RecordSource;
-use crate::source::{read_call, read_op};
+use crate::reading_op::{read_call, read_op};
+use edit_fields::{Fault, ReadError, RecordSource};
 use std::alloc::Global;
 
 /// By how much the opcode of an edit with a call is above its code.

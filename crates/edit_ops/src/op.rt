@@ -3,7 +3,7 @@ ghost use Rattle.std.specs.Prelude.{◌≡◌, IfOk};
 ghost use Rattle.edit_ops.specs.Records.{kind_of};
 
 use crate::kind::OpKind;
-use crate::lists::{NameList, NumberList};
+use edit_fields::{NameList, NumberList};
 use qj_num::{Name, OutOfMemory};
 use std::alloc::Global;
 

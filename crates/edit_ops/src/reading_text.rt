@@ -3,15 +3,14 @@ ghost use Rattle.std.specs.Prelude.{◌≡◌, ◌≢◌, ◌⊎◌, ◌∷◌, 
 ghost use Rattle.edit_ops.specs.Records.{EditView};
 ghost use Rattle.edit_ops.specs.Texts.{IsText};
 ghost use Rattle.edit_ops.specs.ReadTexts.{IsReadLine, IsReadEdit, IsReadText};
-ghost use Rattle.edit_ops.specs.Saying.{Boundary};
+ghost use Rattle.edit_fields.specs.Saying.{Boundary};
 
 use crate::edit::Edit;
-use crate::fault::{BadText, ReadError};
 use crate::kind::OpKind;
 use crate::op::Op;
+use crate::reading_op::{read_call, read_op};
 use crate::said_text::ReadText;
-use crate::source::{read_call, read_op};
-use crate::word_source::{WordSource, split_word};
+use edit_fields::{BadText, ReadError, WordSource, split_word};
 use std::alloc::Global;
 
 // What an edit does, by its first word and its fields.

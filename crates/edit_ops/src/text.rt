@@ -2,15 +2,16 @@
 ghost use Rattle.std.specs.Prelude.{◌≡◌, ◌++◌, false, OnOk, OnErr};
 ghost use Rattle.std.specs.List.{flat_map, AllByRecursion};
 ghost use Rattle.edit_ops.specs.Kinds.{is_mark};
-ghost use Rattle.edit_ops.specs.Fields.{IsGood};
+ghost use Rattle.edit_fields.specs.Fields.{IsGood};
 ghost use Rattle.edit_ops.specs.Records.{kind_of, fields_of, call_fields};
-ghost use Rattle.edit_ops.specs.Forms.{written};
-ghost use Rattle.edit_ops.specs.Texts.{first_word, spaced, call_text, text_of};
+ghost use Rattle.edit_fields.specs.Forms.{written};
+ghost use Rattle.edit_ops.specs.Texts.{first_word, call_text, text_of};
+ghost use Rattle.edit_fields.specs.Spaced.{spaced};
 
 use crate::edit::{Call, Edit};
-use crate::field::{Field, Form, put_fields};
 use crate::op::Op;
 use crate::writing::put_op;
+use edit_fields::{Field, Form, put_fields};
 use qj_num::OutOfMemory;
 
 // Appends the words of a call, and a space; an `Err` changes nothing.

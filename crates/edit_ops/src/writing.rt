@@ -1,51 +1,18 @@
 //! The fields of an edit, written one after the other.
-ghost use Rattle.std.specs.Prelude.{◌≡◌, ◌++◌, map, length, IfOk, OnOk, OnErr};
+ghost use Rattle.std.specs.Prelude.{◌≡◌, ◌++◌, length, IfOk, OnOk, OnErr};
 ghost use Rattle.std.specs.List.{flat_map, AllByRecursion};
-ghost use Rattle.edit_ops.specs.Fields.{IsGood, field_bytes, path, Number_, Text_};
-ghost use Rattle.edit_ops.specs.Forms.{written};
+ghost use Rattle.edit_fields.specs.Fields.{IsGood, field_bytes};
+ghost use Rattle.edit_fields.specs.Forms.{written};
 ghost use Rattle.edit_ops.specs.Records.{record_of, fields_of, call_fields, opcode};
 
 use crate::edit::Edit;
-use crate::field::{Field, Form, put_field, put_fields};
-use crate::lists::{NameList, NumberList};
 use crate::op::Op;
+use edit_fields::{Field, Form, NameList, NumberList, put_fields, put_numbers, put_paths};
 use qj_num::{Bytes, Name, OutOfMemory};
 use std::alloc::Global;
 
 /// The room of most records.
 const ROOM: usize = 128;
-
-// Appends fields and the numbers after them; an `Err` changes nothing.
-fn put_numbers(out: &mut Vec<u8>, form: Form, numbers: &[u64]) -> Result<(), OutOfMemory>
-    requires { AllByRecursion IsGood (map Number_ numbers.now) }
-    ensures ok { OnOk result (out.new.items ≡ out.old.items ++ flat_map (written form) (map Number_ numbers.now)) }
-    ensures err { OnErr result (out.new.items ≡ out.old.items) }
-{
-    let before = out.len();
-    for number in numbers {
-        if let Err(error) = put_field(out, form, Field::Number(*number)) {
-            out.truncate(before);
-            return Err(error);
-        }
-    }
-    Ok(())
-}
-
-// Appends paths, one after the other; an `Err` changes nothing.
-fn put_paths(out: &mut Vec<u8>, form: Form, paths: &[Name]) -> Result<(), OutOfMemory>
-    requires { AllByRecursion IsGood (map (Text_ path) paths.now) }
-    ensures ok { OnOk result (out.new.items ≡ out.old.items ++ flat_map (written form) (map (Text_ path) paths.now)) }
-    ensures err { OnErr result (out.new.items ≡ out.old.items) }
-{
-    let before = out.len();
-    for path in paths {
-        if let Err(error) = put_field(out, form, Field::Path(path.as_slice())) {
-            out.truncate(before);
-            return Err(error);
-        }
-    }
-    Ok(())
-}
 
 // Appends the fields of the end of a file's writing; an `Err` changes nothing.
 fn put_close(

@@ -23,7 +23,7 @@ fn front_number(digest: &[u8; 16]) -> u64
 }
 
 // That one of the two files of an image isn't there.
-fn unpaired() -> Option<Finding>
+fn unpaired_image() -> Option<Finding>
     ensures { result ≡ Some (record { rule = Rule.Paired; first = 0; second = 0 }) }
 {
     Some(Finding {
@@ -39,7 +39,7 @@ fn judge_loaded(loaded: Loaded) -> Option<Finding>
 {
     match loaded {
         Loaded::Image { .. } => None,
-        Loaded::NoImage => unpaired(),
+        Loaded::NoImage => unpaired_image(),
         Loaded::DigestDiffers { stored, computed } => Some(Finding {
             rule: Rule::Digest,
             first: front_number(&stored),
@@ -83,6 +83,6 @@ pub fn check_digest<D: Disk>(disk: &mut D, txid: u64) -> Result<Option<Finding>,
     let names = ImageNames::new(txid);
     match disk.length(names.itself())? {
         Some(_) => Ok(None),
-        None => Ok(unpaired()),
+        None => Ok(unpaired_image()),
     }
 }

@@ -5,7 +5,7 @@ use Rattle.std.specs.Int.{Width, w16, w32, w64, byte_len, from_be_bytes, to_be_b
 use Rattle.std.proofs.lemmas.Bool.{cases_lt, leb-true, le-leb, and_parts}
 use Rattle.std.proofs.lemmas.List.{take_at, drop_at, take-append-drop, length-append, length-take, get_or-drop, get_or-take, get_or_past}
 use Rattle.std.proofs.lemmas.Nat.{be_bytes_2, be_bytes_4, be_bytes_8, from_be_bytes-to_be_bytes_2, from_be_bytes-to_be_bytes_4, from_be_bytes-to_be_bytes_8}
-use Rattle.ns_tree.specs.Path.{is_path, is_owner, is_letter, all_owner_bytes}
+use Rattle.ns_path.specs.Path.{is_path, is_owner, is_letter, all_owner_bytes}
 use Rattle.image_codec.specs.declared.image_cause.ImageCause.{ImageCause}
 use Rattle.image_codec.specs.declared.image_cause.ImageCause.TheVariants.{Short, Field}
 use Rattle.image_codec.specs.declared.fault.Fault.{Fault}

@@ -2,20 +2,20 @@
 use Rattle.std.proofs.Common.{◌≡◌, ℕ, ◌<◌, Bool, true, false, cond, List, [], ◌∷◌, ◌++◌, length, refl, sym, ap, subst, ◌∙◌, arith, Option, Some, None, ◌⊎◌, inl, inr, ◌==◌}
 use Rattle.std.specs.Prelude.{◌||◌}
 use Rattle.std.specs.declared.cmp.Ordering.TheVariants.{Less}
-use Rattle.std.proofs.lemmas.Bool.{and_parts}
+use Rattle.std.proofs.lemmas.Bool.{and_parts, or_right}
 use Rattle.std.proofs.lemmas.Bool.Decides.{nat_tests}
 use Rattle.ns_tree.specs.declared.inode.Inode.{Inode}
 use Rattle.ns_tree.specs.declared.inode.Row.{Row}
-use Rattle.ns_tree.specs.Path.{same_text, begins_with, stem, path_of_stem, is_under, is_path, is_root, has_slash, before_last_slash, parent_of, walk_cmp}
+use Rattle.ns_path.specs.Path.{same_text, begins_with, stem, path_of_stem, is_under, is_path, is_root, has_slash, before_last_slash, parent_of, walk_cmp}
 use Rattle.ns_tree.specs.Space.{find, is_dir, is_dir_there, has_under, Each, IsInWalkOrder, IsInode, IsPair}
 use Rattle.ns_tree.specs.Places.{IsTree}
 use Rattle.ns_tree.specs.Last.{last_path, has_parent}
-use Rattle.ns_tree.proofs.Order.{same_text_is, same_text_self}
+use Rattle.ns_path.proofs.Order.{same_text_is, same_text_self}
 use Rattle.ns_tree.proofs.Finds.{or_in, find_append}
 use Rattle.ns_tree.proofs.Walks.{each_imp}
 use Rattle.ns_tree.proofs.Place.{find_gap}
-use Rattle.ns_tree.proofs.Pairs.{Below, below_root, slash_after, stem_same}
-use Rattle.ns_tree.proofs.Subtree.{under_between}
+use Rattle.ns_path.proofs.Parents.{Below, below_root, slash_after, stem_same}
+use Rattle.ns_path.proofs.Under.{under_between}
 use Rattle.ns_tree.proofs.Ancestors.{no_dir_empty}
 use Rattle.ns_tree.proofs.Last.{some_rows, gap_at_end}
 use Rattle.image_codec.specs.Rows.{MayStand, EndsAt, is_above_last}
@@ -85,14 +85,10 @@ up_to_last [] h = tt
 up_to_last (x ∷ []) h = (inr refl, tt)
 up_to_last (x ∷ y ∷ xs) h = (inl (last_each (λ q. walk_cmp x.path q ≡ Less) (y ∷ xs) (omega arith) h.0), up_to_last (y ∷ xs) h.1)
 
-or_second : (x y : Bool) → y ≡ true → (x || y) ≡ true
-or_second true y e = refl
-or_second false y e = e
-
 last_under : (q : List ℕ) (xs : List Row) → 0 < length xs → is_under q (last_path xs) ≡ true → has_under q xs ≡ true
 last_under q [] some h = absurd (omega (arith, some))
 last_under q (x ∷ []) some h = ap (λ (z : Bool). z || false) h
-last_under q (x ∷ y ∷ xs) some h = or_second (is_under q x.path) (has_under q (y ∷ xs)) (last_under q (y ∷ xs) (omega arith) h)
+last_under q (x ∷ y ∷ xs) some h = or_right (is_under q x.path) (has_under q (y ∷ xs)) (last_under q (y ∷ xs) (omega arith) h)
 
 last_snoc : (xs : List Row) (x : Row) → last_path (xs ++ x ∷ []) ≡ x.path
 last_snoc [] x = refl

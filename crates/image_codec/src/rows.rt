@@ -1,7 +1,7 @@
 //! Rows from bytes, one after the other, each by the one before it.
 ghost use Rattle.std.specs.Prelude.{◌≡◌, ◌+◌, ◌∷◌, [], ◌≤◌, true, List, length, IfOk};
 ghost use Rattle.ns_tree.specs.declared.inode.Row.{Row};
-ghost use Rattle.ns_tree.specs.Path.{is_path};
+ghost use Rattle.ns_path.specs.Path.{is_path};
 ghost use Rattle.ns_tree.specs.Space.{IsInode, is_dir};
 ghost use Rattle.image_codec.specs.Reading.{Gives, root_at, row_at, repeated, tree_at};
 ghost use Rattle.image_codec.specs.Rows.{EndsAt, HasTaken, IsNext, GivesSome, is_above_last, path_after, row_after};
@@ -11,7 +11,8 @@ use crate::fields::{byte_of, path_of, word_of};
 use crate::image_cause::ImageCause;
 use crate::inodes::{dir_of, inode_of};
 use crate::sink::RowSink;
-use ns_tree::{Inode, Namespace, Row, is_root_path, lies_under, parent, walk_order};
+use ns_path::{is_root_path, lies_under, parent, walk_order};
+use ns_tree::{Inode, Namespace, Row};
 use qj_num::Name;
 use std::alloc::Global;
 

@@ -59,7 +59,7 @@ fn txids_in(alloc: Global, names: &[String]) -> Result<Vec<u64>, AllocError>
 }
 
 /// The txids of the images that count, in order and each once.
-pub fn counting<D: Disk>(alloc: Global, disk: &mut D) -> Result<Vec<u64>, DiskFail>
+pub fn find_images<D: Disk>(alloc: Global, disk: &mut D) -> Result<Vec<u64>, DiskFail>
     ensures call { IsDiskRun D.DiskModel disk.old disk.new result }
     ensures images { D.tells disk.old
         → IfOk result (λ txids. ListsImages txids.items (D.view disk.old).seen) }

@@ -5,7 +5,7 @@ ghost use Rattle.qj_disk.specs.DiskCalls.{IfTold, IsDiskRun};
 ghost use Rattle.image_store.specs.Lists.{AllSmall, second_newest};
 ghost use Rattle.image_store.specs.Answers.{newest_result, kept_result, IsNewest, IsKeptFrom, IsNewestIn, IsKeptIn};
 
-use crate::counting::counting;
+use crate::counting::find_images;
 use crate::kept_answer::MinToKeep;
 use crate::newest_answer::Newest;
 use qj_disk::{Disk, DiskFail};
@@ -27,7 +27,7 @@ pub fn newest<D: Disk>(alloc: Global, disk: &mut D) -> Newest
     ensures newest { D.tells disk.old → IsNewest (D.view disk.old).seen result }
     ensures disk { IfTold D.DiskModel disk.old disk.new Rests }
 {
-    match counting(alloc, disk) {
+    match find_images(alloc, disk) {
         Ok(txids) => newest_in(&txids),
         Err(DiskFail::Failed) => Newest::DiskFault,
         Err(DiskFail::OutOfMemory) => Newest::OutOfMemory,
@@ -66,7 +66,7 @@ pub fn min_to_keep<D: Disk>(alloc: Global, disk: &mut D, extra: u64) -> MinToKee
     ensures kept { D.tells disk.old → IsKeptFrom (D.view disk.old).seen extra result }
     ensures disk { IfTold D.DiskModel disk.old disk.new Rests }
 {
-    match counting(alloc, disk) {
+    match find_images(alloc, disk) {
         Ok(txids) => kept_in(&txids, extra),
         Err(DiskFail::Failed) => MinToKeep::DiskFault,
         Err(DiskFail::OutOfMemory) => MinToKeep::OutOfMemory,

@@ -6,7 +6,7 @@ ghost use Rattle.image_store.specs.Lists.{AllSmall, older_than};
 ghost use Rattle.image_store.specs.Saves.{Removes, Thins, IsRemoved, AreRemoved, Retains};
 
 use crate::clearing::clear;
-use crate::counting::counting;
+use crate::counting::find_images;
 use crate::image_names::ImageNames;
 use qj_disk::{Disk, DiskFail};
 use std::alloc::Global;
@@ -63,6 +63,6 @@ pub fn retain<D: Disk>(alloc: Global, disk: &mut D, count: u64) -> Result<(), Di
     ensures call { IsDiskRun D.DiskModel disk.old disk.new result }
     ensures retains { IfTold D.DiskModel disk.old disk.new (Retains count result) }
 {
-    let txids = counting(alloc, disk)?;
+    let txids = find_images(alloc, disk)?;
     remove_all(disk, older(&txids, count))
 }

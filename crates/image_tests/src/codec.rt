@@ -1,12 +1,14 @@
 //! The bytes of known images, what is read from them, and each fault at its place.
 ghost use Rattle.std.specs.Prelude.{◌≡◌, ◌∷◌, [], true, IfOk, OnOk};
 ghost use Rattle.ns_tree.specs.Space.{IsInode, find, is_dir_there};
-ghost use Rattle.ns_tree.specs.Path.{is_owner};
+ghost use Rattle.ns_path.specs.Path.{is_owner};
 
 use crate::rows::is_so;
-use edit_ops::{Call, NumberList};
+use edit_fields::NumberList;
+use edit_ops::Call;
 use image_codec::{ImageCause, ReadImage, image_of, read_image};
-use ns_tree::{Inode, Namespace, is_good_owner, is_good_path, parent};
+use ns_path::{is_good_owner, is_good_path, parent};
+use ns_tree::{Inode, Namespace};
 use qj_num::{Name, OutOfMemory};
 use std::alloc::{AllocError, Global};
 use std::process::Abort;

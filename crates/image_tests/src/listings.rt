@@ -7,10 +7,10 @@ use crate::codec::{
     owner, put, tree,
 };
 use crate::rows::is_so;
-use edit_ops::NumberList;
+use edit_fields::NumberList;
 use image_codec::{ImageCause, image_of};
 use ns_tree::{Inode, Namespace};
-use oiv_tool::{ByteCause, Listing, delimited, json, sizes};
+use oiv_tool::{ByteCause, Listing, json, list_delimited, sizes};
 use qj_num::OutOfMemory;
 use std::alloc::Global;
 use std::process::Abort;
@@ -58,7 +58,7 @@ fn is_refused(listing: &Listing, at: usize, of: ByteCause) -> bool {
 
 fn listing_of(alloc: Global, tool: Tool, bytes: &[u8]) -> Listing {
     match tool {
-        Tool::Delimited => delimited(alloc, bytes),
+        Tool::Delimited => list_delimited(alloc, bytes),
         Tool::Sizes => sizes(alloc, bytes),
         Tool::Json => json(alloc, bytes),
     }

@@ -5,7 +5,7 @@ use Rattle.std.proofs.lemmas.Bool.{cond_both, cases_Bool, cases_eq, eqb-true, le
 use Rattle.std.proofs.lemmas.List.{take_all}
 use Rattle.journal_core.specs.Effects.{Effect, Promise, WriterEpoch, Commit, NewSegment, Append, Replace, MakeFinal, Remove, segments_after, appended, finalized}
 use Rattle.journal_core.specs.Limits.{head_of}
-use Rattle.journal_core.specs.Segments.{find_segment, put_segment, remove_segment, newest, has_edit, end_of, AreRising, AreAbove}
+use Rattle.journal_core.specs.Segments.{find_segment, put_segment, remove_segment, newest, has_edit, end_of, AreRising, AreAbove, IsNotFinal}
 use Rattle.journal_core.specs.Step.{node_step, effects_of, refused_at_once, row_refused, row_effects, start_refused, journal_refused, open_refused, finalize_refused, bodies_in, is_one, is_final_one, may_go, last_or_start, front_effects, fronted, front_opened, closes_segment}
 use Rattle.journal_core.specs.Views.{HeadView, BatchView}
 use Rattle.journal_core.specs.declared.node_state.NodeState.{NodeState}
@@ -22,10 +22,6 @@ abbrev pub NoEdit : Option Segment → Type 0
 NoEdit None = Unit {0}
 NoEdit (Some g) = has_edit g ≡ false
 
-abbrev pub NotFinal : Option Segment → Type 0
-NotFinal None = Unit {0}
-NotFinal (Some g) = g.is_final ≡ false
-
 pub data Change (s : NodeState) (r : Request) (m : ℕ) : Option Segment → Option Segment → Type 0 where
   same : {o : Option Segment} → Change s r m o o
   created : {o : Option Segment} (h : HeadView) → r ≡ Start h m → NoEdit o →
@@ -34,7 +30,7 @@ pub data Change (s : NodeState) (r : Request) (m : ℕ) : Option Segment → Opt
       Change s r m (Some g) (Some (record g { bodies = g.bodies ++ b.bodies }))
   made_final : {g : Segment} (h : HeadView) (l : ℕ) → r ≡ Finalize h m l → has_edit g ≡ true → g.is_final ≡ false → g.epoch ≡ h.epoch → end_of g ≡ l →
       Change s r m (Some g) (Some (record g { is_final = true; accepted = false }))
-  replaced : {o : Option Segment} (h : HeadView) (b : BatchView) → r ≡ Accept h b → b.first ≡ m → NotFinal o →
+  replaced : {o : Option Segment} (h : HeadView) (b : BatchView) → r ≡ Accept h b → b.first ≡ m → IsNotFinal o →
       Change s r m o (Some (record { start = b.first; epoch = h.epoch; bodies = b.bodies; is_final = false; accepted = true }))
   removed : {g : Segment} (h : HeadView) (l : ℕ) → r ≡ Purge h l → (has_edit g ≡ true → newest s.segments ≡ Some m → ⊥) → last_or_start g ≤ h.committed →
       is_one m (fronted s r).opened ≡ false → Change s r m (Some g) None
@@ -147,7 +143,7 @@ seal_change s h m k l (Some g) is e f =
     (subst (λ o. Change s (Finalize h k l) k o (Some (record g { is_final = true; accepted = false }))) (sym is)
     (made_final h l refl p.edit f (p.header f) p.end_is)))
 
-not_final_of : (o : Option Segment) → is_final_one o ≡ false → NotFinal o
+pub not_final_of : (o : Option Segment) → is_final_one o ≡ false → IsNotFinal o
 not_final_of None e = tt
 not_final_of (Some g) e = e
 

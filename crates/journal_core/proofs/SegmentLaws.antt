@@ -8,7 +8,7 @@ use Rattle.journal_core.specs.declared.request.Request.TheVariants.{State, NewEp
 use Rattle.journal_core.specs.declared.segment.Segment.{Segment}
 use Rattle.journal_core.specs.Views.{HeadView}
 use Rattle.journal_core.specs.Limits.{head_of}
-use Rattle.journal_core.specs.Segments.{find_segment, has_edit, any_body, newest}
+use Rattle.journal_core.specs.Segments.{find_segment, has_edit, any_body, newest, IsNotFinal}
 use Rattle.journal_core.specs.Effects.{after_effects}
 use Rattle.journal_core.specs.Step.{node_step, refused_at_once, effects_of, front_effects, fronted, front_promised, row_effects, row_then, crashed, stopped, fresh_state}
 use Rattle.journal_core.specs.Laws.{Event, Asked, Stopped, Killed, Restarted, after_event, IsStored, OpenIsLed, IsSound, SoundStays, OpenSegmentIsLed, PromiseNeverFalls, epoch_of, AnsweredIsPromised, IsPurge, FinalStays, HeaderNeverFalls, HasEdit, NewestNeverFalls, RefusedAfterLeavesFront, IsQuestion, QuestionsAreIdle}
@@ -16,7 +16,7 @@ use Rattle.journal_core.proofs.SegmentLists.{newest-above, newest-found}
 use Rattle.journal_core.proofs.Steps.{Acted, at_once, by_row, done, acted, append_nil, front_le, none≢some, segments_all, segments-after}
 use Rattle.journal_core.proofs.KeptLaws.{rows_kept, stop_from_front, event_kept, all_events}
 use Rattle.journal_core.proofs.Stored.{any_body_append, stored_kept, stored_fresh, promise_kept}
-use Rattle.journal_core.proofs.Changes.{Change, same, created, grown, made_final, replaced, removed, NoEdit, NotFinal, change_stopped, change_answered}
+use Rattle.journal_core.proofs.Changes.{Change, same, created, grown, made_final, replaced, removed, NoEdit, change_stopped, change_answered}
 use Rattle.journal_core.proofs.Opened.{open_acted, IsProposal, promise_done}
 use Rattle.journal_core.proofs.StopLaws.{take_nil}
 
@@ -115,7 +115,7 @@ not_empty : {P : Type 0} (o : Option Segment) (g : Segment) → o ≡ Some g →
 not_empty None g is edit n = none≢some g is
 not_empty (Some x) g is edit n = true≢false (sym edit ∙ (ap has_edit (sym (one_of x g is)) ∙ n))
 
-not_final : {P : Type 0} (o : Option Segment) (g : Segment) → o ≡ Some g → g.is_final ≡ true → NotFinal o → P
+not_final : {P : Type 0} (o : Option Segment) (g : Segment) → o ≡ Some g → g.is_final ≡ true → IsNotFinal o → P
 not_final None g is f n = none≢some g is
 not_final (Some x) g is f n = not_open x g is f n
 

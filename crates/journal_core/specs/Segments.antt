@@ -28,6 +28,11 @@ unfoldable pub find_segment : ℕ → List Segment → Option Segment
 find_segment start [] = None
 find_segment start (g ∷ gs) = if g.start == start then Some g else find_segment start gs
 
+-- none stands there, or one in progress
+abbrev pub IsNotFinal : Option Segment → Type 0
+IsNotFinal None = Unit {0}
+IsNotFinal (Some g) = g.is_final ≡ false
+
 -- with this segment, in place of the one with its start
 unfoldable pub put_segment : Segment → List Segment → List Segment
 put_segment new [] = new ∷ []

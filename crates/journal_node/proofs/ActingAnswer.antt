@@ -33,12 +33,12 @@ use Rattle.node_files.specs.declared.node_number.NodeNumber.TheVariants.{Promise
 use Rattle.small_files.specs.Records.{IsNumber}
 use Rattle.journal_core.specs.Effects.{Effect}
 use Rattle.journal_core.specs.Step.{effects_unless}
-use Rattle.node_deeds.specs.Told.{Tells, state_with}
+use Rattle.node_effects.specs.Told.{Tells, state_with}
 use Rattle.journal_node.specs.FileState.{without_segments}
 use Rattle.journal_node.specs.Held.{StandsStopped}
 use Rattle.journal_node.specs.Node.{IsUp, IsDown, HasState, IsNode, IsNoFault, IsCaused, IsStoppedIn, foretold, settled, state_behind}
 use Rattle.journal_node.proofs.DoingRows.{tells_covers}
-use Rattle.journal_node.proofs.DoingDeed.{stands_now}
+use Rattle.journal_node.proofs.DoingEffect.{stands_now}
 use Rattle.journal_node.proofs.ActingFront.{step_done}
 use Rattle.journal_node.proofs.ActingDone.{fronted_apart, has_up, has_down}
 
@@ -204,16 +204,17 @@ pub front_same : (m s front : NodeState) (r : Request) → m ≡ without_segment
 front_same m s front r memory front_is =
     ap (λ (x : NodeState). state_with x s.segments) front_is ∙ ap (λ (x : NodeState). state_with (fronted x r) s.segments) memory ∙ fronted_apart s r s.segments
 
-pub foretold_by : (m : NodeState) (s : NodeState) (r : Request) (front : NodeState) (refusal : Option Refusal) (reply : Reply) → m ≡ without_segments s → front ≡ state_with (fronted m r) [] → refusal ≡ row_refused (state_with front s.segments) r
+pub foretold_by : (m : NodeState) (s : NodeState) (r : Request) (front : NodeState) (refusal : Option Refusal) (reply : Reply) → m ≡ without_segments s → front ≡ state_with (fronted m r) [] → refusal ≡ row_refused (state_with (fronted m r) s.segments) r
     → reply ≡ foretold refusal (state_with front s.segments) r → reply ≡ foretold (row_refused (fronted s r) r) (fronted s r) r
 foretold_by m s r front refusal reply memory front_is refused is =
     let same : state_with front s.segments ≡ fronted s r = front_same m s front r memory front_is in
-    is ∙ ap (λ (o : Option Refusal). foretold o (state_with front s.segments) r) refused ∙ ap (λ (x : NodeState). foretold (row_refused x r) x r) same
+    is ∙ ap (λ (o : Option Refusal). foretold o (state_with front s.segments) r) (refused ∙ sym (ap (λ (x : NodeState). row_refused (state_with x s.segments) r) front_is))
+    ∙ ap (λ (x : NodeState). foretold (row_refused x r) x r) same
 
 -- a refusal by memory after the front
-pub refused_by : (m front : NodeState) (r : Request) (rows : List SegmentRow) (refusal : Option Refusal) → front ≡ state_with (fronted m r) [] → ((gs : List Segment) → Tells gs rows → refusal ≡ row_refused (state_with front gs) r)
-    → (gs : List Segment) → Tells gs rows → refusal ≡ row_refused (state_with (fronted m r) gs) r
-refused_by m front r rows refusal is refused gs tells = refused gs tells ∙ ap (λ (x : NodeState). row_refused (state_with x gs) r) is
+pub refused_by : (m front : NodeState) (r : Request) (rows : List SegmentRow) (refusal : Option Refusal) → front ≡ state_with (fronted m r) [] → ((gs : List Segment) → Tells gs rows → refusal ≡ row_refused (state_with (fronted m r) gs) r)
+    → (gs : List Segment) → Tells gs rows → refusal ≡ row_refused (state_with front gs) r
+refused_by m front r rows refusal is refused gs tells = refused gs tells ∙ sym (ap (λ (x : NodeState). row_refused (state_with x gs) r) is)
 
 pub stopped_answer : (v : View) (m : NodeState) (rows : List SegmentRow) (s : NodeState) (r : Request) (reply : Reply) → m.up ≡ false → ((keep : ℕ) → IsAnswer s r reply (stopped s r keep)) → IsStoppedIn v m rows s r
     → (t : NodeState) × HasState m.up v m rows t × IsAnswer s r reply t

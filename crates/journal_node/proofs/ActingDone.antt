@@ -1,4 +1,4 @@
--- The deeds of a request, done at a node that is up.
+-- The effects of a request, done at a node that is up.
 use Rattle.std.proofs.Common.{ℕ, ◌≡◌, ◌↔◌, ◌≤◌, ◌++◌, ◌==◌, Bool, true, false, cond, List, [], take, Option, Some, None, refl, sym, ap, subst, ◌∙◌, arith}
 use Rattle.qj_disk.specs.Files.{Files}
 use Rattle.qj_disk.specs.View.{View, LeavesOnly}
@@ -18,18 +18,18 @@ use Rattle.segment_file.specs.Rows.{RowsRise}
 use Rattle.segment_file.specs.declared.segment_row.SegmentRow.{SegmentRow}
 use Rattle.node_files.specs.declared.node_number.NodeNumber.TheVariants.{Promised, Writer, Committed}
 use Rattle.node_files.specs.Durable.{HaveNumbers, HoldsState}
-use Rattle.node_deeds.specs.Told.{Tells, state_with}
+use Rattle.node_effects.specs.Told.{Tells, state_with}
 use Rattle.journal_node.specs.FileState.{without_segments}
-use Rattle.node_deeds.specs.Due.{AreDue}
+use Rattle.node_effects.specs.Due.{AreDue}
 use Rattle.journal_node.specs.Held.{IsHeld, OpenedAt, StandsStopped}
 use Rattle.journal_node.specs.Done.{effects_by, CanDoAll, EndOpen, AppendWithin, append_start, LeftStopped}
 use Rattle.node_files.specs.Durable.{AreFilled}
 use Rattle.journal_node.proofs.Filled.{stopped_filled}
 use Rattle.journal_node.specs.Node.{BringsEdits, IsUp, IsDown, HasState, IsNode, IsStoppedIn, settled, state_behind}
-use Rattle.node_deeds.specs.declared.deed.Deed.{Deed}
+use Rattle.request_decision.specs.declared.durable_effect.DurableEffect.{DurableEffect}
 use Rattle.request_decision.proofs.LimitLaws.{head_fits}
-use Rattle.node_deeds.proofs.DueLaws.{known_fits}
-use Rattle.journal_node.proofs.DoneAppends.{AllFit, deeds_fit, front_fits, appends_within}
+use Rattle.node_effects.proofs.DueLaws.{known_fits}
+use Rattle.journal_node.proofs.DoneAppends.{AllFit, effects_fit, front_fits, appends_within}
 use Rattle.journal_node.proofs.DoneLaws.{SameRest, rest_noted}
 use Rattle.journal_node.proofs.ActingFront.{effects_are, ends_open}
 
@@ -65,12 +65,12 @@ journal_appends s h start b none = by (row_refused (fronted s (Journal h start b
     by None row = to_open start refl (was_open s (Journal h start b) h start (opened_is (front_opened s (Journal h start b) (Some h)) start b.first _ (test_passed _ _ _ row)))
     by (Some refusal) row = to_none (subst (λ (es : List Effect). AllFit None es) (sym (effects_are s (Journal h start b) none ∙ ap (λ (o : Option Refusal). front_effects s (Some h) ++ effects_after (fronted s (Journal h start b)) (Journal h start b) o) row)) (front_fits None s (Some h) [] tt))
 
-module _ (v : View) (m : NodeState) (rows : List SegmentRow) (s : NodeState) (r : Request) (ds : List Deed) (up : IsUp v m rows s) (due : AreDue s.segments rows r ds) (are : effects_by r ds ≡ effects_of s r) where
+module _ (v : View) (m : NodeState) (rows : List SegmentRow) (s : NodeState) (r : Request) (ds : List DurableEffect) (up : IsUp v m rows s) (due : AreDue s.segments rows r ds) (are : effects_by r ds ≡ effects_of s r) where
   can_none : append_start r ≡ None → CanDoAll v m rows s r ds
   can_none nowhere = record { held = up.held; due = due; open_ = None; is_open = tt; within = subst (λ (o : Option ℕ). AppendWithin o ds) nowhere (appends_within s r ds are) }
 
   can_by : Appends s r → CanDoAll v m rows s r ds
-  can_by (to_none fit) = record { held = up.held; due = due; open_ = None; is_open = tt; within = deeds_fit r None ds (subst (λ (es : List Effect). AllFit None es) (sym are) fit) }
+  can_by (to_none fit) = record { held = up.held; due = due; open_ = None; is_open = tt; within = effects_fit r None ds (subst (λ (es : List Effect). AllFit None es) (sym are) fit) }
   can_by (to_open start to opened) = record {
     held = up.held;
     due = due;
@@ -79,7 +79,7 @@ module _ (v : View) (m : NodeState) (rows : List SegmentRow) (s : NodeState) (r 
     within = subst (λ (o : Option ℕ). AppendWithin o ds) to (appends_within s r ds are);
   }
 
-pub can_all : (v : View) (m : NodeState) (rows : List SegmentRow) (s : NodeState) (r : Request) (ds : List Deed) → IsUp v m rows s → AreDue s.segments rows r ds → effects_by r ds ≡ effects_of s r → refused_at_once s r ≡ None → CanDoAll v m rows s r ds
+pub can_all : (v : View) (m : NodeState) (rows : List SegmentRow) (s : NodeState) (r : Request) (ds : List DurableEffect) → IsUp v m rows s → AreDue s.segments rows r ds → effects_by r ds ≡ effects_of s r → refused_at_once s r ≡ None → CanDoAll v m rows s r ds
 can_all v m rows s State ds up due are none = can_none v m rows s State ds up due are refl
 can_all v m rows s (NewEpoch epoch) ds up due are none = can_none v m rows s (NewEpoch epoch) ds up due are refl
 can_all v m rows s (Start h start) ds up due are none = can_none v m rows s (Start h start) ds up due are refl
@@ -143,8 +143,8 @@ pub settled_segments : (o : Option Refusal) (x front : NodeState) (r : Request) 
 settled_segments None x front r = refl
 settled_segments (Some refusal) x front r = refl
 
--- ## After the deeds
-pub up_behind : (v0 v1 : View) (m0 m1 m2 front : NodeState) (rows0 rows1 : List SegmentRow) (s : NodeState) (r : Request) (ds : List Deed) (refusal : Option Refusal) → IsUp v0 m0 rows0 s → refused_at_once s r ≡ None
+-- ## After the effects
+pub up_behind : (v0 v1 : View) (m0 m1 m2 front : NodeState) (rows0 rows1 : List SegmentRow) (s : NodeState) (r : Request) (ds : List DurableEffect) (refusal : Option Refusal) → IsUp v0 m0 rows0 s → refused_at_once s r ≡ None
     → effects_by r ds ≡ effects_of s r → refusal ≡ row_refused (state_with (fronted m0 r) s.segments) r → front ≡ state_with (fronted m0 r) [] → m2 ≡ settled refusal m1 front r
     → IsHeld v1 m1 rows1 (after_effects s (effects_by r ds))
     → ((o : Option ℕ) → EndOpen (OpenedAt v0 s.segments rows0 o) o ds → OpenedAt v1 (after_effects s (effects_by r ds)).segments rows1 o)
@@ -164,7 +164,7 @@ up_behind v0 v1 m0 m1 m2 front rows0 rows1 s r ds refusal up none are refused fr
           (opens (state_behind s r).opened (ends_open s r ds (OpenedAt v0 s.segments rows0) none are tt up.opened));
     }
 
-pub stopped_in : (v : View) (m0 m : NodeState) (rows : List SegmentRow) (s : NodeState) (r : Request) (ds : List Deed) → BringsEdits r → AreFilled s.segments → effects_by r ds ≡ effects_of s r → m ≡ crashed m0 → RowsRise rows → LeftStopped v.seen rows s (effects_by r ds)
+pub stopped_in : (v : View) (m0 m : NodeState) (rows : List SegmentRow) (s : NodeState) (r : Request) (ds : List DurableEffect) → BringsEdits r → AreFilled s.segments → effects_by r ds ≡ effects_of s r → m ≡ crashed m0 → RowsRise rows → LeftStopped v.seen rows s (effects_by r ds)
     → IsStoppedIn v m rows s r
 stopped_in v m0 m rows s r ds brings filled are is rise left = record {
   keep = left.count;
@@ -179,7 +179,7 @@ stopped_in v m0 m rows s r ds brings filled are is rise left = record {
   };
 }
 
-pub stopped_moments : (v0 v1 : View) (s : NodeState) (r : Request) (ds : List Deed) → effects_by r ds ≡ effects_of s r → LeavesOnly v0 v1 (StandsStopped s (effects_by r ds)) → LeavesOnly v0 v1 (StandsStopped s (effects_of s r))
+pub stopped_moments : (v0 v1 : View) (s : NodeState) (r : Request) (ds : List DurableEffect) → effects_by r ds ≡ effects_of s r → LeavesOnly v0 v1 (StandsStopped s (effects_by r ds)) → LeavesOnly v0 v1 (StandsStopped s (effects_of s r))
 stopped_moments v0 v1 s r ds are leaves = subst (λ (es : List Effect). LeavesOnly v0 v1 (StandsStopped s es)) are leaves
 
 -- ## A node of any disk
@@ -256,7 +256,7 @@ once_same false v m rows s r is down = once_down m r is ∙ sym (once_down s r (
 pub once_up : (v : View) (m : NodeState) (rows : List SegmentRow) (s : NodeState) (r : Request) → IsUp v m rows s → refused_at_once m r ≡ refused_at_once s r
 once_up v m rows s r up = ap (λ (x : NodeState). refused_at_once x r) up.held.memory ∙ once_apart s r
 
-module _ (v : View) (m : NodeState) (rows : List SegmentRow) (s : NodeState) (r : Request) (ds : List Deed) (up : IsUp v m rows s) (none : refused_at_once m r ≡ None)
+module _ (v : View) (m : NodeState) (rows : List SegmentRow) (s : NodeState) (r : Request) (ds : List DurableEffect) (up : IsUp v m rows s) (none : refused_at_once m r ≡ None)
     (effects : (gs : List Segment) → Tells gs rows → effects_by r ds ≡ effects_of (state_with m gs) r) (due : (gs : List Segment) → Tells gs rows → AreDue gs rows r ds) where
   pub once_of : refused_at_once s r ≡ None
   once_of = sym (ap (λ (x : NodeState). refused_at_once x r) up.held.memory ∙ once_apart s r) ∙ none

@@ -1,10 +1,7 @@
--- What follows the deeds of a request, and which segment is open after it.
+-- What follows the effects of a request, and which segment is open after it.
 use Rattle.std.proofs.Common.{inl, inr, ℕ, ◌≡◌, ◌≢◌, ◌⊎◌, ◌≤◌, ◌<◌, ◌++◌, ◌==◌, ◌&&◌, ◌||◌, Bool, true, false, not, max, nat_lt, cond, List, [], ◌∷◌, map, filter, Option, Some, None, refl, sym, ap, subst, ◌∙◌, arith}
 use Rattle.std.proofs.lemmas.Bool.Decides.{nat_tests}
 use Rattle.std.proofs.lemmas.Option.{same_Some}
-use Rattle.node_files.specs.declared.node_number.NodeNumber.{NodeNumber}
-use Rattle.node_files.specs.declared.node_number.NodeNumber.TheVariants.{Promised, Writer, Committed}
-use Rattle.node_files.specs.Deeds.{number_effect}
 use Rattle.journal_core.specs.Views.{HeadView}
 use Rattle.journal_core.specs.declared.segment.Segment.{Segment}
 use Rattle.journal_core.specs.declared.node_state.NodeState.{NodeState}
@@ -17,12 +14,12 @@ use Rattle.journal_core.specs.Step.{Stepped, node_step, refused_at_once, row_ref
 use Rattle.journal_core.specs.Segments.{find_segment}
 use Rattle.journal_core.proofs.NodeLaws.{after-append}
 use Rattle.journal_node.specs.Node.{carried, settled, state_behind, foretold}
-use Rattle.node_deeds.specs.Due.{effect_of}
+use Rattle.node_effects.specs.Due.{effect_of}
 use Rattle.journal_node.specs.Held.{Opens, Spares}
 use Rattle.journal_node.specs.Done.{effects_by, EndOpen}
-use Rattle.node_deeds.specs.declared.deed.Deed.{Deed}
-use Rattle.node_deeds.specs.declared.deed.Deed.TheVariants as deed
-use Rattle.node_deeds.proofs.StepLaws.{front_done, unless_none, step_deeds, refused_front}
+use Rattle.request_decision.specs.declared.durable_effect.DurableEffect.{DurableEffect}
+use Rattle.request_decision.specs.declared.durable_effect.DurableEffect.TheVariants as durable
+use Rattle.node_effects.proofs.StepLaws.{front_done, unless_none, step_in_parts, refused_front}
 
 -- ## The front's part in memory comes after the effects
 carried_kept : (es : List Effect) (a b : NodeState) → after_effects (carried a b) es ≡ carried (after_effects a es) b
@@ -69,7 +66,7 @@ pub step_done : (s : NodeState) (r : Request) → refused_at_once s r ≡ None �
 step_done s r none = by (row_refused (fronted s r) r) refl
   where
     by : (o : Option Refusal) → row_refused (fronted s r) r ≡ o → node_step s r ≡ record { state = settled o (after_effects s (effects_of s r)) (fronted s r) r; reply = foretold o (fronted s r) r }
-    by None row = step_deeds s r none row ∙ ap (λ (t : NodeState). let x : Stepped = record { state = row_then t r; reply = row_reply (fronted s r) r } in x) (front_after s r none)
+    by None row = step_in_parts s r none row ∙ ap (λ (t : NodeState). let x : Stepped = record { state = row_then t r; reply = row_reply (fronted s r) r } in x) (front_after s r none)
     by (Some refusal) row = refused_front s r refusal none row ∙ ap (λ (t : NodeState). let x : Stepped = record { state = t; reply = foretold (Some refusal) (fronted s r) r } in x) (front_after s r none)
 
 -- ## The open segment
@@ -98,36 +95,35 @@ EndsNew opened [] = ⊥
 EndsNew opened (e ∷ []) = IsNew opened e
 EndsNew opened (e ∷ f ∷ es) = EndsNew opened (f ∷ es)
 
-new_opens : (r : Request) (opened : ℕ) (d : Deed) → IsNew opened (effect_of r d) → Opens (Some opened) d
-new_opens r opened (deed.Number number value) is = absurd (number_not_new number value is)
-  where
-    number_not_new : (number : NodeNumber) (value : ℕ) → IsNew opened (number_effect number value) → ⊥
-    number_not_new Promised value is = is
-    number_not_new Writer value is = is
-    number_not_new Committed value is = is
-new_opens r opened (deed.Begin start epoch) is = is
-new_opens r opened (deed.Append start at) is = absurd is
-new_opens r opened (deed.Accept epoch again) is = absurd is
-new_opens r opened (deed.Finalize start end accepted) is = absurd is
-new_opens r opened (deed.Remove info) is = absurd is
+new_opens : (r : Request) (opened : ℕ) (d : DurableEffect) → IsNew opened (effect_of r d) → Opens (Some opened) d
+new_opens r opened (durable.Promise epoch) is = absurd is
+new_opens r opened (durable.WriterEpoch epoch) is = absurd is
+new_opens r opened (durable.Commit txid) is = absurd is
+new_opens r opened (durable.NewSegment start epoch) is = is
+new_opens r opened (durable.Append start at) is = absurd is
+new_opens r opened (durable.Replace epoch again) is = absurd is
+new_opens r opened (durable.MakeFinal start end accepted) is = absurd is
+new_opens r opened (durable.Remove info) is = absurd is
 
-spared : (r : Request) (opened : ℕ) (d : Deed) → SparesOne opened (effect_of r d) → Spares (Some opened) d
-spared r opened (deed.Number number value) is = tt
-spared r opened (deed.Begin start epoch) is = is
-spared r opened (deed.Append start at) is = tt
-spared r opened (deed.Accept epoch again) is = is
-spared r opened (deed.Finalize start end accepted) is = is
-spared r opened (deed.Remove info) is = is
+spared : (r : Request) (opened : ℕ) (d : DurableEffect) → SparesOne opened (effect_of r d) → Spares (Some opened) d
+spared r opened (durable.Promise epoch) is = tt
+spared r opened (durable.WriterEpoch epoch) is = tt
+spared r opened (durable.Commit txid) is = tt
+spared r opened (durable.NewSegment start epoch) is = is
+spared r opened (durable.Append start at) is = tt
+spared r opened (durable.Replace epoch again) is = is
+spared r opened (durable.MakeFinal start end accepted) is = is
+spared r opened (durable.Remove info) is = is
 
-none_open : (ds : List Deed) (now : Type 0) → now → EndOpen now None ds
+none_open : (ds : List DurableEffect) (now : Type 0) → now → EndOpen now None ds
 none_open [] now is = is
 none_open (d ∷ ds) now is = none_open ds (Opens None d ⊎ (Spares None d × now)) (inl tt)
 
-kept_open : (r : Request) (opened : ℕ) (ds : List Deed) (now : Type 0) → AllSpare opened (effects_by r ds) → now → EndOpen now (Some opened) ds
+kept_open : (r : Request) (opened : ℕ) (ds : List DurableEffect) (now : Type 0) → AllSpare opened (effects_by r ds) → now → EndOpen now (Some opened) ds
 kept_open r opened [] now spare is = is
 kept_open r opened (d ∷ ds) now spare is = kept_open r opened ds (Opens (Some opened) d ⊎ (Spares (Some opened) d × now)) spare.1 (inr (spared r opened d spare.0, is))
 
-new_open : (r : Request) (opened : ℕ) (ds : List Deed) (now : Type 0) → EndsNew opened (effects_by r ds) → EndOpen now (Some opened) ds
+new_open : (r : Request) (opened : ℕ) (ds : List DurableEffect) (now : Type 0) → EndsNew opened (effects_by r ds) → EndOpen now (Some opened) ds
 new_open r opened [] now ends = absurd ends
 new_open r opened (d ∷ []) now ends = inl (new_opens r opened d ends)
 new_open r opened (d ∷ e ∷ ds) now ends = new_open r opened (e ∷ ds) (Opens (Some opened) d ⊎ (Spares (Some opened) d × now)) ends
@@ -236,7 +232,7 @@ leads_all : (s : NodeState) (r : Request) → refused_at_once s r ≡ None → L
 leads_all s r none = subst (λ (es : List Effect). Leads s.opened (state_behind s r).opened es) (sym (effects_are s r none)) (leads_by s r (row_refused (fronted s r) r) (after_effects s (effects_of s r)))
 
 -- what was open is open, so what is to be open is open in the end
-pub ends_open : (s : NodeState) (r : Request) (ds : List Deed) (At : Option ℕ → Type 0) → refused_at_once s r ≡ None → effects_by r ds ≡ effects_of s r → At None → At s.opened → EndOpen (At (state_behind s r).opened) (state_behind s r).opened ds
+pub ends_open : (s : NodeState) (r : Request) (ds : List DurableEffect) (At : Option ℕ → Type 0) → refused_at_once s r ≡ None → effects_by r ds ≡ effects_of s r → At None → At s.opened → EndOpen (At (state_behind s r).opened) (state_behind s r).opened ds
 ends_open s r ds At none are nothing before = by s.opened (state_behind s r).opened before (subst (λ (es : List Effect). Leads s.opened (state_behind s r).opened es) (sym are) (leads_all s r none))
   where
     by : (was is : Option ℕ) → At was → Leads was is (effects_by r ds) → EndOpen (At is) is ds

@@ -13,8 +13,8 @@ use Rattle.journal_core.specs.Limits.{max_number}
 use Rattle.journal_core.specs.Segments.{find_segment, end_of, IsWithin, AreSound}
 use Rattle.std.specs.Prelude.{Result, Ok, Err, IfOk}
 use Rattle.qj_disk.specs.declared.disk.DiskFail.{DiskFail}
-use Rattle.node_deeds.specs.Told.{state_with}
-use Rattle.node_deeds.specs.Served.{IsServedBy, IsLineOf}
+use Rattle.node_effects.specs.Told.{state_with}
+use Rattle.node_effects.specs.Served.{IsServedBy, IsLineOf}
 use Rattle.journal_core.specs.Reads.{piece_of as fetched_piece}
 use Rattle.journal_core.specs.Reads.{served, serving, edits_from, answer_from, not_served, least_served}
 use Rattle.journal_core.specs.Answers.{Serves as NodeServes}
@@ -24,13 +24,13 @@ use Rattle.segment_file.specs.Stands.{HoldsEdits, Holds, IsFinalOf, IsProgressOf
 use Rattle.segment_file.specs.Effects.{IsReady, IsTidy}
 use Rattle.segment_file.specs.Reads.{Serves, IsGiven, piece_of}
 use Rattle.segment_file.specs.declared.given.Given.TheVariants as given
-use Rattle.node_deeds.specs.Told.{Tells, line_of}
+use Rattle.node_effects.specs.Told.{Tells, line_of}
 use Rattle.journal_node.specs.Decoded.{bodies_in}
 use Rattle.journal_node.proofs.Decodes.{segment_file_decoded}
 use Rattle.journal_node.proofs.DoingRows.{within_of}
 use Rattle.segment_file.specs.Rows.{find_row}
 use Rattle.segment_file.specs.declared.segment_row.SegmentRow.{SegmentRow}
-use Rattle.node_deeds.proofs.ToldLaws.{IsTold, found}
+use Rattle.node_effects.proofs.ToldLaws.{IsTold, found}
 
 from_one : (gs : List Segment) (rows : List SegmentRow) (start : ℕ) (g : Segment) → Tells gs rows → find_segment start gs ≡ Some g → 1 ≤ g.start
 from_one gs rows start g t known = by (find_row start rows) (subst (λ (o : Option Segment). IsTold o (find_row start rows)) known (found gs rows start t))

@@ -17,44 +17,44 @@ use Rattle.journal_core.specs.Step.{refused_at_once, effects_of, crashed, stoppe
 use Rattle.journal_core.specs.Stops.{Stops, Kills}
 use Rattle.segment_file.specs.Rows.{RowsRise}
 use Rattle.segment_file.specs.declared.segment_row.SegmentRow.{SegmentRow}
-use Rattle.node_deeds.specs.Told.{Tells}
-use Rattle.node_deeds.specs.Due.{effect_of, AreDue, rows_after}
+use Rattle.node_effects.specs.Told.{Tells}
+use Rattle.node_effects.specs.Due.{effect_of, AreDue, rows_after}
 use Rattle.journal_node.specs.Held.{IsHeld, StandsStopped}
 use Rattle.journal_node.specs.Done.{effects_by, CanDoAll, AppendWithin, LeftStopped}
 use Rattle.node_files.specs.Durable.{AreFilled, StandsAs}
 use Rattle.journal_node.proofs.Filled.{stopped_filled}
 use Rattle.journal_node.specs.Node.{BringsEdits, IsUp, IsDown, HasState, IsNode, IsStoppedIn}
-use Rattle.node_deeds.specs.declared.deed.Deed.{Deed}
+use Rattle.request_decision.specs.declared.durable_effect.DurableEffect.{DurableEffect}
 use Rattle.journal_node.proofs.DoingRows.{tells_covers}
-use Rattle.journal_node.proofs.DoingDeed.{stands_now}
+use Rattle.journal_node.proofs.DoingEffect.{stands_now}
 use Rattle.journal_node.proofs.ActingDone.{has_down, up_of, is_up}
 use Rattle.journal_node.proofs.ActingAnswer.{none_at_once}
 
--- ## The first deeds
-pub due_first : (n : ℕ) (gs : List Segment) (rows : List SegmentRow) (r : Request) (ds : List Deed) → AreDue gs rows r ds → AreDue gs rows r (take n ds)
+-- ## The first effects
+pub due_first : (n : ℕ) (gs : List Segment) (rows : List SegmentRow) (r : Request) (ds : List DurableEffect) → AreDue gs rows r ds → AreDue gs rows r (take n ds)
 due_first zero gs rows r [] due = tt
 due_first zero gs rows r (d ∷ ds) due = tt
 due_first (suc n) gs rows r [] due = tt
 due_first (suc n) gs rows r (d ∷ ds) due = (due.0, λ place. due_first n (segments_after gs (effect_of r d)) (rows_after r d place rows) r ds (due.1 place))
 
-within_first : (n : ℕ) (o : Option ℕ) (ds : List Deed) → AppendWithin o ds → AppendWithin o (take n ds)
+within_first : (n : ℕ) (o : Option ℕ) (ds : List DurableEffect) → AppendWithin o ds → AppendWithin o (take n ds)
 within_first zero o [] within = tt
 within_first zero o (d ∷ ds) within = tt
 within_first (suc n) o [] within = tt
 within_first (suc n) o (d ∷ ds) within = (within.0, within.1, within_first n o ds within.2)
 
-pub can_first : (v : View) (m : NodeState) (rows : List SegmentRow) (s : NodeState) (r : Request) (ds : List Deed) (n : ℕ) → CanDoAll v m rows s r ds → CanDoAll v m rows s r (take n ds)
+pub can_first : (v : View) (m : NodeState) (rows : List SegmentRow) (s : NodeState) (r : Request) (ds : List DurableEffect) (n : ℕ) → CanDoAll v m rows s r ds → CanDoAll v m rows s r (take n ds)
 can_first v m rows s r ds n can = record { held = can.held; due = due_first n s.segments rows r ds can.due; open_ = can.open_; is_open = can.is_open; within = within_first n can.open_ ds can.within }
 
-first_effects : (s : NodeState) (r : Request) (ds : List Deed) (n : ℕ) → effects_by r ds ≡ effects_of s r → effects_by r (take n ds) ≡ take n (effects_of s r)
+first_effects : (s : NodeState) (r : Request) (ds : List DurableEffect) (n : ℕ) → effects_by r ds ≡ effects_of s r → effects_by r (take n ds) ≡ take n (effects_of s r)
 first_effects s r ds n are = sym (take-map (effect_of r) n ds) ∙ ap (take n) are
 
 -- at every moment
-pub first_moments : (v0 v1 : View) (s : NodeState) (r : Request) (ds : List Deed) (n : ℕ) → effects_by r ds ≡ effects_of s r → LeavesOnly v0 v1 (StandsStopped s (effects_by r (take n ds))) → LeavesOnly v0 v1 (StandsStopped s (take n (effects_of s r)))
+pub first_moments : (v0 v1 : View) (s : NodeState) (r : Request) (ds : List DurableEffect) (n : ℕ) → effects_by r ds ≡ effects_of s r → LeavesOnly v0 v1 (StandsStopped s (effects_by r (take n ds))) → LeavesOnly v0 v1 (StandsStopped s (take n (effects_of s r)))
 first_moments v0 v1 s r ds n are leaves = subst (λ (es : List Effect). LeavesOnly v0 v1 (StandsStopped s es)) (first_effects s r ds n are) leaves
 
 -- ## The node goes down
-pub held_down : (v : View) (m0 m1 m : NodeState) (rows : List SegmentRow) (s : NodeState) (r : Request) (ds : List Deed) (n : ℕ) → v.may_leave v.seen → effects_by r ds ≡ effects_of s r → m ≡ crashed m1 → RowsRise rows
+pub held_down : (v : View) (m0 m1 m : NodeState) (rows : List SegmentRow) (s : NodeState) (r : Request) (ds : List DurableEffect) (n : ℕ) → v.may_leave v.seen → effects_by r ds ≡ effects_of s r → m ≡ crashed m1 → RowsRise rows
     → IsHeld v m0 rows (after_effects s (effects_by r (take n ds))) → IsDown v m rows (stopped s r n)
 held_down v m0 m1 m rows s r ds n now are is rise held = record {
   opened = ap (λ (x : NodeState). x.opened) is;
@@ -66,7 +66,7 @@ held_down v m0 m1 m rows s r ds n now are is rise held = record {
   state = sym (ap (λ (es : List Effect). crashed (after_effects s es)) (first_effects s r ds n are));
 }
 
-pub left_down : (v : View) (m1 m : NodeState) (rows : List SegmentRow) (s : NodeState) (r : Request) (ds : List Deed) (n : ℕ) → BringsEdits r → AreFilled s.segments → n ≤ length ds → effects_by r ds ≡ effects_of s r → m ≡ crashed m1 → RowsRise rows
+pub left_down : (v : View) (m1 m : NodeState) (rows : List SegmentRow) (s : NodeState) (r : Request) (ds : List DurableEffect) (n : ℕ) → BringsEdits r → AreFilled s.segments → n ≤ length ds → effects_by r ds ≡ effects_of s r → m ≡ crashed m1 → RowsRise rows
     → LeftStopped v.seen rows s (effects_by r (take n ds)) → IsStoppedIn v m rows s r
 left_down v m1 m rows s r ds n brings filled short are is rise left = record {
   keep = min left.count n;
@@ -111,13 +111,13 @@ all_taken zero n es is = let e : n ≡ 0 = omega (arith, is) in ap (λ (k : ℕ)
 all_taken (suc keep) n [] is = let e : n ≡ 0 = omega (arith, is) in ap (λ (k : ℕ). take k []) e
 all_taken (suc keep) n (e ∷ es) is = let k : n ≡ suc (min keep (length es)) = omega (arith, is) in ap (λ (j : ℕ). take j (e ∷ es)) k ∙ ap (λ (xs : List Effect). e ∷ xs) (all_taken keep (min keep (length es)) es refl)
 
-pub stops_done : (v : View) (m : NodeState) (rows : List SegmentRow) (s : NodeState) (r : Request) (ds : List Deed) (keep n : ℕ) → m.up ≡ false → effects_by r ds ≡ effects_of s r → n ≡ min keep (length ds) → IsDown v m rows (stopped s r n)
+pub stops_done : (v : View) (m : NodeState) (rows : List SegmentRow) (s : NodeState) (r : Request) (ds : List DurableEffect) (keep n : ℕ) → m.up ≡ false → effects_by r ds ≡ effects_of s r → n ≡ min keep (length ds) → IsDown v m rows (stopped s r n)
     → (t : NodeState) × HasState m.up v m rows t × Stops (Some s) r keep (Ok n) (Some t)
 stops_done v m rows s r ds keep n down are is stop =
     let count : n ≡ min keep (length (effects_of s r)) = is ∙ ap (min keep) (sym (length-map ds (effect_of r)) ∙ ap length are) in
     (stopped s r n, has_down v m rows (stopped s r n) down stop, record { count = count; state = ap (λ (es : List Effect). crashed (after_effects s es)) (all_taken keep n (effects_of s r) count) })
 
-pub kept_moments : (v0 v1 : View) (s : NodeState) (r : Request) (ds : List Deed) (keep n : ℕ) → effects_by r ds ≡ effects_of s r → n ≡ min keep (length ds) → LeavesOnly v0 v1 (StandsStopped s (take n (effects_of s r)))
+pub kept_moments : (v0 v1 : View) (s : NodeState) (r : Request) (ds : List DurableEffect) (keep n : ℕ) → effects_by r ds ≡ effects_of s r → n ≡ min keep (length ds) → LeavesOnly v0 v1 (StandsStopped s (take n (effects_of s r)))
     → LeavesOnly v0 v1 (StandsStopped s (take keep (effects_of s r)))
 kept_moments v0 v1 s r ds keep n are is leaves =
     let count : n ≡ min keep (length (effects_of s r)) = is ∙ ap (min keep) (sym (length-map ds (effect_of r)) ∙ ap length are) in

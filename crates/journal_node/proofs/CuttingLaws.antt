@@ -1,7 +1,7 @@
 -- A node is cut between two disk calls of a request.
-use Rattle.std.proofs.Common.{ℕ, ◌≡◌, ◌≢◌, ◌<◌, ◌≤◌, ◌+◌, ◌-◌, Bool, true, false, List, [], ◌∷◌, map, take, drop, get_or, length, Option, Some, None, suc, refl, sym, ap, subst, ◌∙◌, add-one, drop-cons, arith, lit≤}
+use Rattle.std.proofs.Common.{ℕ, ◌≡◌, ◌≢◌, ◌<◌, ◌≤◌, ◌+◌, ◌-◌, Bool, true, false, List, [], ◌∷◌, ◌++◌, map, take, get_or, length, Option, Some, None, suc, refl, sym, ap, subst, ◌∙◌, append_assoc, append-nil, arith, lit≤}
 use Rattle.std.specs.Prelude.{Result, Ok, Err, OnOk, OnErr}
-use Rattle.std.proofs.lemmas.List.{take_all, drop_all}
+use Rattle.std.proofs.lemmas.List.{take_all, take_more, map-append}
 use Rattle.qj_disk.specs.Files.{Files}
 use Rattle.qj_disk.specs.View.{View, AllLeave}
 use Rattle.qj_disk.specs.MemDisk.{disk_view, IsSameBut}
@@ -20,90 +20,71 @@ use Rattle.journal_core.specs.declared.request.Request.{Request}
 use Rattle.journal_core.specs.Effects.{Effect, Promise, WriterEpoch, Commit, NewSegment, Append, Replace, MakeFinal, Remove, segments_after, after_effects}
 use Rattle.journal_core.specs.Step.{refused_at_once, effects_of, crashed, stopped}
 use Rattle.journal_core.specs.Cuts.{Cost, number_cost, append_cost, accept_cost, name_cost, has_record, cost_of, standing, effects_standing, IsCut}
-use Rattle.journal_core.proofs.CutLaws.{cut_refused}
-use Rattle.journal_core.proofs.CutLaws.{standing_one, standing_stop}
+use Rattle.journal_core.proofs.CutLaws.{cut_refused, standing_one}
 use Rattle.journal_core.proofs.NodeLaws.{stop_nothing}
 use Rattle.segment_file.specs.Effects.{choice_of, IsCounted}
 use Rattle.segment_file.specs.Effects as effects
 use Rattle.segment_file.specs.Rows.{RowsRise}
 use Rattle.segment_file.specs.declared.segment_row.SegmentRow.{SegmentRow}
-use Rattle.node_files.specs.declared.node_number.NodeNumber.{NodeNumber}
-use Rattle.node_files.specs.declared.node_number.NodeNumber.TheVariants.{Promised, Writer, Committed}
-use Rattle.node_files.specs.Deeds.{number_effect}
 use Rattle.node_files.specs.Durable.{AreFilled}
-use Rattle.node_deeds.specs.Told.{Tells, state_with}
-use Rattle.node_deeds.specs.Due.{effect_of, IsDue, AreDue, rows_after}
-use Rattle.node_deeds.specs.declared.deed.Deed.{Deed}
-use Rattle.node_deeds.specs.declared.deed.Deed.TheVariants as deed
+use Rattle.node_effects.specs.Told.{Tells, state_with}
+use Rattle.node_effects.specs.Due.{effect_of, IsDue, AreDue, rows_after}
+use Rattle.request_decision.specs.declared.durable_effect.DurableEffect.{DurableEffect}
+use Rattle.request_decision.specs.declared.durable_effect.DurableEffect.TheVariants as durable
 use Rattle.journal_node.specs.Held.{IsHeld, IsLeft}
 use Rattle.journal_node.specs.Done.{effects_by, CanDoAll, KeepCosts, calls_of, IsCutAmong, LeftStopped}
 use Rattle.journal_node.specs.Node.{BringsEdits, IsUp, IsDown, HasState, IsNode, IsStoppedIn}
-use Rattle.journal_node.specs.Cutting.{deed_cost}
-use Rattle.journal_node.proofs.DoingDeed.{stands_now}
+use Rattle.request_decision.specs.declared.budget.Budget.{Budget}
+use Rattle.request_decision.specs.Budgets.{count_on, SpendsTo}
+use Rattle.request_decision.specs.Durable.{effect_cost}
+use Rattle.journal_node.proofs.DoingEffect.{stands_now}
 use Rattle.journal_node.proofs.DoingRows.{tells_covers}
 use Rattle.journal_node.proofs.DoneCosts.{costs_kept}
 use Rattle.journal_node.proofs.Filled.{stopped_filled}
 use Rattle.journal_node.proofs.ActingDone.{stopped_in, up_of, has_down, can_of, node_stopped}
 
--- ## The cost of a deed is that of its effect
-number_cost_is : (cut : Cut) (gs : List Segment) (number : NodeNumber) (value : ℕ) → number_cost ≡ cost_of cut gs (number_effect number value)
-number_cost_is cut gs Promised value = refl
-number_cost_is cut gs Writer value = refl
-number_cost_is cut gs Committed value = refl
+-- ## The costs of the effects are those of the segments
+cost_is : (cut : Cut) (gs : List Segment) (rows : List SegmentRow) (r : Request) (d : DurableEffect) → IsDue gs rows r d → effect_cost cut d ≡ cost_of cut gs (effect_of r d)
+cost_is cut gs rows r (durable.Promise epoch) due = refl
+cost_is cut gs rows r (durable.WriterEpoch epoch) due = refl
+cost_is cut gs rows r (durable.Commit txid) due = refl
+cost_is cut gs rows r (durable.NewSegment start epoch) due = refl
+cost_is cut gs rows r (durable.Append start at) due = refl
+cost_is cut gs rows r (durable.Replace epoch again) due = ap accept_cost due.record_is
+cost_is cut gs rows r (durable.MakeFinal start end accepted) due = ap name_cost (sym (ap has_record due.known ∙ due.accepted_is))
+cost_is cut gs rows r (durable.Remove info) due = ap name_cost (ap (λ (i : SegmentInfo). i.accepted) due.info_is ∙ sym (ap has_record due.known))
 
-cost_is : (cut : Cut) (gs : List Segment) (rows : List SegmentRow) (r : Request) (d : Deed) → IsDue gs rows r d → deed_cost cut d ≡ cost_of cut gs (effect_of r d)
-cost_is cut gs rows r (deed.Number number value) due = number_cost_is cut gs number value
-cost_is cut gs rows r (deed.Begin start epoch) due = refl
-cost_is cut gs rows r (deed.Append start at) due = refl
-cost_is cut gs rows r (deed.Accept epoch again) due = ap accept_cost due.record_is
-cost_is cut gs rows r (deed.Finalize start end accepted) due = ap name_cost (sym (ap has_record due.known ∙ due.accepted_is))
-cost_is cut gs rows r (deed.Remove info) due = ap name_cost (ap (λ (i : SegmentInfo). i.accepted) due.info_is ∙ sym (ap has_record due.known))
-
-costs_are : (cut : Cut) (gs : List Segment) (rows : List SegmentRow) (r : Request) (ds : List Deed) → AreDue gs rows r ds → KeepCosts gs (effects_by r ds) → map (deed_cost cut) ds ≡ map (cost_of cut gs) (effects_by r ds)
+costs_are : (cut : Cut) (gs : List Segment) (rows : List SegmentRow) (r : Request) (ds : List DurableEffect) → AreDue gs rows r ds → KeepCosts gs (effects_by r ds) → map (effect_cost cut) ds ≡ map (cost_of cut gs) (effects_by r ds)
 costs_are cut gs rows r [] due keep = refl
 costs_are cut gs rows r (d ∷ ds) due keep =
-    let first : deed_cost cut d ≡ cost_of cut gs (effect_of r d) = cost_is cut gs rows r d due.0 in
-    let rest : map (deed_cost cut) ds ≡ map (cost_of cut gs) (effects_by r ds) = costs_are cut (segments_after gs (effect_of r d)) (rows_after r d 0 rows) r ds (due.1 0) keep.1 ∙ keep.0 cut in
+    let first : effect_cost cut d ≡ cost_of cut gs (effect_of r d) = cost_is cut gs rows r d due.0 in
+    let rest : map (effect_cost cut) ds ≡ map (cost_of cut gs) (effects_by r ds) = costs_are cut (segments_after gs (effect_of r d)) (rows_after r d 0 rows) r ds (due.1 0) keep.1 ∙ keep.0 cut in
     λ i. first i ∷ rest i
 
 -- each effect of the request leaves the costs of those after it
-pub kept_of : (s : NodeState) (r : Request) (ds : List Deed) → AreSound s.segments → effects_by r ds ≡ effects_of s r → KeepCosts s.segments (effects_by r ds)
+pub kept_of : (s : NodeState) (r : Request) (ds : List DurableEffect) → AreSound s.segments → effects_by r ds ≡ effects_of s r → KeepCosts s.segments (effects_by r ds)
 kept_of s r ds sound are = subst (λ (es : List Effect). KeepCosts s.segments es) (sym are) (costs_kept s r sound)
 
--- as many deeds stand as effects of the request
-pub count_is : (cut : Cut) (s : NodeState) (rows : List SegmentRow) (r : Request) (ds : List Deed) (calls : ℕ) → AreDue s.segments rows r ds → AreSound s.segments → effects_by r ds ≡ effects_of s r
-    → standing calls (map (deed_cost cut) ds) ≡ effects_standing cut s r calls
+-- as many stand as of the effects of the request
+pub count_is : (cut : Cut) (s : NodeState) (rows : List SegmentRow) (r : Request) (ds : List DurableEffect) (calls : ℕ) → AreDue s.segments rows r ds → AreSound s.segments → effects_by r ds ≡ effects_of s r
+    → standing calls (map (effect_cost cut) ds) ≡ effects_standing cut s r calls
 count_is cut s rows r ds calls due sound are = ap (standing calls) (costs_are cut s.segments rows r ds due (kept_of s r ds sound are) ∙ ap (map (cost_of cut s.segments)) are)
 
--- ## A count of the deeds, one by one
-pub record IsCountedTo (cut : Cut) (ds : List Deed) (calls left count i : ℕ) : Type 0 where
-  pub few : count ≤ i
-  pub total : standing calls (map (deed_cost cut) ds) ≡ count + standing left (map (deed_cost cut) (drop i ds))
+-- ## A count of the effects, one by one
+abbrev pub IsCountedTo : Cut → List DurableEffect → ℕ → ℕ → Budget → Type 0
+IsCountedTo cut ds calls i budget = (rest : List Cost) → standing calls (map (effect_cost cut) (take i ds) ++ rest) ≡ count_on budget rest
 
-rest_of : (cut : Cut) (ds : List Deed) (i : ℕ) (d : Deed) → i < length ds → map (deed_cost cut) (drop i ds) ≡ deed_cost cut (get_or ds i d) ∷ map (deed_cost cut) (drop (i + 1) ds)
-rest_of cut ds i d within = ap (map (deed_cost cut)) (drop-cons ds i d within ∙ ap (λ (n : ℕ). get_or ds i d ∷ drop n ds) (sym (add-one i)))
+pub count_goes : (cut : Cut) (ds : List DurableEffect) (calls i : ℕ) (d : DurableEffect) (old new : Budget) → i < length ds → IsCountedTo cut ds calls i old → SpendsTo old (effect_cost cut (get_or ds i d) ∷ []) new
+    → IsCountedTo cut ds calls (i + 1) new
+count_goes cut ds calls i d old new within before one rest =
+    let cost : Cost = effect_cost cut (get_or ds i d) in
+    ap (λ (xs : List DurableEffect). standing calls (map (effect_cost cut) xs ++ rest)) (take_more ds i d within)
+    ∙ ap (λ (cs : List Cost). standing calls (cs ++ rest)) (map-append (effect_cost cut) (take i ds) (get_or ds i d ∷ []))
+    ∙ ap (standing calls) (append_assoc (map (effect_cost cut) (take i ds)) (cost ∷ []) rest) ∙ before (cost ∷ rest) ∙ one.spent rest
 
-pub counted_next : (cut : Cut) (ds : List Deed) (calls left next count i : ℕ) (d : Deed) (cost : Cost) → i < length ds → cost ≡ deed_cost cut (get_or ds i d) → cost.decides ≤ left → next ≡ left - cost.calls
-    → IsCountedTo cut ds calls left count i → IsCountedTo cut ds calls next (count + 1) (i + 1)
-counted_next cut ds calls left next count i d cost within is enough spent counted =
-    let rest : List Cost = map (deed_cost cut) (drop (i + 1) ds) in
-    let here : map (deed_cost cut) (drop i ds) ≡ cost ∷ rest = rest_of cut ds i d within ∙ ap (λ (c : Cost). c ∷ rest) (sym is) in
-    let one : standing left (map (deed_cost cut) (drop i ds)) ≡ suc (standing next rest) = ap (standing left) here ∙ standing_one left cost rest enough ∙ ap (λ (n : ℕ). suc (standing n rest)) (sym spent) in
-    record { few = omega (arith, counted.few); total = omega (arith, counted.total, one) }
-
-pub counted_stop : (cut : Cut) (ds : List Deed) (calls left count i : ℕ) (d : Deed) (cost : Cost) → i < length ds → cost ≡ deed_cost cut (get_or ds i d) → left < cost.decides → IsCountedTo cut ds calls left count i
-    → count ≡ standing calls (map (deed_cost cut) ds)
-counted_stop cut ds calls left count i d cost within is short counted =
-    let rest : List Cost = map (deed_cost cut) (drop (i + 1) ds) in
-    let here : map (deed_cost cut) (drop i ds) ≡ cost ∷ rest = rest_of cut ds i d within ∙ ap (λ (c : Cost). c ∷ rest) (sym is) in
-    let none : standing left (map (deed_cost cut) (drop i ds)) ≡ 0 = ap (standing left) here ∙ standing_stop left cost rest short in
-    omega (arith, counted.total, none)
-
-pub counted_all : (cut : Cut) (ds : List Deed) (calls left count i : ℕ) → length ds ≤ i → IsCountedTo cut ds calls left count i → count ≡ standing calls (map (deed_cost cut) ds)
-unfolding standing
-counted_all cut ds calls left count i end counted =
-    let none : standing left (map (deed_cost cut) (drop i ds)) ≡ 0 = ap (λ (xs : List Deed). standing left (map (deed_cost cut) xs)) (drop_all i ds end) in
-    omega (arith, counted.total, none)
+pub count_ends : (cut : Cut) (ds : List DurableEffect) (calls i : ℕ) (budget : Budget) → length ds ≤ i → IsCountedTo cut ds calls i budget → count_on budget [] ≡ standing calls (map (effect_cost cut) ds)
+count_ends cut ds calls i budget end counted =
+    sym (counted []) ∙ ap (standing calls) (append-nil (map (effect_cost cut) (take i ds)) ∙ ap (map (effect_cost cut)) (take_all i ds end))
 
 -- ## With enough calls all effects stand
 append_decides : (cut : Cut) → (append_cost cut).decides ≤ (append_cost cut).calls
@@ -168,7 +149,7 @@ left_by : (done : Result (Unit {0}) DiskFail) (P : Type 0) → done ≡ Err OutO
 left_by (Ok x) P is p = absurd (cc)
 left_by (Err e) P is p = p
 
-module _ (v1 v2 : View) (m1 m : NodeState) (rows1 : List SegmentRow) (s : NodeState) (r : Request) (ds : List Deed) (calls : ℕ) (cut : Cut) (before left : Option ℕ)
+module _ (v1 v2 : View) (m1 m : NodeState) (rows1 : List SegmentRow) (s : NodeState) (r : Request) (ds : List DurableEffect) (calls : ℕ) (cut : Cut) (before left : Option ℕ)
     (set : before ≡ Some calls) (brings : BringsEdits r) (filled : AreFilled s.segments) (are : effects_by r ds ≡ effects_of s r) (is : m ≡ crashed m1) (rise : RowsRise rows1) (crash : effects.IsLeft (choice_of cut) v1 v2.seen) where
   done_cut : IsHeld v1 m1 rows1 (after_effects s (effects_by r ds)) → calls_of (map (cost_of cut s.segments) (effects_by r ds)) ≤ calls → IsDown v2 m rows1 (stopped s r (effects_standing cut s r calls))
   done_cut held enough =
@@ -205,7 +186,7 @@ node_cut short v0 v2 m0 m1 m rows0 rows1 r calls cut node none is told done stop
     by (Err e) s ok err = err
 
 -- the disk that stops later holds what it held
-pub can_stopped : (a b : MemDisk) (m : NodeState) (rows : List SegmentRow) (s : NodeState) (r : Request) (ds : List Deed) → IsSameBut a b → IsUp (disk_view a) m rows s → refused_at_once m r ≡ None
+pub can_stopped : (a b : MemDisk) (m : NodeState) (rows : List SegmentRow) (s : NodeState) (r : Request) (ds : List DurableEffect) → IsSameBut a b → IsUp (disk_view a) m rows s → refused_at_once m r ≡ None
     → ((gs : List Segment) → Tells gs rows → effects_by r ds ≡ effects_of (state_with m gs) r) → ((gs : List Segment) → Tells gs rows → AreDue gs rows r ds) → CanDoAll (disk_view b) m rows s r ds
 can_stopped a b m rows s r ds same up none effects due = subst (λ (v : View). CanDoAll v m rows s r ds) (sym (view_same a b same)) (can_of (disk_view a) m rows s r ds up none effects due)
 

@@ -1,10 +1,9 @@
--- What the disk calls of each deed ask, and that they do it.
+-- What the disk calls of each effect ask, and that they do it.
 use Rattle.std.proofs.Common.{inl, inr, ◌≡◌, ◌⊎◌, ℕ, ◌≤◌, ◌+◌, ◌^◌, ◌++◌, Bool, true, false, List, length, Option, Some, refl, sym, ap, subst, ◌∙◌, arith}
 use Rattle.std.specs.Prelude.{IsSome, Result, Ok, Err, OnOk, IsOk, IsErr, IsErrOf}
 use Rattle.std.proofs.lemmas.Option.{same_Some}
 use Rattle.std.proofs.lemmas.Result.{on_ok_weaker}
 use Rattle.qj_disk.specs.View.{View, IsSound, IsStable}
-use Rattle.qj_disk.specs.Moments.{started}
 use Rattle.qj_disk.specs.declared.disk.DiskFail.{DiskFail}
 use Rattle.qj_disk.specs.declared.disk.DiskFail.TheVariants.{Failed}
 use Rattle.journal_core.specs.Views.{BatchView}
@@ -14,7 +13,7 @@ use Rattle.journal_core.specs.declared.segment.Segment.{Segment}
 use Rattle.journal_core.specs.declared.segment_info.SegmentInfo.{SegmentInfo}
 use Rattle.journal_core.specs.declared.node_state.NodeState.{NodeState}
 use Rattle.journal_core.specs.declared.request.Request.{Request}
-use Rattle.journal_core.specs.Segments.{find_segment, end_of}
+use Rattle.journal_core.specs.Segments.{find_segment, end_of, IsNotFinal}
 use Rattle.journal_core.specs.Effects.{NewSegment, Append, Replace, MakeFinal, Remove, after_effect, empty_segment}
 use Rattle.journal_core.specs.Cuts.{number_cost, segment_cost, append_cost, accept_cost, name_cost, has_record, has_record_of, cost_of}
 use Rattle.journal_core.proofs.SegmentLists.{find-start}
@@ -23,23 +22,23 @@ use Rattle.segment_file.specs.Gate.{IsShut}
 use Rattle.segment_file.specs.Names.{InProgress, Final, Record, name_of, kind_of, IsKind}
 use Rattle.segment_file.specs.Stands.{Holds, slot_of}
 use Rattle.segment_file.specs.Effects.{AppendsAt, IsCounted}
-use Rattle.segment_file.specs.Calls.{NotFinal, CanAppend, CanFinalize, CanDiscard}
+use Rattle.segment_file.specs.Calls.{CanAppend, CanFinalize, CanDiscard}
 use Rattle.segment_file.specs.Rows.{AreSoundRows}
 use Rattle.segment_file.specs.declared.segment_row.SegmentRow.{SegmentRow}
 use Rattle.segment_file.specs.RowsTell.{AreStarts}
-use Rattle.node_files.specs.Durable.{StandsAs, HoldsState}
+use Rattle.node_files.specs.Durable.{HoldsState}
 use Rattle.node_files.specs.declared.node_number.NodeNumber.{NodeNumber}
 use Rattle.node_files.specs.declared.node_number.NodeNumber.TheVariants.{Promised, Writer, Committed}
-use Rattle.node_files.specs.Deeds.{number_effect, Does, IsCutAt, KeepsOthers, CanAccept}
+use Rattle.node_files.specs.EffectCalls.{number_effect, Does, IsCutAt, KeepsOthers, CanAccept}
 use Rattle.node_files.proofs.OneCall.{on_ok_always}
 use Rattle.node_files.proofs.Lists.{starts_of}
 use Rattle.node_files.proofs.HoldsLaws.{progress_there, final_there, accepted_there, appends_shut}
-use Rattle.node_deeds.specs.Told.{Tells}
+use Rattle.node_effects.specs.Told.{Tells}
 use Rattle.journal_node.specs.FileState.{without_segments}
-use Rattle.node_deeds.specs.Due.{batch_of, effect_of, IsAppendDue, IsFinalizeDue, IsRemoveDue}
-use Rattle.journal_node.specs.Doing.{CanDo, DoesDeed}
-use Rattle.node_deeds.specs.declared.deed.Deed.{Deed}
-use Rattle.node_deeds.specs.declared.deed.Deed.TheVariants as deed
+use Rattle.node_effects.specs.Due.{batch_of, effect_of, IsAppendDue, IsFinalizeDue, IsRemoveDue}
+use Rattle.journal_node.specs.Doing.{storing, CanDo, DoesEffect}
+use Rattle.request_decision.specs.declared.durable_effect.DurableEffect.{DurableEffect}
+use Rattle.request_decision.specs.declared.durable_effect.DurableEffect.TheVariants as durable
 use Rattle.journal_node.proofs.DoingRows.{row_of, row_within}
 
 -- ## What is asked of any disk
@@ -64,7 +63,7 @@ remove_end info gs rows t sound due =
 -- ## What is asked of files
 module _ (v : View) (rows : List SegmentRow) (s : NodeState) (r : Request) where
   -- the segment of an append
-  module _ (start at : ℕ) (can : CanDo v (without_segments s) rows s r (deed.Append start at)) where
+  module _ (start at : ℕ) (can : CanDo v (without_segments s) rows s r (durable.Append start at)) where
     same_segment : can.place.segment ≡ can.due.segment
     same_segment = same_Some can.place.segment can.due.segment (sym can.place.known ∙ can.due.known)
 
@@ -89,13 +88,13 @@ module _ (v : View) (rows : List SegmentRow) (s : NodeState) (r : Request) where
       next = ap (λ (x : BatchView). x.first) same ∙ can.due.next;
     }
 
-  pub can_accept : (epoch : ℕ) (again : Bool) (b : BatchView) → b ≡ batch_of r → CanDo v (without_segments s) rows s r (deed.Accept epoch again) → CanAccept epoch b again s.segments
+  pub can_accept : (epoch : ℕ) (again : Bool) (b : BatchView) → b ≡ batch_of r → CanDo v (without_segments s) rows s r (durable.Replace epoch again) → CanAccept epoch b again s.segments
   can_accept epoch again b same can = record {
-    not_final = subst (λ (x : BatchView). NotFinal (find_segment x.first s.segments)) (sym same) can.due.not_final;
+    not_final = subst (λ (x : BatchView). IsNotFinal (find_segment x.first s.segments)) (sym same) can.due.not_final;
     told = subst (λ (x : BatchView). again ≡ has_record_of epoch (find_segment x.first s.segments)) (sym same) can.due.record_is;
   }
 
-  module _ (start end : ℕ) (accepted : Bool) (sound : IsSound v) (can : CanDo v (without_segments s) rows s r (deed.Finalize start end accepted)) where
+  module _ (start end : ℕ) (accepted : Bool) (sound : IsSound v) (can : CanDo v (without_segments s) rows s r (durable.MakeFinal start end accepted)) where
     pub finalize_there : IsSome (v.seen (name_of start InProgress))
     finalize_there = progress_there v sound s start can.due.segment can.held.files can.due.known can.due.in_progress
 
@@ -105,7 +104,7 @@ module _ (v : View) (rows : List SegmentRow) (s : NodeState) (r : Request) where
     pub can_finalize : CanFinalize start end s.segments can.due.segment
     can_finalize = record { known = can.due.known; in_progress = can.due.in_progress; valid = (can.due.holds, can.due.end_fits); ends = can.due.ends }
 
-  module _ (info : SegmentInfo) (sound : IsSound v) (can : CanDo v (without_segments s) rows s r (deed.Remove info)) where
+  module _ (info : SegmentInfo) (sound : IsSound v) (can : CanDo v (without_segments s) rows s r (durable.Remove info)) where
     is_final : can.due.segment.is_final ≡ info.is_final
     is_final = ap (λ (i : SegmentInfo). i.is_final) (sym can.due.info_is)
 
@@ -143,7 +142,7 @@ module _ (v : View) (rows : List SegmentRow) (s : NodeState) (r : Request) where
 -- ## What the calls do
 module _ {T : Type 0} (s : NodeState) (r : Request) (result : Result T DiskFail) (v0 v1 : View) (l0 l1 : Option ℕ) where
   pub number_does : (number : NodeNumber) (value : ℕ) → Does s (after_effect s (number_effect number value)) result v0 v1 → ((g : Segment) (at : ℕ) → AppendsAt v0 g at → AppendsAt v1 g at) → IsCounted 3 l0 l1 result
-      → IsCutAt (λ _. number_cost) s (after_effect s (number_effect number value)) l0 result v1 → DoesDeed s r (deed.Number number value) result v0 v1 l0 l1
+      → IsCutAt (λ _. number_cost) s (after_effect s (number_effect number value)) l0 result v1 → DoesEffect s r (storing number value) result v0 v1 l0 l1
   number_does Promised value effect appends counts cut =
       record { effect = effect; others = λ g at passes was. appends g at was; appends = on_ok_always result (Unit {0}) tt; counts = λ c. counts; cut = cut }
   number_does Writer value effect appends counts cut =
@@ -152,7 +151,7 @@ module _ {T : Type 0} (s : NodeState) (r : Request) (result : Result T DiskFail)
       record { effect = effect; others = λ g at passes was. appends g at was; appends = on_ok_always result (Unit {0}) tt; counts = λ c. counts; cut = cut }
 
   pub begin_does : (start epoch : ℕ) → Does s (after_effect s (NewSegment start epoch)) result v0 v1 → KeepsOthers start v0 v1 → OnOk result (AppendsAt v1 (empty_segment start epoch) 24) → IsCounted 3 l0 l1 result
-      → IsCutAt (λ _. segment_cost) s (after_effect s (NewSegment start epoch)) l0 result v1 → DoesDeed s r (deed.Begin start epoch) result v0 v1 l0 l1
+      → IsCutAt (λ _. segment_cost) s (after_effect s (NewSegment start epoch)) l0 result v1 → DoesEffect s r (durable.NewSegment start epoch) result v0 v1 l0 l1
   begin_does start epoch effect keeps appends counts cut = record { effect = effect; others = λ g at ne was. keeps.appends g at ne was; appends = appends; counts = λ c. counts; cut = cut }
 
   -- an append's four calls, of which each cut decides
@@ -164,7 +163,7 @@ module _ {T : Type 0} (s : NodeState) (r : Request) (result : Result T DiskFail)
   pub append_does : (start at : ℕ) (b : BatchView) (rows : List SegmentRow) (due : IsAppendDue start at (batch_of r) s.segments rows) → b ≡ batch_of r
       → Does s (after_effect s (Append start b.bodies)) result v0 v1 → KeepsOthers start v0 v1
       → OnOk result (AppendsAt v1 (record due.segment { bodies = due.segment.bodies ++ b.bodies }) (at + length (frame_bytes b))) → IsCounted 4 l0 l1 result
-      → IsCutAt append_cost s (after_effect s (Append start b.bodies)) l0 result v1 → DoesDeed s r (deed.Append start at) result v0 v1 l0 l1
+      → IsCutAt append_cost s (after_effect s (Append start b.bodies)) l0 result v1 → DoesEffect s r (durable.Append start at) result v0 v1 l0 l1
   append_does start at b rows due same effect keeps appends counts cut = record {
     effect = subst (λ (x : BatchView). Does s (after_effect s (Append start x.bodies)) result v0 v1) same effect;
     others = λ g place ne was. keeps.appends g place ne was;
@@ -177,7 +176,7 @@ module _ {T : Type 0} (s : NodeState) (r : Request) (result : Result T DiskFail)
 
   pub accept_does : (epoch : ℕ) (again : Bool) (b : BatchView) → b ≡ batch_of r → again ≡ has_record_of epoch (find_segment (batch_of r).first s.segments)
       → Does s (after_effect s (Replace epoch b)) result v0 v1 → KeepsOthers b.first v0 v1 → IsCounted (accept_cost again).calls l0 l1 result
-      → IsCutAt (λ _. accept_cost again) s (after_effect s (Replace epoch b)) l0 result v1 → DoesDeed s r (deed.Accept epoch again) result v0 v1 l0 l1
+      → IsCutAt (λ _. accept_cost again) s (after_effect s (Replace epoch b)) l0 result v1 → DoesEffect s r (durable.Replace epoch again) result v0 v1 l0 l1
   accept_does epoch again b same told effect keeps counts cut = record {
     effect = subst (λ (x : BatchView). Does s (after_effect s (Replace epoch x)) result v0 v1) same effect;
     others = λ g at ne was. keeps.appends g at (λ is. ne (is ∙ ap (λ (x : BatchView). x.first) same)) was;
@@ -187,7 +186,7 @@ module _ {T : Type 0} (s : NodeState) (r : Request) (result : Result T DiskFail)
   }
 
   pub finalize_does : (start end : ℕ) (accepted : Bool) → IsFinalizeDue start end accepted s.segments → Does s (after_effect s (MakeFinal start)) result v0 v1 → KeepsOthers start v0 v1 → IsCounted (name_cost accepted).calls l0 l1 result
-      → IsCutAt (λ _. name_cost accepted) s (after_effect s (MakeFinal start)) l0 result v1 → DoesDeed s r (deed.Finalize start end accepted) result v0 v1 l0 l1
+      → IsCutAt (λ _. name_cost accepted) s (after_effect s (MakeFinal start)) l0 result v1 → DoesEffect s r (durable.MakeFinal start end accepted) result v0 v1 l0 l1
   finalize_does start end accepted due effect keeps counts cut =
       let told : accepted ≡ has_record (find_segment start s.segments) = sym (ap has_record due.known ∙ due.accepted_is) in
       record {
@@ -199,7 +198,7 @@ module _ {T : Type 0} (s : NodeState) (r : Request) (result : Result T DiskFail)
       }
 
   pub remove_does : (info : SegmentInfo) → IsRemoveDue info s.segments → Does s (after_effect s (Remove info.start)) result v0 v1 → KeepsOthers info.start v0 v1 → IsCounted (name_cost info.accepted).calls l0 l1 result
-      → IsCutAt (λ _. name_cost info.accepted) s (after_effect s (Remove info.start)) l0 result v1 → DoesDeed s r (deed.Remove info) result v0 v1 l0 l1
+      → IsCutAt (λ _. name_cost info.accepted) s (after_effect s (Remove info.start)) l0 result v1 → DoesEffect s r (durable.Remove info) result v0 v1 l0 l1
   remove_does info due effect keeps counts cut =
       let told : info.accepted ≡ has_record (find_segment info.start s.segments) = ap (λ (i : SegmentInfo). i.accepted) due.info_is ∙ sym (ap has_record due.known) in
       record {
@@ -211,13 +210,13 @@ module _ {T : Type 0} (s : NodeState) (r : Request) (result : Result T DiskFail)
       }
 
 -- ## Where the table is noted
-module _ (s : NodeState) (r : Request) (d : Deed) (v0 v1 : View) (l0 l1 : Option ℕ) where
+module _ (s : NodeState) (r : Request) (d : DurableEffect) (v0 v1 : View) (l0 l1 : Option ℕ) where
   never_ok : (x : Result (Unit {0}) DiskFail) (P : Type 0) → IsErr x → OnOk x P
   never_ok (Ok y) P err = absurd (cc)
   never_ok (Err e) P err = tt
 
-  -- the calls failed, and so does the deed
-  pub does_failed : {T : Type 0} (calls : Result T DiskFail) (result : Result (Unit {0}) DiskFail) → IsErr result → (IsErrOf result Failed → IsErrOf calls Failed) → DoesDeed s r d calls v0 v1 l0 l1 → DoesDeed s r d result v0 v1 l0 l1
+  -- the calls failed, and so does the effect
+  pub does_failed : {T : Type 0} (calls : Result T DiskFail) (result : Result (Unit {0}) DiskFail) → IsErr result → (IsErrOf result Failed → IsErrOf calls Failed) → DoesEffect s r d calls v0 v1 l0 l1 → DoesEffect s r d result v0 v1 l0 l1
   does_failed calls result err passes does = record {
     effect = record { any_moment = does.effect.any_moment; done = never_ok result (HoldsState v1 (after_effect s (effect_of r d))) err };
     others = does.others;
@@ -235,7 +234,7 @@ module _ (s : NodeState) (r : Request) (d : Deed) (v0 v1 : View) (l0 l1 : Option
   on_ok_of (Err e) P ok is = absurd (cc)
 
   -- the calls were done, and the note in the table is or isn't
-  pub noted_after : {T : Type 0} (calls : Result T DiskFail) (result : Result (Unit {0}) DiskFail) → IsOk calls → (IsErrOf result Failed → ⊥) → DoesDeed s r d calls v0 v1 l0 l1 → DoesDeed s r d result v0 v1 l0 l1
+  pub noted_after : {T : Type 0} (calls : Result T DiskFail) (result : Result (Unit {0}) DiskFail) → IsOk calls → (IsErrOf result Failed → ⊥) → DoesEffect s r d calls v0 v1 l0 l1 → DoesEffect s r d result v0 v1 l0 l1
   noted_after calls result ok fine does = record {
     effect = record { any_moment = does.effect.any_moment; done = on_ok_always result (HoldsState v1 (after_effect s (effect_of r d))) (on_ok_of calls _ ok does.effect.done) };
     others = does.others;

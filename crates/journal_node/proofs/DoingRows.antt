@@ -1,25 +1,27 @@
--- A table that covers segments, before a deed and after it.
-use Rattle.std.proofs.Common.{inl, inr, ◌≡◌, ◌≢◌, ℕ, ◌==◌, true, false, List, [], ◌∷◌, ◌++◌, Option, Some, None, refl, sym, ap, subst, ◌∙◌, arith, cond, nat_lt, length-append}
+-- A table that covers segments, before an effect and after it.
+use Rattle.std.proofs.Common.{inl, inr, ◌≡◌, ◌≢◌, ◌≤◌, ℕ, ◌==◌, true, false, List, [], ◌∷◌, ◌++◌, Option, Some, None, refl, sym, ap, subst, ◌∙◌, arith, cond, nat_lt, length-append}
+use Rattle.std.specs.Prelude.{Result}
 use Rattle.std.proofs.lemmas.Bool.{cases_eq, cond_both, cond-true, cond-false, eq-eqb, eqb-true, ne_eqb}
 use Rattle.std.proofs.lemmas.Option.{same_Some}
 use Rattle.journal_core.specs.declared.segment.Segment.{Segment}
 use Rattle.journal_core.specs.declared.request.Request.{Request}
-use Rattle.journal_core.specs.Segments.{find_segment, put_segment, remove_segment, end_of, info_of, IsWithin, AreWithin, AreSound}
+use Rattle.journal_core.specs.Segments.{find_segment, put_segment, remove_segment, end_of, info_of, IsWithin, AreWithin, AreSound, IsNotFinal}
+use Rattle.journal_core.specs.Limits.{max_number}
 use Rattle.journal_core.specs.Effects.{segments_after, appended, finalized, empty_segment, accepted_segment}
 use Rattle.journal_core.proofs.PlaceLaws.{put_sound}
 use Rattle.journal_core.proofs.SegmentLists.{find-start, find-put_same, find-put_other, find-remove_same, find-remove_other, Rising-remove}
 use Rattle.segment_file.specs.declared.segment_row.SegmentRow.{SegmentRow}
 use Rattle.segment_file.specs.Rows.{find_row, put_row, remove_row, IsRowWithin, RowsWithin}
-use Rattle.segment_file.specs.Calls.{NotFinal}
+use Rattle.node_effects.specs.Told.{Tells}
 use Rattle.node_files.specs.declared.node_number.NodeNumber.{NodeNumber}
 use Rattle.node_files.specs.declared.node_number.NodeNumber.TheVariants.{Promised, Writer, Committed}
-use Rattle.node_files.specs.Deeds.{number_effect}
-use Rattle.node_deeds.specs.Told.{Tells}
+use Rattle.node_files.proofs.OneCall.{on_ok_always}
 use Rattle.journal_node.specs.FileState.{Covers}
-use Rattle.node_deeds.specs.Due.{batch_of, effect_of, IsDue, IsAppendDue, begun_row, accepted_row, rows_after}
-use Rattle.node_deeds.specs.declared.deed.Deed.{Deed}
-use Rattle.node_deeds.specs.declared.deed.Deed.TheVariants as deed
-use Rattle.node_deeds.proofs.ToldLaws.{IsTold, found, end_told}
+use Rattle.journal_node.specs.Doing.{storing, IsNoted, NotedAtFault}
+use Rattle.node_effects.specs.Due.{batch_of, effect_of, IsDue, IsAppendDue, begun_row, accepted_row, rows_after}
+use Rattle.request_decision.specs.declared.durable_effect.DurableEffect.{DurableEffect}
+use Rattle.request_decision.specs.declared.durable_effect.DurableEffect.TheVariants as durable
+use Rattle.node_effects.proofs.ToldLaws.{IsTold, found, end_told}
 
 -- ## Rows that are found
 pub find_put_same : (new : SegmentRow) (rows : List SegmentRow) → find_row new.info.start (put_row new rows) ≡ Some new
@@ -73,13 +75,13 @@ tells_covers gs rows t = record {
   rows_of = λ start g known. let there = row_of gs rows start g t known in (there.0, there.1, λ final. end_told g there.0 there.2);
 }
 
-covers_put_row : (new : SegmentRow) (rows : List SegmentRow) (gs : List Segment) → Covers rows gs → NotFinal (find_segment new.info.start gs) → Covers (put_row new rows) gs
+covers_put_row : (new : SegmentRow) (rows : List SegmentRow) (gs : List Segment) → Covers rows gs → IsNotFinal (find_segment new.info.start gs) → Covers (put_row new rows) gs
 covers_put_row new rows gs covers open_ = record {
   rows_of = λ start g known. elim (cases_eq new.info.start start) [
     | inl is ↦ (
       new,
       subst (λ (m : ℕ). find_row m (put_row new rows) ≡ Some new) is (find_put_same new rows),
-      λ final. let not : g.is_final ≡ false = subst NotFinal known (subst (λ (m : ℕ). NotFinal (find_segment m gs)) is open_) in let p : true ≡ false = sym final ∙ not in absurd (cc),
+      λ final. let not : g.is_final ≡ false = subst IsNotFinal known (subst (λ (m : ℕ). IsNotFinal (find_segment m gs)) is open_) in let p : true ≡ false = sym final ∙ not in absurd (cc),
     )
     | inr ne ↦ let was = covers.rows_of start g known in (was.0, find_put_other start new rows ne ∙ was.1, was.2)
   ];
@@ -103,29 +105,50 @@ covers_remove gone rows gs covers = record {
   ];
 }
 
--- A deed that is noted after its calls: the table as it was covers what it leaves.
-abbrev pub IsNotedAfter : Deed → Type 0
-IsNotedAfter (deed.Number number value) = Unit {0}
-IsNotedAfter (deed.Begin start epoch) = ⊥
-IsNotedAfter (deed.Append start at) = Unit {0}
-IsNotedAfter (deed.Accept epoch again) = ⊥
-IsNotedAfter (deed.Finalize start end accepted) = Unit {0}
-IsNotedAfter (deed.Remove info) = Unit {0}
+-- An effect that is noted after its calls: the table as it was covers what it leaves.
+abbrev pub IsNotedAfter : DurableEffect → Type 0
+IsNotedAfter (durable.Promise epoch) = Unit {0}
+IsNotedAfter (durable.WriterEpoch epoch) = Unit {0}
+IsNotedAfter (durable.Commit txid) = Unit {0}
+IsNotedAfter (durable.NewSegment start epoch) = ⊥
+IsNotedAfter (durable.Append start at) = Unit {0}
+IsNotedAfter (durable.Replace epoch again) = ⊥
+IsNotedAfter (durable.MakeFinal start end accepted) = Unit {0}
+IsNotedAfter (durable.Remove info) = Unit {0}
 
 -- one that is noted before them: the table with it covers what was
-abbrev pub IsNotedBefore : Deed → Type 0
-IsNotedBefore (deed.Number number value) = ⊥
-IsNotedBefore (deed.Begin start epoch) = Unit {0}
-IsNotedBefore (deed.Append start at) = ⊥
-IsNotedBefore (deed.Accept epoch again) = Unit {0}
-IsNotedBefore (deed.Finalize start end accepted) = ⊥
-IsNotedBefore (deed.Remove info) = ⊥
+abbrev pub IsNotedBefore : DurableEffect → Type 0
+IsNotedBefore (durable.Promise epoch) = ⊥
+IsNotedBefore (durable.WriterEpoch epoch) = ⊥
+IsNotedBefore (durable.Commit txid) = ⊥
+IsNotedBefore (durable.NewSegment start epoch) = Unit {0}
+IsNotedBefore (durable.Append start at) = ⊥
+IsNotedBefore (durable.Replace epoch again) = Unit {0}
+IsNotedBefore (durable.MakeFinal start end accepted) = ⊥
+IsNotedBefore (durable.Remove info) = ⊥
 
-pub number_same : (number : NodeNumber) (value : ℕ) (gs : List Segment) → segments_after gs (number_effect number value) ≡ gs
-number_same Promised value gs = refl
-number_same Writer value gs = refl
-number_same Committed value gs = refl
+-- ## A number that is stored
+pub number_fits : (number : NodeNumber) (value : ℕ) (gs : List Segment) (rows : List SegmentRow) (r : Request) → IsDue gs rows r (storing number value) → value ≤ max_number
+number_fits Promised value gs rows r due = due
+number_fits Writer value gs rows r due = due
+number_fits Committed value gs rows r due = due
 
+pub number_noted : {T E : Type 0} (number : NodeNumber) (value : ℕ) (r : Request) (result : Result T E) (rows : List SegmentRow) → IsNoted r (storing number value) result rows rows
+number_noted Promised value r result rows = record { done = on_ok_always result (rows ≡ rows) refl; failed = inl refl }
+number_noted Writer value r result rows = record { done = on_ok_always result (rows ≡ rows) refl; failed = inl refl }
+number_noted Committed value r result rows = record { done = on_ok_always result (rows ≡ rows) refl; failed = inl refl }
+
+pub number_fault : (number : NodeNumber) (value : ℕ) (r : Request) (rows : List SegmentRow) → NotedAtFault r (storing number value) rows rows
+number_fault Promised value r rows = refl
+number_fault Writer value r rows = refl
+number_fault Committed value r rows = refl
+
+pub number_after : (number : NodeNumber) (value : ℕ) → IsNotedAfter (storing number value)
+number_after Promised value = tt
+number_after Writer value = tt
+number_after Committed value = tt
+
+-- ## The segments of which the table tells
 append_covers : (start at : ℕ) (r : Request) (gs : List Segment) (rows : List SegmentRow) → Tells gs rows → IsAppendDue start at (batch_of r) gs rows → Covers rows (appended (batch_of r).bodies (find_segment start gs) gs)
 append_covers start at r gs rows t due =
     let new : Segment = record due.segment { bodies = due.segment.bodies ++ (batch_of r).bodies } in
@@ -141,21 +164,25 @@ finalize_covers start end gs rows g t known =
     (covers_put_segment new rows gs there.0 (tells_covers gs rows t) (subst (λ (m : ℕ). find_row m rows ≡ Some there.0) (sym (find-start start gs g known)) there.1)
     (λ final. end_told g there.0 there.2))
 
-pub covers_after : (r : Request) (d : Deed) (gs : List Segment) (rows : List SegmentRow) → IsNotedAfter d → Tells gs rows → IsDue gs rows r d → Covers rows (segments_after gs (effect_of r d))
-covers_after r (deed.Number number value) gs rows behind t due = subst (λ (hs : List Segment). Covers rows hs) (sym (number_same number value gs)) (tells_covers gs rows t)
-covers_after r (deed.Begin start epoch) gs rows behind t due = absurd behind
-covers_after r (deed.Append start at) gs rows behind t due = append_covers start at r gs rows t due
-covers_after r (deed.Accept epoch again) gs rows behind t due = absurd behind
-covers_after r (deed.Finalize start end accepted) gs rows behind t due = finalize_covers start end gs rows due.segment t due.known
-covers_after r (deed.Remove info) gs rows behind t due = covers_remove info.start rows gs (tells_covers gs rows t)
+pub covers_after : (r : Request) (d : DurableEffect) (gs : List Segment) (rows : List SegmentRow) → IsNotedAfter d → Tells gs rows → IsDue gs rows r d → Covers rows (segments_after gs (effect_of r d))
+covers_after r (durable.Promise epoch) gs rows behind t due = tells_covers gs rows t
+covers_after r (durable.WriterEpoch epoch) gs rows behind t due = tells_covers gs rows t
+covers_after r (durable.Commit txid) gs rows behind t due = tells_covers gs rows t
+covers_after r (durable.NewSegment start epoch) gs rows behind t due = absurd behind
+covers_after r (durable.Append start at) gs rows behind t due = append_covers start at r gs rows t due
+covers_after r (durable.Replace epoch again) gs rows behind t due = absurd behind
+covers_after r (durable.MakeFinal start end accepted) gs rows behind t due = finalize_covers start end gs rows due.segment t due.known
+covers_after r (durable.Remove info) gs rows behind t due = covers_remove info.start rows gs (tells_covers gs rows t)
 
-pub covers_before : (r : Request) (d : Deed) (place : ℕ) (gs : List Segment) (rows : List SegmentRow) → IsNotedBefore d → Tells gs rows → IsDue gs rows r d → Covers (rows_after r d place rows) gs
-covers_before r (deed.Number number value) place gs rows before t due = absurd before
-covers_before r (deed.Begin start epoch) place gs rows before t due = covers_put_row (begun_row start epoch) rows gs (tells_covers gs rows t) due.not_final
-covers_before r (deed.Append start at) place gs rows before t due = absurd before
-covers_before r (deed.Accept epoch again) place gs rows before t due = covers_put_row (accepted_row epoch (batch_of r)) rows gs (tells_covers gs rows t) due.not_final
-covers_before r (deed.Finalize start end accepted) place gs rows before t due = absurd before
-covers_before r (deed.Remove info) place gs rows before t due = absurd before
+pub covers_before : (r : Request) (d : DurableEffect) (place : ℕ) (gs : List Segment) (rows : List SegmentRow) → IsNotedBefore d → Tells gs rows → IsDue gs rows r d → Covers (rows_after r d place rows) gs
+covers_before r (durable.Promise epoch) place gs rows before t due = absurd before
+covers_before r (durable.WriterEpoch epoch) place gs rows before t due = absurd before
+covers_before r (durable.Commit txid) place gs rows before t due = absurd before
+covers_before r (durable.NewSegment start epoch) place gs rows before t due = covers_put_row (begun_row start epoch) rows gs (tells_covers gs rows t) due.not_final
+covers_before r (durable.Append start at) place gs rows before t due = absurd before
+covers_before r (durable.Replace epoch again) place gs rows before t due = covers_put_row (accepted_row epoch (batch_of r)) rows gs (tells_covers gs rows t) due.not_final
+covers_before r (durable.MakeFinal start end accepted) place gs rows before t due = absurd before
+covers_before r (durable.Remove info) place gs rows before t due = absurd before
 
 -- ## Sound lists
 pub within_of : (start : ℕ) (gs : List Segment) (g : Segment) → AreWithin gs → find_segment start gs ≡ Some g → IsWithin g
@@ -184,10 +211,12 @@ finalize_sound start gs g sound known =
     let new : Segment = record g { is_final = true; accepted = false } in
     subst (λ (o : Option Segment). AreSound (finalized o gs)) (sym known) (put_sound new gs (within_of start gs g sound.within known) sound)
 
-pub sound_after : (r : Request) (d : Deed) (gs : List Segment) (rows : List SegmentRow) → AreSound gs → IsDue gs rows r d → AreSound (segments_after gs (effect_of r d))
-sound_after r (deed.Number number value) gs rows sound due = subst AreSound (sym (number_same number value gs)) sound
-sound_after r (deed.Begin start epoch) gs rows sound due = put_sound (empty_segment start epoch) gs (omega (arith, due.start_fits.1)) sound
-sound_after r (deed.Append start at) gs rows sound due = append_sound start at r gs rows sound due
-sound_after r (deed.Accept epoch again) gs rows sound due = put_sound (accepted_segment epoch (batch_of r)) gs (omega (arith, due.last)) sound
-sound_after r (deed.Finalize start end accepted) gs rows sound due = finalize_sound start gs due.segment sound due.known
-sound_after r (deed.Remove info) gs rows sound due = record { rising = Rising-remove info.start gs sound.rising; within = within_remove info.start gs sound.within }
+pub sound_after : (r : Request) (d : DurableEffect) (gs : List Segment) (rows : List SegmentRow) → AreSound gs → IsDue gs rows r d → AreSound (segments_after gs (effect_of r d))
+sound_after r (durable.Promise epoch) gs rows sound due = sound
+sound_after r (durable.WriterEpoch epoch) gs rows sound due = sound
+sound_after r (durable.Commit txid) gs rows sound due = sound
+sound_after r (durable.NewSegment start epoch) gs rows sound due = put_sound (empty_segment start epoch) gs (omega (arith, due.start_fits.1)) sound
+sound_after r (durable.Append start at) gs rows sound due = append_sound start at r gs rows sound due
+sound_after r (durable.Replace epoch again) gs rows sound due = put_sound (accepted_segment epoch (batch_of r)) gs (omega (arith, due.last)) sound
+sound_after r (durable.MakeFinal start end accepted) gs rows sound due = finalize_sound start gs due.segment sound due.known
+sound_after r (durable.Remove info) gs rows sound due = record { rising = Rising-remove info.start gs sound.rising; within = within_remove info.start gs sound.within }

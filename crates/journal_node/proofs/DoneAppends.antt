@@ -1,4 +1,4 @@
--- Deeds that are the effects of a request append to the segment that it names alone.
+-- Durable effects that mean those of a request append to the segment that it names alone.
 use Rattle.std.proofs.Common.{◌≡◌, ℕ, ◌++◌, Bool, true, false, List, [], ◌∷◌, map, filter, Option, Some, None, refl, sym, ap, subst, cond}
 use Rattle.journal_core.specs.Views.{HeadView}
 use Rattle.journal_core.specs.declared.refusal.Refusal.{Refusal}
@@ -9,11 +9,11 @@ use Rattle.journal_core.specs.declared.request.Request.TheVariants.{State, NewEp
 use Rattle.journal_core.specs.Limits.{head_of}
 use Rattle.journal_core.specs.Effects.{Effect, Promise, WriterEpoch, Commit, NewSegment, Append, Replace, MakeFinal, Remove}
 use Rattle.journal_core.specs.Step.{refused_at_once, front_effects, fronted, row_refused, may_go, row_effects, effects_after, effects_unless, effects_of}
-use Rattle.node_deeds.specs.Due.{effect_of}
+use Rattle.node_effects.specs.Due.{effect_of}
 use Rattle.journal_node.specs.Held.{Spares}
 use Rattle.journal_node.specs.Done.{effects_by, GoesTo, AppendWithin, append_start, AppendsAreWithin}
-use Rattle.node_deeds.specs.declared.deed.Deed.{Deed}
-use Rattle.node_deeds.specs.declared.deed.Deed.TheVariants as deed
+use Rattle.request_decision.specs.declared.durable_effect.DurableEffect.{DurableEffect}
+use Rattle.request_decision.specs.declared.durable_effect.DurableEffect.TheVariants as durable
 
 -- the effect is on no segment but an append to this one, or no append where none is named
 abbrev pub Fits : Option ℕ → Effect → Type 0
@@ -35,28 +35,32 @@ abbrev pub AllFit : Option ℕ → List Effect → Type 0
 AllFit o [] = Unit {0}
 AllFit o (e ∷ es) = Fits o e × AllFit o es
 
--- ## Deeds of effects that fit
-goes : (r : Request) (o : Option ℕ) (d : Deed) → Fits o (effect_of r d) → GoesTo o d
-goes r o (deed.Number number value) fits = tt
-goes r o (deed.Begin start epoch) fits = tt
-goes r None (deed.Append start at) fits = absurd fits
-goes r (Some named) (deed.Append start at) fits = ap (λ (n : ℕ). Some n) fits
-goes r o (deed.Accept epoch again) fits = tt
-goes r o (deed.Finalize start end accepted) fits = tt
-goes r o (deed.Remove info) fits = tt
+-- ## Effects of effects that fit
+goes : (r : Request) (o : Option ℕ) (d : DurableEffect) → Fits o (effect_of r d) → GoesTo o d
+goes r o (durable.Promise epoch) fits = tt
+goes r o (durable.WriterEpoch epoch) fits = tt
+goes r o (durable.Commit txid) fits = tt
+goes r o (durable.NewSegment start epoch) fits = tt
+goes r None (durable.Append start at) fits = absurd fits
+goes r (Some named) (durable.Append start at) fits = ap (λ (n : ℕ). Some n) fits
+goes r o (durable.Replace epoch again) fits = tt
+goes r o (durable.MakeFinal start end accepted) fits = tt
+goes r o (durable.Remove info) fits = tt
 
-spares : (r : Request) (o : Option ℕ) (d : Deed) → Fits o (effect_of r d) → Spares o d
+spares : (r : Request) (o : Option ℕ) (d : DurableEffect) → Fits o (effect_of r d) → Spares o d
 spares r None d fits = tt
-spares r (Some named) (deed.Number number value) fits = tt
-spares r (Some named) (deed.Begin start epoch) fits = absurd fits
-spares r (Some named) (deed.Append start at) fits = tt
-spares r (Some named) (deed.Accept epoch again) fits = absurd fits
-spares r (Some named) (deed.Finalize start end accepted) fits = absurd fits
-spares r (Some named) (deed.Remove info) fits = absurd fits
+spares r (Some named) (durable.Promise epoch) fits = tt
+spares r (Some named) (durable.WriterEpoch epoch) fits = tt
+spares r (Some named) (durable.Commit txid) fits = tt
+spares r (Some named) (durable.NewSegment start epoch) fits = absurd fits
+spares r (Some named) (durable.Append start at) fits = tt
+spares r (Some named) (durable.Replace epoch again) fits = absurd fits
+spares r (Some named) (durable.MakeFinal start end accepted) fits = absurd fits
+spares r (Some named) (durable.Remove info) fits = absurd fits
 
-pub deeds_fit : (r : Request) (o : Option ℕ) (ds : List Deed) → AllFit o (effects_by r ds) → AppendWithin o ds
-deeds_fit r o [] fit = tt
-deeds_fit r o (d ∷ ds) fit = (goes r o d fit.0, spares r o d fit.0, deeds_fit r o ds fit.1)
+pub effects_fit : (r : Request) (o : Option ℕ) (ds : List DurableEffect) → AllFit o (effects_by r ds) → AppendWithin o ds
+effects_fit r o [] fit = tt
+effects_fit r o (d ∷ ds) fit = (goes r o d fit.0, spares r o d fit.0, effects_fit r o ds fit.1)
 
 -- ## The effects of a request fit
 start_fits : (start epoch : ℕ) (same : Bool) → AllFit None (cond same [] (WriterEpoch epoch ∷ []) ++ NewSegment start epoch ∷ [])
@@ -108,4 +112,4 @@ unless_fits s r None = front_fits (append_start r) s (head_of r) _ (after_fits (
 
 pub appends_within : AppendsAreWithin
 unfolding effects_of
-appends_within s r ds are = deeds_fit r (append_start r) ds (subst (λ (es : List Effect). AllFit (append_start r) es) (sym are) (unless_fits s r (refused_at_once s r)))
+appends_within s r ds are = effects_fit r (append_start r) ds (subst (λ (es : List Effect). AllFit (append_start r) es) (sym are) (unless_fits s r (refused_at_once s r)))

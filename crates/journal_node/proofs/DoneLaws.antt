@@ -1,4 +1,4 @@
--- Deeds done one after the other, as far as they are done.
+-- Effects done one after the other, as far as they are done.
 use Rattle.std.proofs.Common.{inl, inr, ⊎_elim, ◌≡◌, ◌⊎◌, ◌↔◌, ℕ, ◌≤◌, ◌<◌, ◌+◌, ◌++◌, List, [], ◌∷◌, length, take, drop, map, Option, refl, sym, ap, subst, ◌∙◌, arith, get_or, length-append, append_assoc}
 use Rattle.std.specs.Prelude.{Result, IsOk}
 use Rattle.std.specs.List.{take-map}
@@ -22,24 +22,24 @@ use Rattle.segment_file.specs.declared.segment_row.SegmentRow.{SegmentRow}
 use Rattle.segment_file.proofs.GateLemmas.{Passed, passed_none}
 use Rattle.segment_file.proofs.Counts.{passed_on}
 use Rattle.node_files.specs.Durable.{StandsAs}
-use Rattle.node_files.specs.Deeds.{Does}
-use Rattle.node_deeds.specs.Told.{Tells, state_with}
-use Rattle.node_deeds.specs.Due.{effect_of, IsDue, AreDue, rows_after}
+use Rattle.node_files.specs.EffectCalls.{Does}
+use Rattle.node_effects.specs.Told.{Tells, state_with}
+use Rattle.node_effects.specs.Due.{effect_of, IsDue, AreDue, rows_after}
 use Rattle.journal_node.specs.Held.{IsHeld, OpenedAt, StandsStopped, numbers_after, Opens, Spares}
 use Rattle.journal_node.specs.Doing.{place_after, HasPlace, CanDo}
 use Rattle.journal_node.specs.Done.{effects_by, GoesTo, AppendWithin, CanDoAll, EndOpen, KeepCosts, calls_of}
-use Rattle.node_deeds.specs.declared.deed.Deed.{Deed}
-use Rattle.node_deeds.specs.declared.deed.Deed.TheVariants as deed
-use Rattle.journal_node.proofs.DoingDeed.{stands_now}
+use Rattle.request_decision.specs.declared.durable_effect.DurableEffect.{DurableEffect}
+use Rattle.request_decision.specs.declared.durable_effect.DurableEffect.TheVariants as durable
+use Rattle.journal_node.proofs.DoingEffect.{stands_now}
 
--- the calls of the deeds that are done, and the costs of the others
-pub record CostSoFar (s t : NodeState) (r : Request) (done later : List Deed) (left0 left : Option ℕ) : Type 0 where
+-- the calls of the effects that are done, and the costs of the others
+pub record CostSoFar (s t : NodeState) (r : Request) (done later : List DurableEffect) (left0 left : Option ℕ) : Type 0 where
   pub keep : KeepCosts t.segments (effects_by r later)
   pub same : (cut : Cut) → map (cost_of cut t.segments) (effects_by r later) ≡ map (cost_of cut s.segments) (effects_by r later)
   pub passed : (cut : Cut) → Passed (calls_of (map (cost_of cut s.segments) (effects_by r done))) left0 left
 
--- a disk that tells its bytes, after the deeds that are done
-pub record SoFar (v0 v : View) (m : NodeState) (rows0 rows : List SegmentRow) (s : NodeState) (r : Request) (ds done later : List Deed) (open_ : Option ℕ) (left0 left : Option ℕ) : Type 0 where
+-- a disk that tells its bytes, after the effects that are done
+pub record SoFar (v0 v : View) (m : NodeState) (rows0 rows : List SegmentRow) (s : NodeState) (r : Request) (ds done later : List DurableEffect) (open_ : Option ℕ) (left0 left : Option ℕ) : Type 0 where
   pub state : NodeState
   pub state_is : state ≡ after_effects s (effects_by r done)
   pub held : IsHeld v m rows state
@@ -50,7 +50,7 @@ pub record SoFar (v0 v : View) (m : NodeState) (rows0 rows : List SegmentRow) (s
   pub opened : (o : Option ℕ) → EndOpen (OpenedAt v0 s.segments rows0 o) o ds → EndOpen (OpenedAt v state.segments rows o) o later
   pub costs : KeepCosts s.segments (effects_by r ds) → CostSoFar s state r done later left0 left
 
-pub record IsUnderWay (told tells : Type 0) (v0 v : View) (m0 m : NodeState) (rows0 rows : List SegmentRow) (r : Request) (ds done later : List Deed) (f0 f : ℕ) (was_steady is_steady : Type 0) (left0 left : Option ℕ) : Type 0 where
+pub record IsUnderWay (told tells : Type 0) (v0 v : View) (m0 m : NodeState) (rows0 rows : List SegmentRow) (r : Request) (ds done later : List DurableEffect) (f0 f : ℕ) (was_steady is_steady : Type 0) (left0 left : Option ℕ) : Type 0 where
   pub all : ds ≡ done ++ later
   pub tells_on : told ↔ tells
   pub noted : (gs : List Segment) × Tells gs rows × AreDue gs rows r later
@@ -61,27 +61,27 @@ pub record IsUnderWay (told tells : Type 0) (v0 v : View) (m0 m : NodeState) (ro
   pub same : was_steady → f ≡ f0
 
 -- ## The first effects
-pub front_is : (r : Request) (ds done later : List Deed) → ds ≡ done ++ later → take (length done) (effects_by r ds) ≡ effects_by r done
+pub front_is : (r : Request) (ds done later : List DurableEffect) → ds ≡ done ++ later → take (length done) (effects_by r ds) ≡ effects_by r done
 front_is r ds done later all = take-map (effect_of r) (length done) ds ∙ ap (map (effect_of r)) (ap (take (length done)) all ∙ take-append_seam done later)
 
-pub front_within : (r : Request) (ds done later : List Deed) → ds ≡ done ++ later → length done ≤ length (effects_by r ds)
+pub front_within : (r : Request) (ds done later : List DurableEffect) → ds ≡ done ++ later → length done ≤ length (effects_by r ds)
 front_within r ds done later all = omega (arith, length-map ds (effect_of r), length-append done later, ap length all)
 
-pub stopped_at : (s : NodeState) (r : Request) (ds done later : List Deed) → ds ≡ done ++ later → (t : NodeState) → t ≡ after_effects s (effects_by r done) → (c : Files) → StandsAs c t → StandsStopped s (effects_by r ds) c
+pub stopped_at : (s : NodeState) (r : Request) (ds done later : List DurableEffect) → ds ≡ done ++ later → (t : NodeState) → t ≡ after_effects s (effects_by r done) → (c : Files) → StandsAs c t → StandsStopped s (effects_by r ds) c
 stopped_at s r ds done later all t is c stands = record {
   count = length done;
   within = front_within r ds done later all;
   stands = subst (λ (x : NodeState). StandsAs c x) (is ∙ ap (after_effects s) (sym (front_is r ds done later all))) stands;
 }
 
-pub behind_next : (s : NodeState) (r : Request) (done : List Deed) (d : Deed) (t : NodeState) → t ≡ after_effects s (effects_by r done) → after_effect t (effect_of r d) ≡ after_effects s (effects_by r (done ++ d ∷ []))
+pub behind_next : (s : NodeState) (r : Request) (done : List DurableEffect) (d : DurableEffect) (t : NodeState) → t ≡ after_effects s (effects_by r done) → after_effect t (effect_of r d) ≡ after_effects s (effects_by r (done ++ d ∷ []))
 unfolding after_effects
 behind_next s r done d t is =
     ap (λ (x : NodeState). after_effect x (effect_of r d)) is
     ∙ sym (after-append (effects_by r done) (effect_of r d ∷ []) s)
     ∙ ap (after_effects s) (sym (map-append (effect_of r) done (d ∷ [])))
 
--- what no deed changes
+-- what no effect changes
 pub record SameRest (m0 m : NodeState) : Type 0 where
   pub known : m.known ≡ m0.known
   pub opened : m.opened ≡ m0.opened
@@ -102,25 +102,27 @@ rest_noted m0 m es is = let rest = rest_same es m0 in record {
 }
 
 -- ## The open segment
-pub end_weaker : (A B : Type 0) → (A → B) → (o : Option ℕ) (ds : List Deed) → EndOpen A o ds → EndOpen B o ds
+pub end_weaker : (A B : Type 0) → (A → B) → (o : Option ℕ) (ds : List DurableEffect) → EndOpen A o ds → EndOpen B o ds
 end_weaker A B f o [] is = f is
 end_weaker A B f o (d ∷ ds) is = end_weaker (Opens o d ⊎ (Spares o d × A)) (Opens o d ⊎ (Spares o d × B)) (λ how. ⊎_elim (λ opens. inl opens) (λ kept. inr (kept.0, f kept.1)) how) o ds is
 
-place_of : (v : View) (gs : List Segment) (rows : List SegmentRow) (open_ : Option ℕ) (d : Deed) → OpenedAt v gs rows open_ → GoesTo open_ d → HasPlace v gs rows d
-place_of v gs rows open_ (deed.Number number value) is goes = tt
-place_of v gs rows open_ (deed.Begin start epoch) is goes = tt
-place_of v gs rows open_ (deed.Append start at) is goes = subst (λ (o : Option ℕ). OpenedAt v gs rows o) goes is
-place_of v gs rows open_ (deed.Accept epoch again) is goes = tt
-place_of v gs rows open_ (deed.Finalize start end accepted) is goes = tt
-place_of v gs rows open_ (deed.Remove info) is goes = tt
+place_of : (v : View) (gs : List Segment) (rows : List SegmentRow) (open_ : Option ℕ) (d : DurableEffect) → OpenedAt v gs rows open_ → GoesTo open_ d → HasPlace v gs rows d
+place_of v gs rows open_ (durable.Promise epoch) is goes = tt
+place_of v gs rows open_ (durable.WriterEpoch epoch) is goes = tt
+place_of v gs rows open_ (durable.Commit txid) is goes = tt
+place_of v gs rows open_ (durable.NewSegment start epoch) is goes = tt
+place_of v gs rows open_ (durable.Append start at) is goes = subst (λ (o : Option ℕ). OpenedAt v gs rows o) goes is
+place_of v gs rows open_ (durable.Replace epoch again) is goes = tt
+place_of v gs rows open_ (durable.MakeFinal start end accepted) is goes = tt
+place_of v gs rows open_ (durable.Remove info) is goes = tt
 
 -- ## Costs
-pub calls_snoc : (f : Effect → Cost) (r : Request) (done : List Deed) (d : Deed) → calls_of (map f (effects_by r (done ++ d ∷ []))) ≡ calls_of (map f (effects_by r done)) + (f (effect_of r d)).calls
+pub calls_snoc : (f : Effect → Cost) (r : Request) (done : List DurableEffect) (d : DurableEffect) → calls_of (map f (effects_by r (done ++ d ∷ []))) ≡ calls_of (map f (effects_by r done)) + (f (effect_of r d)).calls
 calls_snoc f r [] d = omega arith
 calls_snoc f r (x ∷ done) d = omega (arith, calls_snoc f r done d)
 
 -- ## Before the first
-module _ (told : Type 0) (v0 : View) (sound0 : told → IsSound v0) (m0 : NodeState) (rows0 : List SegmentRow) (r : Request) (ds : List Deed) (f0 : ℕ) (was_steady : Type 0) (left0 : Option ℕ) where
+module _ (told : Type 0) (v0 : View) (sound0 : told → IsSound v0) (m0 : NodeState) (rows0 : List SegmentRow) (r : Request) (ds : List DurableEffect) (f0 : ℕ) (was_steady : Type 0) (left0 : Option ℕ) where
   pub begun : (gs : List Segment) × Tells gs rows0 × AreDue gs rows0 r ds → IsUnderWay told told v0 v0 m0 m0 rows0 rows0 r ds [] ds f0 f0 was_steady was_steady left0 left0
   unfolding after_effects
   begun noted = record {
@@ -145,7 +147,7 @@ module _ (told : Type 0) (v0 : View) (sound0 : told → IsSound v0) (m0 : NodeSt
   }
 
 -- ## One more
-module _ (v0 v : View) (m : NodeState) (rows0 rows : List SegmentRow) (s : NodeState) (r : Request) (ds done : List Deed) (d : Deed) (later : List Deed) (open_ : Option ℕ) (left0 left : Option ℕ) (all : ds ≡ done ++ (d ∷ later))
+module _ (v0 v : View) (m : NodeState) (rows0 rows : List SegmentRow) (s : NodeState) (r : Request) (ds done : List DurableEffect) (d : DurableEffect) (later : List DurableEffect) (open_ : Option ℕ) (left0 left : Option ℕ) (all : ds ≡ done ++ (d ∷ later))
     (so : SoFar v0 v m rows0 rows s r ds done (d ∷ later) open_ left0 left) where
   pub can_now : CanDo v m rows so.state r d
   can_now = record { held = so.held; due = so.due.0; place = place_of v so.state.segments rows open_ d so.is_open so.within.0 }
@@ -194,9 +196,9 @@ module _ (v0 v : View) (m : NodeState) (rows0 rows : List SegmentRow) (s : NodeS
         costs = λ keep. cost_then ok (so.costs keep);
       }
 
--- ## The deeds of a run
-module _ (told : Type 0) (v0 : View) (m0 : NodeState) (rows0 : List SegmentRow) (r : Request) (ds : List Deed) (f0 : ℕ) (was_steady : Type 0) (left0 : Option ℕ)
-    (tells : Type 0) (v : View) (m : NodeState) (rows : List SegmentRow) (done : List Deed) (d : Deed) (later : List Deed) (f : ℕ) (is_steady : Type 0) (left : Option ℕ)
+-- ## The effects of a run
+module _ (told : Type 0) (v0 : View) (m0 : NodeState) (rows0 : List SegmentRow) (r : Request) (ds : List DurableEffect) (f0 : ℕ) (was_steady : Type 0) (left0 : Option ℕ)
+    (tells : Type 0) (v : View) (m : NodeState) (rows : List SegmentRow) (done : List DurableEffect) (d : DurableEffect) (later : List DurableEffect) (f : ℕ) (is_steady : Type 0) (left : Option ℕ)
     (way : IsUnderWay told tells v0 v m0 m rows0 rows r ds done (d ∷ later) f0 f was_steady is_steady left0 left)
     (tells1 : Type 0) (v1 : View) (m1 : NodeState) (rows1 : List SegmentRow) (f1 : ℕ) (steady1 : Type 0) (left1 : Option ℕ) (result : Result (Unit {0}) DiskFail) (on : tells ↔ tells1)
     (effect : tells → (t : NodeState) → CanDo v m rows t r d → Does t (after_effect t (effect_of r d)) result v v1)
@@ -234,11 +236,11 @@ module _ (told : Type 0) (v0 : View) (m0 : NodeState) (rows0 : List SegmentRow) 
   }
 
 -- ## The place of a loop
-module _ (told tells : Type 0) (v0 v : View) (m0 m : NodeState) (rows0 rows : List SegmentRow) (r : Request) (ds : List Deed) (i : ℕ) (d : Deed) (f0 f : ℕ) (was_steady is_steady : Type 0) (left0 left : Option ℕ) (lt : i < length ds) where
+module _ (told tells : Type 0) (v0 v : View) (m0 m : NodeState) (rows0 rows : List SegmentRow) (r : Request) (ds : List DurableEffect) (i : ℕ) (d : DurableEffect) (f0 f : ℕ) (was_steady is_steady : Type 0) (left0 left : Option ℕ) (lt : i < length ds) where
   pub way_here : IsUnderWay told tells v0 v m0 m rows0 rows r ds (take i ds) (drop i ds) f0 f was_steady is_steady left0 left
       → IsUnderWay told tells v0 v m0 m rows0 rows r ds (take i ds) (get_or ds i d ∷ drop (i + 1) ds) f0 f was_steady is_steady left0 left
-  way_here way = subst (λ (xs : List Deed). IsUnderWay told tells v0 v m0 m rows0 rows r ds (take i ds) xs f0 f was_steady is_steady left0 left) (drop_more ds i d lt) way
+  way_here way = subst (λ (xs : List DurableEffect). IsUnderWay told tells v0 v m0 m rows0 rows r ds (take i ds) xs f0 f was_steady is_steady left0 left) (drop_more ds i d lt) way
 
   pub way_next : IsUnderWay told tells v0 v m0 m rows0 rows r ds (take i ds ++ get_or ds i d ∷ []) (drop (i + 1) ds) f0 f was_steady is_steady left0 left
       → IsUnderWay told tells v0 v m0 m rows0 rows r ds (take (i + 1) ds) (drop (i + 1) ds) f0 f was_steady is_steady left0 left
-  way_next way = subst (λ (xs : List Deed). IsUnderWay told tells v0 v m0 m rows0 rows r ds xs (drop (i + 1) ds) f0 f was_steady is_steady left0 left) (sym (take_more ds i d lt)) way
+  way_next way = subst (λ (xs : List DurableEffect). IsUnderWay told tells v0 v m0 m rows0 rows r ds xs (drop (i + 1) ds) f0 f was_steady is_steady left0 left) (sym (take_more ds i d lt)) way

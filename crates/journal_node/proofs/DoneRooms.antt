@@ -1,6 +1,7 @@
--- The deeds of a request have room: one that may put a row is the last.
+-- The effects of a request have room: one that may put a row is the last.
 use Rattle.std.proofs.Common.{◌≡◌, ℕ, ◌+◌, ◌<◌, ◌≤◌, ◌++◌, Bool, true, false, List, [], ◌∷◌, length, take, drop, get_or, map, filter, Option, Some, None, refl, sym, subst, cond, arith, zero, suc}
 use Rattle.std.specs.Prelude.{◌||◌}
+use Rattle.std.proofs.lemmas.Bool.{or_left, or_right}
 use Rattle.std.proofs.lemmas.List.{drop_more}
 use Rattle.std.specs.List.{list_any}
 use Rattle.journal_core.specs.Views.{HeadView}
@@ -12,32 +13,32 @@ use Rattle.journal_core.specs.declared.request.Request.TheVariants.{State, NewEp
 use Rattle.journal_core.specs.Limits.{head_of}
 use Rattle.journal_core.specs.Effects.{Effect, Promise, WriterEpoch, Commit, NewSegment, Append, Replace, MakeFinal, Remove}
 use Rattle.journal_core.specs.Step.{refused_at_once, front_effects, fronted, row_refused, may_go, row_effects, effects_after, effects_unless, effects_of}
-use Rattle.node_deeds.specs.Due.{effect_of, puts_row}
+use Rattle.node_effects.specs.Due.{effect_of, puts_row}
 use Rattle.journal_node.specs.Done.{effects_by, HasRoom}
-use Rattle.node_deeds.specs.declared.deed.Deed.{Deed}
-use Rattle.node_deeds.specs.declared.deed.Deed.TheVariants as deed
+use Rattle.request_decision.specs.declared.durable_effect.DurableEffect.{DurableEffect}
+use Rattle.request_decision.specs.declared.durable_effect.DurableEffect.TheVariants as durable
 
--- ## Deeds one by one
-pub room_here : (ds : List Deed) (i count room : ℕ) (d : Deed) → i < length ds → HasRoom (drop i ds) count room → HasRoom (get_or ds i d ∷ drop (i + 1) ds) count room
-room_here ds i count room d lt has = subst (λ (xs : List Deed). HasRoom xs count room) (drop_more ds i d lt) has
+-- ## Effects one by one
+pub room_here : (ds : List DurableEffect) (i count room : ℕ) (d : DurableEffect) → i < length ds → HasRoom (drop i ds) count room → HasRoom (get_or ds i d ∷ drop (i + 1) ds) count room
+room_here ds i count room d lt has = subst (λ (xs : List DurableEffect). HasRoom xs count room) (drop_more ds i d lt) has
 
-fewer : (ds : List Deed) (count less room same : ℕ) → less ≤ count → same ≡ room → HasRoom ds count room → HasRoom ds less same
+fewer : (ds : List DurableEffect) (count less room same : ℕ) → less ≤ count → same ≡ room → HasRoom ds count room → HasRoom ds less same
 fewer [] count less room same le is has = tt
 fewer (d ∷ ds) count less room same le is has = (λ puts. (let fits = (has.0 puts).0 in omega (arith, le, is, fits), (has.0 puts).1), fewer ds count less room same le is has.1)
 
-next_by : (puts : Bool) (ds : List Deed) (count less room same : ℕ) → (puts ≡ true → (count < room) × (ds ≡ [])) → (puts ≡ false → less ≤ count) → (puts ≡ false → same ≡ room) → HasRoom ds count room → HasRoom ds less same
-next_by true ds count less room same last le is has = subst (λ (xs : List Deed). HasRoom xs less same) (sym (last refl).1) tt
+next_by : (puts : Bool) (ds : List DurableEffect) (count less room same : ℕ) → (puts ≡ true → (count < room) × (ds ≡ [])) → (puts ≡ false → less ≤ count) → (puts ≡ false → same ≡ room) → HasRoom ds count room → HasRoom ds less same
+next_by true ds count less room same last le is has = subst (λ (xs : List DurableEffect). HasRoom xs less same) (sym (last refl).1) tt
 next_by false ds count less room same last le is has = fewer ds count less room same (le refl) (is refl) has
 
-pub room_next : (d : Deed) (ds : List Deed) (count less room same : ℕ) → HasRoom (d ∷ ds) count room → (puts_row d ≡ false → less ≤ count) → (puts_row d ≡ false → same ≡ room) → HasRoom ds less same
+pub room_next : (d : DurableEffect) (ds : List DurableEffect) (count less room same : ℕ) → HasRoom (d ∷ ds) count room → (puts_row d ≡ false → less ≤ count) → (puts_row d ≡ false → same ≡ room) → HasRoom ds less same
 room_next d ds count less room same has le is = next_by (puts_row d) ds count less room same has.0 le is has.1
 
-take_none : (k : ℕ) (ds : List Deed) → ds ≡ [] → take k ds ≡ []
+take_none : (k : ℕ) (ds : List DurableEffect) → ds ≡ [] → take k ds ≡ []
 take_none zero ds is = refl
 take_none (suc k) [] is = refl
 take_none (suc k) (d ∷ ds) is = absurd (cc)
 
-pub room_take : (k : ℕ) (ds : List Deed) (count room : ℕ) → HasRoom ds count room → HasRoom (take k ds) count room
+pub room_take : (k : ℕ) (ds : List DurableEffect) (count room : ℕ) → HasRoom ds count room → HasRoom (take k ds) count room
 room_take zero ds count room has = tt
 room_take (suc k) [] count room has = tt
 room_take (suc k) (d ∷ ds) count room has = (λ puts. ((has.0 puts).0, take_none k ds (has.0 puts).1), room_take k ds count room has.1)
@@ -57,31 +58,25 @@ abbrev pub AreLast : List Effect → Type 0
 AreLast [] = Unit {0}
 AreLast (e ∷ es) = (Puts e ≡ true → es ≡ []) × AreLast es
 
-puts_same : (r : Request) (d : Deed) → puts_row d ≡ true → Puts (effect_of r d) ≡ true
-puts_same r (deed.Number number value) puts = absurd (cc)
-puts_same r (deed.Begin start epoch) puts = refl
-puts_same r (deed.Append start at) puts = absurd (cc)
-puts_same r (deed.Accept epoch again) puts = refl
-puts_same r (deed.Finalize start end accepted) puts = absurd (cc)
-puts_same r (deed.Remove info) puts = absurd (cc)
+puts_same : (r : Request) (d : DurableEffect) → puts_row d ≡ true → Puts (effect_of r d) ≡ true
+puts_same r (durable.Promise epoch) puts = absurd (cc)
+puts_same r (durable.WriterEpoch epoch) puts = absurd (cc)
+puts_same r (durable.Commit txid) puts = absurd (cc)
+puts_same r (durable.NewSegment start epoch) puts = refl
+puts_same r (durable.Append start at) puts = absurd (cc)
+puts_same r (durable.Replace epoch again) puts = refl
+puts_same r (durable.MakeFinal start end accepted) puts = absurd (cc)
+puts_same r (durable.Remove info) puts = absurd (cc)
 
-none_of : (r : Request) (ds : List Deed) → effects_by r ds ≡ [] → ds ≡ []
+none_of : (r : Request) (ds : List DurableEffect) → effects_by r ds ≡ [] → ds ≡ []
 none_of r [] is = refl
 none_of r (d ∷ ds) is = absurd (cc)
 
-any_here : (a b : Bool) → a ≡ true → (a || b) ≡ true
-any_here true b is = refl
-any_here false b is = absurd (cc)
-
-any_after : (a b : Bool) → b ≡ true → (a || b) ≡ true
-any_after true b is = refl
-any_after false b is = is
-
-room_by : (r : Request) (ds : List Deed) (count room : ℕ) → AreLast (effects_by r ds) → (list_any puts_row ds ≡ true → count < room) → HasRoom ds count room
+room_by : (r : Request) (ds : List DurableEffect) (count room : ℕ) → AreLast (effects_by r ds) → (list_any puts_row ds ≡ true → count < room) → HasRoom ds count room
 room_by r [] count room last fits = tt
 room_by r (d ∷ ds) count room last fits = (
-  λ puts. (fits (any_here (puts_row d) (list_any puts_row ds) puts), none_of r ds (last.0 (puts_same r d puts))),
-  room_by r ds count room last.1 (λ any. fits (any_after (puts_row d) (list_any puts_row ds) any)),
+  λ puts. (fits (or_left (puts_row d) (list_any puts_row ds) puts), none_of r ds (last.0 (puts_same r d puts))),
+  room_by r ds count room last.1 (λ any. fits (or_right (puts_row d) (list_any puts_row ds) any)),
 )
 
 -- ## The effects of a request
@@ -132,6 +127,6 @@ unless_last : (s : NodeState) (r : Request) (o : Option Refusal) → AreLast (ef
 unless_last s r (Some refusal) = tt
 unless_last s r None = front_last s (head_of r) _ (after_last (fronted s r) r (row_refused (fronted s r) r))
 
-pub room_made : (s : NodeState) (r : Request) (ds : List Deed) (count room : ℕ) → effects_by r ds ≡ effects_of s r → (list_any puts_row ds ≡ true → count < room) → HasRoom ds count room
+pub room_made : (s : NodeState) (r : Request) (ds : List DurableEffect) (count room : ℕ) → effects_by r ds ≡ effects_of s r → (list_any puts_row ds ≡ true → count < room) → HasRoom ds count room
 unfolding effects_of
 room_made s r ds count room are fits = room_by r ds count room (subst AreLast (sym are) (unless_last s r (refused_at_once s r))) fits

@@ -1,4 +1,4 @@
--- A run of deeds that failed at one of them, and one that ended.
+-- A run of effects that failed at one of them, and one that ended.
 use Rattle.std.proofs.Common.{inl, inr, ⊎_elim, ◌≡◌, ◌⊎◌, ℕ, suc, ◌≤◌, ◌<◌, ◌+◌, ◌-◌, ◌++◌, Bool, true, false, List, [], ◌∷◌, length, take, map, Option, Some, refl, sym, ap, subst, ◌∙◌, arith, length-append, append_assoc, append-nil}
 use Rattle.std.specs.Prelude.{Result, Ok, Err, OnErr, IsErr, IsErrOf, nat_le, if◌then◌else◌}
 use Rattle.std.proofs.lemmas.Bool.{cases_lt, le-leb}
@@ -18,15 +18,15 @@ use Rattle.segment_file.specs.Effects.{IsCounted}
 use Rattle.segment_file.specs.declared.segment_row.SegmentRow.{SegmentRow}
 use Rattle.segment_file.proofs.Counts.{counted_off}
 use Rattle.node_files.specs.Durable.{StandsAs}
-use Rattle.node_files.specs.Deeds.{Does, IsCutAt}
-use Rattle.node_deeds.specs.Told.{Tells, state_with}
-use Rattle.node_deeds.specs.Due.{effect_of, IsDue}
+use Rattle.node_files.specs.EffectCalls.{Does, IsCutAt}
+use Rattle.node_effects.specs.Told.{Tells, state_with}
+use Rattle.node_effects.specs.Due.{effect_of, IsDue}
 use Rattle.journal_node.specs.Held as held
 use Rattle.journal_node.specs.Held.{IsHeld, OpenedAt, StandsStopped, MayLeave}
 use Rattle.journal_node.specs.FileState.{Covers}
 use Rattle.journal_node.specs.Doing.{CanDo}
 use Rattle.journal_node.specs.Done.{effects_by, CanDoAll, EndOpen, LeftStopped, KeepCosts, calls_of, IsCutAmong}
-use Rattle.node_deeds.specs.declared.deed.Deed.{Deed}
+use Rattle.request_decision.specs.declared.durable_effect.DurableEffect.{DurableEffect}
 use Rattle.journal_node.proofs.DoingRows.{sound_after}
 use Rattle.journal_node.proofs.DoneLaws.{SoFar, CostSoFar, IsUnderWay, front_is, front_within, rest_noted, behind_next, can_now, next_all, next_is, moments_then, head_cost}
 
@@ -66,7 +66,7 @@ bounded cut gs (Replace epoch batch) = accept_bounded (has_record_of epoch (find
 bounded cut gs (MakeFinal start) = name_bounded (has_record (find_segment start gs))
 bounded cut gs (Remove start) = name_bounded (has_record (find_segment start gs))
 
-calls_front : (f : Effect → Cost) (r : Request) (done : List Deed) (d : Deed) (later : List Deed)
+calls_front : (f : Effect → Cost) (r : Request) (done : List DurableEffect) (d : DurableEffect) (later : List DurableEffect)
     → calls_of (map f (effects_by r (done ++ d ∷ later))) ≡ calls_of (map f (effects_by r done)) + ((f (effect_of r d)).calls + calls_of (map f (effects_by r later)))
 calls_front f r [] d later = omega arith
 calls_front f r (x ∷ done) d later = omega (arith, calls_front f r done d later)
@@ -100,7 +100,7 @@ standing_more c cs j le =
     let rest : c.calls + j - c.calls ≡ j = omega arith in
     ap (λ (b : Bool). if b then suc (standing (c.calls + j - c.calls) cs) else 0) yes_ ∙ ap (λ (n : ℕ). suc (standing n cs)) rest
 
-standing_front : (f : Effect → Cost) → ((e : Effect) → IsBounded (f e)) → (r : Request) (done : List Deed) (d : Deed) (later : List Deed) (j : ℕ) → j < (f (effect_of r d)).calls
+standing_front : (f : Effect → Cost) → ((e : Effect) → IsBounded (f e)) → (r : Request) (done : List DurableEffect) (d : DurableEffect) (later : List DurableEffect) (j : ℕ) → j < (f (effect_of r d)).calls
     → standing (calls_of (map f (effects_by r done)) + j) (map f (effects_by r (done ++ d ∷ later))) ≡ length done + one_if (nat_le (f (effect_of r d)).decides j)
 standing_front f all r [] d later j few =
     ap (λ (n : ℕ). standing n (map f (effects_by r (d ∷ later)))) (let e : 0 + j ≡ j = omega arith in e)
@@ -114,8 +114,8 @@ standing_front f all r (x ∷ done) d later j few =
     ∙ ap (λ (n : ℕ). suc n) (standing_front f all r done d later j few)
     ∙ (let e : suc (length done + one_if (nat_le (f (effect_of r d)).decides j)) ≡ suc (length done) + one_if (nat_le (f (effect_of r d)).decides j) = omega arith in e)
 
--- the state after the deeds that are done, or after one more
-either_front : (P : NodeState → Type 0) (s : NodeState) (r : Request) (ds done : List Deed) (d : Deed) (later : List Deed) → ds ≡ done ++ (d ∷ later) → (t : NodeState) → t ≡ after_effects s (effects_by r done) → (b : Bool)
+-- the state after the effects that are done, or after one more
+either_front : (P : NodeState → Type 0) (s : NodeState) (r : Request) (ds done : List DurableEffect) (d : DurableEffect) (later : List DurableEffect) → ds ≡ done ++ (d ∷ later) → (t : NodeState) → t ≡ after_effects s (effects_by r done) → (b : Bool)
     → P (if b then after_effect t (effect_of r d) else t) → P (after_effects s (take (length done + one_if b) (effects_by r ds)))
 either_front P s r ds done d later all t is true p =
     let next : ds ≡ (done ++ d ∷ []) ++ later = all ∙ sym (append_assoc done (d ∷ []) later) in
@@ -129,9 +129,9 @@ either_left : (c : Files) (rows : List SegmentRow) (t u : NodeState) (b : Bool) 
 either_left c rows t u true soundt soundu covers stands = record { stands = stands; sound = soundu; covers = covers.1 }
 either_left c rows t u false soundt soundu covers stands = record { stands = stands; sound = soundt; covers = covers.0 }
 
--- ## At a deed that failed
-module _ (told : Type 0) (v0 : View) (m0 : NodeState) (rows0 : List SegmentRow) (r : Request) (ds : List Deed) (f0 : ℕ) (was_steady : Type 0) (left0 : Option ℕ)
-    (tells : Type 0) (v : View) (m : NodeState) (rows : List SegmentRow) (done : List Deed) (d : Deed) (later : List Deed) (f : ℕ) (is_steady : Type 0) (left : Option ℕ)
+-- ## At an effect that failed
+module _ (told : Type 0) (v0 : View) (m0 : NodeState) (rows0 : List SegmentRow) (r : Request) (ds : List DurableEffect) (f0 : ℕ) (was_steady : Type 0) (left0 : Option ℕ)
+    (tells : Type 0) (v : View) (m : NodeState) (rows : List SegmentRow) (done : List DurableEffect) (d : DurableEffect) (later : List DurableEffect) (f : ℕ) (is_steady : Type 0) (left : Option ℕ)
     (way : IsUnderWay told tells v0 v m0 m rows0 rows r ds done (d ∷ later) f0 f was_steady is_steady left0 left) where
   pub failed_rows : (rows1 : List SegmentRow) → ((gs : List Segment) → Tells gs rows → IsDue gs rows r d → Tells gs rows1 ⊎ Tells (segments_after gs (effect_of r d)) rows1) → (gs : List Segment) × Tells gs rows1
   failed_rows rows1 either = by (either way.noted.0 way.noted.1 way.noted.2.0)
@@ -186,12 +186,12 @@ module _ (told : Type 0) (v0 : View) (m0 : NodeState) (rows0 : List SegmentRow) 
 
       pub failed_counts : IsErr result → IsCounted (calls_of (map (cost_of cut s.segments) (effects_by r ds))) left0 left1 result
       failed_counts err =
-          let total = ap (λ (xs : List Deed). calls_of (map (cost_of cut s.segments) (effects_by r xs))) way.all ∙ calls_front (cost_of cut s.segments) r done d later in
+          let total = ap (λ (xs : List DurableEffect). calls_of (map (cost_of cut s.segments) (effects_by r xs))) way.all ∙ calls_front (cost_of cut s.segments) r done d later in
           let calls = ap (λ (c : Cost). c.calls) same_cost in
           counted_off (cost_of cut here.state.segments (effect_of r d)).calls (calls_of (map (cost_of cut s.segments) (effects_by r done))) left0 left left1 result (cost.passed cut) count
           (calls_of (map (cost_of cut s.segments) (effects_by r ds))) (omega (arith, total, calls)) err
 
-      -- fewer calls were left than the deed has
+      -- fewer calls were left than the effect has
       few_left : (j : ℕ) → left ≡ Some j → IsErrOf result Failed → j < (cost_of cut s.segments (effect_of r d)).calls
       few_left j is failed = subst (λ (c : Cost). j < c.calls) same_cost (⊎_elim (λ few. few)
           (λ enough. absurd ((count.counts (j - n) (is ∙ ap (λ (x : ℕ). Some x) (let e : j ≡ n + (j - n) = omega (arith, enough) in e))).0 failed)) (cases_lt j n))
@@ -212,7 +212,7 @@ module _ (told : Type 0) (v0 : View) (m0 : NodeState) (rows0 : List SegmentRow) 
           ((at_cut (way.tells_on.0 t) so.state (can_here t s can)).stands passed.0 passed.2 failed cut c chosen) in
           let count : standing k (map (cost_of cut s.segments) (effects_by r ds)) ≡ length done + one_if (nat_le (cost_of cut s.segments (effect_of r d)).decides passed.0) =
           ap (λ (n : ℕ). standing n (map (cost_of cut s.segments) (effects_by r ds))) passed.1
-          ∙ ap (λ (xs : List Deed). standing (calls_of (map (cost_of cut s.segments) (effects_by r done)) + passed.0) (map (cost_of cut s.segments) (effects_by r xs))) way.all
+          ∙ ap (λ (xs : List DurableEffect). standing (calls_of (map (cost_of cut s.segments) (effects_by r done)) + passed.0) (map (cost_of cut s.segments) (effects_by r xs))) way.all
           ∙ standing_front (cost_of cut s.segments) (bounded cut s.segments) r done d later passed.0 few in
           let both : Bool = nat_le (cost_of cut s.segments (effect_of r d)).decides passed.0 in
           let is_left = either_left c rows1 so.state (after_effect so.state (effect_of r d)) both so.held.sound (sound_after r d so.state.segments rows so.held.sound so.due.0) (covers so.state.segments so.held.told so.due.0 failed) here in
@@ -221,13 +221,13 @@ module _ (told : Type 0) (v0 : View) (m0 : NodeState) (rows0 : List SegmentRow) 
     }
 
 -- ## After the last
-module _ (told tells : Type 0) (v0 v : View) (m0 m : NodeState) (rows0 rows : List SegmentRow) (r : Request) (ds done later : List Deed) (f0 f : ℕ) (was_steady is_steady : Type 0) (left0 left : Option ℕ)
+module _ (told tells : Type 0) (v0 v : View) (m0 m : NodeState) (rows0 rows : List SegmentRow) (r : Request) (ds done later : List DurableEffect) (f0 f : ℕ) (was_steady is_steady : Type 0) (left0 left : Option ℕ)
     (way : IsUnderWay told tells v0 v m0 m rows0 rows r ds done later f0 f was_steady is_steady left0 left) (none : later ≡ []) where
   done_all : done ≡ ds
-  done_all = sym (append-nil done) ∙ ap (λ (xs : List Deed). done ++ xs) (sym none) ∙ sym way.all
+  done_all = sym (append-nil done) ∙ ap (λ (xs : List DurableEffect). done ++ xs) (sym none) ∙ sym way.all
 
   pub ended_memory : m ≡ state_with (after_effects m0 (effects_by r ds)) m0.segments
-  ended_memory = way.memory ∙ ap (λ (xs : List Deed). state_with (after_effects m0 (effects_by r xs)) m0.segments) done_all
+  ended_memory = way.memory ∙ ap (λ (xs : List DurableEffect). state_with (after_effects m0 (effects_by r xs)) m0.segments) done_all
 
   pub ended_rest : (m.known ≡ m0.known) × (m.opened ≡ m0.opened) × (m.serial ≡ m0.serial) × (m.up ≡ m0.up)
   ended_rest = let rest = rest_noted m0 m (effects_by r done) way.memory in (rest.known, rest.opened, rest.serial, rest.up)
@@ -237,7 +237,7 @@ module _ (told tells : Type 0) (v0 v : View) (m0 m : NodeState) (rows0 rows : Li
     so = way.so_far t s can
 
     state_then : so.state ≡ after_effects s (effects_by r ds)
-    state_then = so.state_is ∙ ap (λ (xs : List Deed). after_effects s (effects_by r xs)) done_all
+    state_then = so.state_is ∙ ap (λ (xs : List DurableEffect). after_effects s (effects_by r xs)) done_all
 
     pub ended_moments : LeavesOnly v0 v (StandsStopped s (effects_by r ds))
     ended_moments = so.moments
@@ -248,11 +248,11 @@ module _ (told tells : Type 0) (v0 v : View) (m0 m : NodeState) (rows0 rows : Li
     pub ended_opened : (o : Option ℕ) → EndOpen (OpenedAt v0 s.segments rows0 o) o ds → OpenedAt v (after_effects s (effects_by r ds)).segments rows o
     ended_opened o ends =
         subst (λ (x : NodeState). OpenedAt v x.segments rows o) state_then
-        (subst (λ (xs : List Deed). EndOpen (OpenedAt v so.state.segments rows o) o xs) none (so.opened o ends))
+        (subst (λ (xs : List DurableEffect). EndOpen (OpenedAt v so.state.segments rows o) o xs) none (so.opened o ends))
 
     pub ended_counts : KeepCosts s.segments (effects_by r ds) → (cut : Cut) (result : Result (Unit {0}) DiskFail) → result ≡ Ok tt → IsCounted (calls_of (map (cost_of cut s.segments) (effects_by r ds))) left0 left result
     ended_counts keep cut result ok =
-        let total = ap (λ (xs : List Deed). calls_of (map (cost_of cut s.segments) (effects_by r xs))) done_all in
+        let total = ap (λ (xs : List DurableEffect). calls_of (map (cost_of cut s.segments) (effects_by r xs))) done_all in
         subst (λ (x : Result (Unit {0}) DiskFail). IsCounted (calls_of (map (cost_of cut s.segments) (effects_by r ds))) left0 left x) (sym ok) record {
           stops = λ k is few. let passed = ((so.costs keep).passed cut).each k is in absurd (omega (arith, passed.1, few, total));
           counts = λ k is.

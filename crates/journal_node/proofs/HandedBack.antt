@@ -9,7 +9,7 @@ use Rattle.node_files.specs.declared.node_number.NodeNumber.TheVariants.{Promise
 use Rattle.node_files.specs.Durable.{HaveNumbers, StandsAs}
 use Rattle.journal_node.specs.FileState.{state_of}
 use Rattle.journal_node.specs.Node.{HasState, IsNode}
-use Rattle.journal_node.proofs.DoingDeed.{stands_now}
+use Rattle.journal_node.proofs.DoingEffect.{stands_now}
 use Rattle.journal_node.proofs.NodeStands.{state_told, rows_start}
 use Rattle.journal_node.proofs.ActingDone.{up_of}
 

@@ -4,7 +4,7 @@ pub mod RowLists
 pub mod StateLaws
 pub mod DoingRows
 pub mod DoingCalls
-pub mod DoingDeed
+pub mod DoingEffect
 pub mod DoneLaws
 pub mod DoneStops
 pub mod DoneCosts

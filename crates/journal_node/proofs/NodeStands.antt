@@ -14,13 +14,13 @@ use Rattle.segment_file.specs.declared.segment_row.SegmentRow.{SegmentRow}
 use Rattle.node_files.specs.Durable.{HoldsState, number_name}
 use Rattle.segment_file.specs.RowsTell.{OnlyAccepted, AreStarts, AreInfos}
 use Rattle.small_files.specs.Puts.{temporary}
-use Rattle.node_deeds.specs.Told.{Tells}
+use Rattle.node_effects.specs.Told.{Tells}
 use Rattle.journal_node.specs.FileState.{state_of, AreRowStarts}
 use Rattle.journal_node.specs.Held.{IsLeft, OpenedAt}
 use Rattle.journal_node.specs.Node.{IsUp, IsDown, HasState, IsNode, told_state}
-use Rattle.node_deeds.proofs.ToldLaws.{start_told}
+use Rattle.node_effects.proofs.ToldLaws.{start_told}
 use Rattle.journal_node.proofs.StateLaws.{up_decoded, down_decoded}
-use Rattle.journal_node.proofs.DoingDeed.{stands_now}
+use Rattle.journal_node.proofs.DoingEffect.{stands_now}
 use Rattle.journal_node.proofs.DoingRows.{tells_covers}
 
 -- ## The disk rests

@@ -12,7 +12,7 @@ use Rattle.journal_core.specs.Effects.{Effect, after_effects}
 use Rattle.journal_core.specs.Step.{row_refused, fetch_refused, fronted, effects_of}
 use Rattle.journal_core.proofs.SegmentLists.{find-start}
 use Rattle.segment_file.specs.declared.segment_row.SegmentRow.{SegmentRow}
-use Rattle.node_deeds.specs.declared.deed.Deed.{Deed}
+use Rattle.request_decision.specs.declared.durable_effect.DurableEffect.{DurableEffect}
 use Rattle.recent_edits.specs.Recent.{Recent, IsRecent, AsksRecent, FitsRing, held_from, nothing}
 use Rattle.recent_edits.proofs.Reading.{is_held}
 use Rattle.journal_node.specs.Done.{effects_by}
@@ -35,8 +35,8 @@ recalls_rests A v0 v1 m rows recent node told now rests recalls s up there =
     let is : IsUp v0 m rows was.0 = up_of v0 m rows was.0 up was.1 in
     recalls_of v1 m rows recent was.0 now (λ u. rests_up v0 v1 rests m rows was.0 is) (recalls was.0 up is) s up there
 
--- the segments after a request are those after its deeds
-pub after_recent : (recent : Recent) (s : NodeState) (r : Request) (ds : List Deed) → effects_by r ds ≡ effects_of s r → IsRecent recent (after_effects s (effects_by r ds)).segments → IsRecent recent (state_behind s r).segments
+-- the segments after a request are those after its effects
+pub after_recent : (recent : Recent) (s : NodeState) (r : Request) (ds : List DurableEffect) → effects_by r ds ≡ effects_of s r → IsRecent recent (after_effects s (effects_by r ds)).segments → IsRecent recent (state_behind s r).segments
 after_recent recent s r ds are held =
     subst (λ (gs : List Segment). IsRecent recent gs) (ap (λ (es : List Effect). (after_effects s es).segments) are ∙ sym (settled_segments (row_refused (fronted s r) r) (after_effects s (effects_of s r)) (fronted s r) r)) held
 

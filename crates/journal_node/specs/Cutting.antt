@@ -2,22 +2,9 @@
 use Rattle.std.specs.Prelude.{◌≡◌}
 use Rattle.qj_disk.specs.MemDisk.{disk_view, IsSameBut}
 use Rattle.qj_disk.specs.declared.mem_disk.MemDisk.{MemDisk}
-use Rattle.journal_core.specs.declared.cut.Cut.{Cut}
 use Rattle.journal_core.specs.declared.node_state.NodeState.{NodeState}
-use Rattle.journal_core.specs.Cuts.{Cost, number_cost, segment_cost, append_cost, accept_cost, name_cost}
-use Rattle.node_deeds.specs.declared.deed.Deed.{Deed}
-use Rattle.node_deeds.specs.declared.deed.Deed.TheVariants as deed
 use Rattle.journal_node.specs.FileState.{state_of}
 use Rattle.journal_node.specs.Node.{NodeParts}
-
--- how many disk calls a deed has, and at which of them its effect stands
-abbrev pub deed_cost : Cut → Deed → Cost
-deed_cost cut (deed.Number number value) = number_cost
-deed_cost cut (deed.Begin start epoch) = segment_cost
-deed_cost cut (deed.Append start at) = append_cost cut
-deed_cost cut (deed.Accept epoch again) = accept_cost again
-deed_cost cut (deed.Finalize start end accepted) = name_cost accepted
-deed_cost cut (deed.Remove info) = name_cost info.accepted
 
 -- the state of a node over a disk in memory
 abbrev pub state_in : NodeParts MemDisk → NodeState

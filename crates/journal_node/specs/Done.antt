@@ -1,4 +1,4 @@
--- Deeds done at a disk, one after the other.
+-- Effects done at a disk, one after the other.
 use Rattle.std.specs.Prelude.{ℕ, ◌≡◌, ◌⊎◌, ◌≤◌, ◌<◌, ◌+◌, true, List, [], ◌∷◌, length, map, take, Option, Some, None, Result, IsErrOf}
 use Rattle.qj_disk.specs.Files.{Files}
 use Rattle.qj_disk.specs.View.{View}
@@ -15,44 +15,44 @@ use Rattle.journal_core.specs.Effects.{Effect, segments_after, after_effects}
 use Rattle.journal_core.specs.Cuts.{Cost, cost_of, standing}
 use Rattle.segment_file.specs.Effects.{choice_of, IsLeft}
 use Rattle.segment_file.specs.declared.segment_row.SegmentRow.{SegmentRow}
-use Rattle.node_deeds.specs.Due.{effect_of, AreDue, puts_row}
+pub use Rattle.request_decision.specs.Durable.{effects_by}
+use Rattle.node_effects.specs.Due.{AreDue, puts_row}
 use Rattle.journal_node.specs.Held.{IsHeld, OpenedAt, Opens, Spares}
 use Rattle.journal_node.specs.Held as held
-use Rattle.node_deeds.specs.declared.deed.Deed.{Deed}
-use Rattle.node_deeds.specs.declared.deed.Deed.TheVariants as deed
-
-abbrev pub effects_by : Request → List Deed → List Effect
-effects_by r ds = map (effect_of r) ds
+use Rattle.request_decision.specs.declared.durable_effect.DurableEffect.{DurableEffect}
+use Rattle.request_decision.specs.declared.durable_effect.DurableEffect.TheVariants as durable
 
 -- an append goes to this segment
-abbrev pub GoesTo : Option ℕ → Deed → Type 0
-GoesTo open_ (deed.Number number value) = Unit {0}
-GoesTo open_ (deed.Begin start epoch) = Unit {0}
-GoesTo open_ (deed.Append start at) = open_ ≡ Some start
-GoesTo open_ (deed.Accept epoch again) = Unit {0}
-GoesTo open_ (deed.Finalize start end accepted) = Unit {0}
-GoesTo open_ (deed.Remove info) = Unit {0}
+abbrev pub GoesTo : Option ℕ → DurableEffect → Type 0
+GoesTo open_ (durable.Promise epoch) = Unit {0}
+GoesTo open_ (durable.WriterEpoch epoch) = Unit {0}
+GoesTo open_ (durable.Commit txid) = Unit {0}
+GoesTo open_ (durable.NewSegment start epoch) = Unit {0}
+GoesTo open_ (durable.Append start at) = open_ ≡ Some start
+GoesTo open_ (durable.Replace epoch again) = Unit {0}
+GoesTo open_ (durable.MakeFinal start end accepted) = Unit {0}
+GoesTo open_ (durable.Remove info) = Unit {0}
 
--- all appends go to one segment, which each deed leaves open
-abbrev pub AppendWithin : Option ℕ → List Deed → Type 0
+-- all appends go to one segment, which each effect leaves open
+abbrev pub AppendWithin : Option ℕ → List DurableEffect → Type 0
 AppendWithin open_ [] = Unit {0}
 AppendWithin open_ (d ∷ ds) = GoesTo open_ d × Spares open_ d × AppendWithin open_ ds
 
--- a deed that may put a row is the last, and there is room for the rows and one more
-abbrev pub HasRoom : List Deed → ℕ → ℕ → Type 0
+-- an effect that may put a row is the last, and there is room for the rows and one more
+abbrev pub HasRoom : List DurableEffect → ℕ → ℕ → Type 0
 HasRoom [] count room = Unit {0}
 HasRoom (d ∷ ds) count room = (puts_row d ≡ true → (count < room) × (ds ≡ [])) × HasRoom ds count room
 
--- A node of this state can do the deeds. Where one is an append, frames can be appended to its segment.
-pub record CanDoAll (v : View) (m : NodeState) (rows : List SegmentRow) (s : NodeState) (r : Request) (ds : List Deed) : Type 0 where
+-- A node of this state can do the effects. Where one is an append, frames can be appended to its segment.
+pub record CanDoAll (v : View) (m : NodeState) (rows : List SegmentRow) (s : NodeState) (r : Request) (ds : List DurableEffect) : Type 0 where
   pub held : IsHeld v m rows s
   pub due : AreDue s.segments rows r ds
   pub open_ : Option ℕ
   pub is_open : OpenedAt v s.segments rows open_
   pub within : AppendWithin open_ ds
 
--- the segment is open after the deeds: where it is now and each leaves it so, or where one begins it and those after it leave it so
-abbrev pub EndOpen : Type 0 → Option ℕ → List Deed → Type 0
+-- the segment is open after the effects: where it is now and each leaves it so, or where one begins it and those after it leave it so
+abbrev pub EndOpen : Type 0 → Option ℕ → List DurableEffect → Type 0
 EndOpen now open_ [] = now
 EndOpen now open_ (d ∷ ds) = EndOpen (Opens open_ d ⊎ (Spares open_ d × now)) open_ ds
 
@@ -77,7 +77,7 @@ pub record IsCutAmong {T : Type 0} (s : NodeState) (es : List Effect) (left : Op
   pub stands : (k : ℕ) → left ≡ Some k → IsErrOf result Failed → (cut : Cut) (c : Files) → IsLeft (choice_of cut) new c
       → held.IsLeft c rows (after_effects s (take (standing k (map (cost_of cut s.segments) es)) es))
 
--- ## The deeds of a request
+-- ## The effects of a request
 -- each effect of a request leaves the costs of those after it
 abbrev pub CostsAreKept : Type 0
 CostsAreKept = (s : NodeState) (r : Request) → AreSound s.segments → KeepCosts s.segments (effects_of s r)
@@ -87,6 +87,6 @@ abbrev pub append_start : Request → Option ℕ
 append_start (Journal head start batch) = Some start
 append_start _ = None
 
--- the deeds of a request append to no other, and leave it open
+-- the effects of a request append to no other, and leave it open
 abbrev pub AppendsAreWithin : Type 0
-AppendsAreWithin = (s : NodeState) (r : Request) (ds : List Deed) → effects_by r ds ≡ effects_of s r → AppendWithin (append_start r) ds
+AppendsAreWithin = (s : NodeState) (r : Request) (ds : List DurableEffect) → effects_by r ds ≡ effects_of s r → AppendWithin (append_start r) ds

@@ -11,9 +11,9 @@ use Rattle.segment_file.specs.Rows.{find_row}
 use Rattle.segment_file.specs.declared.segment_row.SegmentRow.{SegmentRow}
 use Rattle.node_files.specs.Durable.{StandsAs, HoldsState}
 use Rattle.journal_node.specs.FileState.{Covers, without_segments}
-use Rattle.node_deeds.specs.Told.{Tells}
-use Rattle.node_deeds.specs.declared.deed.Deed.{Deed}
-use Rattle.node_deeds.specs.declared.deed.Deed.TheVariants as deed
+use Rattle.node_effects.specs.Told.{Tells}
+use Rattle.request_decision.specs.declared.durable_effect.DurableEffect.{DurableEffect}
+use Rattle.request_decision.specs.declared.durable_effect.DurableEffect.TheVariants as durable
 
 -- The files and those that each crash now would leave stand for the state, memory has its numbers, and the rows tell its segments.
 pub record IsHeld (v : View) (m : NodeState) (rows : List SegmentRow) (s : NodeState) : Type 0 where
@@ -55,18 +55,20 @@ pub record StandsStopped (s : NodeState) (es : List Effect) (files : Files) : Ty
 abbrev pub numbers_after : NodeState → Effect → NodeState
 numbers_after m e = record m { promised = promised_after m.promised e; writer = writer_after m.writer e; committed = committed_after m.committed e }
 
--- the deed begins the segment that is to be open
-abbrev pub Opens : Option ℕ → Deed → Type 0
+-- the effect begins the segment that is to be open
+abbrev pub Opens : Option ℕ → DurableEffect → Type 0
 Opens None d = Unit {0}
-Opens (Some opened) (deed.Begin start epoch) = start ≡ opened
+Opens (Some opened) (durable.NewSegment start epoch) = start ≡ opened
 Opens (Some opened) _ = ⊥
 
--- the deed leaves the open segment open
-abbrev pub Spares : Option ℕ → Deed → Type 0
+-- the effect leaves the open segment open
+abbrev pub Spares : Option ℕ → DurableEffect → Type 0
 Spares None d = Unit {0}
-Spares (Some opened) (deed.Number number value) = Unit {0}
-Spares (Some opened) (deed.Begin start epoch) = start ≢ opened
-Spares (Some opened) (deed.Append start at) = Unit {0}
-Spares (Some opened) (deed.Accept epoch again) = ⊥
-Spares (Some opened) (deed.Finalize start end accepted) = start ≢ opened
-Spares (Some opened) (deed.Remove info) = info.start ≢ opened
+Spares (Some opened) (durable.Promise epoch) = Unit {0}
+Spares (Some opened) (durable.WriterEpoch epoch) = Unit {0}
+Spares (Some opened) (durable.Commit txid) = Unit {0}
+Spares (Some opened) (durable.NewSegment start epoch) = start ≢ opened
+Spares (Some opened) (durable.Append start at) = Unit {0}
+Spares (Some opened) (durable.Replace epoch again) = ⊥
+Spares (Some opened) (durable.MakeFinal start end accepted) = start ≢ opened
+Spares (Some opened) (durable.Remove info) = info.start ≢ opened

@@ -7,3 +7,4 @@ pub mod Node
 pub mod Opening
 pub mod Cutting
 pub mod Acted
+pub mod Clauses

@@ -19,7 +19,7 @@ use Rattle.journal_core.specs.Answers.{Rose}
 use Rattle.segment_file.specs.Rows.{RowsRise}
 use Rattle.segment_file.specs.declared.segment_row.SegmentRow.{SegmentRow}
 use Rattle.node_files.specs.Durable.{AreFilled}
-use Rattle.node_deeds.specs.Told.{Tells}
+use Rattle.node_effects.specs.Told.{Tells}
 use Rattle.recent_edits.specs.Recent.{Recent, IsRecent}
 use Rattle.journal_node.specs.FileState.{state_of}
 use Rattle.journal_node.specs.Held.{IsHeld, IsLeft, OpenedAt}
@@ -74,12 +74,12 @@ abbrev pub BringsEdits : Request → Type 0
 BringsEdits (Accept head batch) = any_body batch.bodies ≡ true
 BringsEdits _ = Unit {0}
 
--- ## After the deeds of a request
+-- ## After the effects of a request
 -- what the front changes in memory alone
 abbrev pub carried : NodeState → NodeState → NodeState
 carried s front = record s { known = front.known; opened = front.opened; serial = front.serial }
 
--- what follows the deeds: where the request is refused only what the front did
+-- what follows the effects: where the request is refused only what the front did
 abbrev pub settled : Option Refusal → NodeState → NodeState → Request → NodeState
 settled (Some refusal) s front r = carried s front
 settled None s front r = row_then (carried s front) r

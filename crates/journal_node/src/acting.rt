@@ -1,34 +1,31 @@
-//! A request is answered: its reply is found, its deeds are done, and memory follows.
-ghost use Rattle.std.specs.Prelude.{◌≡◌, ◌≢◌, ◌≤◌, ◌↔◌, ◌⊎◌, None, Some, List, Option, length, true, false, [], IfOk, OnOk, OnErr};
-ghost use Rattle.qj_disk.specs.View.{LeavesOnly, AllLeave};
+//! A request is answered: its reply is found, its effects are done, and memory follows.
+ghost use Rattle.std.specs.Prelude.{◌≡◌, ◌≤◌, ◌↔◌, None, Some, List, Option, length, true, false, [], IfOk, OnOk, OnErr};
 ghost use Rattle.qj_disk.specs.Calls.{Rests};
 ghost use Rattle.qj_disk.specs.DiskCalls.{IfTold, IsDiskCall, IsDiskRun};
 ghost use Rattle.journal_core.specs.declared.segment.Segment.{Segment};
 ghost use Rattle.journal_core.specs.declared.node_state.NodeState.{NodeState as AnyState};
 ghost use Rattle.journal_core.specs.Limits.{limit_of};
 ghost use Rattle.journal_core.specs.Segments.{AreSound};
-ghost use Rattle.journal_core.specs.Effects.{after_effects};
 ghost use Rattle.journal_core.specs.Step.{crashed, fronted, refused_at_once, row_refused, effects_of};
 ghost use Rattle.journal_core.specs.Answers.{IsAnswer, FitsRequest, Rose};
 ghost use Rattle.segment_file.specs.Effects.{IsReady};
 ghost use Rattle.segment_file.specs.Rows.{RowsRise};
-ghost use Rattle.node_files.specs.Durable.{StandsAs};
-ghost use Rattle.node_deeds.specs.Told.{Tells, state_with};
-ghost use Rattle.node_deeds.specs.Due.{AreDue};
+ghost use Rattle.node_effects.specs.Told.{Tells, state_with};
 ghost use Rattle.recent_edits.specs.Recent.{AsksRecent, IsRecent, cached_then};
 ghost use Rattle.journal_node.specs.Doing.{HasFrame};
-ghost use Rattle.journal_node.specs.Done.{effects_by, HasRoom};
-ghost use Rattle.journal_node.specs.Held.{StandsStopped};
-ghost use Rattle.journal_node.specs.Node.{BringsEdits, IsUp, HasState, IsNode, IsNoFault, IsCaused, IsStoppedIn, IsUnchanged, IsWhole, Recalls, settled, state_behind, foretold};
+ghost use Rattle.journal_node.specs.Done.{HasRoom};
+ghost use Rattle.journal_node.specs.Node.{BringsEdits, IsUp, HasState, IsNode, IsNoFault, IsStoppedIn, IsWhole, Recalls, settled, state_behind, foretold};
+ghost use Rattle.journal_node.specs.Clauses.{AreEffects, AreEachDue, IsRefusal, HasMoments, IsStable, IsCached, ReadsNone, HasOwnCause, IsSpared};
 
 use crate::acting_reads::{fetch, read_served};
-use crate::deeds_done::do_deeds;
-use crate::following::follow_deeds;
-use crate::readying::{Ready, ready_deeds};
+use crate::effects_done::do_effects;
+use crate::following::follow_effects;
+use crate::readying::{Ready, ready_plan};
 use journal_core::{NodeState, Refusal, Reply, Request};
-use node_deeds::{Deed, follow, plain_reply, row_refusal, step_after_front};
+use node_effects::{follow, plain_reply};
 use qj_disk::{Disk, DiskFail};
 use recent_edits::RecentEdits;
+use request_decision::DurableEffect;
 use segment_file::SegmentTable;
 use std::alloc::Global;
 
@@ -51,7 +48,7 @@ pub(crate) fn go_down(memory: &mut NodeState, table: &SegmentTable)
     memory.crash();
 }
 
-// What follows the deeds of a request. `front` is memory after the request's front.
+// What follows the effects of a request. `front` is memory after the request's front.
 fn settle(memory: &mut NodeState, front: &NodeState, request: &Request, refusal: Option<Refusal>)
     ensures { memory.new ≡ settled refusal memory.old front.now request.now }
 {
@@ -97,16 +94,16 @@ fn foretell<D: Disk>(
     }
 }
 
-/// Does the deeds of a request, and what follows them. An `Err` leaves the node down.
+/// Does the effects of a request, and what follows them. An `Err` leaves the node down.
 pub(crate) fn carry_out<D: Disk>(
-    alloc: Global,
     disk: &mut D,
     memory: &mut NodeState,
     table: &mut SegmentTable,
     recent: &mut RecentEdits,
     ready: &mut Ready,
     request: &Request,
-    deeds: &[Deed],
+    front: &NodeState,
+    effects: &[DurableEffect],
     refusal: Option<Refusal>,
 ) -> Result<(), DiskFail>
     requires node { IsNode (D.tells disk.old) (D.view disk.old) memory.old table.old }
@@ -114,11 +111,12 @@ pub(crate) fn carry_out<D: Disk>(
     requires at_once { refused_at_once memory.old request.now ≡ None }
     requires limits { limit_of request.now ≡ None }
     requires brings { BringsEdits request.now }
-    requires refused { (gs : List Segment) → Tells gs table.old → refusal ≡ row_refused (state_with (fronted memory.old request.now) gs) request.now }
-    requires effects { (gs : List Segment) → Tells gs table.old → effects_by request.now deeds.now ≡ effects_of (state_with memory.old gs) request.now }
-    requires due { (gs : List Segment) → Tells gs table.old → AreDue gs table.old request.now deeds.now }
+    requires front { front.now ≡ state_with (fronted memory.old request.now) [] }
+    requires refused { IsRefusal memory.old table.old request.now refusal }
+    requires effects { AreEffects memory.old table.old request.now effects.now }
+    requires due { AreEachDue table.old request.now effects.now }
     requires frame { HasFrame request.now ready.old.frame }
-    requires room { HasRoom deeds.now (length table.old) ready.old.room }
+    requires room { HasRoom effects.now (length table.old) ready.old.room }
 
     ensures call { IsDiskCall D.DiskModel disk.old disk.new result }
     ensures node { IsNode (D.tells disk.new) (D.view disk.new) memory.new table.new }
@@ -127,14 +125,13 @@ pub(crate) fn carry_out<D: Disk>(
     ensures down { OnErr result (memory.new.up ≡ false) }
     ensures done { D.tells disk.old → (s : AnyState) → IsUp (D.view disk.old) memory.old table.old s → OnOk result (IsUp (D.view disk.new) memory.new table.new (state_behind s request.now)) }
     ensures stopped { D.tells disk.old → (s : AnyState) → IsUp (D.view disk.old) memory.old table.old s → OnErr result (IsStoppedIn (D.view disk.new) memory.new table.new s request.now) }
-    ensures moments { D.tells disk.old → (s : AnyState) → IsUp (D.view disk.old) memory.old table.old s → LeavesOnly (D.view disk.old) (D.view disk.new) (StandsStopped s (effects_of s request.now)) }
+    ensures moments { HasMoments D.DiskModel disk.old disk.new memory.old table.old request.now }
     ensures cached { D.tells disk.old → (s : AnyState) → IsUp (D.view disk.old) memory.old table.old s → OnOk result (recent.new.start ≡ cached_then recent.old.start (effects_of s request.now)) }
 {
-    let front = step_after_front(alloc, memory, request);
-    match do_deeds(disk, memory, table, ready, request, deeds) {
+    match do_effects(disk, memory, table, ready, request, effects) {
         Ok(()) => {
-            follow_deeds(recent, request, deeds);
-            settle(memory, &front, request, refusal);
+            follow_effects(recent, request, effects);
+            settle(memory, front, request, refusal);
             Ok(())
         }
         Err(fail) => {
@@ -146,14 +143,14 @@ pub(crate) fn carry_out<D: Disk>(
 
 // The same for a reply that is found.
 fn finish<D: Disk>(
-    alloc: Global,
     disk: &mut D,
     memory: &mut NodeState,
     table: &mut SegmentTable,
     recent: &mut RecentEdits,
     ready: &mut Ready,
     request: &Request,
-    deeds: &[Deed],
+    front: &NodeState,
+    effects: &[DurableEffect],
     refusal: Option<Refusal>,
     reply: Reply,
 ) -> Reply
@@ -162,13 +159,14 @@ fn finish<D: Disk>(
     requires at_once { refused_at_once memory.old request.now ≡ None }
     requires limits { limit_of request.now ≡ None }
     requires brings { BringsEdits request.now }
-    requires refused { (gs : List Segment) → Tells gs table.old → refusal ≡ row_refused (state_with (fronted memory.old request.now) gs) request.now }
-    requires effects { (gs : List Segment) → Tells gs table.old → effects_by request.now deeds.now ≡ effects_of (state_with memory.old gs) request.now }
-    requires due { (gs : List Segment) → Tells gs table.old → AreDue gs table.old request.now deeds.now }
+    requires front { front.now ≡ state_with (fronted memory.old request.now) [] }
+    requires refused { IsRefusal memory.old table.old request.now refusal }
+    requires effects { AreEffects memory.old table.old request.now effects.now }
+    requires due { AreEachDue table.old request.now effects.now }
     requires fits { FitsRequest request.now reply }
     requires own { IsNoFault reply }
     requires frame { HasFrame request.now ready.old.frame }
-    requires room { HasRoom deeds.now (length table.old) ready.old.room }
+    requires room { HasRoom effects.now (length table.old) ready.old.room }
 
     ensures tells { D.tells disk.old ↔ D.tells disk.new }
     ensures node { IsNode (D.tells disk.new) (D.view disk.new) memory.new table.new }
@@ -176,15 +174,15 @@ fn finish<D: Disk>(
     ensures answer { D.tells disk.old → (s : AnyState) → IsUp (D.view disk.old) memory.old table.old s → reply ≡ foretold (row_refused (fronted s request.now) request.now) (fronted s request.now) request.now
         → (t : AnyState) × HasState memory.new.up (D.view disk.new) memory.new table.new t × IsAnswer s request.now result t }
     ensures fits { FitsRequest request.now result }
-    ensures moments { D.tells disk.old → (s : AnyState) → IsUp (D.view disk.old) memory.old table.old s → LeavesOnly (D.view disk.old) (D.view disk.new) (StandsStopped s (effects_of s request.now)) }
-    ensures stable { D.tells disk.old → (s : AnyState) → IsUp (D.view disk.old) memory.old table.old s → IsNoFault result → AllLeave (D.view disk.new) (λ c. StandsAs c (after_effects s (effects_of s request.now))) }
-    ensures cached { D.tells disk.old → (s : AnyState) → IsUp (D.view disk.old) memory.old table.old s → IsNoFault result → recent.new.start ≡ cached_then recent.old.start (effects_of s request.now) }
+    ensures moments { HasMoments D.DiskModel disk.old disk.new memory.old table.old request.now }
+    ensures stable { IsStable D.DiskModel disk.old disk.new memory.old table.old request.now result }
+    ensures cached { IsCached D.DiskModel disk.old memory.old table.old request.now result recent.old.start recent.new.start }
     ensures reads { D.reads disk.new ≡ D.reads disk.old }
-    ensures cause { IsCaused (D.faults disk.old) (D.faults disk.new) (D.steady disk.old) (D.steady disk.new) result }
+    ensures cause { HasOwnCause D.DiskModel disk.old disk.new result }
     ensures short { result ≡ Reply.Refused Refusal.OutOfMemory → Rose (D.shortages disk.old) (D.shortages disk.new) }
 {
     match carry_out(
-        alloc, disk, memory, table, recent, ready, request, deeds, refusal,
+        disk, memory, table, recent, ready, request, front, effects, refusal,
     ) {
         Ok(()) => reply,
         Err(DiskFail::Failed) => Reply::Refused(Refusal::DiskFault),
@@ -201,17 +199,21 @@ fn answer_by<D: Disk>(
     recent: &mut RecentEdits,
     ready: &mut Ready,
     request: &Request,
-    deeds: &[Deed],
+    front: &NodeState,
+    effects: &[DurableEffect],
+    refusal: Option<Refusal>,
 ) -> Reply
     requires node { IsNode (D.tells disk.old) (D.view disk.old) memory.old table.old }
     requires recalls { D.tells disk.old → Recalls (D.view disk.old) memory.old table.old recent.old }
     requires at_once { refused_at_once memory.old request.now ≡ None }
     requires limits { limit_of request.now ≡ None }
     requires brings { BringsEdits request.now }
-    requires effects { (gs : List Segment) → Tells gs table.old → effects_by request.now deeds.now ≡ effects_of (state_with memory.old gs) request.now }
-    requires due { (gs : List Segment) → Tells gs table.old → AreDue gs table.old request.now deeds.now }
+    requires front { front.now ≡ state_with (fronted memory.old request.now) [] }
+    requires refused { IsRefusal memory.old table.old request.now refusal }
+    requires effects { AreEffects memory.old table.old request.now effects.now }
+    requires due { AreEachDue table.old request.now effects.now }
     requires frame { HasFrame request.now ready.old.frame }
-    requires room { HasRoom deeds.now (length table.old) ready.old.room }
+    requires room { HasRoom effects.now (length table.old) ready.old.room }
 
     ensures tells { D.tells disk.old ↔ D.tells disk.new }
     ensures node { IsNode (D.tells disk.new) (D.view disk.new) memory.new table.new }
@@ -219,18 +221,16 @@ fn answer_by<D: Disk>(
     ensures answer { D.tells disk.old → (s : AnyState) → IsUp (D.view disk.old) memory.old table.old s
         → (t : AnyState) × HasState memory.new.up (D.view disk.new) memory.new table.new t × IsAnswer s request.now result t }
     ensures fits { FitsRequest request.now result }
-    ensures moments { D.tells disk.old → (s : AnyState) → IsUp (D.view disk.old) memory.old table.old s → LeavesOnly (D.view disk.old) (D.view disk.new) (StandsStopped s (effects_of s request.now)) }
-    ensures stable { D.tells disk.old → (s : AnyState) → IsUp (D.view disk.old) memory.old table.old s → IsNoFault result → AllLeave (D.view disk.new) (λ c. StandsAs c (after_effects s (effects_of s request.now))) }
-    ensures cached { D.tells disk.old → (s : AnyState) → IsUp (D.view disk.old) memory.old table.old s → IsNoFault result → recent.new.start ≡ cached_then recent.old.start (effects_of s request.now) }
-    ensures unread { D.tells disk.old → (s : AnyState) → IsUp (D.view disk.old) memory.old table.old s → AsksRecent recent.old.start s request.now → D.reads disk.new ≡ D.reads disk.old }
-    ensures cause { IsCaused (D.faults disk.old) (D.faults disk.new) (D.steady disk.old) (D.steady disk.new) result }
-    ensures spared { result ≡ Reply.Refused Refusal.OutOfMemory → Rose (D.shortages disk.old) (D.shortages disk.new) ⊎ IsUnchanged (D.tells disk.old) (D.view disk.old) (D.view disk.new) memory.old memory.new table.old table.new recent.old recent.new }
+    ensures moments { HasMoments D.DiskModel disk.old disk.new memory.old table.old request.now }
+    ensures stable { IsStable D.DiskModel disk.old disk.new memory.old table.old request.now result }
+    ensures cached { IsCached D.DiskModel disk.old memory.old table.old request.now result recent.old.start recent.new.start }
+    ensures unread { ReadsNone D.DiskModel disk.old disk.new memory.old table.old recent.old.start request.now }
+    ensures cause { HasOwnCause D.DiskModel disk.old disk.new result }
+    ensures spared { IsSpared D.DiskModel disk.old disk.new memory.old memory.new table.old table.new recent.old recent.new result }
 {
-    let front = step_after_front(alloc, memory, request);
-    let refusal = row_refusal(&front, table, request);
-    match foretell(alloc, disk, &front, table, recent, request, refusal) {
+    match foretell(alloc, disk, front, table, recent, request, refusal) {
         Ok(reply) => finish(
-            alloc, disk, memory, table, recent, ready, request, deeds, refusal, reply,
+            disk, memory, table, recent, ready, request, front, effects, refusal, reply,
         ),
         Err(DiskFail::Failed) => {
             go_down(memory, table);
@@ -241,8 +241,8 @@ fn answer_by<D: Disk>(
 }
 
 /// Answers one request at a node over a disk, of which memory and the table are given. The reply is found,
-/// and the memory for the deeds taken, before anything is done, so that want of it changes nothing; where
-/// the disk fails, or wants memory in a call of a deed, the node goes down.
+/// and the memory for the effects taken, before anything is done, so that want of it changes nothing; where
+/// the disk fails, or wants memory in a call of an effect, the node goes down.
 pub(crate) fn answer<D: Disk>(
     alloc: Global,
     disk: &mut D,
@@ -259,19 +259,19 @@ pub(crate) fn answer<D: Disk>(
     ensures answer { D.tells disk.old → (s : AnyState) → HasState memory.old.up (D.view disk.old) memory.old table.old s
         → (t : AnyState) × HasState memory.new.up (D.view disk.new) memory.new table.new t × IsAnswer s request.now result t }
     ensures fits { FitsRequest request.now result }
-    ensures moments { D.tells disk.old → (s : AnyState) → IsUp (D.view disk.old) memory.old table.old s → LeavesOnly (D.view disk.old) (D.view disk.new) (StandsStopped s (effects_of s request.now)) }
-    ensures stable { D.tells disk.old → (s : AnyState) → IsUp (D.view disk.old) memory.old table.old s → IsNoFault result → AllLeave (D.view disk.new) (λ c. StandsAs c (after_effects s (effects_of s request.now))) }
+    ensures moments { HasMoments D.DiskModel disk.old disk.new memory.old table.old request.now }
+    ensures stable { IsStable D.DiskModel disk.old disk.new memory.old table.old request.now result }
     ensures idle { memory.old.up ≡ false → disk.new ≡ disk.old }
-    ensures cached { D.tells disk.old → (s : AnyState) → IsUp (D.view disk.old) memory.old table.old s → IsNoFault result → recent.new.start ≡ cached_then recent.old.start (effects_of s request.now) }
-    ensures unread { D.tells disk.old → (s : AnyState) → IsUp (D.view disk.old) memory.old table.old s → AsksRecent recent.old.start s request.now → D.reads disk.new ≡ D.reads disk.old }
-    ensures cause { IsCaused (D.faults disk.old) (D.faults disk.new) (D.steady disk.old) (D.steady disk.new) result }
-    ensures spared { result ≡ Reply.Refused Refusal.OutOfMemory → Rose (D.shortages disk.old) (D.shortages disk.new) ⊎ IsUnchanged (D.tells disk.old) (D.view disk.old) (D.view disk.new) memory.old memory.new table.old table.new recent.old recent.new }
+    ensures cached { IsCached D.DiskModel disk.old memory.old table.old request.now result recent.old.start recent.new.start }
+    ensures unread { ReadsNone D.DiskModel disk.old disk.new memory.old table.old recent.old.start request.now }
+    ensures cause { HasOwnCause D.DiskModel disk.old disk.new result }
+    ensures spared { IsSpared D.DiskModel disk.old disk.new memory.old memory.new table.old table.new recent.old recent.new result }
 {
     look_at(request);
     match memory.refused_at_once(request) {
         Some(refusal) => Reply::Refused(refusal),
-        None => match ready_deeds(alloc, memory, table, request) {
-            Ok((deeds, mut ready)) => answer_by(
+        None => match ready_plan(alloc, memory, table, request) {
+            Ok((plan, mut ready)) => answer_by(
                 alloc,
                 disk,
                 memory,
@@ -279,7 +279,9 @@ pub(crate) fn answer<D: Disk>(
                 recent,
                 &mut ready,
                 request,
-                deeds.as_slice(),
+                &plan.front,
+                plan.effects.as_slice(),
+                plan.refusal,
             ),
             Err(_) => Reply::Refused(Refusal::OutOfMemory),
         },

@@ -11,12 +11,12 @@ ghost use Rattle.journal_core.specs.Reads.{edits_from, piece_of};
 ghost use Rattle.journal_core.specs.Answers.{AreEdits};
 ghost use Rattle.segment_file.specs.Effects.{IsReady};
 ghost use Rattle.segment_file.specs.Reads.{given_result};
-ghost use Rattle.node_deeds.specs.Told.{Tells, state_with, line_of};
+ghost use Rattle.node_effects.specs.Told.{Tells, state_with, line_of};
 ghost use Rattle.recent_edits.specs.Recent.{AsksRecent, FitsRing, IsRecent, held_from};
 ghost use Rattle.journal_node.specs.Node.{IsNoFault};
 
 use journal_core::{Batch, MAX_BATCH, MAX_NUMBER, NodeState, Refusal, Reply, Request, SegmentLine};
-use node_deeds::{line_at, not_served, serving_row};
+use node_effects::{line_at, not_served, serving_row};
 use qj_disk::{Disk, DiskFail};
 use recent_edits::RecentEdits;
 use segment_file::{Given, SegmentTable, read_from};

@@ -1,48 +1,46 @@
 //! A node is stopped inside a request, after the first of its effects.
-ghost use Rattle.std.specs.Prelude.{◌≡◌, ◌≢◌, ◌≤◌, ◌↔◌, None, Some, List, length, take, false, OnOk, OnErr};
+ghost use Rattle.std.specs.Prelude.{◌≡◌, ◌≢◌, ◌≤◌, ◌↔◌, None, Some, length, take, false, OnOk, OnErr};
 ghost use Rattle.qj_disk.specs.View.{LeavesOnly};
 ghost use Rattle.qj_disk.specs.DiskCalls.{IsDiskRun};
-ghost use Rattle.journal_core.specs.declared.segment.Segment.{Segment};
 ghost use Rattle.journal_core.specs.declared.node_state.NodeState.{NodeState as AnyState};
 ghost use Rattle.journal_core.specs.Limits.{limit_of};
 ghost use Rattle.journal_core.specs.Step.{refused_at_once, effects_of, stopped};
 ghost use Rattle.journal_core.specs.Stops.{Stops};
 ghost use Rattle.journal_core.specs.Answers.{Rose};
-ghost use Rattle.node_deeds.specs.Told.{Tells, state_with};
-ghost use Rattle.node_deeds.specs.Due.{AreDue};
 ghost use Rattle.journal_node.specs.Doing.{HasFrame};
-ghost use Rattle.journal_node.specs.Done.{effects_by, HasRoom};
+ghost use Rattle.journal_node.specs.Done.{HasRoom};
 ghost use Rattle.journal_node.specs.Held.{StandsStopped};
 ghost use Rattle.journal_node.specs.Node.{BringsEdits, IsUp, IsDown, HasState, IsNode, IsStoppedIn};
+ghost use Rattle.journal_node.specs.Clauses.{AreEffects, AreEachDue};
 
 use crate::acting::{go_down, look_at};
-use crate::deeds_done::do_deeds;
-use crate::readying::{Ready, ready_deeds};
+use crate::effects_done::do_effects;
+use crate::readying::{Ready, ready_plan};
 use journal_core::{NodeFail, NodeState, Request};
-use node_deeds::Deed;
 use qj_disk::{Disk, DiskFail};
+use request_decision::DurableEffect;
 use segment_file::SegmentTable;
 use std::alloc::Global;
 
-// Does the first `count` deeds of a request, and goes down.
+// Does the first `count` effects of a request, and goes down.
 fn stop_in_request<D: Disk>(
     disk: &mut D,
     memory: &mut NodeState,
     table: &mut SegmentTable,
     ready: &mut Ready,
     request: &Request,
-    deeds: &[Deed],
+    effects: &[DurableEffect],
     count: usize,
 ) -> Result<(), DiskFail>
     requires node { IsNode (D.tells disk.old) (D.view disk.old) memory.old table.old }
     requires at_once { refused_at_once memory.old request.now ≡ None }
     requires limits { limit_of request.now ≡ None }
     requires brings { BringsEdits request.now }
-    requires effects { (gs : List Segment) → Tells gs table.old → effects_by request.now deeds.now ≡ effects_of (state_with memory.old gs) request.now }
-    requires due { (gs : List Segment) → Tells gs table.old → AreDue gs table.old request.now deeds.now }
-    requires count { count ≤ length deeds.now }
+    requires effects { AreEffects memory.old table.old request.now effects.now }
+    requires due { AreEachDue table.old request.now effects.now }
+    requires count { count ≤ length effects.now }
     requires frame { HasFrame request.now ready.old.frame }
-    requires room { HasRoom deeds.now (length table.old) ready.old.room }
+    requires room { HasRoom effects.now (length table.old) ready.old.room }
 
     ensures call { IsDiskRun D.DiskModel disk.old disk.new result }
     ensures node { IsNode (D.tells disk.new) (D.view disk.new) memory.new table.new }
@@ -52,7 +50,7 @@ fn stop_in_request<D: Disk>(
     ensures moments { D.tells disk.old → (s : AnyState) → IsUp (D.view disk.old) memory.old table.old s → LeavesOnly (D.view disk.old) (D.view disk.new) (StandsStopped s (take count (effects_of s request.now))) }
     ensures reads { D.reads disk.new ≡ D.reads disk.old }
 {
-    let done = do_deeds(disk, memory, table, ready, request, &deeds[..count]);
+    let done = do_effects(disk, memory, table, ready, request, &effects[..count]);
     go_down(memory, table);
     done
 }
@@ -87,16 +85,17 @@ pub(crate) fn stop<D: Disk>(
             go_down(memory, table);
             Ok(0)
         }
-        None => match ready_deeds(alloc, memory, table, request) {
-            Ok((deeds, mut ready)) => {
-                let count = keep.min(deeds.len() as u64);
+        None => match ready_plan(alloc, memory, table, request) {
+            Ok((plan, mut ready)) => {
+                let effects = plan.effects.as_slice();
+                let count = keep.min(effects.len() as u64);
                 match stop_in_request(
                     disk,
                     memory,
                     table,
                     &mut ready,
                     request,
-                    deeds.as_slice(),
+                    effects,
                     count as usize,
                 ) {
                     Ok(()) => Ok(count),

@@ -1,111 +1,41 @@
 //! A node over a disk in memory is cut between two disk calls of a request.
-ghost use Rattle.std.specs.Prelude.{◌≡◌, ◌≢◌, ◌≤◌, ◌==◌, ℕ, true, false, None, Some, List, length, map, OnOk, OnErr};
+ghost use Rattle.std.specs.Prelude.{◌≡◌, ◌≢◌, ◌≤◌, ◌==◌, ℕ, true, false, None, Some, length, map, OnOk, OnErr};
 ghost use Rattle.std.specs.List.{list_any};
 ghost use Rattle.qj_disk.specs.Files.{IsSame};
 ghost use Rattle.qj_disk.specs.View.{AllLeave};
 ghost use Rattle.qj_disk.specs.MemDisk.{disk_view, faults_of, CannotFail, calls_left, is_listed_at};
-ghost use Rattle.journal_core.specs.declared.segment.Segment.{Segment};
 ghost use Rattle.journal_core.specs.declared.node_state.NodeState.{NodeState as AnyState};
 ghost use Rattle.journal_core.specs.Limits.{limit_of};
-ghost use Rattle.journal_core.specs.Step.{refused_at_once, effects_of, stopped, crashed};
-ghost use Rattle.journal_core.specs.Cuts.{append_cost, accept_cost, name_cost, standing, effects_standing, Cuts};
+ghost use Rattle.journal_core.specs.Step.{refused_at_once, stopped, crashed};
+ghost use Rattle.journal_core.specs.Cuts.{standing, effects_standing, Cuts};
 ghost use Rattle.segment_file.specs.Effects.{choice_of, IsLeft};
 ghost use Rattle.segment_file.specs.Rows.{RowsRise};
-ghost use Rattle.node_deeds.specs.Told.{Tells, state_with};
-ghost use Rattle.node_deeds.specs.Due.{AreDue};
 ghost use Rattle.journal_node.specs.Doing.{HasFrame};
-ghost use Rattle.journal_node.specs.Done.{effects_by, HasRoom};
+ghost use Rattle.journal_node.specs.Done.{HasRoom};
 ghost use Rattle.journal_node.specs.Node.{BringsEdits, IsUp, IsDown, HasState, IsNode, IsStoppedIn};
-ghost use Rattle.journal_node.specs.Cutting.{deed_cost, state_in, IsSameNodeBut};
+ghost use Rattle.request_decision.specs.Durable.{effect_cost};
+ghost use Rattle.journal_node.specs.Cutting.{state_in, IsSameNodeBut};
+ghost use Rattle.journal_node.specs.Clauses.{AreEffects, AreEachDue};
 
 use crate::acting::{go_down, look_at};
-use crate::deeds_done::do_deeds;
+use crate::effects_done::do_effects;
 use crate::journal_node::JournalNode;
-use crate::readying::{Ready, ready_deeds};
+use crate::readying::{Ready, ready_plan};
 use journal_core::{Cut, NodeState, OutOfMemory, Request};
-use node_deeds::Deed;
 use qj_disk::{Choice, DiskFail, MemDisk};
+use request_decision::{Budget, DurableEffect, effect_cost};
 use segment_file::SegmentTable;
 use std::alloc::{AllocError, Global};
 
-// How many disk calls a deed has, and at which of them its effect stands.
-#[derive(Clone, Copy)]
-struct DeedCost {
-    calls: u64,
-    decides: u64,
-}
-
-fn append_cost(cut: Cut) -> DeedCost
-    ensures { record { calls = result.calls; decides = result.decides } ≡ append_cost cut }
+// How many of the effects stand after a cut after so many disk calls.
+fn count_standing(effects: &[DurableEffect], cut: Cut, calls: u64) -> u64
+    ensures { result ≡ standing calls (map (effect_cost cut) effects.now) }
 {
-    match cut {
-        Cut::Old => DeedCost {
-            calls: 4,
-            decides: 4,
-        },
-        Cut::New | Cut::A5 => DeedCost {
-            calls: 4,
-            decides: 3,
-        },
+    let mut budget = Budget::new(calls);
+    for effect in effects {
+        budget = budget.spend(effect_cost(*effect, cut));
     }
-}
-
-fn accept_cost(again: bool) -> DeedCost
-    ensures { record { calls = result.calls; decides = result.decides } ≡ accept_cost again }
-{
-    if again {
-        DeedCost {
-            calls: 3,
-            decides: 3,
-        }
-    } else {
-        DeedCost {
-            calls: 6,
-            decides: 5,
-        }
-    }
-}
-
-// That of a rename or a removal.
-fn name_cost(accepted: bool) -> DeedCost
-    ensures { record { calls = result.calls; decides = result.decides } ≡ name_cost accepted }
-{
-    DeedCost {
-        calls: if accepted { 2 } else { 1 },
-        decides: 1,
-    }
-}
-
-fn deed_cost(deed: Deed, cut: Cut) -> DeedCost
-    ensures { record { calls = result.calls; decides = result.decides } ≡ deed_cost cut deed }
-{
-    match deed {
-        Deed::Number { .. } | Deed::Begin { .. } => DeedCost {
-            calls: 3,
-            decides: 3,
-        },
-        Deed::Append { .. } => append_cost(cut),
-        Deed::Accept { again, .. } => accept_cost(again),
-        Deed::Finalize { accepted, .. } => name_cost(accepted),
-        Deed::Remove { info } => name_cost(info.accepted),
-    }
-}
-
-// How many of the deeds stand after a cut after so many disk calls.
-fn deeds_standing(deeds: &[Deed], cut: Cut, calls: u64) -> u64
-    ensures { result ≡ standing calls (map (deed_cost cut) deeds.now) }
-{
-    let mut left = calls;
-    let mut count = 0;
-    for deed in deeds {
-        let cost = deed_cost(*deed, cut);
-        if cost.decides > left {
-            return count;
-        }
-        left = left.saturating_sub(cost.calls);
-        count += 1;
-    }
-    count
+    budget.standing()
 }
 
 fn choice_of(cut: Cut) -> Choice
@@ -142,14 +72,14 @@ fn cut_short(done: Result<(), DiskFail>) -> Result<(), OutOfMemory>
     }
 }
 
-// Does the deeds of a request until the disk stops after so many calls, and crashes.
-fn cut_deeds(
+// Does the effects of a request until the disk stops after so many calls, and crashes.
+fn cut_effects(
     disk: &mut MemDisk,
     memory: &mut NodeState,
     table: &mut SegmentTable,
     ready: &mut Ready,
     request: &Request,
-    deeds: &[Deed],
+    effects: &[DurableEffect],
     calls: u64,
     cut: Cut,
 ) -> Result<(), OutOfMemory>
@@ -158,10 +88,10 @@ fn cut_deeds(
     requires at_once { refused_at_once memory.old request.now ≡ None }
     requires limits { limit_of request.now ≡ None }
     requires brings { BringsEdits request.now }
-    requires effects { (gs : List Segment) → Tells gs table.old → effects_by request.now deeds.now ≡ effects_of (state_with memory.old gs) request.now }
-    requires due { (gs : List Segment) → Tells gs table.old → AreDue gs table.old request.now deeds.now }
+    requires effects { AreEffects memory.old table.old request.now effects.now }
+    requires due { AreEachDue table.old request.now effects.now }
     requires frame { HasFrame request.now ready.old.frame }
-    requires room { HasRoom deeds.now (length table.old) ready.old.room }
+    requires room { HasRoom effects.now (length table.old) ready.old.room }
 
     ensures node { IsNode (Unit {0}) (disk_view disk.new) memory.new table.new }
     ensures down { memory.new.up ≡ false }
@@ -173,7 +103,7 @@ fn cut_deeds(
     ensures steady { CannotFail disk.new }
 {
     disk.stop_after(calls);
-    let done = do_deeds(disk, memory, table, ready, request, deeds);
+    let done = do_effects(disk, memory, table, ready, request, effects);
     crash_down(disk, memory, table, cut);
     cut_short(done)
 }
@@ -206,16 +136,16 @@ fn cut_in(
             crash_down(disk, memory, table, cut);
             Ok(0)
         }
-        None => match ready_deeds(alloc, memory, table, request) {
-            Ok((deeds, mut ready)) => {
-                let standing = deeds_standing(deeds.as_slice(), cut, calls);
-                match cut_deeds(
+        None => match ready_plan(alloc, memory, table, request) {
+            Ok((plan, mut ready)) => {
+                let standing = count_standing(plan.effects.as_slice(), cut, calls);
+                match cut_effects(
                     disk,
                     memory,
                     table,
                     &mut ready,
                     request,
-                    deeds.as_slice(),
+                    plan.effects.as_slice(),
                     calls,
                     cut,
                 ) {

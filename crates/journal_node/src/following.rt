@@ -5,51 +5,53 @@ ghost use Rattle.journal_core.specs.declared.node_state.NodeState.{NodeState as 
 ghost use Rattle.journal_core.specs.Limits.{limit_of};
 ghost use Rattle.journal_core.specs.Effects.{segments_after, after_effects};
 ghost use Rattle.segment_file.specs.declared.segment_row.SegmentRow.{SegmentRow};
-ghost use Rattle.node_deeds.specs.Due.{batch_of, effect_of, IsDue, AreDue};
+ghost use Rattle.node_effects.specs.Due.{batch_of, effect_of, IsDue, AreDue};
 ghost use Rattle.recent_edits.specs.Recent.{IsRecent, cached_after, cached_then};
 ghost use Rattle.journal_node.specs.Done.{effects_by};
 
-use crate::doing::batch_in;
 use journal_core::Request;
-use node_deeds::Deed;
 use recent_edits::RecentEdits;
+use request_decision::{DurableEffect, batch_in};
 
 // Edits of a request were appended to the segment with that start.
 fn follow_append(recent: &mut RecentEdits, request: &Request, start: u64)
     requires limits { limit_of request.now ≡ None }
     ensures start { recent.new.start ≡ recent.old.start }
-    ensures held { (gs : List Segment) (rows : List SegmentRow) (at : ℕ) → IsDue gs rows request.now (Deed.Append start at) → IsRecent recent.old gs → IsRecent recent.new (segments_after gs (effect_of request.now (Deed.Append start at))) }
+    ensures held { (gs : List Segment) (rows : List SegmentRow) (at : ℕ) → IsDue gs rows request.now (DurableEffect.Append start at) → IsRecent recent.old gs → IsRecent recent.new (segments_after gs (effect_of request.now (DurableEffect.Append start at))) }
 {
     if let Some(batch) = batch_in(request) {
         recent.append(start, batch);
     }
 }
 
-// A deed was done.
-fn follow(recent: &mut RecentEdits, request: &Request, deed: Deed)
+// An effect was done.
+fn follow(recent: &mut RecentEdits, request: &Request, effect: DurableEffect)
     requires limits { limit_of request.now ≡ None }
-    ensures start { recent.new.start ≡ cached_after recent.old.start (effect_of request.now deed) }
-    ensures held { (gs : List Segment) (rows : List SegmentRow) → IsDue gs rows request.now deed → IsRecent recent.old gs → IsRecent recent.new (segments_after gs (effect_of request.now deed)) }
+    ensures start { recent.new.start ≡ cached_after recent.old.start (effect_of request.now effect) }
+    ensures held { (gs : List Segment) (rows : List SegmentRow) → IsDue gs rows request.now effect → IsRecent recent.old gs → IsRecent recent.new (segments_after gs (effect_of request.now effect)) }
 {
-    match deed {
-        Deed::Begin { start, .. } => recent.begin(start),
-        Deed::Append { start, .. } => follow_append(recent, request, start),
-        Deed::Accept { .. } => match batch_in(request) {
+    match effect {
+        DurableEffect::NewSegment { start, .. } => recent.begin(start),
+        DurableEffect::Append { start, .. } => follow_append(recent, request, start),
+        DurableEffect::Replace { .. } => match batch_in(request) {
             Some(batch) => recent.forget(batch.first()),
             None => recent.forget(0),
         },
-        Deed::Remove { info } => recent.forget(info.start),
-        Deed::Number { .. } | Deed::Finalize { .. } => {}
+        DurableEffect::Remove { info } => recent.forget(info.start),
+        DurableEffect::Promise { .. } => {}
+        DurableEffect::WriterEpoch { .. } => {}
+        DurableEffect::Commit { .. } => {}
+        DurableEffect::MakeFinal { .. } => {}
     }
 }
 
-/// The deeds of a request were done, each of which was due where those before it were done.
-pub(crate) fn follow_deeds(recent: &mut RecentEdits, request: &Request, deeds: &[Deed])
+/// The effects of a request were done, each of which was due where those before it were done.
+pub(crate) fn follow_effects(recent: &mut RecentEdits, request: &Request, effects: &[DurableEffect])
     requires limits { limit_of request.now ≡ None }
-    ensures start { recent.new.start ≡ cached_then recent.old.start (effects_by request.now deeds.now) }
-    ensures held { (s : AnyState) (rows : List SegmentRow) → AreDue s.segments rows request.now deeds.now → IsRecent recent.old s.segments → IsRecent recent.new (after_effects s (effects_by request.now deeds.now)).segments }
+    ensures start { recent.new.start ≡ cached_then recent.old.start (effects_by request.now effects.now) }
+    ensures held { (s : AnyState) (rows : List SegmentRow) → AreDue s.segments rows request.now effects.now → IsRecent recent.old s.segments → IsRecent recent.new (after_effects s (effects_by request.now effects.now)).segments }
 {
-    for deed in deeds {
-        follow(recent, request, *deed);
+    for effect in effects {
+        follow(recent, request, *effect);
     }
 }

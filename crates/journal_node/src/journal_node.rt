@@ -1,18 +1,18 @@
 //! A node of the journal over a disk.
-ghost use Rattle.std.specs.Prelude.{◌≡◌, ◌≢◌, ◌≤◌, ◌⊎◌, take, true, false};
+ghost use Rattle.std.specs.Prelude.{◌≡◌, ◌≢◌, ◌≤◌, take, true, false};
 ghost use Rattle.qj_disk.specs.View.{LeavesOnly, AllLeave};
 ghost use Rattle.journal_core.specs.declared.node_state.NodeState.{NodeState as AnyState};
-ghost use Rattle.journal_core.specs.Effects.{after_effects};
 ghost use Rattle.journal_core.specs.Step.{effects_of};
 ghost use Rattle.journal_core.specs.Answers.{Answers, FitsRequest, Rose};
 ghost use Rattle.journal_core.specs.Stops.{Stops, Kills, Restarts};
 ghost use Rattle.node_files.specs.Durable.{StandsAs};
-ghost use Rattle.recent_edits.specs.Recent.{AsksRecent, cached_then, nothing};
+ghost use Rattle.recent_edits.specs.Recent.{nothing};
 ghost use Rattle.journal_node.specs.Acted.{IsActed};
 ghost use Rattle.journal_node.specs.FileState.{state_of};
 ghost use Rattle.journal_node.specs.Held.{StandsStopped};
-ghost use Rattle.journal_node.specs.Node.{IsUp, IsNoFault, IsUnchanged, told_state};
+ghost use Rattle.journal_node.specs.Node.{IsUp, told_state};
 ghost use Rattle.journal_node.specs.Opening.{StandsAsBefore};
+ghost use Rattle.journal_node.specs.Clauses.{HasMoments, IsStable, IsCached, ReadsNone, IsSpared};
 
 use crate::acting::{answer, go_down};
 use crate::acting_stops::stop;
@@ -65,15 +65,15 @@ impl<D: Disk> JournalNode<D> {
         ensures step { Answers (told_state (D.is_told self.old.disk) (D.view self.old.disk).seen self.old.memory self.old.rows) request.now result (told_state (D.is_told self.new.disk) (D.view self.new.disk).seen self.new.memory self.new.rows) }
         ensures fits { FitsRequest request.now result }
         ensures acted { IsActed D.tells D.view self.old request.now result self.new }
-        ensures moments { D.tells self.old.disk → (s : AnyState) → IsUp (D.view self.old.disk) self.old.memory self.old.rows s → LeavesOnly (D.view self.old.disk) (D.view self.new.disk) (StandsStopped s (effects_of s request.now)) }
-        ensures stable { D.tells self.old.disk → (s : AnyState) → IsUp (D.view self.old.disk) self.old.memory self.old.rows s → IsNoFault result → AllLeave (D.view self.new.disk) (λ c. StandsAs c (after_effects s (effects_of s request.now))) }
+        ensures moments { HasMoments D.DiskModel self.old.disk self.new.disk self.old.memory self.old.rows request.now }
+        ensures stable { IsStable D.DiskModel self.old.disk self.new.disk self.old.memory self.old.rows request.now result }
         ensures idle { self.old.memory.up ≡ false → self.new.disk ≡ self.old.disk }
-        ensures cached { D.tells self.old.disk → (s : AnyState) → IsUp (D.view self.old.disk) self.old.memory self.old.rows s → IsNoFault result → self.new.recent.start ≡ cached_then self.old.recent.start (effects_of s request.now) }
-        ensures unread { D.tells self.old.disk → (s : AnyState) → IsUp (D.view self.old.disk) self.old.memory self.old.rows s → AsksRecent self.old.recent.start s request.now → D.reads self.new.disk ≡ D.reads self.old.disk }
+        ensures cached { IsCached D.DiskModel self.old.disk self.old.memory self.old.rows request.now result self.old.recent.start self.new.recent.start }
+        ensures unread { ReadsNone D.DiskModel self.old.disk self.new.disk self.old.memory self.old.rows self.old.recent.start request.now }
         ensures later { D.faults self.old.disk ≤ D.faults self.new.disk }
         ensures fault { result ≡ Reply.Refused Refusal.DiskFault → Rose (D.faults self.old.disk) (D.faults self.new.disk) }
         ensures steady { D.steady self.old.disk → D.steady self.new.disk × (result ≢ Reply.Refused Refusal.DiskFault) }
-        ensures spared { result ≡ Reply.Refused Refusal.OutOfMemory → Rose (D.shortages self.old.disk) (D.shortages self.new.disk) ⊎ IsUnchanged (D.tells self.old.disk) (D.view self.old.disk) (D.view self.new.disk) self.old.memory self.new.memory self.old.rows self.new.rows self.old.recent self.new.recent }
+        ensures spared { IsSpared D.DiskModel self.old.disk self.new.disk self.old.memory self.new.memory self.old.rows self.new.rows self.old.recent self.new.recent result }
     {
         answer(
             alloc,

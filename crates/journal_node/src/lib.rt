@@ -1,4 +1,4 @@
-//! A node of the journal over a disk: it is opened, does the deeds of each request at its disk, and answers.
+//! A node of the journal over a disk: it is opened, does the effects of each request at its disk, and answers.
 #![tactic(auto)]
 
 mod acting;
@@ -7,9 +7,9 @@ mod acting_stops;
 mod as_cut_node;
 mod as_node;
 mod cutting;
-mod deeds_done;
 mod doing;
 mod doing_laws;
+mod effects_done;
 mod following;
 mod journal_node;
 mod node_opening;
@@ -18,12 +18,12 @@ mod readying;
 mod state_examples;
 mod state_laws;
 
-pub use deeds_done::do_deeds;
-pub use doing::do_deed;
+pub use doing::do_effect;
 pub use doing_laws::{appends_are_within, costs_are_kept};
+pub use effects_done::do_effects;
 pub use journal_node::JournalNode;
 pub use open_fail::OpenFail;
-pub use readying::{Ready, ready_deeds};
+pub use readying::{Ready, ready_plan};
 pub use state_examples::{
     a_number_file_is_read, no_files_are_a_fresh_node, segment_files_are_read,
 };

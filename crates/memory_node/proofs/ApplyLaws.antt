@@ -9,6 +9,7 @@ use Rattle.journal_core.specs.Segments.{find_segment}
 use Rattle.journal_core.specs.Effects.{Effect, after_effect, after_effects}
 use Rattle.journal_core.proofs.StopLaws.{take_nil, take_first}
 use Rattle.journal_core.proofs.Within.{find_start, grown_within}
+use Rattle.journal_core.proofs.NodeLaws.{after-append}
 use Rattle.request_decision.specs.declared.segment_index.IndexedSegment.{IndexedSegment}
 use Rattle.request_decision.specs.declared.durable_effect.DurableEffect.{DurableEffect}
 use Rattle.request_decision.specs.declared.durable_effect.DurableEffect.TheVariants as durable
@@ -46,11 +47,6 @@ first_one s t r e keep l is = record { count = omega arith; state = rw (take_fir
 
 pub ruleset firsts = (first_none, first_zero, first_one)
 
-after_on : (xs ys : List Effect) (s : NodeState) → after_effects s (xs ++ ys) ≡ after_effects (after_effects s xs) ys
-unfolding after_effects
-after_on [] ys s = refl
-after_on (x ∷ xs) ys s = after_on xs ys (after_effect s x)
-
 take_split : (k : ℕ) (xs ys : List Effect) → take k (xs ++ ys) ≡ take k xs ++ take (k - min k (length xs)) ys
 take_split k [] ys = (let e : k - min k 0 ≡ k = omega arith in rw (take_nil k, e) refl)
 take_split zero (x ∷ xs) ys = (let e : 0 - min 0 (suc (length xs)) ≡ 0 = omega arith in rw e refl)
@@ -70,7 +66,7 @@ first_both s t u r xs ys keep done more a b =
     let rest : more ≡ min (keep - done) (length fs) = b.count in
     record {
       count = rw all (omega arith);
-      state = b.state ∙ ap (λ x. after_effects x (take (keep - done) fs)) a.state ∙ sym (after_on (take keep es) (take (keep - done) fs) s)
+      state = b.state ∙ ap (λ x. after_effects x (take (keep - done) fs)) a.state ∙ sym (after-append (take keep es) (take (keep - done) fs) s)
           ∙ ap (after_effects s) (ap (λ n. take keep es ++ take (keep - n) fs) first ∙ sym (take_split keep es fs) ∙ ap (take keep) (sym all));
     }
 

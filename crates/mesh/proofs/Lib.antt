@@ -28,3 +28,4 @@ pub mod EmptyLogs
 pub mod Crossed
 pub mod Tailed
 pub mod CallLists
+pub mod MarkTests

@@ -1,5 +1,6 @@
 -- Marks of a plan, and a record that goes by them.
-use Rattle.std.specs.Prelude.{◌≡◌, ◌≢◌, ℕ, ◌+◌, ◌-◌, ◌≤◌, ◌↔◌, ◌==◌, List, [], ◌∷◌, ◌++◌, length, Some, slice_get, Contains, if◌then◌else◌}
+use Rattle.std.specs.Prelude.{◌≡◌, ◌≢◌, ℕ, ◌+◌, ◌-◌, ◌≤◌, ◌↔◌, ◌==◌, ◌&&◌, Bool, true, false, List, [], ◌∷◌, ◌++◌, length, Some, slice_get, Contains, if◌then◌else◌}
+use Rattle.std.specs.List.{list_any}
 use Rattle.journal_core.specs.declared.request.Request.{Request}
 use Rattle.node_history.specs.declared.record.Record.{Record}
 use Rattle.node_history.specs.declared.record.Record.TheVariants.{Call, Late, Operator, Outcome}
@@ -11,6 +12,16 @@ use Rattle.node_history.specs.declared.mark.MarkKind.TheVariants as kind
 
 abbrev pub mark : ℕ → ℕ → MarkKind → Mark
 mark node number kind = record { node = node; number = number; kind = kind }
+
+unfoldable pub same_kind : MarkKind → MarkKind → Bool
+same_kind kind.Dropped kind.Dropped = true
+same_kind kind.Muted kind.Muted = true
+same_kind kind.Late kind.Late = true
+same_kind _ _ = false
+
+-- the plan marks this call to this node so
+unfoldable pub is_marked : List Mark → ℕ → ℕ → MarkKind → Bool
+is_marked plan node number kind = list_any (λ m. (m.node == node) && ((m.number == number) && same_kind m.kind kind)) plan
 
 -- what the record's calls to this node asked, in order; late copies are no calls
 unfoldable pub calls_to : ℕ → List Record → List Request

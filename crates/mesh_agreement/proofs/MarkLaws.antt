@@ -1,12 +1,11 @@
--- A record that goes by a plan, line by line; and marks as tests.
+-- A record that goes by a plan, line by line.
 use Rattle.std.proofs.Common.{◌≡◌, ◌≢◌, ℕ, suc, ◌+◌, ◌-◌, ◌<◌, ◌≤◌, ◌==◌, List, [], ◌∷◌, ◌++◌, Bool, true, false, cond, not, Contains, length, refl, sym, ap, ◌∙◌, subst, arith, get_or, set, take, drop, Some, inl, inr, ◌⊎◌, Decides, length-append, append-nil, replicate, take-append-drop}
 use Rattle.std.specs.Prelude.{slice_get, unwrap_or, ◌&&◌, ◌||◌}
 use Rattle.std.specs.BTreeSet.{contains}
 use Rattle.std.specs.Ordering.{nat_cmp}
-use Rattle.std.proofs.lemmas.Bool.{true≢false, and_parts, and_from, or_cases, eqb-true, eq-eqb, or_left, or_right}
+use Rattle.std.proofs.lemmas.Bool.{true≢false, and_parts, and_from, or_cases, eq-eqb, or_left, or_right}
 use Rattle.std.proofs.lemmas.List.{take_more, take_all, drop_all, get_or-set_same, get_or-set_other, length-set, get_or-replicate, length-replicate, get_or_default}
 use Rattle.std.proofs.lemmas.List.Elements.{Contains-push, Contains-push_cases, Contains-append_left}
-use Rattle.std.proofs.lemmas.List.Folds.{list_any-append}
 use Rattle.std.proofs.lemmas.Option.{slice_get_within}
 use Rattle.journal_core.specs.declared.request.Request.{Request}
 use Rattle.node_history.specs.declared.node_ask.NodeAsk.{NodeAsk}
@@ -19,67 +18,28 @@ use Rattle.node_history.specs.declared.mark.MarkKind.{MarkKind}
 use Rattle.node_history.specs.declared.mark.MarkKind.TheVariants as kind
 use Rattle.run_safety.proofs.Values.{get_append, get_append_left}
 use Rattle.run_safety.proofs.Oks.{get_append_right}
-use Rattle.mesh.specs.Marks.{mark, calls_to, next_number, IsAsMarked, IsCopy, IsMarked, AreCopied}
-use Rattle.mesh.proofs.Lists.{Alike, alike, contains_cases, contains_head, contains_tail, contains_none}
+use Rattle.mesh.specs.Marks.{mark, calls_to, next_number, IsAsMarked, IsCopy, IsMarked, AreCopied, is_marked}
+use Rattle.mesh.proofs.Lists.{Alike, alike}
 use Rattle.mesh.proofs.CallLists.{calls_append}
 use Rattle.mesh_agreement.specs.declared.marking.Numbers.{Numbers}
 use Rattle.mesh_agreement.specs.declared.marking.MarkTable.{MarkTable}
 use Rattle.mesh_agreement.specs.declared.marking.CallTable.{CallTable}
 use Rattle.mesh_agreement.specs.declared.request_set.RequestSet.{RequestSet}
 use Rattle.mesh_agreement.specs.Keys.{is_ask, has}
-use Rattle.mesh_agreement.specs.Marking.{same_kind, is_marked, as_marked, KnowsMarks, KnowsPlan, KnowsCalls, HasCopies, LineIsMarked, LineIsCopied}
+use Rattle.mesh_agreement.specs.Marking.{as_marked, KnowsMarks, KnowsPlan, KnowsCalls, HasCopies, LineIsMarked, LineIsCopied}
 use Rattle.mesh_agreement.proofs.Deciding.{front}
 use Rattle.mesh_agreement.proofs.KeyLaws.{ask_decided}
-
--- ## The test of a mark
-kind_is : (a b : MarkKind) → same_kind a b ≡ true → a ≡ b
-kind_is kind.Dropped kind.Dropped e = refl
-kind_is kind.Muted kind.Muted e = refl
-kind_is kind.Late kind.Late e = refl
-kind_is a b e = absurd (true≢false (sym e))
-
-kind_self : (a : MarkKind) → same_kind a a ≡ true
-kind_self kind.Dropped = refl
-kind_self kind.Muted = refl
-kind_self kind.Late = refl
-
-abbrev test : Mark → ℕ → ℕ → MarkKind → Bool
-test m node number kind = (m.node == node) && ((m.number == number) && same_kind m.kind kind)
-
-test_is : (m : Mark) (k n : ℕ) (kd : MarkKind) → test m k n kd ≡ true → m ≡ mark k n kd
-test_is m k n kd e =
-    let p = and_parts (m.node == k) ((m.number == n) && same_kind m.kind kd) e in
-    let q = and_parts (m.number == n) (same_kind m.kind kd) p.1 in
-    ap (λ x. mark x m.number m.kind) (eqb-true m.node k p.0) ∙ (ap (λ x. mark k x m.kind) (eqb-true m.number n q.0) ∙ ap (λ x. mark k n x) (kind_is m.kind kd q.1))
-
-test_self : (k n : ℕ) (kd : MarkKind) → test (mark k n kd) k n kd ≡ true
-test_self k n kd = and_from (k == k) ((n == n) && same_kind kd kd) (eq-eqb k k refl) (and_from (n == n) (same_kind kd kd) (eq-eqb n n refl) (kind_self kd))
-
-has_mark : (k n : ℕ) (kd : MarkKind) (ms : List Mark) → is_marked ms k n kd ≡ true → Contains ms (mark k n kd)
-has_mark k n kd [] e = absurd (true≢false (sym e))
-has_mark k n kd (m ∷ ms) e = by (or_cases (test m k n kd) (is_marked ms k n kd) e) (has_mark k n kd ms)
-  where
-    by : (test m k n kd ≡ true) ⊎ (is_marked ms k n kd ≡ true) → (is_marked ms k n kd ≡ true → Contains ms (mark k n kd)) → Contains (m ∷ ms) (mark k n kd)
-    by (inl f) later = contains_head m ms (mark k n kd) (test_is m k n kd f)
-    by (inr f) later = contains_tail m ms (mark k n kd) (later f)
-
-had : (k n : ℕ) (kd : MarkKind) (ms : List Mark) → Contains ms (mark k n kd) → is_marked ms k n kd ≡ true
-had k n kd [] h = absurd (contains_none (mark k n kd) h)
-had k n kd (m ∷ ms) h = by (contains_cases m ms (mark k n kd) h) (had k n kd ms)
-  where
-    by : (m ≡ mark k n kd) ⊎ Contains ms (mark k n kd) → (Contains ms (mark k n kd) → is_marked ms k n kd ≡ true) → is_marked (m ∷ ms) k n kd ≡ true
-    by (inl e) later = or_left (test m k n kd) (is_marked ms k n kd) (subst (λ x. test x k n kd ≡ true) (sym e) (test_self k n kd))
-    by (inr g) later = or_right (test m k n kd) (is_marked ms k n kd) (later g)
+use Rattle.mesh.proofs.MarkTests.{marked_has, has_marked}
 
 -- ## A call is told as it is marked
 not_marked : (ms : List Mark) (k n : ℕ) (kd : MarkKind) → not (is_marked ms k n kd) ≡ true → Contains ms (mark k n kd) → ⊥
-not_marked ms k n kd e h = true≢false (sym e ∙ ap not (had k n kd ms h))
+not_marked ms k n kd e h = true≢false (sym e ∙ ap not (has_marked k n kd ms h))
 
 unmarked : (ms : List Mark) (k n : ℕ) (kd : MarkKind) → (Contains ms (mark k n kd) → ⊥) → not (is_marked ms k n kd) ≡ true
 unmarked ms k n kd off = by (is_marked ms k n kd) refl
   where
     by : (b : Bool) → is_marked ms k n kd ≡ b → not (is_marked ms k n kd) ≡ true
-    by true e = absurd (off (has_mark k n kd ms e))
+    by true e = absurd (off (marked_has k n kd ms e))
     by false e = ap not e
 
 -- a call of which something or nothing was heard
@@ -95,15 +55,15 @@ heard_marked plan k n t d m = (
 )
 
 pub told_marked : (plan : List Mark) (k n : ℕ) (t : Told) → Decides (as_marked t (is_marked plan k n kind.Dropped) (is_marked plan k n kind.Muted)) (IsAsMarked plan k n t)
-told_marked plan k n told.Dropped = (λ e. ((λ f. has_mark k n kind.Dropped plan e, λ h. refl), λ off. absurd (off refl)), λ h. had k n kind.Dropped plan (h.0.0 refl))
+told_marked plan k n told.Dropped = (λ e. ((λ f. marked_has k n kind.Dropped plan e, λ h. refl), λ off. absurd (off refl)), λ h. has_marked k n kind.Dropped plan (h.0.0 refl))
 told_marked plan k n told.Muted = (
   λ e. let p = and_parts (not (is_marked plan k n kind.Dropped)) (is_marked plan k n kind.Muted) e in (
     (λ (f : told.Muted ≡ told.Dropped). absurd (cc f), λ h. absurd (not_marked plan k n kind.Dropped p.0 h)),
-    λ off. (λ f. has_mark k n kind.Muted plan p.1, λ h. refl),
+    λ off. (λ f. marked_has k n kind.Muted plan p.1, λ h. refl),
   ),
   λ h. and_from (not (is_marked plan k n kind.Dropped)) (is_marked plan k n kind.Muted)
       (unmarked plan k n kind.Dropped (λ g. let f : told.Muted ≡ told.Dropped = h.0.1 g in cc f))
-      (had k n kind.Muted plan ((h.1 (λ (f : told.Muted ≡ told.Dropped). cc f)).0 refl)),
+      (has_marked k n kind.Muted plan ((h.1 (λ (f : told.Muted ≡ told.Dropped). cc f)).0 refl)),
 )
 told_marked plan k n (told.Reply reply) = heard_marked plan k n (told.Reply reply) (λ (f : told.Reply reply ≡ told.Dropped). cc f) (λ (f : told.Reply reply ≡ told.Muted). cc f)
 told_marked plan k n told.Silent = heard_marked plan k n told.Silent (λ (f : told.Silent ≡ told.Dropped). cc f) (λ (f : told.Silent ≡ told.Muted). cc f)
@@ -225,14 +185,14 @@ late_more plan before n p t k q b x y marked is d = (λ e. forth (or_cases (b &&
     forth (inl f) =
         let parts = and_parts b (is_ask k q n p) f in let same = (ask_decided k n q p).0 parts.1 in
         subst (λ i. IsCopy plan (before ++ Call n p t ∷ []) i q) (sym same.0)
-        (subst (IsCopy plan (before ++ Call n p t ∷ []) n) (sym same.1) (copy_last plan before n p t (has_mark n (next_number n before) kind.Late plan (sym marked ∙ parts.0))))
+        (subst (IsCopy plan (before ++ Call n p t ∷ []) n) (sym same.1) (copy_last plan before n p t (marked_has n (next_number n before) kind.Late plan (sym marked ∙ parts.0))))
     forth (inr f) = copy_kept plan before (Call n p t ∷ []) k q (d.0 f)
 
     back : IsCopy plan before k q ⊎ IsOfLine plan before (Call n p t) k q → ((b && is_ask k q n p) || x) ≡ true
     back (inl g) = or_right (b && is_ask k q n p) x (d.1 g)
     back (inr g) =
         let own = called n p t k q g.1 in
-        or_left (b && is_ask k q n p) x (and_from b (is_ask k q n p) (marked ∙ had n (next_number n before) kind.Late plan (subst (λ i. Contains plan (mark i (next_number i before) kind.Late)) (sym own.0) g.0)) ((ask_decided k n q p).1 (sym own.0, sym own.1)))
+        or_left (b && is_ask k q n p) x (and_from b (is_ask k q n p) (marked ∙ has_marked n (next_number n before) kind.Late plan (subst (λ i. Contains plan (mark i (next_number i before) kind.Late)) (sym own.0) g.0)) ((ask_decided k n q p).1 (sym own.0, sym own.1)))
 
 late_stays : (plan : List Mark) (before : List Record) (r : Record) (k : ℕ) (q : Request) (x : Bool) → calls_to k (r ∷ []) ≡ [] → Decides x (IsCopy plan before k q) → Decides x (IsCopy plan (before ++ r ∷ []) k q)
 late_stays plan before r k q x none d = (λ e. copy_kept plan before (r ∷ []) k q (d.0 e), λ h. back (copy_from plan before r k q h))
@@ -319,7 +279,7 @@ pub marked_copied : (nodes node number : ℕ) (plan : List Mark) (before lines :
 marked_copied nodes node number plan before lines calls marks r t lates b low is num on marked known d =
     let n = number_is nodes node number plan before calls low num known in
     let m = marked_at nodes node number (next_number node before) plan kind.Late marks.late.items lates low marked.late is n in
-    (λ e h. d.0 e, λ h. d.1 (h (has_mark node (next_number node before) kind.Late plan (sym m ∙ on))))
+    (λ e h. d.0 e, λ h. d.1 (h (marked_has node (next_number node before) kind.Late plan (sym m ∙ on))))
 
 -- ## The copies of a record
 abbrev late_node : Record → ℕ

@@ -1,6 +1,5 @@
--- Marks as tests, what is known of an actor's marks and of its calls, and what each line of a record has to keep.
-use Rattle.std.specs.Prelude.{◌≡◌, ℕ, ◌+◌, ◌<◌, ◌==◌, ◌&&◌, Bool, true, false, not, List, Contains, Decides, length, slice_index, slice_index_or}
-use Rattle.std.specs.List.{list_any}
+-- How a call is told by its marks, what is known of an actor's marks and of its calls, and what each line of a record has to keep.
+use Rattle.std.specs.Prelude.{◌≡◌, ℕ, ◌+◌, ◌<◌, ◌&&◌, Bool, not, List, Contains, Decides, length, slice_index, slice_index_or}
 use Rattle.std.specs.BTreeSet.{contains}
 use Rattle.std.specs.Ordering.{nat_cmp}
 use Rattle.journal_core.specs.declared.request.Request.{Request}
@@ -11,21 +10,12 @@ use Rattle.node_history.specs.declared.record.Told.TheVariants as told
 use Rattle.node_history.specs.declared.mark.Mark.{Mark}
 use Rattle.node_history.specs.declared.mark.MarkKind.{MarkKind}
 use Rattle.node_history.specs.declared.mark.MarkKind.TheVariants as kind
-use Rattle.mesh.specs.Marks.{mark, next_number, IsAsMarked, IsCopy}
+use Rattle.mesh.specs.Marks.{mark, next_number, IsAsMarked, IsCopy, is_marked}
 use Rattle.mesh_agreement.specs.declared.marking.Numbers.{Numbers}
 use Rattle.mesh_agreement.specs.declared.marking.MarkTable.{MarkTable}
 use Rattle.mesh_agreement.specs.declared.marking.CallTable.{CallTable}
 use Rattle.mesh_agreement.specs.declared.request_set.RequestSet.{RequestSet}
 use Rattle.mesh_agreement.specs.Keys.{has}
-
-abbrev pub same_kind : MarkKind → MarkKind → Bool
-same_kind kind.Dropped kind.Dropped = true
-same_kind kind.Muted kind.Muted = true
-same_kind kind.Late kind.Late = true
-same_kind _ _ = false
-
-abbrev pub is_marked : List Mark → ℕ → ℕ → MarkKind → Bool
-is_marked plan node number kind = list_any (λ m. (m.node == node) && ((m.number == number) && same_kind m.kind kind)) plan
 
 -- a call was told so, where it is marked as dropped, and as muted
 abbrev pub as_marked : Told → Bool → Bool → Bool

@@ -57,6 +57,7 @@ fn is_of(mark: Mark, kind: MarkKind, nodes: usize) -> bool
 }
 
 /// As many empty sets.
+#[tactic(auto, unfolding(mesh::specs::Marks::is_marked, mesh::specs::Marks::same_kind))]
 fn no_numbers(alloc: Global, nodes: usize) -> Result<Vec<Numbers>, OutOfMemory>
     ensures { IfOk result (λ lists. (kind : MarkKind) → KnowsMarks nodes [] kind lists.items) }
 {
@@ -70,6 +71,7 @@ fn no_numbers(alloc: Global, nodes: usize) -> Result<Vec<Numbers>, OutOfMemory>
 }
 
 /// The numbers of the calls to each of that many nodes that are marked so.
+#[tactic(auto, unfolding(mesh::specs::Marks::is_marked, mesh::specs::Marks::same_kind))]
 fn numbers_marked(
     alloc: Global,
     nodes: usize,
@@ -150,6 +152,7 @@ fn is_line_marked(
 }
 
 /// The line is no call that the plan marks as late, or it has its copy among these.
+#[tactic(auto, unfolding(mesh::specs::Marks::is_marked, mesh::specs::Marks::same_kind))]
 fn is_line_copied(
     alloc: Global,
     marks: &MarkTable,

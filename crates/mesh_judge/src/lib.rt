@@ -8,5 +8,5 @@ mod ranking;
 mod reached;
 mod won;
 
-pub use ordering::ordered;
+pub use ordering::order_events;
 pub use reached::{Reach, ReachList, reached_by_node};

@@ -24,7 +24,7 @@ fn events_of(alloc: Global, ranked: Vec<Ranked>) -> Result<Vec<Event>, OutOfMemo
 /// The epoch order of a mesh that agrees: what moved its nodes, as events, by the promise that the node has after each; under one
 /// promise first the proposals of callers that don't own it, and then the owner's events in the order of its record. `OutOfMemory`
 /// where the lists can't be made.
-pub fn ordered(alloc: Global, mesh: &Mesh) -> Result<Vec<Event>, OutOfMemory>
+pub fn order_events(alloc: Global, mesh: &Mesh) -> Result<Vec<Event>, OutOfMemory>
     requires { Agrees mesh.now }
     ensures { IfOk result (λ events. events.items ≡ map event_of (epoch_order mesh.now)) }
 {

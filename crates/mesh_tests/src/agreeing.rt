@@ -5,7 +5,7 @@ use crate::plays::mesh_of;
 use journal_core::OutOfMemory;
 use mesh::Mesh;
 use mesh_agreement::agrees;
-use mesh_judge::ordered;
+use mesh_judge::order_events;
 use std::alloc::Global;
 use std::process::Abort;
 use std::test::Fail;
@@ -57,7 +57,7 @@ pub fn is_ordered(alloc: Global, mesh: &Mesh) -> Result<bool, OutOfMemory> {
     if !agrees(alloc, mesh)? {
         return Ok(false);
     }
-    let events = ordered(alloc, mesh)?;
+    let events = order_events(alloc, mesh)?;
     is_epoch_order(alloc, mesh, &events)
 }
 

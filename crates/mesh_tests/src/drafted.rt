@@ -3,7 +3,7 @@ use crate::drafts::Draft;
 use journal_core::{OutOfMemory, Refusal, Reply, Request, SegmentLines};
 use mesh::Mesh;
 use mesh_agreement::agrees;
-use mesh_judge::ordered;
+use mesh_judge::order_events;
 use node_history::{ActorPlan, Event, Mark, MarkKind, Plan, Told};
 use std::alloc::Global;
 use std::test::Fail;
@@ -117,7 +117,7 @@ fn crossed_takeovers_agree_and_have_an_epoch_order(rt: HostRuntime) -> Result<()
         return Err("the mesh doesn't agree".into());
     }
     let mut proposals = Vec::new(alloc);
-    for event in ordered(alloc, &mesh)? {
+    for event in order_events(alloc, &mesh)? {
         proposals.push(proposed(&event))?;
     }
     assert_eq!(rt;

@@ -3,7 +3,7 @@ use crate::actions::{Action, Kind, action_of};
 use crate::plays::mesh_of;
 use journal_core::OutOfMemory;
 use mesh_agreement::agrees;
-use mesh_judge::ordered;
+use mesh_judge::order_events;
 use std::alloc::Global;
 use std::test::Fail;
 
@@ -43,7 +43,7 @@ fn actions_of(alloc: Global, text: &[u8]) -> Result<Vec<Action>, Fail> {
         return Err("the mesh doesn't agree".into());
     }
     let mut actions = Vec::new(alloc);
-    for event in ordered(alloc, &mesh)? {
+    for event in order_events(alloc, &mesh)? {
         actions.push(action_of(&event))?;
     }
     Ok(actions)

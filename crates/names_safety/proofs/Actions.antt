@@ -7,7 +7,7 @@ use Rattle.ns_replay.specs.declared.refusal.AdmitRefusal.{AdmitRefusal}
 use Rattle.ns_replay.specs.declared.refusal.AdmitRefusal.TheVariants.{RepeatedCall}
 use Rattle.ns_replay.specs.Admit.{Refusal, admit_of}
 use Rattle.ns_replay.specs.Apply.{apply_of}
-use Rattle.ns_replay.specs.Replay.{Image, replay_from}
+use Rattle.ns_replay.specs.Replay.{replay_from}
 use Rattle.ns_replay.proofs.Splits.{replay_joins, replay_one}
 use Rattle.ns_replay.proofs.Decodes.{record_decodes}
 use Rattle.ns_replay.proofs.Calls.{enters}
@@ -23,12 +23,13 @@ use Rattle.writer_core.specs.Views.{WriterView}
 use Rattle.writer_core.specs.Writer.{Began, is_writing, if_writing, log_begins, log_limit, writer_begun, next_call}
 use Rattle.script_actor.specs.Lines.{Action, Does, DoDrop, DoMute, DoLate, Submits, Trims, DoTail, Saves, Reloads, IsNamesTask, AreEdits, IsAction, AreActions}
 use Rattle.name_node.specs.Submissions.{Submission, unless_long, unless_refused, submitted_one, submit_edits, nothing_submitted}
-use Rattle.name_node.specs.Holding.{Holding, Work, Free, Tails, Logs, Broken, with_work, save_image, load_image, reload_image, min_to_keep}
+use Rattle.name_node.specs.Holding.{Holding, Work, Free, Tails, Logs, Broken, with_work, save_image, reload_image, min_to_keep}
 use Rattle.name_node.specs.Tails.{pass_begun}
 use Rattle.script_actor.specs.Actor.{Actor, Want, call_wanted, work_read, read_first, copy_first, say_first, wants, is_wanting, is_broken_work, is_broken_holding, is_broken, tail_stepped, task_begun, make_copy, begin_sync, after_sync, logged_when, trim_at, unless_active, begin_save, begin_reload, take_named_action, take_action, while_wanting, settle}
 use Rattle.writer_core.specs.Turns.{IsInRound, aim_of}
 use Rattle.cluster_runner.proofs.Sound.{waiting_actions}
 use Rattle.cluster_runner.proofs.WriterTurns.{has_other, Course, Begins, begun_turn, call_some}
+use Rattle.script_actor.proofs.NamedLaws.{reloaded_free}
 use Rattle.names_safety.proofs.WriterPlaces.{PhasePlace, IsLogIn}
 use Rattle.names_safety.proofs.Held.{saved_stands, reloaded_stands}
 use Rattle.names_safety.proofs.Stages.{AtStandby, RestsAt, OnTask, Stage, GoodActor, free_stage, rests_standby, pass_good}
@@ -286,14 +287,6 @@ module _ (L : ℕ → List ℕ → Type 0) where
         other = g.other;
         stage = rests_free (save_image g.holding) a ((saved_same g.holding).0 ∙ r.free) r.idle (subst (λ (k : ℕ). RestsAt L k a.writer.phase a.writer) (sym (saved_same g.holding).1) r.rests);
       }
-
-  pub reloaded_free : (h : Holding) → (reload_image h).work ≡ Free
-  unfolding reload_image
-  reloaded_free h = by h.images
-    where
-      by : (is : List Image) → (load_image is (record h { work = Free })).work ≡ Free
-      by [] = refl
-      by (i ∷ is) = refl
 
   reload_good : (a : Actor) (g : GoodActor L a) → Resting g.holding a → GoodActor L (unless_active (is_writing a.writer.phase) (begin_reload g.holding a) a)
   reload_good a g r = by (is_writing a.writer.phase) refl

@@ -33,7 +33,8 @@ use Rattle.cluster_runner.proofs.WriterTurns.{has_other, IsBetween, Course, Turn
 use Rattle.names_safety.proofs.WriterPlaces.{OutcomePlace, TurnPlace, HearsAt, IsLogOf, IsLogIn, heard_place}
 use Rattle.names_safety.proofs.Held.{Held, held_more, held_at, held_start, held_end, held_empty, Standing, reloaded_stands}
 use Rattle.names_safety.proofs.Stages.{RestsAt, OnTask, Stage, Good, GoodActor, rests_writing, pass_good, EditsOn, hears_good}
-use Rattle.names_safety.proofs.Actions.{reloaded_free, settled_good}
+use Rattle.script_actor.proofs.NamedLaws.{reloaded_free}
+use Rattle.names_safety.proofs.Actions.{settled_good}
 
 module _ (L : ℕ → List ℕ → Type 0) where
   -- ## A task goes on, or ends
@@ -189,7 +190,7 @@ module _ (L : ℕ → List ℕ → Type 0) where
         is = refl;
         stands = reloaded_stands L h s.images;
         other = c.other;
-        stage = subst (λ (x : Work). Stage L (reload_image h) None w x) (sym (reloaded_free L h)) (ends_rests (reload_image h) w.phase w pl);
+        stage = subst (λ (x : Work). Stage L (reload_image h) None w x) (sym (reloaded_free h)) (ends_rests (reload_image h) w.phase w pl);
       })
   turn_good h t (turn.EpochLimit told) a w one s c work i pl is doing =
       subst (λ (x : Option Holding). GoodActor L (turn_with x (turn.EpochLimit told) t (after a w))) (sym is)

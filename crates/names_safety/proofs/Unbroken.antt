@@ -37,7 +37,7 @@ use Rattle.cluster_runner.specs.Safe.{AllOn}
 use Rattle.names_safety.specs.Linear.{IsLinear, OnLine, IsActor, IsNamed, NoneBreaks}
 use Rattle.names_safety.proofs.Held.{AllOn-append, Held, Standing}
 use Rattle.names_safety.proofs.Stages.{GoodActor, EditsOn, up_to_on}
-use Rattle.names_safety.proofs.Actions.{reloaded_free}
+use Rattle.script_actor.proofs.NamedLaws.{reloaded_free}
 use Rattle.names_safety.proofs.Keeps.{LearnsIn, Learns, LineLearns}
 use Rattle.names_safety.proofs.Replays.{Walked, walk, line_learns, walked}
 use Rattle.names_safety.proofs.LineLaws.{line_replays}
@@ -47,9 +47,6 @@ Sane o = is_broken_holding o ≡ false
 
 sane_work : (h : Holding) (x : Work) → h.work ≡ x → is_broken_work x ≡ false → Sane (Some h)
 sane_work h x e s = ap is_broken_work e ∙ s
-
-free_again : (h : Holding) → (reload_image h).work ≡ Free
-free_again h = reloaded_free (λ t x. ⊥) h
 
 -- ## Steps of a tail that don't break
 abbrev StepSane : TailStep → Type 0
@@ -124,7 +121,7 @@ held_sane (Submits es) (Some h) a q s = logged_sane (is_writing a.writer.phase) 
 held_sane (Trims extra) (Some h) a q s = trim_sane (is_writing a.writer.phase) (min_to_keep extra h.images) a s
 held_sane DoTail (Some h) a q s = unless_sane (is_writing a.writer.phase) (tail_stepped None (pass_begun None h) a) a (stepped_sane None (pass_begun None h) a (pass_sane None h)) s
 held_sane Saves (Some h) a q s = unless_sane (is_writing a.writer.phase) (begin_save h a) a (saved_sane h a q) s
-held_sane Reloads (Some h) a q s = unless_sane (is_writing a.writer.phase) (begin_reload h a) a (sane_work (reload_image h) Free (free_again h) refl) s
+held_sane Reloads (Some h) a q s = unless_sane (is_writing a.writer.phase) (begin_reload h a) a (sane_work (reload_image h) Free (reloaded_free h) refl) s
 held_sane d o a q s = s
 
 copied_sane : (node call : ℕ) (o : Option Request) (a : Actor) → Sane a.holds → Sane (make_copy node call o a).holds
@@ -172,7 +169,7 @@ turned_sane : (tn : Turn) (t : Task) (h : Holding) (a : Actor) → Sane a.holds 
 unfolding held_turn
 turned_sane turn.Going t h a s = s
 turned_sane (turn.Done o) t h a s = done_sane o t h a s
-turned_sane turn.Aborted t h a s = sane_work (reload_image h) Free (free_again h) refl
+turned_sane turn.Aborted t h a s = sane_work (reload_image h) Free (reloaded_free h) refl
 turned_sane (turn.EpochLimit told) t h a s = s
 
 with_sane : (o : Option Holding) (tn : Turn) (t : Task) (a : Actor) → Sane a.holds → Sane (turn_with o tn t a).holds

@@ -1,7 +1,7 @@
 -- A worked play with names: it is the script's, so it is safe.
 use Rattle.std.proofs.Common.{◌≡◌, [], ◌∷◌, true, refl, arith}
 use Rattle.std.specs.Fmt.{digits}
-use Rattle.edit_ops.specs.Reading.{field_at}
+use Rattle.edit_fields.specs.Reading.{field_at}
 use Rattle.journal_core.specs.Segments.{find_segment, put_segment, remove_segment, newest}
 use Rattle.journal_core.specs.Limits.{limit_of}
 use Rattle.journal_core.specs.Effects.{after_effects}

@@ -1,10 +1,11 @@
 //! What tests make of a namespace: directories and files, where they may stand.
 ghost use Rattle.std.specs.Prelude.{◌≡◌, ◌≤◌, true, length, IfOk};
-ghost use Rattle.ns_tree.specs.Path.{is_owner};
+ghost use Rattle.ns_path.specs.Path.{is_owner};
 ghost use Rattle.ns_tree.specs.Space.{find, is_dir, is_dir_there, AreLengths, IsInode};
 
-use edit_ops::NumberList;
-use ns_tree::{Inode, Namespace, is_good_owner, is_good_path, is_root_path, parent};
+use edit_fields::NumberList;
+use ns_path::{is_good_owner, is_good_path, is_root_path, parent};
+use ns_tree::{Inode, Namespace};
 use qj_num::{Name, OutOfMemory};
 use std::alloc::{AllocError, Global};
 

@@ -9,16 +9,16 @@ use Rattle.qj_disk.specs.declared.disk.DiskFail.{DiskFail}
 use Rattle.journal_core.specs.Views.{BatchView}
 use Rattle.journal_core.specs.declared.segment.Segment.{Segment}
 use Rattle.journal_core.specs.declared.node_state.NodeState.{NodeState}
-use Rattle.journal_core.specs.Segments.{find_segment, put_segment}
+use Rattle.journal_core.specs.Segments.{find_segment, put_segment, IsNotFinal}
 use Rattle.journal_core.specs.Cuts.{has_record_of, accept_cost}
 use Rattle.journal_core.specs.Effects.{accepted_segment}
 use Rattle.segment_file.specs.Names.{Kind, InProgress, Record, UnderWay, Fresh, FreshRecord, name_of}
 use Rattle.segment_file.specs.Stands.{HasEpoch}
 use Rattle.segment_file.specs.Effects.{Touches}
-use Rattle.segment_file.specs.Calls.{NotFinal, CanReplace, CanReplaceAgain}
+use Rattle.segment_file.specs.Calls.{CanReplace, CanReplaceAgain}
 use Rattle.segment_file.proofs.OneEpoch.{one_epoch}
 use Rattle.node_files.specs.Durable.{HoldsState}
-use Rattle.node_files.specs.Deeds.{CanAccept, IsCutAt}
+use Rattle.node_files.specs.EffectCalls.{CanAccept, IsCutAt}
 use Rattle.node_files.proofs.Names.{fronts_apart, outside_other}
 use Rattle.node_files.proofs.Lists.{any_some}
 use Rattle.node_files.proofs.OneCall.{Kept, kept_put, accepted_epoch, on_ok_always}
@@ -53,7 +53,7 @@ module _ (epoch : ℕ) (b : BatchView) (first : 1 ≤ b.first) (small : b.first 
             g,
             record {
               known = known;
-              in_progress = subst NotFinal known can.not_final;
+              in_progress = subst IsNotFinal known can.not_final;
               same_epoch = λ c left. subst (λ (e : ℕ). HasEpoch (c (name_of b.first Record)) e) (eqb-true g.epoch epoch yes.1) (accepted_epoch b.first first small v s holds c left g known yes.0);
             },
           )

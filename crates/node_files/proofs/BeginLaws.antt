@@ -10,7 +10,7 @@ use Rattle.segment_file.specs.Effects.{IsOutside, Touches}
 use Rattle.segment_file.specs.Calls.{CanCreate}
 use Rattle.segment_file.proofs.EffectLaws.{none_is_not}
 use Rattle.node_files.specs.Durable.{HoldsState}
-use Rattle.node_files.specs.Deeds.{CanBegin}
+use Rattle.node_files.specs.EffectCalls.{CanBegin}
 use Rattle.node_files.proofs.Names.{fronts_apart}
 use Rattle.node_files.proofs.OneCall.{Kept, kept_put, no_record, other_epoch, on_ok_always}
 

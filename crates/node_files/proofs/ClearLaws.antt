@@ -15,7 +15,7 @@ use Rattle.segment_opening.specs.Opening.{IsOther}
 use Rattle.segment_file.proofs.Frame.{apart, kinds_apart}
 use Rattle.segment_file.proofs.AcceptLemmas.{record_name}
 use Rattle.segment_file.proofs.Counts.{counted_one}
-use Rattle.node_files.specs.Deeds.{MayClear, Clears, clear_calls, KeepsOthers}
+use Rattle.node_files.specs.EffectCalls.{MayClear, Clears, clear_calls, KeepsOthers}
 use Rattle.node_files.proofs.Names.{fronts_apart}
 
 -- ## The call

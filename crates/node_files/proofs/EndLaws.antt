@@ -15,7 +15,7 @@ use Rattle.segment_file.specs.Calls.{CanFinalize, CanDiscard}
 use Rattle.segment_file.proofs.EffectLaws.{none_is_not}
 use Rattle.segment_opening.proofs.OpenLemmas.{NotAccepted}
 use Rattle.node_files.specs.Durable.{HoldsState}
-use Rattle.node_files.specs.Deeds.{Clears}
+use Rattle.node_files.specs.EffectCalls.{Clears}
 use Rattle.node_files.proofs.Names.{fronts_apart}
 use Rattle.node_files.proofs.ClearLaws.{other_record_stays, fresh_record_stays, none_stays_none}
 use Rattle.node_files.proofs.OneCall.{Kept, kept_put, kept_remove, no_record_unless, on_ok_always}

@@ -24,7 +24,7 @@ use Rattle.node_files.specs.declared.node_number.NodeNumber.{NodeNumber}
 use Rattle.node_files.specs.declared.node_number.NodeNumber.TheVariants.{Promised, Writer, Committed}
 use Rattle.segment_file.specs.RowsTell.{OnlyAccepted, AreStarts}
 use Rattle.node_files.specs.Durable.{number_name, number_of, HaveNumbers, StandsAs, AreFilled, HoldsState}
-use Rattle.node_files.specs.Deeds.{number_effect, Does, IsCutAt}
+use Rattle.node_files.specs.EffectCalls.{number_effect, Does, IsCutAt}
 use Rattle.node_files.proofs.Names.{number_elsewhere, temporary_elsewhere, numbers_apart, temporaries_apart, number_no_temporary}
 
 -- ## Where no file of a segment changes

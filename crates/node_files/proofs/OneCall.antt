@@ -23,7 +23,7 @@ use Rattle.node_files.specs.declared.node_number.NodeNumber.TheVariants.{Promise
 use Rattle.segment_file.specs.RowsTell.{OnlyAccepted, AreStarts}
 use Rattle.segment_file.proofs.EffectLaws.{none_is_not}
 use Rattle.node_files.specs.Durable.{number_name, number_of, HaveNumbers, StandsAs, AreFilled, HoldsState}
-use Rattle.node_files.specs.Deeds.{Does, IsCutAt, KeepsOthers}
+use Rattle.node_files.specs.EffectCalls.{Does, IsCutAt, KeepsOthers}
 use Rattle.node_files.proofs.Names.{number_other, temporary_other, outside_all, outside_other}
 use Rattle.node_files.proofs.Lists.{starts_put, starts_remove, filled_put, filled_remove, filled_of}
 

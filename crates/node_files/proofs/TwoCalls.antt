@@ -21,7 +21,7 @@ use Rattle.segment_opening.proofs.OpenLemmas.{NotAccepted, record_gone_stands}
 use Rattle.segment_file.proofs.GateLemmas.{passed_none}
 use Rattle.segment_file.proofs.Counts.{passed_on, counted_on, counted_off}
 use Rattle.node_files.specs.Durable.{number_name, HaveNumbers, StandsAs, HoldsState}
-use Rattle.node_files.specs.Deeds.{MayClear, Clears, clear_calls, Does, IsCutAt}
+use Rattle.node_files.specs.EffectCalls.{MayClear, Clears, clear_calls, Does, IsCutAt}
 use Rattle.node_files.proofs.Names.{number_other, temporary_other}
 use Rattle.node_files.proofs.ClearLaws.{kind_stays, other_stays}
 use Rattle.node_files.proofs.OneCall.{Kept, numbers_same, stands_with, numbers_now, temporary_stays, moments_as}

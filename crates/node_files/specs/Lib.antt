@@ -1,4 +1,4 @@
 pub mod Durable
-pub mod Deeds
+pub mod EffectCalls
 pub mod Opening
 pub mod OpenSteps

@@ -9,7 +9,7 @@ ghost use Rattle.segment_file.specs.Names.{name_of, FreshRecord};
 ghost use Rattle.segment_file.specs.Effects.{IsCounted};
 ghost use Rattle.segment_file.specs.Calls.{IsFrameOf};
 ghost use Rattle.node_files.specs.Durable.{HoldsState};
-ghost use Rattle.node_files.specs.Deeds.{CanAccept, Does, IsCutAt, KeepsOthers};
+ghost use Rattle.node_files.specs.EffectCalls.{CanAccept, Does, IsCutAt, KeepsOthers};
 
 use journal_core::Batch;
 use qj_disk::{Disk, DiskFail};

@@ -13,7 +13,7 @@ ghost use Rattle.segment_file.specs.Effects.{IsCounted};
 ghost use Rattle.segment_file.specs.Calls.{CanAppend, IsFrameOf};
 ghost use Rattle.segment_file.specs.Clauses.{Lengthens, HasShutGate};
 ghost use Rattle.node_files.specs.Durable.{HoldsState};
-ghost use Rattle.node_files.specs.Deeds.{Does, IsCutAt, KeepsOthers};
+ghost use Rattle.node_files.specs.EffectCalls.{Does, IsCutAt, KeepsOthers};
 
 use journal_core::Batch;
 use qj_disk::{Disk, DiskFail};

@@ -6,7 +6,7 @@ ghost use Rattle.journal_core.specs.Effects.{NewSegment, after_effect, empty_seg
 ghost use Rattle.journal_core.specs.Cuts.{segment_cost};
 ghost use Rattle.segment_file.specs.Effects.{AppendsAt, IsCounted};
 ghost use Rattle.node_files.specs.Durable.{HoldsState};
-ghost use Rattle.node_files.specs.Deeds.{CanBegin, Does, IsCutAt, KeepsOthers};
+ghost use Rattle.node_files.specs.EffectCalls.{CanBegin, Does, IsCutAt, KeepsOthers};
 
 use qj_disk::{Disk, DiskFail};
 use segment_file::create;

@@ -3,7 +3,7 @@ ghost use Rattle.std.specs.Prelude.{◌≡◌, ◌≤◌, ◌^◌, true, IsSome}
 ghost use Rattle.qj_disk.specs.DiskCalls.{IfTold, IsDiskCall};
 ghost use Rattle.segment_file.specs.Names.{name_of, Record};
 ghost use Rattle.segment_file.specs.Effects.{IsCounted};
-ghost use Rattle.node_files.specs.Deeds.{Clears, clear_calls};
+ghost use Rattle.node_files.specs.EffectCalls.{Clears, clear_calls};
 
 use qj_disk::{Disk, DiskFail};
 use small_files::PaxosFile;

@@ -9,7 +9,7 @@ ghost use Rattle.segment_file.specs.Names.{name_of, InProgress, Record};
 ghost use Rattle.segment_file.specs.Effects.{IsCounted};
 ghost use Rattle.segment_file.specs.Calls.{CanFinalize};
 ghost use Rattle.node_files.specs.Durable.{HoldsState};
-ghost use Rattle.node_files.specs.Deeds.{Does, IsCutAt, KeepsOthers};
+ghost use Rattle.node_files.specs.EffectCalls.{Does, IsCutAt, KeepsOthers};
 
 use crate::clearing::clear_record;
 use qj_disk::{Disk, DiskFail};

@@ -8,7 +8,7 @@ ghost use Rattle.journal_core.specs.Effects.{after_effect};
 ghost use Rattle.journal_core.specs.Cuts.{number_cost};
 ghost use Rattle.segment_file.specs.Effects.{AppendsAt, IsCounted};
 ghost use Rattle.node_files.specs.Durable.{number_name, HoldsState};
-ghost use Rattle.node_files.specs.Deeds.{number_effect, Does, IsCutAt};
+ghost use Rattle.node_files.specs.EffectCalls.{number_effect, Does, IsCutAt};
 
 use crate::node_number::NodeNumber;
 use qj_disk::{Disk, DiskFail};

@@ -10,7 +10,7 @@ ghost use Rattle.segment_file.specs.Effects.{IsCounted};
 ghost use Rattle.segment_file.specs.Calls.{CanDiscard};
 ghost use Rattle.segment_file.specs.Clauses.{file_of};
 ghost use Rattle.node_files.specs.Durable.{HoldsState};
-ghost use Rattle.node_files.specs.Deeds.{Does, IsCutAt, KeepsOthers};
+ghost use Rattle.node_files.specs.EffectCalls.{Does, IsCutAt, KeepsOthers};
 
 use crate::clearing::clear_record;
 use journal_core::SegmentLine;

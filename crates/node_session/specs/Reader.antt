@@ -7,10 +7,11 @@ use Rattle.node_session.specs.declared.more.More.TheVariants as more
 use Rattle.node_session.specs.declared.next.Next.{Next}
 use Rattle.node_session.specs.declared.next.Next.TheVariants as next
 
--- the bytes that were read and not taken, and how many were taken
+-- the bytes that were read and not taken, how many were taken, and the line that was taken last
 pub record LineReaderView : Type 0 where
   pub held : List ℕ
   pub taken : ℕ
+  pub line : List ℕ
 
 -- what is still to be taken: what the reader holds, and what its source has left, where that is told
 abbrev pub to_come : LineReaderView → Option (List ℕ) → Option (List ℕ)

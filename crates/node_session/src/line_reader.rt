@@ -22,26 +22,29 @@ pub const LONGEST_INPUT: usize = 1_073_741_824;
 /// How many bytes are asked for in one read.
 const PIECE: usize = 65_536;
 
-/// Takes lines from what was read of a source. Contracts see the bytes that were read and not taken, and how many were taken.
+/// Takes lines from what was read of a source. Contracts see the bytes that were read and not taken, how many were taken, and the
+/// line that was taken last.
 #[derive(Drop)]
 pub(crate) struct LineReader {
-    // from `at` on it has the bytes that weren't taken
+    // from `at` on it has the bytes that weren't taken, and from `start` to `end` the line that was taken last
     buffer: Vec<u8>,
+    start: usize,
+    end: usize,
     at: usize,
     taken: usize,
     piece: Vec<u8>,
 }
 
 impl Model for LineReader {
-    ghost use Rattle.std.specs.Prelude.{◌≡◌, ◌≤◌, ◌+◌, drop, length, vec_len};
+    ghost use Rattle.std.specs.Prelude.{◌≡◌, ◌≤◌, ◌+◌, ◌-◌, drop, take, length, vec_len};
     ghost use Rattle.node_session.specs.Lines.{longest_input};
     ghost use Rattle.node_session.specs.Reader.{LineReaderView};
 
     ghost Value = { LineReaderView };
 
-    ghost view = { λ r. record { held = drop r.at r.buffer.items; taken = r.taken } };
+    ghost view = { λ r. record { held = drop r.at r.buffer.items; taken = r.taken; line = take (r.end - r.start) (drop r.start r.buffer.items) } };
 
-    ghost invariant = { λ r. (r.at ≤ length r.buffer.items) × (r.taken + length (drop r.at r.buffer.items) ≤ longest_input) × (vec_len r.piece ≡ 65536) };
+    ghost invariant = { λ r. (r.start ≤ r.end) × (r.end ≤ r.at) × (r.at ≤ length r.buffer.items) × (r.taken + length (drop r.at r.buffer.items) ≤ longest_input) × (vec_len r.piece ≡ 65536) };
 }
 
 /// The first place of an LF, where none stands before `searched`.
@@ -58,14 +61,6 @@ fn find_end(bytes: &[u8], searched: usize) -> Option<usize>
         Some(at) => Some(searched + at),
         None => None,
     }
-}
-
-/// Makes `to` these bytes.
-fn copy_to(from: &[u8], to: &mut Vec<u8>) -> Result<(), OutOfMemory>
-    ensures { OnOk result (to.new.items ≡ from.now) }
-{
-    to.clear();
-    to.extend_from_slice(from)
 }
 
 /// Drops so many bytes from the front.
@@ -111,30 +106,41 @@ impl LineReader {
     {
         Ok(LineReader {
             buffer: Vec::new(alloc),
+            start: 0,
+            end: 0,
             at: 0,
             taken: 0,
             piece: vec![in alloc; 0; PIECE]?,
         })
     }
 
+    /// The line that was taken last.
+    pub(crate) fn line(&self) -> &[u8]
+        ensures bytes { result.now ≡ self.now.line }
+    {
+        let (_, rest) = self.buffer.split_at(self.start);
+        let (line, _) = rest.split_at(self.end - self.start);
+        line
+    }
+
     /// Takes the next line, without its LF. The source is read only where no whole line is held.
-    pub(crate) fn next_line<S: Source>(&mut self, source: &mut S, line: &mut Vec<u8>) -> Next
-        ensures next { IsNextLine result line.new.items self.old self.new (S.left source.old) (S.left source.new) }
+    pub(crate) fn next_line<S: Source>(&mut self, source: &mut S) -> Next
+        ensures next { IsNextLine result self.new.line self.old self.new (S.left source.old) (S.left source.new) }
         ensures within { self.new.taken + length self.new.held ≤ longest_input }
         ensures only_if_needed { IsLine self.old.held ⊎ (S.left source.new ≡ S.left source.old) }
         ensures fault { result ≡ Next.ReadFault → Rose (S.faults source.old) (S.faults source.new) }
         ensures no_fault { result ≢ Next.ReadFault → S.faults source.new ≡ S.faults source.old }
     {
         match find_end(self.held_line(), 0) {
-            Some(at) => self.take_line(at, line),
-            None => self.read_line(source, line),
+            Some(at) => self.take_line(at),
+            None => self.read_line(source),
         }
     }
 
     /// Reads until a whole line is held, and takes it.
-    fn read_line<S: Source>(&mut self, source: &mut S, line: &mut Vec<u8>) -> Next
+    fn read_line<S: Source>(&mut self, source: &mut S) -> Next
         requires { IsLine self.old.held }
-        ensures next { IsNextLine result line.new.items self.old self.new (S.left source.old) (S.left source.new) }
+        ensures next { IsNextLine result self.new.line self.old self.new (S.left source.old) (S.left source.new) }
         ensures within { self.new.taken + length self.new.held ≤ longest_input }
         ensures fault { result ≡ Next.ReadFault → Rose (S.faults source.old) (S.faults source.new) }
         ensures no_fault { result ≢ Next.ReadFault → S.faults source.new ≡ S.faults source.old }
@@ -147,10 +153,10 @@ impl LineReader {
             match self.read_more(source) {
                 More::Bytes => {
                     if let Some(at) = find_end(self.held_line(), searched) {
-                        return self.take_line(at, line);
+                        return self.take_line(at);
                     }
                 }
-                More::End => return self.take_last(line),
+                More::End => return self.take_last(),
                 More::LongInput => return Next::LongInput,
                 More::ReadFault => return Next::ReadFault,
                 More::OutOfMemory => return Next::OutOfMemory,
@@ -168,37 +174,35 @@ impl LineReader {
     }
 
     /// Takes the line that ends at that place of what is held, where an LF stands.
-    fn take_line(&mut self, at: usize, line: &mut Vec<u8>) -> Next
+    fn take_line(&mut self, at: usize) -> Next
         requires place { at < length self.old.held }
         requires one { IsLine (take at self.old.held) }
         requires ended { self.old.held ≡ take at self.old.held ++ 10 ∷ drop (at + 1) self.old.held }
-        ensures cut { IsCut result line.new.items self.old self.new }
+        ensures cut { IsCut result self.new.line self.old self.new }
         ensures within { self.new.taken + length self.new.held ≤ longest_input }
     {
         let text = &self.held_line()[..at];
         if LONGEST_LINE < text.len() {
             return Next::LongLine;
         }
-        if copy_to(text, line).is_err() {
-            return Next::OutOfMemory;
-        }
+        self.start = self.at;
+        self.end = self.at + at;
         self.at += at + 1;
         self.taken += at + 1;
         Next::Line
     }
 
     /// Takes all that is held as the last line.
-    fn take_last(&mut self, line: &mut Vec<u8>) -> Next
-        ensures cut { IsCutLast result line.new.items self.old self.new }
+    fn take_last(&mut self) -> Next
+        ensures cut { IsCutLast result self.new.line self.old self.new }
         ensures within { self.new.taken + length self.new.held ≤ longest_input }
     {
         let count = self.held_line().len();
         if count == 0 {
             return Next::End;
         }
-        if copy_to(self.held_line(), line).is_err() {
-            return Next::OutOfMemory;
-        }
+        self.start = self.at;
+        self.end = self.at + count;
         self.at += count;
         self.taken += count;
         Next::Last
@@ -222,6 +226,8 @@ impl LineReader {
             return More::LongInput;
         }
         let kept = keep(&mut self.buffer, self.at, &self.piece[..count]);
+        self.start = 0;
+        self.end = 0;
         self.at = 0;
         match kept {
             Ok(()) => More::Bytes,

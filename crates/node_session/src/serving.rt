@@ -77,19 +77,25 @@ pub fn serve<N: SessionNode, S: Source, K: Sink>(
     let Ok(mut reader) = LineReader::new(alloc) else {
         return Served::OutOfMemory;
     };
-    let mut line = Vec::new(alloc);
     let mut reply = Vec::new(alloc);
     let mut number = 1;
     loop {
-        match reader.next_line(source, &mut line) {
+        match reader.next_line(source) {
             Next::Line => {
-                if let Some(served) = serve_line(alloc, node, sink, &line, number, &mut reply) {
+                if let Some(served) = serve_line(
+                    alloc,
+                    node,
+                    sink,
+                    reader.line(),
+                    number,
+                    &mut reply,
+                ) {
                     return served;
                 }
                 number += 1;
             }
             Next::Last => {
-                return match serve_line(alloc, node, sink, &line, number, &mut reply) {
+                return match serve_line(alloc, node, sink, reader.line(), number, &mut reply) {
                     Some(served) => served,
                     None => Served::Done,
                 };

@@ -8,11 +8,11 @@ mod cut_acceptances;
 #[cfg(test)]
 mod cut_tables;
 #[cfg(test)]
-mod deeds;
-#[cfg(test)]
-mod deeds_done;
-#[cfg(test)]
 mod disk_nodes;
+#[cfg(test)]
+mod effects;
+#[cfg(test)]
+mod effects_done;
 #[cfg(test)]
 mod nodes;
 #[cfg(test)]

@@ -4,16 +4,17 @@ use Rattle.std.specs.Prelude.{◌^◌}
 use Rattle.std.specs.List.{AllByRecursion}
 use Rattle.edit_ops.specs.declared.op.Op.{Op}
 use Rattle.edit_ops.specs.declared.op.Op.TheVariants.{Add, RenameOld, Delete, Mkdir, SetReplication, SetPermissions, SetOwner, Close, Times, SetQuota, Rename, ConcatDelete, EndLogSegment, StartLogSegment}
-use Rattle.edit_ops.specs.Fields.{IsGood}
+use Rattle.edit_fields.specs.Fields.{IsGood}
 use Rattle.edit_ops.specs.Records.{fields_of}
 use Rattle.ns_tree.specs.declared.inode.Inode.{Inode}
 use Rattle.ns_tree.specs.declared.inode.Inode.TheVariants.{Dir, File}
 use Rattle.ns_tree.specs.declared.inode.Row.{Row}
-use Rattle.ns_tree.specs.Path.{parent_of, is_path, is_root}
+use Rattle.ns_path.specs.Path.{parent_of, is_path, is_root}
 use Rattle.ns_tree.specs.Space.{Space, is_dir, put, without, raise, renamed, change_at, IsInode}
 use Rattle.ns_tree.specs.Places.{IsTree}
 use Rattle.ns_tree.proofs.Walks.{order_change}
-use Rattle.ns_tree.proofs.Pairs.{Below, below_root, kept_change}
+use Rattle.ns_path.proofs.Parents.{Below, below_root}
+use Rattle.ns_tree.proofs.Pairs.{kept_change}
 use Rattle.ns_tree.proofs.Sound.{pairs_of, sound_pairs, sound_put, sound_without, sound_raise}
 use Rattle.ns_tree.proofs.Renames.{sound_renamed}
 use Rattle.ns_replay.specs.declared.refusal.AdmitRefusal.TheVariants.{Root, BadName}

@@ -2,7 +2,7 @@
 ghost use Rattle.std.specs.Prelude.{◌≡◌, ◌≤◌, length};
 ghost use Rattle.std.specs.Result.{result_err};
 ghost use Rattle.std.specs.List.{AllByRecursion};
-ghost use Rattle.edit_ops.specs.Fields.{IsGood};
+ghost use Rattle.edit_fields.specs.Fields.{IsGood};
 ghost use Rattle.edit_ops.specs.Records.{fields_of};
 ghost use Rattle.ns_replay.specs.Admit.{admit_of, admit_op, repeated};
 

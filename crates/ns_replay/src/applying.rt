@@ -1,7 +1,7 @@
 //! An admitted edit applied: the table of the kinds and what each leaves.
 ghost use Rattle.std.specs.Prelude.{◌≡◌, ◌≤◌, ◌-◌, true, None, IsOk, OnOk, OnErr};
 ghost use Rattle.std.specs.List.{AllByRecursion};
-ghost use Rattle.edit_ops.specs.Fields.{IsGood};
+ghost use Rattle.edit_fields.specs.Fields.{IsGood};
 ghost use Rattle.edit_ops.specs.Records.{fields_of};
 ghost use Rattle.ns_tree.specs.Space.{AreRising};
 ghost use Rattle.ns_replay.specs.Admit.{admit_op, admit_of};

@@ -2,16 +2,18 @@
 use Rattle.std.proofs.Common.{◌≡◌, ℕ, zero, suc, ◌<◌, ◌≤◌, List, [], ◌∷◌, ◌++◌, length, Bool, true, false, cond, refl, sym, ap, ◌∙◌, append-nil, Option, Some, None, IsSome, arith, ◌==◌}
 use Rattle.std.specs.Prelude.{is_some, ◌||◌}
 use Rattle.std.proofs.lemmas.Bool.Decides.{nat_tests}
+use Rattle.std.proofs.lemmas.Bool.{or_right}
 use Rattle.ns_tree.specs.declared.inode.Inode.{Inode}
 use Rattle.ns_tree.specs.declared.inode.Row.{Row}
-use Rattle.ns_tree.specs.Path.{same_text, walk_cmp, is_under, before_last_slash, parent_of}
+use Rattle.ns_path.specs.Path.{same_text, walk_cmp, is_under, before_last_slash, parent_of}
 use Rattle.ns_tree.specs.Space.{Space, is_dir_there, find, has_under, Each, IsPair}
 use Rattle.ns_tree.specs.Places.{IsTree}
-use Rattle.ns_tree.proofs.Order.{same_text_is, walk_cmp_self}
+use Rattle.ns_path.proofs.Order.{same_text_is, walk_cmp_self}
 use Rattle.ns_tree.proofs.Walks.{each_imp}
-use Rattle.ns_tree.proofs.Pairs.{Below, shorter}
-use Rattle.ns_tree.proofs.Subtree.{under_after, not_true, has_under_none}
-use Rattle.ns_tree.proofs.Tails.{is_tail, Tail, tail_of, parent_tail, tail_parent}
+use Rattle.ns_path.proofs.Parents.{Below, shorter}
+use Rattle.ns_path.proofs.Under.{under_after, not_true}
+use Rattle.ns_tree.proofs.Subtree.{has_under_none}
+use Rattle.ns_path.proofs.Tails.{is_tail, Tail, tail_of, parent_tail, tail_parent}
 
 pub dir_some : (o : Option Inode) → is_dir_there o ≡ true → is_some o ≡ true
 dir_some None e = absurd (cc e)
@@ -39,12 +41,8 @@ module _ (s : Space) (p : List ℕ) (h : IsTree s) (b : Below p) where
       (ap (λ (w : List ℕ). is_dir_there (find w s.pairs)) (sym (parent_tail p u b)) ∙ above)
 
   row_apart : is_dir_there (find p s.pairs) ≡ false → (x : Row) → IsPair s.pairs x → is_under p x.path ≡ false
-  row_apart no_dir x k = not_true (is_under p x.path) (λ u. let t : Tail p x.path = tail_of p x.path b (or_second (same_text p x.path) (is_under p x.path) u) in by u t.rest t.is t.good)
+  row_apart no_dir x k = not_true (is_under p x.path) (λ u. let t : Tail p x.path = tail_of p x.path b (or_right (same_text p x.path) (is_under p x.path) u) in by u t.rest t.is t.good)
     where
-      or_second : (y z : Bool) → z ≡ true → (y || z) ≡ true
-      or_second true z e = refl
-      or_second false z e = e
-
       long : 0 < length p
       long = let size : length p ≡ length (b.first ∷ b.second ∷ b.rest) = ap (λ (l : List ℕ). length l) b.is in omega (arith, size)
 

@@ -1,9 +1,8 @@
 -- The names right under a directory, over the run of what lies under it.
-use Rattle.std.proofs.Common.{◌≡◌, ℕ, ◌<◌, ◌≤◌, ◌+◌, List, [], ◌∷◌, ◌++◌, length, take, drop, filter, map, refl, sym, ◌∙◌, ap, subst, arith, cond, Bool, true, false, get_or, append-nil}
+use Rattle.std.proofs.Common.{◌≡◌, ℕ, ◌<◌, ◌+◌, List, [], ◌∷◌, ◌++◌, length, take, drop, filter, map, refl, sym, ◌∙◌, ap, subst, arith, cond, Bool, true, false, get_or, append-nil}
 use Rattle.std.proofs.lemmas.Grind.{common_steps}
-use Rattle.std.proofs.lemmas.Bool.Decides.{nat_tests}
 use Rattle.std.proofs.lemmas.List.{take-append-drop}
-use Rattle.ns_tree.specs.Path.{begins_with, stem, is_under, is_right_under, part_under, has_slash}
+use Rattle.ns_path.specs.Path.{is_under, is_right_under, part_under, has_slash}
 use Rattle.ns_tree.specs.declared.inode.Row.{Row}
 use Rattle.ns_tree.specs.Space.{Each, IsInWalkOrder, names_under}
 use Rattle.ns_tree.specs.Places.{IsAt, IsSubtreeEnd}
@@ -41,23 +40,6 @@ pub names_last : (xs : List Row) (p : List ℕ) (i end : ℕ) → 0 < length p �
 names_last xs p i end n ordered at part =
     sym (subst (λ ys. names_under p ys ≡ names_under p (take end xs)) (take-append-drop end xs)
     (names_parts p (take end xs) (drop end xs) ∙ rw (names_none p (drop end xs) (each_drop (λ x. is_under p x.path ≡ false) end xs (λ k d h l. past_end xs p i end n ordered at part k d h l))) (append-nil (names_under p (take end xs)))))
-
--- what is under p is longer than p's stem
-begins_long : (s q : List ℕ) → begins_with (s ++ 47 ∷ []) q ≡ true → length s + 1 ≤ length q
-begins_long [] [] h = absurd (cc)
-begins_long [] (y ∷ ys) h = omega arith
-begins_long (x ∷ xs) [] h = absurd (cc)
-begins_long (x ∷ xs) (y ∷ ys) h =
-    let rest : begins_with (xs ++ 47 ∷ []) ys ≡ true = grind (arith, nat_tests) in
-    omega (arith, begins_long xs ys rest)
-
-stem_short : (q : List ℕ) → length (stem q) ≤ length q
-stem_short [] = omega arith
-stem_short (b ∷ []) = grind (arith, nat_tests)
-stem_short (b ∷ c ∷ bs) = omega arith
-
-pub under_long : (p q : List ℕ) → is_under p q ≡ true → length (stem p) + 1 ≤ length q
-under_long p q h = omega (arith, begins_long (stem p) (stem q) h, stem_short q)
 
 pub names_step_yes : (p : List ℕ) (xs : List Row) (i : ℕ) (x : Row) → x ≡ get_or xs i x → i < length xs → is_under p x.path ≡ true → has_slash (part_under p x.path) ≡ false → names_under p (take (i + 1) xs) ≡ names_under p (take i xs) ++ part_under p x.path ∷ []
 names_step_yes p xs i x is h under plain = names_more p xs i x is h ∙ rw (under, plain) refl

@@ -1,9 +1,6 @@
-pub mod Order
-pub mod Components
 pub mod Walks
 pub mod Finds
 pub mod Pairs
-pub mod Scans
 pub mod Boxes
 pub mod Place
 pub mod Subtree
@@ -12,7 +9,6 @@ pub mod Sound
 pub mod Noting
 pub mod Marks
 pub mod Run
-pub mod Tails
 pub mod Renames
 pub mod Turning
 pub mod Ancestors

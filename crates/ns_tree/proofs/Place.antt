@@ -1,6 +1,5 @@
 -- What a search finds among pairs in walk order, and what an edit at that place does.
-use Rattle.std.proofs.Common.{◌≡◌, ℕ, zero, suc, ◌<◌, ◌≤◌, ◌+◌, List, [], ◌∷◌, ◌++◌, length, take, drop, filter, map, set, refl, sym, ◌∙◌, ap, subst, arith, cond, Bool, true, false, get_or, Some, None, Result, Ok, Err, MatchResult, nat_lt}
-use Rattle.std.proofs.Common.{append_assoc, append-nil, add-one}
+use Rattle.std.proofs.Common.{◌≡◌, ℕ, zero, suc, ◌<◌, ◌≤◌, ◌+◌, List, [], ◌∷◌, ◌++◌, length, take, drop, filter, map, set, refl, sym, ◌∙◌, ap, subst, arith, cond, Bool, true, false, get_or, Some, None, Result, Ok, Err, MatchResult, nat_lt, append_assoc, append-nil, add-one}
 use Rattle.std.proofs.lemmas.List.{take-append-drop}
 use Rattle.std.proofs.lemmas.List.Elements.{filter-append}
 use Rattle.std.proofs.lemmas.Bool.Decides.{nat_tests}
@@ -11,13 +10,13 @@ use Rattle.std.specs.declared.cmp.Ordering.{Ordering}
 use Rattle.std.specs.declared.cmp.Ordering.TheVariants.{Less, Equal, Greater}
 use Rattle.std.proofs.lemmas.Grind.{common_steps}
 use Rattle.ns_tree.specs.declared.inode.Inode.{Inode}
-use Rattle.ns_tree.specs.Path.{walk_cmp, same_text}
+use Rattle.ns_path.specs.Path.{walk_cmp, same_text}
 use Rattle.ns_tree.specs.declared.inode.Row.{Row}
 use Rattle.ns_tree.specs.Space.{pair, Each, IsInWalkOrder, find, put, pairs_before, pairs_after, change_at}
 use Rattle.ns_tree.specs.Places.{IsAt, IsGapFor}
 use Rattle.ns_tree.proofs.Walks.{each_append}
 use Rattle.ns_tree.proofs.Boxes.{length-boxes, at_map, get-map}
-use Rattle.ns_tree.proofs.Order.{walk_cmp_total, walk_cmp_exact, same_text_self, not_same_before, not_same_after, turned, turned_less}
+use Rattle.ns_path.proofs.Order.{walk_cmp_total, walk_cmp_exact, same_text_self, not_same_before, not_same_after, turned, turned_less}
 
 -- ---- `Each`, by its indices
 

@@ -4,13 +4,14 @@ use Rattle.std.specs.Prelude.{nat_lt, ◌^◌}
 use Rattle.ns_tree.specs.declared.inode.Inode.{Inode}
 use Rattle.ns_tree.specs.declared.inode.Inode.TheVariants.{Dir, File}
 use Rattle.ns_tree.specs.declared.inode.Row.{Row}
-use Rattle.ns_tree.specs.Path.{same_text, is_path, is_root, parent_of}
-use Rattle.ns_tree.specs.Space.{Space, pair, empty_space, is_dir, is_dir_there, find, put, without, raise, raised, Each, IsInWalkOrder, IsInode, IsPair}
+use Rattle.ns_path.specs.Path.{same_text, is_path, is_root, parent_of}
+use Rattle.ns_tree.specs.Space.{Space, pair, is_dir, is_dir_there, find, put, without, raise, raised, Each, IsInWalkOrder, IsInode, IsPair}
 use Rattle.ns_tree.specs.Places.{IsAt, set_at, IsTree}
-use Rattle.ns_tree.proofs.Order.{same_text_is}
+use Rattle.ns_path.proofs.Order.{same_text_is}
 use Rattle.ns_tree.proofs.Walks.{order_put, order_without, order_change}
 use Rattle.ns_tree.proofs.Finds.{changed, find_change}
-use Rattle.ns_tree.proofs.Pairs.{AreKept, root_path, kept_change, kept_put, kept_without}
+use Rattle.ns_tree.proofs.Pairs.{AreKept, kept_change, kept_put, kept_without}
+use Rattle.ns_path.proofs.Parents.{root_path, path_long}
 use Rattle.ns_tree.proofs.Place.{each_at}
 
 pub pairs_of : (s : Space) → IsTree s → AreKept s.pairs
@@ -21,10 +22,6 @@ pub sound_pairs : (s : Space) (xs : List Row) → IsTree s → IsInWalkOrder xs 
 sound_pairs s xs h order k = record { ordered = order; pairs = k.pairs; root = k.root; few = h.few; rising = h.rising; distinct = h.distinct }
 
 -- ## Paths of a namespace
-pub path_long : (p : List ℕ) → is_path p ≡ true → 0 < length p
-path_long [] e = absurd (cc e)
-path_long (b ∷ bs) e = omega arith
-
 pub at_path : (s : Space) (p : List ℕ) (i : ℕ) → IsTree s → IsAt s.pairs p i → is_path p ≡ true
 at_path s p i h at = by s.pairs at.in_range (λ d. each_at (IsPair s.pairs) s.pairs h.pairs i d at.in_range) at.here
   where

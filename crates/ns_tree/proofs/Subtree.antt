@@ -1,71 +1,16 @@
 -- What lies under a path stands right after it in the order of a walk.
-use Rattle.std.proofs.Common.{◌≡◌, ℕ, zero, suc, ◌<◌, ◌≤◌, ◌+◌, List, [], ◌∷◌, ◌++◌, length, take, drop, filter, refl, sym, ◌∙◌, ap, subst, arith, Bool, true, false, not, get_or, nat_lt}
-use Rattle.std.specs.declared.cmp.Ordering.{Ordering}
-use Rattle.std.specs.declared.cmp.Ordering.TheVariants.{Less, Equal, Greater}
-use Rattle.std.proofs.lemmas.Grind.{common_steps}
+use Rattle.std.proofs.Common.{◌≡◌, ℕ, zero, suc, ◌<◌, ◌≤◌, ◌+◌, List, [], ◌∷◌, ◌++◌, length, take, drop, filter, refl, sym, ◌∙◌, ap, subst, arith, Bool, true, false, not, get_or, nat_lt, drop-cons}
+use Rattle.std.specs.declared.cmp.Ordering.TheVariants.{Less}
 use Rattle.std.proofs.lemmas.Bool.Decides.{nat_tests}
-use Rattle.std.proofs.Common.{drop-cons}
 use Rattle.std.proofs.lemmas.List.{take-append-drop, get_or_default}
-use Rattle.ns_tree.specs.Path.{walk_cmp, same_text, begins_with, is_under, is_at_or_under}
+use Rattle.ns_path.specs.Path.{walk_cmp, is_under, is_at_or_under}
 use Rattle.ns_tree.specs.declared.inode.Row.{Row}
 use Rattle.ns_tree.specs.Space.{Each, IsInWalkOrder, has_under, without}
 use Rattle.ns_tree.specs.Places.{IsAt, IsSubtreeEnd}
 use Rattle.ns_tree.proofs.Walks.{order_filter}
-use Rattle.ns_tree.proofs.Order.{walk_cmp_total, walk_cmp_exact, walk_cmp_self, same_text_is, same_text_self, not_same_before, not_same_after, turned}
+use Rattle.ns_path.proofs.Order.{same_text_self, not_same_before, not_same_after}
 use Rattle.ns_tree.proofs.Place.{each_take, each_drop, order_at}
-
-pub begins_short : (s q : List ℕ) → length q ≤ length s → begins_with (s ++ 47 ∷ []) q ≡ false
-begins_short [] [] h = refl
-begins_short [] (y ∷ ys) h = absurd (omega arith)
-begins_short (x ∷ xs) [] h = refl
-begins_short (x ∷ xs) (y ∷ ys) h = let rest = begins_short xs ys (omega arith) in grind (arith, common_steps)
-
--- what begins with p and a `/` comes after p
-pub begins_after : (p q : List ℕ) → begins_with (p ++ 47 ∷ []) q ≡ true → walk_cmp p q ≡ Less
-begins_after [] [] h = absurd (cc)
-begins_after [] (y ∷ ys) h = refl
-begins_after (x ∷ xs) [] h = absurd (cc)
-begins_after (x ∷ xs) (y ∷ ys) h =
-    let same : x ≡ y = grind (arith, nat_tests) in
-    let begins : begins_with (xs ++ 47 ∷ []) ys ≡ true = grind (arith, nat_tests) in
-    let rest = begins_after xs ys begins in
-    grind (arith, nat_tests)
-
--- and so does all that stands between p and it
-pub begins_between : (p x y : List ℕ) → walk_cmp p x ≡ Less → walk_cmp x y ≡ Less → begins_with (p ++ 47 ∷ []) y ≡ true → begins_with (p ++ 47 ∷ []) x ≡ true
-begins_between [] [] y a b h = absurd (cc)
-begins_between [] (x ∷ xs) [] a b h = absurd (cc)
-begins_between [] (x ∷ xs) (y ∷ ys) a b h = grind (arith, nat_tests)
-begins_between (c ∷ cs) [] y a b h = absurd (cc)
-begins_between (c ∷ cs) (x ∷ xs) [] a b h = absurd (cc)
-begins_between (c ∷ cs) (x ∷ xs) (y ∷ ys) a b h =
-    let same : c ≡ y = grind (arith, nat_tests) in
-    let begins : begins_with (cs ++ 47 ∷ []) ys ≡ true = grind (arith, nat_tests) in
-    let between = begins_between cs xs ys in
-    grind (arith, nat_tests)
-
--- ---- the same over `is_under`, for a path that is not empty
-
-pub under_after : (p q : List ℕ) → 0 < length p → is_under p q ≡ true → walk_cmp p q ≡ Less
-under_after [] q n h = absurd (omega arith)
-under_after (b ∷ []) [] n h = absurd (grind (arith, nat_tests))
-under_after (b ∷ []) (y ∷ []) n h = absurd (grind (arith, nat_tests))
-under_after (b ∷ []) (y ∷ z ∷ zs) n h = grind (arith, nat_tests)
-under_after (b ∷ c ∷ cs) [] n h = absurd (cc)
-under_after (b ∷ c ∷ cs) (y ∷ []) n h = absurd (grind (arith, nat_tests))
-under_after (b ∷ c ∷ cs) (y ∷ z ∷ zs) n h = begins_after (b ∷ c ∷ cs) (y ∷ z ∷ zs) h
-
-pub under_between : (p x y : List ℕ) → 0 < length p → walk_cmp p x ≡ Less → walk_cmp x y ≡ Less → is_under p y ≡ true → is_under p x ≡ true
-under_between [] x y n a b h = absurd (omega arith)
-under_between (e ∷ es) [] y n a b h = absurd (cc)
-under_between (e ∷ es) (x ∷ xs) [] n a b h = absurd (cc)
-under_between (e ∷ []) (x ∷ []) (y ∷ ys) n a b h = grind (arith, nat_tests)
-under_between (e ∷ []) (x ∷ u ∷ us) (y ∷ []) n a b h = absurd (grind (arith, nat_tests))
-under_between (e ∷ []) (x ∷ u ∷ us) (y ∷ v ∷ vs) n a b h = grind (arith, nat_tests)
-under_between (e ∷ f ∷ fs) (x ∷ []) (y ∷ []) n a b h = absurd (grind (arith, nat_tests))
-under_between (e ∷ f ∷ fs) (x ∷ []) (y ∷ v ∷ vs) n a b h = absurd (grind (arith, nat_tests))
-under_between (e ∷ f ∷ fs) (x ∷ u ∷ us) (y ∷ []) n a b h = absurd (grind (arith, nat_tests))
-under_between (e ∷ f ∷ fs) (x ∷ u ∷ us) (y ∷ v ∷ vs) n a b h = begins_between (e ∷ f ∷ fs) (x ∷ u ∷ us) (y ∷ v ∷ vs) a b h
+use Rattle.ns_path.proofs.Under.{under_between, not_true, not_under_before, not_under_self}
 
 -- ---- what a filter leaves of a list of which a run goes
 
@@ -82,16 +27,6 @@ filter_cut f (suc i) zero xs a b before inside after = absurd (omega arith)
 filter_cut f (suc i) (suc end) [] a b before inside after = absurd (omega arith)
 filter_cut f (suc i) (suc end) (x ∷ xs) a b before inside after =
     rw (before 0 x (omega arith)) (ap (λ ys. x ∷ ys) (filter_cut f i end xs (omega arith) (omega arith) (λ k d l. before (suc k) d (omega arith)) (λ k d l m. inside (suc k) d (omega arith) (omega arith)) (λ k d l m. after (suc k) d (omega arith) (omega arith))))
-
-pub not_true : (b : Bool) → (b ≡ true → ⊥) → b ≡ false
-not_true true h = absurd (h refl)
-not_true false h = refl
-
-pub not_under_before : (p q : List ℕ) → 0 < length p → walk_cmp q p ≡ Less → is_under p q ≡ false
-not_under_before p q n h = not_true (is_under p q) (λ e. let later = under_after p q n e in let back = walk_cmp_total.trans p q p later h in let same = walk_cmp_self p in cc)
-
-not_under_self : (p : List ℕ) → 0 < length p → is_under p p ≡ false
-not_under_self p n = not_true (is_under p p) (λ e. let later = under_after p p n e in let same = walk_cmp_self p in cc)
 
 module _ (xs : List Row) (p : List ℕ) (i end : ℕ) (n : 0 < length p) (ordered : IsInWalkOrder xs) (at : IsAt xs p i) (part : IsSubtreeEnd xs p i end) where
   pub later_at : (k : ℕ) (d : Row) → i < k → k < length xs → walk_cmp p (get_or xs k d).path ≡ Less
@@ -178,33 +113,6 @@ module _ (xs : List Row) (p : List ℕ) (i : ℕ) (n : 0 < length p) (ordered : 
       by : (b : Bool) → is_under p x.path ≡ b → has_under p (drop (i + 1) xs) ≡ b
       by true t = rw (parts, t) refl
       by false t = has_under_none p (drop (i + 1) xs) (each_drop (λ x. is_under p x.path ≡ false) (i + 1) xs (λ k d l m. not_true (is_under p (get_or xs k d).path) (λ e. clash k d l m (nat_lt (i + 1) k) refl e t)))
-
--- ---- a block that moves
-
-pub prefix_cmp : (s u v : List ℕ) → walk_cmp (s ++ u) (s ++ v) ≡ walk_cmp u v
-prefix_cmp [] u v = refl
-prefix_cmp (x ∷ xs) u v = let rest = prefix_cmp xs u v in grind (arith, nat_tests)
-
--- what follows p and is not under it follows all that is at or under p
-pub after_under : (p x y : List ℕ) → 0 < length p → is_at_or_under p x ≡ true → walk_cmp p y ≡ Less → is_under p y ≡ false → walk_cmp x y ≡ Less
-after_under p x y n inside later outside = by (same_text p x) refl
-  where
-    last : is_under p x ≡ true → (r : Ordering) → walk_cmp x y ≡ r → walk_cmp x y ≡ Less
-    last u Less e = e
-    last u Equal e = let same = walk_cmp_exact x y e in absurd (cc)
-    last u Greater e = let between = under_between p y x n later (turned x y e) u in absurd (cc)
-
-    by : (b : Bool) → same_text p x ≡ b → walk_cmp x y ≡ Less
-    by true e = subst (λ q. walk_cmp q y ≡ Less) (same_text_is p x e) later
-    by false e = let u : is_under p x ≡ true = grind (arith, nat_tests) in last u (walk_cmp x y) refl
-
--- what is before p is before all that is at or under p
-pub before_under : (p x y : List ℕ) → 0 < length p → is_at_or_under p x ≡ true → walk_cmp y p ≡ Less → walk_cmp y x ≡ Less
-before_under p x y n inside earlier = by (same_text p x) refl
-  where
-    by : (b : Bool) → same_text p x ≡ b → walk_cmp y x ≡ Less
-    by true e = subst (λ q. walk_cmp y q ≡ Less) (same_text_is p x e) earlier
-    by false e = let u : is_under p x ≡ true = grind (arith, nat_tests) in walk_cmp_total.trans y p x earlier (under_after p x n u)
 
 -- what a filter keeps of a list of which it keeps a run
 filter_none : (f : Row → Bool) (xs : List Row) → ((k : ℕ) (d : Row) → k < length xs → f (get_or xs k d) ≡ false) → filter f xs ≡ []

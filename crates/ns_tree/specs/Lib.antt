@@ -1,7 +1,5 @@
-pub mod Path
 pub mod Space
 pub mod Places
 pub mod Last
 pub mod Examples
 pub mod Marks
-pub mod Components

@@ -8,7 +8,7 @@ use Rattle.ns_tree.specs.declared.inode.Inode.{Inode}
 use Rattle.ns_tree.specs.declared.inode.Inode.TheVariants.{Dir, File}
 use Rattle.ns_tree.specs.declared.inode.Noted.{Noted}
 use Rattle.ns_tree.specs.declared.inode.Row.{Row}
-use Rattle.ns_tree.specs.Path.{same_text, is_under, is_at_or_under, walk_cmp, is_right_under, part_under, parent_of, is_path, is_owner}
+use Rattle.ns_path.specs.Path.{same_text, is_under, is_at_or_under, walk_cmp, is_right_under, part_under, parent_of, is_path, is_owner, moved_path}
 
 abbrev pub pair : List ℕ → Inode → Row
 pair path inode = record { path = path; inode = inode }
@@ -85,10 +85,6 @@ put p inode xs = put_at p (pair p inode ∷ []) xs
 -- without p and what is under it
 abbrev pub without : List ℕ → List Row → List Row
 without p xs = filter (λ x. not (is_at_or_under p x.path)) xs
-
--- a path at or under src, at or under dst instead
-abbrev pub moved_path : List ℕ → List ℕ → List ℕ → List ℕ
-moved_path src dst q = dst ++ drop (length src) q
 
 abbrev pub moved : List ℕ → List ℕ → List Row → List Row
 moved src dst xs = map (λ x. pair (moved_path src dst x.path) x.inode) (subtree src xs)

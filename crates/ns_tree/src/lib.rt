@@ -4,14 +4,11 @@
 mod appending;
 mod end;
 mod examples;
-mod grammar;
 mod hints;
 mod inode;
 mod invariant;
-mod laws;
 mod moves;
 mod namespace;
-mod path;
 mod rename;
 mod retries;
 mod retry_list;
@@ -19,12 +16,6 @@ mod table;
 mod under;
 
 pub use end::{End, EndList, LastSpace, RowList};
-pub use examples::{
-    a_directory_goes, a_directory_has_names, a_directory_moves, a_path_has_components,
-    a_walk_goes_by_components, names_have_grammars, what_is_under_a_path,
-};
-pub use grammar::{is_good_owner, is_good_path};
+pub use examples::{a_directory_goes, a_directory_has_names, a_directory_moves};
 pub use inode::{Inode, Noted, Row};
-pub use laws::{directories_come_right_before, walks_go_by_components};
 pub use namespace::Namespace;
-pub use path::{is_root_path, lies_at_or_under, lies_under, parent, path_of, stem_of, walk_order};

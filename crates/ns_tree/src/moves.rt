@@ -6,6 +6,7 @@ ghost use Rattle.ns_tree.specs.Places.{given, named};
 
 use crate::inode::Row;
 use crate::table::RowTable;
+use ns_path::path_moved;
 use qj_num::{Name, OutOfMemory};
 use std::alloc::Global;
 use std::boxed::Box;
@@ -113,13 +114,4 @@ fn replace_path(row: &mut Box<Row>, path: Name)
     ensures { row.new.value ≡ record row.old.value { path = path } }
 {
     row.path = path;
-}
-
-fn path_moved(alloc: Global, path: &[u8], skip: usize, front: &[u8]) -> Result<Name, OutOfMemory>
-    ensures { IfOk result (λ name. name ≡ front.now ++ drop skip path.now) }
-{
-    let skip = skip.min(path.len());
-    let mut bytes = Vec::from_slice(alloc, front)?;
-    bytes.extend_from_slice(&path[skip..])?;
-    Name::from_slice(alloc, bytes.as_slice())
 }

@@ -12,7 +12,7 @@ use Rattle.hex.proofs.HexLemmas.{IsAscii-encode_with}
 use Rattle.edit_ops.specs.declared.op.Op.{Op}
 use Rattle.edit_ops.specs.declared.op.Op.TheVariants.{Add, RenameOld, Delete, Mkdir, SetReplication, SetPermissions, SetOwner, Close, Times, SetQuota, Rename, ConcatDelete, EndLogSegment, StartLogSegment}
 use Rattle.edit_ops.specs.declared.edit.Call.{Call}
-use Rattle.edit_ops.specs.Fields.{Field, Text_, path, IsGood}
+use Rattle.edit_fields.specs.Fields.{Field, Text_, path, IsGood}
 use Rattle.edit_ops.specs.Records.{EditView, fields_of, call_fields}
 use Rattle.edit_ops.specs.Grammar.{IsEdit}
 use Rattle.json_text.specs.Values.{number_of, items_of, array_of, object_of, json_line, member_tokens, AreAsciiTexts, IsAsciiMember}

@@ -11,5 +11,5 @@ mod tools;
 mod worked;
 
 pub use listing::{ByteCause, Listing};
-pub use tools::{delimited, json, sizes};
+pub use tools::{json, list_delimited, sizes};
 pub use worked::{known_images_have_listings, known_rows_have_listings, sizes_have_classes};

@@ -56,7 +56,7 @@ fn answer<T: RowText>(alloc: Global, bytes: &[u8]) -> Listing
 /// The inodes of an image, a line each in the order of a walk, after a line with the names of the columns: path,
 /// replication, times of modification and access, block size, how many blocks, size, quotas of names and space,
 /// permission, user and group, between tabs. Bytes that aren't an image are told by their first fault alone.
-pub fn delimited(alloc: Global, bytes: &[u8]) -> Listing
+pub fn list_delimited(alloc: Global, bytes: &[u8]) -> Listing
     // The answer is right.
     ensures right { IsListed delimited bytes.now result }
     // An image is told by its text.

@@ -18,7 +18,7 @@ use Rattle.cluster_runner.specs.Follows.{FollowsLines, FollowsScript}
 use Rattle.names_safety.specs.Laws.{EpochOrderIsSafe}
 use Rattle.names_safety.proofs.NamedPlays.{is_named}
 use Rattle.report_text.specs.Text.{text_of}
-use Rattle.report_text.specs.Summary.{summary_text}
+use Rattle.play_summary.specs.Summary.{summary_text}
 use Rattle.qj_cli.specs.Sound.{AreSound, ComeOf}
 use Rattle.qj_cli.specs.Report.{IsReport, ScriptsHaveOneReport}
 use Rattle.qj_cli.specs.Generates.{IsSummary, NumbersHaveOneSummary}

@@ -2,7 +2,7 @@
 use Rattle.std.specs.Prelude.{ℕ, ◌≡◌, List}
 use Rattle.script_maker.specs.Generated.{generated}
 use Rattle.cluster_runner.specs.Plays.{Play, mesh_of, ends_of}
-use Rattle.report_text.specs.Summary.{summary_text}
+use Rattle.play_summary.specs.Summary.{summary_text}
 use Rattle.qj_cli.specs.declared.status.Status.{Status}
 use Rattle.qj_cli.specs.declared.status.Status.TheVariants as status
 use Rattle.qj_cli.specs.declared.fault.Fault.{Fault}

@@ -1,6 +1,6 @@
 // What is due of a number, before any of it is written.
 ghost use Rattle.std.specs.Prelude.{◌≡◌, IfOk, IfErr};
-ghost use Rattle.report_text.specs.Summary.{summary_text};
+ghost use Rattle.play_summary.specs.Summary.{summary_text};
 ghost use Rattle.script_maker.specs.Generated.{IsWithin};
 ghost use Rattle.qj_cli.specs.Uses.{written_to};
 ghost use Rattle.qj_cli.specs.Generates.{IsSummary, GivesSummary, IsSummaryFault, Generates};
@@ -11,8 +11,8 @@ use crate::status::Status;
 use crate::writing::write_due;
 use cluster_runner::Played;
 use journal_core::OutOfMemory;
+use play_summary::summary_of;
 use qj_outside::Sink;
-use report_text::summary_of;
 use script_maker::generate;
 use script_text::Script;
 use std::alloc::Global;

@@ -16,7 +16,7 @@ use crate::status::Status;
 use crate::tool::{ImageTool, SegmentTool, Tool};
 use crate::writing::write_due;
 use oev_tool::{Listing as SegmentListing, json as segment_json, list, stats};
-use oiv_tool::{Listing as ImageListing, delimited, json as image_json, sizes};
+use oiv_tool::{Listing as ImageListing, json as image_json, list_delimited, sizes};
 use qj_disk::{Disk, DiskFail};
 use qj_outside::Sink;
 use std::alloc::Global;
@@ -38,7 +38,7 @@ fn image_told(alloc: Global, of: ImageTool, bytes: &[u8]) -> ImageListing
     ensures { IsImageListed (rows_told_by of) bytes.now result }
 {
     match of {
-        ImageTool::Delimited => delimited(alloc, bytes),
+        ImageTool::Delimited => list_delimited(alloc, bytes),
         ImageTool::Sizes => sizes(alloc, bytes),
         ImageTool::Json => image_json(alloc, bytes),
     }

@@ -193,6 +193,9 @@ where
             self.written = None;
             return synced;
         }
+        if self.are_names_synced {
+            return synced;
+        }
         self.sync_names()
     }
 
@@ -288,11 +291,8 @@ where
         }
     }
 
-    /// Syncs the folders, where a name changed since they were synced.
+    /// Syncs the folders, since a name changed.
     fn sync_names(&mut self) -> io::Result<()> {
-        if self.are_names_synced {
-            return Ok(());
-        }
         self.sync_folders()?;
         self.are_names_synced = true;
         Ok(())

@@ -1,4 +1,3 @@
 pub mod Text
 pub mod Examples
 pub mod Limit
-pub mod Summary

@@ -1,4 +1,4 @@
-// What comes of a report.
+//! What comes of a report.
 
 /// The report of a mesh.
 #[derive(Drop)]

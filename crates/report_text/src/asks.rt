@@ -1,4 +1,4 @@
-// What was asked of a node, and what came of it.
+//! What was asked of a node, and what came of it.
 ghost use Rattle.std.specs.Prelude.{◌≡◌, ◌++◌, ◌∷◌, [], OnOk};
 ghost use Rattle.report_text.specs.Text.{arrow, choice_text, stop_text, late_text, ask_text, answer_text, heard_text, done_text};
 

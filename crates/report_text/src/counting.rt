@@ -1,4 +1,4 @@
-// How long the lines of a report are, without writing them: each call adds a text's length to a count, which stands still at 2^64 - 1.
+//! How long the lines of a report are, without writing them: each call adds a text's length to a count, which stands still at 2^64 - 1.
 ghost use Rattle.std.specs.Prelude.{◌≡◌, ◌++◌, ◌∷◌, [], codes, decimal};
 ghost use Rattle.ns_tree.specs.declared.end.End.{End};
 ghost use Rattle.request_text.specs.Counts.{counted};

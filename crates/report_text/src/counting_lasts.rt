@@ -1,4 +1,4 @@
-// How long what an actor holds at last is in a report, without writing it.
+//! How long what an actor holds at last is in a report, without writing it.
 ghost use Rattle.std.specs.Prelude.{◌≡◌, ◌++◌, decimal, map, Option};
 ghost use Rattle.std.specs.List.{flat_map};
 ghost use Rattle.ns_tree.specs.declared.end.LastSpace.{LastSpace};

@@ -1,4 +1,4 @@
-// The lines of histories and of records.
+//! The lines of histories and of records.
 ghost use Rattle.std.specs.Prelude.{◌≡◌, ◌<◌, ◌++◌, length, Err, OnOk};
 ghost use Rattle.ns_tree.specs.declared.end.End.{End};
 ghost use Rattle.report_text.specs.Limit.{longest_report};

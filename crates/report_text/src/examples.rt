@@ -1,4 +1,4 @@
-// Reports, worked out at check time.
+//! Reports, worked out at check time.
 ghost use Rattle.std.specs.Prelude.{◌≡◌, [], ◌∷◌, codes};
 ghost use Rattle.report_text.specs.Text.{text_of};
 ghost use Rattle.report_text.specs.Examples.{small_mesh, two_ends, small_report, still_mesh, names_mesh, names_ends, names_report, of_lines};

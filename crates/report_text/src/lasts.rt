@@ -1,4 +1,4 @@
-// What an actor holds at last.
+//! What an actor holds at last.
 ghost use Rattle.std.specs.Prelude.{◌≡◌, ◌<◌, ◌++◌, length, Option, Err, OnOk};
 ghost use Rattle.ns_tree.specs.declared.end.LastSpace.{LastSpace};
 ghost use Rattle.report_text.specs.Limit.{longest_report};

@@ -1,4 +1,4 @@
-//! The report of a play: each node's history, and each caller's record with what it holds at last; and its summary.
+//! The report of a play: each node's history, and each caller's record with what it holds at last.
 #![tactic(auto)]
 
 mod answer;
@@ -12,15 +12,11 @@ mod parts;
 mod printed;
 mod printed_requests;
 mod report;
-mod results;
 mod size;
-mod summary;
-mod tally;
 mod unprinted;
 
 pub use answer::Report;
 pub use examples::reports_are_as_written;
 pub use report::report_of;
 pub use size::text_size;
-pub use summary::summary_of;
 pub use unprinted::LONGEST_REPORT;

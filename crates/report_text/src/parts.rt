@@ -1,4 +1,4 @@
-// The smallest parts of a report, each added at the end of a list of bytes.
+//! The smallest parts of a report, each added at the end of a list of bytes.
 ghost use Rattle.std.specs.Prelude.{◌≡◌, ◌++◌, ◌∷◌, [], OnOk, decimal};
 ghost use Rattle.request_text.specs.Texts.{numbers_text};
 ghost use Rattle.ns_tree.specs.declared.end.End.{End};

@@ -1,4 +1,4 @@
-// A request with its text.
+//! A request with its text.
 ghost use Rattle.std.specs.Prelude.{◌≡◌, IfOk, IfSome};
 ghost use Rattle.request_text.specs.Texts.{request_text};
 

@@ -1,4 +1,4 @@
-// Requests that were printed before.
+//! Requests that were printed before.
 ghost use Rattle.std.specs.Prelude.{◌≡◌, ◌++◌, IfSome, OnOk};
 ghost use Rattle.request_text.specs.Texts.{request_text};
 

@@ -1,4 +1,4 @@
-// The report as a whole.
+//! The report as a whole.
 ghost use Rattle.std.specs.Prelude.{◌≡◌, ◌<◌, ◌≤◌, ◌++◌, length, Err, OnOk, OnErr, IfOk, nat_lt};
 ghost use Rattle.report_text.specs.Limit.{longest_report, Reports};
 ghost use Rattle.ns_tree.specs.declared.end.End.{End};

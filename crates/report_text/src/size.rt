@@ -1,4 +1,4 @@
-// The length of a report, without writing it.
+//! The length of a report, without writing it.
 ghost use Rattle.std.specs.Prelude.{◌≡◌, ◌+◌, ◌++◌, ◌∷◌, [], codes, length, min};
 ghost use Rattle.ns_tree.specs.declared.end.End.{End};
 ghost use Rattle.request_text.specs.Counts.{counted};

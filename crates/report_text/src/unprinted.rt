@@ -1,4 +1,4 @@
-// Why a report isn't printed whole.
+//! Why a report isn't printed whole.
 ghost use Rattle.std.specs.Prelude.{◌≡◌, ◌<◌, ◌≤◌, length, Err, IsOk, OnOk};
 ghost use Rattle.report_text.specs.declared.unprinted.Unprinted.TheVariants.{OutOfMemory};
 ghost use Rattle.report_text.specs.Limit.{longest_report};

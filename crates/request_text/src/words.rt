@@ -35,7 +35,9 @@ fn number_word(word: &[u8], least: u64) -> Option<u64>
     number_of(word, least, u64::MAX)
 }
 
-/// The most bytes of a short body, for which a small room is made.
+/// The most bytes of a tiny body and of a short one, for which smaller rooms are made.
+const TINY_BODY: usize = 32;
+
 const SHORT_BODY: usize = 256;
 
 /// The word as a body, by way of a room for its bytes. Takes no memory where it is none.
@@ -61,6 +63,9 @@ fn read_body(alloc: Global, word: &[u8]) -> Result<Option<Bytes>, OutOfMemory>
     ensures body { IfOk result (λ body. body ≡ body_in word.now) }
     ensures memory { OnErr result (is_some (body_in word.now) ≡ true) }
 {
+    if word.len() <= 2 * TINY_BODY {
+        return copy_body(alloc, word, &mut [0; TINY_BODY]);
+    }
     if word.len() <= 2 * SHORT_BODY {
         return copy_body(alloc, word, &mut [0; SHORT_BODY]);
     }

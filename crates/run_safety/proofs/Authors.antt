@@ -148,7 +148,7 @@ module _ (n : ℕ) (story : Story) (past : List Entry) (run : Follows n story pa
     pub all : (t : ℕ) → first ≤ t → t < m → (body : List ℕ) × IsJournaled past e t body × ((k : ℕ) × Maj n past e k t body)
 
   -- the opening of a segment that is written was done
-  start_entry : (a s m : ℕ) (w v : Writer) (r : ℕ) → (p : Sent n story past a s w) → r < s → seen_at n (story.takeover a) r ≡ Some v → v.round ≡ Open m → (old : List Entry) × (x : Entry) × Earlier (x ∷ old) past × IsStart x (story.takeover a).epoch m
+  pub start_entry : (a s m : ℕ) (w v : Writer) (r : ℕ) → (p : Sent n story past a s w) → r < s → seen_at n (story.takeover a) r ≡ Some v → v.round ≡ Open m → (old : List Entry) × (x : Entry) × Earlier (x ∷ old) past × IsStart x (story.takeover a).epoch m
   start_entry a s m w v r p lt at is = by (ans.each some.0 some.1)
     where
       ans : Answers n story p.old a r

@@ -3,7 +3,7 @@ use Rattle.std.proofs.Common.{◌≡◌, ℕ, zero, suc, ◌+◌, ◌<◌, ◌�
 use Rattle.std.proofs.lemmas.Bool.{cases_order, cases_eq, cases_Bool, cond-true, cond_both}
 use Rattle.journal_core.specs.Limits.{head_of}
 use Rattle.journal_core.specs.Reads.{told_of}
-use Rattle.journal_core.specs.Segments.{find_segment, has_edit, end_of, HasAt, info_of}
+use Rattle.journal_core.specs.Segments.{find_segment, has_edit, end_of, HasAt, info_of, IsNotFinal}
 use Rattle.journal_core.specs.Step.{last_or_start}
 use Rattle.journal_core.specs.Views.{HeadView}
 use Rattle.journal_core.specs.declared.request.Request.{Request}
@@ -24,7 +24,7 @@ use Rattle.journal_core.proofs.SegmentLists.{find-start}
 use Rattle.journal_core.proofs.Steps.{front_le, none≢some}
 use Rattle.run_safety.proofs.SoundNodes.{stored_after, promise_earlier}
 use Rattle.journal_core.proofs.Opened.{promise_done}
-use Rattle.journal_core.proofs.Changes.{Change, same, created, grown, made_final, replaced, removed, NoEdit, NotFinal}
+use Rattle.journal_core.proofs.Changes.{Change, same, created, grown, made_final, replaced, removed, NoEdit}
 use Rattle.run_safety.proofs.Along.{along}
 use Rattle.run_safety.proofs.Slots.{some_same, true≢false, RankLe, IsTop, best_is_top}
 use Rattle.run_safety.proofs.Frames.{Framed, IsWriting, IsGet}
@@ -159,7 +159,7 @@ module _ (n : ℕ) (story : Story) (past : List Entry) (run : Follows n story pa
       whole_change i y old o new r (created h q none) z lt up w = absurd (true≢false (sym w.4 ∙ to NoEdit w.1 none))
       whole_change i y old (Some k) new r (grown h b q header f2 first) z lt up w = absurd (true≢false (sym (to (λ v. v.is_final ≡ true) (sym (some_same w.1)) w.2) ∙ f2))
       whole_change i y old (Some k) new r (made_final h l q edit f2 header ends) z lt up w = absurd (true≢false (sym (to (λ v. v.is_final ≡ true) (sym (some_same w.1)) w.2) ∙ f2))
-      whole_change i y old o new r (replaced h b q first f2) z lt up w = absurd (true≢false (sym w.2 ∙ to NotFinal w.1 f2))
+      whole_change i y old o new r (replaced h b q first f2) z lt up w = absurd (true≢false (sym w.2 ∙ to IsNotFinal w.1 f2))
       whole_change i y old (Some k) new r (removed h l q newer low shut) z lt up w =
           let one : w.0 ≡ k = sym (some_same w.1) in
           let pr = purge_round (story.takeover z.a).epoch z.s z.w.committed z.w.round h l (sym q ∙ z.is) in

@@ -2,7 +2,7 @@
 use Rattle.std.proofs.Common.{◌≡◌, ℕ, ◌+◌, ◌<◌, ◌≤◌, ◌⊎◌, true, false, List, ◌∷◌, length, Option, Some, refl, inl, inr, arith, sym, ap, ◌∙◌, subst}
 use Rattle.std.proofs.lemmas.Bool.{cases_lt, cases_eq, cond-true}
 use Rattle.journal_core.specs.Limits.{head_of}
-use Rattle.journal_core.specs.Segments.{find_segment, has_edit, end_of}
+use Rattle.journal_core.specs.Segments.{find_segment, has_edit, end_of, IsNotFinal}
 use Rattle.journal_core.specs.Step.{node_step, last_or_start}
 use Rattle.journal_core.specs.Views.{HeadView}
 use Rattle.journal_core.specs.declared.reply.Reply.{Reply}
@@ -12,7 +12,7 @@ use Rattle.journal_core.specs.declared.request.Request.TheVariants.{Journal, Fin
 use Rattle.journal_core.specs.declared.segment.Segment.{Segment}
 use Rattle.journal_core.proofs.SegmentLists.{find-start}
 use Rattle.journal_core.proofs.Steps.{front_le}
-use Rattle.journal_core.proofs.Changes.{Change, same, created, grown, made_final, replaced, removed, NoEdit, NotFinal}
+use Rattle.journal_core.proofs.Changes.{Change, same, created, grown, made_final, replaced, removed, NoEdit}
 use Rattle.node_history.specs.Entries.{Heard, Answer, Entry, Earlier, after_move, node_after}
 use Rattle.run_safety.specs.Run.{Story, Follows, IsNext}
 use Rattle.run_safety.specs.Safe.{SaidOk}
@@ -132,7 +132,7 @@ module _ (n : ℕ) (story : Story) (past : List Entry) (run : Follows n story pa
       absurd (true≢false (sym final ∙ to (λ z. z.is_final ≡ false) (some_same is) open_yet))
   held_change i m l e0 old p at r q up most (Some x) new (made_final h k k2 edit open_yet header last) found g is final ends =
       absurd (true≢false (sym final ∙ to (λ z. z.is_final ≡ false) (some_same is) open_yet))
-  held_change i m l e0 old p at r q up most o new (replaced h b k first open_yet) found g is final ends = absurd (true≢false (sym final ∙ to NotFinal is open_yet))
+  held_change i m l e0 old p at r q up most o new (replaced h b k first open_yet) found g is final ends = absurd (true≢false (sym final ∙ to IsNotFinal is open_yet))
   held_change i m l e0 old p at r q up most (Some x) new (removed h min k newer low shut) found g is final ends =
       let z : OfRound n story past r = round_within n story past old e0 r run p (subst (λ j. Requested (node_after j old) e0.move r) (sym at) q) in
       let w = purge_round (story.takeover z.a).epoch z.s z.w.committed z.w.round h min (sym k ∙ z.is) in

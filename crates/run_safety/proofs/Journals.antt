@@ -1,26 +1,21 @@
 -- The journal request that put an entry of the line there: all of its batch up to that entry stands on the line.
-use Rattle.std.proofs.Common.{◌≡◌, ℕ, ◌+◌, ◌<◌, ◌≤◌, List, ◌∷◌, length, Some, refl, inl, inr, arith, subst, sym, ap, ◌∙◌}
+use Rattle.std.proofs.Common.{◌≡◌, ℕ, ◌+◌, ◌<◌, ◌≤◌, List, ◌∷◌, length, Some, refl, inr, arith, subst, sym, ap, ◌∙◌}
 use Rattle.std.specs.Prelude.{slice_get}
 use Rattle.journal_core.specs.Views.{HeadView, BatchView}
 use Rattle.journal_core.specs.declared.request.Request.TheVariants.{Journal}
-use Rattle.journal_core.specs.declared.reply.Reply.{Reply}
-use Rattle.run_safety.specs.Majority.{Member}
-use Rattle.node_history.specs.Entries.{Heard, Answer, Entry, Earlier}
+use Rattle.node_history.specs.Entries.{Entry, Earlier}
 use Rattle.run_safety.specs.Run.{Story, Follows}
 use Rattle.run_safety.specs.Safe.{IsOnLine, IsOf, IsStart}
 use Rattle.run_safety.specs.Parts.{IsJournaled, IsAuthor, IsPutByJournal}
-use Rattle.run_safety.proofs.Places.{Earlier-trans}
-use Rattle.run_safety.proofs.Majorities.{majorities_share}
-use Rattle.run_safety.proofs.Slots.{some_same}
-use Rattle.run_safety.proofs.SeenLaws.{Open, Write, Writer, seen_at, asked}
-use Rattle.run_safety.proofs.Frames.{OkHeard, Frame, IsWriting, IsGet}
+use Rattle.run_safety.proofs.SeenLaws.{Open, Write}
+use Rattle.run_safety.proofs.Frames.{Frame, IsWriting}
 use Rattle.run_safety.proofs.Rounds.{frame}
 use Rattle.run_safety.proofs.Before.{OpenedAt, opened_at}
 use Rattle.run_safety.proofs.Spans.{Covers, covers_start, write_is, write_start}
-use Rattle.run_safety.proofs.Sent.{Sent, OfRound, round_within, Answered, Answers, answers_of, no_fetch, to}
+use Rattle.run_safety.proofs.Sent.{OfRound, round_within, to}
 use Rattle.run_safety.proofs.Values.{Wrote, wrote_by, wrote_once, Wrote-same, journal_round, get_within}
 use Rattle.run_safety.proofs.Safety.{chosen_agree}
-use Rattle.run_safety.proofs.Authors.{line_author}
+use Rattle.run_safety.proofs.Authors.{line_author, start_entry}
 
 module _ (n : ℕ) (story : Story) (past : List Entry) (run : Follows n story past) where
   -- one body stands on the line at a txid
@@ -52,31 +47,6 @@ module _ (n : ℕ) (story : Story) (past : List Entry) (run : Follows n story pa
       let q : (m : ℕ) × Wrote n story past e m t y = journaled_wrote e t y b in
       (wrote_once n story past e p.0 q.0 t x y run p.1 q.1).1
 
-  -- the segment of a journal request was started under its epoch, and begins no later than the batch
-  start_entry : (a s m : ℕ) (w v : Writer) (r : ℕ) → (p : Sent n story past a s w) → r < s → seen_at n (story.takeover a) r ≡ Some v → v.round ≡ Open m → (old : List Entry) × (x : Entry) × Earlier (x ∷ old) past × IsStart x (story.takeover a).epoch m
-  start_entry a s m w v r p lt at is = by (ans.each some.0 some.1)
-    where
-      ans : Answers n story p.old a r
-      ans = answers_of n story past a s r w run p lt (no_fetch n (story.takeover a) r v at (to (λ q. IsGet q → ⊥) (sym is) (λ z. z)))
-
-      some : (i : ℕ) × Member i ans.nodes × Member i ans.nodes
-      some = majorities_share n ans.nodes ans.nodes ans.majority ans.majority
-
-      round : ans.w.round ≡ Open m
-      round = ap (λ z. z.round) (some_same (sym ans.at ∙ at)) ∙ is
-
-      by : (reply : Reply) × Answered n story p.old a r ans.w some.0 reply × OkHeard n ans.w ((story.takeover a).heard r) some.0 reply → (old : List Entry) × (x : Entry) × Earlier (x ∷ old) past × IsStart x (story.takeover a).epoch m
-      by y = (
-        y.1.old,
-        y.1.entry,
-        Earlier-trans y.1.within p.within,
-        (
-          record { epoch = (story.takeover a).epoch; serial = r; committed = ans.w.committed },
-          refl,
-          inl (y.1.caller, Heard, y.0, y.1.move ∙ ap (λ z. Answer y.1.caller Heard (asked (story.takeover a).epoch r ans.w.committed z) y.0) round),
-        ),
-      )
-
   record Started (head : HeadView) (start : ℕ) (batch : BatchView) : Type 0 where
     pub entry : (old : List Entry) × (x : Entry) × Earlier (x ∷ old) past × IsStart x head.epoch start
     pub below : start ≤ batch.first
@@ -84,7 +54,7 @@ module _ (n : ℕ) (story : Story) (past : List Entry) (run : Follows n story pa
   started : (old : List Entry) (e : Entry) (head : HeadView) (start : ℕ) (batch : BatchView) (body : List ℕ) (k : ℕ) → Earlier (e ∷ old) past → IsOf e (Journal head start batch) → slice_get batch.bodies k ≡ Some body → Started head start batch
   started old e head start batch body k p q has = record {
     entry = to (λ ep. (old : List Entry) × (x : Entry) × Earlier (x ∷ old) past × IsStart x ep start) (sym x.epoch)
-        (start_entry x.z.a x.z.s start x.z.w o.writer o.round x.z.sent o.before o.at (o.opens ∙ ap (λ z. Open z) same));
+        (start_entry n story past run x.z.a x.z.s start x.z.w o.writer o.round x.z.sent o.before o.at (o.opens ∙ ap (λ z. Open z) same));
     below = below;
   }
     where

@@ -130,13 +130,13 @@ round_shown segment.Roll turn.Aborted w h log free ends other = ap (λ (x : Work
 round_shown segment.Close turn.Aborted w h log free ends other = ap (λ (x : Work). record (as_actor None [] (kept_of w (Some (reload_image h)) log)) { says = aborted_texts x task.Close w.causes }) free
 round_shown st (turn.EpochLimit told) w h log free ends other = refl
 
-loaded_free : (images : List Image) (h : Holding) → h.work ≡ Free → (load_image images h).work ≡ Free
-loaded_free [] h e = e
-loaded_free (i ∷ is) h e = e
+pub loaded_work : (images : List Image) (h : Holding) → (load_image images h).work ≡ h.work
+loaded_work [] h = refl
+loaded_work (i ∷ is) h = refl
 
 pub reloaded_free : (h : Holding) → (reload_image h).work ≡ Free
 unfolding reload_image
-reloaded_free h = loaded_free h.images (record h { work = Free }) refl
+reloaded_free h = loaded_work h.images (record h { work = Free })
 
 pub after_free : (u : Turn) (h : Holding) → h.work ≡ Free → (held_after u h).work ≡ Free
 after_free (turn.Done (outcome.Roll start)) h e = refl

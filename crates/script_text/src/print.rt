@@ -163,7 +163,7 @@ fn push_cut(
 }
 
 /// What stands before the number of nodes in the first line.
-fn beginning(named: bool) -> &'static [u8]
+fn first_line(named: bool) -> &'static [u8]
     ensures { result.now ≡ header_line named }
 {
     if named { b"names " } else { b"raw " }
@@ -173,7 +173,7 @@ fn beginning(named: bool) -> &'static [u8]
 fn push_first_line(out: &mut Vec<u8>, named: bool, nodes: usize) -> Result<(), OutOfMemory>
     ensures { OnOk result (out.new.items ≡ out.old.items ++ first_line named nodes) }
 {
-    out.extend_from_slice(beginning(named))?;
+    out.extend_from_slice(first_line(named))?;
     put_decimal(out, nodes as u64)
 }
 

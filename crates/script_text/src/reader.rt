@@ -21,7 +21,7 @@ fn read_lines(alloc: Global, bytes: &[u8]) -> Result<ReadScript, OutOfMemory>
     ensures first { OnErr result ((line : ℕ) → fault_of bytes.now ≢ Some (line, 1)) }
     ensures memory { OnErr result (wants_memory None (lines_of bytes.now) ≡ true) }
 {
-    let mut reading = Reading::nothing(alloc);
+    let mut reading = Reading::empty(alloc);
     let mut count: u64 = 0;
     let mut rest = bytes;
     while !rest.is_empty() {

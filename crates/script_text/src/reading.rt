@@ -129,7 +129,7 @@ impl Model for Reading {
 
 impl Reading {
     /// No line came.
-    pub fn nothing(alloc: Global) -> Reading
+    pub fn empty(alloc: Global) -> Reading
         ensures { result ≡ nothing_read }
     {
         Reading {

@@ -6,14 +6,14 @@ use Rattle.qj_disk.specs.Calls.{Effect}
 use Rattle.small_files.specs.Puts.{Disturbs}
 use Rattle.journal_core.specs.Views.{BatchView}
 use Rattle.journal_core.specs.declared.segment.Segment.{Segment}
-use Rattle.journal_core.specs.Segments.{find_segment, put_segment}
+use Rattle.journal_core.specs.Segments.{find_segment, put_segment, IsNotFinal}
 use Rattle.journal_core.specs.Effects.{accepted_segment}
 use Rattle.batch_frame.specs.Frames.{frame_bytes, broken_rule}
 use Rattle.batch_frame.specs.Segments.{IsSegmentFile, header_bytes}
 use Rattle.segment_file.specs.Names.{InProgress, Fresh, name_of}
 use Rattle.segment_file.specs.Places.{Places}
 use Rattle.segment_file.specs.Effects.{IsReady, Touches, Becomes}
-use Rattle.segment_file.specs.Calls.{NotFinal, CanReplaceAgain, PlacesFrame, content_of}
+use Rattle.segment_file.specs.Calls.{CanReplaceAgain, PlacesFrame, content_of}
 use Rattle.segment_file.proofs.FileBytes.{InRange, one_frame}
 use Rattle.segment_file.proofs.EffectLaws.{becomes, touches, effect_by}
 use Rattle.segment_file.proofs.PlacedLaws.{quiet, done, tidy_then}
@@ -26,14 +26,14 @@ content_split start epoch frame behind = append_assoc (header_bytes start epoch)
 pub frame_edits : (epoch : ℕ) (b : BatchView) → InRange b.first epoch → broken_rule b.first b ≡ None → (behind : List ℕ) → IsSegmentFile (content_of b.first epoch (frame_bytes b) ++ behind) b.first epoch b.bodies (24 + length (frame_bytes b))
 frame_edits epoch b range good behind = subst (λ (l : List ℕ). IsSegmentFile l b.first epoch b.bodies (24 + length (frame_bytes b))) (sym (content_split b.first epoch (frame_bytes b) behind)) (one_frame epoch b behind range good)
 
-pub open_of : (g : Segment) (held : Option Segment) → held ≡ Some g → g.is_final ≡ false → NotFinal held
-open_of g held is open_ = subst NotFinal (sym is) open_
+pub open_of : (g : Segment) (held : Option Segment) → held ≡ Some g → g.is_final ≡ false → IsNotFinal held
+open_of g held is open_ = subst IsNotFinal (sym is) open_
 
 module _ (epoch : ℕ) (b : BatchView) (range : InRange b.first epoch) (v0 : View) (sound : IsSound v0) (gs : List Segment) (ready : IsReady v0 gs) (g : Segment) (can : CanReplaceAgain epoch b gs v0 g) where
   small : b.first ≤ 2 ^ 62
   small = range.start_within
 
-  was_open : NotFinal (find_segment b.first gs)
+  was_open : IsNotFinal (find_segment b.first gs)
   was_open = open_of g (find_segment b.first gs) can.known can.in_progress
 
   pub again_becomes : {T E : Type 0} (result : Result T E) (v1 : View) → Effect (Disturbs (name_of b.first Fresh)) (PlacesFrame epoch b) result v0 v1 → Becomes gs (put_segment (accepted_segment epoch b) gs) result v0 v1

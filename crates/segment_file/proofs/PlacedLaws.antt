@@ -6,14 +6,14 @@ use Rattle.qj_disk.specs.View.{View, IsSound, AllLeave, IsStable}
 use Rattle.qj_disk.specs.Calls.{Effect, Happens}
 use Rattle.small_files.specs.Puts.{Disturbs}
 use Rattle.journal_core.specs.declared.segment.Segment.{Segment}
-use Rattle.journal_core.specs.Segments.{find_segment, put_segment}
+use Rattle.journal_core.specs.Segments.{find_segment, put_segment, IsNotFinal}
 use Rattle.journal_core.specs.Effects.{empty_segment}
 use Rattle.batch_frame.specs.Segments.{IsSegmentFile}
 use Rattle.segment_file.specs.Names.{InProgress, Final, Record, UnderWay, Fresh, name_of}
 use Rattle.segment_file.specs.Stands.{StandsFor, IsAccepted}
 use Rattle.segment_file.specs.Places.{Places}
 use Rattle.segment_file.specs.Effects.{IsTidy, IsReady, Touches, Becomes, AppendsAt}
-use Rattle.segment_file.specs.Calls.{NotFinal, content_of}
+use Rattle.segment_file.specs.Calls.{content_of}
 use Rattle.segment_file.proofs.Frame.{kinds_apart}
 use Rattle.segment_file.proofs.FileBytes.{InRange, empty_file}
 use Rattle.segment_file.proofs.Single.{tidy_left, Before, temporary_stands, placed_stands, no_final_here}
@@ -27,7 +27,7 @@ module _ (start : ℕ) (first : 1 ≤ start) (small : start ≤ 2 ^ 62) (v0 : Vi
   pub quiet : (d c : Files) → v0.may_leave d → Disturbs (name_of start Fresh) d c → StandsFor c gs
   quiet d c left noise = temporary_stands start Fresh d c gs small tt (λ is. is) noise.others (ready.stands d left)
 
-  module _ (bytes : List ℕ) (g : Segment) (whole : ℕ) (start_is : g.start ≡ start) (open_ : g.is_final ≡ false) (was_open : NotFinal (find_segment start gs))
+  module _ (bytes : List ℕ) (g : Segment) (whole : ℕ) (start_is : g.start ≡ start) (open_ : g.is_final ≡ false) (was_open : IsNotFinal (find_segment start gs))
       (edits : (behind : List ℕ) → IsSegmentFile (bytes ++ behind) start g.epoch g.bodies whole) (accepted : AllLeave v0 (λ c. IsAccepted (c (name_of start Record)) g.epoch g.accepted)) where
     abbrev Deed : Files → Files → Type 0
     Deed = Places (name_of start InProgress) (name_of start Fresh) bytes

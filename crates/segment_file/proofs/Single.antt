@@ -4,7 +4,7 @@ use Rattle.std.specs.Prelude.{Option, Some, None, IsSome}
 use Rattle.qj_disk.specs.Files.{Files}
 use Rattle.qj_disk.specs.View.{View, IsSound}
 use Rattle.journal_core.specs.declared.segment.Segment.{Segment}
-use Rattle.journal_core.specs.Segments.{find_segment, put_segment, remove_segment}
+use Rattle.journal_core.specs.Segments.{find_segment, put_segment, remove_segment, IsNotFinal}
 use Rattle.journal_core.proofs.SegmentLists.{find-put_same, find-remove_same}
 use Rattle.segment_file.proofs.FindLemmas.{find-put_other, find-remove_other}
 use Rattle.batch_frame.specs.Segments.{IsSegmentFile}
@@ -12,7 +12,6 @@ use Rattle.segment_file.specs.Names.{Kind, InProgress, Final, Record, UnderWay, 
 use Rattle.segment_file.specs.Stands.{Slot, slot_of, IsRecordFile, IsAccepted, HoldsEdits, NoFinal, NoneUnderWay, CountsUnderWay, CountsPlain, Holds, SlotStands, StandsFor}
 use Rattle.segment_file.specs.Places.{Places}
 use Rattle.segment_file.specs.Effects.{IsTidy}
-use Rattle.segment_file.specs.Calls.{NotFinal}
 use Rattle.segment_file.proofs.Frame.{stands_by, slot_same, apart, kinds_apart, no_final_same, accepted_same}
 
 -- an outcome of a crash is as tidy as what is read
@@ -49,7 +48,7 @@ module _ (start : ℕ) (slot : Slot) (none : (epoch : ℕ) → IsKind start (Und
       by (inl way) = let p = sym (none way.epoch way.valid) ∙ way.there ∙ is.content.there in absurd (cc)
       by (inr own) = subst (λ (f : Option (List ℕ)). HoldsEdits start f g) (sym own.there) is.content
 
-  pub none_final_of : (held : Option Segment) → Holds start slot held → NotFinal held → NoFinal start slot
+  pub none_final_of : (held : Option Segment) → Holds start slot held → IsNotFinal held → NoFinal start slot
   none_final_of None is open_ = is.none_final
   none_final_of (Some g) is open_ = (plain g is open_).none_final
 
@@ -100,7 +99,7 @@ module _ (start : ℕ) (d : Files) (gs : List Segment) (was : Before start d gs)
   pub plain_here : (g : Segment) → find_segment start gs ≡ Some g → g.is_final ≡ false → IsPlain start slot g
   plain_here g known open_ = plain start slot nothing g (subst (λ (held : Option Segment). Holds start slot held) known here.holds) open_
 
-  pub no_final_here : NotFinal (find_segment start gs) → NoFinal start slot
+  pub no_final_here : IsNotFinal (find_segment start gs) → NoFinal start slot
   no_final_here open_ = none_final_of start slot nothing (find_segment start gs) here.holds open_
 
   -- where two kinds of files of this start change
@@ -132,7 +131,7 @@ module _ (start : ℕ) (d : Files) (gs : List Segment) (was : Before start d gs)
     same_there : (n : Kind) → IsKind start n → n ≢ InProgress → n ≢ Fresh → c (name_of start n) ≡ d (name_of start n)
     same_there = same_kind_there c InProgress Fresh tt tt others_there
 
-    pub placed_stands : (g : Segment) (whole : ℕ) → g.start ≡ start → g.is_final ≡ false → NotFinal (find_segment start gs)
+    pub placed_stands : (g : Segment) (whole : ℕ) → g.start ≡ start → g.is_final ≡ false → IsNotFinal (find_segment start gs)
         → ((behind : List ℕ) → IsSegmentFile (bytes ++ behind) start g.epoch g.bodies whole) → IsAccepted (d (name_of start Record)) g.epoch g.accepted → StandsFor c (put_segment g gs)
     placed_stands g whole start_is open_ was_open edits accepted = put_stands c InProgress Fresh tt tt others_there g start_is record {
       record_ = subst IsRecordFile (sym (same_there Record tt (λ is. absurd (cc)) (λ is. absurd (cc)))) here.record_;

@@ -4,7 +4,7 @@ use Rattle.qj_disk.specs.Files.{Files, ChangesOnly}
 use Rattle.qj_disk.specs.View.{View, AllLeave}
 use Rattle.journal_core.specs.Views.{BatchView}
 use Rattle.journal_core.specs.declared.segment.Segment.{Segment}
-use Rattle.journal_core.specs.Segments.{find_segment}
+use Rattle.journal_core.specs.Segments.{find_segment, IsNotFinal}
 use Rattle.batch_frame.specs.Frames.{broken_rule, frame_bytes}
 use Rattle.batch_frame.specs.Segments.{header_bytes}
 use Rattle.segment_file.specs.Gate.{Opens}
@@ -36,10 +36,6 @@ pub record PlacesFrame (epoch : ℕ) (b : BatchView) (old new : Files) : Type 0 
   pub places : Places (name_of b.first InProgress) (name_of b.first Fresh) (content_of b.first epoch (frame_bytes b)) old new
   pub good : broken_rule b.first b ≡ None
 
-abbrev pub NotFinal : Option Segment → Type 0
-NotFinal None = Unit {0}
-NotFinal (Some g) = g.is_final ≡ false
-
 abbrev pub HasNoEdit : Option Segment → Type 0
 HasNoEdit None = Unit {0}
 HasNoEdit (Some g) = g.bodies ≡ []
@@ -50,7 +46,7 @@ HasOtherEpoch start epoch v = AllLeave v (λ c. HasEpoch (c (name_of start Recor
 
 -- nothing stands with that start, or a segment in progress without an edit
 pub record CanCreate (start epoch : ℕ) (gs : List Segment) (v : View) : Type 0 where
-  pub not_final : NotFinal (find_segment start gs)
+  pub not_final : IsNotFinal (find_segment start gs)
   pub no_edit : HasNoEdit (find_segment start gs)
   pub other_epoch : HasOtherEpoch start epoch v
 
@@ -77,7 +73,7 @@ pub record CanDiscard (start end : ℕ) (is_final : Bool) (gs : List Segment) (g
 
 -- no final segment has the batch's start, and the record is of another epoch
 pub record CanReplace (epoch : ℕ) (b : BatchView) (gs : List Segment) (v : View) : Type 0 where
-  pub not_final : NotFinal (find_segment b.first gs)
+  pub not_final : IsNotFinal (find_segment b.first gs)
   pub other_epoch : HasOtherEpoch b.first epoch v
 
 -- a segment in progress has the batch's start, and its record this epoch

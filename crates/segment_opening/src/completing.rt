@@ -27,7 +27,7 @@ fn repair<D: Disk>(alloc: Global, disk: &mut D) -> Result<(), DiskFail>
 }
 
 // What came of a repair.
-fn completed(done: Result<(), DiskFail>) -> Completed
+fn completion_of(done: Result<(), DiskFail>) -> Completed
     ensures result { completed_result result ≡ done }
     ensures done { OnOk done (result ≡ Completed.Done) }
 {
@@ -56,7 +56,7 @@ pub fn complete_half_done<D: Disk>(alloc: Global, disk: &mut D) -> Completed
 {
     match first_bad_record(alloc, disk) {
         Ok(Some(name)) => Completed::BadFile { name },
-        Ok(None) => completed(repair(alloc, disk)),
-        Err(fail) => completed(Err(fail)),
+        Ok(None) => completion_of(repair(alloc, disk)),
+        Err(fail) => completion_of(Err(fail)),
     }
 }

@@ -62,7 +62,7 @@ fn row_ending(start: u64, file: &FileScan, last: Option<u64>) -> Option<SegmentR
     }
 }
 
-fn marked(row: SegmentRow, accepted: bool) -> SegmentRow
+fn mark_row(row: SegmentRow, accepted: bool) -> SegmentRow
     ensures { result ≡ record row { info = record row.info { accepted = accepted } } }
 {
     let mut row = row;
@@ -86,7 +86,7 @@ fn with_record<D: Disk>(alloc: Global, disk: &mut D, row: SegmentRow) -> Judgmen
         return Judgment::Row(row);
     }
     match PaxosFile::get(alloc, disk, row.info.start) {
-        GotRecord::Found { epoch, .. } => Judgment::Row(marked(row, epoch == row.info.epoch)),
+        GotRecord::Found { epoch, .. } => Judgment::Row(mark_row(row, epoch == row.info.epoch)),
         GotRecord::Absent => Judgment::Row(row),
         GotRecord::BadFile { name } => Judgment::BadFile { name },
         GotRecord::DiskFault => Judgment::DiskFault,

@@ -5,7 +5,7 @@ use cluster_runner::{Played, plain_nodes, play, scripts_are_playable};
 use gate_seats::Pass;
 use memory_node::PlainNode;
 use mesh_agreement::agrees;
-use mesh_judge::ordered;
+use mesh_judge::order_events;
 use node_history::Event;
 use report_text::{Report, report_of};
 use script_text::{ReadScript, Script, read_script};
@@ -34,7 +34,7 @@ fn run_script<R: Threads + Wait + Sync, G: Pass + Sync>(
     scripts_are_playable();
     let nodes = plain_nodes(alloc, script.nodes())?;
     let played = run_on(rt, alloc, nodes, script, pass)?;
-    let events = ordered(alloc, &played.mesh)?;
+    let events = order_events(alloc, &played.mesh)?;
     let agrees = agrees(alloc, &played.mesh)?;
     Ok(Ran {
         played,

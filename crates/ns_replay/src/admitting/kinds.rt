@@ -9,7 +9,8 @@ use crate::admitting::words::{
     check_replication, refuse_if,
 };
 use crate::refusal::AdmitRefusal;
-use ns_tree::{Inode, Namespace, is_root_path};
+use ns_path::is_root_path;
+use ns_tree::{Inode, Namespace};
 
 pub(crate) fn check_add(
     namespace: &Namespace,

@@ -1,15 +1,17 @@
 //! The edit that joins files.
 ghost use Rattle.std.specs.Prelude.{◌≡◌, ◌≤◌, ◌^◌, None, OnOk, OnErr, IfOk, ◌∷◌};
 ghost use Rattle.std.specs.List.{AllByRecursion};
-ghost use Rattle.edit_ops.specs.Fields.{IsGood};
+ghost use Rattle.edit_fields.specs.Fields.{IsGood};
 ghost use Rattle.edit_ops.specs.Records.{fields_of};
 ghost use Rattle.ns_tree.specs.Space.{find};
 ghost use Rattle.ns_replay.specs.Admit.{admit_concat, blocks_of, blocks_at};
 ghost use Rattle.ns_replay.specs.Apply.{with_all_blocks, AreSources, concat_of, without_sources};
 
 use crate::applying::inodes::put_all_blocks;
-use edit_ops::{NameList, NumberList, Op};
-use ns_tree::{Inode, Namespace, parent};
+use edit_fields::{NameList, NumberList};
+use edit_ops::Op;
+use ns_path::parent;
+use ns_tree::{Inode, Namespace};
 use qj_num::{Name, OutOfMemory};
 use std::alloc::Global;
 

@@ -1,14 +1,15 @@
 //! The edits that rename.
 ghost use Rattle.std.specs.Prelude.{◌≡◌, None, OnOk, OnErr};
 ghost use Rattle.std.specs.List.{AllByRecursion};
-ghost use Rattle.edit_ops.specs.Fields.{IsGood};
+ghost use Rattle.edit_fields.specs.Fields.{IsGood};
 ghost use Rattle.edit_ops.specs.Records.{fields_of};
 ghost use Rattle.ns_replay.specs.Admit.{target_of, admit_rename, admit_rename_old};
 ghost use Rattle.ns_replay.specs.Apply.{move_of};
 
 use crate::admitting::renames::target_of;
 use edit_ops::Op;
-use ns_tree::{Namespace, parent};
+use ns_path::parent;
+use ns_tree::Namespace;
 use qj_num::OutOfMemory;
 use std::alloc::Global;
 

@@ -1,7 +1,7 @@
 //! The edits that set something of what is there: each changes the inode where it stands, and takes no memory.
 ghost use Rattle.std.specs.Prelude.{◌≡◌, None};
 ghost use Rattle.std.specs.List.{AllByRecursion};
-ghost use Rattle.edit_ops.specs.Fields.{IsGood};
+ghost use Rattle.edit_fields.specs.Fields.{IsGood};
 ghost use Rattle.edit_ops.specs.Records.{fields_of};
 ghost use Rattle.ns_tree.specs.Space.{change_at};
 ghost use Rattle.ns_replay.specs.Admit.{admit_close, admit_set_replication, admit_set_permissions, admit_set_owner, admit_times, admit_set_quota};
@@ -10,7 +10,8 @@ ghost use Rattle.ns_replay.specs.Apply.{with_blocks, with_replication, with_perm
 use crate::applying::inodes::{
     put_blocks, put_owner, put_permission, put_quota, put_replication, put_times,
 };
-use edit_ops::{NumberList, Op};
+use edit_fields::NumberList;
+use edit_ops::Op;
 use ns_tree::{Inode, Namespace};
 use qj_num::Name;
 

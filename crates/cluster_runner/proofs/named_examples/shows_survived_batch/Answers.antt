@@ -1,6 +1,6 @@
 use Rattle.std.proofs.Common.{refl}
 use Rattle.std.specs.Fmt.{digits}
-use Rattle.edit_ops.specs.Reading.{field_at}
+use Rattle.edit_fields.specs.Reading.{field_at}
 use Rattle.journal_core.specs.Segments.{find_segment, put_segment, remove_segment, newest}
 use Rattle.journal_core.specs.Limits.{limit_of}
 use Rattle.journal_core.specs.Effects.{after_effects}

@@ -1,10 +1,10 @@
 use Rattle.std.proofs.Common.{◌≡◌, ℕ, List, [], ◌∷◌, Result, Err, subst, sym, ap, ◌∙◌, arith}
 use Rattle.std.proofs.lemmas.Bool.{eqb-true}
-use Rattle.edit_ops.specs.declared.fault.Fault.{Fault}
-use Rattle.edit_ops.specs.declared.fault.ReadError.{ReadError}
-use Rattle.edit_ops.specs.declared.fault.ReadError.TheVariants as errors
-use Rattle.edit_ops.specs.Fields.{Field}
-use Rattle.edit_ops.specs.Sources.{Fails}
+use Rattle.edit_fields.specs.declared.fault.Fault.{Fault}
+use Rattle.edit_fields.specs.declared.fault.ReadError.{ReadError}
+use Rattle.edit_fields.specs.declared.fault.ReadError.TheVariants as errors
+use Rattle.edit_fields.specs.Fields.{Field}
+use Rattle.edit_fields.specs.Sources.{Fails}
 use Rattle.edit_ops.specs.Records.{edit_fields}
 use Rattle.edit_ops.specs.Decoding.{IsShort, EndsInside}
 use Rattle.edit_ops.proofs.DecodeLaws.{right_edit, right_trailing, right_short, right_bad, few_left, few_missing}

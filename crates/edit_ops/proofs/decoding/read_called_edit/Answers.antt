@@ -2,9 +2,10 @@ use Rattle.std.proofs.Common.{◌++◌, Some, refl, true, ap, ◌∙◌, arith}
 use Rattle.std.proofs.lemmas.Result.{err_from_is_err_and}
 use Rattle.edit_ops.specs.Kinds.{is_mark}
 use Rattle.edit_ops.specs.Records.{kind_of, fields_of, call_fields, full_layout}
-use Rattle.edit_ops.specs.Reading.{group_at}
-use Rattle.edit_ops.proofs.SourceLaws.{op_is_read, op_fails}
-use Rattle.edit_ops.proofs.DecodeLaws.{fields_all_good, both_read, second_fails}
+use Rattle.edit_fields.specs.Reading.{group_at}
+use Rattle.edit_ops.proofs.OpReads.{op_is_read, op_fails}
+use Rattle.edit_fields.proofs.WalkLaws.{fields_all_good}
+use Rattle.edit_ops.proofs.DecodeLaws.{both_read, second_fails}
 use Rattle.edit_ops.proofs.decoding.read_called_edit.Goals as goal
 
 pub returns-in_err-op-clause-read : goal.returns-in_err-op-clause-read

@@ -1,9 +1,9 @@
 use Rattle.std.proofs.Common.{refl, arith}
 use Rattle.std.proofs.lemmas.Result.{err_from_is_err_and}
 use Rattle.edit_ops.specs.Records.{kind_of, fields_of, layout}
-use Rattle.edit_ops.specs.Reading.{group_at}
-use Rattle.edit_ops.proofs.SourceLaws.{op_is_read, op_fails}
-use Rattle.edit_ops.proofs.DecodeLaws.{fields_all_good}
+use Rattle.edit_fields.specs.Reading.{group_at}
+use Rattle.edit_ops.proofs.OpReads.{op_is_read, op_fails}
+use Rattle.edit_fields.proofs.WalkLaws.{fields_all_good}
 use Rattle.edit_ops.proofs.decoding.read_plain_edit.Goals as goal
 
 pub returns-in_err-op-clause-read : goal.returns-in_err-op-clause-read

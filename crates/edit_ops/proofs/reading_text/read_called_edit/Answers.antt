@@ -1,9 +1,9 @@
 use Rattle.std.proofs.Common.{◌≡◌, ℕ, List, [], ◌∷◌, ◌++◌, Some, Ok, refl, subst}
 use Rattle.std.specs.Prelude.{codes}
 use Rattle.std.proofs.lemmas.Result.{err_from_is_err_and}
-use Rattle.edit_ops.specs.Fields.{client, call_number}
+use Rattle.edit_fields.specs.Fields.{client, call_number}
 use Rattle.edit_ops.specs.Records.{call_fields}
-use Rattle.edit_ops.specs.Saying.{fields_said}
+use Rattle.edit_fields.specs.Saying.{fields_said}
 use Rattle.edit_ops.proofs.SayEdits.{call_misses, no_space, line_fails, called_edit}
 use Rattle.edit_ops.proofs.reading_text.read_called_edit.Goals as goal
 

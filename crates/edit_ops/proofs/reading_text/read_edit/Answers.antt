@@ -1,7 +1,7 @@
 use Rattle.std.proofs.Common.{ℕ, List, ◌++◌, sym, ap, subst, ◌∙◌}
-use Rattle.edit_ops.specs.Saying.{Boundary}
-use Rattle.edit_ops.proofs.SayNumbers.{same_bytes}
-use Rattle.edit_ops.proofs.SayEdits.{split_whole, split_bound}
+use Rattle.edit_fields.specs.Saying.{Boundary}
+use Rattle.edit_fields.proofs.SayNumbers.{same_bytes}
+use Rattle.edit_fields.proofs.SayWords.{split_whole, split_bound}
 use Rattle.edit_ops.proofs.reading_text.read_edit.Goals as goal
 
 pub read_called_edit-requires : goal.read_called_edit-requires

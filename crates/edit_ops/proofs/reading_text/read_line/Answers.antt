@@ -2,9 +2,11 @@ use Rattle.std.proofs.Common.{◌≡◌, ℕ, List, Ok, subst, sym, ◌∙◌}
 use Rattle.std.proofs.lemmas.Bool.{eqb-true}
 use Rattle.std.proofs.lemmas.Result.{err_from_is_err_and}
 use Rattle.edit_ops.specs.Records.{kind_of, fields_of}
-use Rattle.edit_ops.specs.Sources.{Fails, op_read}
-use Rattle.edit_ops.specs.Saying.{words_group}
-use Rattle.edit_ops.proofs.SayEdits.{no_verb, line_misses, no_more, is_line, split_whole}
+use Rattle.edit_fields.specs.Sources.{Fails}
+use Rattle.edit_ops.specs.OpRead.{op_read}
+use Rattle.edit_fields.specs.Saying.{words_group}
+use Rattle.edit_ops.proofs.SayEdits.{no_verb, line_misses, no_more, is_line}
+use Rattle.edit_fields.proofs.SayWords.{split_whole}
 use Rattle.edit_ops.proofs.reading_text.read_line.Goals as goal
 use Rattle.qj_num.proofs.Lists.{some_there}
 

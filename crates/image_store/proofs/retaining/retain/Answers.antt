@@ -8,6 +8,6 @@ remove_all-requires g c = subst (λ (l : List ℕ). AllSmall l) (sym (c.older.en
 
 pub returns-clause-retains : goal.returns-clause-retains
 returns-clause-retains g c = λ t.
-    let t1 = c.counting.ensures.call.tells.0 t in
-    retained c.args.count (g.D.DiskModel.view c.args.disk.now) (g.D.DiskModel.view c.counting.new.disk) (g.D.DiskModel.view c.remove_all.new.disk) (g.met.D.Disk.sound _ t) (c.counting.ensures.disk t).keeps c.in_ok-txids.txids.items c.older.result.now
+    let t1 = c.find_images.ensures.call.tells.0 t in
+    retained c.args.count (g.D.DiskModel.view c.args.disk.now) (g.D.DiskModel.view c.find_images.new.disk) (g.D.DiskModel.view c.remove_all.new.disk) (g.met.D.Disk.sound _ t) (c.find_images.ensures.disk t).keeps c.in_ok-txids.txids.items c.older.result.now
     (c.in_ok-txids.ensures.images t) (c.older.ensures ∙ ap (older_than c.args.count) c.deref.ensures.value) (c.remove_all.ensures.quiet t1) c.remove_all.result (c.remove_all.ensures.removed t1)

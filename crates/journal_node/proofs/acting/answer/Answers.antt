@@ -4,7 +4,7 @@ use Rattle.recent_edits.specs.Recent.{cached_then}
 use Rattle.journal_node.proofs.ActingDone.{once_same, once_up}
 use Rattle.journal_node.proofs.ActingAnswer.{answer_at_once, moments_none, stable_at_once, up_stands, none_at_once}
 use Rattle.qj_disk.proofs.Keeping.{rests_same}
-use Rattle.node_deeds.specs.declared.deed.Deed.{Deed}
+use Rattle.request_decision.specs.declared.durable_effect.DurableEffect.{DurableEffect}
 use Rattle.journal_node.specs.Done.{HasRoom}
 use Rattle.journal_node.proofs.acting.answer.Goals as goal
 
@@ -38,4 +38,4 @@ returns-in-Err-clause-spared g c = λ e. inr (record { disk = λ t. rests_same (
 pub answer_by-requires-clause-room : goal.answer_by-requires-clause-room
 answer_by-requires-clause-room g c =
     let told = c.requires.node.told in
-    subst (λ (ds : List Deed). HasRoom ds (length c.args.table.now) c.in-Ok.ready.room) (sym c.as_slice.ensures.value) (c.in-Ok.ensures.room told.0 told.1)
+    subst (λ (ds : List DurableEffect). HasRoom ds (length c.args.table.now) c.in-Ok.ready.room) (sym c.as_slice.ensures) (c.in-Ok.ensures.room told.0 told.1)

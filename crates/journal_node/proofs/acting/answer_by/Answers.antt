@@ -4,14 +4,14 @@ use Rattle.journal_core.specs.declared.node_state.NodeState.{NodeState}
 use Rattle.recent_edits.specs.Recent.{AsksRecent}
 use Rattle.journal_node.proofs.Recalling.{recalls_rests, asks_front}
 use Rattle.journal_node.proofs.NodeStands.{rests_up}
-use Rattle.journal_node.proofs.ActingDone.{is_up, up_of}
-use Rattle.journal_node.proofs.ActingAnswer.{foretold_by, front_same, rests_then, rests_moments, up_stands, node_down, fault_down, memory_same}
+use Rattle.journal_node.proofs.ActingDone.{is_up, up_of, has_up}
+use Rattle.journal_node.proofs.ActingAnswer.{foretold_by, front_same, rests_then, rests_moments, up_stands, node_down, fault_down, memory_same, refused_by}
 use Rattle.journal_node.proofs.acting.answer_by.Goals as goal
 
 pub returns-in-Ok-clause-answer : goal.returns-in-Ok-clause-answer
 returns-in-Ok-clause-answer g c = λ t s up.
     c.finish.ensures.answer (c.foretell.ensures.call.tells.0 t) s (rests_up (g.D.DiskModel.view c.args.disk.now) (g.D.DiskModel.view c.foretell.new.disk) (c.foretell.ensures.disk t) c.args.memory.now c.args.table.now s up)
-    (foretold_by c.args.memory.now s c.args.request.now c.step_after_front-front.result c.row_refusal-refusal.result c.in-Ok.reply up.held.memory c.step_after_front-front.ensures (c.row_refusal-refusal.ensures s.segments up.held.told)
+    (foretold_by c.args.memory.now s c.args.request.now c.args.front.now c.args.refusal c.in-Ok.reply up.held.memory c.requires.front (c.requires.refused s.segments up.held.told)
     (c.in-Ok.ensures.reply t s.segments up.held.files.segments up.held.sound up.held.told (c.requires.recalls t s (is_up c.args.memory.now c.args.request.now c.requires.at_once) up)))
 
 pub returns-in-Ok-clause-moments : goal.returns-in-Ok-clause-moments
@@ -42,13 +42,13 @@ pub returns-in-Err-Failed-clause-moments : goal.returns-in-Err-Failed-clause-mom
 returns-in-Err-Failed-clause-moments g c = λ t s up.
     rests_moments (g.D.DiskModel.view c.args.disk.now) (g.D.DiskModel.view c.foretell.new.disk) s c.args.request.now (g.met.D.Disk.sound _ t) (c.foretell.ensures.disk t) (up_stands (g.D.DiskModel.view c.args.disk.now) c.args.memory.now c.args.table.now s up)
 
-pub returns-clause-answer : goal.returns-clause-answer
-returns-clause-answer g c = λ t s up.
+pub returns-in-Err-OutOfMemory-clause-answer : goal.returns-in-Err-OutOfMemory-clause-answer
+returns-in-Err-OutOfMemory-clause-answer g c = λ t s up.
     memory_same (g.D.DiskModel.view c.foretell.new.disk) c.args.memory.now c.args.table.now s c.args.request.now (is_up c.args.memory.now c.args.request.now c.requires.at_once)
     (rests_up (g.D.DiskModel.view c.args.disk.now) (g.D.DiskModel.view c.foretell.new.disk) (c.foretell.ensures.disk t) c.args.memory.now c.args.table.now s up)
 
-pub returns-clause-moments : goal.returns-clause-moments
-returns-clause-moments g c = λ t s up.
+pub returns-in-Err-OutOfMemory-clause-moments : goal.returns-in-Err-OutOfMemory-clause-moments
+returns-in-Err-OutOfMemory-clause-moments g c = λ t s up.
     rests_moments (g.D.DiskModel.view c.args.disk.now) (g.D.DiskModel.view c.foretell.new.disk) s c.args.request.now (g.met.D.Disk.sound _ t) (c.foretell.ensures.disk t) (up_stands (g.D.DiskModel.view c.args.disk.now) c.args.memory.now c.args.table.now s up)
 
 pub finish-requires-clause-recalls : goal.finish-requires-clause-recalls
@@ -64,25 +64,44 @@ pub returns-in-Ok-clause-unread : goal.returns-in-Ok-clause-unread
 returns-in-Ok-clause-unread g c = λ t s up asks.
     c.finish.ensures.reads
     ∙ c.foretell.ensures.unread s.segments up.held.told (c.requires.recalls t s (is_up c.args.memory.now c.args.request.now c.requires.at_once) up)
-    (subst (λ (x : NodeState). AsksRecent c.args.recent.now.start x c.args.request.now) (sym (front_same c.args.memory.now s c.step_after_front-front.result c.args.request.now up.held.memory c.step_after_front-front.ensures)) (asks_front c.args.recent.now.start s c.args.request.now asks))
+    (subst (λ (x : NodeState). AsksRecent c.args.recent.now.start x c.args.request.now) (sym (front_same c.args.memory.now s c.args.front.now c.args.request.now up.held.memory c.requires.front)) (asks_front c.args.recent.now.start s c.args.request.now asks))
 
 pub returns-in-Err-Failed-clause-unread : goal.returns-in-Err-Failed-clause-unread
 returns-in-Err-Failed-clause-unread g c = λ t s up asks.
     c.foretell.ensures.unread s.segments up.held.told (c.requires.recalls t s (is_up c.args.memory.now c.args.request.now c.requires.at_once) up)
-    (subst (λ (x : NodeState). AsksRecent c.args.recent.now.start x c.args.request.now) (sym (front_same c.args.memory.now s c.step_after_front-front.result c.args.request.now up.held.memory c.step_after_front-front.ensures)) (asks_front c.args.recent.now.start s c.args.request.now asks))
+    (subst (λ (x : NodeState). AsksRecent c.args.recent.now.start x c.args.request.now) (sym (front_same c.args.memory.now s c.args.front.now c.args.request.now up.held.memory c.requires.front)) (asks_front c.args.recent.now.start s c.args.request.now asks))
 
-pub returns-clause-recalls : goal.returns-clause-recalls
-returns-clause-recalls g c = λ t.
+pub returns-in-Err-OutOfMemory-clause-recalls : goal.returns-in-Err-OutOfMemory-clause-recalls
+returns-in-Err-OutOfMemory-clause-recalls g c = λ t.
     recalls_rests (g.D.DiskModel.tells c.args.disk.now) (g.D.DiskModel.view c.args.disk.now) (g.D.DiskModel.view c.foretell.new.disk) c.args.memory.now c.args.table.now c.args.recent.now c.requires.node t (g.met.D.Disk.sound _ (c.foretell.ensures.call.tells.0 t)).seen_now (c.foretell.ensures.disk t)
     (c.requires.recalls t)
 
-pub returns-clause-unread : goal.returns-clause-unread
-returns-clause-unread g c = λ t s up asks.
+pub returns-in-Err-OutOfMemory-clause-unread : goal.returns-in-Err-OutOfMemory-clause-unread
+returns-in-Err-OutOfMemory-clause-unread g c = λ t s up asks.
     c.foretell.ensures.unread s.segments up.held.told (c.requires.recalls t s (is_up c.args.memory.now c.args.request.now c.requires.at_once) up)
-    (subst (λ (x : NodeState). AsksRecent c.args.recent.now.start x c.args.request.now) (sym (front_same c.args.memory.now s c.step_after_front-front.result c.args.request.now up.held.memory c.step_after_front-front.ensures)) (asks_front c.args.recent.now.start s c.args.request.now asks))
+    (subst (λ (x : NodeState). AsksRecent c.args.recent.now.start x c.args.request.now) (sym (front_same c.args.memory.now s c.args.front.now c.args.request.now up.held.memory c.requires.front)) (asks_front c.args.recent.now.start s c.args.request.now asks))
 
 pub returns-in-Ok-clause-spared : goal.returns-in-Ok-clause-spared
 returns-in-Ok-clause-spared g c = λ e. inl (rose_since (g.D.DiskModel.shortages c.args.disk.now) (g.D.DiskModel.shortages c.foretell.new.disk) (g.D.DiskModel.shortages c.finish.new.disk) c.foretell.ensures.shortages (c.finish.ensures.short e))
 
-pub returns-clause-spared : goal.returns-clause-spared
-returns-clause-spared g c = λ e. inr (record { disk = c.foretell.ensures.disk; memory = refl; rows = refl; recent = refl })
+pub returns-in-Err-OutOfMemory-clause-spared : goal.returns-in-Err-OutOfMemory-clause-spared
+returns-in-Err-OutOfMemory-clause-spared g c = λ e. inr (record { disk = c.foretell.ensures.disk; memory = refl; rows = refl; recent = refl })
+
+pub foretell-requires-clause-refused : goal.foretell-requires-clause-refused
+foretell-requires-clause-refused g c = refused_by c.args.memory.now c.args.front.now c.args.request.now c.args.table.now c.args.refusal c.requires.front c.requires.refused
+
+pub returns-in-Err-OutOfMemory-clause-node : goal.returns-in-Err-OutOfMemory-clause-node
+returns-in-Err-OutOfMemory-clause-node g c = record {
+  told = c.requires.node.told;
+  known = c.requires.node.known;
+  stands = λ t1.
+      let t = c.foretell.ensures.call.tells.1 t1 in
+      let v0 = g.D.DiskModel.view c.args.disk.now in
+      let v1 = g.D.DiskModel.view c.foretell.new.disk in
+      let is = is_up c.args.memory.now c.args.request.now c.requires.at_once in
+      let s = c.requires.node.stands t in (
+        s.0,
+        has_up v1 c.args.memory.now c.args.table.now s.0 is
+            (rests_up v0 v1 (c.foretell.ensures.disk t) c.args.memory.now c.args.table.now s.0 (up_of v0 c.args.memory.now c.args.table.now s.0 is s.1)),
+      );
+}

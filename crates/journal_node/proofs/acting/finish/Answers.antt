@@ -9,7 +9,7 @@ pub returns-in-Ok-clause-answer : goal.returns-in-Ok-clause-answer
 returns-in-Ok-clause-answer g c = λ t s up is. (
   state_behind s c.args.request.now,
   has_up (g.D.DiskModel.view c.carry_out.new.disk) c.carry_out.new.memory c.carry_out.new.table (state_behind s c.args.request.now) c.in-Ok.ensures.up (c.in-Ok.ensures.done t s up),
-  answer_done s c.args.request.now c.args.reply (once_of (g.D.DiskModel.view c.args.disk.now) c.args.memory.now c.args.table.now s c.args.request.now c.args.deeds.now up c.requires.at_once c.requires.effects c.requires.due) c.requires.own is,
+  answer_done s c.args.request.now c.args.reply (once_of (g.D.DiskModel.view c.args.disk.now) c.args.memory.now c.args.table.now s c.args.request.now c.args.effects.now up c.requires.at_once c.requires.effects c.requires.due) c.requires.own is,
 )
 
 pub returns-in-Ok-clause-stable : goal.returns-in-Ok-clause-stable

@@ -1,6 +1,6 @@
 use Rattle.std.proofs.Common.{subst}
 use Rattle.journal_core.specs.declared.request.Request.{Request}
-use Rattle.node_deeds.specs.Told.{state_with}
+use Rattle.node_effects.specs.Told.{state_with}
 use Rattle.recent_edits.specs.Recent.{AsksRecent}
 use Rattle.journal_node.proofs.acting.foretell.Goals as goal
 

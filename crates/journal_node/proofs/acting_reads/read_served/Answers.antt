@@ -2,7 +2,7 @@ use Rattle.std.proofs.Common.{ℕ, ap, ◌∙◌, ◌≡◌}
 use Rattle.journal_core.specs.Segments.{find_segment}
 use Rattle.journal_core.proofs.SegmentLists.{find-start}
 use Rattle.journal_node.proofs.Recalling.{read_held}
-use Rattle.node_deeds.specs.Told.{state_with}
+use Rattle.node_effects.specs.Told.{state_with}
 use Rattle.journal_node.proofs.ActingReads.{read_reply, none_told}
 use Rattle.journal_core.specs.declared.reply.Reply.TheVariants.{Refused}
 use Rattle.journal_node.proofs.acting_reads.read_served.Goals as goal

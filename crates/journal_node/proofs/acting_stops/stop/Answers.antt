@@ -1,8 +1,9 @@
-use Rattle.std.proofs.Common.{List, length, refl, sym, subst, ◌∙◌, arith}
+use Rattle.std.proofs.Common.{List, length, refl, sym, ap, subst, ◌∙◌, arith}
+use Rattle.node_effects.specs.Decided.{effects_in}
 use Rattle.journal_node.proofs.ActingDone.{once_same, up_of, is_up, are_of}
 use Rattle.journal_node.proofs.ActingAnswer.{up_stands}
 use Rattle.journal_node.proofs.ActingStops.{kept_moments, no_moments, node_goes_down, stops_at_once, stops_done, stops_fault, stops_memory}
-use Rattle.node_deeds.specs.declared.deed.Deed.{Deed}
+use Rattle.request_decision.specs.declared.durable_effect.DurableEffect.{DurableEffect}
 use Rattle.journal_node.specs.Done.{HasRoom}
 use Rattle.journal_node.proofs.acting_stops.stop.Goals as goal
 
@@ -20,9 +21,9 @@ returns-in-Ok-stop_in_request-clause-stop g c = λ t s has.
     let v = g.D.DiskModel.view c.args.disk.now in
     let none = sym c.in-None.ensures.refusal in
     let up = up_of v c.args.memory.now c.args.table.now s (is_up c.args.memory.now c.args.request.now none) has in
-    stops_done (g.D.DiskModel.view c.stop_in_request.new.disk) c.stop_in_request.new.memory c.stop_in_request.new.table s c.args.request.now c.in-Ok.deeds.items c.args.keep c.min-count.result c.stop_in_request.ensures.down
-    (are_of v c.args.memory.now c.args.table.now s c.args.request.now c.in-Ok.deeds.items up none c.in-Ok.ensures.effects c.in-Ok.ensures.due)
-    (omega (arith, c.min-count.ensures, c.len.ensures)) (c.in-Ok-stop_in_request.ensures.done t s up)
+    stops_done (g.D.DiskModel.view c.stop_in_request.new.disk) c.stop_in_request.new.memory c.stop_in_request.new.table s c.args.request.now (effects_in c.in-Ok.plan.effects) c.args.keep c.min-count.result c.stop_in_request.ensures.down
+    (are_of v c.args.memory.now c.args.table.now s c.args.request.now (effects_in c.in-Ok.plan.effects) up none c.in-Ok.ensures.effects c.in-Ok.ensures.due)
+    (omega (arith, c.min-count.ensures, ap length c.as_slice-effects.ensures)) (c.in-Ok-stop_in_request.ensures.done t s up)
 
 pub returns-in-Err-Failed-clause-stop : goal.returns-in-Err-Failed-clause-stop
 returns-in-Err-Failed-clause-stop g c = λ t s has.
@@ -43,23 +44,23 @@ returns-in-Some-clause-moments g c = λ t s up.
 pub returns-in-Ok-stop_in_request-clause-moments : goal.returns-in-Ok-stop_in_request-clause-moments
 returns-in-Ok-stop_in_request-clause-moments g c = λ t s up.
     let v = g.D.DiskModel.view c.args.disk.now in
-    kept_moments v (g.D.DiskModel.view c.stop_in_request.new.disk) s c.args.request.now c.in-Ok.deeds.items c.args.keep c.min-count.result
-    (are_of v c.args.memory.now c.args.table.now s c.args.request.now c.in-Ok.deeds.items up (sym c.in-None.ensures.refusal) c.in-Ok.ensures.effects c.in-Ok.ensures.due)
-    (omega (arith, c.min-count.ensures, c.len.ensures)) (c.stop_in_request.ensures.moments t s up)
+    kept_moments v (g.D.DiskModel.view c.stop_in_request.new.disk) s c.args.request.now (effects_in c.in-Ok.plan.effects) c.args.keep c.min-count.result
+    (are_of v c.args.memory.now c.args.table.now s c.args.request.now (effects_in c.in-Ok.plan.effects) up (sym c.in-None.ensures.refusal) c.in-Ok.ensures.effects c.in-Ok.ensures.due)
+    (omega (arith, c.min-count.ensures, ap length c.as_slice-effects.ensures)) (c.stop_in_request.ensures.moments t s up)
 
 pub returns-in-Err-Failed-clause-moments : goal.returns-in-Err-Failed-clause-moments
 returns-in-Err-Failed-clause-moments g c = λ t s up.
     let v = g.D.DiskModel.view c.args.disk.now in
-    kept_moments v (g.D.DiskModel.view c.stop_in_request.new.disk) s c.args.request.now c.in-Ok.deeds.items c.args.keep c.min-count.result
-    (are_of v c.args.memory.now c.args.table.now s c.args.request.now c.in-Ok.deeds.items up (sym c.in-None.ensures.refusal) c.in-Ok.ensures.effects c.in-Ok.ensures.due)
-    (omega (arith, c.min-count.ensures, c.len.ensures)) (c.stop_in_request.ensures.moments t s up)
+    kept_moments v (g.D.DiskModel.view c.stop_in_request.new.disk) s c.args.request.now (effects_in c.in-Ok.plan.effects) c.args.keep c.min-count.result
+    (are_of v c.args.memory.now c.args.table.now s c.args.request.now (effects_in c.in-Ok.plan.effects) up (sym c.in-None.ensures.refusal) c.in-Ok.ensures.effects c.in-Ok.ensures.due)
+    (omega (arith, c.min-count.ensures, ap length c.as_slice-effects.ensures)) (c.stop_in_request.ensures.moments t s up)
 
 pub returns-in-Ok-clause-moments : goal.returns-in-Ok-clause-moments
 returns-in-Ok-clause-moments g c = λ t s up.
     let v = g.D.DiskModel.view c.args.disk.now in
-    kept_moments v (g.D.DiskModel.view c.stop_in_request.new.disk) s c.args.request.now c.in-Ok.deeds.items c.args.keep c.min-count.result
-    (are_of v c.args.memory.now c.args.table.now s c.args.request.now c.in-Ok.deeds.items up (sym c.in-None.ensures.refusal) c.in-Ok.ensures.effects c.in-Ok.ensures.due)
-    (omega (arith, c.min-count.ensures, c.len.ensures)) (c.stop_in_request.ensures.moments t s up)
+    kept_moments v (g.D.DiskModel.view c.stop_in_request.new.disk) s c.args.request.now (effects_in c.in-Ok.plan.effects) c.args.keep c.min-count.result
+    (are_of v c.args.memory.now c.args.table.now s c.args.request.now (effects_in c.in-Ok.plan.effects) up (sym c.in-None.ensures.refusal) c.in-Ok.ensures.effects c.in-Ok.ensures.due)
+    (omega (arith, c.min-count.ensures, ap length c.as_slice-effects.ensures)) (c.stop_in_request.ensures.moments t s up)
 
 pub returns-clause-moments : goal.returns-clause-moments
 returns-clause-moments g c = λ t s up.
@@ -68,4 +69,4 @@ returns-clause-moments g c = λ t s up.
 pub stop_in_request-requires-clause-room : goal.stop_in_request-requires-clause-room
 stop_in_request-requires-clause-room g c =
     let told = c.requires.told in
-    subst (λ (ds : List Deed). HasRoom ds (length c.args.table.now) c.in-Ok.ready.room) (sym c.as_slice.ensures.value) (c.in-Ok.ensures.room told.0 told.1)
+    subst (λ (ds : List DurableEffect). HasRoom ds (length c.args.table.now) c.in-Ok.ready.room) (sym c.as_slice-effects.ensures) (c.in-Ok.ensures.room told.0 told.1)

@@ -2,15 +2,15 @@ use Rattle.segment_file.proofs.GateLemmas.{carried}
 use Rattle.std.proofs.Common.{sym, subst, rules}
 use Rattle.journal_core.specs.Views.{BatchView}
 use Rattle.segment_file.specs.Calls.{IsFrameOf}
-use Rattle.node_deeds.specs.Due.{batch_of}
-use Rattle.node_deeds.specs.declared.deed.Deed.TheVariants as deed
-use Rattle.node_deeds.proofs.ApplyLaws.{due_in_range}
+use Rattle.node_effects.specs.Due.{batch_of}
+use Rattle.request_decision.specs.declared.durable_effect.DurableEffect.TheVariants as durable
+use Rattle.node_effects.proofs.ApplyLaws.{due_in_range}
 use Rattle.journal_node.proofs.DoingCalls.{append_range, append_some, appends_at, append_shut, can_append, append_does, does_failed, noted_after}
-use Rattle.journal_node.proofs.DoingDeed.{failed_after, done_after}
+use Rattle.journal_node.proofs.DoingEffect.{failed_after, done_after}
 use Rattle.journal_node.proofs.doing.append_batch.Goals as goal
 
 pub note_row-requires-clause-range : goal.note_row-requires-clause-range
-note_row-requires-clause-range g c = due_in_range c.args.request.now (deed.Append c.args.start c.args.at) c.requires.due.0 c.args.table.now c.requires.due.2
+note_row-requires-clause-range g c = due_in_range c.args.request.now (durable.Append c.args.start c.args.at) c.requires.due.0 c.args.table.now c.requires.due.2
 
 pub append_edits-requires-clause-start : goal.append_edits-requires-clause-start
 append_edits-requires-clause-start g c = append_range c.args.start c.args.at (batch_of c.args.request.now) c.requires.due.0 c.args.table.now c.requires.due.1 c.requires.due.2
@@ -25,7 +25,7 @@ append_edits-requires-clause-frame g c =
 
 pub returns-clause-does : goal.returns-clause-does
 returns-clause-does g c = λ t s can.
-    noted_after s c.args.request.now (deed.Append c.args.start c.args.at) (g.D.DiskModel.view c.args.disk.now) (g.D.DiskModel.view c.append_edits.new.disk) (g.D.DiskModel.left c.args.disk.now) (g.D.DiskModel.left c.append_edits.new.disk) c.append_edits.result c.note_row.result (search rules) c.note_row.ensures.cause
+    noted_after s c.args.request.now (durable.Append c.args.start c.args.at) (g.D.DiskModel.view c.args.disk.now) (g.D.DiskModel.view c.append_edits.new.disk) (g.D.DiskModel.left c.args.disk.now) (g.D.DiskModel.left c.append_edits.new.disk) c.append_edits.result c.note_row.result (search rules) c.note_row.ensures.cause
     (append_does s c.args.request.now c.append_edits.result (g.D.DiskModel.view c.args.disk.now) (g.D.DiskModel.view c.append_edits.new.disk) (g.D.DiskModel.left c.args.disk.now) (g.D.DiskModel.left c.append_edits.new.disk) c.args.start c.args.at c.args.batch.now c.args.table.now can.due c.requires.batch_is
     (c.append_edits.ensures.effect t s can.due.segment can.held.files (can_append (g.D.DiskModel.view c.args.disk.now) c.args.table.now s c.args.request.now c.args.start c.args.at can c.args.batch.now c.requires.batch_is)) (c.append_edits.ensures.others t)
     (c.append_edits.ensures.appends t can.due.segment can.due.start_is (appends_at (g.D.DiskModel.view c.args.disk.now) c.args.table.now s c.args.request.now c.args.start c.args.at can) (can_append (g.D.DiskModel.view c.args.disk.now) c.args.table.now s c.args.request.now c.args.start c.args.at can c.args.batch.now c.requires.batch_is).next) c.append_edits.ensures.counts
@@ -33,7 +33,7 @@ returns-clause-does g c = λ t s can.
 
 pub returns-clause-left : goal.returns-clause-left
 returns-clause-left g c = λ t s can.
-    done_after (g.D.DiskModel.view c.args.disk.now) c.args.table.now s c.args.request.now (deed.Append c.args.start c.args.at) can (g.D.DiskModel.view c.append_edits.new.disk) (g.met.D.Disk.sound _ (c.append_edits.ensures.call.tells.0 t)) (g.D.DiskModel.left c.args.disk.now) (g.D.DiskModel.left c.append_edits.new.disk) c.append_edits.result
+    done_after (g.D.DiskModel.view c.args.disk.now) c.args.table.now s c.args.request.now (durable.Append c.args.start c.args.at) can (g.D.DiskModel.view c.append_edits.new.disk) (g.met.D.Disk.sound _ (c.append_edits.ensures.call.tells.0 t)) (g.D.DiskModel.left c.args.disk.now) (g.D.DiskModel.left c.append_edits.new.disk) c.append_edits.result
     (append_does s c.args.request.now c.append_edits.result (g.D.DiskModel.view c.args.disk.now) (g.D.DiskModel.view c.append_edits.new.disk) (g.D.DiskModel.left c.args.disk.now) (g.D.DiskModel.left c.append_edits.new.disk) c.args.start c.args.at c.args.batch.now c.args.table.now can.due c.requires.batch_is
     (c.append_edits.ensures.effect t s can.due.segment can.held.files (can_append (g.D.DiskModel.view c.args.disk.now) c.args.table.now s c.args.request.now c.args.start c.args.at can c.args.batch.now c.requires.batch_is)) (c.append_edits.ensures.others t)
     (c.append_edits.ensures.appends t can.due.segment can.due.start_is (appends_at (g.D.DiskModel.view c.args.disk.now) c.args.table.now s c.args.request.now c.args.start c.args.at can) (can_append (g.D.DiskModel.view c.args.disk.now) c.args.table.now s c.args.request.now c.args.start c.args.at can c.args.batch.now c.requires.batch_is).next) c.append_edits.ensures.counts
@@ -42,7 +42,7 @@ returns-clause-left g c = λ t s can.
 
 pub returns-in_err-place-clause-does : goal.returns-in_err-place-clause-does
 returns-in_err-place-clause-does g c = λ t s can.
-    does_failed s c.args.request.now (deed.Append c.args.start c.args.at) (g.D.DiskModel.view c.args.disk.now) (g.D.DiskModel.view c.append_edits.new.disk) (g.D.DiskModel.left c.args.disk.now) (g.D.DiskModel.left c.append_edits.new.disk) c.append_edits.result c.from_residual.result c.from_residual.ensures.0
+    does_failed s c.args.request.now (durable.Append c.args.start c.args.at) (g.D.DiskModel.view c.args.disk.now) (g.D.DiskModel.view c.append_edits.new.disk) (g.D.DiskModel.left c.args.disk.now) (g.D.DiskModel.left c.append_edits.new.disk) c.append_edits.result c.from_residual.result c.from_residual.ensures.0
     (carried c.append_edits.result c.from_residual.result c.in_err-place.field-0.0 c.in_err-place.was c.from_residual.ensures.1)
     (append_does s c.args.request.now c.append_edits.result (g.D.DiskModel.view c.args.disk.now) (g.D.DiskModel.view c.append_edits.new.disk) (g.D.DiskModel.left c.args.disk.now) (g.D.DiskModel.left c.append_edits.new.disk) c.args.start c.args.at c.args.batch.now c.args.table.now can.due c.requires.batch_is
     (c.append_edits.ensures.effect t s can.due.segment can.held.files (can_append (g.D.DiskModel.view c.args.disk.now) c.args.table.now s c.args.request.now c.args.start c.args.at can c.args.batch.now c.requires.batch_is)) (c.append_edits.ensures.others t)
@@ -51,7 +51,7 @@ returns-in_err-place-clause-does g c = λ t s can.
 
 pub returns-in_err-place-clause-left : goal.returns-in_err-place-clause-left
 returns-in_err-place-clause-left g c = λ t s can.
-    failed_after (g.D.DiskModel.view c.args.disk.now) c.args.table.now s c.args.request.now (deed.Append c.args.start c.args.at) can (g.D.DiskModel.view c.append_edits.new.disk) (g.met.D.Disk.sound _ (c.append_edits.ensures.call.tells.0 t)) (g.D.DiskModel.left c.args.disk.now) (g.D.DiskModel.left c.append_edits.new.disk)
+    failed_after (g.D.DiskModel.view c.args.disk.now) c.args.table.now s c.args.request.now (durable.Append c.args.start c.args.at) can (g.D.DiskModel.view c.append_edits.new.disk) (g.met.D.Disk.sound _ (c.append_edits.ensures.call.tells.0 t)) (g.D.DiskModel.left c.args.disk.now) (g.D.DiskModel.left c.append_edits.new.disk)
     c.from_residual.result (returns-in_err-place-clause-does g c t s can) c.args.table.now tt (λ i. c.args.table.now)
 
 pub returns-clause-call : goal.returns-clause-call

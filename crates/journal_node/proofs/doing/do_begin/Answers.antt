@@ -1,16 +1,16 @@
 use Rattle.std.proofs.Common.{arith, refl, rules}
 use Rattle.segment_file.proofs.GateLemmas.{carried}
-use Rattle.node_deeds.specs.declared.deed.Deed.TheVariants as deed
-use Rattle.node_deeds.proofs.ApplyLaws.{due_in_range}
+use Rattle.request_decision.specs.declared.durable_effect.DurableEffect.TheVariants as durable
+use Rattle.node_effects.proofs.ApplyLaws.{due_in_range}
 use Rattle.journal_node.proofs.DoingCalls.{begin_does}
-use Rattle.journal_node.proofs.DoingDeed.{left_not_begun, done_before}
+use Rattle.journal_node.proofs.DoingEffect.{left_not_begun, done_before}
 use Rattle.journal_node.proofs.doing.do_begin.Goals as goal
 
 pub note_row-requires-clause-range : goal.note_row-requires-clause-range
-note_row-requires-clause-range g c = due_in_range c.args.request.now (deed.Begin c.args.start c.args.epoch) c.requires.due.0 c.args.table.now c.requires.due.2
+note_row-requires-clause-range g c = due_in_range c.args.request.now (durable.NewSegment c.args.start c.args.epoch) c.requires.due.0 c.args.table.now c.requires.due.2
 
 pub returns-in_err-note_row-clause-left : goal.returns-in_err-note_row-clause-left
-returns-in_err-note_row-clause-left g c = λ t s can. left_not_begun (g.D.DiskModel.view c.args.disk.now) c.args.table.now s c.args.request.now (deed.Begin c.args.start c.args.epoch) can c.note_row.new.table c.in_err-note_row.ensures.err
+returns-in_err-note_row-clause-left g c = λ t s can. left_not_begun (g.D.DiskModel.view c.args.disk.now) c.args.table.now s c.args.request.now (durable.NewSegment c.args.start c.args.epoch) can c.note_row.new.table c.in_err-note_row.ensures.err
 
 pub returns-clause-does : goal.returns-clause-does
 returns-clause-does g c = λ t s can.
@@ -20,7 +20,7 @@ returns-clause-does g c = λ t s can.
 
 pub returns-clause-left : goal.returns-clause-left
 returns-clause-left g c = λ t s can.
-    done_before (g.D.DiskModel.view c.args.disk.now) c.args.table.now s c.args.request.now (deed.Begin c.args.start c.args.epoch) can (g.D.DiskModel.view c.begin_segment.new.disk) (g.met.D.Disk.sound _ (c.begin_segment.ensures.call.tells.0 t)) (g.D.DiskModel.left c.args.disk.now) (g.D.DiskModel.left c.begin_segment.new.disk)
+    done_before (g.D.DiskModel.view c.args.disk.now) c.args.table.now s c.args.request.now (durable.NewSegment c.args.start c.args.epoch) can (g.D.DiskModel.view c.begin_segment.new.disk) (g.met.D.Disk.sound _ (c.begin_segment.ensures.call.tells.0 t)) (g.D.DiskModel.left c.args.disk.now) (g.D.DiskModel.left c.begin_segment.new.disk)
     c.begin_segment.result (returns-clause-does g c t s can) c.note_row.new.table tt c.in_ok-note_row.ensures.noted.done
 
 pub returns-in_err-note_row-clause-call : goal.returns-in_err-note_row-clause-call

@@ -1,8 +1,8 @@
 use Rattle.segment_file.proofs.GateLemmas.{carried}
 use Rattle.std.proofs.Common.{rules}
-use Rattle.node_deeds.specs.declared.deed.Deed.TheVariants as deed
+use Rattle.request_decision.specs.declared.durable_effect.DurableEffect.TheVariants as durable
 use Rattle.journal_node.proofs.DoingCalls.{remove_range, remove_end, remove_there, remove_record, remove_accepted, can_discard, remove_does, does_failed, noted_after}
-use Rattle.journal_node.proofs.DoingDeed.{failed_after, done_after}
+use Rattle.journal_node.proofs.DoingEffect.{failed_after, done_after}
 use Rattle.journal_node.proofs.doing.do_remove.Goals as goal
 
 pub remove_segment-requires-clause-start : goal.remove_segment-requires-clause-start
@@ -19,14 +19,14 @@ remove_segment-requires-clause-record_ g c = (λ t. let can = c.requires.can t i
 
 pub returns-clause-does : goal.returns-clause-does
 returns-clause-does g c = λ t s can.
-    noted_after s c.args.request.now (deed.Remove c.args.info) (g.D.DiskModel.view c.args.disk.now) (g.D.DiskModel.view c.remove_segment.new.disk) (g.D.DiskModel.left c.args.disk.now) (g.D.DiskModel.left c.remove_segment.new.disk) c.remove_segment.result c.note_row.result (search rules) c.note_row.ensures.cause
+    noted_after s c.args.request.now (durable.Remove c.args.info) (g.D.DiskModel.view c.args.disk.now) (g.D.DiskModel.view c.remove_segment.new.disk) (g.D.DiskModel.left c.args.disk.now) (g.D.DiskModel.left c.remove_segment.new.disk) c.remove_segment.result c.note_row.result (search rules) c.note_row.ensures.cause
     (remove_does s c.args.request.now c.remove_segment.result (g.D.DiskModel.view c.args.disk.now) (g.D.DiskModel.view c.remove_segment.new.disk) (g.D.DiskModel.left c.args.disk.now) (g.D.DiskModel.left c.remove_segment.new.disk) c.args.info can.due
     (c.remove_segment.ensures.effect t s can.due.segment can.held.files (can_discard (g.D.DiskModel.view c.args.disk.now) c.args.table.now s c.args.request.now c.args.info (g.met.D.Disk.sound _ t) can) (remove_accepted (g.D.DiskModel.view c.args.disk.now) c.args.table.now s c.args.request.now c.args.info (g.met.D.Disk.sound _ t) can)) (c.remove_segment.ensures.others t) c.remove_segment.ensures.counts
     (c.remove_segment.ensures.cut t s can.due.segment can.held.files (can_discard (g.D.DiskModel.view c.args.disk.now) c.args.table.now s c.args.request.now c.args.info (g.met.D.Disk.sound _ t) can) (remove_accepted (g.D.DiskModel.view c.args.disk.now) c.args.table.now s c.args.request.now c.args.info (g.met.D.Disk.sound _ t) can)))
 
 pub returns-clause-left : goal.returns-clause-left
 returns-clause-left g c = λ t s can.
-    done_after (g.D.DiskModel.view c.args.disk.now) c.args.table.now s c.args.request.now (deed.Remove c.args.info) can (g.D.DiskModel.view c.remove_segment.new.disk) (g.met.D.Disk.sound _ (c.remove_segment.ensures.call.tells.0 t)) (g.D.DiskModel.left c.args.disk.now) (g.D.DiskModel.left c.remove_segment.new.disk) c.remove_segment.result
+    done_after (g.D.DiskModel.view c.args.disk.now) c.args.table.now s c.args.request.now (durable.Remove c.args.info) can (g.D.DiskModel.view c.remove_segment.new.disk) (g.met.D.Disk.sound _ (c.remove_segment.ensures.call.tells.0 t)) (g.D.DiskModel.left c.args.disk.now) (g.D.DiskModel.left c.remove_segment.new.disk) c.remove_segment.result
     (remove_does s c.args.request.now c.remove_segment.result (g.D.DiskModel.view c.args.disk.now) (g.D.DiskModel.view c.remove_segment.new.disk) (g.D.DiskModel.left c.args.disk.now) (g.D.DiskModel.left c.remove_segment.new.disk) c.args.info can.due
     (c.remove_segment.ensures.effect t s can.due.segment can.held.files (can_discard (g.D.DiskModel.view c.args.disk.now) c.args.table.now s c.args.request.now c.args.info (g.met.D.Disk.sound _ t) can) (remove_accepted (g.D.DiskModel.view c.args.disk.now) c.args.table.now s c.args.request.now c.args.info (g.met.D.Disk.sound _ t) can)) (c.remove_segment.ensures.others t) c.remove_segment.ensures.counts
     (c.remove_segment.ensures.cut t s can.due.segment can.held.files (can_discard (g.D.DiskModel.view c.args.disk.now) c.args.table.now s c.args.request.now c.args.info (g.met.D.Disk.sound _ t) can) (remove_accepted (g.D.DiskModel.view c.args.disk.now) c.args.table.now s c.args.request.now c.args.info (g.met.D.Disk.sound _ t) can)))
@@ -34,7 +34,7 @@ returns-clause-left g c = λ t s can.
 
 pub returns-in_err-remove_segment-clause-does : goal.returns-in_err-remove_segment-clause-does
 returns-in_err-remove_segment-clause-does g c = λ t s can.
-    does_failed s c.args.request.now (deed.Remove c.args.info) (g.D.DiskModel.view c.args.disk.now) (g.D.DiskModel.view c.remove_segment.new.disk) (g.D.DiskModel.left c.args.disk.now) (g.D.DiskModel.left c.remove_segment.new.disk) c.remove_segment.result c.from_residual.result c.from_residual.ensures.0
+    does_failed s c.args.request.now (durable.Remove c.args.info) (g.D.DiskModel.view c.args.disk.now) (g.D.DiskModel.view c.remove_segment.new.disk) (g.D.DiskModel.left c.args.disk.now) (g.D.DiskModel.left c.remove_segment.new.disk) c.remove_segment.result c.from_residual.result c.from_residual.ensures.0
     (carried c.remove_segment.result c.from_residual.result c.in_err-remove_segment.field-0.0 c.in_err-remove_segment.was c.from_residual.ensures.1)
     (remove_does s c.args.request.now c.remove_segment.result (g.D.DiskModel.view c.args.disk.now) (g.D.DiskModel.view c.remove_segment.new.disk) (g.D.DiskModel.left c.args.disk.now) (g.D.DiskModel.left c.remove_segment.new.disk) c.args.info can.due
     (c.remove_segment.ensures.effect t s can.due.segment can.held.files (can_discard (g.D.DiskModel.view c.args.disk.now) c.args.table.now s c.args.request.now c.args.info (g.met.D.Disk.sound _ t) can) (remove_accepted (g.D.DiskModel.view c.args.disk.now) c.args.table.now s c.args.request.now c.args.info (g.met.D.Disk.sound _ t) can)) (c.remove_segment.ensures.others t) c.remove_segment.ensures.counts
@@ -42,7 +42,7 @@ returns-in_err-remove_segment-clause-does g c = λ t s can.
 
 pub returns-in_err-remove_segment-clause-left : goal.returns-in_err-remove_segment-clause-left
 returns-in_err-remove_segment-clause-left g c = λ t s can.
-    failed_after (g.D.DiskModel.view c.args.disk.now) c.args.table.now s c.args.request.now (deed.Remove c.args.info) can (g.D.DiskModel.view c.remove_segment.new.disk) (g.met.D.Disk.sound _ (c.remove_segment.ensures.call.tells.0 t)) (g.D.DiskModel.left c.args.disk.now) (g.D.DiskModel.left c.remove_segment.new.disk)
+    failed_after (g.D.DiskModel.view c.args.disk.now) c.args.table.now s c.args.request.now (durable.Remove c.args.info) can (g.D.DiskModel.view c.remove_segment.new.disk) (g.met.D.Disk.sound _ (c.remove_segment.ensures.call.tells.0 t)) (g.D.DiskModel.left c.args.disk.now) (g.D.DiskModel.left c.remove_segment.new.disk)
     c.from_residual.result (returns-in_err-remove_segment-clause-does g c t s can) c.args.table.now tt (λ i. c.args.table.now)
 
 pub returns-clause-call : goal.returns-clause-call

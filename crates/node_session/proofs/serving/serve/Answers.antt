@@ -39,28 +39,28 @@ returns-in-Some-clause-session g c =
     let all = trail_stops g.N.SessionNode.asked
     (λ last. IsSessionOf so.0 last c.in-Some.served (g.S.Source.left c.args.source.now) (g.S.Source.left c.next_line.new.source)
     (g.N.SessionNode.state c.args.node.now) (g.N.SessionNode.state c.serve_line.new.node) (g.K.Sink.taken c.args.sink.now) (g.K.Sink.taken c.serve_line.new.sink))
-    so.0 c.next_line.new.line.items c.args.node.now c.loop-node.node c.serve_line.new.node so.1 (rw c.deref.ensures.value at c.in-Some.ensures.asked)
+    so.0 c.next_line.new.self.line c.args.node.now c.loop-node.node c.serve_line.new.node so.1 (rw c.line.ensures.bytes at c.in-Some.ensures.asked)
     (λ last this. stopped_ended so.0 last c.in-Some.served (g.S.Source.left c.args.source.now) (g.N.SessionNode.state c.args.node.now) (g.S.Source.left c.loop-node.source)
     (g.S.Source.left c.next_line.new.source) (g.N.SessionNode.state c.loop-node.node) (g.N.SessionNode.state c.serve_line.new.node)
     (g.K.Sink.taken c.args.sink.now) (g.K.Sink.taken c.loop-node.sink) (g.K.Sink.taken c.serve_line.new.sink)
-    c.loop-node.reader c.next_line.new.self c.loop-node.number c.next_line.new.line.items so.2 c.in-Line.ensures.next
-    (omega (arith, c.in-Line.ensures.within)) (rw c.deref.ensures.value at c.in-Some.ensures.served) this) in
+    c.loop-node.reader c.next_line.new.self c.loop-node.number c.next_line.new.self.line so.2 c.in-Line.ensures.next
+    (omega (arith, c.in-Line.ensures.within)) (rw c.line.ensures.bytes at c.in-Some.ensures.served) this) in
     (so.0, all.0, all.1, all.2)
 
 pub loop-node-preserved : goal.loop-node-preserved
 loop-node-preserved g c = record {
   so_far = (
-    c.loop-node.invariant.so_far.0 ++ c.next_line.new.line.items ∷ [],
-    asked_more g.N.SessionNode.asked c.loop-node.invariant.so_far.0 c.next_line.new.line.items c.args.node.now c.loop-node.node c.serve_line.new.node c.loop-node.invariant.so_far.1
-        (rw c.deref.ensures.value at c.in_default-serve_line.ensures.asked),
+    c.loop-node.invariant.so_far.0 ++ c.next_line.new.self.line ∷ [],
+    asked_more g.N.SessionNode.asked c.loop-node.invariant.so_far.0 c.next_line.new.self.line c.args.node.now c.loop-node.node c.serve_line.new.node c.loop-node.invariant.so_far.1
+        (rw c.line.ensures.bytes at c.in_default-serve_line.ensures.asked),
     one_more c.loop-node.invariant.so_far.0 (g.S.Source.left c.args.source.now) (g.N.SessionNode.state c.args.node.now) (g.S.Source.left c.loop-node.source)
         (g.S.Source.left c.next_line.new.source) (g.N.SessionNode.state c.loop-node.node) (g.N.SessionNode.state c.serve_line.new.node)
         (g.K.Sink.taken c.args.sink.now) (g.K.Sink.taken c.loop-node.sink) (g.K.Sink.taken c.serve_line.new.sink)
-        c.loop-node.reader c.next_line.new.self c.loop-node.number c.next_line.new.line.items c.loop-node.invariant.so_far.2 c.in-Line.ensures.next
-        (rw c.deref.ensures.value at c.in_default-serve_line.ensures.served),
+        c.loop-node.reader c.next_line.new.self c.loop-node.number c.next_line.new.self.line c.loop-node.invariant.so_far.2 c.in-Line.ensures.next
+        (rw c.line.ensures.bytes at c.in_default-serve_line.ensures.served),
   );
   within = omega (arith, c.in-Line.ensures.within);
-  number = omega (arith, c.in-Line.ensures.next.taken, length-append c.next_line.new.line.items (10 ∷ []));
+  number = omega (arith, c.in-Line.ensures.next.taken, length-append c.next_line.new.self.line (10 ∷ []));
   read = c.in-Line.ensures.no_fault (λ e. absurd (cc)) ∙ c.loop-node.invariant.read;
   wrote = c.in_default-serve_line.ensures.no_write_fault (λ e. absurd (cc)) ∙ c.loop-node.invariant.wrote;
   told = c.in_default-serve_line.ensures.told ∙ c.loop-node.invariant.told;
@@ -71,32 +71,32 @@ loop-node-preserved g c = record {
 pub returns-in-Last-clause-session : goal.returns-in-Last-clause-session
 returns-in-Last-clause-session g c =
     let so = c.loop-node.invariant.so_far in
-    let line = c.next_line.new.line.items in
+    let line = c.next_line.new.self.line in
     let S : List (List ℕ) → Option (List ℕ) → Served → Type 0 = λ lines last x. IsSessionOf lines last x (g.S.Source.left c.args.source.now) (g.S.Source.left c.next_line.new.source)
     (g.N.SessionNode.state c.args.node.now) (g.N.SessionNode.state c.serve_line-in-Last.new.node) (g.K.Sink.taken c.args.sink.now) (g.K.Sink.taken c.serve_line-in-Last.new.sink) in
     let P : Served → Type 0 = λ x. (lines : List (List ℕ)) × (last : Option (List ℕ)) × IsTrail g.N.SessionNode.asked lines last c.args.node.now c.serve_line-in-Last.new.node × S lines last x in
     elim c.match-serve_line-2.branch [
       | in-Some-serve_line w ↦
           let all = trail_stops g.N.SessionNode.asked (λ last. S so.0 last w.in-Some-serve_line.served) so.0 line c.args.node.now c.loop-node.node c.serve_line-in-Last.new.node so.1
-          (rw c.deref-in-Last.ensures.value at w.in-Some-serve_line.ensures.asked)
+          (rw c.line-in-Last.ensures.bytes at w.in-Some-serve_line.ensures.asked)
           (λ last this. stopped_last so.0 last w.in-Some-serve_line.served (g.S.Source.left c.args.source.now) (g.N.SessionNode.state c.args.node.now) (g.S.Source.left c.loop-node.source)
           (g.S.Source.left c.next_line.new.source) (g.N.SessionNode.state c.loop-node.node) (g.N.SessionNode.state c.serve_line-in-Last.new.node)
           (g.K.Sink.taken c.args.sink.now) (g.K.Sink.taken c.loop-node.sink) (g.K.Sink.taken c.serve_line-in-Last.new.sink)
           c.loop-node.reader c.next_line.new.self c.loop-node.number line so.2
           c.in-Last.ensures.next.0 c.in-Last.ensures.next.1 c.in-Last.ensures.next.2
-          (omega (arith, c.in-Last.ensures.within)) (rw c.deref-in-Last.ensures.value at w.in-Some-serve_line.ensures.served) this) in
+          (omega (arith, c.in-Last.ensures.within)) (rw c.line-in-Last.ensures.bytes at w.in-Some-serve_line.ensures.served) this) in
           subst P (sym w.result-is) (so.0, all.0, all.1, all.2)
       | in-None w ↦ subst P (sym w.result-is) (
         so.0 ++ line ∷ [],
         None,
         trail_ends g.N.SessionNode.asked (so.0 ++ line ∷ []) c.args.node.now c.serve_line-in-Last.new.node
-            (asked_more g.N.SessionNode.asked so.0 line c.args.node.now c.loop-node.node c.serve_line-in-Last.new.node so.1 (rw c.deref-in-Last.ensures.value at w.in-None.ensures.asked)),
+            (asked_more g.N.SessionNode.asked so.0 line c.args.node.now c.loop-node.node c.serve_line-in-Last.new.node so.1 (rw c.line-in-Last.ensures.bytes at w.in-None.ensures.asked)),
         last_answered so.0 (g.S.Source.left c.args.source.now) (g.N.SessionNode.state c.args.node.now) (g.S.Source.left c.loop-node.source)
             (g.S.Source.left c.next_line.new.source) (g.N.SessionNode.state c.loop-node.node) (g.N.SessionNode.state c.serve_line-in-Last.new.node)
             (g.K.Sink.taken c.args.sink.now) (g.K.Sink.taken c.loop-node.sink) (g.K.Sink.taken c.serve_line-in-Last.new.sink)
             c.loop-node.reader c.next_line.new.self c.loop-node.number line so.2
             c.in-Last.ensures.next.0 c.in-Last.ensures.next.2
-            (omega (arith, c.in-Last.ensures.within)) (rw c.deref-in-Last.ensures.value at w.in-None.ensures.served),
+            (omega (arith, c.in-Last.ensures.within)) (rw c.line-in-Last.ensures.bytes at w.in-None.ensures.served),
       )
     ]
 

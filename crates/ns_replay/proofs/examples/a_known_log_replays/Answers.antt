@@ -1,5 +1,5 @@
 use Rattle.std.proofs.Common.{refl}
-use Rattle.edit_ops.specs.Reading.{field_at}
+use Rattle.edit_fields.specs.Reading.{field_at}
 use Rattle.ns_replay.specs.Decoded.{op_from, edit_from, opcode_of, decoded}
 use Rattle.ns_replay.specs.Admit.{admit_op, admit_of}
 use Rattle.ns_replay.specs.Apply.{apply_op, apply_of}

@@ -4,7 +4,7 @@ use Rattle.qj_cli.specs.Listing.{rows_told_by}
 use Rattle.qj_cli.proofs.listing.image_told.Goals as goal
 
 pub returns-in-Delimited : goal.returns-in-Delimited
-returns-in-Delimited c = subst (λ t. IsListed (rows_told_by t) c.args.bytes.now c.delimited.result) (sym c.in-Delimited.is) c.delimited.ensures.right
+returns-in-Delimited c = subst (λ t. IsListed (rows_told_by t) c.args.bytes.now c.list_delimited.result) (sym c.in-Delimited.is) c.list_delimited.ensures.right
 
 pub returns-in-Sizes : goal.returns-in-Sizes
 returns-in-Sizes c = subst (λ t. IsListed (rows_told_by t) c.args.bytes.now c.sizes.result) (sym c.in-Sizes.is) c.sizes.ensures.right

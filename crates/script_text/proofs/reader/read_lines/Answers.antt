@@ -12,7 +12,7 @@ use Rattle.script_text.proofs.reader.read_lines.Goals as goal
 pub loop-rest-init : goal.loop-rest-init
 loop-rest-init c =
     let P : ReadingView → Type 0 = λ r. IsBehind c.args.bytes.now 0 r c.args.bytes.now in
-    subst P (sym c.nothing-reading.ensures) (after_start c.args.bytes.now)
+    subst P (sym c.empty-reading.ensures) (after_start c.args.bytes.now)
 
 pub returns-in_default-clause-fault : goal.returns-in_default-clause-fault
 returns-in_default-clause-fault c =

@@ -43,5 +43,5 @@ pub returns-in-Ok-None-clause-told : goal.returns-in-Ok-None-clause-told
 returns-in-Ok-None-clause-told g c = λ t all.
     let t1 = c.first_bad_record.ensures.call.tells.0 t in
     let good : (name : List ℕ) → IsBadRecordFile (g.D.DiskModel.view c.args.disk.now).seen name → ⊥ = rw c.in-Ok-None.field-0-is at (c.in-Ok-None.ensures.bad t) in
-    completed_told (g.D.DiskModel.view c.args.disk.now).seen (g.D.DiskModel.view c.repair.new.disk).seen c.completed.result c.repair.result c.completed.ensures.result c.completed.ensures.done
+    completed_told (g.D.DiskModel.view c.args.disk.now).seen (g.D.DiskModel.view c.repair.new.disk).seen c.completion_of.result c.repair.result c.completion_of.ensures.result c.completion_of.ensures.done
     (subst (λ (files : Files). OnOk c.repair.result (Completes files (g.D.DiskModel.view c.repair.new.disk).seen)) (c.first_bad_record.ensures.disk t).keeps.seen (c.repair.ensures.completes t1)) good

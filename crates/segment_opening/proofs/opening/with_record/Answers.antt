@@ -12,7 +12,7 @@ pub returns-in-Found-clause-told : goal.returns-in-Found-clause-told
 returns-in-Found-clause-told g c = λ t.
     let start = c.args.row.info.start in
     let seen = (g.D.DiskModel.view c.args.disk.now).seen in
-    subst (λ (new : SegmentRow). IsMarked (seen (name_of start Record)) c.args.row new) (sym c.marked.ensures)
+    subst (λ (new : SegmentRow). IsMarked (seen (name_of start Record)) c.args.row new) (sym c.mark_row.ensures)
     (marked_found (seen (name_of start Record)) c.args.row c.if-row.false (name_of start Record) c.in-Found.epoch c.in-Found.end
     (subst (λ (name : List ℕ). FoundIn name (seen name) (got.Found c.in-Found.epoch c.in-Found.end)) (sym (record_name start)) (c.in-Found.ensures.record_ t)))
 

@@ -3,4 +3,4 @@ use Rattle.node_session.proofs.line_reader.LineReader.next_line.Goals as goal
 
 pub returns-in-Some-clause-next : goal.returns-in-Some-clause-next
 returns-in-Some-clause-next g c =
-    next_of_cut c.take_line.result c.take_line.new.line.items c.args.self.now c.take_line.new.self (g.S.Source.left c.args.source.now) c.take_line.ensures.cut
+    next_of_cut c.take_line.result c.take_line.new.self.line c.args.self.now c.take_line.new.self (g.S.Source.left c.args.source.now) c.take_line.ensures.cut

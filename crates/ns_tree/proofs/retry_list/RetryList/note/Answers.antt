@@ -1,5 +1,4 @@
-use Rattle.std.proofs.Common.{◌≡◌, ◌<◌, ◌-◌, ◌^◌, ◌∙◌, sym, subst, arith, drop, length}
-use Rattle.std.proofs.Common.{refl}
+use Rattle.std.proofs.Common.{◌≡◌, ◌<◌, ◌-◌, ◌^◌, ◌∙◌, sym, subst, arith, drop, length, refl}
 use Rattle.std.proofs.lemmas.List.{length-set}
 use Rattle.ns_tree.specs.Space.{AreRising, noted}
 use Rattle.ns_tree.specs.Marks.{AreMarked, mark_of}

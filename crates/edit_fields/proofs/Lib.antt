@@ -1,0 +1,10 @@
+pub mod SourceLaws
+pub mod Goods
+pub mod ReadFields
+pub mod ReadItems
+pub mod FieldLaws
+pub mod WalkLaws
+pub mod SayNumbers
+pub mod SayItems
+pub mod SayWords
+pub mod SayLaws

@@ -1,0 +1,8 @@
+pub mod Fields
+pub mod Shown
+pub mod Forms
+pub mod Sources
+pub mod Reading
+pub mod Saying
+pub mod Rules
+pub mod Spaced
