@@ -5,7 +5,7 @@ use Rattle.std.specs.List.{list_any}
 use Rattle.std.proofs.lemmas.Bool.Decides.{nat_tests}
 use Rattle.std.proofs.lemmas.List.Folds.{list_any-append}
 use Rattle.journal_core.specs.Limits.{max_body, max_batch, max_segment}
-use Rattle.edit_ops.specs.declared.edit.Call.{Call}
+use Rattle.edit_values.specs.declared.call.Call.{Call}
 use Rattle.edit_ops.specs.Records.{EditView}
 use Rattle.ns_tree.specs.Space.{Space, AreRising}
 use Rattle.ns_tree.proofs.Noting.{rising_later, rising_noted}

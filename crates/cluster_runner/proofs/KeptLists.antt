@@ -2,7 +2,7 @@
 use Rattle.std.proofs.Common.{◌≡◌, ℕ, zero, suc, ◌+◌, ◌<◌, List, [], ◌∷◌, ◌++◌, refl, ap, ◌∙◌, arith, set, get_or}
 use Rattle.node_history.specs.Moving.{Placed}
 use Rattle.mesh.proofs.Tied.{history_at, history_off}
-use Rattle.cluster_runner.specs.Plays.{history_of, histories_from}
+use Rattle.script_plays.specs.Plays.{history_of, histories_from}
 
 pub set_set : {A : Type 0} (l : List A) (i : ℕ) (x y : A) → set (set l i x) i y ≡ set l i y
 set_set [] i x y = refl

@@ -10,7 +10,7 @@ use Rattle.node_history.specs.Moving.{Placed}
 use Rattle.mesh.specs.Marks.{next_number}
 use Rattle.script_actor.specs.Lines.{Line, Operates}
 use Rattle.script_actor.specs.Actor.{Actor, WantsCall, WantsCopy, Says, Rests, wants, goes_on, fresh_actor}
-use Rattle.cluster_runner.specs.Plays.{Play, play_step, take_turn, meet_want, call_made, copy_made, Delivery, Delivered, ReplyLost, NotDelivered, delivery, told_of, note_record, node_asked, is_done, actor_at, next_line, line_taken}
+use Rattle.script_plays.specs.Plays.{Play, play_step, take_turn, meet_want, call_made, copy_made, Delivery, Delivered, ReplyLost, NotDelivered, delivery, told_of, note_record, node_asked, is_done, actor_at, next_line, line_taken}
 
 -- what was listed of this node
 abbrev pub placed : ℕ → ℕ → Bool → NodeAsk → Cell → Placed

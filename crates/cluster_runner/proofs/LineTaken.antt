@@ -10,7 +10,7 @@ use Rattle.node_history.specs.NodeCells.{CellView}
 use Rattle.mesh.specs.Marks.{IsMarked}
 use Rattle.script_actor.specs.Lines.{Line, Action, Acts, Operates}
 use Rattle.script_actor.specs.Actor.{IsLed, actor_after, hand_action}
-use Rattle.cluster_runner.specs.Plays.{Play, is_done}
+use Rattle.script_plays.specs.Plays.{Play, is_done}
 use Rattle.script_actor.specs.KeptActor.{KeptActor, new_actor, resting}
 use Rattle.cluster_runner.specs.Kept.{Kept, actor_of, node_at, list_ask, answer_to, operates, with_actor_at, Stands, IsAtRest, LeadsTo}
 use Rattle.cluster_runner.specs.PlaySeats.{LineGoes, LinesGo}

@@ -3,13 +3,13 @@ use Rattle.std.proofs.Common.{◌≡◌, ℕ, suc, ◌+◌, ◌<◌, List, [], �
 use Rattle.node_history.specs.Cell.{Cell, fresh_cell, cell_after}
 use Rattle.node_history.specs.NodeCells.{CellView}
 use Rattle.node_history.specs.Moving.{Placed}
-use Rattle.script_text.specs.declared.script_line.ScriptLine.{ScriptLine}
+use Rattle.script_lines.specs.declared.script_line.ScriptLine.{ScriptLine}
 use Rattle.script_actor.specs.Lines.{Line, ArePlayable, HasNodes}
-use Rattle.cluster_runner.specs.Plays.{Play, play_begins, history_of, histories_from}
-use Rattle.cluster_runner.specs.Kept.{Kept, mesh_kept, states_kept, states_after}
+use Rattle.script_plays.specs.Plays.{Play, play_begins, history_of, histories_from, states_after}
+use Rattle.cluster_runner.specs.Kept.{Kept, mesh_kept, states_kept}
 use Rattle.cluster_runner.specs.Goal.{IsUnderWay}
-use Rattle.cluster_runner.proofs.Playing.{Holds}
-use Rattle.cluster_runner.proofs.Taking.{steps_hold, begins_hold}
+use Rattle.script_plays.proofs.Playing.{Holds}
+use Rattle.script_plays.proofs.Taking.{steps_hold, begins_hold}
 
 -- ## Cells and histories
 states_each : (cells : List Cell) (node : ℕ) (t : List Placed) → ((i : ℕ) → i < length cells → cell_after fresh_cell (history_of (i + node) t) ≡ get_or cells i fresh_cell)

@@ -8,22 +8,24 @@ use Rattle.std.proofs.lemmas.Bool.Decides.{eqb_tells}
 use Rattle.edit_ops.specs.Records.{EditView}
 use Rattle.writer_core.specs.declared.task.Task.TheVariants as task
 use Rattle.writer_core.proofs.LiveLaws.{new_live}
-use Rattle.script_text.specs.declared.script_line.ScriptLine.{ScriptLine}
-use Rattle.script_text.specs.declared.script_line.ScriptLine.TheVariants as line
+use Rattle.script_lines.specs.declared.script_line.ScriptLine.{ScriptLine}
+use Rattle.script_lines.specs.declared.script_line.ScriptLine.TheVariants as line
 use Rattle.node_history.specs.NodeCells.{new_cell}
-use Rattle.script_text.specs.Views.{ScriptView}
+use Rattle.script_lines.specs.Scripts.{ScriptView}
 use Rattle.script_actor.specs.Lines.{Line, Declares, Acts, Operates, line_of, lines_of, count_actors, AreEdits, IsTask, WithNames, ArePlayable, AreInRange, IsPlayable, NumbersFit}
 use Rattle.script_actor.specs.Actor.{holding_if}
 use Rattle.script_actor.specs.KeptActor.{KeptActor, new_actor}
 use Rattle.script_actor.specs.Actions.{IsIdleHolding}
-use Rattle.cluster_runner.specs.Plays.{Play, play_begins}
-use Rattle.cluster_runner.specs.Kept.{Kept, actor_of, with_actor, new_kept, mesh_kept, ends_kept, IsAtRest, IsPlayed, Leads}
+use Rattle.script_plays.specs.Plays.{Play, play_begins, IsPlayed}
+use Rattle.cluster_runner.specs.Kept.{Kept, actor_of, with_actor, new_kept, mesh_kept, ends_kept, IsAtRest, Leads}
 use Rattle.cluster_runner.specs.Ready.{IsIdleIn, IsIdle, TakesLine}
 use Rattle.cluster_runner.specs.Goal.{MayTake, actors_after, IsUnderWay}
 use Rattle.run_safety.proofs.WriterRange.{new_sized}
 use Rattle.cluster_runner.proofs.KeptLines.{declare_leads, begins_at_rest, is_played}
 use Rattle.cluster_runner.proofs.KeptTurns.{leads_same, leads_on}
 use Rattle.cluster_runner.proofs.LineTaken.{takes_operation}
+use Rattle.script_plays.proofs.PlayableActions.{names_may}
+use Rattle.script_plays.proofs.LinesLeft.{drop_more, none_left}
 
 -- ## A declaration
 new_holds : (named : Bool) → IsIdleHolding (holding_if named) × (is_some (holding_if named) ≡ named)
@@ -79,10 +81,6 @@ purge_may false min h = refl
 edits_may : (named : Bool) (edits : List EditView) → WithNames named ((edits ≢ []) × AreEdits edits) → (named ≡ true) × (edits ≢ [])
 edits_may true edits h = (refl, h.0)
 edits_may false edits h = absurd h
-
-pub names_may : (named : Bool) → WithNames named (Unit {0}) → named ≡ true
-names_may true h = refl
-names_may false h = absurd h
 
 pub line_may : (named : Bool) (nodes actors : ℕ) (l : ScriptLine) (ls : List ScriptLine) → ArePlayable named nodes actors (map line_of (l ∷ ls)) → AreInRange nodes (l ∷ ls) → MayTake named nodes actors l
 unfolding ArePlayable AreInRange
@@ -167,36 +165,6 @@ under_way_first s named n operator ls k playable fits kind same are o e =
 
 pub under_way_last : (named : Bool) (nodes : ℕ) (lines : List Line) (k : Kept) → IsUnderWay named nodes lines [] k → IsPlayed named nodes lines (mesh_kept k) (ends_kept k)
 under_way_last named nodes lines k u = is_played named nodes lines k u.play u.leads u.at_rest
-
-pub drop_more : (ls : List ScriptLine) (i : ℕ) (d : ScriptLine) → i < length ls → drop i ls ≡ get_or ls i d ∷ drop (i + 1) ls
-drop_more [] i d l = absurd (omega (arith, l))
-drop_more (x ∷ xs) zero d l = refl
-drop_more (x ∷ xs) (suc i) d l = let e : suc i + 1 ≡ suc (i + 1) = omega arith in rw e (drop_more xs i d (omega (arith, l)))
-
-none_left : (ls : List ScriptLine) → drop (length ls) ls ≡ []
-none_left [] = refl
-none_left (x ∷ xs) = none_left xs
-
--- ## How many actors are declared
-declared_more : (l : Line) (ls : List Line) → count_actors (l ∷ ls) ≡ count_actors (l ∷ []) + count_actors ls
-unfolding count_actors
-declared_more (Declares name) ls = omega arith
-declared_more (Acts actor action) ls = omega arith
-declared_more (Operates node ask) ls = omega arith
-
-pub count_more : (ls : List ScriptLine) (i n m total : ℕ) (x : ScriptLine) → i < length ls → x ≡ get_or ls i x → m ≡ count_actors (line_of x ∷ []) → n + count_actors (map line_of (drop i ls)) ≡ total
-    → (n + m) + count_actors (map line_of (drop (i + 1) ls)) ≡ total
-count_more ls i n m total x l is e h =
-    let all : count_actors (map line_of (drop i ls)) ≡ count_actors (line_of x ∷ []) + count_actors (map line_of (drop (i + 1) ls)) =
-    ap (λ ys. count_actors (map line_of ys)) (drop_more ls i x l) ∙ declared_more (line_of (get_or ls i x)) (map line_of (drop (i + 1) ls))
-    ∙ ap (λ y. count_actors (line_of y ∷ []) + count_actors (map line_of (drop (i + 1) ls))) (sym is) in
-    omega (arith, all, e, h)
-
-pub count_all : (ls : List ScriptLine) (i n total : ℕ) → i ≡ length ls → n + count_actors (map line_of (drop i ls)) ≡ total → n ≡ total
-unfolding count_actors
-count_all ls i n total e h =
-    let none : count_actors (map line_of (drop i ls)) ≡ 0 = ap (λ k. count_actors (map line_of (drop k ls))) e ∙ ap (λ xs. count_actors (map line_of xs)) (none_left ls) in
-    omega (arith, none, h)
 
 pub under_way_on : (named : Bool) (nodes : ℕ) (lines : List Line) (ls : List ScriptLine) (i : ℕ) (d : ScriptLine) (old new : Kept) → i < length ls → IsUnderWay named nodes lines (drop i ls) old
     → TakesLine (line_of (get_or ls i d)) (actors_after (length old.actors) (get_or ls i d)) old new → IsUnderWay named nodes lines (drop (i + 1) ls) new

@@ -17,7 +17,7 @@ use Rattle.caller_seats.specs.declared.delivery.Delivery.{Delivery}
 use Rattle.caller_seats.specs.Deliveries.{delivery}
 use Rattle.caller_seats.specs.Logs.{LogView, with_line, copy_call, IsCalled}
 use Rattle.caller_seats.proofs.MarkLaws.{delivery_marked, marked_after}
-use Rattle.script_text.specs.declared.script_line.ScriptLine.{ScriptLine}
+use Rattle.script_lines.specs.declared.script_line.ScriptLine.{ScriptLine}
 use Rattle.cluster_runner.specs.declared.player.Player.{Player}
 use Rattle.script_actor.specs.Lines.{Line, Action, Acts}
 use Rattle.script_actor.specs.Actor.{Actor, IsLed, hand_action, goes_on, actor_after}
@@ -29,7 +29,7 @@ use Rattle.cluster_runner.specs.Ready.{IsIdleIn, IsIdle, TakesLine}
 use Rattle.cluster_runner.specs.SeatLaws.{later_one}
 use Rattle.cluster_runner.specs.Shown.{keeps, kept, AreSeated}
 use Rattle.cluster_runner.proofs.LineTaken.{takes_action}
-use Rattle.cluster_runner.proofs.Sound.{goes_past, handed_past}
+use Rattle.script_plays.proofs.Sound.{handed_past, led_past}
 
 abbrev pub view : ℕ → List CellView → LogView → SeatsView
 view caller cells log = record { caller = caller; cells = cells; log = log }
@@ -119,11 +119,6 @@ may_there named cells players o os k c p log line e seated is l own idle may =
     let n : log.nodes ≡ length cells = log_seated named cells players o os k c p log e seated is l own in
     subst (λ m. MayCome (has_names p.actor) m line) (sym n)
     (subst (λ b. MayCome b (length cells) line) (sym (player_idle named cells players o os k c p e is l idle).holds_if) (subst (λ (x : Kept). MayCome x.named (length x.nodes) line) (sym e) may))
-
-pub led_past : (x : Actor) (rs : List Record) → (actor_after x rs).past ≡ x.past ++ rs
-unfolding actor_after
-led_past x [] = sym (append-nil x.past)
-led_past x (r ∷ rs) = led_past (goes_on x r) rs ∙ ap (λ l. l ++ rs) (goes_past x r) ∙ append_assoc x.past (r ∷ []) rs
 
 pub act_takes : (named : Bool) (cells : List CellView) (players : List Player) (o : ℕ) (os : List Record) (k : Kept) (c : ℕ) (p q : Player) (log last : LogView) (caller : ℕ) (more : List CellView) (d : Action) (line : Line) (new : SeatsView)
     → kept named cells players o os ≡ k → AreSeated (length cells) players → p ≡ get_or players c p → c < length k.actors → log ≡ p.log → IsIdle k → line ≡ Acts c d

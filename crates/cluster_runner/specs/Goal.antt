@@ -1,10 +1,10 @@
 -- A script's lines, taken one after the other.
 use Rattle.std.specs.Prelude.{◌≡◌, ℕ, ◌+◌, ◌<◌, Bool, List, length, map}
-use Rattle.script_text.specs.declared.script_line.ScriptLine.{ScriptLine}
-use Rattle.script_text.specs.declared.script_line.ScriptLine.TheVariants as line
+use Rattle.script_lines.specs.declared.script_line.ScriptLine.{ScriptLine}
+use Rattle.script_lines.specs.declared.script_line.ScriptLine.TheVariants as line
 use Rattle.script_actor.specs.Lines.{Line, Declares, Acts, Operates, line_of, ArePlayable, AreInRange}
 use Rattle.script_actor.specs.Actions.{MayCome}
-use Rattle.cluster_runner.specs.Plays.{Play, play_begins}
+use Rattle.script_plays.specs.Plays.{Play, play_begins}
 use Rattle.cluster_runner.specs.Kept.{Kept, IsAtRest, Leads}
 use Rattle.cluster_runner.specs.Ready.{IsIdle}
 

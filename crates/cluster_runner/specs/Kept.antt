@@ -9,14 +9,14 @@ use Rattle.node_history.specs.declared.record.Record.{Record}
 use Rattle.node_history.specs.declared.record.Record.TheVariants.{Operator}
 use Rattle.node_history.specs.declared.record.Told.{Told}
 use Rattle.node_history.specs.declared.history_line.HistoryLine.{HistoryLine}
-use Rattle.node_history.specs.Cell.{fresh_cell, cell_takes, cell_after}
+use Rattle.node_history.specs.Cell.{cell_takes}
 use Rattle.node_history.specs.NodeCells.{CellView, new_cell}
 use Rattle.mesh.specs.declared.whole.Mesh.{Mesh}
 use Rattle.ns_tree.specs.declared.end.End.{End}
 use Rattle.script_actor.specs.Lines.{Line}
 use Rattle.script_actor.specs.Actor.{last_of}
 use Rattle.script_actor.specs.KeptActor.{KeptActor, new_actor, resting}
-use Rattle.cluster_runner.specs.Plays.{Play, play_steps, histories_from, IsPlay, mesh_of, ends_of, Delivery, Delivered, ReplyLost, NotDelivered, told_of, is_done}
+use Rattle.script_plays.specs.Plays.{Play, play_steps, histories_from, Delivery, Delivered, ReplyLost, NotDelivered, told_of, is_done}
 
 -- with names or without, the nodes with what each has listed, the actors, and the operator's number and record
 pub record Kept : Type 0 where
@@ -117,14 +117,3 @@ ends_kept k = map end_of k.actors
 -- ## The nodes at the end
 abbrev pub states_kept : Kept → List (Option NodeState)
 states_kept k = map (λ v. Some v.cell.state) k.nodes
-
--- the states that nodes tell after these histories
-abbrev pub states_after : List (List HistoryLine) → List (Option NodeState)
-states_after histories = map (λ h. Some (cell_after fresh_cell h).state) histories
-
--- This is what some play of a script with these lines, with names or without, is known by at its end.
-pub record IsPlayed (named : Bool) (nodes : ℕ) (lines : List Line) (m : Mesh) (ends : List End) : Type 0 where
-  pub play : Play
-  pub plays : IsPlay named nodes lines play
-  pub mesh : m ≡ mesh_of play
-  pub ends_are : ends ≡ ends_of play

@@ -10,7 +10,6 @@ ghost use Rattle.cluster_runner.specs.Ready.{IsIdle, TakesLine};
 ghost use Rattle.cluster_runner.specs.Shown.{keeps};
 
 use crate::play_seats::PlaySeats;
-use crate::played::Played;
 use crate::player::Player;
 use caller_seats::{CallerLog, is_done};
 use journal_core::{Bytes, CutNode, Name, OutOfMemory};
@@ -18,7 +17,8 @@ use mesh::{HistoryTable, Mesh, RecordTable};
 use node_history::{NodeAsk, NodeCell, Plan, Record, RecordList, cells_of};
 use ns_tree::{End, EndList};
 use script_actor::ScriptActor;
-use script_text::ScriptLine;
+use script_lines::ScriptLine;
+use script_plays::Played;
 use std::alloc::{AllocError, Global};
 use std::marker::Model;
 use std::mem;

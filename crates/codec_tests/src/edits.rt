@@ -1,7 +1,8 @@
 //! Each kind of edit once, as text and as bytes; each fault; texts from outside.
 use crate::rows::is_so;
-use edit_fields::{NameList, NumberList};
-use edit_ops::{Decoded, Edit, OpKind, ReadText, decode, edit_text, encode, read_text};
+use edit_ops::{Decoded, Edit, OpKind, decode, encode};
+use edit_texts::{ReadText, edit_text, read_text};
+use edit_values::{NameList, NumberList};
 use qj_num::{Bytes, Name, OutOfMemory};
 use std::alloc::Global;
 use std::test::Fail;

@@ -3,7 +3,8 @@ use crate::rows::is_so;
 use crate::scripts::is_broken;
 use edit_ops::{Edit, OpKind};
 use qj_num::OutOfMemory;
-use script_text::{ReadScript, ScriptLine, read_script};
+use script_lines::ScriptLine;
+use script_text::{ReadScript, read_script};
 use std::alloc::Global;
 use std::test::Fail;
 

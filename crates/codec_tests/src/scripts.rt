@@ -2,7 +2,8 @@
 use crate::names_scripts;
 use crate::rows::is_so;
 use qj_num::OutOfMemory;
-use script_text::{ReadScript, ScriptLine, print_script, read_script};
+use script_lines::ScriptLine;
+use script_text::{ReadScript, print_script, read_script};
 use std::alloc::{AllocError, Global};
 use std::test::Fail;
 

@@ -1,10 +1,12 @@
 // The files that are left on a node's disk.
 ghost use Rattle.script_text.specs.Grammar.{IsScript};
 
-use cluster_runner::{play_on, scripts_are_playable};
+use cluster_runner::play_on;
 use disk_nodes::fresh_nodes;
 use qj_disk::{Disk, MemDisk};
-use script_text::{ReadScript, Script, read_script};
+use script_lines::Script;
+use script_plays::scripts_are_playable;
+use script_text::{ReadScript, read_script};
 use std::alloc::Global;
 use std::test::Fail;
 

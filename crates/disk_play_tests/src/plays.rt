@@ -1,6 +1,7 @@
 // Scripts that cut nodes, and their whole reports.
 use crate::reports::{ACCEPTANCE, JOURNAL_KEPT, JOURNAL_LOST, NO_EFFECT, PURGE, TWO_ARMINGS};
-use qj_cli::{Status, qjm_alone};
+use exit_lines::Status;
+use qj_cli::qjm_alone;
 use qj_disk::MemDisk;
 use qj_outside::{MemSink, MemSource};
 use std::alloc::{AllocError, Global};

@@ -4,7 +4,3 @@ pub mod ReadFields
 pub mod ReadItems
 pub mod FieldLaws
 pub mod WalkLaws
-pub mod SayNumbers
-pub mod SayItems
-pub mod SayWords
-pub mod SayLaws

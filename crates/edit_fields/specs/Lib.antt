@@ -3,6 +3,5 @@ pub mod Shown
 pub mod Forms
 pub mod Sources
 pub mod Reading
-pub mod Saying
 pub mod Rules
 pub mod Spaced

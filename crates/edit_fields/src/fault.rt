@@ -13,10 +13,6 @@ pub enum Fault {
     Bad { left: usize, rule: u32 },
 }
 
-/// What is wrong with a text: it is that of no edit.
-#[derive(Clone, Copy, Debug)]
-pub struct BadText;
-
 /// Why a field could not be read: memory was wanted and not there, or the fault of what was to be read.
 #[derive(Debug, Drop)]
 pub enum ReadError<F> {

@@ -7,16 +7,16 @@ ghost use Rattle.edit_fields.specs.Sources.{Gives};
 ghost use Rattle.edit_fields.specs.Reading.{field_at, items_at};
 
 use crate::fault::{Fault, ReadError};
-use crate::lists::{NameList, NumberList};
 use crate::source::FieldSource;
+use edit_values::{NameList, NumberList};
 use qj_num::{MAX, Name, get_u16, get_u32, get_u64};
 use std::alloc::Global;
 
 /// The most bytes of a path.
-pub(crate) const MOST_PATH: usize = 1000;
+pub const MOST_PATH: usize = 1000;
 
 /// The most bytes of a user or a group.
-pub(crate) const MOST_OWNER: usize = 32;
+pub const MOST_OWNER: usize = 32;
 
 // The rules that a field may break.
 const TEXT_TOO_LONG: u32 = 1;
@@ -67,8 +67,8 @@ fn take_text(alloc: Global, bytes: &[u8], most: usize) -> Result<(Name, &[u8]), 
     Ok((Name::from_slice(alloc, text)?, rest))
 }
 
-// Each byte is from 0x21 to 0x7E.
-pub(crate) fn is_printable(text: &[u8]) -> bool
+/// Whether each byte is from 0x21 to 0x7E.
+pub fn is_printable(text: &[u8]) -> bool
     ensures { result ≡ list_all is_ascii_graphic text.now }
 {
     text.iter().all(|byte| byte.is_ascii_graphic())

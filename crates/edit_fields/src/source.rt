@@ -4,7 +4,7 @@ ghost use Rattle.edit_fields.specs.Fields.{Kind, Field, Text_, Small_, Number_, 
 ghost use Rattle.edit_fields.specs.Sources.{Gives};
 
 use crate::fault::ReadError;
-use crate::lists::{NameList, NumberList};
+use edit_values::{NameList, NumberList};
 use qj_num::Name;
 
 /// Where the fields of an edit come from, one after the other: the bytes of a record, or the words of a script.

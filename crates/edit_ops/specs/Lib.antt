@@ -2,9 +2,6 @@ pub mod Kinds
 pub mod Records
 pub mod Grammar
 pub mod Words
-pub mod Texts
 pub mod Decoding
 pub mod FromFields
-pub mod ReadTexts
-pub mod SaidTexts
 pub mod OpRead

@@ -2,16 +2,10 @@
 ghost use Rattle.std.specs.Prelude.{◌≡◌, IfOk};
 
 use crate::op::Op;
+use edit_values::Call;
 use qj_num::OutOfMemory;
 use std::alloc::Global;
 use std::marker::Model;
-
-/// A client's call: who called, and the number of the call.
-#[derive(Clone, Copy)]
-pub struct Call {
-    pub client: [u8; 16],
-    pub number: u32,
-}
 
 /// An edit that has a record: its texts are short enough and printable, its numbers are at most 2^62, its
 /// lists have at most 65,535 members, and a mark of a segment has no call.

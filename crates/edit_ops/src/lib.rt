@@ -1,4 +1,4 @@
-//! Edit records: the edits of a namespace as bytes and as texts.
+//! Edits of a namespace and their records: what each does, its fields in their order, and its bytes.
 #![tactic(auto)]
 
 mod decoded;
@@ -9,19 +9,14 @@ mod kind;
 mod laws;
 mod op;
 mod reading_op;
-mod reading_text;
-mod said_text;
-mod text;
 mod writing;
 
 pub use decoded::Decoded;
 pub use decoding::decode;
-pub use edit::{Call, Edit};
+pub use edit::Edit;
 pub use edit_list::EditList;
 pub use kind::OpKind;
-pub use laws::{no_record_begins_another, texts_are_tested, texts_are_words, texts_tell_edits};
+pub use laws::no_record_begins_another;
 pub use op::Op;
-pub use reading_text::read_text;
-pub use said_text::ReadText;
-pub use text::edit_text;
-pub use writing::{encode, encode_in};
+pub use reading_op::{read_call, read_op};
+pub use writing::{encode, encode_in, put_op};

@@ -3,7 +3,7 @@ ghost use Rattle.std.specs.Prelude.{◌≡◌, IfOk};
 ghost use Rattle.edit_ops.specs.Records.{kind_of};
 
 use crate::kind::OpKind;
-use edit_fields::{NameList, NumberList};
+use edit_values::{NameList, NumberList};
 use qj_num::{Name, OutOfMemory};
 use std::alloc::Global;
 

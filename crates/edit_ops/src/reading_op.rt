@@ -5,13 +5,13 @@ ghost use Rattle.edit_fields.specs.Sources.{Gives, fields_read};
 ghost use Rattle.edit_ops.specs.Records.{kind_of, fields_of, call_fields};
 ghost use Rattle.edit_ops.specs.OpRead.{op_read};
 
-use crate::edit::Call;
 use crate::kind::OpKind;
 use crate::op::Op;
 use edit_fields::{FieldSource, ReadError};
+use edit_values::Call;
 
 /// The client and the number of a call.
-pub(crate) fn read_call<S: FieldSource>(source: &mut S) -> Result<Call, ReadError<S::Fault>>
+pub fn read_call<S: FieldSource>(source: &mut S) -> Result<Call, ReadError<S::Fault>>
     ensures { Gives (λ call. (call_fields (Some call), S.left source.new)) result
         (fields_read S.group (client ∷ call_number ∷ []) (S.left source.old)) }
 {
@@ -173,10 +173,7 @@ fn read_concat_delete<S: FieldSource>(source: &mut S) -> Result<Op, ReadError<S:
 
 /// What an edit of this kind does, by its fields in the order of the kind's layout.
 #[tactic(auto, unfolding(crate::specs::OpRead::op_read))]
-pub(crate) fn read_op<S: FieldSource>(
-    source: &mut S,
-    kind: OpKind,
-) -> Result<Op, ReadError<S::Fault>>
+pub fn read_op<S: FieldSource>(source: &mut S, kind: OpKind) -> Result<Op, ReadError<S::Fault>>
     ensures { Gives (λ op. ((kind_of op, fields_of op), S.left source.new)) result
         (op_read S.group kind (S.left source.old)) }
 {

@@ -7,7 +7,8 @@ ghost use Rattle.edit_ops.specs.Records.{record_of, fields_of, call_fields, opco
 
 use crate::edit::Edit;
 use crate::op::Op;
-use edit_fields::{Field, Form, NameList, NumberList, put_fields, put_numbers, put_paths};
+use edit_fields::{Field, Form, put_fields, put_numbers, put_paths};
+use edit_values::{NameList, NumberList};
 use qj_num::{Bytes, Name, OutOfMemory};
 use std::alloc::Global;
 
@@ -80,7 +81,7 @@ fn put_concat(
 
 /// Appends the fields of the edit in this form: the table of the kinds and their fields. An `Err` changes
 /// nothing.
-pub(crate) fn put_op(out: &mut Vec<u8>, form: Form, op: &Op) -> Result<(), OutOfMemory>
+pub fn put_op(out: &mut Vec<u8>, form: Form, op: &Op) -> Result<(), OutOfMemory>
     requires { AllByRecursion IsGood (fields_of op.now) }
     ensures ok { OnOk result (out.new.items ≡ out.old.items ++ flat_map (written form) (fields_of op.now)) }
     ensures err { OnErr result (out.new.items ≡ out.old.items) }

@@ -6,7 +6,7 @@ ghost use Rattle.image_codec.specs.Reading.{Gives, last_txid, new_call_at, call_
 use crate::fault::{ReadError, wrong_at};
 use crate::fields::{client_of, long_of, whole32_of, word_of};
 use crate::image_cause::ImageCause;
-use edit_ops::Call;
+use edit_values::Call;
 use ns_tree::{Namespace, Noted};
 
 /// The most calls that are remembered.

@@ -8,7 +8,7 @@ ghost use Rattle.image_codec.specs.Reading.{Gives, wants_memory, byte_at, whole_
 
 use crate::fault::{ReadError, wrong_at};
 use crate::image_cause::ImageCause;
-use edit_fields::NumberList;
+use edit_values::NumberList;
 use ns_path::{is_good_owner, is_good_path};
 use qj_num::{MAX, Name};
 use std::alloc::Global;

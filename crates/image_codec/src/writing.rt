@@ -10,7 +10,7 @@ ghost use Rattle.image_codec.specs.Laws.{IsSent};
 ghost use Rattle.image_codec.specs.declared.answer.ReadImage.TheVariants as readings;
 
 use crate::reading::MAGIC;
-use edit_fields::NumberList;
+use edit_values::NumberList;
 use ns_tree::{Inode, Namespace, Noted, Row};
 use qj_num::{Name, OutOfMemory};
 use std::alloc::Global;

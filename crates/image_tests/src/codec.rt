@@ -4,8 +4,7 @@ ghost use Rattle.ns_tree.specs.Space.{IsInode, find, is_dir_there};
 ghost use Rattle.ns_path.specs.Path.{is_owner};
 
 use crate::rows::is_so;
-use edit_fields::NumberList;
-use edit_ops::Call;
+use edit_values::{Call, NumberList};
 use image_codec::{ImageCause, ReadImage, image_of, read_image};
 use ns_path::{is_good_owner, is_good_path, parent};
 use ns_tree::{Inode, Namespace};

@@ -7,7 +7,7 @@ use crate::codec::{
     owner, put, tree,
 };
 use crate::rows::is_so;
-use edit_fields::NumberList;
+use edit_values::NumberList;
 use image_codec::{ImageCause, image_of};
 use ns_tree::{Inode, Namespace};
 use oiv_tool::{ByteCause, Listing, json, list_delimited, sizes};

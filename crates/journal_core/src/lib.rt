@@ -23,6 +23,7 @@ mod segment_info;
 mod segment_line;
 mod segment_list;
 mod shared_request;
+mod told_batch;
 mod told_segment;
 
 pub use batch::Batch;
@@ -55,4 +56,5 @@ pub use segment_info::SegmentInfo;
 pub use segment_line::{SegmentLine, SegmentLines};
 pub use segment_list::SegmentList;
 pub use shared_request::SharedRequest;
+pub use told_batch::ToldBatch;
 pub use told_segment::ToldSegment;

@@ -2,9 +2,9 @@
 ghost use Rattle.std.specs.Prelude.{◌≡◌, IfOk};
 
 use crate::OutOfMemory;
-use crate::batch::Batch;
 use crate::refusal::Refusal;
 use crate::segment_line::SegmentLines;
+use crate::told_batch::ToldBatch;
 use crate::told_segment::ToldSegment;
 use std::alloc::Global;
 
@@ -28,7 +28,7 @@ pub enum Reply {
         segment: ToldSegment,
     },
     /// Edits from the asked txid on.
-    Edits(Batch),
+    Edits(ToldBatch),
     /// The segments that hold an edit, by rising start.
     Segments(SegmentLines),
     /// Refused.

@@ -15,7 +15,10 @@ ghost use Rattle.node_effects.specs.Told.{Tells, state_with, line_of};
 ghost use Rattle.recent_edits.specs.Recent.{AsksRecent, FitsRing, IsRecent, held_from};
 ghost use Rattle.journal_node.specs.Node.{IsNoFault};
 
-use journal_core::{Batch, MAX_BATCH, MAX_NUMBER, NodeState, Refusal, Reply, Request, SegmentLine};
+use journal_core::{
+    Batch, MAX_BATCH, MAX_NUMBER, NodeState, OutOfMemory, Refusal, Reply, Request, SegmentLine,
+    ToldBatch,
+};
 use node_effects::{line_at, not_served, serving_row};
 use qj_disk::{Disk, DiskFail};
 use recent_edits::RecentEdits;
@@ -24,19 +27,20 @@ use std::alloc::Global;
 
 // The first bodies of a batch, at most `most`, as edits from that txid on. BadFile comes where one would
 // have a txid above 2^62.
-fn edits(batch: Batch, from: u64, most: usize) -> Reply
+fn edits(alloc: Global, batch: Batch, from: u64, most: usize) -> Result<Reply, OutOfMemory>
     requires { 0 < most }
-    ensures edits { last_txid (record { first = from; bodies = take most batch.bodies }) ≤ max_number → result ≡ Reply.Edits (record { first = from; bodies = take most batch.bodies }) }
-    ensures fits { AreEdits from result }
-    ensures own { IsNoFault result }
+    ensures edits { last_txid (record { first = from; bodies = take most batch.bodies }) ≤ max_number → IfOk result (λ reply. reply ≡ Reply.Edits (record { first = from; bodies = take most batch.bodies })) }
+    ensures fits { IfOk result (AreEdits from) }
+    ensures own { IfOk result IsNoFault }
 {
     let mut bodies = batch.into_bodies();
     bodies.truncate(most);
     let piece = Batch::new(from, bodies);
     if piece.last_within(MAX_NUMBER).is_none() {
-        return Reply::Refused(Refusal::BadFile);
+        return Ok(Reply::Refused(Refusal::BadFile));
     }
-    Reply::Edits(piece)
+    let piece = ToldBatch::of(alloc, piece)?;
+    Ok(Reply::Edits(piece))
 }
 
 // The edits of a segment from a txid on, which lies in it: at most `most`, and at most 256. They are those that
@@ -65,10 +69,14 @@ fn edits_of<D: Disk>(
     ensures shortages { D.shortages disk.old ≤ D.shortages disk.new }
 {
     if let Some(batch) = recent.edits_from(alloc, line.start, from)? {
-        return Ok(edits(batch, from, most));
+        let held = edits(alloc, batch, from, most)?;
+        return Ok(held);
     }
     match read_from(alloc, disk, line, from) {
-        Given::Edits(batch) => Ok(edits(batch, from, most)),
+        Given::Edits(batch) => {
+            let read = edits(alloc, batch, from, most)?;
+            Ok(read)
+        }
         Given::BadFile { .. } => Ok(Reply::Refused(Refusal::BadFile)),
         Given::DiskFault => Err(DiskFail::Failed),
         Given::OutOfMemory => Err(DiskFail::OutOfMemory),

@@ -7,7 +7,8 @@ ghost use Rattle.journal_core.specs.Step.{fetch_refused};
 ghost use Rattle.journal_core.specs.Answers.{AreEdits, Serves, last_of, is_refusal};
 
 use journal_core::{
-    Batch, NodeState, OutOfMemory, Refusal, Reply, Segment, SegmentLine, SegmentLines, ToldSegment,
+    Batch, NodeState, OutOfMemory, Refusal, Reply, Segment, SegmentLine, SegmentLines, ToldBatch,
+    ToldSegment,
 };
 use std::alloc::Global;
 
@@ -104,7 +105,8 @@ pub(crate) fn read(state: &NodeState, alloc: Global, from: u64) -> Result<Reply,
     let bodies = segment
         .bodies
         .share_piece(alloc, skip as usize, most as usize)?;
-    Ok(Reply::Edits(Batch::new(from, bodies)))
+    let batch = ToldBatch::of(alloc, Batch::new(from, bodies))?;
+    Ok(Reply::Edits(batch))
 }
 
 /// Why a txid isn't served.
@@ -179,5 +181,6 @@ pub(crate) fn fetch(
     let bodies = segment
         .bodies
         .share_piece(alloc, skip, MOST_EDITS as usize)?;
-    Ok(Reply::Edits(Batch::new(from, bodies)))
+    let batch = ToldBatch::of(alloc, Batch::new(from, bodies))?;
+    Ok(Reply::Edits(batch))
 }

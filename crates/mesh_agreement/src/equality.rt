@@ -59,7 +59,7 @@ pub(crate) fn same_reply(a: &Reply, b: &Reply) -> bool
                 segment: y,
             },
         ) => a == b && c == d && same_told(x.get(), y.get()),
-        (Reply::Edits(a), Reply::Edits(b)) => same_edits(a, b),
+        (Reply::Edits(a), Reply::Edits(b)) => same_edits(a.get(), b.get()),
         (Reply::Segments(a), Reply::Segments(b)) => same_segments(a, b),
         (Reply::Refused(a), Reply::Refused(b)) => same_refusal(*a, *b),
         _ => false,

@@ -41,7 +41,7 @@ fn same_ask(a: &NodeAsk, b: &NodeAsk) -> bool
         (NodeAsk::Kill, NodeAsk::Kill) => true,
         (NodeAsk::Restart, NodeAsk::Restart) => true,
         (NodeAsk::Arm { calls: a, stop: s }, NodeAsk::Arm { calls: b, stop: t }) => {
-            a == b && s == t
+            a == b && s.get() == t.get()
         }
         _ => false,
     }

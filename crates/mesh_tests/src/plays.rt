@@ -1,6 +1,7 @@
 //! The mesh of a text's play.
-use cluster_runner::{play, scripts_are_playable};
+use cluster_runner::play;
 use mesh::Mesh;
+use script_plays::scripts_are_playable;
 use script_text::{ReadScript, read_script, scripts_break_no_rule};
 use std::alloc::Global;
 use std::test::Fail;

@@ -27,8 +27,8 @@ use Rattle.name_node.specs.Holding.{Holding, Work, Free, Tails, Logs, Broken, wi
 use Rattle.name_node.specs.Tails.{pass_begun}
 use Rattle.script_actor.specs.Actor.{Actor, Want, call_wanted, work_read, read_first, copy_first, say_first, wants, is_wanting, is_broken_work, is_broken_holding, is_broken, tail_stepped, task_begun, make_copy, begin_sync, after_sync, logged_when, trim_at, unless_active, begin_save, begin_reload, take_named_action, take_action, while_wanting, settle}
 use Rattle.writer_core.specs.Turns.{IsInRound, aim_of}
-use Rattle.cluster_runner.proofs.Sound.{waiting_actions}
-use Rattle.cluster_runner.proofs.WriterTurns.{has_other, Course, Begins, begun_turn, call_some}
+use Rattle.script_plays.proofs.Sound.{waiting_actions}
+use Rattle.script_plays.proofs.WriterTurns.{has_other, Course, Begins, begun_turn, call_some}
 use Rattle.script_actor.proofs.NamedLaws.{reloaded_free}
 use Rattle.names_safety.proofs.WriterPlaces.{PhasePlace, IsLogIn}
 use Rattle.names_safety.proofs.Held.{saved_stands, reloaded_stands}

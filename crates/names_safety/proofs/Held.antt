@@ -10,7 +10,7 @@ use Rattle.ns_replay.proofs.Splits.{replay_one, log_joins}
 use Rattle.ns_replay.proofs.Decodes.{start_decodes, end_decodes}
 use Rattle.ns_replay.proofs.Calls.{enters}
 use Rattle.name_node.specs.Holding.{Holding, Free, image_put, save_image, load_image, reload_image}
-use Rattle.cluster_runner.specs.Safe.{AllOn}
+use Rattle.script_plays.specs.Safe.{AllOn}
 
 -- ## The records of a segment's ends
 pub start_entered : (t : ℕ) (s : Space) → entered t (24 ∷ []) s ≡ Some s

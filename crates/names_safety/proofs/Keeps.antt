@@ -28,8 +28,8 @@ use Rattle.name_node.specs.Submissions.{Due}
 use Rattle.name_node.specs.Holding.{Holding, new_holding, Work, Free, Tails, Logs, Broken, empty_holding, at_position, reload_image, enters as enters_at}
 use Rattle.script_actor.specs.Actor.{Actor, fresh_actor, settle, logs_done, task_done, held_turn, turn_with, turn_taken, after_judgment, heard_in_work, heard_by, moved_on, settle_again, goes_on}
 use Rattle.writer_core.specs.Turns.{IsOf, aim_of}
-use Rattle.cluster_runner.proofs.Led.{moved_keeps}
-use Rattle.cluster_runner.proofs.WriterTurns.{has_other, IsBetween, Course, Turned, TurnOf, heard_turn, new_course}
+use Rattle.script_plays.proofs.Led.{moved_keeps}
+use Rattle.script_plays.proofs.WriterTurns.{has_other, IsBetween, Course, Turned, TurnOf, heard_turn, new_course}
 use Rattle.names_safety.proofs.WriterPlaces.{OutcomePlace, TurnPlace, HearsAt, IsLogOf, IsLogIn, heard_place}
 use Rattle.names_safety.proofs.Held.{Held, held_more, held_at, held_start, held_end, held_empty, Standing, reloaded_stands}
 use Rattle.names_safety.proofs.Stages.{RestsAt, OnTask, Stage, Good, GoodActor, rests_writing, pass_good, EditsOn, hears_good}

@@ -32,11 +32,11 @@ use Rattle.script_actor.specs.Lines.{Line, actions_of}
 use Rattle.name_node.specs.Holding.{Holding, Work, Free, Tails, Logs, Broken}
 use Rattle.script_actor.specs.Actor.{Actor, Want, WantsCall, WantsCopy, Says, Rests, call_wanted, work_read, read_first, wants, Fits, IsLed, actor_after, goes_on}
 use Rattle.ns_tree.specs.declared.end.End.{End}
-use Rattle.cluster_runner.specs.Follows.{actor_with, Follows}
-use Rattle.cluster_runner.specs.Safe.{AllOn}
+use Rattle.script_plays.specs.Follows.{actor_with, Follows}
+use Rattle.script_plays.specs.Safe.{AllOn}
 use Rattle.names_safety.specs.Linear.{IsLinear, OnLine, IsActor, IsNamed, IsAdmitted, begins, ends, edits, LogsAreAdmitted, LineReplays, LineCallsApart}
 use Rattle.names_safety.proofs.ReadLaws.{all_on, get_take, Place, place_of}
-use Rattle.cluster_runner.proofs.WriterTurns.{IsBetween, InCourse}
+use Rattle.script_plays.proofs.WriterTurns.{IsBetween, InCourse}
 use Rattle.names_safety.proofs.WriterPlaces.{PhasePlace, IsLogIn}
 use Rattle.names_safety.proofs.Held.{start_entered, end_entered, AllOn-append, Held}
 use Rattle.names_safety.proofs.Stages.{Stage, Good, RestsAt}

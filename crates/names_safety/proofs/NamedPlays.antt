@@ -8,11 +8,11 @@ use Rattle.mesh.specs.declared.whole.Mesh.{Mesh}
 use Rattle.mesh.specs.Agree.{Agrees}
 use Rattle.mesh.specs.Order.{epoch_order}
 use Rattle.script_actor.specs.Lines.{Line, ArePlayable}
-use Rattle.cluster_runner.specs.Plays.{mesh_of, ends_of}
-use Rattle.cluster_runner.specs.Follows.{FollowsLines}
-use Rattle.cluster_runner.specs.Safe.{IsSafeWithEnds}
-use Rattle.cluster_runner.proofs.PlayableActions.{playable_actions}
-use Rattle.cluster_runner.proofs.Final.{play_agrees, play_runs, play_in_order, play_follows, names_count}
+use Rattle.script_plays.specs.Plays.{mesh_of, ends_of}
+use Rattle.script_plays.specs.Follows.{FollowsLines}
+use Rattle.script_plays.specs.Safe.{IsSafeWithEnds}
+use Rattle.script_plays.proofs.PlayableActions.{playable_actions}
+use Rattle.script_plays.proofs.Final.{play_agrees, play_runs, play_in_order, play_follows, names_count}
 use Rattle.names_safety.specs.Linear.{IsNamed}
 use Rattle.names_safety.specs.Laws.{PlayIsLinear, PlaysAreSafe}
 use Rattle.names_safety.proofs.Safeties.{names_are_safe, epoch_order_is_safe}

@@ -44,7 +44,7 @@ use Rattle.mesh.specs.Order.{is_muted, line_of_caller, placed_from, placed_at, e
 use Rattle.ns_replay.proofs.Splits.{some_is, none≢some}
 use Rattle.mesh.proofs.Shared.{In}
 use Rattle.mesh.proofs.OneOwner.{same_line}
-use Rattle.cluster_runner.specs.Safe.{AllOn}
+use Rattle.script_plays.specs.Safe.{AllOn}
 use Rattle.names_safety.specs.Linear.{OnLine, ReadsAreOnLine}
 
 -- ## Fronts of an order

@@ -38,7 +38,7 @@ use Rattle.run_safety.proofs.WriterRange.{new_sized, call_within}
 use Rattle.script_actor.specs.Lines.{Action, actions_of}
 use Rattle.name_node.specs.Holding.{Holding, Work, Free, Tails, Logs, Broken}
 use Rattle.script_actor.specs.Actor.{Actor, fresh_actor, call_wanted, work_read, read_first, wants, settle, goes_on, Fits, IsLed, actor_after, last_of}
-use Rattle.cluster_runner.specs.Follows.{actor_with, Follows}
+use Rattle.script_plays.specs.Follows.{actor_with, Follows}
 use Rattle.names_safety.specs.Linear.{IsLinear, OnLine, IsActor, HoldsReplay, ImagesReplay, ActorsHoldReplays, EndsAreReplays}
 use Rattle.names_safety.proofs.ReadLaws.{all_on, reads_on_line}
 use Rattle.names_safety.proofs.WriterPlaces.{DoneOn, HearsAt}

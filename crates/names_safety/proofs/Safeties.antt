@@ -15,7 +15,7 @@ use Rattle.ns_tree.specs.declared.end.End.{End}
 use Rattle.ns_tree.specs.declared.end.LastSpace.{LastSpace}
 use Rattle.mesh.specs.Agree.{ListsAgree}
 use Rattle.names_safety.specs.Linear.{IsOfLine, IsLinear, IsNamed}
-use Rattle.cluster_runner.specs.Safe.{AllOn, EndsReplay}
+use Rattle.script_plays.specs.Safe.{AllOn, EndsReplay}
 use Rattle.names_safety.specs.Laws.{EpochOrderIsLinear, NamesAreSafe, EpochOrderIsSafe}
 use Rattle.names_safety.proofs.Replays.{ends_are_replays}
 

@@ -18,10 +18,10 @@ use Rattle.writer_core.specs.Views.{WriterView}
 use Rattle.writer_core.specs.Writer.{writer_stopped}
 use Rattle.name_node.specs.Holding.{Holding, Work, Free, Tails, Logs, Broken, with_work, at_position}
 use Rattle.name_node.specs.Tails.{TailEnd, Reached, GoesOn, Ends, pass_begun, up_to, after_applied, least_purged, after_or, pass_end, no_edits, tail_hears}
-use Rattle.cluster_runner.specs.Safe.{AllOn}
+use Rattle.script_plays.specs.Safe.{AllOn}
 use Rattle.script_actor.specs.Actor.{Actor, is_entered, not_entered, tail_ended, tail_stepped}
 use Rattle.writer_core.specs.Turns.{IsInRound, aim_of}
-use Rattle.cluster_runner.proofs.WriterTurns.{has_other, IsBetween, Course}
+use Rattle.script_plays.proofs.WriterTurns.{has_other, IsBetween, Course}
 use Rattle.names_safety.proofs.WriterPlaces.{PhasePlace, IsLogIn}
 use Rattle.names_safety.proofs.Held.{AllOn-take, held_more, held_at, held_start, Standing}
 

@@ -32,8 +32,8 @@ use Rattle.name_node.specs.Tails.{Caught, Reached, PurgedFrom, BehindBy, TailSte
 use Rattle.name_node.specs.Submissions.{Submission, submit_edits, nothing_submitted}
 use Rattle.script_actor.specs.Actor.{Actor, fresh_actor, wants, is_wanting, is_broken_work, is_broken_holding, is_broken, tail_ended, tail_stepped, task_begun, make_copy, begin_sync, after_sync, logged_when, trim_at, unless_active, begin_save, begin_reload, take_named_action, take_action, while_wanting, settle, logs_done, task_done, held_turn, turn_with, turn_taken, after_judgment, heard_in_work, heard_by, moved_on, settle_again, goes_on, IsLed, actor_after}
 use Rattle.ns_tree.specs.declared.end.End.{End}
-use Rattle.cluster_runner.specs.Follows.{actor_with}
-use Rattle.cluster_runner.specs.Safe.{AllOn}
+use Rattle.script_plays.specs.Follows.{actor_with}
+use Rattle.script_plays.specs.Safe.{AllOn}
 use Rattle.names_safety.specs.Linear.{IsLinear, OnLine, IsActor, IsNamed, NoneBreaks}
 use Rattle.names_safety.proofs.Held.{AllOn-append, Held, Standing}
 use Rattle.names_safety.proofs.Stages.{GoodActor, EditsOn, up_to_on}

@@ -22,19 +22,19 @@ use Rattle.name_node.specs.Submissions.{submit_edits}
 use Rattle.name_node.specs.Holding.{image_put, save_image, reload_image, min_to_keep}
 use Rattle.name_node.specs.Tails.{pass_begun, least_purged, pass_end, tail_hears}
 use Rattle.script_actor.specs.Lines.{count_actors, ArePlayable}
-use Rattle.script_actor.specs.Results.{cause_word, cause_words, name_of, for_each, acked_from, acknowledged_results, outcome_results, results_of, inactive_results, too_long_results, late_none, refusal_text, dues_logged, dues_aborted, abort_text}
+use Rattle.result_lines.specs.Results.{cause_word, cause_words, name_of, for_each, acked_from, acknowledged_results, outcome_results, results_of, inactive_results, too_long_results, late_none, refusal_text, dues_logged, dues_aborted, abort_text}
 use Rattle.script_actor.specs.Actor.{fresh_actor, call_wanted, read_first, copy_first, say_first, wants, is_wanting, is_broken, tail_text, entry_text, tail_ended, tail_stepped, task_begun, make_copy, logged_when, trim_at, take_named_action, take_action, settle, hand_action, logs_done, task_done, held_turn, turn_with, turn_taken, heard_by, moved_on, settle_again, goes_on}
-use Rattle.cluster_runner.specs.Plays.{play_begins, actor_at, node_asked, note_record, same_kind, is_marked, delivery, told_of, call_made, copy_made, meet_want, is_done, line_taken, next_line, take_turn, play_step, play_steps, no_lines, has_ended, IsPlay, ends_of}
-use Rattle.cluster_runner.specs.Told.{results_in}
-use Rattle.cluster_runner.specs.Examples.{results_at}
-use Rattle.cluster_runner.specs.NamesExamples.{played_named, last_at, left}
+use Rattle.script_plays.specs.Plays.{play_begins, actor_at, node_asked, note_record, same_kind, is_marked, delivery, told_of, call_made, copy_made, meet_want, is_done, line_taken, next_line, take_turn, play_step, play_steps, no_lines, has_ended, IsPlay, ends_of}
+use Rattle.script_plays.specs.Told.{results_in}
+use Rattle.play_examples.specs.Examples.{results_at}
+use Rattle.play_examples.specs.NamesExamples.{played_named, last_at, left}
 use Rattle.std.specs.Prelude.{codes}
 use Rattle.edit_ops.specs.declared.op.Op.TheVariants.{Mkdir}
 use Rattle.edit_ops.specs.Grammar.{IsEdit}
 use Rattle.ns_tree.specs.Space.{root_pair}
 use Rattle.ns_replay.specs.Examples.{plain}
 use Rattle.node_history.specs.Moving.{moving_of}
-use Rattle.cluster_runner.specs.Safe.{IsSafeWithEnds}
+use Rattle.script_plays.specs.Safe.{IsSafeWithEnds}
 use Rattle.names_safety.specs.Examples.{tailed_lines}
 use Rattle.names_safety.proofs.NamedPlays.{plays_are_safe}
 

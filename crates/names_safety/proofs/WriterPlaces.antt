@@ -23,9 +23,9 @@ use Rattle.writer_core.specs.Answers.{is_waiting, has_majority, fits_edits}
 use Rattle.writer_core.specs.Best.{Best, best_of, greatest_promise, greatest_newest}
 use Rattle.writer_core.specs.Rounds.{numbers_fit, Judgment, keep_going, stops_with, after_round, with_causes, judgment_by, judgment, after_fetch, begin_propose, after_propose, begin_recovery, after_finalize, after_open, after_write, after_edits, after_no_edits, without_answer_of, next_serial, left_out_after, asks_all, batch_from, end_record}
 use Rattle.writer_core.specs.Writer.{with_answer, judgment_when, heard_in, heard_at, writer_heard}
-use Rattle.cluster_runner.specs.Safe.{AllOn}
+use Rattle.script_plays.specs.Safe.{AllOn}
 use Rattle.writer_core.specs.Turns.{Suits, IsInRound}
-use Rattle.cluster_runner.proofs.WriterTurns.{Course, InCourse}
+use Rattle.script_plays.proofs.WriterTurns.{Course, InCourse}
 
 module _ (L : ℕ → List ℕ → Type 0) where
   -- ## After p entries of the line

@@ -6,10 +6,10 @@ use Rattle.mesh.specs.declared.whole.Mesh.{Mesh}
 use Rattle.mesh.specs.Agree.{ListsAgree, Agrees}
 use Rattle.mesh.specs.Order.{epoch_order}
 use Rattle.script_actor.specs.Lines.{Line, ArePlayable, HasNodes}
-use Rattle.cluster_runner.specs.Plays.{Play, IsPlay, mesh_of, ends_of}
+use Rattle.script_plays.specs.Plays.{Play, IsPlay, mesh_of, ends_of}
 use Rattle.ns_tree.specs.declared.end.End.{End}
 use Rattle.names_safety.specs.Linear.{IsLinear, IsNamed}
-use Rattle.cluster_runner.specs.Safe.{IsSafeWithEnds}
+use Rattle.script_plays.specs.Safe.{IsSafeWithEnds}
 
 -- ## Linear orders
 -- the epoch order of every mesh that agrees is one

@@ -23,8 +23,8 @@ use Rattle.name_node.specs.Holding.{Holding}
 use Rattle.script_actor.specs.Actor.{Actor, wants, Fits, IsLed, actor_after, is_broken}
 use Rattle.ns_tree.specs.declared.end.End.{End}
 use Rattle.ns_tree.specs.declared.end.LastSpace.{LastSpace}
-use Rattle.cluster_runner.specs.Follows.{actor_with, FollowsLines}
-use Rattle.cluster_runner.specs.Safe.{AllOn}
+use Rattle.script_plays.specs.Follows.{actor_with, FollowsLines}
+use Rattle.script_plays.specs.Safe.{AllOn}
 
 -- A run whose entries at each node are the node's moving entries in order: the epoch order of a mesh, or the order of a play.
 pub record IsLinear (m : Mesh) (entries : List Entry) : Type 0 where

@@ -3,9 +3,9 @@ ghost use Rattle.std.specs.Prelude.{◌≡◌, ◌∷◌, [], true};
 ghost use Rattle.node_history.specs.Moving.{moving_of};
 ghost use Rattle.ns_tree.specs.Space.{root_pair};
 ghost use Rattle.script_actor.specs.Lines.{ArePlayable};
-ghost use Rattle.cluster_runner.specs.Plays.{IsPlay, ends_of};
-ghost use Rattle.cluster_runner.specs.NamesExamples.{played_named, last_at, left};
-ghost use Rattle.cluster_runner.specs.Safe.{IsSafeWithEnds};
+ghost use Rattle.script_plays.specs.Plays.{IsPlay, ends_of};
+ghost use Rattle.play_examples.specs.NamesExamples.{played_named, last_at, left};
+ghost use Rattle.script_plays.specs.Safe.{IsSafeWithEnds};
 ghost use Rattle.names_safety.specs.Examples.{tailed_lines};
 
 /// A standby that tailed up to the record that begins the segment: the script can be played, this is its play, and the

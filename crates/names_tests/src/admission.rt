@@ -5,7 +5,8 @@ use AdmitRefusal::{
     BadName, BadNumber, Exists, IntoItself, Missing, NoParent, NotDirectory, NotEmpty, NotFile,
     Root, UnderConstruction,
 };
-use edit_ops::{Call, ReadText, read_text};
+use edit_texts::{ReadText, read_text};
+use edit_values::Call;
 use ns_replay::{AdmitRefusal, admit};
 use ns_tree::Namespace;
 use qj_num::OutOfMemory;

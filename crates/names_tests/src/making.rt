@@ -3,7 +3,7 @@ ghost use Rattle.std.specs.Prelude.{◌≡◌, ◌≤◌, true, length, IfOk};
 ghost use Rattle.ns_path.specs.Path.{is_owner};
 ghost use Rattle.ns_tree.specs.Space.{find, is_dir, is_dir_there, AreLengths, IsInode};
 
-use edit_fields::NumberList;
+use edit_values::NumberList;
 use ns_path::{is_good_owner, is_good_path, is_root_path, parent};
 use ns_tree::{Inode, Namespace};
 use qj_num::{Name, OutOfMemory};

@@ -2,7 +2,8 @@
 use crate::admission::{Told, told_of};
 use crate::rows::is_so;
 use Seen::{Dir, File, Nothing};
-use edit_ops::{Edit, ReadText, encode, read_text};
+use edit_ops::{Edit, encode};
+use edit_texts::{ReadText, read_text};
 use journal_core::{Batch, BodyList};
 use ns_replay::{AdmitRefusal, Replayed, admit, apply, replay};
 use ns_tree::{Inode, Namespace};

@@ -2,7 +2,7 @@
 ghost use Rattle.ns_tree.specs.Space.{AreRising};
 
 use crate::making::{component, is_dir_at, plain_dir, put};
-use edit_ops::Call;
+use edit_values::Call;
 use ns_path::{
     is_good_owner, is_good_path, is_root_path, lies_at_or_under, lies_under, parent, path_of,
     stem_of, walk_order,

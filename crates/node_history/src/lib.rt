@@ -12,6 +12,7 @@ mod mark;
 mod node_ask;
 mod node_cell;
 mod record;
+mod shared_stop;
 mod stop;
 
 pub use arming::Arming;
@@ -23,4 +24,5 @@ pub use mark::{ActorPlan, Mark, MarkKind, Plan};
 pub use node_ask::{NodeAnswer, NodeAsk};
 pub use node_cell::NodeCell;
 pub use record::{Record, RecordList, Told};
+pub use shared_stop::SharedStop;
 pub use stop::Stop;

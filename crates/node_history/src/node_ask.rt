@@ -1,7 +1,7 @@
 // What reaches a node, and what it answers.
 ghost use Rattle.std.specs.Prelude.{◌≡◌, IfOk};
 
-use crate::stop::Stop;
+use crate::shared_stop::SharedStop;
 use journal_core::{NodeFail, OutOfMemory, Reply, SharedRequest};
 use std::alloc::Global;
 
@@ -15,7 +15,7 @@ pub enum NodeAsk {
     /// Come up again.
     Restart,
     /// Stop inside the `calls`-th next request that reaches the node while it is up.
-    Arm { calls: u64, stop: Stop },
+    Arm { calls: u64, stop: SharedStop },
 }
 
 /// What came of it.
@@ -47,7 +47,7 @@ impl NodeAsk {
             NodeAsk::Restart => NodeAsk::Restart,
             NodeAsk::Arm { calls, stop } => NodeAsk::Arm {
                 calls: *calls,
-                stop: *stop,
+                stop: stop.share()?,
             },
         })
     }

@@ -262,7 +262,7 @@ impl<N: CutNode> NodeCell<N> {
                 is_up,
                 Arming {
                     calls: *calls,
-                    stop: *stop,
+                    stop: stop.get(),
                 },
             )),
         }

@@ -6,7 +6,7 @@ ghost use Rattle.writer_core.specs.Writer.{HasBody};
 use crate::bodies::bodies;
 use journal_core::{Cut, Node, NodeState, Refusal, Reply, Request, Segment, SharedRequest};
 use memory_node::PlainNode;
-use node_history::{Event, Fate, HistoryLine, NodeAnswer, NodeAsk, NodeCell, Stop};
+use node_history::{Event, Fate, HistoryLine, NodeAnswer, NodeAsk, NodeCell, SharedStop, Stop};
 use node_world::{Seen, World};
 use std::alloc::Global;
 use std::process::Abort;
@@ -82,7 +82,7 @@ const ARMED: &[(u64, Answered)] = &[
 #[test]
 fn an_arming_stops_a_request(rt: HostRuntime) -> Result<(), Fail> {
     let mut cell = fresh(rt.alloc());
-    let stop = Stop::Effects { keep: 0 };
+    let stop = SharedStop::of(rt.alloc(), Stop::Effects { keep: 0 })?;
     let arming = NodeAsk::Arm { calls: 2, stop };
     takes(&rt, rt.alloc(), &mut cell, arming, Answered::Done)?;
     for (epoch, want) in ARMED {
@@ -101,10 +101,13 @@ fn a_node_is_killed_and_restarted(rt: HostRuntime) -> Result<(), Fail> {
 
 // A node that is cut in a promise.
 fn is_cut(rt: &impl Abort, alloc: Global, cell: &mut NodeCell<PlainNode>) -> Result<(), Fail> {
-    let stop = Stop::DiskCalls {
-        calls: 3,
-        cut: Cut::New,
-    };
+    let stop = SharedStop::of(
+        alloc,
+        Stop::DiskCalls {
+            calls: 3,
+            cut: Cut::New,
+        },
+    )?;
     let arming = NodeAsk::Arm { calls: 1, stop };
     takes(rt, alloc, cell, arming, Answered::Done)?;
     promises(rt, alloc, cell, 2, Answered::Stopped(1))

@@ -3,7 +3,7 @@ ghost use Rattle.std.specs.Prelude.{IfOk};
 ghost use Rattle.writer_core.specs.Writer.{HasBody};
 
 use crate::bodies::bodies;
-use journal_core::{Batch, Heard, Reply, Request, SegmentInfo, ToldSegment};
+use journal_core::{Batch, Heard, Reply, Request, SegmentInfo, ToldBatch, ToldSegment};
 use std::alloc::Global;
 use std::cmp::Ordering;
 use std::process::Abort;
@@ -103,7 +103,9 @@ fn answer(alloc: Global, request: &Request) -> Result<Heard, Fail> {
         Request::State => Reply::State { promised: 1 },
         Request::NewEpoch { .. } => Reply::NewEpoch { newest: Some(101) },
         Request::Prepare { .. } => prepared(alloc, told(102, 1, false))?,
-        Request::Fetch { from, .. } => Reply::Edits(Batch::new(*from, bodies(alloc, 1, b"a")?)),
+        Request::Fetch { from, .. } => {
+            Reply::Edits(ToldBatch::of(alloc, Batch::new(*from, bodies(alloc, 1, b"a")?))?)
+        }
         _ => Reply::Ok,
     };
     Ok(Heard::Answer(reply))

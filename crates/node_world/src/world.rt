@@ -13,7 +13,7 @@ use crate::actor::Actor;
 use crate::seen::Seen;
 use journal_core::{CutNode, Heard, OutOfMemory, Request, SharedRequest};
 use memory_node::PlainNode;
-use node_history::{Event, Fate, HistoryLine, NodeAnswer, NodeAsk, NodeCell, cells_of};
+use node_history::{Event, Fate, HistoryLine, NodeAnswer, NodeAsk, NodeCell, SharedStop, cells_of};
 use std::alloc::Global;
 use std::marker::Model;
 use writer_core::Task;
@@ -427,11 +427,10 @@ impl<N: CutNode> World<N> {
             } => self.copy(alloc, actor, node, stop, request),
             Event::Kill { node } => self.operate(alloc, node, NodeAsk::Kill),
             Event::Restart { node } => self.operate(alloc, node, NodeAsk::Restart),
-            Event::Arm { node, calls, stop } => self.operate(
-                alloc,
-                node,
-                NodeAsk::Arm { calls, stop },
-            ),
+            Event::Arm { node, calls, stop } => {
+                let stop = SharedStop::of(alloc, stop)?;
+                self.operate(alloc, node, NodeAsk::Arm { calls, stop })
+            }
             Event::GiveUp { actor } => {
                 self.give_up(actor);
                 Ok(Seen::Done)

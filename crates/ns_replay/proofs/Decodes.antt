@@ -4,7 +4,7 @@ use Rattle.std.specs.Prelude.{is_some, replicate}
 use Rattle.std.specs.List.{flat_map, AllByRecursion}
 use Rattle.std.proofs.lemmas.Bool.Decides.{nat_tests}
 use Rattle.std.proofs.lemmas.List.{append-nil}
-use Rattle.edit_ops.specs.declared.edit.Call.{Call}
+use Rattle.edit_values.specs.declared.call.Call.{Call}
 use Rattle.edit_ops.specs.declared.kind.OpKind.{OpKind}
 use Rattle.edit_ops.specs.declared.kind.OpKind.TheVariants as kinds
 use Rattle.edit_ops.specs.declared.op.Op.{Op}

@@ -13,7 +13,8 @@ mod walks;
 mod words;
 
 use crate::refusal::AdmitRefusal;
-use edit_ops::{Call, Edit, Op};
+use edit_ops::{Edit, Op};
+use edit_values::Call;
 use ns_tree::Namespace;
 
 /// The first condition that an edit breaks, in the order of the table of its kind; of all conditions the

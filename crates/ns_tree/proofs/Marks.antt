@@ -4,7 +4,7 @@ use Rattle.std.specs.Prelude.{nat_le}
 use Rattle.std.proofs.lemmas.List.{drop-append-le, drop-drop, get_or-set_other}
 use Rattle.std.proofs.lemmas.Grind.{get_or-set_at}
 use Rattle.std.proofs.lemmas.Bool.Decides.{nat_tests}
-use Rattle.edit_ops.specs.declared.edit.Call.{Call}
+use Rattle.edit_values.specs.declared.call.Call.{Call}
 use Rattle.ns_tree.specs.declared.inode.Noted.{Noted}
 use Rattle.ns_path.specs.Path.{same_text}
 use Rattle.ns_tree.specs.Space.{same_call, txid_of, last_calls, noted, AreRising}

@@ -3,7 +3,7 @@ use Rattle.std.proofs.Common.{◌≡◌, ℕ, zero, suc, ◌+◌, ◌-◌, ◌<�
 use Rattle.std.specs.List.{remove}
 use Rattle.std.proofs.lemmas.Bool.Decides.{nat_tests}
 use Rattle.std.specs.Prelude.{◌^◌}
-use Rattle.edit_ops.specs.declared.edit.Call.{Call}
+use Rattle.edit_values.specs.declared.call.Call.{Call}
 use Rattle.ns_tree.specs.declared.inode.Noted.{Noted}
 use Rattle.ns_path.specs.Path.{same_text}
 use Rattle.ns_tree.specs.Space.{Space, same_call, txid_of, last_calls, noted, AreRising, AreOtherCalls, AreDistinct}

@@ -5,7 +5,7 @@ ghost use Rattle.ns_tree.specs.Space.{same_call, txid_of, noted, last_calls, Are
 ghost use Rattle.ns_tree.specs.Marks.{mark_of};
 
 use crate::inode::Noted;
-use edit_ops::Call;
+use edit_values::Call;
 use qj_num::OutOfMemory;
 use std::alloc::Global;
 use std::marker::Model;

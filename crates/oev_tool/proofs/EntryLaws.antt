@@ -11,7 +11,7 @@ use Rattle.hex.specs.Hex.{lower_digits, encode_lower}
 use Rattle.hex.proofs.HexLemmas.{IsAscii-encode_with}
 use Rattle.edit_ops.specs.declared.op.Op.{Op}
 use Rattle.edit_ops.specs.declared.op.Op.TheVariants.{Add, RenameOld, Delete, Mkdir, SetReplication, SetPermissions, SetOwner, Close, Times, SetQuota, Rename, ConcatDelete, EndLogSegment, StartLogSegment}
-use Rattle.edit_ops.specs.declared.edit.Call.{Call}
+use Rattle.edit_values.specs.declared.call.Call.{Call}
 use Rattle.edit_fields.specs.Fields.{Field, Text_, path, IsGood}
 use Rattle.edit_ops.specs.Records.{EditView, fields_of, call_fields}
 use Rattle.edit_ops.specs.Grammar.{IsEdit}

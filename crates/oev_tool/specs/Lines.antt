@@ -1,7 +1,7 @@
 -- The lines of a listing of edits.
 use Rattle.std.specs.Prelude.{ℕ, ◌+◌, List, [], ◌∷◌, ◌++◌, true, decimal}
 use Rattle.edit_ops.specs.Records.{EditView}
-use Rattle.edit_ops.specs.Texts.{text_of}
+use Rattle.edit_texts.specs.Texts.{text_of}
 
 -- the txid of an edit, and its text
 abbrev pub line : ℕ → EditView → List ℕ

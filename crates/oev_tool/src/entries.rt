@@ -7,7 +7,8 @@ ghost use Rattle.json_text.specs.Written.{Adds};
 ghost use Rattle.edit_ops.specs.Grammar.{IsEdit};
 ghost use Rattle.oev_tool.specs.Entries.{early, call_members, late, entry};
 
-use edit_ops::{Call, Edit, Op};
+use edit_ops::{Edit, Op};
+use edit_values::Call;
 use json::Writer;
 use json_text::{Member, close_object, open_object, put_members};
 use qj_num::OutOfMemory;

@@ -2,7 +2,8 @@
 ghost use Rattle.std.specs.Prelude.{◌≡◌, ◌++◌, true, OnOk};
 ghost use Rattle.oev_tool.specs.Lines.{line};
 
-use edit_ops::{Edit, edit_text};
+use edit_ops::Edit;
+use edit_texts::edit_text;
 use qj_num::{OutOfMemory, put_decimal};
 
 // Appends the txid and the text of an edit as a line.

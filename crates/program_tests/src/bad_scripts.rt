@@ -1,6 +1,6 @@
 //! Scripts that break a rule.
 use crate::program::{plays, report_of};
-use qj_cli::Status;
+use exit_lines::Status;
 use std::test::Fail;
 
 #[test]

@@ -1,6 +1,6 @@
 //! Generated scripts played, with their summaries as a second implementation gives them.
 use crate::program::{Case, ends_so_anew};
-use qj_cli::Status;
+use exit_lines::Status;
 use std::test::Fail;
 
 /// The words after `gen`, and the summary.

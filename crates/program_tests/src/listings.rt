@@ -1,6 +1,6 @@
 //! Listings of a segment's file.
 use crate::program::{Case, ends_so};
-use qj_cli::Status;
+use exit_lines::Status;
 use qj_disk::{Disk, MemDisk, UntoldDisk};
 use std::alloc::Global;
 use std::process::Abort;

@@ -1,7 +1,7 @@
 //! A log line of as many bodies as a batch may have, and one of one more, over one node: every line of their reports.
 use crate::known_scripts::says;
 use crate::program::played;
-use qj_cli::Status;
+use exit_lines::Status;
 use qj_num::put_decimal;
 use std::alloc::{AllocError, Global};
 use std::test::Fail;

@@ -1,6 +1,6 @@
 //! A node whose disk fails, crashes or holds damaged files.
 use crate::nodes::{has_files, holds, known_lines, served, serves, serves_known};
-use qj_cli::Status;
+use exit_lines::Status;
 use qj_disk::{Choice, Disk, MemDisk, UntoldDisk};
 use std::alloc::Global;
 use std::process::Abort;

@@ -1,6 +1,6 @@
 //! A node over a disk in memory: sessions, limits, bad lines, and ends that fail.
 use crate::program::{Case, Done, ends_so, run_over};
-use qj_cli::Status;
+use exit_lines::Status;
 use qj_disk::{Disk, MemDisk};
 use std::alloc::{AllocError, Global};
 use std::process::Abort;

@@ -1,5 +1,6 @@
 //! The program over memory: a report, bad words, ends that fail, and limits.
-use qj_cli::{Status, qjm_alone};
+use exit_lines::Status;
+use qj_cli::qjm_alone;
 use qj_disk::{Disk, MemDisk};
 use qj_outside::{MemSink, MemSource};
 use std::alloc::{AllocError, Global};

@@ -1,7 +1,8 @@
 //! Scripts run by threads, through the program.
 use crate::program::run_over;
+use exit_lines::Status;
 use gate_seats::{FreePass, Pass};
-use qj_cli::{Status, qjm};
+use qj_cli::qjm;
 use qj_disk::MemDisk;
 use qj_outside::{MemSink, MemSource};
 use std::alloc::{AllocError, Global};

@@ -11,29 +11,29 @@ use Rattle.node_session.specs.declared.served.Served.TheVariants as served
 use Rattle.qj_disk.specs.Files.{Files}
 use Rattle.mesh.specs.declared.whole.Mesh.{Mesh}
 use Rattle.ns_tree.specs.declared.end.End.{End}
-use Rattle.script_text.specs.Views.{ScriptView}
+use Rattle.script_lines.specs.Scripts.{ScriptView}
 use Rattle.script_text.specs.Rules.{fault_of}
 use Rattle.script_text.specs.Laws.{ScriptBreaksNoRule}
-use Rattle.qj_cli.specs.declared.status.Status.{Status}
-use Rattle.qj_cli.specs.declared.status.Status.TheVariants as status
-use Rattle.qj_cli.specs.declared.fault.Fault.{Fault}
-use Rattle.qj_cli.specs.declared.fault.Fault.TheVariants as fault
+use Rattle.exit_lines.specs.declared.status.Status.{Status}
+use Rattle.exit_lines.specs.declared.status.Status.TheVariants as status
+use Rattle.exit_lines.specs.declared.fault.Fault.{Fault}
+use Rattle.exit_lines.specs.declared.fault.Fault.TheVariants as fault
 use Rattle.qj_cli.specs.declared.command.Command.{Command}
-use Rattle.qj_cli.specs.declared.tool.Tool.{Tool}
-use Rattle.qj_cli.specs.Uses.{SourceUse, SinkUse, DiskUse}
-use Rattle.qj_cli.specs.Faults.{status_of}
-use Rattle.qj_cli.specs.Told.{IsToldAs, TellsFault, TellsText, Told, wrote_text, told_fault}
+use Rattle.file_commands.specs.declared.tool.Tool.{Tool}
+use Rattle.exit_lines.specs.Uses.{SourceUse, SinkUse, DiskUse}
+use Rattle.exit_lines.specs.Faults.{status_of}
+use Rattle.exit_lines.specs.Told.{IsToldAs, TellsFault, TellsText, Told, wrote_text, told_fault}
 use Rattle.qj_cli.specs.Commands.{Asked, asked_in, play, run, node, fsck, gen, list, AskFor}
 use Rattle.qj_cli.specs.Sound.{AreSound, ComeOf}
 use Rattle.qj_cli.specs.Plays.{longest_script, AreTold, IsReadWhole, IsTooLong, IsPlayFault, Plays}
 use Rattle.qj_cli.specs.Report.{HasLongReport}
-use Rattle.qj_cli.specs.Listing.{longest_file, IsTooLong as IsTooLongFile, file_under, IsFileFault, OfFile, GivesListing, IsListFault}
-use Rattle.qj_cli.specs.Serving.{status_at, is_disk_fault, IsNodeSessionOf, IsNodeSession, ServesNode, IsUnopened, IsServedOrNot, opened, unopened, Serves}
-use Rattle.qj_cli.specs.Checks.{status_with, GivesFindings, IsCheckFault}
+use Rattle.file_commands.specs.Listing.{longest_file, IsTooLong as IsTooLongFile, file_under, IsFileFault, OfFile, GivesListing, IsListFault}
+use Rattle.node_command.specs.Serving.{status_at, is_disk_fault, IsNodeSessionOf, IsNodeSession, ServesNode, IsUnopened, IsServedOrNot, opened, unopened, Serves}
+use Rattle.file_commands.specs.Checks.{status_with, GivesFindings, IsCheckFault}
 use Rattle.qj_cli.specs.Generates.{IsSummaryFault, Generates}
 use Rattle.qj_cli.specs.Does.{Does, Refuses, NeedsThreads}
 use Rattle.qj_cli.specs.Complete.{HasScript, HasRequests, HasNode, HasFile, NothingFails, IsComplete}
-use Rattle.qj_cli.proofs.OneListing.{in_grammar}
+use Rattle.file_commands.proofs.OneListing.{in_grammar}
 use Rattle.qj_cli.proofs.WordLaws.{one_command}
 use Rattle.qj_cli.proofs.RequestLaws.{no_bad_next, no_long_next}
 

@@ -2,14 +2,6 @@ pub mod MeshEnds
 pub mod ReportLaws
 pub mod WordLaws
 pub mod GenLaws
-pub mod ToldLaws
 pub mod PlayLaws
-pub mod ListLaws
-pub mod OneListing
-pub mod CheckLaws
-pub mod ServingLaws
-pub mod NodeLaws
-pub mod EndedLaws
-pub mod CrashLaws
 pub mod RequestLaws
 pub mod CompleteLaws

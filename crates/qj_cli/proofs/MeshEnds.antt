@@ -8,12 +8,12 @@ use Rattle.mesh.specs.Agree.{operator_of, record_of}
 use Rattle.ns_tree.specs.declared.end.End.{End}
 use Rattle.script_actor.specs.Lines.{Line, ArePlayable, actions_of}
 use Rattle.script_actor.specs.Actor.{Actor, fresh_actor, actor_after, last_of}
-use Rattle.cluster_runner.specs.Follows.{actor_with, FollowsLines}
-use Rattle.cluster_runner.specs.Safe.{HoldNothing}
-use Rattle.cluster_runner.proofs.Holds.{RawActor, raw_settled, raw_goes}
-use Rattle.cluster_runner.proofs.Sound.{actions_raw}
-use Rattle.cluster_runner.proofs.Final.{names_count}
-use Rattle.cluster_runner.proofs.PlayableActions.{playable_actions}
+use Rattle.script_plays.specs.Follows.{actor_with, FollowsLines}
+use Rattle.script_plays.specs.Safe.{HoldNothing}
+use Rattle.script_plays.proofs.Holds.{RawActor, raw_settled, raw_goes}
+use Rattle.script_plays.proofs.Sound.{actions_raw}
+use Rattle.script_plays.proofs.Final.{names_count}
+use Rattle.script_plays.proofs.PlayableActions.{playable_actions}
 
 -- one end for each actor
 ends_many : (named : Bool) (nodes : ℕ) (lines : List Line) (m : Mesh) (ends : List End) → FollowsLines named nodes lines m ends → length ends ≡ operator_of m

@@ -4,15 +4,15 @@ use Rattle.std.specs.Prelude.{IfSome}
 use Rattle.qj_outside.specs.Whole.{GivesAll}
 use Rattle.mesh.specs.declared.whole.Mesh.{Mesh}
 use Rattle.ns_tree.specs.declared.end.End.{End}
-use Rattle.script_text.specs.Views.{ScriptView}
+use Rattle.script_lines.specs.Scripts.{ScriptView}
 use Rattle.script_text.specs.Grammar.{IsScriptText}
 use Rattle.script_text.proofs.ScriptLaws.{breaks_no_rule}
 use Rattle.report_text.specs.Text.{text_of}
 use Rattle.report_text.specs.Limit.{longest_report}
-use Rattle.qj_cli.specs.declared.status.Status.TheVariants as status
-use Rattle.qj_cli.specs.declared.fault.Fault.{Fault}
-use Rattle.qj_cli.specs.declared.fault.Fault.TheVariants as fault
-use Rattle.qj_cli.specs.Uses.{SourceUse, NoReadFailed}
+use Rattle.exit_lines.specs.declared.status.Status.TheVariants as status
+use Rattle.exit_lines.specs.declared.fault.Fault.{Fault}
+use Rattle.exit_lines.specs.declared.fault.Fault.TheVariants as fault
+use Rattle.exit_lines.specs.Uses.{SourceUse, NoReadFailed}
 use Rattle.qj_cli.specs.Plays.{longest_script, AreTold, IsReadOut, IsReadWhole, GivesScript, IsTextFault, IsReadingFault, IsReportFault, GivesReport, IsPlayFault}
 use Rattle.qj_cli.specs.Report.{IsReport}
 

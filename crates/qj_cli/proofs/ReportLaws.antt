@@ -6,15 +6,14 @@ use Rattle.ns_tree.specs.declared.end.End.{End}
 use Rattle.mesh.specs.Agree.{Agrees}
 use Rattle.mesh.specs.Order.{epoch_order}
 use Rattle.mesh.specs.Laws.{OrderIsRun}
-use Rattle.script_text.specs.Views.{ScriptView}
+use Rattle.script_lines.specs.Scripts.{ScriptView}
 use Rattle.script_text.specs.Laws.{TextIsOfOneScript}
 use Rattle.script_actor.specs.Lines.{Line, lines_of, ArePlayable, IsPlayable}
 use Rattle.script_maker.specs.Generated.{generated}
-use Rattle.cluster_runner.specs.Plays.{Play, Plays, mesh_of, ends_of}
-use Rattle.cluster_runner.specs.Kept.{IsPlayed}
-use Rattle.cluster_runner.specs.Laws.{PlaysAgree, PlaysFollow, MeshesAreSafe, OnePlay}
-use Rattle.cluster_runner.specs.Safe.{IsSafeWithEnds}
-use Rattle.cluster_runner.specs.Follows.{FollowsLines, FollowsScript}
+use Rattle.script_plays.specs.Plays.{Play, Plays, mesh_of, ends_of, IsPlayed}
+use Rattle.script_plays.specs.Laws.{PlaysAgree, PlaysFollow, MeshesAreSafe, OnePlay}
+use Rattle.script_plays.specs.Safe.{IsSafeWithEnds}
+use Rattle.script_plays.specs.Follows.{FollowsLines, FollowsScript}
 use Rattle.names_safety.specs.Laws.{EpochOrderIsSafe}
 use Rattle.names_safety.proofs.NamedPlays.{is_named}
 use Rattle.report_text.specs.Text.{text_of}

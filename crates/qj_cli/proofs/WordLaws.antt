@@ -10,12 +10,12 @@ use Rattle.line_words.proofs.NumberLaws.{told_number}
 use Rattle.script_text.specs.Words.{greatest}
 use Rattle.script_text.proofs.NumberLaws.{number_is, number_again}
 use Rattle.script_maker.specs.Generated.{IsWithin}
-use Rattle.qj_cli.specs.declared.tool.SegmentTool.{SegmentTool}
-use Rattle.qj_cli.specs.declared.tool.SegmentTool.TheVariants as segment
-use Rattle.qj_cli.specs.declared.tool.ImageTool.{ImageTool}
-use Rattle.qj_cli.specs.declared.tool.ImageTool.TheVariants as image
-use Rattle.qj_cli.specs.declared.tool.Tool.{Tool}
-use Rattle.qj_cli.specs.declared.tool.Tool.TheVariants as tool
+use Rattle.file_commands.specs.declared.tool.SegmentTool.{SegmentTool}
+use Rattle.file_commands.specs.declared.tool.SegmentTool.TheVariants as segment
+use Rattle.file_commands.specs.declared.tool.ImageTool.{ImageTool}
+use Rattle.file_commands.specs.declared.tool.ImageTool.TheVariants as image
+use Rattle.file_commands.specs.declared.tool.Tool.{Tool}
+use Rattle.file_commands.specs.declared.tool.Tool.TheVariants as tool
 use Rattle.qj_cli.specs.Commands.{Asked, play, run, node, fsck, gen, list, segment_word, image_word, words_of, IsAllowed, AskFor, IsCommand}
 use Rattle.qj_cli.specs.Usage.{is_alone, is_oev, is_oiv, after_one, after_tool, after_program, after_number, behind_edits, after_nodes, after_gen, usage_of}
 use Rattle.qj_cli.specs.Words.{StopAt, UsageIsOfFirstWrongWord}

@@ -1,12 +1,12 @@
 -- The commands, and the words that ask for them.
 use Rattle.std.specs.Prelude.{ℕ, ◌≡◌, List, [], ◌∷◌, codes, decimal}
 use Rattle.script_maker.specs.Generated.{IsWithin}
-use Rattle.qj_cli.specs.declared.tool.SegmentTool.{SegmentTool}
-use Rattle.qj_cli.specs.declared.tool.SegmentTool.TheVariants as segment
-use Rattle.qj_cli.specs.declared.tool.ImageTool.{ImageTool}
-use Rattle.qj_cli.specs.declared.tool.ImageTool.TheVariants as image
-use Rattle.qj_cli.specs.declared.tool.Tool.{Tool}
-use Rattle.qj_cli.specs.declared.tool.Tool.TheVariants as tool
+use Rattle.file_commands.specs.declared.tool.SegmentTool.{SegmentTool}
+use Rattle.file_commands.specs.declared.tool.SegmentTool.TheVariants as segment
+use Rattle.file_commands.specs.declared.tool.ImageTool.{ImageTool}
+use Rattle.file_commands.specs.declared.tool.ImageTool.TheVariants as image
+use Rattle.file_commands.specs.declared.tool.Tool.{Tool}
+use Rattle.file_commands.specs.declared.tool.Tool.TheVariants as tool
 use Rattle.qj_cli.specs.declared.command.Command.{Command}
 use Rattle.qj_cli.specs.declared.command.Command.TheVariants as command
 

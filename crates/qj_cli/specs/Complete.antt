@@ -12,18 +12,18 @@ use Rattle.node_session.specs.Lines.{AreLines}
 use Rattle.node_session.specs.Session.{AreAll}
 use Rattle.mesh.specs.declared.whole.Mesh.{Mesh}
 use Rattle.ns_tree.specs.declared.end.End.{End}
-use Rattle.script_text.specs.Views.{ScriptView}
+use Rattle.script_lines.specs.Scripts.{ScriptView}
 use Rattle.script_text.specs.Grammar.{IsScriptText}
 use Rattle.report_text.specs.Limit.{longest_report}
-use Rattle.qj_cli.specs.declared.tool.Tool.{Tool}
-use Rattle.qj_cli.specs.declared.status.Status.{Status}
-use Rattle.qj_cli.specs.declared.status.Status.TheVariants as status
-use Rattle.qj_cli.specs.Uses.{SourceUse, SinkUse, DiskUse, AReadFailed, AWriteFailed}
+use Rattle.file_commands.specs.declared.tool.Tool.{Tool}
+use Rattle.exit_lines.specs.declared.status.Status.{Status}
+use Rattle.exit_lines.specs.declared.status.Status.TheVariants as status
+use Rattle.exit_lines.specs.Uses.{SourceUse, SinkUse, DiskUse, AReadFailed, AWriteFailed}
 use Rattle.qj_cli.specs.Commands.{Asked, play, run, node, fsck, gen, list}
 use Rattle.qj_cli.specs.Sound.{AreSound as AreSoundLists, ComeOf}
 use Rattle.qj_cli.specs.Report.{IsReport}
 use Rattle.qj_cli.specs.Plays.{longest_script}
-use Rattle.qj_cli.specs.Listing.{longest_file, IsInGrammar, file_under}
+use Rattle.file_commands.specs.Listing.{longest_file, IsInGrammar, file_under}
 
 -- ## Input in its grammar and within the limits
 -- the source's bytes are a script's, and none of its reports is longer than a report may be

@@ -1,15 +1,15 @@
 -- What each command does.
 use Rattle.std.specs.Prelude.{ℕ, ◌≡◌}
-use Rattle.qj_cli.specs.declared.status.Status.{Status}
-use Rattle.qj_cli.specs.declared.fault.Fault.TheVariants as fault
-use Rattle.qj_cli.specs.Uses.{SourceUse, SinkUse, DiskUse}
-use Rattle.qj_cli.specs.Told.{TellsFault}
+use Rattle.exit_lines.specs.declared.status.Status.{Status}
+use Rattle.exit_lines.specs.declared.fault.Fault.TheVariants as fault
+use Rattle.exit_lines.specs.Uses.{SourceUse, SinkUse, DiskUse}
+use Rattle.exit_lines.specs.Told.{TellsFault}
 use Rattle.qj_cli.specs.Commands.{Asked, play, run, node, fsck, gen, list}
 use Rattle.qj_cli.specs.Sound.{AreSound, ComeOf}
 use Rattle.qj_cli.specs.Plays.{Plays}
-use Rattle.qj_cli.specs.Listing.{Lists}
-use Rattle.qj_cli.specs.Serving.{Serves}
-use Rattle.qj_cli.specs.Checks.{Checks}
+use Rattle.file_commands.specs.Listing.{Lists}
+use Rattle.node_command.specs.Serving.{Serves}
+use Rattle.file_commands.specs.Checks.{Checks}
 use Rattle.qj_cli.specs.Generates.{Generates}
 
 -- With this status, by what it did to its source, its sink and its disk. A play leaves the disk alone, also that of a generated script.

@@ -1,14 +1,14 @@
 -- How the play of a generated script ends, and what it writes.
 use Rattle.std.specs.Prelude.{ℕ, ◌≡◌, List}
 use Rattle.script_maker.specs.Generated.{generated}
-use Rattle.cluster_runner.specs.Plays.{Play, mesh_of, ends_of}
+use Rattle.script_plays.specs.Plays.{Play, mesh_of, ends_of}
 use Rattle.play_summary.specs.Summary.{summary_text}
-use Rattle.qj_cli.specs.declared.status.Status.{Status}
-use Rattle.qj_cli.specs.declared.status.Status.TheVariants as status
-use Rattle.qj_cli.specs.declared.fault.Fault.{Fault}
-use Rattle.qj_cli.specs.declared.fault.Fault.TheVariants as fault
-use Rattle.qj_cli.specs.Uses.{SinkUse}
-use Rattle.qj_cli.specs.Told.{Told}
+use Rattle.exit_lines.specs.declared.status.Status.{Status}
+use Rattle.exit_lines.specs.declared.status.Status.TheVariants as status
+use Rattle.exit_lines.specs.declared.fault.Fault.{Fault}
+use Rattle.exit_lines.specs.declared.fault.Fault.TheVariants as fault
+use Rattle.exit_lines.specs.Uses.{SinkUse}
+use Rattle.exit_lines.specs.Told.{Told}
 use Rattle.qj_cli.specs.Sound.{IsSound}
 
 -- the text is the summary of the one play of the script that the number gives

@@ -2,16 +2,16 @@
 use Rattle.std.specs.Prelude.{ℕ, ◌≡◌, ◌≢◌, ◌<◌, ◌≤◌, ◌⊎◌, List, [], Option, Some, None, length}
 use Rattle.mesh.specs.declared.whole.Mesh.{Mesh}
 use Rattle.ns_tree.specs.declared.end.End.{End}
-use Rattle.script_text.specs.Views.{ScriptView}
+use Rattle.script_lines.specs.Scripts.{ScriptView}
 use Rattle.script_text.specs.Grammar.{IsScriptText}
 use Rattle.script_text.specs.Rules.{fault_of}
 use Rattle.report_text.specs.Limit.{longest_report}
-use Rattle.qj_cli.specs.declared.status.Status.{Status}
-use Rattle.qj_cli.specs.declared.status.Status.TheVariants as status
-use Rattle.qj_cli.specs.declared.fault.Fault.{Fault}
-use Rattle.qj_cli.specs.declared.fault.Fault.TheVariants as fault
-use Rattle.qj_cli.specs.Uses.{SourceUse, SinkUse, AReadFailed, NoReadFailed}
-use Rattle.qj_cli.specs.Told.{Told}
+use Rattle.exit_lines.specs.declared.status.Status.{Status}
+use Rattle.exit_lines.specs.declared.status.Status.TheVariants as status
+use Rattle.exit_lines.specs.declared.fault.Fault.{Fault}
+use Rattle.exit_lines.specs.declared.fault.Fault.TheVariants as fault
+use Rattle.exit_lines.specs.Uses.{SourceUse, SinkUse, AReadFailed, NoReadFailed}
+use Rattle.exit_lines.specs.Told.{Told}
 use Rattle.qj_cli.specs.Report.{IsPrinted, HasLongReport}
 
 abbrev pub longest_script : ℕ

@@ -2,9 +2,9 @@
 use Rattle.std.specs.Prelude.{ℕ, ◌≡◌, ◌<◌, ◌≤◌, List, length}
 use Rattle.mesh.specs.declared.whole.Mesh.{Mesh}
 use Rattle.ns_tree.specs.declared.end.End.{End}
-use Rattle.script_text.specs.Views.{ScriptView}
+use Rattle.script_lines.specs.Scripts.{ScriptView}
 use Rattle.script_text.specs.Grammar.{IsScriptText}
-use Rattle.cluster_runner.specs.Faultless.{ShowsNoFault}
+use Rattle.script_plays.specs.Faultless.{ShowsNoFault}
 use Rattle.report_text.specs.Text.{text_of}
 use Rattle.report_text.specs.Limit.{longest_report}
 use Rattle.qj_cli.specs.Sound.{ComeOf}

@@ -5,10 +5,10 @@ use Rattle.mesh.specs.declared.whole.Mesh.{Mesh}
 use Rattle.mesh.specs.Agree.{Agrees}
 use Rattle.mesh.specs.Order.{epoch_order}
 use Rattle.ns_tree.specs.declared.end.End.{End}
-use Rattle.script_text.specs.Views.{ScriptView}
-use Rattle.cluster_runner.specs.Plays.{Play, Plays, mesh_of, ends_of}
-use Rattle.cluster_runner.specs.Follows.{FollowsScript}
-use Rattle.cluster_runner.specs.Safe.{IsSafeWithEnds}
+use Rattle.script_lines.specs.Scripts.{ScriptView}
+use Rattle.script_plays.specs.Plays.{Play, Plays, mesh_of, ends_of}
+use Rattle.script_plays.specs.Follows.{FollowsScript}
+use Rattle.script_plays.specs.Safe.{IsSafeWithEnds}
 
 -- The lists agree, and they are what the script's lines ask for. What moved its nodes, in the order of the epochs, is a run of the journal world, and a
 -- safe one with what its actors end with: an acknowledged edit survives, finalised segments agree, and each namespace is the replay of the line's first

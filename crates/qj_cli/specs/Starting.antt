@@ -2,12 +2,12 @@
 use Rattle.std.specs.Prelude.{ℕ, ◌≡◌, List, Option, Some, None, codes, length}
 use Rattle.qj_outside.specs.declared.folder_disk.LockFail.{LockFail}
 use Rattle.qj_outside.specs.declared.folder_disk.LockFail.TheVariants as lock
-use Rattle.qj_cli.specs.declared.status.Status.{Status}
-use Rattle.qj_cli.specs.declared.status.Status.TheVariants as status
-use Rattle.qj_cli.specs.declared.fault.Fault.TheVariants as fault
-use Rattle.qj_cli.specs.Faults.{error_line, line_of}
-use Rattle.qj_cli.specs.Told.{WritesLine}
-use Rattle.qj_cli.specs.Uses.{SinkUse}
+use Rattle.exit_lines.specs.declared.status.Status.{Status}
+use Rattle.exit_lines.specs.declared.status.Status.TheVariants as status
+use Rattle.exit_lines.specs.declared.fault.Fault.TheVariants as fault
+use Rattle.exit_lines.specs.Faults.{error_line, line_of}
+use Rattle.exit_lines.specs.Told.{WritesLine}
+use Rattle.exit_lines.specs.Uses.{SinkUse}
 use Rattle.qj_cli.specs.Usage.{usage_of}
 
 -- the place that is told, or this many words

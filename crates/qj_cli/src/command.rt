@@ -3,7 +3,8 @@ ghost use Rattle.std.specs.Prelude.{◌≡◌, [], ◌∷◌, false, Some, codes
 ghost use Rattle.qj_cli.specs.Commands.{asked_in, AskFor};
 ghost use Rattle.qj_cli.specs.Usage.{bytes_of, is_alone, is_oev, is_oiv, after_one, after_tool, after_program, after_gen, usage_of};
 
-use crate::tool::{Tool, image_tool_of, segment_tool_of};
+use crate::tool_words::{image_tool_of, segment_tool_of};
+use file_commands::Tool;
 use line_words::number_of;
 
 /// The greatest number of a command.

@@ -2,19 +2,17 @@
 ghost use Rattle.std.specs.Prelude.{◌≡◌, IfOk, IfErr};
 ghost use Rattle.play_summary.specs.Summary.{summary_text};
 ghost use Rattle.script_maker.specs.Generated.{IsWithin};
-ghost use Rattle.qj_cli.specs.Uses.{written_to};
+ghost use Rattle.exit_lines.specs.Uses.{written_to};
 ghost use Rattle.qj_cli.specs.Generates.{IsSummary, GivesSummary, IsSummaryFault, Generates};
 
-use crate::fault::Fault;
 use crate::plays::play_soundly;
-use crate::status::Status;
-use crate::writing::write_due;
-use cluster_runner::Played;
+use exit_lines::{Fault, Status, write_due};
 use journal_core::OutOfMemory;
 use play_summary::summary_of;
 use qj_outside::Sink;
+use script_lines::Script;
 use script_maker::generate;
-use script_text::Script;
+use script_plays::Played;
 use std::alloc::Global;
 use std::mem;
 

@@ -3,9 +3,9 @@ ghost use Rattle.qj_cli.specs.Sound.{AreSound, ComeOf};
 ghost use Rattle.qj_cli.specs.Report.{ScriptsHaveOneReport, ReportsShowNoFault};
 ghost use Rattle.qj_cli.specs.Generates.{NumbersHaveOneSummary};
 ghost use Rattle.qj_cli.specs.Words.{UsageIsOfFirstWrongWord};
-ghost use Rattle.qj_cli.specs.Listing.{FilesHaveOneListing, FilesHaveOneFault, ListedFilesHaveNoFault};
+ghost use Rattle.file_commands.specs.Listing.{FilesHaveOneListing, FilesHaveOneFault, ListedFilesHaveNoFault};
 
-use cluster_runner::{a_mesh_that_agrees_shows_no_fault, one_script_has_one_play};
+use script_plays::{a_mesh_that_agrees_shows_no_fault, one_script_has_one_play};
 use script_text::text_is_of_one_script;
 
 /// A script has one report, so it is too long or it isn't.

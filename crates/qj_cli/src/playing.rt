@@ -4,20 +4,19 @@ ghost use Rattle.script_text.specs.Grammar.{IsScriptText};
 ghost use Rattle.report_text.specs.Text.{text_of};
 ghost use Rattle.report_text.specs.Limit.{longest_report};
 ghost use Rattle.qj_cli.specs.Sound.{AreSound, ComeOf};
-ghost use Rattle.qj_cli.specs.Uses.{read_from, written_to};
+ghost use Rattle.exit_lines.specs.Uses.{read_from, written_to};
 ghost use Rattle.qj_cli.specs.Plays.{GivesScript, IsTextFault, IsReadingFault, IsReportFault, GivesReport, IsPlayFault, Plays};
 
-use crate::fault::Fault;
 use crate::plays::{play_soundly, run_soundly};
-use crate::status::Status;
-use crate::writing::write_due;
-use cluster_runner::Played;
+use exit_lines::{Fault, Status, write_due};
 use gate_seats::Pass;
 use mesh::Mesh;
 use ns_tree::EndList;
 use qj_outside::{Input, Sink, Source, read_all};
 use report_text::{LONGEST_REPORT, Report, report_of};
-use script_text::{ReadScript, Script, read_script};
+use script_lines::Script;
+use script_plays::Played;
+use script_text::{ReadScript, read_script};
 use std::alloc::Global;
 use std::mem;
 use std::sync::Wait;
@@ -66,7 +65,7 @@ fn due_of_lists(alloc: Global, mesh: &Mesh, ends: &EndList) -> Result<Vec<u8>, F
     }
 }
 
-/// The report of what a script's play left. The nodes' disks are given back before it is made. The lists and the script never are: the
+/// The report of what a script's play left. The nodes' disks and the script are given back before it is made. The lists never are: the
 /// process ends once the report is written, and to give back their small pieces one by one would take a tenth of the play's time.
 fn due_of_played<N: Drop>(
     alloc: Global,
@@ -78,10 +77,10 @@ fn due_of_played<N: Drop>(
 {
     let Played { mesh, ends, nodes } = played;
     drop(nodes);
+    drop(script);
     let due = due_of_lists(alloc, &mesh, &ends);
     mem::forget(mesh);
     mem::forget(ends);
-    mem::forget(script);
     due
 }
 

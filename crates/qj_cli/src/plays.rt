@@ -3,10 +3,7 @@ ghost use Rattle.std.specs.Prelude.{IfOk};
 ghost use Rattle.script_text.specs.Grammar.{IsScript};
 ghost use Rattle.qj_cli.specs.Sound.{AreSound, ComeOf};
 
-use cluster_runner::{
-    Played, a_mesh_that_agrees_is_safe, a_play_agrees, a_play_follows, play_on,
-    scripts_are_playable,
-};
+use cluster_runner::play_on;
 use disk_nodes::fresh_nodes;
 use gate_seats::Pass;
 use journal_core::OutOfMemory;
@@ -14,7 +11,10 @@ use journal_node::JournalNode;
 use mesh::epoch_order_is_a_run;
 use names_safety::epoch_order_is_safe;
 use qj_disk::MemDisk;
-use script_text::Script;
+use script_lines::Script;
+use script_plays::{
+    Played, a_mesh_that_agrees_is_safe, a_play_agrees, a_play_follows, scripts_are_playable,
+};
 use std::alloc::Global;
 use std::sync::Wait;
 use std::thread::Threads;

@@ -2,14 +2,12 @@
 ghost use Rattle.std.specs.Prelude.{◌≡◌, MatchBool};
 ghost use Rattle.qj_cli.specs.Commands.{node, words_of};
 ghost use Rattle.qj_cli.specs.Usage.{bytes_of};
-ghost use Rattle.qj_cli.specs.Uses.{written_to};
-ghost use Rattle.qj_cli.specs.Told.{TellsFault};
+ghost use Rattle.exit_lines.specs.Uses.{written_to};
+ghost use Rattle.exit_lines.specs.Told.{TellsFault};
 ghost use Rattle.qj_cli.specs.Starting.{usage_after, TellsUnlocked};
 
 use crate::command::{Command, read_command};
-use crate::fault::Fault;
-use crate::status::Status;
-use crate::writing::{write_fault, write_line};
+use exit_lines::{Fault, Status, write_fault, write_line};
 use qj_outside::{LockFail, Sink};
 use std::alloc::Global;
 

@@ -2,20 +2,17 @@
 ghost use Rattle.std.specs.Prelude.{◌≡◌, ◌↔◌, ℕ, Some, IfOk, IfErr, IsErr};
 ghost use Rattle.qj_cli.specs.Commands.{Asked, asked_in, IsAllowed, AskFor, run};
 ghost use Rattle.qj_cli.specs.Usage.{bytes_of, usage_of};
-ghost use Rattle.qj_cli.specs.Uses.{read_from, written_to, done_to};
+ghost use Rattle.exit_lines.specs.Uses.{read_from, written_to, done_to};
 ghost use Rattle.qj_cli.specs.Does.{Does, Refuses, ReadsNone, NeedsThreads};
 ghost use Rattle.qj_cli.specs.Complete.{IsComplete};
 
-use crate::checking::check_files;
 use crate::command::{Command, read_command};
-use crate::exit::Exit;
-use crate::fault::Fault;
 use crate::generating::play_generated;
-use crate::listing::list_file;
 use crate::playing::{play_script, run_script};
-use crate::serving::serve_node;
-use crate::writing::write_fault;
+use exit_lines::{Exit, Fault, write_fault};
+use file_commands::{check_files, list_file};
 use gate_seats::Pass;
+use node_command::serve_node;
 use qj_disk::Disk;
 use qj_outside::{Sink, Source};
 use std::alloc::Global;

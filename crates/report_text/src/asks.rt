@@ -61,7 +61,7 @@ pub(crate) fn put_ask(
         }
         NodeAsk::Kill => out.extend_from_slice(b"kill"),
         NodeAsk::Restart => out.extend_from_slice(b"restart"),
-        NodeAsk::Arm { calls, stop } => put_stop(out, *calls, *stop),
+        NodeAsk::Arm { calls, stop } => put_stop(out, *calls, stop.get()),
     }
 }
 

@@ -59,7 +59,7 @@ fn count_ask(count: u64, ask: &NodeAsk) -> u64
         NodeAsk::Act { late, request } => count_request(count_late(count, *late), request.get()),
         NodeAsk::Kill => count_bytes(count, b"kill"),
         NodeAsk::Restart => count_bytes(count, b"restart"),
-        NodeAsk::Arm { calls, stop } => count_stop(count, *calls, *stop),
+        NodeAsk::Arm { calls, stop } => count_stop(count, *calls, stop.get()),
     }
 }
 

@@ -131,7 +131,7 @@ pub fn count_reply(count: u64, reply: &Reply) -> u64
             committed,
             segment,
         } => count_prepared(count, *writer, *committed, segment),
-        Reply::Edits(batch) => count_edits(count, batch),
+        Reply::Edits(batch) => count_edits(count, batch.get()),
         Reply::Segments(lines) => count_lines(count_bytes(count, b"segments"), lines.as_slice()),
         Reply::Refused(refusal) => count_refusal(count_bytes(count, b"refused"), refusal),
     }

@@ -72,7 +72,8 @@ fn put_reply(reply: &Reply, out: &mut Vec<u8>) -> Result<(), OutOfMemory>
             put_numbers(out, &[*writer, *committed])?;
             put_told(segment, out)
         }
-        Reply::Edits(batch) => {
+        Reply::Edits(told) => {
+            let batch = told.get();
             put(out, b"edits")?;
             put_numbers(out, &[batch.first()])?;
             put_bodies(out, batch.bodies())

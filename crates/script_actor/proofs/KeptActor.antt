@@ -18,7 +18,7 @@ use Rattle.mesh.specs.Makers.{heard_of}
 use Rattle.name_node.specs.Holding.{Holding, Work, Free, Tails, Logs, Broken}
 use Rattle.caller_seats.specs.Logs.{LogView}
 use Rattle.script_actor.specs.Lines.{Action, Does, DoDrop, DoMute, DoLate}
-use Rattle.script_actor.specs.Results.{results_of, inactive_results, too_long_results, late_none}
+use Rattle.result_lines.specs.Results.{results_of, inactive_results, too_long_results, late_none}
 use Rattle.script_actor.specs.Actor.{Actor, Want, WantsCall, WantsCopy, Says, Rests, wants, say_first, copy_first, read_first, work_read, call_wanted, is_wanting, is_broken_work, is_broken_holding, is_broken, while_wanting, turn_with, after_judgment, heard_in_work, heard_by, goes_on, hand_action, settle, settle_again, take_action, task_begun, moved_on, turn_taken, make_copy}
 use Rattle.script_actor.specs.KeptActor.{KeptActor, as_actor, resting, hears, say_texts, loses, copies, earlier_call, doing_after}
 use Rattle.script_actor.specs.Went.{refused_results}

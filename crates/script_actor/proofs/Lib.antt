@@ -4,13 +4,11 @@ pub mod KeptActor
 pub mod WriterTurn
 pub mod TurnsTell
 pub mod TurnsFit
-pub mod ResultLaws
 pub mod Stretches
 pub mod GoneLaws
 pub mod NamedLaws
 pub mod StandbyLaws
 pub mod TrimLaws
-pub mod DueLaws
 pub mod SubmitLaws
 pub mod TailLaws
 pub mod SavedLaws

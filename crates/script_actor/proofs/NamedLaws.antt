@@ -26,8 +26,8 @@ use Rattle.standby_tailer.specs.declared.tailed.Tailed.{Tailed}
 use Rattle.standby_tailer.specs.declared.tailed.Tailed.TheVariants as tailed
 use Rattle.caller_seats.specs.Logs.{LogView}
 use Rattle.script_actor.specs.Lines.{Does}
-use Rattle.script_actor.specs.Results.{word, took, cause_words, for_each, name_of}
-use Rattle.script_actor.specs.ResultLists.{texts_of, entry_texts}
+use Rattle.result_lines.specs.Results.{word, took, cause_words, for_each, name_of}
+use Rattle.result_lines.specs.ResultLists.{texts_of, entry_texts}
 use Rattle.script_actor.specs.Actor.{Actor, is_broken_work, aborted_texts, tail_ended, tail_stepped, task_done, held_turn, turn_with, turn_taken, entry_text}
 use Rattle.script_actor.specs.KeptActor.{KeptActor, as_actor}
 use Rattle.script_actor.specs.Ready.{IsReady, is_going}

@@ -8,8 +8,8 @@ use Rattle.standby_tailer.specs.declared.tailed.Tailed.{Tailed}
 use Rattle.standby_tailer.specs.declared.tailed.Tailed.TheVariants as tailed
 use Rattle.caller_seats.specs.Logs.{LogView}
 use Rattle.script_actor.specs.Lines.{Action, DoTail, Saves, Reloads}
-use Rattle.script_actor.specs.Results.{word, cause_words}
-use Rattle.script_actor.specs.ResultLists.{tail_texts}
+use Rattle.result_lines.specs.Results.{word, cause_words}
+use Rattle.result_lines.specs.ResultLists.{tail_texts}
 use Rattle.script_actor.specs.Actor.{Actor, hand_action, take_action, take_named_action, unless_active, begin_save, begin_reload, tail_stepped, tail_ended, tail_text}
 use Rattle.script_actor.specs.KeptActor.{KeptActor, as_actor, resting}
 use Rattle.script_actor.specs.Actions.{kept_of, is_idle_work, IsIdleHolding, IsIdleActor, TakesAction, ComesToRest}

@@ -21,8 +21,8 @@ use Rattle.run_safety.proofs.WriterRange.{heard_sized, begun_sized}
 use Rattle.name_node.specs.Holding.{Holding}
 use Rattle.caller_seats.specs.Logs.{LogView, with_line, lose_call, copy_call, earlier_call as earlier_in, mark_kind, IsCalled, IsCopied}
 use Rattle.script_actor.specs.Lines.{Does, DoDrop, DoMute, DoLate}
-use Rattle.script_actor.specs.Results.{results_of, late_none, name_of, word}
-use Rattle.script_actor.specs.ResultLists.{edits_of, times, texts_of, AreFew}
+use Rattle.result_lines.specs.Results.{results_of, late_none, name_of, word}
+use Rattle.result_lines.specs.ResultLists.{edits_of, times, texts_of, AreFew}
 use Rattle.script_actor.specs.Actor.{Fits, hand_action, turn_taken}
 use Rattle.script_actor.specs.KeptActor.{KeptActor, as_actor, resting, hears, say_texts, doing_after}
 use Rattle.script_actor.specs.Ready.{IsReady}
@@ -31,7 +31,7 @@ use Rattle.script_actor.specs.Actions.{kept_of, LedTo, IsOneCall, IsNoTail, Goes
 use Rattle.script_actor.proofs.LedLaws.{led_same, led_on, led_one}
 use Rattle.script_actor.proofs.KeptActor.{idle_no_tail, wants_call, wants_said, goes_call, goes_said, raw_turn, handed_refused, handed_going, handed_drop, handed_mute, handed_none, handed_late, wants_copy, goes_copy, copying as with_copy}
 use Rattle.script_actor.proofs.WriterTurn.{call_under, going_is, refused_writer, begun_under, not_going}
-use Rattle.script_actor.proofs.ResultLaws.{results_are, inactive_are, too_long_are, few_is}
+use Rattle.result_lines.proofs.ResultLaws.{results_are, inactive_are, too_long_are, few_is}
 use Rattle.script_actor.proofs.TurnsFit.{heard_fits, begun_few}
 use Rattle.script_actor.proofs.TurnsTell.{turn_tells}
 use Rattle.mesh.proofs.Chores.{at_rest}

@@ -33,15 +33,16 @@ use Rattle.name_node.specs.Holding.{Holding, Work, Free, Logs, with_work, reload
 use Rattle.standby_tailer.specs.Standbys.{StandbyView, empty_standby, held}
 use Rattle.caller_seats.specs.Logs.{LogView}
 use Rattle.script_actor.specs.Lines.{Submits}
-use Rattle.script_actor.specs.Results.{cause_words, dues_logged, dues_aborted, abort_text}
+use Rattle.result_lines.specs.Results.{cause_words, dues_logged, dues_aborted, abort_text}
 use Rattle.script_actor.specs.Actor.{Actor, is_broken_work, take_action, take_named_action, logged_when, after_sync, begin_sync, logs_done, task_done, held_turn, turn_with, turn_taken}
 use Rattle.script_actor.specs.KeptActor.{KeptActor, as_actor, resting}
 use Rattle.script_actor.specs.Ready.{IsReady, is_going}
 use Rattle.script_actor.specs.Went.{HasGone, opens}
 use Rattle.script_actor.specs.Actions.{kept_of, GoesFar, IsIdleActor, TakesAction, ComesToRest}
 use Rattle.script_actor.specs.Named.{Stands}
-use Rattle.script_actor.specs.declared.edit_due.EditDue.{EditDue}
-use Rattle.script_actor.specs.Submitting.{AreSubmitted, due_of, dues_of, log_texts, MayHold, log_held}
+use Rattle.result_lines.specs.declared.edit_due.EditDue.{EditDue}
+use Rattle.result_lines.specs.DueTexts.{due_of, dues_of}
+use Rattle.script_actor.specs.Submitting.{AreSubmitted, log_texts, MayHold, log_held}
 use Rattle.script_actor.proofs.LedLaws.{led_same, led_on}
 use Rattle.script_actor.proofs.Stretches.{IsSaid}
 use Rattle.script_actor.proofs.NamedLaws.{own_turn, free_idle, at_rest, reloaded_free}

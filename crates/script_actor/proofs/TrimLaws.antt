@@ -15,8 +15,8 @@ use Rattle.active_name.proofs.WriterEnds.{purge_next}
 use Rattle.name_node.specs.Holding.{Holding, Work, Free, reload_image, min_to_keep}
 use Rattle.caller_seats.specs.Logs.{LogView}
 use Rattle.script_actor.specs.Lines.{Trims}
-use Rattle.script_actor.specs.Results.{abort_text}
-use Rattle.script_actor.specs.ResultLists.{trim_texts}
+use Rattle.result_lines.specs.Results.{abort_text}
+use Rattle.result_lines.specs.ResultLists.{trim_texts}
 use Rattle.script_actor.specs.Actor.{Actor, is_broken_work, aborted_texts, hand_action, take_action, take_named_action, trim_at, task_done, held_turn, turn_with, turn_taken}
 use Rattle.script_actor.specs.KeptActor.{KeptActor, as_actor, resting}
 use Rattle.script_actor.specs.Ready.{is_going}

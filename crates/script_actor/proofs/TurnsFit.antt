@@ -24,7 +24,7 @@ use Rattle.writer_core.specs.Answers.{is_waiting, has_majority, fits_edits, fits
 use Rattle.writer_core.specs.Best.{greatest_promise}
 use Rattle.writer_core.specs.Rounds.{Judgment, keep_going, stops_with, next_serial, begin_propose, after_state, after_finalize, after_open, after_write, after_round, with_causes, judgment_by, judgment, without_answer_of, after_edits, after_no_edits, after_fetch, numbers_fit, left_out_after, head_now, batch_from}
 use Rattle.writer_core.specs.Writer.{with_answer, judgment_when, heard_in, heard_at, writer_heard, writer_begun, log_begins, log_limit, is_writing, if_writing}
-use Rattle.script_actor.specs.ResultLists.{TurnFits, IsFew}
+use Rattle.result_lines.specs.ResultLists.{TurnFits, IsFew}
 use Rattle.script_actor.specs.Went.{TellsTaken}
 use Rattle.writer_core.proofs.Judging.{numbers_anyhow}
 

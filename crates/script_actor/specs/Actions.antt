@@ -9,11 +9,11 @@ use Rattle.writer_core.specs.Writer.{new_writer, next_call, writer_heard, is_und
 use Rattle.node_history.specs.declared.record.Record.{Record}
 use Rattle.node_history.specs.declared.record.Told.{Told}
 use Rattle.mesh.specs.Makers.{heard_of}
-use Rattle.script_text.specs.declared.script_line.ScriptLine.{ScriptLine}
-use Rattle.script_text.specs.declared.script_line.ScriptLine.TheVariants as line
+use Rattle.script_lines.specs.declared.script_line.ScriptLine.{ScriptLine}
+use Rattle.script_lines.specs.declared.script_line.ScriptLine.TheVariants as line
 use Rattle.caller_seats.specs.Logs.{LogView}
 use Rattle.script_actor.specs.Lines.{Action, DoDrop, DoMute, Line, Declares, Acts, Operates}
-use Rattle.script_actor.specs.ResultLists.{TurnFits}
+use Rattle.result_lines.specs.ResultLists.{TurnFits}
 use Rattle.name_node.specs.Holding.{Holding, Work, Free, Tails, Logs, Broken}
 use Rattle.script_actor.specs.Actor.{Actor, hand_action, turn_taken, holding_if, is_broken_holding, IsLed, actor_after}
 use Rattle.script_actor.specs.KeptActor.{KeptActor, as_actor, resting, hears}

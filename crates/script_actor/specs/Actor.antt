@@ -24,7 +24,7 @@ use Rattle.node_history.specs.declared.mark.MarkKind.TheVariants as kind
 use Rattle.mesh.specs.Marks.{mark, calls_to, next_number}
 use Rattle.mesh.specs.Makers.{heard_of}
 use Rattle.script_actor.specs.Lines.{Action, Does, DoDrop, DoMute, DoLate, Submits, Trims, DoTail, Saves, Reloads}
-use Rattle.script_actor.specs.Results.{word, took, cause_words, aborted_results, results_of, inactive_results, too_long_results, late_none, dues_logged, dues_aborted, abort_text}
+use Rattle.result_lines.specs.Results.{word, took, cause_words, aborted_results, results_of, inactive_results, too_long_results, late_none, dues_logged, dues_aborted, abort_text}
 use Rattle.ns_tree.specs.declared.end.LastSpace.{LastSpace}
 use Rattle.name_node.specs.Submissions.{Submission, submit_edits, nothing_submitted}
 use Rattle.name_node.specs.Holding.{Holding, new_holding, Work, Free, Tails, Logs, Broken, with_work, at_position, save_image, reload_image, min_to_keep}

@@ -1,6 +1,4 @@
 pub mod Lines
-pub mod Results
-pub mod ResultLists
 pub mod Actor
 pub mod KeptActor
 pub mod Ready

@@ -8,9 +8,9 @@ use Rattle.writer_core.specs.declared.task.Task.TheVariants as task
 use Rattle.writer_core.specs.Writer.{HasBody}
 use Rattle.node_history.specs.declared.node_ask.NodeAsk.{NodeAsk}
 use Rattle.node_history.specs.declared.node_ask.NodeAsk.TheVariants.{Kill, Restart, Arm}
-use Rattle.script_text.specs.Views.{ScriptView}
-use Rattle.script_text.specs.declared.script_line.ScriptLine.{ScriptLine}
-use Rattle.script_text.specs.declared.script_line.ScriptLine.TheVariants as line
+use Rattle.script_lines.specs.Scripts.{ScriptView}
+use Rattle.script_lines.specs.declared.script_line.ScriptLine.{ScriptLine}
+use Rattle.script_lines.specs.declared.script_line.ScriptLine.TheVariants as line
 use Rattle.mesh.specs.Makers.{IsOperation}
 
 -- What an actor is told to do: a task; to lose its next calls to a node, the request or the reply of the one with this number; to send a

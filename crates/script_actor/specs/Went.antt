@@ -11,7 +11,7 @@ use Rattle.writer_core.specs.Views.{WriterView}
 use Rattle.writer_core.specs.Turns.{IsApt, IsTurnOf}
 use Rattle.writer_core.specs.Writer.{is_writing}
 use Rattle.quorum_writer.specs.Led.{Leads}
-use Rattle.script_actor.specs.Results.{inactive_results, too_long_results}
+use Rattle.result_lines.specs.Results.{inactive_results, too_long_results}
 
 -- the results of a task that did not begin
 abbrev pub refused_results : Task → Begun → Option (List (List ℕ))

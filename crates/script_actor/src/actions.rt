@@ -7,21 +7,21 @@ ghost use Rattle.node_history.specs.declared.record.Record.TheVariants.{Outcome}
 ghost use Rattle.run_safety.specs.Sized.{Sized};
 ghost use Rattle.name_node.specs.Holding.{Holding};
 ghost use Rattle.script_actor.specs.Lines.{Does, DoLate};
-ghost use Rattle.script_actor.specs.Results.{name_of};
-ghost use Rattle.script_actor.specs.ResultLists.{edits_of};
+ghost use Rattle.result_lines.specs.Results.{name_of};
+ghost use Rattle.result_lines.specs.ResultLists.{edits_of};
 ghost use Rattle.script_actor.specs.KeptActor.{as_actor, resting};
 ghost use Rattle.script_actor.specs.Ready.{IsReady};
 ghost use Rattle.script_actor.specs.Went.{HasGone, refused_results};
 ghost use Rattle.script_actor.specs.Actions.{kept_of, LedTo, IsNext, GoesFar, IsIdleActor, IsUnbroken, TakesAction, mark_action};
 
-use crate::results::{inactive_texts, no_call, results, too_long};
 use caller_seats::Seats;
 use journal_core::{Bytes, OutOfMemory};
+use result_lines::{inactive_texts, no_call, results, too_long};
 use std::alloc::Global;
 use writer_core::{Begun, Task, Turn, Writer};
 
 /// What the results of a task begin with.
-#[tactic(auto, unfolding(crate::specs::Results::name_of))]
+#[tactic(auto, unfolding(result_lines::specs::Results::name_of))]
 fn name_of(task: &Task) -> &'static [u8]
     ensures { result.now ≡ name_of task.now }
 {

@@ -2,17 +2,15 @@
 #![tactic(auto)]
 
 mod actions;
-mod edit_due;
 mod held;
 mod holding;
-mod name_results;
 mod named_tasks;
-mod results;
 mod saved_images;
 mod script_actor;
 mod segment_task;
 mod standby_actions;
 mod submissions;
+mod submitted;
 mod tailing;
 mod trims;
 

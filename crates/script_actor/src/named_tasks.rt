@@ -16,11 +16,10 @@ ghost use Rattle.script_actor.specs.Actions.{kept_of, IsIdleActor, TakesAction, 
 use crate::actions::{begin, finish, say_all};
 use crate::held::Held;
 use crate::holding::NameHolding;
-use crate::name_results::entry_results;
-use crate::results::results;
 use crate::segment_task::SegmentTask;
 use caller_seats::Seats;
 use journal_core::OutOfMemory;
+use result_lines::{entry_results, results};
 use standby_tailer::Tailed;
 use std::alloc::Global;
 use writer_core::{Outcome, Turn, Writer};

@@ -18,7 +18,7 @@ use crate::trims::take_trim;
 use caller_seats::Seats;
 use journal_core::OutOfMemory;
 use ns_tree::LastSpace;
-use script_text::ScriptLine;
+use script_lines::ScriptLine;
 use std::alloc::Global;
 use std::marker::Model;
 use writer_core::{Task, Writer};

@@ -1,6 +1,6 @@
 // The tasks of a name node that begin or end a segment.
 ghost use Rattle.std.specs.Prelude.{◌≡◌};
-ghost use Rattle.script_actor.specs.Results.{name_of};
+ghost use Rattle.result_lines.specs.Results.{name_of};
 ghost use Rattle.script_actor.specs.Named.{task_of};
 
 use writer_core::Task;
@@ -26,7 +26,7 @@ impl SegmentTask {
     }
 
     /// What its results begin with.
-    #[tactic(auto, unfolding(crate::specs::Results::name_of))]
+    #[tactic(auto, unfolding(result_lines::specs::Results::name_of))]
     pub(crate) fn name(self) -> &'static [u8]
         ensures { result.now ≡ name_of (task_of self) }
     {

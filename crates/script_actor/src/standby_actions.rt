@@ -7,9 +7,9 @@ ghost use Rattle.script_actor.specs.Named.{TakesStanding};
 
 use crate::actions::say_all;
 use crate::held::Held;
-use crate::name_results::{one_number, one_word, tail_results};
 use caller_seats::Seats;
 use journal_core::OutOfMemory;
+use result_lines::{one_number, one_word, tail_results};
 use std::alloc::Global;
 
 /// Reads and applies what it lacks.

@@ -7,27 +7,27 @@ ghost use Rattle.name_node.specs.Holding.{Free, Logs, with_work};
 ghost use Rattle.standby_tailer.specs.Standbys.{StandbyView, held};
 ghost use Rattle.active_name.specs.Pendings.{PendsFrom};
 ghost use Rattle.script_actor.specs.Lines.{Submits};
-ghost use Rattle.script_actor.specs.ResultLists.{TurnFits};
+ghost use Rattle.result_lines.specs.ResultLists.{TurnFits};
 ghost use Rattle.script_actor.specs.Actor.{logged_when};
 ghost use Rattle.script_actor.specs.KeptActor.{as_actor, resting};
 ghost use Rattle.script_actor.specs.Ready.{IsReady};
 ghost use Rattle.script_actor.specs.Named.{Stands};
-ghost use Rattle.script_actor.specs.Submitting.{AreSubmitted, dues_of, MayHold, log_texts, log_held};
+ghost use Rattle.result_lines.specs.DueTexts.{dues_of};
+ghost use Rattle.script_actor.specs.Submitting.{AreSubmitted, MayHold, log_texts, log_held};
 ghost use Rattle.script_actor.specs.Actions.{kept_of, IsIdleActor, TakesAction, ComesToRest};
 
 use crate::actions::{finish, say_all};
-use crate::edit_due::EditDue;
 use crate::held::Held;
 use crate::holding::NameHolding;
-use crate::name_results::{logged_results, lost_results};
 use crate::named_tasks::{is_opened, reload_holding};
-use crate::results::{aborted_text, bytes_of, repeat_text};
 use crate::saved_images::SavedImages;
+use crate::submitted::due_by;
 use active_name::Pending;
 use caller_seats::Seats;
 use edit_ops::{Edit, EditList};
 use journal_core::{BodyList, Bytes, OutOfMemory};
 use ns_tree::Namespace;
+use result_lines::{EditDue, aborted_text, bytes_of, logged_results, lost_results, repeat_text};
 use standby_tailer::Standby;
 use std::alloc::{AllocError, Global};
 use writer_core::{Cause, Outcome, Task, Turn, Writer};
@@ -107,7 +107,7 @@ fn submit_all(
     let mut dues = Vec::with_capacity(alloc, edits.len())?;
     for edit in edits {
         let answer = pending.submit(alloc, room, next, edit);
-        let Some(due) = EditDue::of(answer, next) else {
+        let Some(due) = due_by(answer, next) else {
             return Err(AllocError);
         };
         dues.push(due)?;

@@ -11,10 +11,10 @@ ghost use Rattle.script_actor.specs.Actions.{kept_of, IsIdleActor, TakesAction, 
 use crate::actions::{finish, say_all};
 use crate::held::Held;
 use crate::holding::NameHolding;
-use crate::name_results::{one_word, trim_results};
 use crate::named_tasks::{hold_after, is_opened};
 use caller_seats::Seats;
 use journal_core::OutOfMemory;
+use result_lines::{one_word, trim_results};
 use std::alloc::Global;
 use writer_core::{Task, Writer};
 

@@ -10,7 +10,7 @@ use Rattle.std.proofs.lemmas.Str.Parse.{digit_from_value}
 use Rattle.edit_ops.specs.Records.{EditView}
 use Rattle.edit_ops.specs.Grammar.{IsEdit}
 use Rattle.edit_ops.specs.Words.{verb}
-use Rattle.edit_ops.specs.Texts.{text_of}
+use Rattle.edit_texts.specs.Texts.{text_of}
 use Rattle.line_words.specs.Words.{joined, words_of}
 use Rattle.script_text.specs.Edits.{separator, is_separator, edit_words, IsSayable}
 use Rattle.script_text.proofs.BodyLaws.{all_append, IsWord, words_again}

@@ -1,7 +1,7 @@
 -- The lines of a generated script, one after another.
 use Rattle.std.proofs.Common.{ℕ, zero, suc, ◌≡◌, ◌<◌, ◌≤◌, ◌+◌, ◌-◌, List, [], ◌∷◌, ◌++◌, refl, sym, ap, arith, ◌∙◌, append_assoc, append-nil}
-use Rattle.script_text.specs.declared.script_line.ScriptLine.{ScriptLine}
-use Rattle.script_text.specs.declared.script_line.ScriptLine.TheVariants.{Edits}
+use Rattle.script_lines.specs.declared.script_line.ScriptLine.{ScriptLine}
+use Rattle.script_lines.specs.declared.script_line.ScriptLine.TheVariants.{Edits}
 use Rattle.script_maker.specs.declared.making.Making.{Making}
 use Rattle.script_maker.specs.Generated.{lines_before, edit_after, edit_lines}
 

@@ -3,10 +3,11 @@ use Rattle.std.proofs.Common.{ℕ, zero, suc, ◌≡◌, ◌<◌, ◌≤◌, ◌
 use Rattle.std.specs.List.{AllByRecursion}
 use Rattle.std.proofs.Math.Nat.{mod-lt, div-le_of_le-mul}
 use Rattle.edit_ops.specs.Records.{EditView}
-use Rattle.edit_ops.specs.Texts.{text_of}
-use Rattle.script_text.specs.declared.script_line.ScriptLine.{ScriptLine}
-use Rattle.script_text.specs.declared.script_line.ScriptLine.TheVariants.{Declare, Takeover, Roll, Edits, Tail, Drop, Kill, Restart}
-use Rattle.script_text.specs.Views.{ScriptView, SaidView}
+use Rattle.edit_texts.specs.Texts.{text_of}
+use Rattle.script_lines.specs.declared.script_line.ScriptLine.{ScriptLine}
+use Rattle.script_lines.specs.declared.script_line.ScriptLine.TheVariants.{Declare, Takeover, Roll, Edits, Tail, Drop, Kill, Restart}
+use Rattle.script_lines.specs.Scripts.{ScriptView}
+use Rattle.script_text.specs.Views.{SaidView}
 use Rattle.line_words.specs.Words.{joined, words_of}
 use Rattle.script_text.specs.Words.{is_name, actor_of}
 use Rattle.script_text.specs.Edits.{edits_text}

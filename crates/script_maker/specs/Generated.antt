@@ -2,9 +2,9 @@
 use Rattle.std.specs.Prelude.{ℕ, zero, suc, ◌+◌, ◌/◌, ◌%◌, ◌≤◌, ◌==◌, nat_lt, true, List, [], ◌∷◌, ◌++◌, None, codes, decimal, if◌then◌else◌}
 use Rattle.edit_ops.specs.Records.{EditView}
 use Rattle.edit_ops.specs.declared.op.Op.TheVariants.{Mkdir, Add}
-use Rattle.script_text.specs.Views.{ScriptView}
-use Rattle.script_text.specs.declared.script_line.ScriptLine.{ScriptLine}
-use Rattle.script_text.specs.declared.script_line.ScriptLine.TheVariants.{Declare, Takeover, Roll, Edits, Tail, Drop, Kill, Restart}
+use Rattle.script_lines.specs.Scripts.{ScriptView}
+use Rattle.script_lines.specs.declared.script_line.ScriptLine.{ScriptLine}
+use Rattle.script_lines.specs.declared.script_line.ScriptLine.TheVariants.{Declare, Takeover, Roll, Edits, Tail, Drop, Kill, Restart}
 use Rattle.script_maker.specs.declared.making.Making.{Making}
 use Rattle.script_maker.specs.declared.chance.Chance.{Chance}
 use Rattle.script_maker.specs.declared.chance.Chance.TheVariants as chance

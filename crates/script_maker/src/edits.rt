@@ -1,12 +1,12 @@
 // The edits of a generated script.
 ghost use Rattle.std.specs.Prelude.{◌≡◌, ◌++◌, ◌∷◌, [], ◌<◌, ◌≤◌, ◌+◌, IfOk, OnOk};
-ghost use Rattle.script_text.specs.declared.script_line.ScriptLine.TheVariants.{Edits};
+ghost use Rattle.script_lines.specs.declared.script_line.ScriptLine.TheVariants.{Edits};
 ghost use Rattle.script_maker.specs.Generated.{directory_path, file_path, owner, directory_edit, file_edit, edit_after};
 
 use edit_ops::{Edit, EditList, Op};
 use journal_core::OutOfMemory;
 use qj_num::{Name, put_decimal};
-use script_text::ScriptLine;
+use script_lines::ScriptLine;
 use std::alloc::Global;
 
 /// How many edits lie between two directories.

@@ -1,13 +1,13 @@
 // Scripts are generated.
 ghost use Rattle.std.specs.Prelude.{◌≡◌, ◌≢◌, ◌++◌, ◌∷◌, [], ◌≤◌, IfOk, OnOk};
-ghost use Rattle.script_text.specs.declared.script_line.ScriptLine.TheVariants.{Declare};
+ghost use Rattle.script_lines.specs.declared.script_line.ScriptLine.TheVariants.{Declare};
 ghost use Rattle.script_text.specs.Grammar.{IsScript};
 ghost use Rattle.script_maker.specs.Generated.{IsWithin, first_lines, first_making, edit_lines, generated};
 
 use crate::edits::put_edit;
 use crate::making::Making;
 use journal_core::{Bytes, OutOfMemory};
-use script_text::{Script, ScriptLine};
+use script_lines::{Script, ScriptLine};
 use std::alloc::Global;
 
 /// Adds the line that declares an actor.

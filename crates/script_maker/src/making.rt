@@ -5,7 +5,7 @@ ghost use Rattle.script_maker.specs.Generated.{other_writer, after_draw, node_dr
 
 use crate::chance::{Chance, chance_of};
 use journal_core::OutOfMemory;
-use script_text::ScriptLine;
+use script_lines::ScriptLine;
 
 const MULTIPLIER: u64 = 6_364_136_223_846_793_005;
 

@@ -6,11 +6,11 @@ use Rattle.std.proofs.lemmas.Bool.Decides.{eqb_tells}
 use Rattle.std.proofs.lemmas.List.{take_at}
 use Rattle.std.proofs.lemmas.Slice.Eq.{bytes_eq-Decides}
 use Rattle.edit_ops.specs.Records.{EditView}
-use Rattle.edit_ops.specs.Texts.{text_of, IsText}
-use Rattle.edit_ops.specs.SaidTexts.{is_edit_text, IsGraphic, IsWorded}
-use Rattle.edit_ops.proofs.TestLaws.{passes, edit_from}
-use Rattle.edit_ops.proofs.TextWords.{worded}
-use Rattle.edit_ops.proofs.SayEdits.{one_edit}
+use Rattle.edit_texts.specs.Texts.{text_of, IsText}
+use Rattle.edit_texts.specs.SaidTexts.{is_edit_text, IsGraphic, IsWorded}
+use Rattle.edit_texts.proofs.TestLaws.{passes, edit_from}
+use Rattle.edit_texts.proofs.TextWords.{worded}
+use Rattle.edit_texts.proofs.SayEdits.{one_edit}
 use Rattle.script_text.specs.Lines.{Lacks}
 use Rattle.line_words.specs.Words.{joined, is_space, words_of, is_empty}
 use Rattle.script_text.specs.Edits.{separator, is_separator, texts_between, are_edits, edits_text, edit_words, IsSayable}

@@ -6,8 +6,9 @@ use Rattle.std.proofs.lemmas.Bool.{false≢true}
 use Rattle.std.proofs.lemmas.Bool.Decides.{eqb_tells}
 use Rattle.script_text.specs.declared.kind.Kind.{Kind}
 use Rattle.script_text.specs.declared.line_read.LineRead.TheVariants as line_read
-use Rattle.script_text.specs.declared.script_line.ScriptLine.{ScriptLine}
-use Rattle.script_text.specs.Views.{ScriptView, SaidView}
+use Rattle.script_lines.specs.declared.script_line.ScriptLine.{ScriptLine}
+use Rattle.script_lines.specs.Scripts.{ScriptView}
+use Rattle.script_text.specs.Views.{SaidView}
 use Rattle.script_text.specs.Lines.{Line, Ended, Open, lines_of, is_line, is_whole, Lacks, longest_line}
 use Rattle.line_words.specs.Words.{words_of, first_word}
 use Rattle.script_text.specs.Grammar.{line_text, words_in, said_after, first_line, nothing_said, texts_of, MaySay, AreLines, is_silent, lines_that_say, script_lines, IsScript, IsScriptText}

@@ -18,12 +18,12 @@ use Rattle.script_text.specs.declared.node_word.NodeWord.{NodeWord}
 use Rattle.script_text.specs.declared.node_word.NodeWord.TheVariants as node
 use Rattle.script_text.specs.declared.kind.Kind.{Kind}
 use Rattle.script_text.specs.declared.kind.Kind.TheVariants as kind
-use Rattle.script_text.specs.declared.script_line.ScriptLine.{ScriptLine}
-use Rattle.script_text.specs.declared.script_line.ScriptLine.TheVariants as line
+use Rattle.script_lines.specs.declared.script_line.ScriptLine.{ScriptLine}
+use Rattle.script_lines.specs.declared.script_line.ScriptLine.TheVariants as line
 use Rattle.script_text.specs.declared.line_read.LineRead.TheVariants as line_read
 use Rattle.script_text.specs.Views.{SaidView}
 use Rattle.edit_ops.specs.Records.{EditView}
-use Rattle.edit_ops.specs.Texts.{text_of}
+use Rattle.edit_texts.specs.Texts.{text_of}
 use Rattle.script_text.specs.Lines.{Lacks}
 use Rattle.script_text.specs.Edits.{texts_between, are_edits, edits_text}
 use Rattle.line_words.specs.Words.{words_of}

@@ -4,7 +4,7 @@ use Rattle.std.specs.Prelude.{Result, Ok, Err, OnErr, is_some, is_none}
 use Rattle.script_text.specs.declared.kind.Kind.{Kind}
 use Rattle.script_text.specs.declared.kind.Kind.TheVariants as kind
 use Rattle.script_text.specs.declared.line_read.LineRead.{LineRead}
-use Rattle.script_text.specs.declared.script_line.ScriptLine.{ScriptLine}
+use Rattle.script_lines.specs.declared.script_line.ScriptLine.{ScriptLine}
 use Rattle.script_text.specs.Views.{SaidView, ReadingView}
 use Rattle.script_text.specs.Lines.{Line, Ended, Open, lines_of, is_line}
 use Rattle.line_words.specs.Words.{words_of, first_word}

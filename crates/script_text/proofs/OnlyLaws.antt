@@ -2,7 +2,7 @@
 use Rattle.std.proofs.Common.{ℕ, ◌≡◌, List, Some, None, Option}
 use Rattle.script_text.specs.declared.answer.ReadScript.{ReadScript}
 use Rattle.script_text.specs.declared.answer.ReadScript.TheVariants as read
-use Rattle.script_text.specs.Views.{ScriptView}
+use Rattle.script_lines.specs.Scripts.{ScriptView}
 use Rattle.script_text.specs.Grammar.{IsScriptText}
 use Rattle.script_text.specs.Rules.{fault_of}
 use Rattle.script_text.specs.Reading.{IfScript, IfBadScript, Reads}

@@ -4,8 +4,9 @@ use Rattle.std.specs.List.{list_all, AllByRecursion, flat_map}
 use Rattle.std.specs.Fmt.{digits}
 use Rattle.std.proofs.lemmas.Bool.Decides.{nat_tests}
 use Rattle.std.proofs.lemmas.Bool.{and_parts}
-use Rattle.script_text.specs.declared.script_line.ScriptLine.{ScriptLine}
-use Rattle.script_text.specs.Views.{ScriptView, SaidView}
+use Rattle.script_lines.specs.declared.script_line.ScriptLine.{ScriptLine}
+use Rattle.script_lines.specs.Scripts.{ScriptView}
+use Rattle.script_text.specs.Views.{SaidView}
 use Rattle.script_text.specs.Lines.{Ended, lines_of, ended, Lacks, is_plain, is_line, is_whole, longest_line}
 use Rattle.script_text.specs.Grammar.{words_in, line_text, first_line, nothing_said, said_after, texts_of, MaySay, AreLines, IsScript, IsScriptText, script_lines, script_text, is_silent, lines_that_say}
 use Rattle.script_text.proofs.LineLaws.{line_first, no_lines}

@@ -3,7 +3,7 @@ use Rattle.std.proofs.Common.{ℕ, zero, suc, ◌≡◌, ◌<◌, ◌+◌, List,
 use Rattle.std.specs.List.{AllByRecursion}
 use Rattle.std.proofs.lemmas.List.{take_more, flat_map_more}
 use Rattle.edit_ops.specs.Records.{EditView}
-use Rattle.edit_ops.specs.Texts.{text_of}
+use Rattle.edit_texts.specs.Texts.{text_of}
 use Rattle.line_words.specs.Hex.{hex_text}
 use Rattle.request_text.specs.Texts.{bodies_text}
 use Rattle.line_words.specs.Words.{joined, words_of}

@@ -4,8 +4,9 @@ use Rattle.std.specs.Prelude.{Result, Ok, Err, IfOk, IfSome, IfNone, OnErr, is_n
 use Rattle.std.specs.List.{list_all}
 use Rattle.std.proofs.lemmas.Bool.{and_parts}
 use Rattle.std.proofs.lemmas.Bool.Decides.{nat_tests}
-use Rattle.script_text.specs.declared.script_line.ScriptLine.{ScriptLine}
-use Rattle.script_text.specs.Views.{ScriptView, SaidView, ReadingView}
+use Rattle.script_lines.specs.declared.script_line.ScriptLine.{ScriptLine}
+use Rattle.script_lines.specs.Scripts.{ScriptView}
+use Rattle.script_text.specs.Views.{SaidView, ReadingView}
 use Rattle.script_text.specs.Lines.{Line, Ended, lines_of, is_plain, is_line, is_whole, Lacks, longest_line}
 use Rattle.line_words.specs.Words.{words_of, first_word}
 use Rattle.script_text.specs.Grammar.{belongs, kind_in, words_in, operands, line_text, first_line, texts_of, nothing_said, said_after, MaySay, AreLines, IsScript, script_lines, IsScriptText, is_silent, unless_silent, lines_that_say}

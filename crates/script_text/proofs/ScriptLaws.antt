@@ -3,8 +3,9 @@ use Rattle.std.proofs.Common.{ℕ, ◌≡◌, ◌<◌, ◌+◌, List, [], ◌∷
 use Rattle.std.specs.List.{list_all}
 use Rattle.std.specs.Fmt.{digits}
 use Rattle.std.proofs.lemmas.Bool.{false≢true, and_parts}
-use Rattle.script_text.specs.declared.script_line.ScriptLine.{ScriptLine}
-use Rattle.script_text.specs.Views.{ScriptView, SaidView}
+use Rattle.script_lines.specs.declared.script_line.ScriptLine.{ScriptLine}
+use Rattle.script_lines.specs.Scripts.{ScriptView}
+use Rattle.script_text.specs.Views.{SaidView}
 use Rattle.script_text.specs.Lines.{Line, Ended, Open, lines_of, is_line, is_whole}
 use Rattle.line_words.specs.Words.{words_of}
 use Rattle.script_text.specs.Grammar.{words_in, line_text, nothing_said, said_after, first_line, texts_of, AreLines, is_silent, lines_that_say, script_lines, IsScriptText}

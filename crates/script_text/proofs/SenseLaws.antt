@@ -12,8 +12,8 @@ use Rattle.script_text.specs.declared.call_word.CallWord.TheVariants as call
 use Rattle.script_text.specs.declared.node_word.NodeWord.TheVariants as node
 use Rattle.script_text.specs.declared.kind.Kind.{Kind}
 use Rattle.script_text.specs.declared.kind.Kind.TheVariants as kind
-use Rattle.script_text.specs.declared.script_line.ScriptLine.{ScriptLine}
-use Rattle.script_text.specs.declared.script_line.ScriptLine.TheVariants as line
+use Rattle.script_lines.specs.declared.script_line.ScriptLine.{ScriptLine}
+use Rattle.script_lines.specs.declared.script_line.ScriptLine.TheVariants as line
 use Rattle.script_text.specs.Views.{SaidView}
 use Rattle.line_words.specs.Words.{joined, words_of, is_empty, first_word}
 use Rattle.request_text.specs.Lines.{IsBody}

@@ -3,8 +3,8 @@ use Rattle.std.specs.Prelude.{ℕ, ◌≡◌, List, [], ◌∷◌, ◌++◌, Boo
 use Rattle.std.specs.List.{list_all, list_any, flat_map, slice_split}
 use Rattle.std.specs.Str.{bytes_eq}
 use Rattle.edit_ops.specs.Records.{EditView}
-use Rattle.edit_ops.specs.Texts.{text_of, IsText}
-use Rattle.edit_ops.specs.SaidTexts.{is_edit_text}
+use Rattle.edit_texts.specs.Texts.{text_of, IsText}
+use Rattle.edit_texts.specs.SaidTexts.{is_edit_text}
 use Rattle.line_words.specs.Words.{joined, words_of}
 
 -- the word between two edits

@@ -4,8 +4,8 @@ use Rattle.edit_ops.specs.Records.{EditView}
 use Rattle.edit_ops.specs.declared.op.Op.TheVariants as op
 use Rattle.journal_core.specs.declared.cut.Cut.TheVariants as cut
 use Rattle.node_history.specs.declared.stop.Stop.TheVariants as stop
-use Rattle.script_text.specs.declared.script_line.ScriptLine.TheVariants.{Declare, Takeover, Roll, Close, Log, Edits, Purge, Trim, Tail, Checkpoint, Reload, Drop, Mute, Late, Kill, Restart, Arm}
-use Rattle.script_text.specs.Views.{ScriptView}
+use Rattle.script_lines.specs.declared.script_line.ScriptLine.TheVariants.{Declare, Takeover, Roll, Close, Log, Edits, Purge, Trim, Tail, Checkpoint, Reload, Drop, Mute, Late, Kill, Restart, Arm}
+use Rattle.script_lines.specs.Scripts.{ScriptView}
 use Rattle.script_text.specs.Lines.{ended}
 
 -- three nodes, one writer, three edits

@@ -1,6 +1,6 @@
 -- What holds of every text: it breaks a rule, or it is a script's text, and that of one script.
 use Rattle.std.specs.Prelude.{ℕ, ◌≡◌, List, None}
-use Rattle.script_text.specs.Views.{ScriptView}
+use Rattle.script_lines.specs.Scripts.{ScriptView}
 use Rattle.script_text.specs.Grammar.{IsScript, IsScriptText, script_text}
 use Rattle.script_text.specs.Rules.{fault_of}
 

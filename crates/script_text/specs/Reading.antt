@@ -2,14 +2,15 @@
 use Rattle.std.specs.Prelude.{ℕ, ◌≡◌, ◌<◌, ◌≤◌, ◌+◌, ◌==◌, ◌&&◌, List, [], ◌∷◌, ◌++◌, Option, Some, None, is_some, is_none, Bool, true, false, not, if◌then◌else◌, length}
 use Rattle.std.specs.List.{list_all}
 use Rattle.edit_ops.specs.Records.{EditView}
-use Rattle.edit_ops.specs.Texts.{text_of, IsText}
+use Rattle.edit_texts.specs.Texts.{text_of, IsText}
 use Rattle.script_text.specs.declared.answer.ReadScript.{ReadScript}
 use Rattle.script_text.specs.declared.answer.ReadScript.TheVariants as read
 use Rattle.script_text.specs.declared.line_read.LineRead.{LineRead}
 use Rattle.script_text.specs.declared.line_read.LineRead.TheVariants as line_read
-use Rattle.script_text.specs.declared.script_line.ScriptLine.{ScriptLine}
+use Rattle.script_lines.specs.declared.script_line.ScriptLine.{ScriptLine}
 use Rattle.script_text.specs.declared.kind.Kind.{Kind}
-use Rattle.script_text.specs.Views.{ScriptView, SaidView, ReadingView}
+use Rattle.script_lines.specs.Scripts.{ScriptView}
+use Rattle.script_text.specs.Views.{SaidView, ReadingView}
 use Rattle.line_words.specs.Words.{words_of}
 use Rattle.script_text.specs.Words.{actor_of, name_at}
 use Rattle.script_text.specs.Grammar.{is_silent, first_line, texts_of, operands, words_in, kind_in, belongs, nothing_said, said_after, HasSense, AreLines, unless_silent, lines_that_say}

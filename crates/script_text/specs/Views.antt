@@ -1,13 +1,6 @@
--- What contracts see of a script, and of what its lines so far said.
+-- What contracts see of what a script's lines so far said.
 use Rattle.std.specs.Prelude.{ℕ, List, Option, Bool}
-use Rattle.script_text.specs.declared.script_line.ScriptLine.{ScriptLine}
-
-pub record ScriptView : Type 0 where
-  -- its actors have namespaces: it begins with `names N`, and else with `raw N`
-  pub named : Bool
-  pub nodes : ℕ
-  -- the lines after the first that say something
-  pub lines : List ScriptLine
+use Rattle.script_lines.specs.declared.script_line.ScriptLine.{ScriptLine}
 
 pub record SaidView : Type 0 where
   pub named : Bool

@@ -1,5 +1,5 @@
 // What the reader answers.
-use crate::script::Script;
+use script_lines::Script;
 
 /// What the reader answers.
 #[derive(Drop)]

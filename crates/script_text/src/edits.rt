@@ -1,13 +1,14 @@
 // Edits in a line.
 ghost use Rattle.std.specs.Prelude.{◌≡◌, ◌≢◌, ◌+◌, ◌++◌, ◌∷◌, [], ◌<◌, ◌≤◌, ◌-◌, take, true, false, IfOk, IfSome, MatchOption, length, map};
 ghost use Rattle.std.specs.List.{AllByRecursion};
-ghost use Rattle.edit_ops.specs.Texts.{text_of};
-ghost use Rattle.edit_ops.specs.SaidTexts.{is_edit_text};
+ghost use Rattle.edit_texts.specs.Texts.{text_of};
+ghost use Rattle.edit_texts.specs.SaidTexts.{is_edit_text};
 ghost use Rattle.line_words.specs.Words.{words_of};
 ghost use Rattle.script_text.specs.Edits.{is_separator, texts_between, are_edits, IsSayable};
 ghost use Rattle.script_text.specs.Reading.{HasText};
 
-use edit_ops::{Edit, EditList, ReadText, read_text};
+use edit_ops::{Edit, EditList};
+use edit_texts::{ReadText, read_text};
 use journal_core::OutOfMemory;
 use line_words::split_word;
 use std::alloc::{AllocError, Global};

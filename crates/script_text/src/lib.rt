@@ -1,4 +1,4 @@
-//! Scripts: their grammar, the reader that tells the first broken rule, and the printer.
+//! The texts of scripts: their grammar, the reader that tells the first broken rule, and the printer.
 #![tactic(auto)]
 
 mod answer;
@@ -16,8 +16,6 @@ mod reader;
 mod reading;
 mod rules;
 mod said;
-mod script;
-mod script_line;
 mod standby_word;
 mod task_word;
 mod words;
@@ -30,5 +28,3 @@ pub use examples::{
 pub use laws::{script_has_its_text, scripts_break_no_rule, text_is_of_one_script};
 pub use print::print_script;
 pub use reader::read_script;
-pub use script::Script;
-pub use script_line::ScriptLine;

@@ -1,5 +1,5 @@
 // What a line is read as.
-use crate::script_line::ScriptLine;
+use script_lines::ScriptLine;
 
 /// A line that says something, after the first.
 #[derive(Drop)]

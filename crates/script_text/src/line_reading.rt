@@ -15,7 +15,6 @@ use crate::rules::{
     UNKNOWN_ACTOR, WORD_COUNT,
 };
 use crate::said::Said;
-use crate::script_line::ScriptLine;
 use crate::standby_word::StandbyWord;
 use crate::task_word::TaskWord;
 use crate::words::{choice_of, four_words, is_name, three_words, two_words};
@@ -24,6 +23,7 @@ use line_words::{first_word, number_of, split_word};
 use node_history::Stop;
 use qj_num::MAX;
 use request_text::read_bodies;
+use script_lines::ScriptLine;
 use std::alloc::Global;
 
 /// A declaration. Memory is taken for a name that may be declared alone.

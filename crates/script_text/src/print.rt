@@ -9,13 +9,13 @@ ghost use Rattle.script_text.specs.Grammar.{header_line, declaration, first_line
 
 use crate::kind::declaration;
 use crate::said::Said;
-use crate::script::Script;
-use crate::script_line::ScriptLine;
-use edit_ops::{Edit, EditList, edit_text};
+use edit_ops::{Edit, EditList};
+use edit_texts::edit_text;
 use journal_core::{BodyList, Cut, OutOfMemory};
 use node_history::Stop;
 use qj_num::put_decimal;
 use request_text::put_bodies;
+use script_lines::{Script, ScriptLine};
 use std::alloc::Global;
 
 /// The word after a space.

@@ -1,6 +1,6 @@
 // Scripts are read.
 ghost use Rattle.std.specs.Prelude.{◌≡◌, ◌≢◌, ℕ, Some, None, true, IfOk, OnErr};
-ghost use Rattle.script_text.specs.Views.{ScriptView};
+ghost use Rattle.script_lines.specs.Scripts.{ScriptView};
 ghost use Rattle.script_text.specs.Grammar.{IsScriptText};
 ghost use Rattle.script_text.specs.Rules.{fault_of};
 ghost use Rattle.script_text.specs.Lines.{lines_of};

@@ -10,9 +10,8 @@ use crate::line_reading::read_line;
 use crate::lines::{is_line, is_silent};
 use crate::rules::{FIRST_LINE, LINE_BYTES};
 use crate::said::Said;
-use crate::script::Script;
-use crate::script_line::ScriptLine;
 use journal_core::OutOfMemory;
+use script_lines::{Script, ScriptLine};
 use std::alloc::Global;
 use std::marker::Model;
 

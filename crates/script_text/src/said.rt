@@ -5,9 +5,9 @@ ghost use Rattle.script_text.specs.Words.{actor_of, name_at};
 ghost use Rattle.script_text.specs.Grammar.{nothing_said, said_after, most_actors, HasSense};
 ghost use Rattle.script_text.specs.Reading.{Names};
 
-use crate::script_line::ScriptLine;
 use journal_core::{Bytes, OutOfMemory};
 use line_words::number_of;
+use script_lines::ScriptLine;
 use std::alloc::Global;
 use std::marker::Model;
 

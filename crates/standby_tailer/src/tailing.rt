@@ -28,7 +28,7 @@ fn edits_of(heard: Heard) -> Result<Batch, Heard>
     ensures { MatchResult result (λ batch. heard ≡ hearing.Answer (replies.Edits batch)) (λ other. (other ≡ heard) × (gives_edits heard ≡ false)) }
 {
     match heard {
-        Heard::Answer(Reply::Edits(batch)) => Ok(batch),
+        Heard::Answer(Reply::Edits(batch)) => Ok(batch.into_batch()),
         other => Err(other),
     }
 }

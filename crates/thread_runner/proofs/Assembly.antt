@@ -21,11 +21,11 @@ use Rattle.gate_seats.specs.Seated.{Seat}
 use Rattle.gate_seats.specs.Gates.{row_at, IsLeft}
 use Rattle.gate_seats.proofs.GateLaws.{element}
 use Rattle.script_actor.specs.Lines.{Line, ArePlayable, count_actors, actions_of, operations_in}
-use Rattle.cluster_runner.specs.Follows.{AreOperations}
-use Rattle.cluster_runner.proofs.ChoresMade.{chores_made}
+use Rattle.script_plays.specs.Follows.{AreOperations}
+use Rattle.script_plays.proofs.ChoresMade.{chores_made}
 use Rattle.thread_runner.specs.Threads.{DoesLines, HasOperated, FollowsActions}
 use Rattle.thread_runner.specs.Gathered.{CallerLeaves, AreGathered, IsRunOf, last_in}
-use Rattle.cluster_runner.proofs.PlayableActions.{playable_actions}
+use Rattle.script_plays.proofs.PlayableActions.{playable_actions}
 
 le_cases : (c d : ℕ) → c ≤ d → (c < d) ⊎ (c ≡ d)
 le_cases c d l = elim (eqb_tells c d) [ inl e ↦ inr e.1 | inr e ↦ inl (lt_of_le-ne l e.1) ]

@@ -1,9 +1,9 @@
 -- The ends of the actors that are declared, line after line.
 use Rattle.std.proofs.Common.{◌≡◌, ℕ, ◌+◌, ◌<◌, List, [], ◌∷◌, ◌++◌, length, map, take, refl, sym, ap, ◌∙◌, append-nil, get_or, arith}
 use Rattle.std.specs.List.{zip}
-use Rattle.script_text.specs.declared.script_line.ScriptLine.{ScriptLine}
+use Rattle.script_lines.specs.declared.script_line.ScriptLine.{ScriptLine}
 use Rattle.script_actor.specs.Lines.{names_in, line_of}
-use Rattle.cluster_runner.proofs.Taking.{names_append}
+use Rattle.script_plays.proofs.Taking.{names_append}
 use Rattle.thread_runner.proofs.ActorLaws.{lines_next}
 
 pub ends_same : (ends : List (List ℕ)) → ends ≡ ends ++ []

@@ -1,13 +1,13 @@
 -- The lines of a script that can be played: each may come to its thread.
 use Rattle.std.proofs.Common.{◌≡◌, ◌≢◌, refl, ℕ, zero, suc, arith, ◌+◌, List, [], ◌∷◌, map, Bool, true, false}
 use Rattle.std.specs.List.{All}
-use Rattle.script_text.specs.declared.script_line.ScriptLine.{ScriptLine}
-use Rattle.script_text.specs.declared.script_line.ScriptLine.TheVariants as line
+use Rattle.script_lines.specs.declared.script_line.ScriptLine.{ScriptLine}
+use Rattle.script_lines.specs.declared.script_line.ScriptLine.TheVariants as line
 use Rattle.edit_ops.specs.Records.{EditView}
 use Rattle.writer_core.specs.declared.task.Task.TheVariants as task
 use Rattle.script_actor.specs.Lines.{Does, Submits, line_of, ArePlayable, AreInRange, IsAction}
 use Rattle.script_actor.specs.Actions.{MayCome}
-use Rattle.cluster_runner.proofs.PlayLaws.{names_may}
+use Rattle.script_plays.proofs.PlayableActions.{names_may}
 
 no_lines : (named : Bool) (n : ℕ) → All (MayCome named n) []
 no_lines named n k d l = absurd (omega (arith, l))

@@ -1,13 +1,13 @@
 -- The operator in a thread.
 use Rattle.std.proofs.Common.{◌≡◌, ℕ, ◌+◌, ◌<◌, List, [], ◌∷◌, ◌++◌, length, map, take, sym, subst, append-nil, get_or, ◌∙◌}
-use Rattle.script_text.specs.declared.script_line.ScriptLine.{ScriptLine}
+use Rattle.script_lines.specs.declared.script_line.ScriptLine.{ScriptLine}
 use Rattle.node_history.specs.declared.record.Record.{Record}
 use Rattle.node_history.specs.declared.record.Record.TheVariants.{Operator}
 use Rattle.mesh.specs.Makers.{IsOperators}
 use Rattle.gate_seats.specs.LaterLaws.{later_same, later_on}
 use Rattle.script_actor.specs.Lines.{Line, Declares, Acts, Operates, operations_in, line_of}
-use Rattle.cluster_runner.specs.Follows.{AreOperations}
-use Rattle.cluster_runner.proofs.Taking.{operations_append, operations_snoc, operators_snoc}
+use Rattle.script_plays.specs.Follows.{AreOperations}
+use Rattle.script_plays.proofs.Taking.{operations_append, operations_snoc, operators_snoc}
 use Rattle.thread_runner.specs.Threads.{OperatesOn, HasOperated}
 use Rattle.thread_runner.proofs.ActorLaws.{lines_next, take_all}
 

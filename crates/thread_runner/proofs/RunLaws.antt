@@ -13,7 +13,7 @@ use Rattle.mesh.specs.declared.whole.Mesh.{Mesh}
 use Rattle.ns_tree.specs.declared.end.End.{End}
 use Rattle.ns_tree.specs.declared.end.LastSpace.{LastSpace}
 use Rattle.mesh.specs.Matches.{reached, AreSame}
-use Rattle.script_text.specs.declared.script_line.ScriptLine.{ScriptLine}
+use Rattle.script_lines.specs.declared.script_line.ScriptLine.{ScriptLine}
 use Rattle.caller_seats.specs.Logs.{new_log}
 use Rattle.gate_seats.specs.Seated.{Seat, AreSeated}
 use Rattle.gate_seats.specs.Gates.{fresh_seat, fresh_columns, row_at, AreOf, IsLeft}

@@ -10,13 +10,13 @@ use Rattle.ns_tree.specs.declared.end.LastSpace.{LastSpace}
 use Rattle.mesh.specs.Agree.{history_at, record_of, plan_of, Agrees}
 use Rattle.mesh.specs.Marks.{IsMarked, AreCopied}
 use Rattle.mesh.specs.Matches.{AreWithin}
-use Rattle.script_text.specs.declared.script_line.ScriptLine.{ScriptLine}
+use Rattle.script_lines.specs.declared.script_line.ScriptLine.{ScriptLine}
 use Rattle.caller_seats.specs.Logs.{LogView, new_log}
 use Rattle.gate_seats.specs.Seated.{Seat, AreSeated}
 use Rattle.gate_seats.specs.Gates.{row_at, IsLeft}
 use Rattle.script_actor.specs.Actions.{MayCome}
 use Rattle.script_actor.specs.Lines.{Line, ArePlayable, count_actors, names_in}
-use Rattle.cluster_runner.specs.Follows.{FollowsLines}
+use Rattle.script_plays.specs.Follows.{FollowsLines}
 use Rattle.thread_runner.specs.Threads.{DoesLines}
 
 -- ## One caller's thread

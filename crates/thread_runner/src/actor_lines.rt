@@ -10,7 +10,7 @@ use caller_seats::Seats;
 use journal_core::OutOfMemory;
 use ns_tree::LastSpace;
 use script_actor::ScriptActor;
-use script_text::ScriptLine;
+use script_lines::ScriptLine;
 use std::alloc::Global;
 
 /// Whether the line is this actor's.

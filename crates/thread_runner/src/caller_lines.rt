@@ -15,7 +15,7 @@ use journal_core::OutOfMemory;
 use node_gate::{Gate, GateSeat};
 use node_history::{ActorPlan, RecordList};
 use ns_tree::LastSpace;
-use script_text::ScriptLine;
+use script_lines::ScriptLine;
 use std::alloc::{AllocError, Global};
 use std::sync::Wait;
 
@@ -45,7 +45,7 @@ fn do_lines<R: Wait, C: NodeGate, G: Pass>(
     ensures later { OnOk result (AreLater seats.old seats.new) }
 {
     if is_operator(caller, operator) {
-        operate_alone(named, lines, seats)?;
+        operate_alone(alloc, named, lines, seats)?;
         Ok(None)
     } else {
         act_alone(alloc, named, lines, caller, seats)

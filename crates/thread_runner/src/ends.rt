@@ -5,7 +5,7 @@ ghost use Rattle.script_actor.specs.Lines.{line_of, names_in};
 use journal_core::OutOfMemory;
 use ns_tree::{End, EndList, LastSpace};
 use qj_num::Name;
-use script_text::ScriptLine;
+use script_lines::ScriptLine;
 use std::alloc::Global;
 
 /// One more name, if the line declares an actor.

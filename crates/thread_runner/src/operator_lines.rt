@@ -9,13 +9,15 @@ ghost use Rattle.thread_runner.specs.Threads.{OperatesOn, HasOperated};
 
 use gate_seats::{GateSeats, NodeGate, Pass};
 use journal_core::OutOfMemory;
-use node_history::NodeAsk;
-use script_text::ScriptLine;
+use node_history::{NodeAsk, SharedStop};
+use script_lines::ScriptLine;
+use std::alloc::Global;
 use std::sync::Wait;
 
 /// A line, if it is the operator's.
 #[tactic(auto, using(crate::proofs::OperatorLaws::operators))]
 fn take_operation<R: Wait, C: NodeGate, G: Pass>(
+    alloc: Global,
     named: bool,
     seats: &mut GateSeats<'_, R, C, G>,
     line: &ScriptLine,
@@ -35,7 +37,7 @@ fn take_operation<R: Wait, C: NodeGate, G: Pass>(
         ScriptLine::Arm { node, calls, stop } => {
             let asked = NodeAsk::Arm {
                 calls: *calls,
-                stop: *stop,
+                stop: SharedStop::of(alloc, *stop)?,
             };
             let _ = seats.operate(*node, asked)?;
         }
@@ -60,6 +62,7 @@ fn take_operation<R: Wait, C: NodeGate, G: Pass>(
 /// All lines of the operator at these seats: what it lists is what they ask, in order.
 #[tactic(auto, using(crate::proofs::OperatorLaws::operators))]
 pub(crate) fn operate_alone<R: Wait, C: NodeGate, G: Pass>(
+    alloc: Global,
     named: bool,
     lines: &[ScriptLine],
     seats: &mut GateSeats<'_, R, C, G>,
@@ -70,7 +73,7 @@ pub(crate) fn operate_alone<R: Wait, C: NodeGate, G: Pass>(
     ensures later { OnOk result (AreLater seats.old seats.new) }
 {
     for line in lines {
-        take_operation(named, seats, line)?;
+        take_operation(alloc, named, seats, line)?;
     }
     Ok(())
 }

@@ -2,18 +2,18 @@
 ghost use Rattle.std.specs.List.{All};
 ghost use Rattle.std.specs.Prelude.{◌≡◌, ◌<◌, ◌+◌, ◌-◌, ◌^◌, Some, map, take, length, IfOk};
 ghost use Rattle.journal_core.specs.Step.{fresh_state};
-ghost use Rattle.cluster_runner.specs.Kept.{states_after};
+ghost use Rattle.script_plays.specs.Plays.{states_after};
 ghost use Rattle.script_actor.specs.Lines.{lines_of, IsPlayable, NumbersFit};
 ghost use Rattle.thread_runner.specs.Gathered.{GatheredListsAgree, IsRunOf};
 
 use crate::ends::ends_in;
 use crate::threads::{jobs_of, side_by_side, take_all};
-use cluster_runner::{Played, actors_in};
 use gate_seats::{Pass, close_gates, open_gates};
 use journal_core::{CutNode, OutOfMemory};
 use mesh::{HistoryTable, Mesh, RecordTable};
 use node_history::{ActorPlan, Plan};
-use script_text::Script;
+use script_lines::Script;
+use script_plays::{Played, actors_in};
 use std::alloc::{AllocError, Global};
 use std::sync::Wait;
 use std::thread::Threads;

@@ -13,7 +13,7 @@ use journal_core::{CutNode, OutOfMemory};
 use node_gate::{Gate, GateSeat};
 use node_history::{ActorPlan, RecordList};
 use ns_tree::LastSpace;
-use script_text::ScriptLine;
+use script_lines::ScriptLine;
 use std::alloc::Global;
 use std::sync::Wait;
 use std::thread;

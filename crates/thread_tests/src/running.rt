@@ -1,14 +1,16 @@
 // Scripts run by threads, over plain nodes.
 ghost use Rattle.script_text.specs.Grammar.{IsScript};
 
-use cluster_runner::{Played, plain_nodes, play, scripts_are_playable};
+use cluster_runner::{plain_nodes, play};
 use gate_seats::Pass;
 use memory_node::PlainNode;
 use mesh_agreement::agrees;
 use mesh_judge::order_events;
 use node_history::Event;
 use report_text::{Report, report_of};
-use script_text::{ReadScript, Script, read_script};
+use script_lines::Script;
+use script_plays::{Played, scripts_are_playable};
+use script_text::{ReadScript, read_script};
 use std::alloc::Global;
 use std::sync::Wait;
 use std::test::Fail;

@@ -281,7 +281,7 @@ pub(crate) fn edits_heard(heard: Heard) -> Result<Batch, Heard>
     ensures { result ≡ edits_heard heard }
 {
     match heard {
-        Heard::Answer(Reply::Edits(batch)) => Ok(batch),
+        Heard::Answer(Reply::Edits(batch)) => Ok(batch.into_batch()),
         Heard::Answer(Reply::Refused(refusal)) => Err(Heard::Answer(Reply::Refused(refusal))),
         _ => Err(Heard::Silent),
     }

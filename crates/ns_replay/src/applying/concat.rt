@@ -8,8 +8,8 @@ ghost use Rattle.ns_replay.specs.Admit.{admit_concat, blocks_of, blocks_at};
 ghost use Rattle.ns_replay.specs.Apply.{with_all_blocks, AreSources, concat_of, without_sources};
 
 use crate::applying::inodes::put_all_blocks;
-use edit_fields::{NameList, NumberList};
 use edit_ops::Op;
+use edit_values::{NameList, NumberList};
 use ns_path::parent;
 use ns_tree::{Inode, Namespace};
 use qj_num::{Name, OutOfMemory};

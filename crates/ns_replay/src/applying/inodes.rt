@@ -2,7 +2,7 @@
 ghost use Rattle.std.specs.Prelude.{◌≡◌};
 ghost use Rattle.ns_replay.specs.Apply.{or_old, with_blocks, with_replication, with_permission, with_owner, with_times, with_quota, with_all_blocks};
 
-use edit_fields::NumberList;
+use edit_values::NumberList;
 use ns_tree::Inode;
 use qj_num::Name;
 

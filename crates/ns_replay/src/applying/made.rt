@@ -6,8 +6,8 @@ ghost use Rattle.edit_ops.specs.Records.{fields_of};
 ghost use Rattle.ns_replay.specs.Admit.{admit_add, admit_mkdir, admit_delete};
 ghost use Rattle.ns_replay.specs.Apply.{add_of, mkdir_of, delete_of};
 
-use edit_fields::NumberList;
 use edit_ops::Op;
+use edit_values::NumberList;
 use ns_path::parent;
 use ns_tree::{Inode, Namespace};
 use qj_num::{Name, OutOfMemory};

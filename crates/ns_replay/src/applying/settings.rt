@@ -10,8 +10,8 @@ ghost use Rattle.ns_replay.specs.Apply.{with_blocks, with_replication, with_perm
 use crate::applying::inodes::{
     put_blocks, put_owner, put_permission, put_quota, put_replication, put_times,
 };
-use edit_fields::NumberList;
 use edit_ops::Op;
+use edit_values::NumberList;
 use ns_tree::{Inode, Namespace};
 use qj_num::Name;
 

@@ -10,11 +10,11 @@ pub returns-in-Edits-clause-edits : goal.returns-in-Edits-clause-edits
 returns-in-Edits-clause-edits g c = λ t gs segment ready sound held one known is.
     let line = c.args.line.now in
     let file = (g.D.DiskModel.view c.args.disk.now).seen (name_of line.start (kind_of line.end line.is_final)) in
-    told_edits line.start c.args.from c.args.most segment gs c.in-Edits.batch c.edits-in-Edits.result sound known c.requires.start (omega (arith, c.requires.end, c.requires.end_within))
+    told_edits line.start c.args.from c.args.most segment gs c.in-Edits.batch _ sound known c.requires.start (omega (arith, c.requires.end, c.requires.end_within))
     (given_piece line.start line.end line.is_final c.args.from file segment.bodies c.in-Edits.batch
     (line_serves (g.D.DiskModel.view c.args.disk.now) (g.met.D.Disk.sound _ t) gs segment line c.args.from ready one known is c.requires.start c.requires.end c.requires.end_within)
     (c.in-Edits.ensures.given t))
-    c.edits-in-Edits.ensures.edits
+    c.in_ok-read-in-Edits.ensures.edits
 
 pub returns-in-BadFile-clause-edits : goal.returns-in-BadFile-clause-edits
 returns-in-BadFile-clause-edits g c = λ t gs segment ready sound held one known is.
@@ -35,4 +35,4 @@ returns-in-Some-clause-edits g c = λ t gs segment ready sound held one known is
     given.1
     ∙ ap (λ (bodies : List (List ℕ)). let b : BatchView = record { first = c.args.from; bodies = bodies } in b)
     (held_piece c.args.recent.now gs line.start c.args.from segment held known given.0 ∙ ap (λ (n : ℕ). take 256 (drop (c.args.from - n) segment.bodies)) at) in
-    told_edits line.start c.args.from c.args.most segment gs c.in-Some.batch c.edits.result sound known c.requires.start (omega (arith, c.requires.end, c.requires.end_within)) same c.edits.ensures.edits
+    told_edits line.start c.args.from c.args.most segment gs c.in-Some.batch _ sound known c.requires.start (omega (arith, c.requires.end, c.requires.end_within)) same c.in_ok-held.ensures.edits

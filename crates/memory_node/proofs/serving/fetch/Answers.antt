@@ -8,4 +8,4 @@ pub returns-clause-fits : goal.returns-clause-fits
 returns-clause-fits c =
     let g = c.in-Some.segment.now in
     let range = fetch_range g c.args.from (subst (λ o. fetch_refused c.args.from o ≡ None) (sym c.in-Some.ensures.found) c.requires) in
-    rw (c.new.ensures, c.in_ok-bodies.ensures) (piece_fits g c.args.from 256 c.in-Some.ensures.within range.0 range.1)
+    rw (c.in_ok-batch.ensures, c.new.ensures, c.in_ok-bodies.ensures) (piece_fits g c.args.from 256 c.in-Some.ensures.within range.0 range.1)

@@ -9,7 +9,7 @@ use Rattle.memory_node.proofs.serving.read.Goals as goal
 pub returns-clause-reply : goal.returns-clause-reply
 returns-clause-reply c =
     edits_served c.args.state.now c.args.from c.in-Some.segment.now c.in-Some.count c.in-Some.ensures
-    ∙ sym (ap (λ (b : BatchView). let r : Reply = Edits b in r) (rw (c.new.ensures, c.in_ok-bodies.ensures, c.min-most.ensures)))
+    ∙ sym (ap (λ (b : BatchView). let r : Reply = Edits b in r) (rw (c.in_ok-batch.ensures, c.new.ensures, c.in_ok-bodies.ensures, c.min-most.ensures)))
 
 pub returns-in_err-bodies-clause-refused : goal.returns-in_err-bodies-clause-refused
 returns-in_err-bodies-clause-refused c =

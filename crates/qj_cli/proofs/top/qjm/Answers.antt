@@ -4,7 +4,7 @@ use Rattle.qj_cli.specs.Commands.{run}
 use Rattle.qj_cli.specs.Sound.{AreSound}
 use Rattle.qj_cli.specs.Plays.{Plays}
 use Rattle.qj_cli.specs.Usage.{bytes_of}
-use Rattle.qj_cli.specs.Uses.{read_from, written_to, done_to}
+use Rattle.exit_lines.specs.Uses.{read_from, written_to, done_to}
 use Rattle.qj_cli.specs.Does.{ReadsNone}
 use Rattle.qj_cli.proofs.WordLaws.{one_command, right_words}
 use Rattle.qj_cli.proofs.CompleteLaws.{completes, does_for}

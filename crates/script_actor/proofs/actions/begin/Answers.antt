@@ -1,6 +1,6 @@
 use Rattle.std.proofs.Common.{◌++◌, ap, ◌∙◌, codes}
-use Rattle.script_actor.specs.Results.{name_of, word}
-use Rattle.script_actor.specs.ResultLists.{times}
+use Rattle.result_lines.specs.Results.{name_of, word}
+use Rattle.result_lines.specs.ResultLists.{times}
 use Rattle.script_actor.proofs.Stretches.{began_inactive, began_long}
 use Rattle.script_actor.proofs.actions.begin.Goals as goal
 

@@ -1,8 +1,8 @@
 use Rattle.std.proofs.lemmas.Result.{on_ok_weaker}
 use Rattle.std.proofs.Common.{◌≡◌, ℕ, Option, Some, None, option_map, refl, sym, ap, ◌∙◌, subst}
 use Rattle.writer_core.specs.Writer.{writer_begun}
-use Rattle.script_actor.specs.Results.{name_of}
-use Rattle.script_actor.specs.ResultLists.{edits_of, texts_of, AreFew}
+use Rattle.result_lines.specs.Results.{name_of}
+use Rattle.result_lines.specs.ResultLists.{edits_of, texts_of, AreFew}
 use Rattle.script_actor.specs.Went.{refused_results}
 use Rattle.script_actor.specs.Actions.{kept_of}
 use Rattle.script_actor.proofs.WriterTurn.{none_refused}

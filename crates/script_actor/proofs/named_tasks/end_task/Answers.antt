@@ -1,6 +1,6 @@
 use Rattle.std.proofs.Common.{◌≡◌, sym, ap, ◌∙◌}
-use Rattle.script_actor.specs.ResultLists.{texts_of}
-use Rattle.script_actor.specs.Results.{name_of}
+use Rattle.result_lines.specs.ResultLists.{texts_of}
+use Rattle.result_lines.specs.Results.{name_of}
 use Rattle.script_actor.specs.Named.{task_of, takeover_of}
 use Rattle.std.specs.Prelude.{Some, None}
 use Rattle.std.proofs.lemmas.Result.{IfOk-weaker}

@@ -1,5 +1,5 @@
 use Rattle.std.proofs.Common.{ℕ, [], ◌∷◌, codes, ap, ◌∙◌}
-use Rattle.script_actor.specs.Results.{word}
+use Rattle.result_lines.specs.Results.{word}
 use Rattle.script_actor.proofs.StandbyLaws.{active_reloads, reloads_takes}
 use Rattle.script_actor.proofs.standby_actions.take_reload.Goals as goal
 

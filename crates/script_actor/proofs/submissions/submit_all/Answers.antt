@@ -1,6 +1,7 @@
 use Rattle.std.proofs.Common.{◌<◌, List, [], length, sym, ap, subst, arith}
 use Rattle.name_node.specs.Submissions.{Due}
-use Rattle.script_actor.specs.Submitting.{AreSubmitted, due_of, dues_of}
+use Rattle.result_lines.specs.DueTexts.{due_of, dues_of}
+use Rattle.script_actor.specs.Submitting.{AreSubmitted}
 use Rattle.script_actor.proofs.SubmitLaws.{none_submitted, submitted_on, dues_more, pended_item}
 use Rattle.script_actor.proofs.submissions.submit_all.Goals as goal
 

@@ -1,5 +1,6 @@
 use Rattle.std.proofs.Common.{take}
-use Rattle.script_actor.specs.Submitting.{AreSubmitted, dues_of}
+use Rattle.result_lines.specs.DueTexts.{dues_of}
+use Rattle.script_actor.specs.Submitting.{AreSubmitted}
 use Rattle.script_actor.proofs.submissions.submit_all.Given as goal
 
 abbrev pub invariant-loop-edit : goal.invariant-loop-edit

@@ -1,7 +1,7 @@
 use Rattle.std.proofs.Common.{sym, ap, ◌∙◌, Some}
 use Rattle.writer_core.specs.declared.task.Task.TheVariants as task
 use Rattle.writer_core.specs.Writer.{Began}
-use Rattle.script_actor.specs.ResultLists.{trim_texts}
+use Rattle.result_lines.specs.ResultLists.{trim_texts}
 use Rattle.script_actor.specs.Actions.{kept_of}
 use Rattle.script_actor.proofs.Stretches.{begun_ready, going_under}
 use Rattle.script_actor.proofs.TrimLaws.{purge_begins, purge_rests, purge_moves, purge_stands}

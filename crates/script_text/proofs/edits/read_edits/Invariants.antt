@@ -1,6 +1,6 @@
 use Rattle.std.proofs.Common.{◌≡◌, ◌++◌, length, map, false}
 use Rattle.std.specs.List.{AllByRecursion}
-use Rattle.edit_ops.specs.Texts.{text_of}
+use Rattle.edit_texts.specs.Texts.{text_of}
 use Rattle.line_words.specs.Words.{words_of}
 use Rattle.script_text.specs.Edits.{texts_between, are_edits}
 use Rattle.script_text.specs.Reading.{HasText}

@@ -1,8 +1,8 @@
 use Rattle.std.proofs.Common.{refl}
 use Rattle.std.specs.Fmt.{digits}
 use Rattle.edit_ops.specs.Words.{verb}
-use Rattle.edit_fields.specs.Saying.{word_at, number_said, text_said, client_said, said, field_said, items_said}
-use Rattle.edit_ops.specs.SaidTexts.{kind_said, is_line_text, is_edit_text}
+use Rattle.edit_texts.specs.Saying.{word_at, number_said, text_said, client_said, said, field_said, items_said}
+use Rattle.edit_texts.specs.SaidTexts.{kind_said, is_line_text, is_edit_text}
 use Rattle.script_text.specs.Lines.{lines_of, ended, is_line}
 use Rattle.line_words.specs.Words.{words_of}
 use Rattle.request_text.specs.Reading.{body_in}

@@ -1,6 +1,6 @@
 use Rattle.std.proofs.Common.{◌≡◌, ◌+◌, ◌-◌, ◌∙◌, sym, ap, subst, arith, length, map, get_or}
 use Rattle.std.proofs.lemmas.List.{length-map, length-take-le}
-use Rattle.cluster_runner.proofs.Final.{names_count}
+use Rattle.script_plays.proofs.Final.{names_count}
 use Rattle.node_gate.specs.Board.{AllAt}
 use Rattle.mesh.specs.declared.whole.Mesh.{Mesh}
 use Rattle.gate_seats.specs.Seated.{seat_of}

@@ -1,0 +1,4 @@
+pub mod Saying
+pub mod Texts
+pub mod ReadTexts
+pub mod SaidTexts

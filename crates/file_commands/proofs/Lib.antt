@@ -1,0 +1,4 @@
+pub mod ListLaws
+pub mod OneListing
+pub mod CheckLaws
+pub mod AnswerLaws

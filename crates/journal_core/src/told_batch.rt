@@ -1,0 +1,56 @@
+// The edits that a reply tells.
+ghost use Rattle.std.specs.Prelude.{◌≡◌, IfOk};
+
+use crate::OutOfMemory;
+use crate::batch::Batch;
+use std::alloc::Global;
+use std::marker::Model;
+
+/// A batch that a reply tells, in one word, since most replies tell none. Contracts see it as the batch.
+#[derive(Drop)]
+pub struct ToldBatch {
+    batch: Box<Batch>,
+}
+
+impl Model for ToldBatch {
+    ghost use Rattle.std.specs.Prelude.{◌≢◌, []};
+    ghost use Rattle.journal_core.specs.Views.{BatchView};
+
+    ghost Value = { BatchView };
+
+    ghost view = { λ t. t.batch.value };
+
+    ghost invariant = { λ t. t.batch.value.bodies ≢ [] };
+}
+
+impl ToldBatch {
+    /// That batch.
+    pub fn of(alloc: Global, batch: Batch) -> Result<ToldBatch, OutOfMemory>
+        ensures { IfOk result (λ t. t ≡ batch) }
+    {
+        let batch = Box::new(alloc, batch)?;
+        Ok(ToldBatch { batch })
+    }
+
+    /// The batch.
+    pub fn get(&self) -> &Batch
+        ensures { result.now ≡ self.now }
+    {
+        &self.batch
+    }
+
+    /// The batch itself.
+    pub fn into_batch(self) -> Batch
+        ensures { result ≡ self }
+    {
+        Box::into_inner(self.batch)
+    }
+
+    /// The same once more; the bodies' bytes are shared.
+    pub fn share(&self, alloc: Global) -> Result<ToldBatch, OutOfMemory>
+        ensures { IfOk result (λ t. t ≡ self.now) }
+    {
+        let batch = self.batch.share(alloc)?;
+        ToldBatch::of(alloc, batch)
+    }
+}

@@ -1,0 +1,4 @@
+pub mod CrashLaws
+pub mod EndedLaws
+pub mod NodeLaws
+pub mod ServingLaws

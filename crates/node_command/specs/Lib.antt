@@ -1,0 +1,3 @@
+pub mod Serving
+pub mod NodeEnds
+pub mod Crashes

@@ -1,0 +1,5 @@
+pub mod Examples
+pub mod NamesExamples
+pub mod FirstRun
+pub mod Broken
+pub mod Orders
