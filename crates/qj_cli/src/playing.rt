@@ -40,13 +40,18 @@ fn script_of_bytes(alloc: Global, bytes: &[u8]) -> Result<Script, Fault>
     }
 }
 
-/// Reads the source, and the script of its bytes.
+/// Reads the source, and the script of its bytes. The bytes are never given back: an allocator that sees so large a piece come back keeps
+/// later pieces of that size, as the nodes' rings, once they are given back.
 fn read_source<S: Source>(alloc: Global, source: &mut S) -> Result<Script, Fault>
     ensures script { IfOk result (λ script. GivesScript (read_from S.left S.faults source.old source.new) script) }
     ensures fault { IfErr result (IsReadingFault (read_from S.left S.faults source.old source.new)) }
 {
     match read_all(alloc, source, LONGEST_SCRIPT as usize) {
-        Input::All(bytes) => script_of_bytes(alloc, &bytes),
+        Input::All(bytes) => {
+            let script = script_of_bytes(alloc, &bytes);
+            mem::forget(bytes);
+            script
+        }
         Input::TooLong => Err(Fault::Limit(LONGEST_SCRIPT)),
         Input::ReadFault => Err(Fault::ReadFault),
         Input::OutOfMemory => Err(Fault::OutOfMemory),
