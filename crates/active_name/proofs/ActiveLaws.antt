@@ -13,9 +13,9 @@ use Rattle.writer_core.specs.declared.phase.Aim.TheVariants as aim
 use Rattle.writer_core.specs.Rounds.{asks_all, asks_others, end_record}
 use Rattle.writer_core.specs.Writer.{Began, begins, is_writing, if_writing, log_begins, log_limit, writer_begun}
 use Rattle.writer_core.specs.Room.{room_of}
-use Rattle.active_name.specs.declared.submitted.Submitted.{Submitted}
-use Rattle.active_name.specs.declared.submitted.Submitted.TheVariants as submitted
-use Rattle.active_name.specs.Pendings.{PendingView, PendsAt, IsPended}
+use Rattle.pending_edits.specs.declared.submitted.Submitted.{Submitted}
+use Rattle.pending_edits.specs.declared.submitted.Submitted.TheVariants as submitted
+use Rattle.pending_edits.specs.Pendings.{PendingView, PendsAt, IsPended}
 use Rattle.active_name.specs.Actives.{ActiveView, IsActive, is_open, pending_of}
 use Rattle.active_name.specs.Acting.{IsSubmitted}
 
@@ -55,8 +55,3 @@ close_inactive w e = inactive_by (is_writing w.phase) (begins (asks_others (roun
 pub purge_inactive : (w : WriterView) (min : ℕ) → (writer_begun w (task.Purge min)).begun ≡ begun.NotActive → is_writing w.phase ≡ false
 unfolding writer_begun
 purge_inactive w min e = inactive_by (is_writing w.phase) (begins (asks_all (round.Purge min) (record w { aim = aim.Purge }))) w (λ x. cc x) e
-
--- a batch that fits an open segment is begun
-pub log_going : (w : WriterView) (bodies : List (List ℕ)) → is_writing w.phase ≡ true → log_limit w bodies ≡ None → (writer_begun w (task.Log bodies)).begun ≡ begun.Going
-unfolding writer_begun
-log_going w bodies e l = ap (λ (b : Bool). (if_writing b (log_begins (log_limit w bodies) bodies w) w).begun) e ∙ ap (λ (o : Option ℕ). (log_begins o bodies w).begun) l

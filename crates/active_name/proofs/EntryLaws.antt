@@ -1,7 +1,7 @@
 -- A takeover: the rounds, and then the tail.
 use Rattle.std.proofs.Common.{◌≡◌, ◌⊎◌, inl, inr, ℕ, ◌-◌, List, [], true, if◌then◌else◌, Some, refl, sym, ap, ◌∙◌, subst}
 use Rattle.journal_core.specs.declared.peer_call.PeerCall.{PeerCall}
-use Rattle.ns_replay.specs.Replay.{Image}
+use Rattle.ns_rules.specs.Replay.{Image}
 use Rattle.writer_core.specs.declared.task.Task.TheVariants as task
 use Rattle.writer_core.specs.declared.turn.Outcome.TheVariants as outcome
 use Rattle.writer_core.specs.Views.{WriterView}
@@ -11,14 +11,14 @@ use Rattle.quorum_writer.specs.Answers.{came_of_taken}
 use Rattle.quorum_writer.specs.Tasks.{Comes}
 use Rattle.name_node.specs.Holding.{Holding, enters}
 use Rattle.name_node.specs.Tails.{pass_begun}
-use Rattle.standby_tailer.specs.declared.tailed.Tailed.{Tailed}
-use Rattle.standby_tailer.specs.declared.tailed.Tailed.TheVariants as tailed
+use Rattle.name_node.specs.declared.tailed.Tailed.{Tailed}
+use Rattle.name_node.specs.declared.tailed.Tailed.TheVariants as tailed
 use Rattle.standby_tailer.specs.Standbys.{StandbyView, held}
 use Rattle.standby_tailer.specs.Tailing.{IsTailed}
 use Rattle.active_name.specs.declared.taking.TakenOver.{TakenOver}
 use Rattle.active_name.specs.declared.taking.TakenOver.TheVariants as taken
 use Rattle.active_name.specs.Entering.{entry_begun, Enters, IsTakenOver, IsEntered, StandsEntered, IsTailedIn, is_active}
-use Rattle.active_name.proofs.WriterEnds.{outcome_of}
+use Rattle.quorum_writer.proofs.WriterEnds.{outcome_of}
 
 -- ## The tail
 pub tail_entered : (nodes first last : ℕ) (images : List Image) (from mid to : StandbyView) (before after : List PeerCall) (t : Tailed) → last ≡ first - 1 → held images mid ≡ enters last (held images from)

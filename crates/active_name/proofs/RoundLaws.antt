@@ -20,8 +20,9 @@ use Rattle.quorum_writer.specs.declared.closed.Closed.TheVariants as closed
 use Rattle.quorum_writer.specs.Answers.{came_of_logged, came_of_rolled, came_of_closed, came_of_purging}
 use Rattle.quorum_writer.specs.Tasks.{Comes, Refuses}
 use Rattle.active_name.specs.Actives.{ActiveView, IsActive, is_open}
-use Rattle.active_name.proofs.WriterEnds.{outcome_of, log_last, purge_next, roll_start, close_last}
-use Rattle.active_name.proofs.ActiveLaws.{log_going}
+use Rattle.quorum_writer.proofs.WriterEnds.{outcome_of, log_last, purge_next, roll_start, close_last}
+use Rattle.quorum_writer.proofs.TaskBegins.{log_going}
+use Rattle.quorum_writer.proofs.TaskBegins.{begun_open}
 
 kept_active : (a : ActiveView) (w : WriterView) (last : ℕ) (now : List (List ℕ)) → is_open a ≡ true → IsActive a → w.next ≡ last + 1 → last ≤ max_number → a.position + length a.bodies ≤ last → now ≡ []
     → IsActive (record { writer = w; position = last; ahead = a.ahead; bodies = now; whole = a.whole })
@@ -32,10 +33,6 @@ kept_active a w last now opens h next most le none = record {
   whole = λ o. h.whole opens;
   ended = λ o. none;
 }
-
-pub begun_open : (b : Bool) (x : Began) (w : WriterView) → (if_writing b x w).begun ≡ begun.Going → b ≡ true
-begun_open true x w e = refl
-begun_open false x w e = absurd (cc e)
 
 pub log_kept : (a : ActiveView) (w : WriterView) (bodies now : List (List ℕ)) (before after : List PeerCall) (first last : ℕ) → is_open a ≡ true → IsActive a → bodies ≡ a.bodies
     → Comes (task.Log bodies) a.writer before w after (came_of_logged (logged.Acked first last)) → now ≡ []
@@ -86,10 +83,6 @@ close_kept a w before after last h none c =
       },
       idle,
     )
-
-pub not_empty : (bodies : List (List ℕ)) (b : Bool) → b ≡ (length bodies == 0) → b ≡ false → bodies ≢ []
-not_empty [] b e is none = cc (e, is)
-not_empty (x ∷ xs) b e is none = cc none
 
 pub log_began : (w new : WriterView) (bodies : List (List ℕ)) (before after : List PeerCall) (l : Logged) → is_writing w.phase ≡ true → log_limit w bodies ≡ None
     → Comes (task.Log bodies) w before new after (came_of_logged l) → (l ≡ logged.NotActive) ⊎ ((x : ℕ) × (l ≡ logged.TooLong x)) → ⊥

@@ -14,11 +14,11 @@ use Rattle.quorum_writer.specs.declared.closed.Closed.{Closed}
 use Rattle.quorum_writer.specs.declared.closed.Closed.TheVariants as closed
 use Rattle.quorum_writer.specs.Tasks.{Comes}
 use Rattle.standby_tailer.specs.Standbys.{StandbyView, empty_standby}
-use Rattle.active_name.specs.declared.submitted.Submitted.{Submitted}
-use Rattle.active_name.specs.declared.submitted.Submitted.TheVariants as submitted
+use Rattle.pending_edits.specs.declared.submitted.Submitted.{Submitted}
+use Rattle.pending_edits.specs.declared.submitted.Submitted.TheVariants as submitted
 use Rattle.active_name.specs.declared.synced.Synced.{Synced}
 use Rattle.active_name.specs.declared.synced.Synced.TheVariants as synced
-use Rattle.active_name.specs.Pendings.{IsOneMore}
+use Rattle.pending_edits.specs.Pendings.{IsOneMore}
 use Rattle.active_name.specs.Actives.{ActiveView, is_open, pending_of}
 
 -- ## An edit is submitted

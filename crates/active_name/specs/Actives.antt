@@ -4,7 +4,7 @@ use Rattle.journal_core.specs.Limits.{max_number}
 use Rattle.ns_tree.specs.Space.{Space, AreRising}
 use Rattle.writer_core.specs.Views.{WriterView}
 use Rattle.writer_core.specs.Writer.{is_writing, log_limit}
-use Rattle.active_name.specs.Pendings.{PendingView}
+use Rattle.pending_edits.specs.Pendings.{PendingView}
 
 pub record ActiveView : Type 0 where
   pub writer : WriterView

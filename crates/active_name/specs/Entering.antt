@@ -2,7 +2,7 @@
 use Rattle.std.specs.Prelude.{ℕ, ◌≡◌, ◌⊎◌, ◌+◌, ◌-◌, ◌≤◌, Bool, true, false, List, Some}
 use Rattle.journal_core.specs.Limits.{max_number}
 use Rattle.journal_core.specs.declared.peer_call.PeerCall.{PeerCall}
-use Rattle.ns_replay.specs.Replay.{Image}
+use Rattle.ns_rules.specs.Replay.{Image}
 use Rattle.writer_core.specs.declared.task.Task.TheVariants as task
 use Rattle.writer_core.specs.Views.{WriterView}
 use Rattle.writer_core.specs.Writer.{is_writing, writer_stopped}
@@ -12,8 +12,8 @@ use Rattle.quorum_writer.specs.Answers.{came_of_taken}
 use Rattle.quorum_writer.specs.Tasks.{Comes}
 use Rattle.name_node.specs.Holding.{Holding, enters}
 use Rattle.name_node.specs.Tails.{TailStep, pass_begun}
-use Rattle.standby_tailer.specs.declared.tailed.Tailed.{Tailed}
-use Rattle.standby_tailer.specs.declared.tailed.Tailed.TheVariants as tailed
+use Rattle.name_node.specs.declared.tailed.Tailed.{Tailed}
+use Rattle.name_node.specs.declared.tailed.Tailed.TheVariants as tailed
 use Rattle.standby_tailer.specs.Standbys.{StandbyView, held}
 use Rattle.standby_tailer.specs.Tailing.{IsTailed}
 use Rattle.active_name.specs.declared.taking.TakenOver.{TakenOver}

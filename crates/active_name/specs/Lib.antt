@@ -1,4 +1,3 @@
-pub mod Pendings
 pub mod Actives
 pub mod Entering
 pub mod Acting

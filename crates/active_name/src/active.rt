@@ -6,8 +6,8 @@ ghost use Rattle.active_name.specs.Actives.{is_open};
 ghost use Rattle.active_name.specs.Acting.{left_by};
 ghost use Rattle.active_name.specs.Entering.{IsEntered};
 
-use crate::pending::Pending;
 use journal_core::OutOfMemory;
+use pending_edits::Pending;
 use quorum_writer::QuorumWriter;
 use standby_tailer::Standby;
 use std::alloc::Global;

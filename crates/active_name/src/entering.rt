@@ -1,7 +1,7 @@
 // A standby enters the active role.
 ghost use Rattle.std.specs.Prelude.{◌≡◌, List};
 ghost use Rattle.journal_core.specs.Peers.{IsPermitted};
-ghost use Rattle.ns_replay.specs.Replay.{Image};
+ghost use Rattle.ns_rules.specs.Replay.{Image};
 ghost use Rattle.quorum_writer.specs.Led.{nodes_of};
 ghost use Rattle.active_name.specs.Entering.{StandsEntered};
 ghost use Rattle.active_name.specs.EntryAnswers.{IsEntry, IsFresh, IsAnswer};

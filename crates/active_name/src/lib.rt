@@ -5,15 +5,11 @@ mod acting;
 mod active;
 mod entered;
 mod entering;
-mod pending;
-mod submitted;
 mod submitting;
 mod synced;
 mod taking;
 
 pub use active::Active;
 pub use entered::Entered;
-pub use pending::Pending;
-pub use submitted::Submitted;
 pub use synced::Synced;
 pub use taking::{TakenOver, take_over};

@@ -1,12 +1,12 @@
 // Edits are submitted.
 ghost use Rattle.std.specs.Prelude.{◌≡◌, None};
-ghost use Rattle.ns_replay.specs.Admit.{admit_of};
+ghost use Rattle.ns_rules.specs.Admit.{admit_of};
 ghost use Rattle.active_name.specs.Acting.{IsSubmitted};
-ghost use Rattle.active_name.specs.Pendings.{SameUnlessTaken};
+ghost use Rattle.pending_edits.specs.Pendings.{SameUnlessTaken};
 
 use crate::active::Active;
-use crate::submitted::Submitted;
 use edit_ops::Edit;
+use pending_edits::Submitted;
 use std::alloc::Global;
 
 impl Active {

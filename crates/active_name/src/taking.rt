@@ -1,13 +1,14 @@
 // A standby takes over.
 ghost use Rattle.std.specs.Prelude.{◌≡◌, List};
 ghost use Rattle.journal_core.specs.Peers.{IsPermitted};
-ghost use Rattle.ns_replay.specs.Replay.{Image};
+ghost use Rattle.ns_rules.specs.Replay.{Image};
 ghost use Rattle.quorum_writer.specs.Led.{nodes_of};
 ghost use Rattle.active_name.specs.Entering.{IsTailedIn, IsTakenOver, StandsEntered, is_active};
 
 use journal_core::Peers;
+use name_node::Tailed;
 use quorum_writer::{QuorumWriter, Taken};
-use standby_tailer::{Standby, Tailed};
+use standby_tailer::Standby;
 use std::alloc::Global;
 use writer_core::CauseList;
 

@@ -10,15 +10,15 @@ use Rattle.node_history.specs.Cell.{fresh_cell}
 use Rattle.node_history.specs.NodeCells.{CellView, new_cell}
 use Rattle.mesh.specs.declared.whole.Mesh.{Mesh}
 use Rattle.mesh.specs.Marks.{IsMarked}
-use Rattle.script_actor.specs.Lines.{Line, Action, Declares, Acts, count_actors}
-use Rattle.script_actor.specs.Actor.{Actor, wants, is_wanting, is_broken, while_wanting, take_action, settle, IsLed, actor_after, hand_action, fresh_actor}
-use Rattle.script_actor.specs.KeptActor.{KeptActor, new_actor, resting}
-use Rattle.script_actor.specs.Actions.{IsIdleActor}
+use Rattle.script_actions.specs.Lines.{Line, Action, Declares, Acts, count_actors}
+use Rattle.script_actions.specs.Actor.{Actor, wants, is_wanting, is_broken, while_wanting, take_action, settle, IsLed, actor_after, hand_action, fresh_actor}
+use Rattle.script_actions.specs.KeptActor.{KeptActor, new_actor, resting}
+use Rattle.script_actions.specs.Actions.{IsIdleActor}
 use Rattle.script_plays.specs.Plays.{Play, play_step, play_begins, line_taken, actor_at, histories_from, history_of, has_ended, no_lines, mesh_of, ends_from, ends_of, IsPlayed}
 use Rattle.cluster_runner.specs.Kept.{Kept, actor_of, Stands, IsAtRest, Leads, LeadsTo, with_actor, with_actor_at, new_kept, mesh_kept, end_of, ends_kept}
 use Rattle.cluster_runner.specs.PlaySeats.{LinesGo}
 use Rattle.cluster_runner.proofs.KeptSteps.{step_line}
-use Rattle.script_actor.proofs.KeptActor.{idle_no_tail, rests}
+use Rattle.script_actions.proofs.KeptActor.{idle_no_tail, rests}
 use Rattle.cluster_runner.proofs.KeptTurns.{leads_one, leads_on, IsActing, with_cells, after_marks, lines_act, rest_after}
 use Rattle.script_plays.proofs.Sound.{handed_past}
 

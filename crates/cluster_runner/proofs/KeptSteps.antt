@@ -8,8 +8,8 @@ use Rattle.node_history.specs.declared.record.Record.TheVariants.{Call, Late, Op
 use Rattle.node_history.specs.Cell.{Cell, fresh_cell, cell_takes}
 use Rattle.node_history.specs.Moving.{Placed}
 use Rattle.mesh.specs.Marks.{next_number}
-use Rattle.script_actor.specs.Lines.{Line, Operates}
-use Rattle.script_actor.specs.Actor.{Actor, WantsCall, WantsCopy, Says, Rests, wants, goes_on, fresh_actor}
+use Rattle.script_actions.specs.Lines.{Line, Operates}
+use Rattle.script_actions.specs.Actor.{Actor, WantsCall, WantsCopy, Says, Rests, wants, goes_on, fresh_actor}
 use Rattle.script_plays.specs.Plays.{Play, play_step, take_turn, meet_want, call_made, copy_made, Delivery, Delivered, ReplyLost, NotDelivered, delivery, told_of, note_record, node_asked, is_done, actor_at, next_line, line_taken}
 
 -- what was listed of this node

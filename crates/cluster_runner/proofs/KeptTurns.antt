@@ -18,16 +18,16 @@ use Rattle.caller_seats.specs.declared.delivery.Delivery.{Delivery}
 use Rattle.caller_seats.specs.declared.delivery.Delivery.TheVariants.{Delivered, ReplyLost, NotDelivered}
 use Rattle.caller_seats.specs.Deliveries.{delivery}
 use Rattle.caller_seats.proofs.MarkLaws.{delivery_known}
-use Rattle.script_actor.specs.Lines.{Line}
-use Rattle.script_actor.specs.Actor.{Actor, WantsCall, WantsCopy, Says, IsLed, wants, goes_on, settle_again, settle, moved_on, actor_after, fresh_actor}
+use Rattle.script_actions.specs.Lines.{Line}
+use Rattle.script_actions.specs.Actor.{Actor, WantsCall, WantsCopy, Says, IsLed, wants, goes_on, settle_again, settle, moved_on, actor_after, fresh_actor}
 use Rattle.script_plays.specs.Plays.{Play, play_step, play_steps, actor_at}
-use Rattle.script_actor.specs.KeptActor.{KeptActor, new_actor, resting}
-use Rattle.script_actor.specs.Actions.{IsIdleActor}
+use Rattle.script_actions.specs.KeptActor.{KeptActor, new_actor, resting}
+use Rattle.script_actions.specs.Actions.{IsIdleActor}
 use Rattle.cluster_runner.specs.Kept.{Kept, node_at, actor_of, list_ask, answer_to, reached_by, told_by, with_actor_at, Stands, IsAtRest, Leads}
 use Rattle.cluster_runner.specs.PlaySeats.{Reaches, CopyReaches, LinesGo}
 use Rattle.cluster_runner.proofs.KeptLists.{set_set, histories_snoc}
 use Rattle.cluster_runner.proofs.KeptSteps.{placed, asked_play, reached_play, noted_play, called_play, copied_play, step_call, step_copy, step_says, step_rests}
-use Rattle.script_actor.proofs.KeptActor.{idle_no_tail, rests}
+use Rattle.script_actions.proofs.KeptActor.{idle_no_tail, rests}
 use Rattle.script_plays.proofs.Led.{moved_keeps}
 use Rattle.script_plays.proofs.Sound.{goes_past}
 use Rattle.script_plays.proofs.Wanting.{call_want, copy_want, says_want}

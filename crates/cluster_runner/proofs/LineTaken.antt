@@ -8,10 +8,10 @@ use Rattle.node_history.specs.declared.record.Record.TheVariants.{Call, Late, Op
 use Rattle.node_history.specs.Cell.{Cell}
 use Rattle.node_history.specs.NodeCells.{CellView}
 use Rattle.mesh.specs.Marks.{IsMarked}
-use Rattle.script_actor.specs.Lines.{Line, Action, Acts, Operates}
-use Rattle.script_actor.specs.Actor.{IsLed, actor_after, hand_action}
+use Rattle.script_actions.specs.Lines.{Line, Action, Acts, Operates}
+use Rattle.script_actions.specs.Actor.{IsLed, actor_after, hand_action}
 use Rattle.script_plays.specs.Plays.{Play, is_done}
-use Rattle.script_actor.specs.KeptActor.{KeptActor, new_actor, resting}
+use Rattle.script_actions.specs.KeptActor.{KeptActor, new_actor, resting}
 use Rattle.cluster_runner.specs.Kept.{Kept, actor_of, node_at, list_ask, answer_to, operates, with_actor_at, Stands, IsAtRest, LeadsTo}
 use Rattle.cluster_runner.specs.PlaySeats.{LineGoes, LinesGo}
 use Rattle.cluster_runner.specs.Ready.{IsIdleIn, IsIdle, TakesLine}

@@ -4,7 +4,7 @@ use Rattle.node_history.specs.Cell.{Cell, fresh_cell, cell_after}
 use Rattle.node_history.specs.NodeCells.{CellView}
 use Rattle.node_history.specs.Moving.{Placed}
 use Rattle.script_lines.specs.declared.script_line.ScriptLine.{ScriptLine}
-use Rattle.script_actor.specs.Lines.{Line, ArePlayable, HasNodes}
+use Rattle.script_actions.specs.Lines.{Line, ArePlayable, HasNodes}
 use Rattle.script_plays.specs.Plays.{Play, play_begins, history_of, histories_from, states_after}
 use Rattle.cluster_runner.specs.Kept.{Kept, mesh_kept, states_kept}
 use Rattle.cluster_runner.specs.Goal.{IsUnderWay}

@@ -12,10 +12,10 @@ use Rattle.script_lines.specs.declared.script_line.ScriptLine.{ScriptLine}
 use Rattle.script_lines.specs.declared.script_line.ScriptLine.TheVariants as line
 use Rattle.node_history.specs.NodeCells.{new_cell}
 use Rattle.script_lines.specs.Scripts.{ScriptView}
-use Rattle.script_actor.specs.Lines.{Line, Declares, Acts, Operates, line_of, lines_of, count_actors, AreEdits, IsTask, WithNames, ArePlayable, AreInRange, IsPlayable, NumbersFit}
-use Rattle.script_actor.specs.Actor.{holding_if}
-use Rattle.script_actor.specs.KeptActor.{KeptActor, new_actor}
-use Rattle.script_actor.specs.Actions.{IsIdleHolding}
+use Rattle.script_actions.specs.Lines.{Line, Declares, Acts, Operates, line_of, lines_of, count_actors, AreEdits, IsTask, WithNames, ArePlayable, AreInRange, IsPlayable, NumbersFit}
+use Rattle.script_actions.specs.Actor.{holding_if}
+use Rattle.script_actions.specs.KeptActor.{KeptActor, new_actor}
+use Rattle.script_actions.specs.Actions.{IsIdleHolding}
 use Rattle.script_plays.specs.Plays.{Play, play_begins, IsPlayed}
 use Rattle.cluster_runner.specs.Kept.{Kept, actor_of, with_actor, new_kept, mesh_kept, ends_kept, IsAtRest, Leads}
 use Rattle.cluster_runner.specs.Ready.{IsIdleIn, IsIdle, TakesLine}

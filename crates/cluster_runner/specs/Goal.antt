@@ -2,8 +2,8 @@
 use Rattle.std.specs.Prelude.{◌≡◌, ℕ, ◌+◌, ◌<◌, Bool, List, length, map}
 use Rattle.script_lines.specs.declared.script_line.ScriptLine.{ScriptLine}
 use Rattle.script_lines.specs.declared.script_line.ScriptLine.TheVariants as line
-use Rattle.script_actor.specs.Lines.{Line, Declares, Acts, Operates, line_of, ArePlayable, AreInRange}
-use Rattle.script_actor.specs.Actions.{MayCome}
+use Rattle.script_actions.specs.Lines.{Line, Declares, Acts, Operates, line_of, ArePlayable, AreInRange}
+use Rattle.script_actions.specs.Actions.{MayCome}
 use Rattle.script_plays.specs.Plays.{Play, play_begins}
 use Rattle.cluster_runner.specs.Kept.{Kept, IsAtRest, Leads}
 use Rattle.cluster_runner.specs.Ready.{IsIdle}

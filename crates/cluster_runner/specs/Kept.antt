@@ -13,9 +13,9 @@ use Rattle.node_history.specs.Cell.{cell_takes}
 use Rattle.node_history.specs.NodeCells.{CellView, new_cell}
 use Rattle.mesh.specs.declared.whole.Mesh.{Mesh}
 use Rattle.ns_tree.specs.declared.end.End.{End}
-use Rattle.script_actor.specs.Lines.{Line}
-use Rattle.script_actor.specs.Actor.{last_of}
-use Rattle.script_actor.specs.KeptActor.{KeptActor, new_actor, resting}
+use Rattle.script_actions.specs.Lines.{Line}
+use Rattle.script_actions.specs.Actor.{last_of}
+use Rattle.script_actions.specs.KeptActor.{KeptActor, new_actor, resting}
 use Rattle.script_plays.specs.Plays.{Play, play_steps, histories_from, Delivery, Delivered, ReplyLost, NotDelivered, told_of, is_done}
 
 -- with names or without, the nodes with what each has listed, the actors, and the operator's number and record

@@ -1,8 +1,8 @@
 -- What holds of a play between two lines: its actors are idle.
 use Rattle.std.specs.Prelude.{◌≡◌, ℕ, ◌≤◌, ◌<◌, Bool, List, ◌∷◌, length, is_some}
-use Rattle.script_actor.specs.Lines.{Line}
-use Rattle.script_actor.specs.KeptActor.{KeptActor}
-use Rattle.script_actor.specs.Actions.{IsIdleActor}
+use Rattle.script_actions.specs.Lines.{Line}
+use Rattle.script_actions.specs.KeptActor.{KeptActor}
+use Rattle.script_actions.specs.Actions.{IsIdleActor}
 use Rattle.cluster_runner.specs.Kept.{Kept, actor_of, IsAtRest, LeadsTo}
 
 -- an idle actor, which holds something in a play with names alone

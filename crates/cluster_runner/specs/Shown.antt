@@ -3,15 +3,17 @@ use Rattle.std.specs.Prelude.{◌≡◌, ℕ, Bool, List, All, map}
 use Rattle.node_history.specs.declared.record.Record.{Record}
 use Rattle.node_history.specs.NodeCells.{CellView}
 use Rattle.cluster_runner.specs.declared.player.Player.{Player}
-use Rattle.script_actor.specs.KeptActor.{KeptActor}
+use Rattle.script_actions.specs.Actions.{ActorView}
+use Rattle.script_actions.specs.KeptActor.{KeptActor}
 use Rattle.cluster_runner.specs.Kept.{Kept}
 
-abbrev pub keeps : Player → KeptActor
-keeps p = record { name = p.name; writer = p.actor.writer; holds = p.actor.holds; past = p.log.past; marks = p.log.marks }
+-- where this is seen of each actor
+abbrev pub keeps : {A : Type 0} → (A → ActorView) → Player A → KeptActor
+keeps seen p = record { name = p.name; writer = (seen p.actor).writer; holds = (seen p.actor).holds; past = p.log.past; marks = p.log.marks }
 
-abbrev pub kept : Bool → List CellView → List Player → ℕ → List Record → Kept
-kept named nodes players operator operated = record { named = named; nodes = nodes; actors = map keeps players; operator = operator; operated = operated }
+abbrev pub kept : {A : Type 0} → (A → ActorView) → Bool → List CellView → List (Player A) → ℕ → List Record → Kept
+kept seen named nodes players operator operated = record { named = named; nodes = nodes; actors = map (keeps seen) players; operator = operator; operated = operated }
 
 -- each lists its calls to so many nodes
-abbrev pub AreSeated : ℕ → List Player → Type 0
+abbrev pub AreSeated : {A : Type 0} → ℕ → List (Player A) → Type 0
 AreSeated nodes players = All (λ p. p.log.nodes ≡ nodes) players

@@ -3,9 +3,9 @@ ghost use Rattle.std.specs.List.{All};
 ghost use Rattle.std.specs.Prelude.{◌≡◌, ◌≤◌, ◌<◌, OnOk, IfOk, Some, length, ℕ, map, replicate};
 ghost use Rattle.journal_core.specs.Step.{fresh_state};
 ghost use Rattle.node_history.specs.NodeCells.{new_cell};
-ghost use Rattle.script_actor.specs.Actions.{MayCome};
+ghost use Rattle.script_actions.specs.Actions.{MayCome};
 ghost use Rattle.cluster_runner.specs.Kept.{new_kept, with_actor, operates, mesh_kept, end_of, ends_kept, states_kept};
-ghost use Rattle.script_actor.specs.Lines.{Acts, Action, line_of};
+ghost use Rattle.script_actions.specs.Lines.{Acts, Action, line_of};
 ghost use Rattle.cluster_runner.specs.Ready.{IsIdle, TakesLine};
 ghost use Rattle.cluster_runner.specs.Shown.{keeps};
 
@@ -16,7 +16,7 @@ use journal_core::{Bytes, CutNode, Name, OutOfMemory};
 use mesh::{HistoryTable, Mesh, RecordTable};
 use node_history::{NodeAsk, NodeCell, Plan, Record, RecordList, cells_of};
 use ns_tree::{End, EndList};
-use script_actor::ScriptActor;
+use script_actions::Actor;
 use script_lines::ScriptLine;
 use script_plays::Played;
 use std::alloc::{AllocError, Global};
@@ -26,22 +26,22 @@ use std::mem;
 /// Whether a play is one with names, its nodes and its actors, and the operator's number and record. Contracts see what is kept of
 /// the play.
 #[derive(Drop)]
-pub(crate) struct Cluster<N: CutNode + Drop> {
+pub(crate) struct Cluster<A: Actor, N: CutNode + Drop> {
     named: bool,
     cells: Vec<NodeCell<N>>,
-    players: Vec<Player>,
+    players: Vec<Player<A>>,
     operator: u32,
     operated: RecordList,
 }
 
-impl<N: CutNode + Drop> Model for Cluster<N> {
+impl<A: Actor, N: CutNode + Drop> Model for Cluster<A, N> {
     ghost use Rattle.std.specs.Prelude.{length};
     ghost use Rattle.cluster_runner.specs.Kept.{Kept};
     ghost use Rattle.cluster_runner.specs.Shown.{kept, AreSeated};
 
     ghost Value = { Kept };
 
-    ghost view = { λ c. kept c.named c.cells.items c.players.items c.operator c.operated };
+    ghost view = { λ c. kept A.seen c.named c.cells.items c.players.items c.operator c.operated };
 
     ghost invariant = { λ c. AreSeated (length c.cells.items) c.players.items };
 }
@@ -84,8 +84,8 @@ struct Lists {
 }
 
 /// What these actors leave.
-fn lists_of(alloc: Global, players: Vec<Player>) -> Result<Lists, OutOfMemory>
-    ensures ends { IfOk result (λ l. l.ends ≡ map (λ p. end_of (keeps p)) players.items) }
+fn lists_of<A: Actor>(alloc: Global, players: Vec<Player<A>>) -> Result<Lists, OutOfMemory>
+    ensures ends { IfOk result (λ l. l.ends ≡ map (λ p. end_of (keeps A.seen p)) players.items) }
     ensures records { IfOk result (λ l. l.records.items ≡ map (λ p. p.log.past) players.items) }
     ensures plan { IfOk result (λ l. l.plan ≡ map (λ p. p.log.marks) players.items) }
 {
@@ -107,14 +107,14 @@ fn lists_of(alloc: Global, players: Vec<Player>) -> Result<Lists, OutOfMemory>
     })
 }
 
-impl<N: CutNode + Drop> Cluster<N> {
+impl<A: Actor, N: CutNode + Drop> Cluster<A, N> {
     /// These nodes, each fresh and steady, no actors, and an operator of this number. The actors will hold namespaces or nothing.
     pub(crate) fn of(
         alloc: Global,
         named: bool,
         nodes: Vec<N>,
         operator: u32,
-    ) -> Result<Cluster<N>, OutOfMemory>
+    ) -> Result<Cluster<A, N>, OutOfMemory>
         requires fresh { All (λ n. N.state n ≡ Some fresh_state) nodes.items }
         requires steady { All (λ n. N.steady n) nodes.items }
         ensures { IfOk result (λ cluster. cluster ≡ new_kept named (length nodes.items) operator) }
@@ -130,13 +130,17 @@ impl<N: CutNode + Drop> Cluster<N> {
 
     /// One more actor.
     #[tactic(auto, using(crate::proofs::ClusterLaws::one_more_actor))]
-    pub(crate) fn declare(mut self, alloc: Global, name: &Bytes) -> Result<Cluster<N>, OutOfMemory>
+    pub(crate) fn declare(
+        mut self,
+        alloc: Global,
+        name: &Bytes,
+    ) -> Result<Cluster<A, N>, OutOfMemory>
         ensures { IfOk result (λ new. new ≡ with_actor self name.now) }
     {
         let nodes = self.cells.len();
         let player = Player {
             name: Name::from_slice(alloc, name.as_slice())?,
-            actor: ScriptActor::new(alloc, self.named, nodes)?,
+            actor: A::new(alloc, self.named, nodes)?,
             log: CallerLog::new(alloc, nodes)?,
         };
         self.players.push(player)?;
@@ -149,7 +153,7 @@ impl<N: CutNode + Drop> Cluster<N> {
         alloc: Global,
         actor: u32,
         line: &ScriptLine,
-    ) -> Result<Cluster<N>, OutOfMemory>
+    ) -> Result<Cluster<A, N>, OutOfMemory>
         requires there { actor < length self.actors }
         requires idle { IsIdle self }
         requires may { MayCome self.named (length self.nodes) line.now }
@@ -194,7 +198,7 @@ impl<N: CutNode + Drop> Cluster<N> {
         alloc: Global,
         node: usize,
         ask: NodeAsk,
-    ) -> Result<Cluster<N>, OutOfMemory>
+    ) -> Result<Cluster<A, N>, OutOfMemory>
         requires low { 1 ≤ node }
         requires high { node ≤ length self.nodes }
         ensures { IfOk result (λ new. new ≡ operates self node ask) }

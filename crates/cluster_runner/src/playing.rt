@@ -3,7 +3,7 @@ ghost use Rattle.std.specs.Prelude.{◌≡◌, ◌≤◌, ◌<◌, ◌^◌, ◌�
 ghost use Rattle.std.specs.List.{All};
 ghost use Rattle.journal_core.specs.Step.{fresh_state};
 ghost use Rattle.script_lines.specs.declared.script_line.ScriptLine.{ScriptLine};
-ghost use Rattle.script_actor.specs.Lines.{line_of, lines_of, count_actors, IsPlayable, NumbersFit};
+ghost use Rattle.script_actions.specs.Lines.{line_of, lines_of, count_actors, IsPlayable, NumbersFit};
 ghost use Rattle.script_plays.specs.Plays.{IsPlayed, states_after};
 ghost use Rattle.cluster_runner.specs.Kept.{mesh_kept, ends_kept, states_kept};
 ghost use Rattle.cluster_runner.specs.Ready.{IsIdle, TakesLine};
@@ -13,17 +13,18 @@ use crate::cluster::Cluster;
 use journal_core::{CutNode, OutOfMemory};
 use memory_node::PlainNode;
 use node_history::{NodeAsk, SharedStop};
+use script_actions::Actor;
 use script_lines::{Script, ScriptLine};
 use script_plays::{Played, actors_in};
 use std::alloc::Global;
 
 /// One line of a script, with all its calls.
 #[tactic(auto, using(crate::proofs::PlayLaws::takes))]
-fn take_line<N: CutNode + Drop>(
+fn take_line<A: Actor, N: CutNode + Drop>(
     alloc: Global,
-    cluster: Cluster<N>,
+    cluster: Cluster<A, N>,
     line: &ScriptLine,
-) -> Result<Cluster<N>, OutOfMemory>
+) -> Result<Cluster<A, N>, OutOfMemory>
     requires idle { IsIdle cluster }
     requires may { MayTake cluster.named (length cluster.nodes) (length cluster.actors) line.now }
     ensures { IfOk result (λ new. TakesLine (line_of line.now) (actors_after (length cluster.actors) line.now) cluster new) }
@@ -55,10 +56,10 @@ fn take_line<N: CutNode + Drop>(
     }
 }
 
-/// Plays a script in order, each line with all its calls, over these nodes: as many as the script says, each fresh, steady and
+/// Plays a script in order by actors of this kind, each line with all its calls, over these nodes: as many as the script says, each fresh, steady and
 /// telling its state. They are handed back as their histories leave them.
 #[tactic(auto, using(crate::proofs::PlayLaws::plays))]
-pub fn play_on<N: CutNode + Drop>(
+pub fn play_on<A: Actor, N: CutNode + Drop>(
     alloc: Global,
     nodes: Vec<N>,
     script: &Script,
@@ -73,7 +74,7 @@ pub fn play_on<N: CutNode + Drop>(
     ensures steady { IfOk result (λ played. All (λ n. N.steady n) played.nodes.items) }
 {
     let operator = actors_in(script.lines());
-    let mut cluster = Cluster::of(alloc, script.names(), nodes, operator)?;
+    let mut cluster: Cluster<A, N> = Cluster::of(alloc, script.names(), nodes, operator)?;
     for line in script.lines() {
         cluster = take_line(alloc, cluster, line)?;
     }
@@ -93,12 +94,12 @@ pub fn plain_nodes(alloc: Global, count: usize) -> Result<Vec<PlainNode>, OutOfM
     Ok(nodes)
 }
 
-/// Plays a script in order, each line with all its calls, over fresh nodes in memory.
-pub fn play(alloc: Global, script: &Script) -> Result<Played<PlainNode>, OutOfMemory>
+/// Plays a script in order by actors of this kind, each line with all its calls, over fresh nodes in memory.
+pub fn play<A: Actor>(alloc: Global, script: &Script) -> Result<Played<PlainNode>, OutOfMemory>
     requires playable { IsPlayable script.now }
     requires numbers { NumbersFit script.now }
     ensures { IfOk result (λ played. IsPlayed script.now.named script.now.nodes (lines_of script.now) played.mesh played.ends) }
 {
     let nodes = plain_nodes(alloc, script.nodes())?;
-    play_on(alloc, nodes, script)
+    play_on::<A, PlainNode>(alloc, nodes, script)
 }

@@ -1,8 +1,10 @@
 //! Each kind of edit once, as text and as bytes; each fault; texts from outside.
 use crate::rows::is_so;
-use edit_ops::{Decoded, Edit, OpKind, decode, encode};
+use edit_ops::{Edit, OpKind};
+use edit_records::{Decoded, decode};
 use edit_texts::{ReadText, edit_text, read_text};
 use edit_values::{NameList, NumberList};
+use edit_writing::encode;
 use qj_num::{Bytes, Name, OutOfMemory};
 use std::alloc::Global;
 use std::test::Fail;

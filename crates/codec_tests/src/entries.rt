@@ -4,7 +4,7 @@ use crate::listings::{
     Change, Prefix, Tool, Want, front, put_frame, tells, tells_change, tells_prefix,
 };
 use crate::rows::is_so;
-use edit_ops::encode;
+use edit_writing::encode;
 use oev_tool::ByteCause;
 use qj_num::OutOfMemory;
 use std::alloc::Global;

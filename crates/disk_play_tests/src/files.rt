@@ -4,6 +4,7 @@ ghost use Rattle.script_text.specs.Grammar.{IsScript};
 use cluster_runner::play_on;
 use disk_nodes::fresh_nodes;
 use qj_disk::{Disk, MemDisk};
+use script_actor::ScriptActor;
 use script_lines::Script;
 use script_plays::scripts_are_playable;
 use script_text::{ReadScript, read_script};
@@ -16,7 +17,7 @@ fn disk_after(alloc: Global, script: &Script) -> Result<MemDisk, Fail>
 {
     scripts_are_playable();
     let nodes = fresh_nodes(alloc, script.nodes())?;
-    let played = play_on(alloc, nodes, script)?;
+    let played = play_on::<ScriptActor, _>(alloc, nodes, script)?;
     match played.nodes.into_iter().next() {
         Some(node) => Ok(node.into_disk()),
         None => Err("there is no node".into()),

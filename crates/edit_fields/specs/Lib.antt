@@ -1,7 +1,4 @@
 pub mod Fields
-pub mod Shown
-pub mod Forms
 pub mod Sources
 pub mod Reading
 pub mod Rules
-pub mod Spaced

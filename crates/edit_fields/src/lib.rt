@@ -1,12 +1,8 @@
-//! The fields of edits: how each is written, as bytes and as words, and read from a source of fields, as the bytes of a record.
+//! The fields of edits: what each may hold, how it is spelled, and where it is read from.
 #![tactic(auto)]
 
 mod fault;
-mod field;
-mod record_source;
 mod source;
 
 pub use fault::{Fault, ReadError};
-pub use field::{Field, Form, put_field, put_fields, put_numbers, put_paths};
-pub use record_source::{MOST_OWNER, MOST_PATH, RecordSource, is_printable};
 pub use source::FieldSource;

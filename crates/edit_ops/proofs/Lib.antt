@@ -1,3 +1,1 @@
 pub mod EditLaws
-pub mod DecodeLaws
-pub mod OpReads

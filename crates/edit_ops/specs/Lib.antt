@@ -2,6 +2,4 @@ pub mod Kinds
 pub mod Records
 pub mod Grammar
 pub mod Words
-pub mod Decoding
 pub mod FromFields
-pub mod OpRead

@@ -15,14 +15,14 @@ use Rattle.edit_ops.specs.Kinds.{is_mark}
 use Rattle.edit_ops.specs.Words.{verb}
 use Rattle.edit_fields.specs.Fields.{Field, client, call_number, IsGood}
 use Rattle.edit_ops.specs.Records.{EditView, kind_of, fields_of, layout, call_fields}
-use Rattle.edit_fields.specs.Spaced.{spaced}
+use Rattle.field_forms.specs.Spaced.{spaced}
 use Rattle.edit_texts.specs.Texts.{IsText}
 use Rattle.edit_texts.specs.ReadTexts.{IsLine, IsReadLine, IsReadEdit, IsReadText}
 use Rattle.edit_fields.specs.Sources.{Fails}
-use Rattle.edit_ops.specs.OpRead.{op_read}
+use Rattle.edit_reading.specs.OpRead.{op_read}
 use Rattle.edit_texts.specs.Saying.{Boundary, split_word, words_group, fields_said}
 use Rattle.edit_fields.proofs.SourceLaws.{ok_is}
-use Rattle.edit_ops.proofs.OpReads.{op_is_read, op_fails}
+use Rattle.edit_reading.proofs.OpReads.{op_is_read, op_fails}
 use Rattle.edit_ops.proofs.EditLaws.{same_op}
 use Rattle.edit_texts.proofs.SayWords.{NoSpace, split_again}
 use Rattle.edit_texts.proofs.SayLaws.{runs, fields_taken}

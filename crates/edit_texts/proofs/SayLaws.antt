@@ -5,7 +5,7 @@ use Rattle.std.specs.List.{flat_map, AllByRecursion}
 use Rattle.std.proofs.lemmas.List.{append-nil}
 use Rattle.edit_texts.specs.declared.bad_text.BadText.{BadText}
 use Rattle.edit_fields.specs.Fields.{Kind, Field, path, replication, permission, numbers, paths, text, small, number, flag, client, call_number, Text_, Small_, Number_, Flag_, Client_, Call_, kind_of_field, IsGood}
-use Rattle.edit_fields.specs.Spaced.{spaced, CanSay}
+use Rattle.field_forms.specs.Spaced.{spaced, CanSay}
 use Rattle.edit_texts.specs.Saying.{◌>>=◌, Boundary, field_said, items_said, listed_said, group_said, bad_text, fields_said}
 use Rattle.edit_fields.proofs.SourceLaws.{ok_is, with_front, with_front-append, with_front-nil, and_then}
 use Rattle.edit_texts.proofs.SayWords.{HasWord, word_in, spaced_is, Says, field_said_takes, field_said_again}

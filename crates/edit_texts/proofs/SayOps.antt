@@ -12,7 +12,7 @@ use Rattle.edit_ops.specs.Kinds.{is_mark}
 use Rattle.edit_ops.specs.Words.{verb}
 use Rattle.edit_ops.specs.Records.{kind_of, fields_of, layout}
 use Rattle.edit_fields.specs.Fields.{Field, path, numbers, paths, text, small, number, Text_, Small_, Number_, kind_of_field, IsGood}
-use Rattle.edit_fields.specs.Spaced.{spaced, CanSay}
+use Rattle.field_forms.specs.Spaced.{spaced, CanSay}
 use Rattle.edit_texts.specs.Saying.{Boundary, items_said, fields_said}
 use Rattle.edit_fields.proofs.SourceLaws.{with_front}
 use Rattle.edit_texts.proofs.SayWords.{NoSpace, HasWord}

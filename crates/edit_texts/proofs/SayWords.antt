@@ -15,7 +15,7 @@ use Rattle.qj_num.specs.Numbers.{IsNumber}
 use Rattle.edit_fields.specs.Fields.{Kind, Field, Text, path, owner, new_owner, replication, permission, numbers, paths, text, small, number, flag, client, call_number, Text_, Small_, Number_, Flag_, Client_, Call_, kind_of_field, limit, IsGood}
 use Rattle.line_words.specs.Hex.{hex_text, bytes_in}
 use Rattle.line_words.proofs.HexLaws.{length-hex_text, bytes_back, bytes_found, hex_graphic}
-use Rattle.edit_fields.specs.Spaced.{text_word, spaced, CanSay}
+use Rattle.field_forms.specs.Spaced.{text_word, spaced, CanSay}
 use Rattle.edit_texts.specs.Saying.{◌>>=◌, Boundary, split_word, word_at, number_said, at_most, text_said, client_said, said, field_said}
 use Rattle.edit_texts.proofs.SayNumbers.{same_bytes, number_is_said, said_is_number, within, said_at_most}
 use Rattle.std.proofs.lemmas.Slice.Eq.{bytes_eq-Decides}

@@ -15,7 +15,7 @@ use Rattle.edit_ops.specs.Kinds.{is_mark}
 use Rattle.edit_ops.specs.Words.{verb}
 use Rattle.edit_fields.specs.Fields.{Kind, Field, path, replication, permission, numbers, paths, text, small, number, flag, client, call_number, Text_, Small_, Number_, Flag_, Client_, Call_, kind_of_field, IsGood}
 use Rattle.edit_ops.specs.Records.{EditView, kind_of, fields_of, layout, call_fields}
-use Rattle.edit_fields.specs.Spaced.{spaced, CanSay}
+use Rattle.field_forms.specs.Spaced.{spaced, CanSay}
 use Rattle.edit_texts.specs.Texts.{IsText}
 use Rattle.edit_texts.specs.ReadTexts.{IsLine}
 use Rattle.edit_texts.specs.Saying.{◌>>=◌, Boundary, split_word, field_said, items_said, group_said, fields_said}

@@ -17,7 +17,7 @@ use Rattle.edit_fields.specs.Fields.{Field, path, owner, new_owner, replication,
 use Rattle.edit_ops.specs.Records.{EditView, kind_of, fields_of, call_fields}
 use Rattle.line_words.specs.Hex.{hex_text}
 use Rattle.line_words.proofs.HexLaws.{length-hex_text, hex_graphic}
-use Rattle.edit_fields.specs.Spaced.{spaced, CanSay}
+use Rattle.field_forms.specs.Spaced.{spaced, CanSay}
 use Rattle.edit_texts.specs.Texts.{IsText}
 use Rattle.edit_texts.specs.ReadTexts.{IsLine}
 use Rattle.edit_texts.specs.SaidTexts.{IsGraphic, IsWorded}

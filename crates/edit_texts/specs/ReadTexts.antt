@@ -11,7 +11,7 @@ use Rattle.edit_ops.specs.Kinds.{is_mark}
 use Rattle.edit_ops.specs.Words.{verb}
 use Rattle.edit_fields.specs.Fields.{IsGood}
 use Rattle.edit_ops.specs.Records.{EditView, kind_of, fields_of}
-use Rattle.edit_fields.specs.Spaced.{spaced, CanSay}
+use Rattle.field_forms.specs.Spaced.{spaced, CanSay}
 use Rattle.edit_texts.specs.Texts.{IsText}
 
 -- the words are those of what an edit does

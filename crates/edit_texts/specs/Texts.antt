@@ -7,7 +7,7 @@ use Rattle.edit_ops.specs.Kinds.{is_mark}
 use Rattle.edit_ops.specs.Words.{verb, name}
 use Rattle.edit_ops.specs.Records.{EditView, kind_of, fields_of, call_fields}
 use Rattle.edit_ops.specs.Grammar.{IsEdit}
-use Rattle.edit_fields.specs.Spaced.{spaced, CanSay}
+use Rattle.field_forms.specs.Spaced.{spaced, CanSay}
 
 abbrev pub first_word : Bool → OpKind → List ℕ
 first_word true kind = name kind

@@ -9,7 +9,8 @@ use crate::bad_text::BadText;
 use crate::said_text::ReadText;
 use crate::word_source::{WordSource, split_word};
 use edit_fields::ReadError;
-use edit_ops::{Edit, Op, OpKind, read_call, read_op};
+use edit_ops::{Edit, Op, OpKind};
+use edit_reading::{read_call, read_op};
 use std::alloc::Global;
 
 // What an edit does, by its first word and its fields.

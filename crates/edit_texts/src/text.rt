@@ -4,13 +4,14 @@ ghost use Rattle.std.specs.List.{flat_map, AllByRecursion};
 ghost use Rattle.edit_ops.specs.Kinds.{is_mark};
 ghost use Rattle.edit_fields.specs.Fields.{IsGood};
 ghost use Rattle.edit_ops.specs.Records.{kind_of, fields_of, call_fields};
-ghost use Rattle.edit_fields.specs.Forms.{written};
+ghost use Rattle.field_forms.specs.Forms.{written};
 ghost use Rattle.edit_texts.specs.Texts.{first_word, call_text, text_of};
-ghost use Rattle.edit_fields.specs.Spaced.{spaced};
+ghost use Rattle.field_forms.specs.Spaced.{spaced};
 
-use edit_fields::{Field, Form, put_fields};
-use edit_ops::{Edit, Op, put_op};
+use edit_ops::{Edit, Op};
 use edit_values::Call;
+use edit_writing::put_op;
+use field_forms::{Field, Form, put_fields};
 use qj_num::OutOfMemory;
 
 // Appends the words of a call, and a space; an `Err` changes nothing.

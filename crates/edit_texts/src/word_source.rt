@@ -6,8 +6,9 @@ ghost use Rattle.edit_fields.specs.Fields.{Text, Text_, Number_, text, number, p
 ghost use Rattle.edit_texts.specs.Saying.{Tells, split_word, word_at, number_said, at_most, text_said, client_said, field_said, items_said};
 
 use crate::bad_text::BadText;
-use edit_fields::{FieldSource, MOST_OWNER, MOST_PATH, ReadError, is_printable};
+use edit_fields::{FieldSource, ReadError};
 use edit_values::{NameList, NumberList};
+use field_forms::{MOST_OWNER, MOST_PATH, is_printable};
 use line_words::{read_hex, word_len};
 use qj_num::{MAX, Name, read_digits, read_number};
 use std::alloc::Global;

@@ -1,6 +1,6 @@
 //! Images in a folder: whole ones in both layouts, alone, with another digest, and with other bytes.
 use crate::folders::{Case, disk_of, expect_all, expect_report_of};
-use image_store::save_bytes;
+use image_files::save_bytes;
 use std::alloc::Global;
 use std::process::Abort;
 use std::test::Fail;

@@ -7,13 +7,13 @@ use Rattle.qj_disk.specs.Files.{Files}
 use Rattle.image_codec.specs.declared.image_cause.ImageCause.{ImageCause}
 use Rattle.image_codec.specs.declared.answer.ReadImage.TheVariants as read
 use Rattle.image_codec.specs.Reading.{reading_of}
-use Rattle.image_store.specs.Names.{Itself, Digest, name_of}
-use Rattle.image_store.specs.Images.{Image, image_of, image_in}
-use Rattle.image_store.specs.Digests.{IsStored}
+use Rattle.image_files.specs.Names.{Itself, Digest, name_of}
+use Rattle.image_files.specs.Images.{Image, image_of, image_in}
+use Rattle.image_files.specs.Digests.{IsStored}
 use Rattle.image_store.specs.Loads.{IsAnswerOf, IsAnswer}
 use Rattle.image_store.specs.declared.loaded.Loaded.{Loaded}
 use Rattle.image_store.specs.declared.loaded.Loaded.TheVariants as loaded
-use Rattle.image_store.proofs.DigestLaws.{digits_of, one_digest}
+use Rattle.image_files.proofs.DigestLaws.{digits_of, one_digest}
 use Rattle.fsck_tool.specs.declared.finding.Finding.{Finding}
 use Rattle.fsck_tool.specs.declared.rule.Rule.TheVariants as rule
 use Rattle.fsck_tool.specs.declared.file_role.FileRole.TheVariants as role

@@ -8,12 +8,12 @@ use Rattle.node_files.specs.declared.node_number.NodeNumber.{NodeNumber}
 use Rattle.node_files.specs.declared.node_number.NodeNumber.TheVariants.{Promised, Writer, Committed}
 use Rattle.segment_file.specs.Names.{Kind, InProgress, Final, Record, UnderWay, Fresh, name_of}
 use Rattle.segment_opening.specs.Kinds.{IsNamed, IsTold}
-use Rattle.image_store.specs.Names as image
+use Rattle.image_files.specs.Names as image
 use Rattle.fsck_tool.specs.declared.finding.Finding.{Finding}
 use Rattle.fsck_tool.specs.declared.rule.Rule.TheVariants as rule
 use Rattle.fsck_tool.specs.declared.file_role.FileRole.{FileRole}
 use Rattle.fsck_tool.specs.declared.file_role.FileRole.TheVariants as role
-use Rattle.image_store.specs.Lists.{IsNamed as IsImageName}
+use Rattle.image_files.specs.Lists.{IsNamed as IsImageName}
 use Rattle.fsck_tool.specs.Roles.{IsPassing, temporary, fresh, under_way, checkpoint, IsKnownAs, HasRole}
 use Rattle.fsck_tool.specs.Rules.{IsVerdict}
 use Rattle.fsck_tool.specs.Steps.{IsOfImage, IsLeft}

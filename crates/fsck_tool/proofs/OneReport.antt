@@ -16,8 +16,8 @@ use Rattle.node_files.specs.declared.node_number.NodeNumber.TheVariants.{Promise
 use Rattle.batch_frame.proofs.SegmentLaws.{one_segment_fault}
 use Rattle.image_codec.specs.declared.answer.ReadImage.TheVariants as read
 use Rattle.image_codec.specs.Reading.{reading_of}
-use Rattle.image_store.specs.Images.{Image, image_in}
-use Rattle.image_store.specs.Digests.{IsStored}
+use Rattle.image_files.specs.Images.{Image, image_in}
+use Rattle.image_files.specs.Digests.{IsStored}
 use Rattle.fsck_tool.specs.declared.rule.Rule.{Rule}
 use Rattle.fsck_tool.specs.declared.rule.Rule.TheVariants as rule
 use Rattle.fsck_tool.specs.declared.finding.Finding.{Finding}

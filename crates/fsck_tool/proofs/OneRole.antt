@@ -9,11 +9,11 @@ use Rattle.node_files.specs.declared.node_number.NodeNumber.TheVariants.{Promise
 use Rattle.segment_file.specs.Names.{Kind, InProgress, Final, Record, UnderWay, Fresh, FreshRecord, name_of}
 use Rattle.segment_opening.specs.Kinds.{IsNamed, IsTold}
 use Rattle.segment_opening.proofs.MendLemmas.{one_start, one_kind}
-use Rattle.image_store.specs.Names as image
-use Rattle.image_store.proofs.NameLaws.{parts_apart, same_txid}
+use Rattle.image_files.specs.Names as image
+use Rattle.image_files.proofs.NameLaws.{parts_apart, same_txid}
 use Rattle.fsck_tool.specs.declared.file_role.FileRole.{FileRole}
 use Rattle.fsck_tool.specs.declared.file_role.FileRole.TheVariants as role
-use Rattle.image_store.specs.Lists.{IsNamed as IsImageName}
+use Rattle.image_files.specs.Lists.{IsNamed as IsImageName}
 use Rattle.fsck_tool.specs.Roles.{temporary, fresh, under_way, checkpoint, IsKnownAs, HasRole}
 
 -- ## How names end

@@ -4,7 +4,7 @@ use Rattle.qj_num.specs.Padded.{padded}
 use Rattle.node_files.specs.Durable.{number_name}
 use Rattle.segment_file.specs.Names.{InProgress, Final, Record, UnderWay, Fresh}
 use Rattle.segment_opening.specs.Kinds.{IsNamed}
-use Rattle.image_store.specs.Lists.{IsNamed as IsImageName}
+use Rattle.image_files.specs.Lists.{IsNamed as IsImageName}
 use Rattle.fsck_tool.specs.declared.file_role.FileRole.{FileRole}
 use Rattle.fsck_tool.specs.declared.file_role.FileRole.TheVariants as role
 

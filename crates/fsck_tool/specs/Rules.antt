@@ -10,9 +10,9 @@ use Rattle.node_files.specs.declared.node_number.NodeNumber.TheVariants.{Promise
 use Rattle.image_codec.specs.declared.image_cause.ImageCause.{ImageCause}
 use Rattle.image_codec.specs.declared.answer.ReadImage.TheVariants.{BadImage}
 use Rattle.image_codec.specs.Reading.{reading_of}
-use Rattle.image_store.specs.Names.{Itself, Digest, name_of}
-use Rattle.image_store.specs.Images.{Image, image_in}
-use Rattle.image_store.specs.Digests.{IsStored}
+use Rattle.image_files.specs.Names.{Itself, Digest, name_of}
+use Rattle.image_files.specs.Images.{Image, image_in}
+use Rattle.image_files.specs.Digests.{IsStored}
 use Rattle.fsck_tool.specs.declared.rule.Rule.{Rule}
 use Rattle.fsck_tool.specs.declared.rule.Rule.TheVariants as rule
 use Rattle.fsck_tool.specs.declared.finding.Finding.{Finding}

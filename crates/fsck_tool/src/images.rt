@@ -2,14 +2,15 @@
 ghost use Rattle.std.specs.Prelude.{◌≡◌, ◌≤◌, ◌^◌, List, ℕ, Some, IfOk};
 ghost use Rattle.qj_disk.specs.Calls.{Rests};
 ghost use Rattle.qj_disk.specs.DiskCalls.{HasFile, IfTold, IsDiskRun};
-ghost use Rattle.image_store.specs.Names.{name_of, Itself, Digest};
+ghost use Rattle.image_files.specs.Names.{name_of, Itself, Digest};
 ghost use Rattle.fsck_tool.specs.Rules.{IsVerdict, front_number};
 ghost use Rattle.fsck_tool.specs.Steps.{finding_of};
 
 use crate::file_role::FileRole;
 use crate::finding::Finding;
 use crate::rule::Rule;
-use image_store::{ImageNames, Loaded, load};
+use image_files::ImageNames;
+use image_store::{Loaded, load};
 use qj_disk::{Disk, DiskFail};
 use std::alloc::Global;
 

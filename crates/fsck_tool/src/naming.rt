@@ -5,12 +5,12 @@ ghost use Rattle.node_files.specs.Durable.{number_name};
 ghost use Rattle.node_files.specs.declared.node_number.NodeNumber.{NodeNumber};
 ghost use Rattle.segment_opening.specs.Kinds.{IsNamed, IsTold, kind_told};
 ghost use Rattle.segment_file.specs.Names.{Kind};
-ghost use Rattle.image_store.specs.Lists.{IsNamed as IsImageName};
+ghost use Rattle.image_files.specs.Lists.{IsNamed as IsImageName};
 ghost use Rattle.fsck_tool.specs.Roles.{HasRole, IsKnownAs};
 ghost use Rattle.fsck_tool.specs.Steps.{IsOfImage, IsLeft};
 
 use crate::file_role::FileRole;
-use image_store::txid_of;
+use image_files::txid_of;
 use node_files::NodeNumber;
 use qj_num::read19;
 use segment_opening::{FileKind, file_named};

@@ -9,7 +9,7 @@ ghost use Rattle.fsck_tool.specs.Steps.{judged_progress, judged_whole, judged_fi
 use crate::finding::Finding;
 use crate::rule::Rule;
 use crate::segment_bytes::{SegmentBytes, read_segment_bytes};
-use image_store::read_bytes;
+use image_files::read_bytes;
 use qj_disk::{Disk, DiskFail};
 use std::alloc::Global;
 

@@ -16,17 +16,17 @@ use Rattle.image_codec.specs.Layouts.{image_bytes}
 use Rattle.image_codec.specs.Reading.{reading_of}
 use Rattle.image_codec.specs.declared.answer.ReadImage.{ReadImage}
 use Rattle.image_codec.specs.declared.answer.ReadImage.TheVariants as read
-use Rattle.image_store.specs.Images.{Image, image_in}
-use Rattle.image_store.specs.Digests.{IsStored, digest_line}
-use Rattle.image_store.specs.Saves.{Prepares, Saves}
-use Rattle.image_store.specs.Answers.{IsLoadedOf, IsLoaded}
+use Rattle.image_files.specs.Images.{Image, image_in}
+use Rattle.image_files.specs.Digests.{IsStored, digest_line}
+use Rattle.image_files.specs.Saves.{Prepares, Saves}
+use Rattle.image_files.specs.Answers.{IsLoadedOf, IsLoaded}
 use Rattle.image_store.specs.Loads.{SavesImage, HasBytes, IsAnswerOf, IsAnswer, LoadsAs, answer_of, answer_to}
-use Rattle.image_store.specs.declared.loaded_bytes.LoadedBytes.{LoadedBytes}
-use Rattle.image_store.specs.declared.loaded_bytes.LoadedBytes.TheVariants as bytes
+use Rattle.image_files.specs.declared.loaded_bytes.LoadedBytes.{LoadedBytes}
+use Rattle.image_files.specs.declared.loaded_bytes.LoadedBytes.TheVariants as bytes
 use Rattle.image_store.specs.declared.loaded.Loaded.{Loaded}
 use Rattle.image_store.specs.declared.loaded.Loaded.TheVariants as loaded
-use Rattle.image_store.proofs.DigestLaws.{digits_of, one_digest}
-use Rattle.image_store.proofs.CountLaws.{before_it, after_it, only_others}
+use Rattle.image_files.proofs.DigestLaws.{digits_of, one_digest}
+use Rattle.image_files.proofs.CountLaws.{before_it, after_it, only_others}
 
 -- ## Answers
 read_as : (t : ℕ) (image : Option Image) (found : List ℕ) → HasBytes t image found → (r : ReadImage) → reading_of found ≡ r → IsAnswerOf t image (answer_of r)

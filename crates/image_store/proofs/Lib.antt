@@ -1,9 +1,1 @@
-pub mod NameLaws
-pub mod Runs
-pub mod DigestLaws
-pub mod SaveLaws
-pub mod ListLaws
-pub mod LoadLaws
-pub mod ThinLaws
-pub mod CountLaws
 pub mod AnswerLaws

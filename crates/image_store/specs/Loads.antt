@@ -8,12 +8,12 @@ use Rattle.image_codec.specs.Reading.{reading_of}
 use Rattle.image_codec.specs.declared.answer.ReadImage.{ReadImage}
 use Rattle.image_codec.specs.declared.answer.ReadImage.TheVariants as read
 use Rattle.image_codec.specs.declared.image_cause.ImageCause.TheVariants as causes
-use Rattle.image_store.specs.Images.{Image, image_in}
-use Rattle.image_store.specs.Digests.{IsStored, digest_line}
-use Rattle.image_store.specs.Saves.{Saves}
-use Rattle.image_store.specs.Answers.{IsLoadedOf}
-use Rattle.image_store.specs.declared.loaded_bytes.LoadedBytes.{LoadedBytes}
-use Rattle.image_store.specs.declared.loaded_bytes.LoadedBytes.TheVariants as bytes
+use Rattle.image_files.specs.Images.{Image, image_in}
+use Rattle.image_files.specs.Digests.{IsStored, digest_line}
+use Rattle.image_files.specs.Saves.{Saves}
+use Rattle.image_files.specs.Answers.{IsLoadedOf}
+use Rattle.image_files.specs.declared.loaded_bytes.LoadedBytes.{LoadedBytes}
+use Rattle.image_files.specs.declared.loaded_bytes.LoadedBytes.TheVariants as bytes
 use Rattle.image_store.specs.declared.loaded.Loaded.{Loaded}
 use Rattle.image_store.specs.declared.loaded.Loaded.TheVariants as loaded
 

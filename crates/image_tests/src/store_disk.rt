@@ -1,6 +1,6 @@
 //! Disks of tests of images: what is done to them and what is seen of them, line by line.
 use crate::rows::is_so;
-use image_store::{
+use image_files::{
     LoadedBytes, MinToKeep, Newest, load_bytes, min_to_keep, newest, retain, save_bytes,
 };
 use qj_disk::{Choice, Disk, DiskFail, MemDisk, UntoldDisk};

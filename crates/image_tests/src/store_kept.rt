@@ -3,7 +3,7 @@ use crate::rows::is_so;
 use crate::store_disk::{
     CHOICES, Found, Step, found_of, new_disk, play_each, retained, save, take_all,
 };
-use image_store::{MinToKeep, Newest};
+use image_files::{MinToKeep, Newest};
 use qj_disk::{Choice, DiskFail, UntoldDisk};
 use qj_num::OutOfMemory;
 use std::alloc::Global;

@@ -11,7 +11,7 @@ use Rattle.std.proofs.lemmas.List.{map-append, append-nil, drop_more, drop_all}
 use Rattle.std.proofs.lemmas.List.Elements.{filter-append}
 use Rattle.std.proofs.lemmas.List.Sorted.{ranks_by}
 use Rattle.std.proofs.lemmas.Bool.{cases_Bool}
-use Rattle.node_history.specs.declared.event.Event.{Event}
+use Rattle.run_safety.specs.declared.event.Event.{Event}
 use Rattle.node_history.specs.Entries.{Entry}
 use Rattle.node_history.specs.declared.history_line.HistoryLine.{HistoryLine}
 use Rattle.mesh.specs.declared.whole.Mesh.{Mesh}

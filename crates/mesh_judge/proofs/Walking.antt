@@ -9,7 +9,7 @@ use Rattle.journal_core.specs.declared.request.Request.{Request}
 use Rattle.node_history.specs.declared.node_ask.NodeAsk.TheVariants.{Act}
 use Rattle.node_history.specs.declared.node_ask.NodeAnswer.{NodeAnswer}
 use Rattle.node_history.specs.declared.node_ask.NodeAnswer.TheVariants.{Replied, Stopped, Done, Idle, NotOpened}
-use Rattle.node_history.specs.declared.event.Event.{Event}
+use Rattle.run_safety.specs.declared.event.Event.{Event}
 use Rattle.node_history.specs.declared.history_line.HistoryLine.{HistoryLine}
 use Rattle.node_history.specs.Cell.{Cell, fresh_cell, cell_takes, cell_after, IsLocalRun}
 use Rattle.node_history.specs.Entries.{Move, Answer, Stop, Kill, Restart, Entry}

@@ -6,7 +6,8 @@ ghost use Rattle.node_history.specs.Moving.{epoch_of, is_at_once, is_refused_at_
 ghost use Rattle.mesh_judge.specs.Events.{call_event, stop_event, moved_by};
 
 use journal_core::{OutOfMemory, Refusal, Reply, Request, SharedRequest};
-use node_history::{Event, Fate, HistoryLine, NodeAnswer, NodeAsk};
+use node_history::{HistoryLine, NodeAnswer, NodeAsk};
+use run_safety::{Event, Fate};
 
 /// What moved a node, and the epoch under which it moved; none of a kill, a restart, or a stop after no effect.
 #[derive(Drop)]

@@ -7,7 +7,7 @@ ghost use Rattle.mesh_judge.specs.Events.{event_of};
 use crate::ranking::{Ranked, rank_histories};
 use journal_core::OutOfMemory;
 use mesh::Mesh;
-use node_history::Event;
+use run_safety::Event;
 use std::alloc::Global;
 
 /// The events alone.

@@ -9,7 +9,7 @@ use crate::caller::{Caller, callers_of};
 use crate::moved::{Moved, moved_by};
 use journal_core::OutOfMemory;
 use mesh::Mesh;
-use node_history::Event;
+use run_safety::Event;
 use std::alloc::Global;
 
 /// What a moving line is sorted by: the promise that its node has after it, and its place in the record of that epoch's owner, or 0.

@@ -1,6 +1,7 @@
 //! What an event, and what a line of a node's history, did.
 use journal_core::{Refusal, Reply, Request};
-use node_history::{Event, Fate, HistoryLine, NodeAnswer, NodeAsk};
+use node_history::{HistoryLine, NodeAnswer, NodeAsk};
+use run_safety::{Event, Fate};
 
 /// What an event is.
 #[derive(Clone, Copy, Debug, PartialEq, Eq)]

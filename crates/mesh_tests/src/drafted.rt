@@ -4,7 +4,8 @@ use journal_core::{OutOfMemory, Refusal, Reply, Request, SegmentLines};
 use mesh::Mesh;
 use mesh_agreement::agrees;
 use mesh_judge::order_events;
-use node_history::{ActorPlan, Event, Mark, MarkKind, Plan, Told};
+use node_history::{ActorPlan, Mark, MarkKind, Plan, Told};
+use run_safety::Event;
 use std::alloc::Global;
 use std::test::Fail;
 

@@ -2,7 +2,8 @@
 use crate::actions::{Action, Kind, action_at, action_of};
 use journal_core::OutOfMemory;
 use mesh::Mesh;
-use node_history::{Event, HistoryLine};
+use node_history::HistoryLine;
+use run_safety::Event;
 use std::alloc::Global;
 
 /// What the lines of a node's history did to it, in order.

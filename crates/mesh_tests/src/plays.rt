@@ -1,6 +1,7 @@
 //! The mesh of a text's play.
 use cluster_runner::play;
 use mesh::Mesh;
+use script_actor::ScriptActor;
 use script_plays::scripts_are_playable;
 use script_text::{ReadScript, read_script, scripts_break_no_rule};
 use std::alloc::Global;
@@ -13,5 +14,5 @@ pub fn mesh_of(alloc: Global, text: &[u8]) -> Result<Mesh, Fail> {
     let ReadScript::Script(script) = read_script(alloc, text) else {
         return Err("no script".into());
     };
-    Ok(play(alloc, &script)?.mesh)
+    Ok(play::<ScriptActor>(alloc, &script)?.mesh)
 }

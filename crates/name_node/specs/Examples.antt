@@ -6,8 +6,8 @@ use Rattle.journal_core.specs.declared.reply.Reply.TheVariants as reply
 use Rattle.edit_ops.specs.Records.{EditView, record_of}
 use Rattle.ns_tree.specs.declared.inode.Inode.TheVariants.{Dir}
 use Rattle.ns_tree.specs.Space.{Space, pair, empty_space}
-use Rattle.ns_replay.specs.declared.refusal.AdmitRefusal.TheVariants.{Exists, NoParent}
-use Rattle.ns_replay.specs.Examples.{mkdir_u, plain, called}
+use Rattle.ns_rules.specs.declared.refusal.AdmitRefusal.TheVariants.{Exists, NoParent}
+use Rattle.ns_rules.specs.Examples.{mkdir_u, plain, called}
 use Rattle.writer_core.specs.Views.{WriterView}
 use Rattle.writer_core.specs.Writer.{new_writer}
 use Rattle.edit_ops.specs.declared.op.Op.TheVariants.{Mkdir}

@@ -2,7 +2,7 @@
 use Rattle.std.specs.Prelude.{ℕ, ◌+◌, ◌-◌, ◌==◌, max, nat_lt, List, [], ◌∷◌, take, Option, Some, None, if◌then◌else◌}
 use Rattle.journal_core.specs.declared.heard.Heard.{Heard}
 use Rattle.ns_tree.specs.Space.{Space, empty_space}
-use Rattle.ns_replay.specs.Replay.{Image}
+use Rattle.ns_rules.specs.Replay.{Image}
 use Rattle.name_node.specs.Submissions.{Due}
 
 -- The work under way: none; a tail up to a txid or without one, which asks this node next, with what the nodes before it told in this pass;

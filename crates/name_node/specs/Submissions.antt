@@ -2,10 +2,10 @@
 use Rattle.std.specs.Prelude.{ℕ, ◌+◌, nat_le, List, [], ◌∷◌, ◌++◌, length, Option, Some, None, Bool}
 use Rattle.edit_ops.specs.Records.{EditView, record_of}
 use Rattle.ns_tree.specs.Space.{Space}
-use Rattle.ns_replay.specs.declared.refusal.AdmitRefusal.{AdmitRefusal}
-use Rattle.ns_replay.specs.declared.refusal.AdmitRefusal.TheVariants.{RepeatedCall}
-use Rattle.ns_replay.specs.Admit.{Refusal, admit_of}
-use Rattle.ns_replay.specs.Apply.{apply_of}
+use Rattle.ns_rules.specs.declared.refusal.AdmitRefusal.{AdmitRefusal}
+use Rattle.ns_rules.specs.declared.refusal.AdmitRefusal.TheVariants.{RepeatedCall}
+use Rattle.ns_rules.specs.Admit.{Refusal, admit_of}
+use Rattle.ns_rules.specs.Apply.{apply_of}
 use Rattle.writer_core.specs.Views.{WriterView}
 use Rattle.writer_core.specs.Writer.{log_limit}
 

@@ -5,7 +5,7 @@ use Rattle.journal_core.specs.declared.heard.Heard.{Heard}
 use Rattle.journal_core.specs.declared.heard.Heard.TheVariants.{Answer}
 use Rattle.journal_core.specs.declared.refusal.Refusal.TheVariants as refusal
 use Rattle.journal_core.specs.declared.reply.Reply.TheVariants as reply
-use Rattle.ns_replay.specs.Replay.{Applied, All, BadEntry, applied}
+use Rattle.ns_rules.specs.Replay.{Applied, All, BadEntry, applied}
 use Rattle.writer_core.specs.declared.cause.Cause.{Cause}
 use Rattle.writer_core.specs.declared.cause.Cause.TheVariants as cause
 use Rattle.name_node.specs.Holding.{Holding, Free, Tails, Broken, with_work}

@@ -2,5 +2,7 @@
 #![tactic(auto)]
 
 mod examples;
+mod tailed;
 
 pub use examples::{a_tail_catches_up, edits_are_told_apart, images_are_kept};
+pub use tailed::Tailed;

@@ -3,11 +3,11 @@ use Rattle.std.proofs.Common.{◌≡◌, ℕ, ◌+◌, List, [], ◌∷◌, ◌+
 use Rattle.std.specs.Prelude.{Option, Some, None, ◌||◌, is_some}
 use Rattle.journal_core.specs.declared.request.Request.{Request}
 use Rattle.edit_ops.specs.Records.{EditView, record_of}
-use Rattle.ns_replay.specs.declared.refusal.AdmitRefusal.{AdmitRefusal}
-use Rattle.ns_replay.specs.declared.refusal.AdmitRefusal.TheVariants.{RepeatedCall}
-use Rattle.ns_replay.specs.Admit.{Refusal, admit_of}
-use Rattle.ns_replay.specs.Apply.{apply_of}
-use Rattle.ns_replay.specs.Replay.{replay_from}
+use Rattle.ns_rules.specs.declared.refusal.AdmitRefusal.{AdmitRefusal}
+use Rattle.ns_rules.specs.declared.refusal.AdmitRefusal.TheVariants.{RepeatedCall}
+use Rattle.ns_rules.specs.Admit.{Refusal, admit_of}
+use Rattle.ns_rules.specs.Apply.{apply_of}
+use Rattle.ns_rules.specs.Replay.{replay_from}
 use Rattle.ns_replay.proofs.Splits.{replay_joins, replay_one}
 use Rattle.ns_replay.proofs.Decodes.{record_decodes}
 use Rattle.ns_replay.proofs.Calls.{enters}
@@ -21,15 +21,15 @@ use Rattle.writer_core.specs.declared.task.Begun.{Begun}
 use Rattle.writer_core.specs.declared.task.Begun.TheVariants as begun
 use Rattle.writer_core.specs.Views.{WriterView}
 use Rattle.writer_core.specs.Writer.{Began, is_writing, if_writing, log_begins, log_limit, writer_begun, next_call}
-use Rattle.script_actor.specs.Lines.{Action, Does, DoDrop, DoMute, DoLate, Submits, Trims, DoTail, Saves, Reloads, IsNamesTask, AreEdits, IsAction, AreActions}
+use Rattle.script_actions.specs.Lines.{Action, Does, DoDrop, DoMute, DoLate, Submits, Trims, DoTail, Saves, Reloads, IsNamesTask, AreEdits, IsAction, AreActions}
 use Rattle.name_node.specs.Submissions.{Submission, unless_long, unless_refused, submitted_one, submit_edits, nothing_submitted}
 use Rattle.name_node.specs.Holding.{Holding, Work, Free, Tails, Logs, Broken, with_work, save_image, reload_image, min_to_keep}
 use Rattle.name_node.specs.Tails.{pass_begun}
-use Rattle.script_actor.specs.Actor.{Actor, Want, call_wanted, work_read, read_first, copy_first, say_first, wants, is_wanting, is_broken_work, is_broken_holding, is_broken, tail_stepped, task_begun, make_copy, begin_sync, after_sync, logged_when, trim_at, unless_active, begin_save, begin_reload, take_named_action, take_action, while_wanting, settle}
+use Rattle.script_actions.specs.Actor.{Actor, Want, call_wanted, work_read, read_first, copy_first, say_first, wants, is_wanting, is_broken_work, is_broken_holding, is_broken, tail_stepped, task_begun, make_copy, begin_sync, after_sync, logged_when, trim_at, unless_active, begin_save, begin_reload, take_named_action, take_action, while_wanting, settle}
 use Rattle.writer_core.specs.Turns.{IsInRound, aim_of}
 use Rattle.script_plays.proofs.Sound.{waiting_actions}
 use Rattle.script_plays.proofs.WriterTurns.{has_other, Course, Begins, begun_turn, call_some}
-use Rattle.script_actor.proofs.NamedLaws.{reloaded_free}
+use Rattle.name_node.proofs.HoldingLaws.{reloaded_free}
 use Rattle.names_safety.proofs.WriterPlaces.{PhasePlace, IsLogIn}
 use Rattle.names_safety.proofs.Held.{saved_stands, reloaded_stands}
 use Rattle.names_safety.proofs.Stages.{AtStandby, RestsAt, OnTask, Stage, GoodActor, free_stage, rests_standby, pass_good}

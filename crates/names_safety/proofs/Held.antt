@@ -3,9 +3,9 @@ use Rattle.std.proofs.Common.{◌≡◌, ℕ, zero, suc, ◌+◌, List, [], ◌�
 use Rattle.std.specs.Prelude.{Some, None, ◌==◌, nat_lt}
 use Rattle.edit_ops.specs.declared.op.Op.TheVariants.{StartLogSegment, EndLogSegment}
 use Rattle.ns_tree.specs.Space.{Space, empty_space}
-use Rattle.ns_replay.specs.Admit.{admit_op, admit_of}
-use Rattle.ns_replay.specs.Apply.{apply_op, apply_of}
-use Rattle.ns_replay.specs.Replay.{Image, entered, replay_from, replay}
+use Rattle.ns_rules.specs.Admit.{admit_op, admit_of}
+use Rattle.ns_rules.specs.Apply.{apply_op, apply_of}
+use Rattle.ns_rules.specs.Replay.{Image, entered, replay_from, replay}
 use Rattle.ns_replay.proofs.Splits.{replay_one, log_joins}
 use Rattle.ns_replay.proofs.Decodes.{start_decodes, end_decodes}
 use Rattle.ns_replay.proofs.Calls.{enters}

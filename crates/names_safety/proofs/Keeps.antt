@@ -5,7 +5,7 @@ use Rattle.std.specs.Prelude.{Option, Some, None, nat_lt}
 use Rattle.std.proofs.lemmas.Bool.Decides.{nat_tests}
 use Rattle.journal_core.specs.declared.heard.Heard.{Heard}
 use Rattle.ns_tree.specs.Space.{Space}
-use Rattle.ns_replay.specs.Replay.{replay_from}
+use Rattle.ns_rules.specs.Replay.{replay_from}
 use Rattle.writer_core.specs.declared.round.Round.{Round}
 use Rattle.writer_core.specs.declared.phase.Phase.{Phase}
 use Rattle.writer_core.specs.declared.phase.Phase.TheVariants as phase
@@ -23,17 +23,17 @@ use Rattle.writer_core.specs.Writer.{heard_at, writer_heard}
 use Rattle.node_history.specs.declared.record.Record.{Record}
 use Rattle.node_history.specs.declared.record.Record.TheVariants.{Call, Late, Operator, Outcome}
 use Rattle.mesh.specs.Makers.{heard_of}
-use Rattle.script_actor.specs.Lines.{Action, AreActions}
+use Rattle.script_actions.specs.Lines.{Action, AreActions}
 use Rattle.name_node.specs.Submissions.{Due}
 use Rattle.name_node.specs.Holding.{Holding, new_holding, Work, Free, Tails, Logs, Broken, empty_holding, at_position, reload_image, enters as enters_at}
-use Rattle.script_actor.specs.Actor.{Actor, fresh_actor, settle, logs_done, task_done, held_turn, turn_with, turn_taken, after_judgment, heard_in_work, heard_by, moved_on, settle_again, goes_on}
+use Rattle.script_actions.specs.Actor.{Actor, fresh_actor, settle, logs_done, task_done, held_turn, turn_with, turn_taken, after_judgment, heard_in_work, heard_by, moved_on, settle_again, goes_on}
 use Rattle.writer_core.specs.Turns.{IsOf, aim_of}
 use Rattle.script_plays.proofs.Led.{moved_keeps}
 use Rattle.script_plays.proofs.WriterTurns.{has_other, IsBetween, Course, Turned, TurnOf, heard_turn, new_course}
 use Rattle.names_safety.proofs.WriterPlaces.{OutcomePlace, TurnPlace, HearsAt, IsLogOf, IsLogIn, heard_place}
 use Rattle.names_safety.proofs.Held.{Held, held_more, held_at, held_start, held_end, held_empty, Standing, reloaded_stands}
 use Rattle.names_safety.proofs.Stages.{RestsAt, OnTask, Stage, Good, GoodActor, rests_writing, pass_good, EditsOn, hears_good}
-use Rattle.script_actor.proofs.NamedLaws.{reloaded_free}
+use Rattle.name_node.proofs.HoldingLaws.{reloaded_free}
 use Rattle.names_safety.proofs.Actions.{settled_good}
 
 module _ (L : ℕ → List ℕ → Type 0) where

@@ -7,7 +7,7 @@ use Rattle.journal_core.specs.Views.{HeadView, BatchView}
 use Rattle.journal_core.specs.declared.request.Request.{Request}
 use Rattle.journal_core.specs.declared.request.Request.TheVariants.{Journal}
 use Rattle.ns_tree.specs.Space.{Space, empty_space}
-use Rattle.ns_replay.specs.Replay.{replay, replay_from}
+use Rattle.ns_rules.specs.Replay.{replay, replay_from}
 use Rattle.ns_replay.proofs.Splits.{some_is, none≢some, replay_one, log_joins, Split, replay_split}
 use Rattle.ns_replay.proofs.Calls.{calls_apart}
 use Rattle.writer_core.specs.declared.round.Round.{Round}
@@ -28,9 +28,9 @@ use Rattle.node_history.specs.Entries.{Entry}
 use Rattle.run_safety.proofs.Values.{get_within, get_there}
 use Rattle.mesh.specs.declared.whole.Mesh.{Mesh}
 use Rattle.mesh.specs.Agree.{operator_of, record_of, plan_of, ListsAgree}
-use Rattle.script_actor.specs.Lines.{Line, actions_of}
+use Rattle.script_actions.specs.Lines.{Line, actions_of}
 use Rattle.name_node.specs.Holding.{Holding, Work, Free, Tails, Logs, Broken}
-use Rattle.script_actor.specs.Actor.{Actor, Want, WantsCall, WantsCopy, Says, Rests, call_wanted, work_read, read_first, wants, Fits, IsLed, actor_after, goes_on}
+use Rattle.script_actions.specs.Actor.{Actor, Want, WantsCall, WantsCopy, Says, Rests, call_wanted, work_read, read_first, wants, Fits, IsLed, actor_after, goes_on}
 use Rattle.ns_tree.specs.declared.end.End.{End}
 use Rattle.script_plays.specs.Follows.{actor_with, Follows}
 use Rattle.script_plays.specs.Safe.{AllOn}

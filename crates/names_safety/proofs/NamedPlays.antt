@@ -7,7 +7,7 @@ use Rattle.run_safety.specs.Run.{IsRun}
 use Rattle.mesh.specs.declared.whole.Mesh.{Mesh}
 use Rattle.mesh.specs.Agree.{Agrees}
 use Rattle.mesh.specs.Order.{epoch_order}
-use Rattle.script_actor.specs.Lines.{Line, ArePlayable}
+use Rattle.script_actions.specs.Lines.{Line, ArePlayable}
 use Rattle.script_plays.specs.Plays.{mesh_of, ends_of}
 use Rattle.script_plays.specs.Follows.{FollowsLines}
 use Rattle.script_plays.specs.Safe.{IsSafeWithEnds}

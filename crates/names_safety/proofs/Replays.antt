@@ -9,7 +9,7 @@ use Rattle.journal_core.specs.declared.request.Request.TheVariants.{Journal, Rea
 use Rattle.journal_core.specs.declared.reply.Reply.{Reply}
 use Rattle.journal_core.specs.declared.reply.Reply.TheVariants as reply
 use Rattle.journal_core.specs.declared.heard.Heard.TheVariants.{Answer}
-use Rattle.ns_replay.specs.Replay.{Image}
+use Rattle.ns_rules.specs.Replay.{Image}
 use Rattle.ns_replay.proofs.Splits.{some_is}
 use Rattle.writer_core.specs.declared.round.Round.{Round}
 use Rattle.writer_core.specs.declared.round.Round.TheVariants as round
@@ -35,9 +35,9 @@ use Rattle.mesh.specs.Agree.{operator_of, record_of, plan_of, ListsAgree}
 use Rattle.mesh.specs.Makers.{heard_of}
 use Rattle.mesh.proofs.Shared.{In}
 use Rattle.run_safety.proofs.WriterRange.{new_sized, call_within}
-use Rattle.script_actor.specs.Lines.{Action, actions_of}
+use Rattle.script_actions.specs.Lines.{Action, actions_of}
 use Rattle.name_node.specs.Holding.{Holding, Work, Free, Tails, Logs, Broken}
-use Rattle.script_actor.specs.Actor.{Actor, fresh_actor, call_wanted, work_read, read_first, wants, settle, goes_on, Fits, IsLed, actor_after, last_of}
+use Rattle.script_actions.specs.Actor.{Actor, fresh_actor, call_wanted, work_read, read_first, wants, settle, goes_on, Fits, IsLed, actor_after, last_of}
 use Rattle.script_plays.specs.Follows.{actor_with, Follows}
 use Rattle.names_safety.specs.Linear.{IsLinear, OnLine, IsActor, HoldsReplay, ImagesReplay, ActorsHoldReplays, EndsAreReplays}
 use Rattle.names_safety.proofs.ReadLaws.{all_on, reads_on_line}

@@ -1,7 +1,7 @@
 -- A mesh that follows a script with names is safe, with what its actors end with.
 use Rattle.std.proofs.Common.{◌≡◌, ℕ, List, reverse, length, sym, ◌∙◌, subst}
 use Rattle.std.specs.Prelude.{Some}
-use Rattle.ns_replay.specs.Replay.{IsReplay}
+use Rattle.ns_rules.specs.Replay.{IsReplay}
 use Rattle.ns_replay.proofs.Splits.{some_is}
 use Rattle.node_history.specs.Entries.{Entry}
 use Rattle.run_safety.specs.Safe.{IsOnLine}
@@ -10,7 +10,7 @@ use Rattle.mesh.specs.declared.whole.Mesh.{Mesh}
 use Rattle.mesh.specs.Order.{epoch_order}
 use Rattle.mesh.proofs.Cutting.{order_at_nodes}
 use Rattle.mesh.proofs.OrderRuns.{order_runs}
-use Rattle.script_actor.specs.Lines.{Line}
+use Rattle.script_actions.specs.Lines.{Line}
 use Rattle.ns_tree.specs.declared.end.End.{End}
 use Rattle.ns_tree.specs.declared.end.LastSpace.{LastSpace}
 use Rattle.mesh.specs.Agree.{ListsAgree}

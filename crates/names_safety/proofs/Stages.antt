@@ -7,7 +7,7 @@ use Rattle.journal_core.specs.declared.reply.Reply.TheVariants as reply
 use Rattle.journal_core.specs.declared.heard.Heard.{Heard}
 use Rattle.journal_core.specs.declared.heard.Heard.TheVariants.{Answer}
 use Rattle.ns_tree.specs.Space.{Space}
-use Rattle.ns_replay.specs.Replay.{replay_from, Applied, All, BadEntry, applied}
+use Rattle.ns_rules.specs.Replay.{replay_from, Applied, All, BadEntry, applied}
 use Rattle.ns_replay.proofs.Splits.{has_gone, HasGone}
 use Rattle.writer_core.specs.declared.phase.Phase.{Phase}
 use Rattle.writer_core.specs.declared.phase.Phase.TheVariants as phase
@@ -19,7 +19,7 @@ use Rattle.writer_core.specs.Writer.{writer_stopped}
 use Rattle.name_node.specs.Holding.{Holding, Work, Free, Tails, Logs, Broken, with_work, at_position}
 use Rattle.name_node.specs.Tails.{TailEnd, Reached, GoesOn, Ends, pass_begun, up_to, after_applied, least_purged, after_or, pass_end, no_edits, tail_hears}
 use Rattle.script_plays.specs.Safe.{AllOn}
-use Rattle.script_actor.specs.Actor.{Actor, is_entered, not_entered, tail_ended, tail_stepped}
+use Rattle.script_actions.specs.Actor.{Actor, is_entered, not_entered, tail_ended, tail_stepped}
 use Rattle.writer_core.specs.Turns.{IsInRound, aim_of}
 use Rattle.script_plays.proofs.WriterTurns.{has_other, IsBetween, Course}
 use Rattle.names_safety.proofs.WriterPlaces.{PhasePlace, IsLogIn}

@@ -7,7 +7,7 @@ use Rattle.journal_core.specs.declared.heard.Heard.{Heard}
 use Rattle.journal_core.specs.declared.heard.Heard.TheVariants.{Answer}
 use Rattle.edit_ops.specs.Records.{EditView}
 use Rattle.ns_tree.specs.Space.{Space}
-use Rattle.ns_replay.specs.Replay.{Applied, All, BadEntry, applied, replay, replay_from}
+use Rattle.ns_rules.specs.Replay.{Applied, All, BadEntry, applied, replay, replay_from}
 use Rattle.ns_replay.proofs.Splits.{some_is, none≢some, HasGone, has_gone, LogSplit, log_split}
 use Rattle.writer_core.specs.declared.task.Task.{Task}
 use Rattle.writer_core.specs.declared.task.Task.TheVariants as task
@@ -26,18 +26,18 @@ use Rattle.node_history.specs.Entries.{Entry}
 use Rattle.mesh.specs.declared.whole.Mesh.{Mesh}
 use Rattle.mesh.specs.Agree.{operator_of, record_of, ListsAgree}
 use Rattle.mesh.specs.Makers.{heard_of}
-use Rattle.script_actor.specs.Lines.{Action, Line, Does, DoDrop, DoMute, DoLate, Submits, Trims, DoTail, Saves, Reloads}
+use Rattle.script_actions.specs.Lines.{Action, Line, Does, DoDrop, DoMute, DoLate, Submits, Trims, DoTail, Saves, Reloads}
 use Rattle.name_node.specs.Holding.{Holding, Work, Free, Tails, Logs, Broken, with_work, save_image, reload_image, min_to_keep, enters}
 use Rattle.name_node.specs.Tails.{Caught, Reached, PurgedFrom, BehindBy, TailStep, GoesOn, Ends, Breaks, pass_begun, up_to, after_applied, pass_end, no_edits, tail_hears}
 use Rattle.name_node.specs.Submissions.{Submission, submit_edits, nothing_submitted}
-use Rattle.script_actor.specs.Actor.{Actor, fresh_actor, wants, is_wanting, is_broken_work, is_broken_holding, is_broken, tail_ended, tail_stepped, task_begun, make_copy, begin_sync, after_sync, logged_when, trim_at, unless_active, begin_save, begin_reload, take_named_action, take_action, while_wanting, settle, logs_done, task_done, held_turn, turn_with, turn_taken, after_judgment, heard_in_work, heard_by, moved_on, settle_again, goes_on, IsLed, actor_after}
+use Rattle.script_actions.specs.Actor.{Actor, fresh_actor, wants, is_wanting, is_broken_work, is_broken_holding, is_broken, tail_ended, tail_stepped, task_begun, make_copy, begin_sync, after_sync, logged_when, trim_at, unless_active, begin_save, begin_reload, take_named_action, take_action, while_wanting, settle, logs_done, task_done, held_turn, turn_with, turn_taken, after_judgment, heard_in_work, heard_by, moved_on, settle_again, goes_on, IsLed, actor_after}
 use Rattle.ns_tree.specs.declared.end.End.{End}
 use Rattle.script_plays.specs.Follows.{actor_with}
 use Rattle.script_plays.specs.Safe.{AllOn}
 use Rattle.names_safety.specs.Linear.{IsLinear, OnLine, IsActor, IsNamed, NoneBreaks}
 use Rattle.names_safety.proofs.Held.{AllOn-append, Held, Standing}
 use Rattle.names_safety.proofs.Stages.{GoodActor, EditsOn, up_to_on}
-use Rattle.script_actor.proofs.NamedLaws.{reloaded_free}
+use Rattle.name_node.proofs.HoldingLaws.{reloaded_free}
 use Rattle.names_safety.proofs.Keeps.{LearnsIn, Learns, LineLearns}
 use Rattle.names_safety.proofs.Replays.{Walked, walk, line_learns, walked}
 use Rattle.names_safety.proofs.LineLaws.{line_replays}

@@ -20,11 +20,11 @@ use Rattle.node_history.specs.declared.record.Told.{Told}
 use Rattle.mesh.specs.Makers.{heard_of}
 use Rattle.run_safety.specs.Sized.{Sized}
 use Rattle.run_safety.proofs.WriterRange.{heard_sized, begun_sized, call_within}
-use Rattle.script_actor.specs.Lines.{Action, Does, DoDrop, DoMute, DoLate, Submits, Trims, DoTail, Saves, Reloads}
+use Rattle.script_actions.specs.Lines.{Action, Does, DoDrop, DoMute, DoLate, Submits, Trims, DoTail, Saves, Reloads}
 use Rattle.name_node.specs.Holding.{Holding, Work, Free, Tails, Logs, Broken, min_to_keep, enters}
 use Rattle.name_node.specs.Tails.{TailEnd, Caught, Reached, PurgedFrom, BehindBy, TailStep, GoesOn, Ends, Breaks, pass_begun, tail_hears}
 use Rattle.name_node.specs.Submissions.{Submission, submit_edits, nothing_submitted}
-use Rattle.script_actor.specs.Actor.{Actor, Want, call_wanted, work_read, read_first, copy_first, say_first, wants, is_wanting, is_broken, tail_ended, tail_stepped, task_begun, make_copy, begin_sync, after_sync, logged_when, trim_at, unless_active, begin_save, begin_reload, take_named_action, take_action, while_wanting, settle, logs_done, task_done, held_turn, turn_with, turn_taken, after_judgment, heard_in_work, heard_by, moved_on, settle_again, goes_on, Fits}
+use Rattle.script_actions.specs.Actor.{Actor, Want, call_wanted, work_read, read_first, copy_first, say_first, wants, is_wanting, is_broken, tail_ended, tail_stepped, task_begun, make_copy, begin_sync, after_sync, logged_when, trim_at, unless_active, begin_save, begin_reload, take_named_action, take_action, while_wanting, settle, logs_done, task_done, held_turn, turn_with, turn_taken, after_judgment, heard_in_work, heard_by, moved_on, settle_again, goes_on, Fits}
 use Rattle.names_safety.proofs.Oks.{Oks, heard_oks, Oks-more, begun_oks}
 
 -- ## The writer of an actor: what its actions and tails make of it

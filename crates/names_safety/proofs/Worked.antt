@@ -11,19 +11,19 @@ use Rattle.journal_core.specs.Cuts.{standing}
 use Rattle.writer_core.specs.Best.{best_from, greatest_promise, greatest_newest}
 use Rattle.writer_core.specs.Rounds.{judgment, after_fetch}
 use Rattle.writer_core.specs.Writer.{log_limit, writer_begun, writer_heard}
-use Rattle.ns_replay.specs.Decoded.{op_from, edit_from, opcode_of, decoded}
-use Rattle.ns_replay.specs.Admit.{admit_op, admit_of}
-use Rattle.ns_replay.specs.Apply.{apply_op, apply_of}
-use Rattle.ns_replay.specs.Replay.{entered, applied}
+use Rattle.ns_rules.specs.Decoded.{op_from, edit_from, opcode_of, decoded}
+use Rattle.ns_rules.specs.Admit.{admit_op, admit_of}
+use Rattle.ns_rules.specs.Apply.{apply_op, apply_of}
+use Rattle.ns_rules.specs.Replay.{entered, applied}
 use Rattle.node_history.specs.Cell.{cell_takes}
 use Rattle.mesh.specs.Marks.{calls_to}
 use Rattle.request_text.specs.Texts.{refusal_cause_text, refusal_name}
 use Rattle.name_node.specs.Submissions.{submit_edits}
 use Rattle.name_node.specs.Holding.{image_put, save_image, reload_image, min_to_keep}
 use Rattle.name_node.specs.Tails.{pass_begun, least_purged, pass_end, tail_hears}
-use Rattle.script_actor.specs.Lines.{count_actors, ArePlayable}
+use Rattle.script_actions.specs.Lines.{count_actors, ArePlayable}
 use Rattle.result_lines.specs.Results.{cause_word, cause_words, name_of, for_each, acked_from, acknowledged_results, outcome_results, results_of, inactive_results, too_long_results, late_none, refusal_text, dues_logged, dues_aborted, abort_text}
-use Rattle.script_actor.specs.Actor.{fresh_actor, call_wanted, read_first, copy_first, say_first, wants, is_wanting, is_broken, tail_text, entry_text, tail_ended, tail_stepped, task_begun, make_copy, logged_when, trim_at, take_named_action, take_action, settle, hand_action, logs_done, task_done, held_turn, turn_with, turn_taken, heard_by, moved_on, settle_again, goes_on}
+use Rattle.script_actions.specs.Actor.{fresh_actor, call_wanted, read_first, copy_first, say_first, wants, is_wanting, is_broken, tail_text, entry_text, tail_ended, tail_stepped, task_begun, make_copy, logged_when, trim_at, take_named_action, take_action, settle, hand_action, logs_done, task_done, held_turn, turn_with, turn_taken, heard_by, moved_on, settle_again, goes_on}
 use Rattle.script_plays.specs.Plays.{play_begins, actor_at, node_asked, note_record, same_kind, is_marked, delivery, told_of, call_made, copy_made, meet_want, is_done, line_taken, next_line, take_turn, play_step, play_steps, no_lines, has_ended, IsPlay, ends_of}
 use Rattle.script_plays.specs.Told.{results_in}
 use Rattle.play_examples.specs.Examples.{results_at}
@@ -32,7 +32,7 @@ use Rattle.std.specs.Prelude.{codes}
 use Rattle.edit_ops.specs.declared.op.Op.TheVariants.{Mkdir}
 use Rattle.edit_ops.specs.Grammar.{IsEdit}
 use Rattle.ns_tree.specs.Space.{root_pair}
-use Rattle.ns_replay.specs.Examples.{plain}
+use Rattle.ns_rules.specs.Examples.{plain}
 use Rattle.node_history.specs.Moving.{moving_of}
 use Rattle.script_plays.specs.Safe.{IsSafeWithEnds}
 use Rattle.names_safety.specs.Examples.{tailed_lines}

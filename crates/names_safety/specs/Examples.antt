@@ -1,9 +1,9 @@
 -- A worked script with names: an edit is logged, and a standby tails it.
 use Rattle.std.specs.Prelude.{List, [], ◌∷◌, codes}
 use Rattle.edit_ops.specs.declared.op.Op.TheVariants.{Mkdir}
-use Rattle.ns_replay.specs.Examples.{plain}
+use Rattle.ns_rules.specs.Examples.{plain}
 use Rattle.writer_core.specs.declared.task.Task.TheVariants as task
-use Rattle.script_actor.specs.Lines.{Line, Declares, Acts, Does, Submits, DoTail}
+use Rattle.script_actions.specs.Lines.{Line, Declares, Acts, Does, Submits, DoTail}
 
 unfoldable pub tailed_lines : List Line
 tailed_lines =

@@ -5,7 +5,7 @@ use Rattle.node_history.specs.Moving.{moving_of}
 use Rattle.mesh.specs.declared.whole.Mesh.{Mesh}
 use Rattle.mesh.specs.Agree.{ListsAgree, Agrees}
 use Rattle.mesh.specs.Order.{epoch_order}
-use Rattle.script_actor.specs.Lines.{Line, ArePlayable, HasNodes}
+use Rattle.script_actions.specs.Lines.{Line, ArePlayable, HasNodes}
 use Rattle.script_plays.specs.Plays.{Play, IsPlay, mesh_of, ends_of}
 use Rattle.ns_tree.specs.declared.end.End.{End}
 use Rattle.names_safety.specs.Linear.{IsLinear, IsNamed}

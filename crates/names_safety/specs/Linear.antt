@@ -4,9 +4,9 @@ use Rattle.journal_core.specs.Views.{HeadView, BatchView}
 use Rattle.journal_core.specs.declared.request.Request.TheVariants.{Journal, Read}
 use Rattle.journal_core.specs.declared.reply.Reply.TheVariants.{Edits}
 use Rattle.ns_tree.specs.Space.{Space}
-use Rattle.ns_replay.specs.Replay.{replay, replay_from, IsReplay, Image, IsImage}
+use Rattle.ns_rules.specs.Replay.{replay, replay_from, IsReplay, Image, IsImage}
 use Rattle.writer_core.specs.Rounds.{start_record, end_record}
-use Rattle.ns_replay.specs.Calls.{CallsApart}
+use Rattle.ns_rules.specs.Calls.{CallsApart}
 use Rattle.node_history.specs.declared.record.Record.{Record}
 use Rattle.node_history.specs.declared.record.Record.TheVariants.{Call}
 use Rattle.node_history.specs.declared.record.Told.{Told}
@@ -18,9 +18,9 @@ use Rattle.run_safety.specs.Safe.{IsOnLine}
 use Rattle.mesh.specs.declared.whole.Mesh.{Mesh}
 use Rattle.mesh.specs.Agree.{ListsAgree, operator_of, record_of}
 use Rattle.mesh.specs.Order.{placed_at, entries_at}
-use Rattle.script_actor.specs.Lines.{Action, Line, AreActions, actions_of}
+use Rattle.script_actions.specs.Lines.{Action, Line, AreActions, actions_of}
 use Rattle.name_node.specs.Holding.{Holding}
-use Rattle.script_actor.specs.Actor.{Actor, wants, Fits, IsLed, actor_after, is_broken}
+use Rattle.script_actions.specs.Actor.{Actor, wants, Fits, IsLed, actor_after, is_broken}
 use Rattle.ns_tree.specs.declared.end.End.{End}
 use Rattle.ns_tree.specs.declared.end.LastSpace.{LastSpace}
 use Rattle.script_plays.specs.Follows.{actor_with, FollowsLines}

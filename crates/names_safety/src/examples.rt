@@ -2,7 +2,7 @@
 ghost use Rattle.std.specs.Prelude.{◌≡◌, ◌∷◌, [], true};
 ghost use Rattle.node_history.specs.Moving.{moving_of};
 ghost use Rattle.ns_tree.specs.Space.{root_pair};
-ghost use Rattle.script_actor.specs.Lines.{ArePlayable};
+ghost use Rattle.script_actions.specs.Lines.{ArePlayable};
 ghost use Rattle.script_plays.specs.Plays.{IsPlay, ends_of};
 ghost use Rattle.play_examples.specs.NamesExamples.{played_named, last_at, left};
 ghost use Rattle.script_plays.specs.Safe.{IsSafeWithEnds};

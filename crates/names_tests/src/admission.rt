@@ -7,7 +7,8 @@ use AdmitRefusal::{
 };
 use edit_texts::{ReadText, read_text};
 use edit_values::Call;
-use ns_replay::{AdmitRefusal, admit};
+use ns_edits::admit;
+use ns_rules::AdmitRefusal;
 use ns_tree::Namespace;
 use qj_num::OutOfMemory;
 use std::alloc::{AllocError, Global};

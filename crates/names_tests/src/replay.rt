@@ -2,10 +2,13 @@
 use crate::admission::{Told, told_of};
 use crate::rows::is_so;
 use Seen::{Dir, File, Nothing};
-use edit_ops::{Edit, encode};
+use edit_ops::Edit;
 use edit_texts::{ReadText, read_text};
+use edit_writing::encode;
 use journal_core::{Batch, BodyList};
-use ns_replay::{AdmitRefusal, Replayed, admit, apply, replay};
+use ns_edits::{admit, apply};
+use ns_replay::replay;
+use ns_rules::{AdmitRefusal, Replayed};
 use ns_tree::{Inode, Namespace};
 use qj_num::{Bytes, MAX, OutOfMemory};
 use std::alloc::{AllocError, Global};

@@ -1,11 +1,10 @@
 //! What a node and a caller list, side by side: what reaches a node with its arming and what it answers, line by line; a caller's
-//! record and the plan of its calls; what can happen in the journal world.
+//! record and the plan of its calls.
 #![tactic(auto)]
 
 mod arming;
 pub mod cells;
 mod equality;
-mod event;
 mod fresh_cells;
 mod history_line;
 mod mark;
@@ -17,7 +16,6 @@ mod stop;
 
 pub use arming::Arming;
 pub use equality::{same, same_batch};
-pub use event::{Event, Fate};
 pub use fresh_cells::cells_of;
 pub use history_line::{HistoryLine, HistoryList};
 pub use mark::{ActorPlan, Mark, MarkKind, Plan};

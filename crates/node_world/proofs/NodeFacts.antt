@@ -6,8 +6,8 @@ use Rattle.journal_core.specs.declared.segment.Segment.{Segment}
 use Rattle.journal_core.specs.declared.node_state.NodeState.{NodeState}
 use Rattle.journal_core.specs.declared.request.Request.{Request}
 use Rattle.journal_core.specs.declared.heard.Heard.TheVariants as heard
-use Rattle.node_history.specs.declared.event.Fate.{Fate}
-use Rattle.node_history.specs.declared.event.Fate.TheVariants as fate
+use Rattle.run_safety.specs.declared.event.Fate.{Fate}
+use Rattle.run_safety.specs.declared.event.Fate.TheVariants as fate
 use Rattle.node_world.specs.declared.seen.Seen.TheVariants as seen
 use Rattle.node_history.specs.declared.node_ask.NodeAsk.{NodeAsk}
 use Rattle.node_history.specs.declared.node_ask.NodeAsk.TheVariants as ask

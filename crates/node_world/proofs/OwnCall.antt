@@ -27,7 +27,7 @@ use Rattle.writer_core.specs.Rounds.{request_in, failure_of}
 use Rattle.writer_core.specs.Writer.{next_call, node_in, with_answer, heard_in, heard_at, writer_heard}
 use Rattle.writer_core.proofs.PlainRounds.{IsWhole}
 use Rattle.writer_core.proofs.WholeRounds.{IsCalling, calling_in, whole_first}
-use Rattle.node_history.specs.declared.event.Fate.{Fate}
+use Rattle.run_safety.specs.declared.event.Fate.{Fate}
 use Rattle.node_world.specs.declared.seen.Seen.TheVariants as seen
 use Rattle.node_world.specs.Complete.{IsHeeded, IsAnswered, IsLow}
 use Rattle.run_safety.specs.Run.{Story, Follows}

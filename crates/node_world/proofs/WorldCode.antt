@@ -19,8 +19,8 @@ use Rattle.writer_core.specs.declared.task.Begun.{Begun}
 use Rattle.writer_core.specs.declared.task.Begun.TheVariants as begun
 use Rattle.writer_core.specs.Views.{WriterView}
 use Rattle.writer_core.specs.Writer.{Began, writer_begun, writer_heard, writer_stopped, is_writing, if_writing, log_begins, log_limit, is_under_way}
-use Rattle.node_history.specs.declared.event.Fate.{Fate}
-use Rattle.node_history.specs.declared.event.Fate.TheVariants as fate
+use Rattle.run_safety.specs.declared.event.Fate.{Fate}
+use Rattle.run_safety.specs.declared.event.Fate.TheVariants as fate
 use Rattle.node_world.specs.declared.seen.Seen.{Seen}
 use Rattle.node_world.specs.declared.seen.Seen.TheVariants as seen
 use Rattle.node_history.specs.declared.node_ask.NodeAsk.TheVariants.{Act}

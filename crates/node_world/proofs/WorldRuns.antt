@@ -10,10 +10,10 @@ use Rattle.writer_core.specs.declared.task.Begun.{Begun}
 use Rattle.writer_core.specs.declared.task.Begun.TheVariants as begun
 use Rattle.writer_core.specs.Writer.{next_call, is_under_way, writer_begun, writer_heard, writer_stopped, HasBody}
 use Rattle.writer_core.specs.Whole.{Takeover}
-use Rattle.node_history.specs.declared.event.Fate.{Fate}
-use Rattle.node_history.specs.declared.event.Fate.TheVariants as fate
-use Rattle.node_history.specs.declared.event.Event.{Event}
-use Rattle.node_history.specs.declared.event.Event.TheVariants.{Begin, Call, Late, Kill, Restart, Arm, GiveUp, Checkpoint}
+use Rattle.run_safety.specs.declared.event.Fate.{Fate}
+use Rattle.run_safety.specs.declared.event.Fate.TheVariants as fate
+use Rattle.run_safety.specs.declared.event.Event.{Event}
+use Rattle.run_safety.specs.declared.event.Event.TheVariants.{Begin, Call, Late, Kill, Restart, Arm, GiveUp, Checkpoint}
 use Rattle.node_history.specs.declared.node_ask.NodeAsk.{NodeAsk}
 use Rattle.node_history.specs.declared.node_ask.NodeAsk.TheVariants as ask
 use Rattle.node_history.specs.Cell.{Cell, fresh_cell}

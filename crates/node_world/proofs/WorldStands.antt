@@ -8,10 +8,10 @@ use Rattle.writer_core.specs.declared.task.Begun.{Begun}
 use Rattle.writer_core.specs.declared.task.Begun.TheVariants as begun
 use Rattle.writer_core.specs.Views.{WriterView}
 use Rattle.writer_core.specs.Writer.{is_under_way, writer_begun, next_call, writer_stopped}
-use Rattle.node_history.specs.declared.event.Fate.{Fate}
-use Rattle.node_history.specs.declared.event.Fate.TheVariants as fate
-use Rattle.node_history.specs.declared.event.Event.{Event}
-use Rattle.node_history.specs.declared.event.Event.TheVariants.{Begin, Call, Late, Kill, Restart, Arm, GiveUp, Checkpoint}
+use Rattle.run_safety.specs.declared.event.Fate.{Fate}
+use Rattle.run_safety.specs.declared.event.Fate.TheVariants as fate
+use Rattle.run_safety.specs.declared.event.Event.{Event}
+use Rattle.run_safety.specs.declared.event.Event.TheVariants.{Begin, Call, Late, Kill, Restart, Arm, GiveUp, Checkpoint}
 use Rattle.node_world.specs.declared.seen.Seen.{Seen}
 use Rattle.node_history.specs.declared.node_ask.NodeAsk.{NodeAsk}
 use Rattle.node_history.specs.declared.node_ask.NodeAsk.TheVariants as ask

@@ -10,9 +10,9 @@ use Rattle.writer_core.specs.declared.phase.Phase.TheVariants.{Writing}
 use Rattle.writer_core.specs.declared.task.Task.TheVariants.{Takeover}
 use Rattle.writer_core.specs.Views.{WriterView}
 use Rattle.writer_core.specs.Writer.{writer_begun, is_under_way}
-use Rattle.node_history.specs.declared.event.Fate.{Fate}
-use Rattle.node_history.specs.declared.event.Event.{Event}
-use Rattle.node_history.specs.declared.event.Event.TheVariants.{Begin, Call, GiveUp}
+use Rattle.run_safety.specs.declared.event.Fate.{Fate}
+use Rattle.run_safety.specs.declared.event.Event.{Event}
+use Rattle.run_safety.specs.declared.event.Event.TheVariants.{Begin, Call, GiveUp}
 use Rattle.node_world.specs.declared.seen.Seen.{Seen}
 use Rattle.node_world.specs.declared.seen.Seen.TheVariants as seen
 use Rattle.run_safety.specs.Majority.{Member, IsMajority}

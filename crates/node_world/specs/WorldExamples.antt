@@ -2,9 +2,9 @@
 use Rattle.std.specs.Prelude.{List, [], ◌∷◌, None}
 use Rattle.journal_core.specs.declared.request.Request.TheVariants.{State, NewEpoch, Start, Journal}
 use Rattle.writer_core.specs.declared.task.Task.TheVariants.{Takeover}
-use Rattle.node_history.specs.declared.event.Fate.TheVariants as fate
-use Rattle.node_history.specs.declared.event.Event.{Event}
-use Rattle.node_history.specs.declared.event.Event.TheVariants.{Begin, Call, Late}
+use Rattle.run_safety.specs.declared.event.Fate.TheVariants as fate
+use Rattle.run_safety.specs.declared.event.Event.{Event}
+use Rattle.run_safety.specs.declared.event.Event.TheVariants.{Begin, Call, Late}
 use Rattle.run_safety.specs.Examples.{head, begin, one_edit}
 use Rattle.node_world.specs.World.{World, new_world, world_after}
 

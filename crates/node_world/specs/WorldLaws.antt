@@ -5,9 +5,9 @@ use Rattle.writer_core.specs.declared.task.Task.{Task}
 use Rattle.writer_core.specs.declared.task.Begun.TheVariants.{Going}
 use Rattle.writer_core.specs.Writer.{writer_begun, is_under_way, next_call}
 use Rattle.node_history.specs.declared.stop.Stop.{Stop}
-use Rattle.node_history.specs.declared.event.Fate.{Fate}
-use Rattle.node_history.specs.declared.event.Event.{Event}
-use Rattle.node_history.specs.declared.event.Event.TheVariants.{Begin, Call, Late, Kill, Restart, Arm}
+use Rattle.run_safety.specs.declared.event.Fate.{Fate}
+use Rattle.run_safety.specs.declared.event.Event.{Event}
+use Rattle.run_safety.specs.declared.event.Event.TheVariants.{Begin, Call, Late, Kill, Restart, Arm}
 use Rattle.node_world.specs.declared.seen.Seen.TheVariants.{Idle, NotNext}
 use Rattle.node_history.specs.Moving.{moving_of}
 use Rattle.run_safety.specs.Run.{IsRun}

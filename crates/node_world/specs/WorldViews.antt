@@ -5,8 +5,8 @@ use Rattle.journal_core.specs.declared.heard.Heard.{Heard}
 use Rattle.writer_core.specs.declared.task.Begun.{Begun}
 use Rattle.writer_core.specs.declared.task.Begun.TheVariants as begun
 use Rattle.writer_core.specs.Writer.{Began}
-use Rattle.node_history.specs.declared.event.Fate.{Fate}
-use Rattle.node_history.specs.declared.event.Event.{Event}
+use Rattle.run_safety.specs.declared.event.Fate.{Fate}
+use Rattle.run_safety.specs.declared.event.Event.{Event}
 use Rattle.node_world.specs.declared.seen.Seen.{Seen}
 use Rattle.node_world.specs.declared.seen.Seen.TheVariants as seen
 use Rattle.node_history.specs.declared.node_ask.NodeAsk.{NodeAsk}

@@ -6,12 +6,12 @@ use Rattle.edit_ops.specs.Records.{EditView}
 use Rattle.ns_tree.specs.declared.inode.Noted.{Noted}
 use Rattle.ns_tree.specs.Space.{Space, empty_space, same_call, txid_of, last_calls}
 use Rattle.ns_tree.proofs.Noting.{call_itself, last_few}
-use Rattle.ns_replay.specs.Decoded.{decoded}
-use Rattle.ns_replay.specs.Admit.{Refusal, admit_of}
-use Rattle.ns_replay.specs.Apply.{noted_if, apply_of}
-use Rattle.ns_replay.specs.Replay.{unless_refused, edit_entered, entered, goes_on, replay_from, replay}
-use Rattle.ns_replay.specs.Calls.{noted_at, call_in, calls_in, CallsApart}
-use Rattle.ns_replay.proofs.Admitted.{call_is_new}
+use Rattle.ns_rules.specs.Decoded.{decoded}
+use Rattle.ns_rules.specs.Admit.{Refusal, admit_of}
+use Rattle.ns_rules.specs.Apply.{noted_if, apply_of}
+use Rattle.ns_rules.specs.Replay.{unless_refused, edit_entered, entered, goes_on, replay_from, replay}
+use Rattle.ns_rules.specs.Calls.{noted_at, call_in, calls_in, CallsApart}
+use Rattle.ns_edits.proofs.Admitted.{call_is_new}
 use Rattle.ns_replay.proofs.Splits.{some_is, none≢some, replay_split, Split, LogSplit, log_split, one_replayed}
 
 -- ## An entry that was admitted

@@ -14,17 +14,17 @@ use Rattle.edit_ops.specs.Kinds.{code, is_mark}
 use Rattle.edit_fields.specs.Fields.{Kind, Field, Small, path, owner, new_owner, replication, permission, numbers, paths, text, small, number, flag, client, call_number, Text_, Small_, Number_, Flag_, Client_, Call_, kind_of_field, IsGood, follow, field_bytes}
 use Rattle.edit_ops.specs.Records.{EditView, kind_of, fields_of, call_fields, opcode, called, edit_fields, layout, full_layout, record_of}
 use Rattle.edit_fields.specs.Reading.{fields_at}
-use Rattle.edit_ops.specs.declared.decoded.Decoded.{Decoded}
-use Rattle.edit_ops.specs.declared.decoded.Decoded.TheVariants.{Edit, OutOfMemory}
+use Rattle.edit_records.specs.declared.decoded.Decoded.{Decoded}
+use Rattle.edit_records.specs.declared.decoded.Decoded.TheVariants.{Edit, OutOfMemory}
 use Rattle.edit_fields.specs.Rules.{Matches}
-use Rattle.edit_ops.specs.Decoding.{IsDecoded}
+use Rattle.edit_records.specs.Decoding.{IsDecoded}
 use Rattle.edit_ops.specs.Grammar.{MayCall, IsEdit, IsRecord}
 use Rattle.edit_fields.proofs.WalkLaws.{fields_good, fields_all_good, runs}
-use Rattle.edit_ops.proofs.DecodeLaws.{right_edit}
+use Rattle.edit_records.proofs.DecodeLaws.{right_edit}
 use Rattle.edit_ops.proofs.EditLaws.{edit_matches, again_by}
 use Rattle.edit_fields.proofs.FieldLaws.{IsBytes}
-use Rattle.ns_replay.specs.Decoded.{text_in, number_in, flag_in, at, op_from, edit_from, Opcode, known, edit_kind, opcode_of, read_whole, decoded_as, decoded}
-use Rattle.ns_replay.specs.Keeps.{OnlyRecordsDecode, AreBytes}
+use Rattle.ns_rules.specs.Decoded.{text_in, number_in, flag_in, at, op_from, edit_from, Opcode, known, edit_kind, opcode_of, read_whole, decoded_as, decoded}
+use Rattle.ns_rules.specs.Keeps.{OnlyRecordsDecode, AreBytes}
 use Rattle.ns_replay.proofs.Splits.{some_is, none≢some}
 
 -- the opcode tells the kind

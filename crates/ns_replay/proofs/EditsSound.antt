@@ -17,13 +17,13 @@ use Rattle.ns_path.proofs.Parents.{Below, below_root}
 use Rattle.ns_tree.proofs.Pairs.{kept_change}
 use Rattle.ns_tree.proofs.Sound.{pairs_of, sound_pairs, sound_put, sound_without, sound_raise}
 use Rattle.ns_tree.proofs.Renames.{sound_renamed}
-use Rattle.ns_replay.specs.declared.refusal.AdmitRefusal.TheVariants.{Root, BadName}
-use Rattle.ns_replay.specs.Admit.{refused_if, bad_path, finds, target_of, blocks_at, admit_op, admit_delete}
-use Rattle.ns_replay.specs.Apply.{with_blocks, with_replication, with_permission, with_owner, with_times, with_quota, with_all_blocks, AreSources, without_sources, delete_of, move_of, concat_of, apply_op}
-use Rattle.ns_replay.proofs.Admitted.{all_passed, not_refused, is_so, CanStand}
-use Rattle.ns_replay.proofs.Inodes.{add_stands, add_good, mkdir_stands, mkdir_good, closed_dir, closed_good, replicated_dir, replicated_good, permitted_dir, permitted_good, owned_dir, owned_good, timed_dir, timed_good, limited_dir, limited_good, joined_dir, joined_good}
-use Rattle.ns_replay.proofs.Joins.{sources_left, sources_changed, concat_joins}
-use Rattle.ns_replay.proofs.Moves.{CanMove, rename_moves, rename_old_moves}
+use Rattle.ns_rules.specs.declared.refusal.AdmitRefusal.TheVariants.{Root, BadName}
+use Rattle.ns_rules.specs.Admit.{refused_if, bad_path, finds, target_of, blocks_at, admit_op, admit_delete}
+use Rattle.ns_rules.specs.Apply.{with_blocks, with_replication, with_permission, with_owner, with_times, with_quota, with_all_blocks, AreSources, without_sources, delete_of, move_of, concat_of, apply_op}
+use Rattle.ns_edits.proofs.Admitted.{all_passed, not_refused, is_so, CanStand}
+use Rattle.ns_edits.proofs.Inodes.{add_stands, add_good, mkdir_stands, mkdir_good, closed_dir, closed_good, replicated_dir, replicated_good, permitted_dir, permitted_good, owned_dir, owned_good, timed_dir, timed_good, limited_dir, limited_good, joined_dir, joined_good}
+use Rattle.ns_edits.proofs.Joins.{sources_left, sources_changed, concat_joins}
+use Rattle.ns_edits.proofs.Moves.{CanMove, rename_moves, rename_old_moves}
 
 -- with some pairs in the place of its own
 abbrev with_pairs : Space → List Row → Space

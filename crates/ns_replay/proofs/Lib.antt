@@ -1,14 +1,6 @@
 pub mod Splits
 pub mod Decodes
-pub mod Above
-pub mod Components
-pub mod Sources
-pub mod Admitted
 pub mod Calls
 pub mod Retries
-pub mod Inodes
-pub mod Changes
-pub mod Joins
-pub mod Moves
 pub mod EditsSound
 pub mod Sounds

@@ -4,9 +4,9 @@ use Rattle.edit_values.specs.declared.call.Call.{Call}
 use Rattle.ns_tree.specs.declared.inode.Noted.{Noted}
 use Rattle.ns_tree.specs.Space.{Space, most_calls, last_calls, AreRising, AreDistinct}
 use Rattle.ns_tree.proofs.Noting.{rising_later, rising_drop, rising_snoc, distinct_drop, distinct_snoc, last_few}
-use Rattle.ns_replay.specs.Apply.{noted_if, apply_of}
-use Rattle.ns_replay.specs.Replay.{entered}
-use Rattle.ns_replay.proofs.Admitted.{call_is_new}
+use Rattle.ns_rules.specs.Apply.{noted_if, apply_of}
+use Rattle.ns_rules.specs.Replay.{entered}
+use Rattle.ns_edits.proofs.Admitted.{call_is_new}
 use Rattle.ns_replay.proofs.Calls.{Entered, entered_is}
 
 -- of the retry list, after so many entries

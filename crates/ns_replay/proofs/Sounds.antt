@@ -4,10 +4,10 @@ use Rattle.std.specs.List.{AllByRecursion}
 use Rattle.edit_ops.specs.Grammar.{IsEdit}
 use Rattle.ns_tree.specs.Space.{Space, IsSpace}
 use Rattle.ns_tree.specs.Places.{IsTree}
-use Rattle.ns_replay.specs.Apply.{apply_op, apply_of}
-use Rattle.ns_replay.specs.Keeps.{AreBytes, EntriesStaySound, SpacesStaySound}
-use Rattle.ns_replay.specs.Replay.{entered, goes_on, replay_from}
-use Rattle.ns_replay.proofs.Admitted.{good_by, op_admitted}
+use Rattle.ns_rules.specs.Apply.{apply_op, apply_of}
+use Rattle.ns_rules.specs.Keeps.{AreBytes, EntriesStaySound, SpacesStaySound}
+use Rattle.ns_rules.specs.Replay.{entered, goes_on, replay_from}
+use Rattle.ns_edits.proofs.Admitted.{good_by, op_admitted}
 use Rattle.ns_replay.proofs.Calls.{Entered, entered_is}
 use Rattle.ns_replay.proofs.Decodes.{only_record_decodes}
 use Rattle.ns_replay.proofs.EditsSound.{op_sound}

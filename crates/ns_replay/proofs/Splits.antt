@@ -4,8 +4,8 @@ use Rattle.std.proofs.Math.Seq.{take-suc}
 use Rattle.std.proofs.lemmas.List.{length-take-le}
 use Rattle.std.proofs.lemmas.Grind.{common_steps}
 use Rattle.ns_tree.specs.Space.{Space, empty_space}
-use Rattle.ns_replay.specs.Keeps.{ReplaySplits, OneReplay}
-use Rattle.ns_replay.specs.Replay.{entered, goes_on, replay_from, replay, Applied, All, BadEntry, applied_next, applied}
+use Rattle.ns_rules.specs.Keeps.{ReplaySplits, OneReplay}
+use Rattle.ns_rules.specs.Replay.{entered, goes_on, replay_from, replay, Applied, All, BadEntry, applied_next, applied}
 
 pub some_is : {A : Type 0} (x y : A) → Some x ≡ Some y → x ≡ y
 some_is {A} x y e = ap (λ (o : Option A). or_this o) e

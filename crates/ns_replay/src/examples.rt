@@ -1,11 +1,11 @@
 //! Worked logs, computed when the crate is checked.
 ghost use Rattle.std.specs.Prelude.{◌≡◌, [], ◌∷◌, ◌++◌, codes, Some, None};
 ghost use Rattle.ns_tree.specs.Space.{children_of};
-ghost use Rattle.ns_replay.specs.Admit.{admit_of};
-ghost use Rattle.ns_replay.specs.Replay.{replay, replay_from};
-ghost use Rattle.ns_replay.specs.Examples.{plain, log_of, known_edits, known_rows, every_edit, every_rows, called, mkdir_u, called_edits, called_space};
+ghost use Rattle.ns_rules.specs.Admit.{admit_of};
+ghost use Rattle.ns_rules.specs.Replay.{replay, replay_from};
+ghost use Rattle.ns_rules.specs.Examples.{plain, log_of, known_edits, known_rows, every_edit, every_rows, called, mkdir_u, called_edits, called_space};
 
-use crate::refusal::AdmitRefusal;
+use ns_rules::AdmitRefusal;
 
 /// Directories and a file that is made, closed, renamed and given away.
 pub fn a_known_log_replays()

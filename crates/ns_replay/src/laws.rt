@@ -1,5 +1,5 @@
 //! What a replay keeps, and what it is a function of.
-ghost use Rattle.ns_replay.specs.Keeps.{EntriesStaySound, OneReplay, OnlyRecordsDecode, RecordsDecode, ReplayedCallsApart, ReplaySplits, SpacesStaySound};
+ghost use Rattle.ns_rules.specs.Keeps.{EntriesStaySound, OneReplay, OnlyRecordsDecode, RecordsDecode, ReplayedCallsApart, ReplaySplits, SpacesStaySound};
 
 /// The record of an edit decodes to that edit.
 pub fn records_decode()

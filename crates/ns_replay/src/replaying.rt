@@ -3,18 +3,18 @@ ghost use Rattle.std.specs.Prelude.{◌≡◌, ◌≤◌, ◌-◌, ◌<◌, ◌^
 ghost use Rattle.journal_core.specs.Views.{last_txid};
 ghost use Rattle.ns_tree.specs.Space.{AreRising};
 ghost use Rattle.ns_replay.specs.declared.entry_error.EntryError.TheVariants as errors;
-ghost use Rattle.ns_replay.specs.Admit.{admit_of};
-ghost use Rattle.ns_replay.specs.Apply.{is_free};
-ghost use Rattle.ns_replay.specs.Decoded.{decoded};
-ghost use Rattle.ns_replay.specs.Replay.{edit_entered, entered, IsEntryError, IsReplayed};
+ghost use Rattle.ns_rules.specs.Admit.{admit_of};
+ghost use Rattle.ns_rules.specs.Apply.{is_free};
+ghost use Rattle.ns_rules.specs.Decoded.{decoded};
+ghost use Rattle.ns_replay.specs.EntryErrors.{IsEntryError};
+ghost use Rattle.ns_rules.specs.Replay.{edit_entered, entered, IsReplayed};
 
-use crate::admitting::admit;
-use crate::aiming::aim;
-use crate::applying::apply;
 use crate::entry_error::EntryError;
-use crate::replayed::Replayed;
-use edit_ops::{Decoded, Edit, decode};
+use edit_ops::Edit;
+use edit_records::{Decoded, decode};
 use journal_core::Batch;
+use ns_edits::{admit, aim, apply};
+use ns_rules::Replayed;
 use ns_tree::Namespace;
 use qj_num::{Bytes, OutOfMemory};
 use std::alloc::{AllocError, Global};
@@ -40,7 +40,7 @@ pub fn replay(alloc: Global, ns: &mut Namespace, batch: &Batch) -> Replayed
 }
 
 /// Decodes, admits and applies the body of this txid; an `Err` changes nothing.
-#[tactic(auto, unfolding(crate::specs::Replay::entered))]
+#[tactic(auto, unfolding(ns_rules::specs::Replay::entered))]
 fn enter(alloc: Global, ns: &mut Namespace, body: &Bytes, txid: u64) -> Result<(), EntryError>
     requires positive { 1 ≤ txid }
     requires later { AreRising 0 (txid - 1) ns.old.calls }

@@ -1,8 +1,8 @@
 -- What a reader of the edits of a file tells next.
 use Rattle.std.proofs.Common.{◌≡◌, ◌≢◌, ℕ, ◌+◌, ◌≤◌, List, [], length, drop, Option, Some, None, Result, Ok, Err, refl, sym, ap, ◌∙◌, subst, arith}
 use Rattle.edit_ops.specs.Records.{EditView}
-use Rattle.edit_ops.specs.declared.decoded.Decoded.{Decoded}
-use Rattle.edit_ops.specs.Decoding.{IsDecoded}
+use Rattle.edit_records.specs.declared.decoded.Decoded.{Decoded}
+use Rattle.edit_records.specs.Decoding.{IsDecoded}
 use Rattle.batch_frame.specs.declared.entry.Entry.{Entry}
 use Rattle.batch_frame.specs.Entries.{EntriesView, IsNext}
 use Rattle.batch_frame.specs.Answers.{IsWholeFrame}

@@ -1,11 +1,11 @@
 -- Bodies and the edits of which they are the records.
 use Rattle.std.proofs.Common.{◌≡◌, ◌≢◌, ℕ, List, [], ◌∷◌, ◌++◌, length, Some, None, refl, sym, ap, ◌∙◌}
 use Rattle.std.specs.List.{AllByRecursion}
-use Rattle.edit_ops.specs.declared.decoded.Decoded.{Decoded}
-use Rattle.edit_ops.specs.declared.decoded.Decoded.TheVariants.{Edit, OutOfMemory}
+use Rattle.edit_records.specs.declared.decoded.Decoded.{Decoded}
+use Rattle.edit_records.specs.declared.decoded.Decoded.TheVariants.{Edit, OutOfMemory}
 use Rattle.edit_ops.specs.Records.{EditView}
 use Rattle.edit_ops.specs.Grammar.{IsRecord}
-use Rattle.edit_ops.proofs.DecodeLaws.{one_right_answer}
+use Rattle.edit_records.proofs.DecodeLaws.{one_right_answer}
 use Rattle.oev_tool.specs.declared.listing.ByteCause.{ByteCause}
 use Rattle.oev_tool.specs.Segment.{AreRecords}
 use Rattle.oev_tool.specs.Damage.{cause_of_edit, IsBadBody}

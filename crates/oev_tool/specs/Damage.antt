@@ -2,10 +2,10 @@
 use Rattle.std.specs.Prelude.{◌≡◌, ℕ, ◌+◌, List, ◌∷◌, ◌++◌, length, drop, Option, Some, None}
 use Rattle.std.specs.List.{flat_map}
 use Rattle.journal_core.specs.Views.{BatchView}
-use Rattle.edit_ops.specs.declared.decoded.Decoded.{Decoded}
-use Rattle.edit_ops.specs.declared.decoded.Decoded.TheVariants as decoded
+use Rattle.edit_records.specs.declared.decoded.Decoded.{Decoded}
+use Rattle.edit_records.specs.declared.decoded.Decoded.TheVariants as decoded
 use Rattle.edit_ops.specs.Records.{EditView}
-use Rattle.edit_ops.specs.Decoding.{IsDecoded}
+use Rattle.edit_records.specs.Decoding.{IsDecoded}
 use Rattle.batch_frame.specs.declared.frame_cause.FrameCause.{FrameCause}
 use Rattle.batch_frame.specs.declared.frame_cause.FrameCause.TheVariants as frame
 use Rattle.batch_frame.specs.Frames.{entry_bytes, broken_rule}

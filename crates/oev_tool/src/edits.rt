@@ -10,7 +10,8 @@ use crate::causes::cause_of_frame;
 use crate::fault::Fault;
 use crate::listing::ByteCause;
 use batch_frame::{Checked, Entries, Entry, HEADER_LENGTH, check_frame, read_header};
-use edit_ops::{Decoded, Edit, decode};
+use edit_ops::Edit;
+use edit_records::{Decoded, decode};
 use std::alloc::Global;
 use std::marker::Model;
 

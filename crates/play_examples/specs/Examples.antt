@@ -15,7 +15,7 @@ use Rattle.node_history.specs.declared.node_ask.NodeAsk.{NodeAsk}
 use Rattle.node_history.specs.declared.node_ask.NodeAsk.TheVariants.{Act, Kill, Restart, Arm}
 use Rattle.node_history.specs.declared.node_ask.NodeAnswer.TheVariants.{Replied, Stopped, Done}
 use Rattle.node_history.specs.declared.history_line.HistoryLine.{HistoryLine}
-use Rattle.script_actor.specs.Lines.{Line, Declares, Acts, Operates, Does, DoDrop, DoMute, DoLate}
+use Rattle.script_actions.specs.Lines.{Line, Declares, Acts, Operates, Does, DoDrop, DoMute, DoLate}
 use Rattle.script_plays.specs.Told.{results_in}
 use Rattle.script_plays.specs.Plays.{Play, play_begins, play_steps, history_of, actor_at}
 

@@ -14,7 +14,7 @@ use Rattle.ns_tree.specs.declared.end.End.{End}
 use Rattle.script_lines.specs.Scripts.{ScriptView}
 use Rattle.script_lines.specs.declared.script_line.ScriptLine.TheVariants as script
 use Rattle.script_plays.specs.Plays.{Play}
-use Rattle.script_actor.specs.Lines.{lines_of}
+use Rattle.script_actions.specs.Lines.{lines_of}
 use Rattle.play_examples.specs.Examples.{played, head, edit, batch, tells}
 
 unfoldable pub first_script : ScriptView

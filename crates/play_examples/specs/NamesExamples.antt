@@ -6,11 +6,11 @@ use Rattle.ns_tree.specs.declared.end.LastSpace.{LastSpace}
 use Rattle.ns_tree.specs.declared.inode.Inode.TheVariants.{Dir, File}
 use Rattle.ns_tree.specs.declared.inode.Row.{Row}
 use Rattle.ns_tree.specs.Space.{pair}
-use Rattle.ns_replay.specs.Examples.{plain, called, mkdir_u}
+use Rattle.ns_rules.specs.Examples.{plain, called, mkdir_u}
 use Rattle.writer_core.specs.declared.task.Task.TheVariants as task
 use Rattle.node_history.specs.declared.node_ask.NodeAsk.TheVariants.{Kill, Restart}
-use Rattle.script_actor.specs.Lines.{Line, Declares, Acts, Operates, Action, Does, DoDrop, Submits, Trims, DoTail, Saves, Reloads}
-use Rattle.script_actor.specs.Actor.{last_of}
+use Rattle.script_actions.specs.Lines.{Line, Declares, Acts, Operates, Action, Does, DoDrop, Submits, Trims, DoTail, Saves, Reloads}
+use Rattle.script_actions.specs.Actor.{last_of}
 use Rattle.script_plays.specs.Plays.{Play, play_begins, play_steps, actor_at}
 
 -- ## What a play gives

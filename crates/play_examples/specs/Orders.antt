@@ -8,7 +8,7 @@ use Rattle.writer_core.specs.declared.task.Task.TheVariants.{Takeover}
 use Rattle.node_history.specs.declared.node_ask.NodeAsk.TheVariants.{Kill, Restart}
 use Rattle.node_history.specs.Entries as entry
 use Rattle.node_history.specs.Entries.{Entry, Move}
-use Rattle.script_actor.specs.Lines.{Line, Declares, Acts, Operates, Does, DoDrop, DoMute}
+use Rattle.script_actions.specs.Lines.{Line, Declares, Acts, Operates, Does, DoDrop, DoMute}
 use Rattle.play_examples.specs.Examples.{head, edit, batch}
 
 -- A loses epoch 1 to B at node 1, which was killed and restarted in between; A's proposal reached node 1, but its answer was lost.

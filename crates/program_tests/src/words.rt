@@ -1,6 +1,6 @@
 //! The words of the program: as bytes of the system, and those that ask for a node.
+use command_words::{asks_for_node, refuse_folder, refuse_words};
 use exit_lines::Status;
-use qj_cli::{asks_for_node, refuse_folder, refuse_words};
 use qj_outside::{LockFail, MemSink, read_words};
 use std::alloc::{AllocError, Global};
 use std::env::FillError;

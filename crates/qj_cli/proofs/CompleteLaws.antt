@@ -18,12 +18,12 @@ use Rattle.exit_lines.specs.declared.status.Status.{Status}
 use Rattle.exit_lines.specs.declared.status.Status.TheVariants as status
 use Rattle.exit_lines.specs.declared.fault.Fault.{Fault}
 use Rattle.exit_lines.specs.declared.fault.Fault.TheVariants as fault
-use Rattle.qj_cli.specs.declared.command.Command.{Command}
+use Rattle.command_words.specs.declared.command.Command.{Command}
 use Rattle.file_commands.specs.declared.tool.Tool.{Tool}
 use Rattle.exit_lines.specs.Uses.{SourceUse, SinkUse, DiskUse}
 use Rattle.exit_lines.specs.Faults.{status_of}
 use Rattle.exit_lines.specs.Told.{IsToldAs, TellsFault, TellsText, Told, wrote_text, told_fault}
-use Rattle.qj_cli.specs.Commands.{Asked, asked_in, play, run, node, fsck, gen, list, AskFor}
+use Rattle.command_words.specs.Commands.{Asked, asked_in, play, run, node, fsck, gen, list, AskFor}
 use Rattle.qj_cli.specs.Sound.{AreSound, ComeOf}
 use Rattle.qj_cli.specs.Plays.{longest_script, AreTold, IsReadWhole, IsTooLong, IsPlayFault, Plays}
 use Rattle.qj_cli.specs.Report.{HasLongReport}
@@ -34,7 +34,7 @@ use Rattle.qj_cli.specs.Generates.{IsSummaryFault, Generates}
 use Rattle.qj_cli.specs.Does.{Does, Refuses, NeedsThreads}
 use Rattle.qj_cli.specs.Complete.{HasScript, HasRequests, HasNode, HasFile, NothingFails, IsComplete}
 use Rattle.file_commands.proofs.OneListing.{in_grammar}
-use Rattle.qj_cli.proofs.WordLaws.{one_command}
+use Rattle.command_words.proofs.WordLaws.{one_command}
 use Rattle.qj_cli.proofs.RequestLaws.{no_bad_next, no_long_next}
 
 -- it is done, or memory ran out

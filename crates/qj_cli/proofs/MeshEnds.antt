@@ -6,8 +6,8 @@ use Rattle.node_history.specs.declared.record.Record.{Record}
 use Rattle.mesh.specs.declared.whole.Mesh.{Mesh}
 use Rattle.mesh.specs.Agree.{operator_of, record_of}
 use Rattle.ns_tree.specs.declared.end.End.{End}
-use Rattle.script_actor.specs.Lines.{Line, ArePlayable, actions_of}
-use Rattle.script_actor.specs.Actor.{Actor, fresh_actor, actor_after, last_of}
+use Rattle.script_actions.specs.Lines.{Line, ArePlayable, actions_of}
+use Rattle.script_actions.specs.Actor.{Actor, fresh_actor, actor_after, last_of}
 use Rattle.script_plays.specs.Follows.{actor_with, FollowsLines}
 use Rattle.script_plays.specs.Safe.{HoldNothing}
 use Rattle.script_plays.proofs.Holds.{RawActor, raw_settled, raw_goes}

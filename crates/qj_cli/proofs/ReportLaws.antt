@@ -8,7 +8,7 @@ use Rattle.mesh.specs.Order.{epoch_order}
 use Rattle.mesh.specs.Laws.{OrderIsRun}
 use Rattle.script_lines.specs.Scripts.{ScriptView}
 use Rattle.script_text.specs.Laws.{TextIsOfOneScript}
-use Rattle.script_actor.specs.Lines.{Line, lines_of, ArePlayable, IsPlayable}
+use Rattle.script_actions.specs.Lines.{Line, lines_of, ArePlayable, IsPlayable}
 use Rattle.script_maker.specs.Generated.{generated}
 use Rattle.script_plays.specs.Plays.{Play, Plays, mesh_of, ends_of, IsPlayed}
 use Rattle.script_plays.specs.Laws.{PlaysAgree, PlaysFollow, MeshesAreSafe, OnePlay}

@@ -19,7 +19,7 @@ use Rattle.file_commands.specs.declared.tool.Tool.{Tool}
 use Rattle.exit_lines.specs.declared.status.Status.{Status}
 use Rattle.exit_lines.specs.declared.status.Status.TheVariants as status
 use Rattle.exit_lines.specs.Uses.{SourceUse, SinkUse, DiskUse, AReadFailed, AWriteFailed}
-use Rattle.qj_cli.specs.Commands.{Asked, play, run, node, fsck, gen, list}
+use Rattle.command_words.specs.Commands.{Asked, play, run, node, fsck, gen, list}
 use Rattle.qj_cli.specs.Sound.{AreSound as AreSoundLists, ComeOf}
 use Rattle.qj_cli.specs.Report.{IsReport}
 use Rattle.qj_cli.specs.Plays.{longest_script}

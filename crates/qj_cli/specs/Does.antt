@@ -4,7 +4,7 @@ use Rattle.exit_lines.specs.declared.status.Status.{Status}
 use Rattle.exit_lines.specs.declared.fault.Fault.TheVariants as fault
 use Rattle.exit_lines.specs.Uses.{SourceUse, SinkUse, DiskUse}
 use Rattle.exit_lines.specs.Told.{TellsFault}
-use Rattle.qj_cli.specs.Commands.{Asked, play, run, node, fsck, gen, list}
+use Rattle.command_words.specs.Commands.{Asked, play, run, node, fsck, gen, list}
 use Rattle.qj_cli.specs.Sound.{AreSound, ComeOf}
 use Rattle.qj_cli.specs.Plays.{Plays}
 use Rattle.file_commands.specs.Listing.{Lists}

@@ -1,10 +1,6 @@
-pub mod Commands
-pub mod Usage
-pub mod Words
 pub mod Sound
 pub mod Report
 pub mod Plays
 pub mod Generates
-pub mod Starting
 pub mod Does
 pub mod Complete

@@ -1,8 +1,7 @@
-// What holds of every script, of all words and of every file.
+// What holds of every script and of every file.
 ghost use Rattle.qj_cli.specs.Sound.{AreSound, ComeOf};
 ghost use Rattle.qj_cli.specs.Report.{ScriptsHaveOneReport, ReportsShowNoFault};
 ghost use Rattle.qj_cli.specs.Generates.{NumbersHaveOneSummary};
-ghost use Rattle.qj_cli.specs.Words.{UsageIsOfFirstWrongWord};
 ghost use Rattle.file_commands.specs.Listing.{FilesHaveOneListing, FilesHaveOneFault, ListedFilesHaveNoFault};
 
 use script_plays::{a_mesh_that_agrees_shows_no_fault, one_script_has_one_play};
@@ -31,11 +30,6 @@ pub fn reports_show_no_fault()
 {
     a_mesh_that_agrees_shows_no_fault();
 }
-
-/// The place that is told of wrong words is the first at which they stop being those that a command begins with.
-pub fn usage_is_of_first_wrong_word()
-    ensures { UsageIsOfFirstWrongWord }
-{}
 
 /// A file has one listing by a tool, or else one fault.
 pub fn files_have_one_listing()

@@ -2,18 +2,14 @@
 //! listing, replies or a fault line go out.
 #![tactic(auto)]
 
-mod command;
 mod generating;
 mod laws;
 mod playing;
 mod plays;
-mod starting;
-mod tool_words;
 mod top;
 
 pub use laws::{
     files_have_one_listing, numbers_have_one_summary, reports_show_no_fault,
-    scripts_have_one_report, usage_is_of_first_wrong_word,
+    scripts_have_one_report,
 };
-pub use starting::{asks_for_node, refuse_folder, refuse_words};
 pub use top::{qjm, qjm_alone};

@@ -3,6 +3,7 @@ ghost use Rattle.std.specs.Prelude.{IfOk};
 ghost use Rattle.script_text.specs.Grammar.{IsScript};
 ghost use Rattle.qj_cli.specs.Sound.{AreSound, ComeOf};
 
+use caller_seats::Seats;
 use cluster_runner::play_on;
 use disk_nodes::fresh_nodes;
 use gate_seats::Pass;
@@ -10,15 +11,32 @@ use journal_core::OutOfMemory;
 use journal_node::JournalNode;
 use mesh::epoch_order_is_a_run;
 use names_safety::epoch_order_is_safe;
+use ns_tree::LastSpace;
 use qj_disk::MemDisk;
-use script_lines::Script;
+use script_actor::ScriptActor;
+use script_lines::{Script, ScriptLine};
 use script_plays::{
     Played, a_mesh_that_agrees_is_safe, a_play_agrees, a_play_follows, scripts_are_playable,
 };
 use std::alloc::Global;
 use std::sync::Wait;
 use std::thread::Threads;
-use thread_runner::run_on;
+use thread_runner::{Actors, act_alone, run_on};
+
+/// The actors of the program's threads.
+struct ScriptActors;
+
+impl Actors for ScriptActors {
+    fn act<S: Seats>(
+        alloc: Global,
+        named: bool,
+        lines: &[ScriptLine],
+        actor: u32,
+        seats: &mut S,
+    ) -> Result<Option<LastSpace>, OutOfMemory> {
+        act_alone::<ScriptActor, S>(alloc, named, lines, actor, seats)
+    }
+}
 
 /// A script played, all lines in order.
 pub fn play_soundly(
@@ -35,7 +53,7 @@ pub fn play_soundly(
     a_mesh_that_agrees_is_safe();
     epoch_order_is_safe();
     let nodes = fresh_nodes(alloc, script.nodes())?;
-    let played = play_on(alloc, nodes, script)?;
+    let played = play_on::<ScriptActor, _>(alloc, nodes, script)?;
     Ok(played)
 }
 
@@ -54,6 +72,6 @@ pub fn run_soundly<R: Threads + Wait + Sync, G: Pass + Sync>(
     a_mesh_that_agrees_is_safe();
     epoch_order_is_safe();
     let nodes = fresh_nodes(alloc, script.nodes())?;
-    let played = run_on(rt, alloc, nodes, script, pass)?;
+    let played = run_on::<ScriptActors, _, _, _>(rt, alloc, nodes, script, pass)?;
     Ok(played)
 }

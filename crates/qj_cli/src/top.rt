@@ -1,14 +1,14 @@
 // The top call.
 ghost use Rattle.std.specs.Prelude.{◌≡◌, ◌↔◌, ℕ, Some, IfOk, IfErr, IsErr};
-ghost use Rattle.qj_cli.specs.Commands.{Asked, asked_in, IsAllowed, AskFor, run};
-ghost use Rattle.qj_cli.specs.Usage.{bytes_of, usage_of};
+ghost use Rattle.command_words.specs.Commands.{Asked, asked_in, IsAllowed, AskFor, run};
+ghost use Rattle.command_words.specs.Usage.{bytes_of, usage_of};
 ghost use Rattle.exit_lines.specs.Uses.{read_from, written_to, done_to};
 ghost use Rattle.qj_cli.specs.Does.{Does, Refuses, ReadsNone, NeedsThreads};
 ghost use Rattle.qj_cli.specs.Complete.{IsComplete};
 
-use crate::command::{Command, read_command};
 use crate::generating::play_generated;
 use crate::playing::{play_script, run_script};
+use command_words::{Command, read_command};
 use exit_lines::{Exit, Fault, write_fault};
 use file_commands::{check_files, list_file};
 use gate_seats::Pass;

@@ -9,8 +9,8 @@ use Rattle.writer_core.specs.declared.turn.Turn.{Turn}
 use Rattle.writer_core.specs.declared.turn.Turn.TheVariants as turn
 use Rattle.writer_core.specs.declared.turn.Outcome.{Outcome}
 use Rattle.writer_core.specs.declared.turn.Outcome.TheVariants as outcome
-use Rattle.ns_replay.specs.declared.refusal.AdmitRefusal.{AdmitRefusal}
-use Rattle.ns_replay.specs.declared.refusal.AdmitRefusal.TheVariants as refusal
+use Rattle.ns_rules.specs.declared.refusal.AdmitRefusal.{AdmitRefusal}
+use Rattle.ns_rules.specs.declared.refusal.AdmitRefusal.TheVariants as refusal
 use Rattle.name_node.specs.Submissions.{Due, Pends, Refused, Repeats, TooLong}
 
 -- a word with a number after a space

@@ -1,5 +1,5 @@
 //! What becomes of edits that are submitted together.
-use ns_replay::AdmitRefusal;
+use ns_rules::AdmitRefusal;
 
 /// What becomes of an edit that is submitted with others.
 #[derive(Clone, Copy, Debug, PartialEq, Eq)]

@@ -11,9 +11,9 @@ use crate::task_results::{
     text_room,
 };
 use journal_core::{Bytes, OutOfMemory};
-use ns_replay::AdmitRefusal;
+use name_node::Tailed;
+use ns_rules::AdmitRefusal;
 use qj_num::put_decimal;
-use standby_tailer::Tailed;
 use std::alloc::Global;
 use writer_core::{Cause, Outcome, Turn};
 

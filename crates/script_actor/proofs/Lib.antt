@@ -1,14 +1,4 @@
-pub mod LedLaws
-pub mod Framed
-pub mod KeptActor
-pub mod WriterTurn
-pub mod TurnsTell
-pub mod TurnsFit
-pub mod Stretches
-pub mod GoneLaws
 pub mod NamedLaws
 pub mod StandbyLaws
 pub mod TrimLaws
 pub mod SubmitLaws
-pub mod TailLaws
-pub mod SavedLaws

@@ -1,6 +1,6 @@
 -- An actor with names after its writer's last call of a takeover, a roll or a close.
 use Rattle.std.proofs.Common.{◌≡◌, ℕ, ◌+◌, ◌-◌, ◌≤◌, List, [], ◌∷◌, ◌++◌, codes, Bool, true, false, if◌then◌else◌, Option, Some, None, refl, sym, ap, ◌∙◌, subst, arith}
-use Rattle.ns_replay.specs.Replay.{Image}
+use Rattle.ns_rules.specs.Replay.{Image}
 use Rattle.writer_core.specs.declared.phase.Phase.{Phase}
 use Rattle.writer_core.specs.declared.phase.Phase.TheVariants as phase
 use Rattle.writer_core.specs.declared.phase.Aim.{Aim}
@@ -19,28 +19,29 @@ use Rattle.writer_core.specs.Rounds.{asks_others, end_record}
 use Rattle.writer_core.specs.Writer.{Began, begins, if_writing, is_writing, is_under_way, next_call, writer_begun, writer_stopped}
 use Rattle.writer_core.proofs.LiveLaws.{stopped_live}
 use Rattle.writer_core.proofs.TaskTurns.{begun_turn}
-use Rattle.active_name.proofs.WriterEnds.{outcome_of, roll_start, close_last}
+use Rattle.quorum_writer.proofs.WriterEnds.{outcome_of, roll_start, close_last}
 use Rattle.name_node.specs.Holding.{Holding, Work, Free, at_position, load_image, reload_image, enters}
 use Rattle.name_node.specs.Tails.{TailStep, Caught, Reached, pass_begun}
-use Rattle.standby_tailer.specs.declared.tailed.Tailed.{Tailed}
-use Rattle.standby_tailer.specs.declared.tailed.Tailed.TheVariants as tailed
+use Rattle.name_node.specs.declared.tailed.Tailed.{Tailed}
+use Rattle.name_node.specs.declared.tailed.Tailed.TheVariants as tailed
 use Rattle.caller_seats.specs.Logs.{LogView}
-use Rattle.script_actor.specs.Lines.{Does}
+use Rattle.script_actions.specs.Lines.{Does}
 use Rattle.result_lines.specs.Results.{word, took, cause_words, for_each, name_of}
 use Rattle.result_lines.specs.ResultLists.{texts_of, entry_texts}
-use Rattle.script_actor.specs.Actor.{Actor, is_broken_work, aborted_texts, tail_ended, tail_stepped, task_done, held_turn, turn_with, turn_taken, entry_text}
-use Rattle.script_actor.specs.KeptActor.{KeptActor, as_actor}
-use Rattle.script_actor.specs.Ready.{IsReady, is_going}
-use Rattle.script_actor.specs.Went.{HasGone, opens}
-use Rattle.script_actor.specs.Actions.{kept_of, LedTo, is_tail, IsNoTail, GoesFar, is_idle_work, IsIdleHolding, IsIdleActor, TakesAction, ComesToRest}
-use Rattle.script_actor.specs.Holdings.{rest_work, is_bad_entry, IsTailEnd, TailGoes}
+use Rattle.script_actions.specs.Actor.{Actor, is_broken_work, aborted_texts, tail_ended, tail_stepped, task_done, held_turn, turn_with, turn_taken, entry_text}
+use Rattle.script_actions.specs.KeptActor.{KeptActor, as_actor}
+use Rattle.script_actions.specs.Ready.{IsReady, is_going}
+use Rattle.script_actions.specs.Went.{HasGone, opens}
+use Rattle.script_actions.specs.Actions.{kept_of, LedTo, is_tail, IsNoTail, GoesFar, is_idle_work, IsIdleHolding, IsIdleActor, TakesAction, ComesToRest}
+use Rattle.name_holding.specs.Holdings.{rest_work, is_bad_entry, IsTailEnd, TailGoes}
 use Rattle.script_actor.specs.Named.{task_of, Stands, HasTaken, HasRolled, HasClosed, EndsSegment, MayMove, held_after, entry_opens, entry_writer, entry_held, takeover_of}
 use Rattle.script_actor.specs.declared.segment_task.SegmentTask.{SegmentTask}
 use Rattle.script_actor.specs.declared.segment_task.SegmentTask.TheVariants as segment
-use Rattle.script_actor.proofs.LedLaws.{led_same, led_on}
-use Rattle.script_actor.proofs.Stretches.{IsSaid, task_went}
-use Rattle.active_name.proofs.RoundLaws.{begun_open}
+use Rattle.script_actions.proofs.LedLaws.{led_same, led_on}
+use Rattle.actor_tasks.proofs.Stretches.{IsSaid, task_went}
+use Rattle.quorum_writer.proofs.TaskBegins.{begun_open}
 use Rattle.mesh.proofs.Chores as chores
+use Rattle.name_node.proofs.HoldingLaws.{reloaded_free}
 
 -- ## A writer at rest
 suits_rest : (a : Aim) (p : Phase) → is_under_way p ≡ false → SuitsIn a p
@@ -129,14 +130,6 @@ round_shown segment.Takeover turn.Aborted w h log free ends other = ap (λ (x : 
 round_shown segment.Roll turn.Aborted w h log free ends other = ap (λ (x : Work). record (as_actor None [] (kept_of w (Some (reload_image h)) log)) { says = aborted_texts x task.Roll w.causes }) free
 round_shown segment.Close turn.Aborted w h log free ends other = ap (λ (x : Work). record (as_actor None [] (kept_of w (Some (reload_image h)) log)) { says = aborted_texts x task.Close w.causes }) free
 round_shown st (turn.EpochLimit told) w h log free ends other = refl
-
-pub loaded_work : (images : List Image) (h : Holding) → (load_image images h).work ≡ h.work
-loaded_work [] h = refl
-loaded_work (i ∷ is) h = refl
-
-pub reloaded_free : (h : Holding) → (reload_image h).work ≡ Free
-unfolding reload_image
-reloaded_free h = loaded_work h.images (record h { work = Free })
 
 pub after_free : (u : Turn) (h : Holding) → h.work ≡ Free → (held_after u h).work ≡ Free
 after_free (turn.Done (outcome.Roll start)) h e = refl

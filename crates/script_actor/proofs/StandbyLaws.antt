@@ -4,22 +4,23 @@ use Rattle.writer_core.specs.Views.{WriterView}
 use Rattle.writer_core.specs.Writer.{is_writing}
 use Rattle.name_node.specs.Holding.{Holding, Free, save_image, reload_image}
 use Rattle.name_node.specs.Tails.{TailStep, Caught, Reached, pass_begun}
-use Rattle.standby_tailer.specs.declared.tailed.Tailed.{Tailed}
-use Rattle.standby_tailer.specs.declared.tailed.Tailed.TheVariants as tailed
+use Rattle.name_node.specs.declared.tailed.Tailed.{Tailed}
+use Rattle.name_node.specs.declared.tailed.Tailed.TheVariants as tailed
 use Rattle.caller_seats.specs.Logs.{LogView}
-use Rattle.script_actor.specs.Lines.{Action, DoTail, Saves, Reloads}
+use Rattle.script_actions.specs.Lines.{Action, DoTail, Saves, Reloads}
 use Rattle.result_lines.specs.Results.{word, cause_words}
 use Rattle.result_lines.specs.ResultLists.{tail_texts}
-use Rattle.script_actor.specs.Actor.{Actor, hand_action, take_action, take_named_action, unless_active, begin_save, begin_reload, tail_stepped, tail_ended, tail_text}
-use Rattle.script_actor.specs.KeptActor.{KeptActor, as_actor, resting}
-use Rattle.script_actor.specs.Actions.{kept_of, is_idle_work, IsIdleHolding, IsIdleActor, TakesAction, ComesToRest}
-use Rattle.script_actor.specs.Holdings.{rest_work, is_bad_entry, IsTailEnd, TailGoes}
+use Rattle.script_actions.specs.Actor.{Actor, hand_action, take_action, take_named_action, unless_active, begin_save, begin_reload, tail_stepped, tail_ended, tail_text}
+use Rattle.script_actions.specs.KeptActor.{KeptActor, as_actor, resting}
+use Rattle.script_actions.specs.Actions.{kept_of, is_idle_work, IsIdleHolding, IsIdleActor, TakesAction, ComesToRest}
+use Rattle.name_holding.specs.Holdings.{rest_work, is_bad_entry, IsTailEnd, TailGoes}
 use Rattle.script_actor.specs.Named.{Stands, TakesStanding}
-use Rattle.script_actor.proofs.Framed.{IsFramed, framed_keeps, tail_framed}
-use Rattle.script_actor.proofs.LedLaws.{led_same, led_on}
-use Rattle.script_actor.proofs.KeptActor.{idle_no_tail, handed_rest}
-use Rattle.script_actor.proofs.Stretches.{IsSaid}
-use Rattle.script_actor.proofs.NamedLaws.{free_whole, free_idle, at_rest, reloaded_free}
+use Rattle.script_actions.proofs.Framed.{IsFramed, framed_keeps, tail_framed}
+use Rattle.script_actions.proofs.LedLaws.{led_same, led_on}
+use Rattle.script_actions.proofs.KeptActor.{idle_no_tail, handed_rest}
+use Rattle.actor_tasks.proofs.Stretches.{IsSaid}
+use Rattle.script_actor.proofs.NamedLaws.{free_whole, free_idle, at_rest}
+use Rattle.name_node.proofs.HoldingLaws.{reloaded_free}
 
 -- ## An action that a name node takes
 pub todo_so : (f : Actor → Actor) → IsFramed f → (a : Actor) → a.todo ≡ [] → record (f a) { todo = [] } ≡ f a

@@ -6,9 +6,9 @@ use Rattle.std.proofs.lemmas.List.{take_more, map-append}
 use Rattle.journal_core.specs.Limits.{max_number}
 use Rattle.edit_ops.specs.Records.{EditView, record_of}
 use Rattle.ns_tree.specs.Space.{Space, AreRising}
-use Rattle.ns_replay.specs.Replay.{Image}
-use Rattle.ns_replay.specs.declared.refusal.AdmitRefusal.TheVariants as refusal
-use Rattle.ns_replay.specs.Admit.{Refusal, admit_of}
+use Rattle.ns_rules.specs.Replay.{Image}
+use Rattle.ns_rules.specs.declared.refusal.AdmitRefusal.TheVariants as refusal
+use Rattle.ns_rules.specs.Admit.{Refusal, admit_of}
 use Rattle.writer_core.specs.declared.phase.Phase.{Phase}
 use Rattle.writer_core.specs.declared.phase.Phase.TheVariants as phase
 use Rattle.writer_core.specs.declared.phase.Aim.TheVariants as aim
@@ -23,31 +23,32 @@ use Rattle.writer_core.specs.Left.{IsLive}
 use Rattle.writer_core.specs.Turns.{IsTurnOf}
 use Rattle.writer_core.specs.Room.{room_of}
 use Rattle.writer_core.specs.Writer.{is_writing, log_limit, call_in, next_call, writer_begun}
-use Rattle.active_name.specs.declared.submitted.Submitted.{Submitted}
-use Rattle.active_name.specs.declared.submitted.Submitted.TheVariants as answer
-use Rattle.active_name.specs.Pendings.{PendingView, none_pending, submission, PendsFrom, PendsAt, IsDue, IsOneMore, IsPended}
-use Rattle.active_name.proofs.WriterEnds.{outcome_of, log_last}
-use Rattle.active_name.proofs.ActiveLaws.{log_going}
+use Rattle.pending_edits.specs.declared.submitted.Submitted.{Submitted}
+use Rattle.pending_edits.specs.declared.submitted.Submitted.TheVariants as answer
+use Rattle.pending_edits.specs.Pendings.{PendingView, none_pending, submission, PendsFrom, PendsAt, IsDue, IsOneMore, IsPended}
+use Rattle.quorum_writer.proofs.WriterEnds.{outcome_of, log_last}
+use Rattle.quorum_writer.proofs.TaskBegins.{log_going}
 use Rattle.name_node.specs.Submissions.{Due, Submission, submitted_one, unless_long, unless_refused, submit_edits, nothing_submitted}
 use Rattle.name_node.specs.Holding.{Holding, Work, Free, Logs, with_work, reload_image}
 use Rattle.standby_tailer.specs.Standbys.{StandbyView, empty_standby, held}
 use Rattle.caller_seats.specs.Logs.{LogView}
-use Rattle.script_actor.specs.Lines.{Submits}
+use Rattle.script_actions.specs.Lines.{Submits}
 use Rattle.result_lines.specs.Results.{cause_words, dues_logged, dues_aborted, abort_text}
-use Rattle.script_actor.specs.Actor.{Actor, is_broken_work, take_action, take_named_action, logged_when, after_sync, begin_sync, logs_done, task_done, held_turn, turn_with, turn_taken}
-use Rattle.script_actor.specs.KeptActor.{KeptActor, as_actor, resting}
-use Rattle.script_actor.specs.Ready.{IsReady, is_going}
-use Rattle.script_actor.specs.Went.{HasGone, opens}
-use Rattle.script_actor.specs.Actions.{kept_of, GoesFar, IsIdleActor, TakesAction, ComesToRest}
+use Rattle.script_actions.specs.Actor.{Actor, is_broken_work, take_action, take_named_action, logged_when, after_sync, begin_sync, logs_done, task_done, held_turn, turn_with, turn_taken}
+use Rattle.script_actions.specs.KeptActor.{KeptActor, as_actor, resting}
+use Rattle.script_actions.specs.Ready.{IsReady, is_going}
+use Rattle.script_actions.specs.Went.{HasGone, opens}
+use Rattle.script_actions.specs.Actions.{kept_of, GoesFar, IsIdleActor, TakesAction, ComesToRest}
 use Rattle.script_actor.specs.Named.{Stands}
 use Rattle.result_lines.specs.declared.edit_due.EditDue.{EditDue}
 use Rattle.result_lines.specs.DueTexts.{due_of, dues_of}
 use Rattle.script_actor.specs.Submitting.{AreSubmitted, log_texts, MayHold, log_held}
-use Rattle.script_actor.proofs.LedLaws.{led_same, led_on}
-use Rattle.script_actor.proofs.Stretches.{IsSaid}
-use Rattle.script_actor.proofs.NamedLaws.{own_turn, free_idle, at_rest, reloaded_free}
+use Rattle.script_actions.proofs.LedLaws.{led_same, led_on}
+use Rattle.actor_tasks.proofs.Stretches.{IsSaid}
+use Rattle.script_actor.proofs.NamedLaws.{own_turn, free_idle, at_rest}
+use Rattle.name_node.proofs.HoldingLaws.{reloaded_free}
 use Rattle.script_actor.proofs.StandbyLaws.{free_rest, taken_from, taken_said}
-use Rattle.active_name.proofs.PendLaws.{submitted_more}
+use Rattle.pending_edits.proofs.PendLaws.{submitted_more}
 use Rattle.mesh.proofs.Chores as chores
 
 -- ## One edit more

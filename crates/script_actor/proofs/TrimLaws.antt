@@ -11,23 +11,24 @@ use Rattle.writer_core.specs.Views.{WriterView}
 use Rattle.writer_core.specs.Turns.{IsTurnOf}
 use Rattle.writer_core.specs.Rounds.{asks_all}
 use Rattle.writer_core.specs.Writer.{begins, if_writing, is_writing, next_call, writer_begun}
-use Rattle.active_name.proofs.WriterEnds.{purge_next}
+use Rattle.quorum_writer.proofs.WriterEnds.{purge_next}
 use Rattle.name_node.specs.Holding.{Holding, Work, Free, reload_image, min_to_keep}
 use Rattle.caller_seats.specs.Logs.{LogView}
-use Rattle.script_actor.specs.Lines.{Trims}
+use Rattle.script_actions.specs.Lines.{Trims}
 use Rattle.result_lines.specs.Results.{abort_text}
 use Rattle.result_lines.specs.ResultLists.{trim_texts}
-use Rattle.script_actor.specs.Actor.{Actor, is_broken_work, aborted_texts, hand_action, take_action, take_named_action, trim_at, task_done, held_turn, turn_with, turn_taken}
-use Rattle.script_actor.specs.KeptActor.{KeptActor, as_actor, resting}
-use Rattle.script_actor.specs.Ready.{is_going}
-use Rattle.script_actor.specs.Went.{HasGone, opens}
-use Rattle.script_actor.specs.Actions.{kept_of, GoesFar, IsIdleActor, TakesAction, ComesToRest}
+use Rattle.script_actions.specs.Actor.{Actor, is_broken_work, aborted_texts, hand_action, take_action, take_named_action, trim_at, task_done, held_turn, turn_with, turn_taken}
+use Rattle.script_actions.specs.KeptActor.{KeptActor, as_actor, resting}
+use Rattle.script_actions.specs.Ready.{is_going}
+use Rattle.script_actions.specs.Went.{HasGone, opens}
+use Rattle.script_actions.specs.Actions.{kept_of, GoesFar, IsIdleActor, TakesAction, ComesToRest}
 use Rattle.script_actor.specs.Named.{Stands, MayMove, held_after}
-use Rattle.script_actor.proofs.LedLaws.{led_same, led_on}
-use Rattle.script_actor.proofs.Stretches.{IsSaid}
+use Rattle.script_actions.proofs.LedLaws.{led_same, led_on}
+use Rattle.actor_tasks.proofs.Stretches.{IsSaid}
 use Rattle.script_actor.proofs.NamedLaws.{own_turn, free_whole, free_idle, free_no_tail, after_free, at_rest}
 use Rattle.script_actor.proofs.StandbyLaws.{free_rest, taken_from, taken_said}
 use Rattle.mesh.proofs.Chores as chores
+use Rattle.quorum_writer.proofs.TaskBegins.{purge_begins}
 
 trims_taken : (extra : ℕ) (w : WriterView) (h : Holding) (log : LogView)
     → take_action (Trims extra) (resting (kept_of w (Some h) log)) ≡ trim_at (is_writing w.phase) (min_to_keep extra h.images) (resting (kept_of w (Some h) log))
@@ -68,10 +69,6 @@ trim_takes n extra min w v h h' active old new idle free stands o least rests =
     (begun_at n extra w h old true (Some min) idle free (sym stands.is_open ∙ o) least ∙ trim_todo min (kept_of w (Some h) old)) rests
 
 -- ## The purge
-pub purge_begins : (w : WriterView) (min : ℕ) → is_writing w.phase ≡ true → (writer_begun w (task.Purge min)).begun ≡ begun.Going
-unfolding writer_begun
-purge_begins w min e = ap (λ (b : Bool). (if_writing b (begins (asks_all (round.Purge min) (record w { aim = aim.Purge }))) w).begun) e
-
 purge_shown : (min : ℕ) (w v : WriterView) (h : Holding) (log : LogView) → v ≡ (writer_begun w (task.Purge min)).writer
     → trim_at true (Some min) (resting (kept_of w (Some h) log)) ≡ as_actor (Some (task.Purge min)) [] (kept_of v (Some h) log)
 unfolding trim_at

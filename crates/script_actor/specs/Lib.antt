@@ -1,10 +1,3 @@
-pub mod Lines
-pub mod Actor
-pub mod KeptActor
-pub mod Ready
-pub mod Went
-pub mod Actions
-pub mod Holdings
 pub mod Named
 pub mod Submitting
 pub mod Held

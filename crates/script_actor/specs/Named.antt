@@ -9,12 +9,12 @@ use Rattle.writer_core.specs.declared.turn.Outcome.TheVariants as outcome
 use Rattle.writer_core.specs.Views.{WriterView}
 use Rattle.writer_core.specs.Writer.{is_writing, writer_stopped}
 use Rattle.name_node.specs.Holding.{Holding, at_position, reload_image}
-use Rattle.standby_tailer.specs.declared.tailed.Tailed.{Tailed}
-use Rattle.standby_tailer.specs.declared.tailed.Tailed.TheVariants as tailed
+use Rattle.name_node.specs.declared.tailed.Tailed.{Tailed}
+use Rattle.name_node.specs.declared.tailed.Tailed.TheVariants as tailed
 use Rattle.caller_seats.specs.Logs.{LogView}
-use Rattle.script_actor.specs.Lines.{Action}
-use Rattle.script_actor.specs.Actor.{is_broken_work}
-use Rattle.script_actor.specs.Actions.{kept_of, IsIdleActor, TakesAction}
+use Rattle.script_actions.specs.Lines.{Action}
+use Rattle.script_actions.specs.Actor.{is_broken_work}
+use Rattle.script_actions.specs.Actions.{kept_of, IsIdleActor, TakesAction}
 use Rattle.script_actor.specs.declared.segment_task.SegmentTask.{SegmentTask}
 use Rattle.script_actor.specs.declared.segment_task.SegmentTask.TheVariants as segment
 

@@ -3,7 +3,7 @@ use Rattle.std.specs.Prelude.{◌≡◌, ℕ, ◌≤◌, List, []}
 use Rattle.journal_core.specs.Limits.{max_number}
 use Rattle.edit_ops.specs.Records.{EditView}
 use Rattle.ns_tree.specs.Space.{Space, AreRising}
-use Rattle.ns_replay.specs.Replay.{Image}
+use Rattle.ns_rules.specs.Replay.{Image}
 use Rattle.writer_core.specs.declared.cause.Cause.{Cause}
 use Rattle.writer_core.specs.declared.turn.Turn.{Turn}
 use Rattle.writer_core.specs.declared.turn.Turn.TheVariants as turn
@@ -12,7 +12,7 @@ use Rattle.writer_core.specs.Views.{WriterView}
 use Rattle.name_node.specs.Submissions.{Due, submit_edits}
 use Rattle.name_node.specs.Holding.{Holding, reload_image}
 use Rattle.standby_tailer.specs.Standbys.{held, empty_standby}
-use Rattle.active_name.specs.Pendings.{PendingView, PendsFrom, PendsAt, submission}
+use Rattle.pending_edits.specs.Pendings.{PendingView, PendsFrom, PendsAt, submission}
 use Rattle.result_lines.specs.Results.{dues_logged, dues_aborted}
 use Rattle.result_lines.specs.ResultLists.{aborted_text}
 

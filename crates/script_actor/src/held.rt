@@ -1,5 +1,5 @@
 // An actor with names beside its writer.
-use crate::holding::NameHolding;
+use name_holding::NameHolding;
 
 /// What an actor with names holds beside its writer, and whether its writer holds an open segment.
 #[derive(Drop)]

@@ -1,23 +1,24 @@
 // An actor of a script.
 ghost use Rattle.std.specs.Prelude.{◌≡◌, true, false, Some, None, OnOk, IfOk};
 ghost use Rattle.name_node.specs.Holding.{Free};
-ghost use Rattle.script_actor.specs.Lines.{line_of};
-ghost use Rattle.script_actor.specs.Actor.{last_of};
+ghost use Rattle.script_actions.specs.Lines.{line_of};
+ghost use Rattle.script_actions.specs.Actor.{last_of};
 ghost use Rattle.script_actor.specs.Named.{Stands};
 ghost use Rattle.script_actor.specs.Held.{IsOther};
-ghost use Rattle.script_actor.specs.Actions.{ActorView, new_actor_view, has_names, kept_of, kept_by, action_of, IsIdleActor, MayCome, TakesIf};
+ghost use Rattle.script_actions.specs.Actions.{ActorView, new_actor_view, has_names, kept_of, kept_by, action_of, IsIdleActor, MayCome, TakesIf};
 
-use crate::actions::{take_late, take_mark, take_task};
 use crate::held::Held;
-use crate::holding::NameHolding;
 use crate::named_tasks::take_segment_task;
 use crate::segment_task::SegmentTask;
 use crate::standby_actions::{take_checkpoint, take_reload, take_tail};
 use crate::submissions::take_edits;
 use crate::trims::take_trim;
+use actor_tasks::{take_late, take_mark, take_task};
 use caller_seats::Seats;
 use journal_core::OutOfMemory;
+use name_holding::NameHolding;
 use ns_tree::LastSpace;
+use script_actions::Actor;
 use script_lines::ScriptLine;
 use std::alloc::Global;
 use std::marker::Model;
@@ -32,7 +33,7 @@ pub struct ScriptActor {
 
 impl Model for ScriptActor {
     ghost use Rattle.std.specs.Prelude.{option_map};
-    ghost use Rattle.script_actor.specs.Actions.{ActorView};
+    ghost use Rattle.script_actions.specs.Actions.{ActorView};
     ghost use Rattle.script_actor.specs.Held.{holding_of, StandsIf};
 
     ghost Value = { ActorView };
@@ -42,11 +43,10 @@ impl Model for ScriptActor {
     ghost invariant = { λ a. StandsIf a.writer.view a.held };
 }
 
-impl ScriptActor {
-    /// An actor before its first line, with names or without, of that many nodes.
-    pub fn new(alloc: Global, named: bool, nodes: usize) -> Result<ScriptActor, OutOfMemory>
-        ensures { IfOk result (λ a. a ≡ new_actor_view named nodes) }
-    {
+impl Actor for ScriptActor {
+    ghost seen = { λ actor. actor };
+
+    fn new(alloc: Global, named: bool, nodes: usize) -> Result<ScriptActor, OutOfMemory> {
         let writer = Writer::new(alloc, nodes)?;
         if !named {
             return Ok(ScriptActor { writer, held: None });
@@ -61,20 +61,12 @@ impl ScriptActor {
         })
     }
 
-    /// The action of a line, if it is an actor's: its calls, and its results. An actor that met a bad entry does
-    /// nothing more. Lack of memory leaves the actor with no namespace.
-    pub fn take_line<S: Seats>(
+    fn take_line<S: Seats>(
         &mut self,
         alloc: Global,
         seats: &mut S,
         line: &ScriptLine,
-    ) -> Result<(), OutOfMemory>
-        requires idle { IsIdleActor (S.log seats.old).nodes (kept_by self.old (S.log seats.old)) }
-        requires may { MayCome (has_names self.old) (S.log seats.old).nodes line.now }
-        ensures takes { OnOk result (TakesIf (S.log seats.old).nodes (action_of (line_of line.now)) (kept_by self.old (S.log seats.old)) (kept_by self.new (S.log seats.new))) }
-        ensures named { OnOk result (has_names self.new ≡ has_names self.old) }
-        ensures later { OnOk result (S.later seats.old seats.new) }
-    {
+    ) -> Result<(), OutOfMemory> {
         let Some(held) = self.held.take() else {
             return take_raw(alloc, &mut self.writer, seats, line);
         };
@@ -83,10 +75,7 @@ impl ScriptActor {
         Ok(())
     }
 
-    /// What it holds at last, if it holds a namespace.
-    pub fn into_last(self, alloc: Global) -> Result<Option<LastSpace>, OutOfMemory>
-        ensures { IfOk result (λ last. last ≡ last_of self.holds) }
-    {
+    fn into_last(self, alloc: Global) -> Result<Option<LastSpace>, OutOfMemory> {
         let ScriptActor { writer: _, held } = self;
         match held {
             Some(held) => Ok(Some(held.holding.into_last(alloc)?)),

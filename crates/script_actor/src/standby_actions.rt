@@ -2,11 +2,11 @@
 ghost use Rattle.std.specs.Prelude.{◌≡◌, ◌≤◌, OnOk, IfOk};
 ghost use Rattle.writer_core.specs.Views.{WriterView};
 ghost use Rattle.name_node.specs.Holding.{Free};
-ghost use Rattle.script_actor.specs.Lines.{DoTail, Saves, Reloads};
+ghost use Rattle.script_actions.specs.Lines.{DoTail, Saves, Reloads};
 ghost use Rattle.script_actor.specs.Named.{TakesStanding};
 
-use crate::actions::say_all;
 use crate::held::Held;
+use actor_tasks::say_all;
 use caller_seats::Seats;
 use journal_core::OutOfMemory;
 use result_lines::{one_number, one_word, tail_results};

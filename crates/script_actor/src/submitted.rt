@@ -1,9 +1,9 @@
 // What becomes of an edit, by the answer to it.
 ghost use Rattle.std.specs.Prelude.{IfSome};
-ghost use Rattle.active_name.specs.Pendings.{IsDue};
+ghost use Rattle.pending_edits.specs.Pendings.{IsDue};
 ghost use Rattle.result_lines.specs.DueTexts.{due_of};
 
-use active_name::Submitted;
+use pending_edits::Submitted;
 use result_lines::EditDue;
 
 /// By the answer to an edit, for a writer whose next txid is this; none where memory was wanting.

@@ -2,18 +2,18 @@
 ghost use Rattle.std.specs.Prelude.{◌≡◌, true, Some, OnOk, IfOk};
 ghost use Rattle.writer_core.specs.Writer.{is_writing};
 ghost use Rattle.name_node.specs.Holding.{Free};
-ghost use Rattle.script_actor.specs.Lines.{Trims};
-ghost use Rattle.script_actor.specs.Actor.{trim_at};
-ghost use Rattle.script_actor.specs.KeptActor.{resting};
+ghost use Rattle.script_actions.specs.Lines.{Trims};
+ghost use Rattle.script_actions.specs.Actor.{trim_at};
+ghost use Rattle.script_actions.specs.KeptActor.{resting};
 ghost use Rattle.script_actor.specs.Named.{Stands};
-ghost use Rattle.script_actor.specs.Actions.{kept_of, IsIdleActor, TakesAction, ComesToRest};
+ghost use Rattle.script_actions.specs.Actions.{kept_of, IsIdleActor, TakesAction, ComesToRest};
 
-use crate::actions::{finish, say_all};
 use crate::held::Held;
-use crate::holding::NameHolding;
 use crate::named_tasks::{hold_after, is_opened};
+use actor_tasks::{finish, say_all};
 use caller_seats::Seats;
 use journal_core::OutOfMemory;
+use name_holding::NameHolding;
 use result_lines::{one_word, trim_results};
 use std::alloc::Global;
 use writer_core::{Task, Writer};

@@ -26,7 +26,7 @@ use Rattle.writer_core.specs.declared.round.Round.TheVariants as round
 use Rattle.writer_core.specs.Rounds.{Judgment}
 use Rattle.writer_core.specs.Writer.{HasBody, new_writer, is_under_way, is_writing, call_in, writer_begun, next_call, writer_heard, writer_stopped}
 use Rattle.ns_tree.specs.Space.{Space}
-use Rattle.ns_replay.specs.Replay.{Applied, All, BadEntry, entered, applied_next, applied}
+use Rattle.ns_rules.specs.Replay.{Applied, All, BadEntry, entered, applied_next, applied}
 use Rattle.node_history.specs.declared.record.Record.{Record}
 use Rattle.node_history.specs.declared.record.Record.TheVariants.{Call, Late, Operator, Outcome}
 use Rattle.node_history.specs.declared.record.Told.{Told}
@@ -35,17 +35,17 @@ use Rattle.mesh.specs.Makers.{Chore, Writes, Tails as ReadsOn, Reading, Maker, h
 use Rattle.name_node.specs.Submissions.{Submission, submit_edits, nothing_submitted}
 use Rattle.name_node.specs.Holding.{Holding, Work, Free, Tails, Logs, Broken, empty_holding, with_work, save_image, load_image, reload_image, min_to_keep, enters}
 use Rattle.name_node.specs.Tails.{TailEnd, Caught, Reached, PurgedFrom, BehindBy, TailStep, GoesOn, Ends, pass_begun, up_to, after_applied, pass_end, no_edits, tail_hears}
-use Rattle.script_actor.specs.Lines.{Action, Does, DoDrop, DoMute, DoLate, Submits, Trims, DoTail, Saves, Reloads, IsTask, IsAction, AreActions}
-use Rattle.script_actor.specs.Actor.{Actor, WantsCall, fresh_actor, call_wanted, work_read, read_first, is_wanting, is_broken, wants, tail_ended, tail_stepped, task_begun, make_copy, begin_sync, after_sync, logged_when, trim_at, unless_active, begin_save, begin_reload, take_named_action, take_action, while_wanting, settle, logs_done, task_done, held_turn, turn_with, turn_taken, after_judgment, heard_in_work, heard_by, moved_on, settle_again, goes_on, Fits, IsLed}
-use Rattle.script_actor.specs.Ready.{is_going}
+use Rattle.script_actions.specs.Lines.{Action, Does, DoDrop, DoMute, DoLate, Submits, Trims, DoTail, Saves, Reloads, IsTask, IsAction, AreActions}
+use Rattle.script_actions.specs.Actor.{Actor, WantsCall, fresh_actor, call_wanted, work_read, read_first, is_wanting, is_broken, wants, tail_ended, tail_stepped, task_begun, make_copy, begin_sync, after_sync, logged_when, trim_at, unless_active, begin_save, begin_reload, take_named_action, take_action, while_wanting, settle, logs_done, task_done, held_turn, turn_with, turn_taken, after_judgment, heard_in_work, heard_by, moved_on, settle_again, goes_on, Fits, IsLed}
+use Rattle.script_actions.specs.Ready.{is_going}
 use Rattle.script_plays.proofs.Led.{moved_keeps}
 use Rattle.script_plays.proofs.Wanting.{Resting, sending, resting, fits_calling, no_operation, call_by, rests_by}
 use Rattle.script_plays.proofs.Makes.{busy_by}
-use Rattle.script_actor.proofs.WriterTurn.{call_under}
-use Rattle.script_actor.proofs.TurnsTell.{turn_tells}
-use Rattle.script_actor.proofs.TrimLaws.{purge_begins}
+use Rattle.script_actions.proofs.WriterTurn.{call_under}
+use Rattle.script_actions.proofs.TurnsTell.{turn_tells}
+use Rattle.quorum_writer.proofs.TaskBegins.{purge_begins}
 use Rattle.script_plays.proofs.Sound.{or_false, waiting_actions}
-use Rattle.script_actor.proofs.NamedLaws.{loaded_work}
+use Rattle.name_node.proofs.HoldingLaws.{loaded_work}
 
 -- ## The maker's writer: the actor's, or what it was before it gave up
 abbrev Alike : WriterView → WriterView → Type 0

@@ -5,8 +5,8 @@ use Rattle.std.proofs.lemmas.List.{length-append}
 use Rattle.edit_ops.specs.Records.{EditView, record_of}
 use Rattle.writer_core.specs.Views.{WriterView}
 use Rattle.writer_core.specs.Writer.{log_limit}
-use Rattle.ns_replay.specs.declared.refusal.AdmitRefusal.TheVariants as refusal
-use Rattle.ns_replay.specs.Admit.{Refusal, admit_of}
+use Rattle.ns_rules.specs.declared.refusal.AdmitRefusal.TheVariants as refusal
+use Rattle.ns_rules.specs.Admit.{Refusal, admit_of}
 use Rattle.name_node.specs.Submissions.{Due, Pends, Refused, Repeats, TooLong, Submission, unless_long, unless_refused, submit_edits}
 use Rattle.result_lines.specs.Results.{dues_logged, dues_aborted}
 

@@ -24,9 +24,9 @@ use Rattle.node_history.specs.declared.record.Record.{Record}
 use Rattle.node_history.specs.declared.record.Record.TheVariants.{Call, Late, Operator, Outcome}
 use Rattle.node_history.specs.declared.record.Told.{Told}
 use Rattle.mesh.specs.Makers.{heard_of}
-use Rattle.script_actor.specs.Lines.{Action, Does, DoDrop, DoMute, DoLate, Submits, Trims, DoTail, Saves, Reloads}
+use Rattle.script_actions.specs.Lines.{Action, Does, DoDrop, DoMute, DoLate, Submits, Trims, DoTail, Saves, Reloads}
 use Rattle.result_lines.specs.Results.{for_each, acked_from, acknowledged_results, outcome_results, results_of, inactive_results, too_long_results, late_none}
-use Rattle.script_actor.specs.Actor.{Actor, Rests, fresh_actor, wants, is_wanting, is_broken, task_begun, make_copy, take_action, while_wanting, settle, turn_with, turn_taken, moved_on, settle_again, goes_on, Fits, IsLed, actor_after}
+use Rattle.script_actions.specs.Actor.{Actor, Rests, fresh_actor, wants, is_wanting, is_broken, task_begun, make_copy, take_action, while_wanting, settle, turn_with, turn_taken, moved_on, settle_again, goes_on, Fits, IsLed, actor_after}
 use Rattle.script_plays.specs.Told.{results_in}
 use Rattle.script_plays.specs.EditResults.{results_due, AreResultsOf, AreResults, IsRaw, AreRaw}
 use Rattle.script_plays.proofs.Led.{todo_wants, waiting, either_wants, moved_keeps}

@@ -16,8 +16,8 @@ use Rattle.mesh.specs.Makers.{IsOfChores, IsOperators}
 use Rattle.mesh.specs.Matches.{reached, lines_of, AreSame, AreWithin, CallersWithin}
 use Rattle.mesh.specs.Order.{placed_at, entries_at}
 use Rattle.mesh.specs.Agree.{Agrees, operator_of, history_at, record_of, plan_of}
-use Rattle.script_actor.specs.Lines.{Line, count_actors, names_in, actions_of, operations_in, ArePlayable, HasNodes, Declares, Acts, Operates}
-use Rattle.script_actor.specs.Actor.{Actor, fresh_actor, wants, last_of}
+use Rattle.script_actions.specs.Lines.{Line, count_actors, names_in, actions_of, operations_in, ArePlayable, HasNodes, Declares, Acts, Operates}
+use Rattle.script_actions.specs.Actor.{Actor, fresh_actor, wants, last_of}
 use Rattle.script_plays.specs.Plays.{Play, play_steps, play_begins, has_ended, no_lines, actor_at, history_of, histories_from, mesh_of, ends_from, ends_of, IsPlay}
 use Rattle.script_plays.specs.Follows.{Follows, AreOperations, FollowsLines}
 use Rattle.mesh.proofs.Lists.{Alike, alike, append_none}

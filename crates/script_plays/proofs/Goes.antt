@@ -14,9 +14,9 @@ use Rattle.node_history.specs.declared.mark.Mark.{Mark}
 use Rattle.node_history.specs.declared.mark.MarkKind.TheVariants as kind
 use Rattle.mesh.specs.Marks.{mark, calls_to, next_number, Asked, IsAsMarked, IsCopy, IsMarked, AreCopied}
 use Rattle.name_node.specs.Holding.{Holding}
-use Rattle.script_actor.specs.Lines.{Action, Does, DoDrop, DoMute, DoLate, Submits, Trims, DoTail, Saves, Reloads, IsAction}
-use Rattle.script_actor.specs.Actor.{Actor, wants, task_begun, make_copy, take_named_action, take_action, moved_on, Fits}
-use Rattle.script_actor.proofs.Framed.{framed_keeps, held_framed}
+use Rattle.script_actions.specs.Lines.{Action, Does, DoDrop, DoMute, DoLate, Submits, Trims, DoTail, Saves, Reloads, IsAction}
+use Rattle.script_actions.specs.Actor.{Actor, wants, task_begun, make_copy, take_named_action, take_action, moved_on, Fits}
+use Rattle.script_actions.proofs.Framed.{framed_keeps, held_framed}
 use Rattle.script_plays.proofs.Led.{moved_keeps, call_copies}
 use Rattle.script_plays.proofs.Wanting.{sending, same_sending, Copying, fits_copying, no_operation}
 use Rattle.caller_seats.proofs.MarkLaws.{asked_more, asked_one, copy_more, copy_planned, IsLater, more_marks, marked_snoc}

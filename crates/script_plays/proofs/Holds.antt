@@ -18,7 +18,7 @@ use Rattle.writer_core.specs.declared.turn.Outcome.TheVariants as outcome
 use Rattle.writer_core.specs.Views.{WriterView}
 use Rattle.writer_core.specs.Rounds.{Judgment}
 use Rattle.writer_core.specs.Writer.{is_writing, writer_begun, writer_heard, writer_stopped}
-use Rattle.ns_replay.specs.Replay.{Image, Applied, All, BadEntry, applied}
+use Rattle.ns_rules.specs.Replay.{Image, Applied, All, BadEntry, applied}
 use Rattle.node_history.specs.declared.record.Record.{Record}
 use Rattle.node_history.specs.declared.record.Record.TheVariants.{Call, Late, Operator, Outcome}
 use Rattle.node_history.specs.declared.record.Told.{Told}
@@ -28,9 +28,9 @@ use Rattle.mesh.specs.Makers.{heard_of}
 use Rattle.name_node.specs.Submissions.{Submission, submit_edits, nothing_submitted}
 use Rattle.name_node.specs.Holding.{Holding, Work, Free, Tails, Logs, Broken, with_work, save_image, load_image, reload_image, min_to_keep, enters}
 use Rattle.name_node.specs.Tails.{TailEnd, Caught, Reached, PurgedFrom, BehindBy, TailStep, GoesOn, Ends, Breaks, is_until, pass_begun, up_to, after_applied, pass_end, no_edits, tail_hears}
-use Rattle.script_actor.specs.Lines.{Action, Does, DoDrop, DoMute, DoLate, Submits, Trims, DoTail, Saves, Reloads}
+use Rattle.script_actions.specs.Lines.{Action, Does, DoDrop, DoMute, DoLate, Submits, Trims, DoTail, Saves, Reloads}
 use Rattle.script_plays.specs.EditResults.{IsRaw, AreRaw}
-use Rattle.script_actor.specs.Actor.{Actor, is_wanting, is_broken, wants, tail_ended, tail_stepped, task_begun, make_copy, begin_sync, after_sync, logged_when, trim_at, unless_active, begin_save, begin_reload, take_named_action, take_action, is_broken_holding, while_wanting, settle, logs_done, task_done, held_turn, turn_with, turn_taken, after_judgment, heard_in_work, heard_by, moved_on, settle_again, goes_on}
+use Rattle.script_actions.specs.Actor.{Actor, is_wanting, is_broken, wants, tail_ended, tail_stepped, task_begun, make_copy, begin_sync, after_sync, logged_when, trim_at, unless_active, begin_save, begin_reload, take_named_action, take_action, is_broken_holding, while_wanting, settle, logs_done, task_done, held_turn, turn_with, turn_taken, after_judgment, heard_in_work, heard_by, moved_on, settle_again, goes_on}
 use Rattle.script_plays.proofs.Led.{moved_keeps}
 
 -- ## With names: a tail asks a node that is there

@@ -7,9 +7,9 @@ use Rattle.node_history.specs.declared.record.Record.{Record}
 use Rattle.node_history.specs.declared.record.Record.TheVariants.{Call, Late, Operator, Outcome}
 use Rattle.node_history.specs.declared.record.Told.{Told}
 use Rattle.mesh.specs.Makers.{heard_of}
-use Rattle.script_actor.specs.Lines.{Action, Does, DoDrop, DoMute, DoLate, Submits, Trims, DoTail, Saves, Reloads}
-use Rattle.script_actor.proofs.Framed.{framed_todo, framed_keeps, begun_framed, held_framed, heard_framed}
-use Rattle.script_actor.specs.Actor.{Actor, Want, WantsCall, WantsCopy, Says, Rests, wants, is_wanting, is_broken, task_begun, make_copy, take_named_action, take_action, while_wanting, settle, hand_action, heard_by, moved_on, settle_again, goes_on, Fits, IsLed, actor_after}
+use Rattle.script_actions.specs.Lines.{Action, Does, DoDrop, DoMute, DoLate, Submits, Trims, DoTail, Saves, Reloads}
+use Rattle.script_actions.proofs.Framed.{framed_todo, framed_keeps, begun_framed, held_framed, heard_framed}
+use Rattle.script_actions.specs.Actor.{Actor, Want, WantsCall, WantsCopy, Says, Rests, wants, is_wanting, is_broken, task_begun, make_copy, take_named_action, take_action, while_wanting, settle, hand_action, heard_by, moved_on, settle_again, goes_on, Fits, IsLed, actor_after}
 
 pub led_snoc : (a : Actor) (rs : List Record) (r : Record) → IsLed a rs → Fits (wants (actor_after a rs)) r → IsLed a (rs ++ r ∷ [])
 unfolding IsLed actor_after

@@ -1,7 +1,7 @@
 -- The lines of a script that are left after so many, and the actors that they declare.
 use Rattle.std.proofs.Common.{◌≡◌, ℕ, zero, suc, ◌+◌, ◌<◌, List, [], ◌∷◌, length, map, refl, sym, ap, ◌∙◌, arith, drop, get_or}
 use Rattle.script_lines.specs.declared.script_line.ScriptLine.{ScriptLine}
-use Rattle.script_actor.specs.Lines.{Line, Declares, Acts, Operates, line_of, count_actors}
+use Rattle.script_actions.specs.Lines.{Line, Declares, Acts, Operates, line_of, count_actors}
 
 pub drop_more : (ls : List ScriptLine) (i : ℕ) (d : ScriptLine) → i < length ls → drop i ls ≡ get_or ls i d ∷ drop (i + 1) ls
 drop_more [] i d l = absurd (omega (arith, l))

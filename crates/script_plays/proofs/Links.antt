@@ -6,7 +6,7 @@ use Rattle.std.proofs.lemmas.List.Elements.{Contains-push_cases}
 use Rattle.node_history.specs.declared.record.Record.{Record}
 use Rattle.node_history.specs.Moving.{Placed}
 use Rattle.mesh.specs.Matches.{reaches}
-use Rattle.script_actor.specs.Actor.{Actor}
+use Rattle.script_actions.specs.Actor.{Actor}
 use Rattle.mesh.proofs.Lists.{Alike, alike}
 use Rattle.mesh.specs.Traces.{IsEvent, InStep, notes, waits, goes}
 

@@ -12,9 +12,9 @@ use Rattle.writer_core.specs.Writer.{Began, log_begins, log_limit, is_writing, i
 use Rattle.node_history.specs.declared.record.Record.{Record}
 use Rattle.node_history.specs.declared.record.Record.TheVariants.{Call, Late, Operator, Outcome}
 use Rattle.mesh.specs.Makers.{Chore, Writes, Tails, Maker, asks, heard_of, maker_of, maker_hears, HaveBodies, IsMade, IsOfTasks}
-use Rattle.script_actor.specs.Lines.{Action, Does, DoDrop, DoMute, DoLate, Submits, Trims, DoTail, Saves, Reloads, AreActions}
+use Rattle.script_actions.specs.Lines.{Action, Does, DoDrop, DoMute, DoLate, Submits, Trims, DoTail, Saves, Reloads, AreActions}
 use Rattle.script_plays.specs.EditResults.{IsRaw, AreRaw}
-use Rattle.script_actor.specs.Actor.{Actor, fresh_actor, wants, is_wanting, is_broken, task_begun, make_copy, take_action, while_wanting, settle, moved_on, settle_again, goes_on, IsLed}
+use Rattle.script_actions.specs.Actor.{Actor, fresh_actor, wants, is_wanting, is_broken, task_begun, make_copy, take_action, while_wanting, settle, moved_on, settle_again, goes_on, IsLed}
 use Rattle.script_plays.proofs.Led.{waiting, either_wants, moved_keeps}
 use Rattle.script_plays.proofs.Holds.{RawActor, raw_taken, raw_moved, raw_writer, raw_whole, raw_settled, raw_goes}
 use Rattle.script_plays.proofs.Sound.{or_false, actions_raw}

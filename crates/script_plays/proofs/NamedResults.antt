@@ -24,7 +24,7 @@ use Rattle.writer_core.specs.Views.{WriterView}
 use Rattle.writer_core.specs.Rounds.{Judgment}
 use Rattle.writer_core.specs.Writer.{is_writing, writer_begun, next_call, writer_heard, writer_stopped}
 use Rattle.ns_tree.specs.Space.{Space}
-use Rattle.ns_replay.specs.Replay.{Applied, All, BadEntry, applied}
+use Rattle.ns_rules.specs.Replay.{Applied, All, BadEntry, applied}
 use Rattle.node_history.specs.declared.record.Record.{Record}
 use Rattle.node_history.specs.declared.record.Record.TheVariants.{Call, Late, Operator, Outcome}
 use Rattle.node_history.specs.declared.record.Told.{Told}
@@ -32,11 +32,11 @@ use Rattle.mesh.specs.Makers.{heard_of}
 use Rattle.name_node.specs.Submissions.{Due, Submission, submit_edits, nothing_submitted}
 use Rattle.name_node.specs.Holding.{Holding, new_holding, Work, Free, Tails, Logs, Broken, with_work, at_position, save_image, reload_image, min_to_keep, enters}
 use Rattle.name_node.specs.Tails.{TailEnd, Caught, Reached, PurgedFrom, BehindBy, TailStep, GoesOn, Ends, Breaks, is_until, pass_begun, up_to, after_applied, pass_end, no_edits, tail_hears}
-use Rattle.script_actor.specs.Lines.{Action, Does, DoDrop, DoMute, DoLate, Submits, Trims, DoTail, Saves, Reloads, IsNamesTask, IsAction, AreActions}
+use Rattle.script_actions.specs.Lines.{Action, Does, DoDrop, DoMute, DoLate, Submits, Trims, DoTail, Saves, Reloads, IsNamesTask, IsAction, AreActions}
 use Rattle.result_lines.specs.Results.{dues_logged, dues_aborted, abort_text, inactive_results, too_long_results, late_none}
-use Rattle.script_actor.specs.Actor.{Actor, Rests, WantsCall, fresh_actor, call_wanted, work_read, read_first, wants, is_wanting, is_broken_work, is_broken_holding, is_broken, tail_ended, tail_stepped, task_begun, make_copy, begin_sync, after_sync, logged_when, trim_at, unless_active, begin_save, begin_reload, take_named_action, take_action, while_wanting, settle, logs_done, aborted_texts, task_done, held_turn, turn_with, turn_taken, heard_in_work, heard_by, moved_on, settle_again, goes_on, Fits, IsLed, actor_after}
-use Rattle.script_actor.proofs.NamedLaws.{reloaded_free}
-use Rattle.script_actor.proofs.TrimLaws.{purge_begins}
+use Rattle.script_actions.specs.Actor.{Actor, Rests, WantsCall, fresh_actor, call_wanted, work_read, read_first, wants, is_wanting, is_broken_work, is_broken_holding, is_broken, tail_ended, tail_stepped, task_begun, make_copy, begin_sync, after_sync, logged_when, trim_at, unless_active, begin_save, begin_reload, take_named_action, take_action, while_wanting, settle, logs_done, aborted_texts, task_done, held_turn, turn_with, turn_taken, heard_in_work, heard_by, moved_on, settle_again, goes_on, Fits, IsLed, actor_after}
+use Rattle.name_node.proofs.HoldingLaws.{reloaded_free}
+use Rattle.quorum_writer.proofs.TaskBegins.{purge_begins}
 use Rattle.script_plays.specs.Told.{results_in}
 use Rattle.script_plays.specs.EditResults.{results_due, AreResultsOf, AreResults, NeverBroken}
 use Rattle.script_plays.proofs.Led.{todo_wants, waiting, either_wants, moved_keeps}

@@ -9,8 +9,8 @@ use Rattle.node_history.specs.declared.record.Record.{Record}
 use Rattle.node_history.specs.Cell.{Cell, fresh_cell, cell_takes, IsLocalRun, cell_after}
 use Rattle.node_history.specs.Moving.{Placed}
 use Rattle.mesh.specs.Matches.{IsWithin}
-use Rattle.script_actor.specs.Lines.{Action, Line, Declares, Acts, Operates, actions_of, IsAction, AreActions, HasNodes}
-use Rattle.script_actor.specs.Actor.{Actor, fresh_actor, settle, hand_action, wants, goes_on, Fits, actor_after, IsLed}
+use Rattle.script_actions.specs.Lines.{Action, Line, Declares, Acts, Operates, actions_of, IsAction, AreActions, HasNodes}
+use Rattle.script_actions.specs.Actor.{Actor, fresh_actor, settle, hand_action, wants, goes_on, Fits, actor_after, IsLed}
 use Rattle.script_plays.specs.Plays.{history_of}
 use Rattle.mesh.proofs.Lists.{cond_true, cond_false, Alike, alike, append_none}
 use Rattle.script_plays.proofs.Led.{led_snoc, after_snoc, settled_more, handed_after, handed_led}

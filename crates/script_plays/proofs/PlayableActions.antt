@@ -1,6 +1,6 @@
 -- Each actor's actions are actions of a script that can be played.
 use Rattle.std.proofs.Common.{◌≡◌, ℕ, ◌+◌, ◌==◌, List, [], ◌∷◌, Bool, true, false, cond, refl}
-use Rattle.script_actor.specs.Lines.{Line, Declares, Acts, Operates, actions_of, AreActions, ArePlayable, WithNames}
+use Rattle.script_actions.specs.Lines.{Line, Declares, Acts, Operates, actions_of, AreActions, ArePlayable, WithNames}
 
 pub playable_actions : (named : Bool) (nodes actors : ℕ) (lines : List Line) → ArePlayable named nodes actors lines → (c : ℕ) → AreActions named (actions_of c lines)
 unfolding ArePlayable AreActions actions_of

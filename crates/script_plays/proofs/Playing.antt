@@ -14,8 +14,8 @@ use Rattle.node_history.specs.Moving.{Placed}
 use Rattle.mesh.specs.Marks.{next_number, IsAsMarked}
 use Rattle.mesh.specs.Makers.{IsOperators}
 use Rattle.mesh.specs.Matches.{reaches, IsSame, IsWithin, AreWithin}
-use Rattle.script_actor.specs.Lines.{Line, count_actors, names_in, operations_in, ArePlayable, HasNodes}
-use Rattle.script_actor.specs.Actor.{Actor, fresh_actor, Want, WantsCall, WantsCopy, Says, Rests, wants, goes_on, Fits}
+use Rattle.script_actions.specs.Lines.{Line, count_actors, names_in, operations_in, ArePlayable, HasNodes}
+use Rattle.script_actions.specs.Actor.{Actor, fresh_actor, Want, WantsCall, WantsCopy, Says, Rests, wants, goes_on, Fits}
 use Rattle.script_plays.specs.Plays.{Play, actor_at, taken_at, node_asked, note_record, Delivery, Delivered, ReplyLost, NotDelivered, delivery, told_of, call_made, copy_made, meet_want}
 use Rattle.script_plays.specs.Follows.{AreOperations}
 use Rattle.mesh.proofs.Lists.{Alike, alike}

@@ -14,7 +14,7 @@ use Rattle.script_lines.specs.Scripts.{ScriptView}
 use Rattle.script_text.specs.Views.{SaidView}
 use Rattle.script_text.specs.Edits.{IsSayable}
 use Rattle.script_text.specs.Grammar.{AreLines, IsScript, said_after, nothing_said}
-use Rattle.script_actor.specs.Lines.{line_of, lines_of, count_actors, AreEdits, IsNamesTask, IsTask, WithNames, ArePlayable, IsPlayable, AreInRange, NumbersFit}
+use Rattle.script_actions.specs.Lines.{line_of, lines_of, count_actors, AreEdits, IsNamesTask, IsTask, WithNames, ArePlayable, IsPlayable, AreInRange, NumbersFit}
 
 -- ## Lines that stand in scripts with names, without them, or in both
 common_task : (named : Bool) (t : Task) → IsNamesTask t → HasBody t → IsTask named t

@@ -13,10 +13,10 @@ use Rattle.mesh.specs.Marks.{calls_to, IsCopy}
 use Rattle.mesh.specs.Makers.{heard_of}
 use Rattle.mesh.specs.Matches.{IsWithin, AreWithin}
 use Rattle.name_node.specs.Holding.{Holding, Work, Free, Tails, Logs, Broken}
-use Rattle.script_actor.specs.Lines.{Action, Does, DoDrop, DoMute, DoLate, Submits, Trims, DoTail, Saves, Reloads, IsAction, AreActions, HasNodes}
+use Rattle.script_actions.specs.Lines.{Action, Does, DoDrop, DoMute, DoLate, Submits, Trims, DoTail, Saves, Reloads, IsAction, AreActions, HasNodes}
 use Rattle.script_plays.specs.EditResults.{IsRaw, AreRaw}
-use Rattle.script_actor.specs.Actor.{Actor, WantsCall, WantsCopy, fresh_actor, call_wanted, work_read, read_first, wants, is_wanting, is_broken, task_begun, make_copy, take_named_action, take_action, while_wanting, settle, hand_action, moved_on, settle_again, goes_on, actor_after, Fits}
-use Rattle.script_actor.proofs.Framed.{framed_keeps, held_framed}
+use Rattle.script_actions.specs.Actor.{Actor, WantsCall, WantsCopy, fresh_actor, call_wanted, work_read, read_first, wants, is_wanting, is_broken, task_begun, make_copy, take_named_action, take_action, while_wanting, settle, hand_action, moved_on, settle_again, goes_on, actor_after, Fits}
+use Rattle.script_actions.proofs.Framed.{framed_keeps, held_framed}
 use Rattle.script_plays.proofs.Led.{moved_keeps}
 use Rattle.script_plays.proofs.Holds.{AsksNode, AsksIn, HoldsWell, Well, taken_well, moved_well, raw_taken, raw_moved, raw_writer}
 use Rattle.mesh.proofs.Lists.{alike, Alike}

@@ -9,8 +9,8 @@ use Rattle.node_history.specs.declared.record.Record.TheVariants.{Call, Late, Op
 use Rattle.node_history.specs.Cell.{fresh_cell, IsLocalRun, cell_after}
 use Rattle.mesh.specs.Makers.{IsOperation, IsOperators}
 use Rattle.mesh.specs.Matches.{reaches, IsSame, AreWithin}
-use Rattle.script_actor.specs.Lines.{Action, Line, Declares, Acts, Operates, Operation, count_actors, names_in, operations_in, actions_of, IsAction, ArePlayable, HasNodes}
-use Rattle.script_actor.specs.Actor.{Actor, fresh_actor, hand_action, Rests, wants, say_first, copy_first, read_first, call_wanted}
+use Rattle.script_actions.specs.Lines.{Action, Line, Declares, Acts, Operates, Operation, count_actors, names_in, operations_in, actions_of, IsAction, ArePlayable, HasNodes}
+use Rattle.script_actions.specs.Actor.{Actor, fresh_actor, hand_action, Rests, wants, say_first, copy_first, read_first, call_wanted}
 use Rattle.script_plays.specs.Plays.{Play, play_begins, actor_at, taken_at, node_asked, is_done, line_taken, next_line, take_turn, play_step, play_steps, history_of}
 use Rattle.script_plays.specs.Follows.{AreOperations}
 use Rattle.mesh.proofs.Lists.{Alike, alike, append_none, contains_none}

@@ -4,8 +4,8 @@ use Rattle.std.specs.Prelude.{Option, None}
 use Rattle.node_history.specs.declared.record.Record.{Record}
 use Rattle.node_history.specs.declared.record.Record.TheVariants.{Call, Late, Operator, Outcome}
 use Rattle.node_history.specs.declared.record.Told.{Told}
-use Rattle.script_actor.specs.Lines.{Line}
-use Rattle.script_actor.specs.Actor.{Actor, Want, WantsCall, WantsCopy, Says, Rests, wants, goes_on, Fits, actor_after, IsLed}
+use Rattle.script_actions.specs.Lines.{Line}
+use Rattle.script_actions.specs.Actor.{Actor, Want, WantsCall, WantsCopy, Says, Rests, wants, goes_on, Fits, actor_after, IsLed}
 use Rattle.script_plays.specs.Plays.{Play, next_line, take_turn, play_step, play_steps, play_begins, has_ended, IsPlay}
 use Rattle.script_plays.specs.Told.{told_in}
 use Rattle.script_plays.proofs.Final.{ended_lines, ended_turn}

@@ -7,7 +7,7 @@ use Rattle.node_history.specs.declared.node_ask.NodeAsk.{NodeAsk}
 use Rattle.node_history.specs.declared.record.Record.TheVariants.{Call, Late, Operator, Outcome}
 use Rattle.node_history.specs.declared.record.Told.{Told}
 use Rattle.name_node.specs.Holding.{Holding, Work, Free, Tails, Logs, Broken}
-use Rattle.script_actor.specs.Actor.{Actor, Want, WantsCall, WantsCopy, Says, Rests, wants, is_wanting, call_wanted, work_read, read_first, copy_first, say_first, Fits}
+use Rattle.script_actions.specs.Actor.{Actor, Want, WantsCall, WantsCopy, Says, Rests, wants, is_wanting, call_wanted, work_read, read_first, copy_first, say_first, Fits}
 
 -- what an actor wants that has nothing to say and no copy to send: a read of its tail, or its writer's call
 abbrev pub reads_or_calls : Actor → Want

@@ -7,8 +7,8 @@ use Rattle.mesh.specs.declared.whole.Mesh.{Mesh}
 use Rattle.ns_tree.specs.declared.end.End.{End}
 use Rattle.mesh.specs.Agree.{operator_of, record_of, plan_of}
 use Rattle.script_lines.specs.Scripts.{ScriptView}
-use Rattle.script_actor.specs.Lines.{Action, Line, Operation, lines_of, count_actors, names_in, actions_of, operations_in}
-use Rattle.script_actor.specs.Actor.{Actor, fresh_actor, settle, wants, Rests, IsLed, actor_after, last_of}
+use Rattle.script_actions.specs.Lines.{Action, Line, Operation, lines_of, count_actors, names_in, actions_of, operations_in}
+use Rattle.script_actions.specs.Actor.{Actor, fresh_actor, settle, wants, Rests, IsLed, actor_after, last_of}
 
 -- an actor of that many nodes with these actions, before its first line, and after a record
 abbrev pub actor_with : Bool → ℕ → List Action → Actor

@@ -10,8 +10,8 @@ use Rattle.ns_tree.specs.declared.end.End.{End}
 use Rattle.mesh.specs.Agree.{Agrees}
 use Rattle.mesh.specs.Order.{placed_at, entries_at, epoch_order}
 use Rattle.script_lines.specs.Scripts.{ScriptView}
-use Rattle.script_actor.specs.Lines.{Action, AreActions, Line, ArePlayable, HasNodes, IsPlayable}
-use Rattle.script_actor.specs.Actor.{Actor, Rests, wants, settle, hand_action, actor_after, IsLed}
+use Rattle.script_actions.specs.Lines.{Action, AreActions, Line, ArePlayable, HasNodes, IsPlayable}
+use Rattle.script_actions.specs.Actor.{Actor, Rests, wants, settle, hand_action, actor_after, IsLed}
 use Rattle.script_plays.specs.Plays.{Play, IsPlay, Plays, play_steps, play_begins, history_of, mesh_of, ends_of}
 use Rattle.script_plays.specs.Safe.{IsSafeWithEnds, HoldNothing}
 use Rattle.script_plays.specs.Follows.{actor_with, FollowsLines, FollowsScript, Follows}

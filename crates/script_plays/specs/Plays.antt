@@ -19,8 +19,8 @@ pub use Rattle.caller_seats.specs.declared.delivery.Delivery.{Delivery}
 pub use Rattle.caller_seats.specs.declared.delivery.Delivery.TheVariants.{Delivered, ReplyLost, NotDelivered}
 unfoldable pub use Rattle.mesh.specs.Marks.{same_kind, is_marked}
 unfoldable pub use Rattle.caller_seats.specs.Deliveries.{delivery, told_of, is_done}
-use Rattle.script_actor.specs.Lines.{Line, Declares, Acts, Operates, lines_of, count_actors}
-use Rattle.script_actor.specs.Actor.{Actor, fresh_actor, hand_action, Want, WantsCall, WantsCopy, Says, Rests, wants, goes_on, last_of}
+use Rattle.script_actions.specs.Lines.{Line, Declares, Acts, Operates, lines_of, count_actors}
+use Rattle.script_actions.specs.Actor.{Actor, fresh_actor, hand_action, Want, WantsCall, WantsCopy, Says, Rests, wants, goes_on, last_of}
 
 pub record Play : Type 0 where
   -- with names or without

@@ -2,7 +2,7 @@
 use Rattle.std.specs.Prelude.{◌≡◌, ℕ, ◌+◌, List, [], ◌∷◌, length, reverse, Some, None, slice_get}
 use Rattle.ns_tree.specs.declared.end.End.{End}
 use Rattle.ns_tree.specs.declared.end.LastSpace.{LastSpace}
-use Rattle.ns_replay.specs.Replay.{IsReplay}
+use Rattle.ns_rules.specs.Replay.{IsReplay}
 use Rattle.node_history.specs.Entries.{Entry}
 use Rattle.run_safety.specs.Safe.{IsOnLine, IsSafe}
 

@@ -1,7 +1,7 @@
 -- Scripts can be played.
 use Rattle.script_lines.specs.Scripts.{ScriptView}
 use Rattle.script_text.specs.Grammar.{IsScript}
-use Rattle.script_actor.specs.Lines.{IsPlayable, NumbersFit}
+use Rattle.script_actions.specs.Lines.{IsPlayable, NumbersFit}
 
 abbrev pub ScriptsArePlayable : Type 0
 ScriptsArePlayable = (s : ScriptView) → IsScript s → IsPlayable s

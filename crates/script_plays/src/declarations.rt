@@ -1,11 +1,11 @@
 // How many actors a script declares.
 ghost use Rattle.std.specs.Prelude.{◌≡◌, ◌<◌, ◌^◌, ◌∷◌, [], map};
-ghost use Rattle.script_actor.specs.Lines.{line_of, count_actors};
+ghost use Rattle.script_actions.specs.Lines.{line_of, count_actors};
 
 use script_lines::ScriptLine;
 
 /// How many actors the line declares.
-#[tactic(auto, unfolding(script_actor::specs::Lines::count_actors))]
+#[tactic(auto, unfolding(script_actions::specs::Lines::count_actors))]
 fn declarations(line: &ScriptLine) -> u32
     ensures { result ≡ count_actors (line_of line.now ∷ []) }
 {

@@ -13,13 +13,13 @@ use Rattle.journal_core.specs.declared.heard.Heard.{Heard}
 use Rattle.journal_core.specs.declared.heard.Heard.TheVariants.{Answer, Silent}
 use Rattle.journal_core.specs.declared.reply.Reply.TheVariants as reply
 use Rattle.journal_core.specs.declared.peer_call.PeerCall.{PeerCall}
-use Rattle.ns_replay.specs.Replay.{Image, applied}
+use Rattle.ns_rules.specs.Replay.{Image, applied}
 use Rattle.ns_replay.proofs.Splits.{nothing_replayed}
 use Rattle.name_node.specs.Holding.{Holding, Work, Free, Tails, with_work}
 use Rattle.name_node.specs.Tails.{TailStep, GoesOn, Ends, pass_begun, pass_end, tail_hears, up_to, after_applied, no_edits}
 use Rattle.standby_tailer.specs.declared.step.Step.{Step}
 use Rattle.standby_tailer.specs.declared.step.Step.TheVariants as step
-use Rattle.standby_tailer.specs.declared.tailed.Tailed.{Tailed}
+use Rattle.name_node.specs.declared.tailed.Tailed.{Tailed}
 use Rattle.standby_tailer.specs.Standbys.{StandbyView, held}
 use Rattle.standby_tailer.specs.Reads.{LeadsTail}
 use Rattle.standby_tailer.specs.Tailing.{begin_asking, IsEnd, IsStep, StandsAt, edits_in, IsPart, StopsShort, TailEnds, gives_edits, is_going, IsLater, IsExact, IsGoing, Goes, tail_left}

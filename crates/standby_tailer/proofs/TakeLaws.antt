@@ -7,7 +7,7 @@ use Rattle.std.proofs.lemmas.List.{length-take-le}
 use Rattle.journal_core.specs.Limits.{max_number}
 use Rattle.journal_core.specs.Views.{BatchView, last_txid}
 use Rattle.ns_tree.specs.Space.{Space, AreRising}
-use Rattle.ns_replay.specs.Replay.{entered, goes_on, replay_from, Applied, All, BadEntry, applied}
+use Rattle.ns_rules.specs.Replay.{entered, goes_on, replay_from, Applied, All, BadEntry, applied}
 use Rattle.ns_replay.proofs.Retries.{entry_rising}
 use Rattle.ns_replay.proofs.Splits.{some_is, none≢some, HasGone, has_gone}
 use Rattle.name_node.specs.Holding.{Holding, Broken}

@@ -1,4 +1,3 @@
 pub mod Standbys
 pub mod Reads
 pub mod Tailing
-pub mod Disks

@@ -2,7 +2,7 @@
 use Rattle.std.specs.Prelude.{ℕ, ◌≤◌, List}
 use Rattle.journal_core.specs.Limits.{max_number}
 use Rattle.ns_tree.specs.Space.{Space, AreRising, empty_space}
-use Rattle.ns_replay.specs.Replay.{Image}
+use Rattle.ns_rules.specs.Replay.{Image}
 use Rattle.name_node.specs.Holding.{Holding, Free}
 
 pub record StandbyView : Type 0 where

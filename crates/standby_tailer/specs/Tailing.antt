@@ -6,13 +6,13 @@ use Rattle.journal_core.specs.declared.heard.Heard.{Heard}
 use Rattle.journal_core.specs.declared.heard.Heard.TheVariants.{Answer}
 use Rattle.journal_core.specs.declared.reply.Reply.TheVariants as reply
 use Rattle.journal_core.specs.declared.peer_call.PeerCall.{PeerCall}
-use Rattle.ns_replay.specs.Replay.{Image, replay_from}
+use Rattle.ns_rules.specs.Replay.{Image, replay_from}
 use Rattle.name_node.specs.Holding.{Holding, Tails, Broken, with_work}
 use Rattle.name_node.specs.Tails.{TailStep, GoesOn, Ends, Breaks, Caught, Reached, PurgedFrom, BehindBy, without_end, is_not_here}
 use Rattle.standby_tailer.specs.declared.step.Step.{Step}
 use Rattle.standby_tailer.specs.declared.step.Step.TheVariants as step
-use Rattle.standby_tailer.specs.declared.tailed.Tailed.{Tailed}
-use Rattle.standby_tailer.specs.declared.tailed.Tailed.TheVariants as tailed
+use Rattle.name_node.specs.declared.tailed.Tailed.{Tailed}
+use Rattle.name_node.specs.declared.tailed.Tailed.TheVariants as tailed
 use Rattle.standby_tailer.specs.Standbys.{StandbyView, held}
 use Rattle.standby_tailer.specs.Reads.{LeadsTail, next_read}
 

@@ -1,16 +1,10 @@
-//! A standby: it reads the shared edit log, replays it into a namespace, and saves checkpoints.
+//! A standby: it reads the shared edit log and replays it into a namespace.
 #![tactic(auto)]
 
-mod images;
-pub mod laws;
-mod opened;
 mod passes;
 mod standby;
 mod step;
-mod tailed;
 mod tailing;
 
-pub use opened::OpenedImage;
 pub use standby::Standby;
 pub use step::Step;
-pub use tailed::Tailed;

@@ -2,7 +2,7 @@
 ghost use Rattle.std.specs.Prelude.{◌≡◌, ◌≤◌, List, IfOk, OnOk, OnErr};
 ghost use Rattle.journal_core.specs.Limits.{max_number};
 ghost use Rattle.ns_tree.specs.Space.{AreRising};
-ghost use Rattle.ns_replay.specs.Replay.{Image};
+ghost use Rattle.ns_rules.specs.Replay.{Image};
 ghost use Rattle.name_node.specs.Holding.{enters};
 ghost use Rattle.standby_tailer.specs.Standbys.{StandbyView, empty_standby, held};
 
@@ -53,10 +53,11 @@ impl Standby {
         }
     }
 
-    /// The txid of the last edit that was applied, or 0.
+    /// The txid of the last edit that was applied, or 0; no call that the namespace remembers is above it.
     pub fn position(&self) -> u64
         ensures position { result ≡ self.now.position }
         ensures within { result ≤ max_number }
+        ensures calls { AreRising 0 result self.now.space.calls }
     {
         self.position
     }

@@ -2,7 +2,7 @@
 ghost use Rattle.std.specs.Prelude.{◌≡◌, true, false};
 ghost use Rattle.standby_tailer.specs.Tailing.{is_going};
 
-use crate::tailed::Tailed;
+use name_node::Tailed;
 
 /// Whether a tail goes on.
 #[derive(Drop)]

@@ -8,7 +8,7 @@ ghost use Rattle.journal_core.specs.declared.request.Request.TheVariants as requ
 ghost use Rattle.journal_core.specs.declared.heard.Heard.TheVariants as hearing;
 ghost use Rattle.journal_core.specs.declared.reply.Reply.TheVariants as replies;
 ghost use Rattle.journal_core.specs.declared.peer_call.PeerCall.{PeerCall};
-ghost use Rattle.ns_replay.specs.Replay.{Image, applied};
+ghost use Rattle.ns_rules.specs.Replay.{Image, applied};
 ghost use Rattle.name_node.specs.Holding.{Work, with_work};
 ghost use Rattle.name_node.specs.Tails.{TailStep, Ends, GoesOn, pass_begun, pass_end, tail_hears, is_until, up_to, after_applied, no_edits};
 ghost use Rattle.standby_tailer.specs.Standbys.{held};
@@ -18,9 +18,10 @@ ghost use Rattle.standby_tailer.specs.Tailing.{begin_asking, gives_edits, edits_
 use crate::passes::{is_caught, is_end, least_purged, read_causes};
 use crate::standby::Standby;
 use crate::step::Step;
-use crate::tailed::Tailed;
 use journal_core::{Batch, Heard, OutOfMemory, Peers, Reply, Request, SharedRequest};
-use ns_replay::{Replayed, replay};
+use name_node::Tailed;
+use ns_replay::replay;
+use ns_rules::Replayed;
 use std::alloc::{AllocError, Global};
 
 /// The edits that were given, or what was heard instead.

@@ -7,16 +7,16 @@ use Rattle.writer_core.specs.Writer.{new_writer, next_call}
 use Rattle.writer_core.proofs.LiveLaws.{new_live}
 use Rattle.run_safety.proofs.WriterRange.{new_sized}
 use Rattle.caller_seats.specs.Logs.{LogView, new_log}
-use Rattle.script_actor.specs.Lines.{Action, Line, Declares, Acts, Operates, actions_of, line_of}
-use Rattle.script_actor.specs.Actor.{Actor, wants, settle, hand_action, fresh_actor, holding_if, last_of}
+use Rattle.script_actions.specs.Lines.{Action, Line, Declares, Acts, Operates, actions_of, line_of}
+use Rattle.script_actions.specs.Actor.{Actor, wants, settle, hand_action, fresh_actor, holding_if, last_of}
 use Rattle.script_plays.specs.Follows.{actor_with, Follows}
-use Rattle.script_actor.specs.KeptActor.{KeptActor, resting}
-use Rattle.script_actor.specs.Actions.{ActorView, new_actor_view, has_names, kept_by, action_of, IsIdleHolding, LedTo, TakesAction}
-use Rattle.script_actor.proofs.KeptActor.{rests, idle_no_tail}
+use Rattle.script_actions.specs.KeptActor.{KeptActor, resting}
+use Rattle.script_actions.specs.Actions.{ActorView, new_actor_view, has_names, kept_by, action_of, IsIdleHolding, LedTo, TakesAction}
+use Rattle.script_actions.proofs.KeptActor.{rests, idle_no_tail}
 use Rattle.script_plays.proofs.Led.{settled_more, handed_led, handed_after}
 use Rattle.script_plays.proofs.Parts.{actions_append}
 use Rattle.script_plays.proofs.Sound.{led_past, settled_past}
-use Rattle.script_actor.proofs.LedLaws.{led_same, led_on}
+use Rattle.script_actions.proofs.LedLaws.{led_same, led_on}
 use Rattle.ns_tree.specs.declared.end.LastSpace.{LastSpace}
 use Rattle.thread_runner.specs.Threads.{is_by, TakesOwn, HasDone, FollowsActions}
 

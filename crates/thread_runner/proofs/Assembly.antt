@@ -20,7 +20,7 @@ use Rattle.caller_seats.specs.Logs.{LogView}
 use Rattle.gate_seats.specs.Seated.{Seat}
 use Rattle.gate_seats.specs.Gates.{row_at, IsLeft}
 use Rattle.gate_seats.proofs.GateLaws.{element}
-use Rattle.script_actor.specs.Lines.{Line, ArePlayable, count_actors, actions_of, operations_in}
+use Rattle.script_actions.specs.Lines.{Line, ArePlayable, count_actors, actions_of, operations_in}
 use Rattle.script_plays.specs.Follows.{AreOperations}
 use Rattle.script_plays.proofs.ChoresMade.{chores_made}
 use Rattle.thread_runner.specs.Threads.{DoesLines, HasOperated, FollowsActions}

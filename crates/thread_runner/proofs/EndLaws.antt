@@ -2,7 +2,7 @@
 use Rattle.std.proofs.Common.{◌≡◌, ℕ, ◌+◌, ◌<◌, List, [], ◌∷◌, ◌++◌, length, map, take, refl, sym, ap, ◌∙◌, append-nil, get_or, arith}
 use Rattle.std.specs.List.{zip}
 use Rattle.script_lines.specs.declared.script_line.ScriptLine.{ScriptLine}
-use Rattle.script_actor.specs.Lines.{names_in, line_of}
+use Rattle.script_actions.specs.Lines.{names_in, line_of}
 use Rattle.script_plays.proofs.Taking.{names_append}
 use Rattle.thread_runner.proofs.ActorLaws.{lines_next}
 

@@ -8,7 +8,7 @@ use Rattle.mesh.specs.Matches.{AreWithin}
 use Rattle.caller_seats.specs.Logs.{new_log}
 use Rattle.gate_seats.specs.Seated.{SeatsView, Seat, AreSeated, AreLater}
 use Rattle.ns_tree.specs.declared.end.LastSpace.{LastSpace}
-use Rattle.script_actor.specs.Lines.{Line}
+use Rattle.script_actions.specs.Lines.{Line}
 use Rattle.thread_runner.specs.Threads.{DoesLines}
 use Rattle.thread_runner.specs.Gathered.{CallerLeaves}
 

@@ -5,8 +5,8 @@ use Rattle.script_lines.specs.declared.script_line.ScriptLine.{ScriptLine}
 use Rattle.script_lines.specs.declared.script_line.ScriptLine.TheVariants as line
 use Rattle.edit_ops.specs.Records.{EditView}
 use Rattle.writer_core.specs.declared.task.Task.TheVariants as task
-use Rattle.script_actor.specs.Lines.{Does, Submits, line_of, ArePlayable, AreInRange, IsAction}
-use Rattle.script_actor.specs.Actions.{MayCome}
+use Rattle.script_actions.specs.Lines.{Does, Submits, line_of, ArePlayable, AreInRange, IsAction}
+use Rattle.script_actions.specs.Actions.{MayCome}
 use Rattle.script_plays.proofs.PlayableActions.{names_may}
 
 no_lines : (named : Bool) (n : ℕ) → All (MayCome named n) []

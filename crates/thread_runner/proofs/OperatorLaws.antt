@@ -5,7 +5,7 @@ use Rattle.node_history.specs.declared.record.Record.{Record}
 use Rattle.node_history.specs.declared.record.Record.TheVariants.{Operator}
 use Rattle.mesh.specs.Makers.{IsOperators}
 use Rattle.gate_seats.specs.LaterLaws.{later_same, later_on}
-use Rattle.script_actor.specs.Lines.{Line, Declares, Acts, Operates, operations_in, line_of}
+use Rattle.script_actions.specs.Lines.{Line, Declares, Acts, Operates, operations_in, line_of}
 use Rattle.script_plays.specs.Follows.{AreOperations}
 use Rattle.script_plays.proofs.Taking.{operations_append, operations_snoc, operators_snoc}
 use Rattle.thread_runner.specs.Threads.{OperatesOn, HasOperated}

@@ -18,8 +18,8 @@ use Rattle.caller_seats.specs.Logs.{new_log}
 use Rattle.gate_seats.specs.Seated.{Seat, AreSeated}
 use Rattle.gate_seats.specs.Gates.{fresh_seat, fresh_columns, row_at, AreOf, IsLeft}
 use Rattle.gate_seats.proofs.GateLaws.{element}
-use Rattle.script_actor.specs.Actions.{MayCome}
-use Rattle.script_actor.specs.Lines.{Line, count_actors, names_in}
+use Rattle.script_actions.specs.Actions.{MayCome}
+use Rattle.script_actions.specs.Lines.{Line, count_actors, names_in}
 use Rattle.mesh.proofs.Lists.{same_test}
 use Rattle.thread_runner.specs.Threads.{DoesLines, HasOperated}
 use Rattle.thread_runner.specs.Gathered.{MayAct, CallerLeaves, AreGathered, numbered_from, last_in}

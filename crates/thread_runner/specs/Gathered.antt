@@ -14,8 +14,8 @@ use Rattle.script_lines.specs.declared.script_line.ScriptLine.{ScriptLine}
 use Rattle.caller_seats.specs.Logs.{LogView, new_log}
 use Rattle.gate_seats.specs.Seated.{Seat, AreSeated}
 use Rattle.gate_seats.specs.Gates.{row_at, IsLeft}
-use Rattle.script_actor.specs.Actions.{MayCome}
-use Rattle.script_actor.specs.Lines.{Line, ArePlayable, count_actors, names_in}
+use Rattle.script_actions.specs.Actions.{MayCome}
+use Rattle.script_actions.specs.Lines.{Line, ArePlayable, count_actors, names_in}
 use Rattle.script_plays.specs.Follows.{FollowsLines}
 use Rattle.thread_runner.specs.Threads.{DoesLines}
 

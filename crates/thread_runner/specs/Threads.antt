@@ -7,10 +7,10 @@ use Rattle.ns_tree.specs.declared.end.End.{End}
 use Rattle.ns_tree.specs.declared.end.LastSpace.{LastSpace}
 use Rattle.mesh.specs.Makers.{IsOperation, IsOperators}
 use Rattle.caller_seats.specs.Logs.{LogView}
-use Rattle.script_actor.specs.Lines.{Action, Line, Declares, Acts, Operates, actions_of, operations_in}
+use Rattle.script_actions.specs.Lines.{Action, Line, Declares, Acts, Operates, actions_of, operations_in}
 use Rattle.script_plays.specs.Follows.{actor_with, Follows, AreOperations}
-use Rattle.script_actor.specs.KeptActor.{KeptActor, resting}
-use Rattle.script_actor.specs.Actions.{LedTo, IsIdleActor, TakesIf}
+use Rattle.script_actions.specs.KeptActor.{KeptActor, resting}
+use Rattle.script_actions.specs.Actions.{LedTo, IsIdleActor, TakesIf}
 
 -- ## An actor
 -- the line is this actor's

@@ -2,14 +2,14 @@
 ghost use Rattle.std.specs.List.{All};
 ghost use Rattle.std.specs.Prelude.{◌≡◌, ◌≤◌, map, true, OnOk, IfOk};
 ghost use Rattle.caller_seats.specs.Logs.{new_log};
-ghost use Rattle.script_actor.specs.Lines.{actions_of, line_of};
-ghost use Rattle.script_actor.specs.Actions.{kept_by, new_actor_view, has_names, action_of, IsIdleActor, MayCome};
+ghost use Rattle.script_actions.specs.Lines.{actions_of, line_of};
+ghost use Rattle.script_actions.specs.Actions.{kept_by, new_actor_view, has_names, action_of, IsIdleActor, MayCome};
 ghost use Rattle.thread_runner.specs.Threads.{is_by, TakesOwn, HasDone, FollowsActions};
 
 use caller_seats::Seats;
 use journal_core::OutOfMemory;
 use ns_tree::LastSpace;
-use script_actor::ScriptActor;
+use script_actions::Actor;
 use script_lines::ScriptLine;
 use std::alloc::Global;
 
@@ -39,17 +39,17 @@ fn is_by(line: &ScriptLine, actor: u32) -> bool
 }
 
 /// A line, if it is this actor's.
-fn take_own<S: Seats>(
+fn take_own<A: Actor, S: Seats>(
     alloc: Global,
-    by: &mut ScriptActor,
+    by: &mut A,
     seats: &mut S,
     actor: u32,
     line: &ScriptLine,
 ) -> Result<(), OutOfMemory>
-    requires idle { IsIdleActor (S.log seats.old).nodes (kept_by by.old (S.log seats.old)) }
-    requires may { MayCome (has_names by.old) (S.log seats.old).nodes line.now }
-    ensures takes { OnOk result (TakesOwn (is_by actor (action_of (line_of line.now))) (S.log seats.old).nodes (action_of (line_of line.now)) (kept_by by.old (S.log seats.old)) (kept_by by.new (S.log seats.new))) }
-    ensures named { OnOk result (has_names by.new ≡ has_names by.old) }
+    requires idle { IsIdleActor (S.log seats.old).nodes (kept_by (A.seen by.old) (S.log seats.old)) }
+    requires may { MayCome (has_names (A.seen by.old)) (S.log seats.old).nodes line.now }
+    ensures takes { OnOk result (TakesOwn (is_by actor (action_of (line_of line.now))) (S.log seats.old).nodes (action_of (line_of line.now)) (kept_by (A.seen by.old) (S.log seats.old)) (kept_by (A.seen by.new) (S.log seats.new))) }
+    ensures named { OnOk result (has_names (A.seen by.new) ≡ has_names (A.seen by.old)) }
     ensures later { OnOk result (S.later seats.old seats.new) }
 {
     if is_by(line, actor) {
@@ -60,18 +60,18 @@ fn take_own<S: Seats>(
 }
 
 /// All lines of this actor, in order, each with all its calls, from its beginning.
-fn act<S: Seats>(
+fn act<A: Actor, S: Seats>(
     alloc: Global,
     lines: &[ScriptLine],
     actor: u32,
-    by: &mut ScriptActor,
+    by: &mut A,
     seats: &mut S,
 ) -> Result<(), OutOfMemory>
     requires some { 1 ≤ (S.log seats.old).nodes }
-    requires new { by.old ≡ new_actor_view (has_names by.old) (S.log seats.old).nodes }
+    requires new { A.seen by.old ≡ new_actor_view (has_names (A.seen by.old)) (S.log seats.old).nodes }
     requires log { S.log seats.old ≡ new_log (S.log seats.old).nodes true }
-    requires may { All (MayCome (has_names by.old) (S.log seats.old).nodes) lines.now }
-    ensures done { OnOk result (HasDone (has_names by.old) (S.log seats.old).nodes (actions_of actor (map line_of lines.now)) (kept_by by.new (S.log seats.new))) }
+    requires may { All (MayCome (has_names (A.seen by.old)) (S.log seats.old).nodes) lines.now }
+    ensures done { OnOk result (HasDone (has_names (A.seen by.old)) (S.log seats.old).nodes (actions_of actor (map line_of lines.now)) (kept_by (A.seen by.new) (S.log seats.new))) }
     ensures later { OnOk result (S.later seats.old seats.new) }
 {
     for line in lines {
@@ -82,7 +82,7 @@ fn act<S: Seats>(
 
 /// All lines of this actor at these seats, in a script with names or without: what it lists is what such an actor does, by the answers
 /// that it heard. What it holds at last, if it has a namespace.
-pub fn act_alone<S: Seats>(
+pub fn act_alone<A: Actor, S: Seats>(
     alloc: Global,
     named: bool,
     lines: &[ScriptLine],
@@ -95,7 +95,7 @@ pub fn act_alone<S: Seats>(
     ensures follows { IfOk result (λ last. FollowsActions named (S.log seats.old).nodes (actions_of actor (map line_of lines.now)) (S.log seats.new).past (S.log seats.new).marks last) }
     ensures later { OnOk result (S.later seats.old seats.new) }
 {
-    let mut by = ScriptActor::new(alloc, named, seats.nodes())?;
+    let mut by = A::new(alloc, named, seats.nodes())?;
     act(alloc, lines, actor, &mut by, seats)?;
     by.into_last(alloc)
 }

@@ -3,12 +3,12 @@ ghost use Rattle.std.specs.List.{All};
 ghost use Rattle.std.specs.Prelude.{◌≡◌, ◌≤◌, ◌==◌, map, length, true, IfOk, OnOk};
 ghost use Rattle.caller_seats.specs.Logs.{new_log};
 ghost use Rattle.gate_seats.specs.Seated.{seat_of, AreSeated, AreLater};
-ghost use Rattle.script_actor.specs.Lines.{line_of};
-ghost use Rattle.script_actor.specs.Actions.{MayCome};
+ghost use Rattle.script_actions.specs.Lines.{line_of};
+ghost use Rattle.script_actions.specs.Actions.{MayCome};
 ghost use Rattle.thread_runner.specs.Threads.{DoesLines};
 ghost use Rattle.thread_runner.specs.Gathered.{CallerLeaves};
 
-use crate::actor_lines::act_alone;
+use crate::actors::Actors;
 use crate::operator_lines::operate_alone;
 use gate_seats::{GateSeats, NodeGate, Pass};
 use journal_core::OutOfMemory;
@@ -30,7 +30,7 @@ fn is_operator(caller: u32, operator: u32) -> bool
 }
 
 /// The lines of one caller: the operator's, or an actor's.
-fn do_lines<R: Wait, C: NodeGate, G: Pass>(
+fn do_lines<K: Actors, R: Wait, C: NodeGate, G: Pass>(
     alloc: Global,
     named: bool,
     lines: &[ScriptLine],
@@ -48,13 +48,13 @@ fn do_lines<R: Wait, C: NodeGate, G: Pass>(
         operate_alone(alloc, named, lines, seats)?;
         Ok(None)
     } else {
-        act_alone(alloc, named, lines, caller, seats)
+        K::act(alloc, named, lines, caller, seats)
     }
 }
 
 /// The lines of one caller at these seats, which are its own and before their first call. `OutOfMemory` where memory was lacking, here
 /// or at a node.
-pub(crate) fn take_lines<R: Wait, C: NodeGate, G: Pass>(
+pub(crate) fn take_lines<K: Actors, R: Wait, C: NodeGate, G: Pass>(
     rt: &R,
     alloc: Global,
     named: bool,
@@ -71,7 +71,7 @@ pub(crate) fn take_lines<R: Wait, C: NodeGate, G: Pass>(
     ensures { IfOk result (λ left. CallerLeaves named (length seats.items) operator caller (map line_of lines.now) (map (λ g. g.table.shared.table_id) gates.now) (map (λ t. seat_of t.seat.table_id t.caller t.seat.me.0.seen) left.0.items) left.1 left.2 left.3) }
 {
     let mut seats = GateSeats::new(alloc, rt, gates, seats, caller, pass)?;
-    let last = do_lines(alloc, named, lines, operator, caller, &mut seats)?;
+    let last = do_lines::<K, _, _, _>(alloc, named, lines, operator, caller, &mut seats)?;
     if !seats.is_whole() {
         return Err(AllocError);
     }

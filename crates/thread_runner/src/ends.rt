@@ -1,6 +1,6 @@
 // The ends of the actors that a script declares.
 ghost use Rattle.std.specs.Prelude.{◌≡◌, ◌++◌, ◌∷◌, [], map, length, OnOk, IfOk};
-ghost use Rattle.script_actor.specs.Lines.{line_of, names_in};
+ghost use Rattle.script_actions.specs.Lines.{line_of, names_in};
 
 use journal_core::OutOfMemory;
 use ns_tree::{End, EndList, LastSpace};
@@ -9,7 +9,7 @@ use script_lines::ScriptLine;
 use std::alloc::Global;
 
 /// One more name, if the line declares an actor.
-#[tactic(auto, using(crate::proofs::EndLaws::ends), unfolding(script_actor::specs::Lines::names_in))]
+#[tactic(auto, using(crate::proofs::EndLaws::ends), unfolding(script_actions::specs::Lines::names_in))]
 fn note_name(alloc: Global, names: &mut Vec<Name>, line: &ScriptLine) -> Result<(), OutOfMemory>
     ensures { OnOk result (names.new.items ≡ names.old.items ++ names_in (line_of line.now ∷ [])) }
 {

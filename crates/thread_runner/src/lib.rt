@@ -3,6 +3,7 @@
 #![tactic(auto)]
 
 mod actor_lines;
+mod actors;
 mod caller_lines;
 mod ends;
 mod operator_lines;
@@ -10,4 +11,5 @@ mod run;
 mod threads;
 
 pub use actor_lines::act_alone;
+pub use actors::Actors;
 pub use run::{gathered_lists_agree, run_on};

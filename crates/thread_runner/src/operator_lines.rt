@@ -3,8 +3,8 @@ ghost use Rattle.std.specs.List.{All};
 ghost use Rattle.std.specs.Prelude.{◌≡◌, map, true, OnOk};
 ghost use Rattle.caller_seats.specs.Logs.{new_log};
 ghost use Rattle.gate_seats.specs.Seated.{AreLater};
-ghost use Rattle.script_actor.specs.Lines.{line_of};
-ghost use Rattle.script_actor.specs.Actions.{MayCome};
+ghost use Rattle.script_actions.specs.Lines.{line_of};
+ghost use Rattle.script_actions.specs.Actions.{MayCome};
 ghost use Rattle.thread_runner.specs.Threads.{OperatesOn, HasOperated};
 
 use gate_seats::{GateSeats, NodeGate, Pass};

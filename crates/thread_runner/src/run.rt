@@ -3,9 +3,10 @@ ghost use Rattle.std.specs.List.{All};
 ghost use Rattle.std.specs.Prelude.{◌≡◌, ◌<◌, ◌+◌, ◌-◌, ◌^◌, Some, map, take, length, IfOk};
 ghost use Rattle.journal_core.specs.Step.{fresh_state};
 ghost use Rattle.script_plays.specs.Plays.{states_after};
-ghost use Rattle.script_actor.specs.Lines.{lines_of, IsPlayable, NumbersFit};
+ghost use Rattle.script_actions.specs.Lines.{lines_of, IsPlayable, NumbersFit};
 ghost use Rattle.thread_runner.specs.Gathered.{GatheredListsAgree, IsRunOf};
 
+use crate::actors::Actors;
 use crate::ends::ends_in;
 use crate::threads::{jobs_of, side_by_side, take_all};
 use gate_seats::{Pass, close_gates, open_gates};
@@ -54,11 +55,11 @@ fn plan_of(alloc: Global, plans: Vec<ActorPlan>) -> Result<Plan, OutOfMemory>
     Ok(plan)
 }
 
-/// Plays a script by a thread for each actor and one for the operator, over these nodes behind gates: as many as the script says,
+/// Plays a script by these actors, a thread for each and one for the operator, over these nodes behind gates: as many as the script says,
 /// each fresh, steady and telling its state. Each caller's lines come in order, each with all its calls; how the callers' calls
 /// fall among one another is the schedule's. `pass` is called before each call. All threads are joined, whatever happens; the nodes are
 /// handed back as their histories leave them. `OutOfMemory` where memory was lacking anywhere: every other thread then ends as its own lines do.
-pub fn run_on<R: Threads + Wait + Sync, N: CutNode + Drop + Send, G: Pass + Sync>(
+pub fn run_on<K: Actors + Send, R: Threads + Wait + Sync, N: CutNode + Drop + Send, G: Pass + Sync>(
     rt: &R,
     alloc: Global,
     nodes: Vec<N>,
@@ -80,7 +81,7 @@ pub fn run_on<R: Threads + Wait + Sync, N: CutNode + Drop + Send, G: Pass + Sync
     let callers = callers_of(operator)?;
     let (gates, keepers, columns) = open_gates(alloc, nodes, callers)?;
     let jobs = jobs_of(alloc, columns)?;
-    let lefts = take_all(
+    let lefts = take_all::<K, _, _, _>(
         rt,
         alloc,
         script.names(),

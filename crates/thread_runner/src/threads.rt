@@ -4,9 +4,10 @@ ghost use Rattle.node_history.specs.declared.record.Record.{Record};
 ghost use Rattle.node_history.specs.declared.mark.Mark.{Mark};
 ghost use Rattle.ns_tree.specs.declared.end.LastSpace.{LastSpace};
 ghost use Rattle.gate_seats.specs.Seated.{seat_of};
-ghost use Rattle.script_actor.specs.Lines.{line_of};
+ghost use Rattle.script_actions.specs.Lines.{line_of};
 ghost use Rattle.thread_runner.specs.Gathered.{MayAct, CallerLeaves, numbered_from};
 
+use crate::actors::Actors;
 use crate::caller_lines::{Left, take_lines};
 use gate_seats::{GatedNode, Pass};
 use journal_core::{CutNode, OutOfMemory};
@@ -40,7 +41,12 @@ pub(crate) fn jobs_of<N: CutNode + Drop>(
 }
 
 /// All callers' lines, by a thread for each caller. All threads are joined.
-pub(crate) fn take_all<R: Threads + Wait + Sync, N: CutNode + Drop + Send, G: Pass + Sync>(
+pub(crate) fn take_all<
+    K: Actors + Send,
+    R: Threads + Wait + Sync,
+    N: CutNode + Drop + Send,
+    G: Pass + Sync,
+>(
     rt: &R,
     alloc: Global,
     named: bool,
@@ -60,7 +66,7 @@ pub(crate) fn take_all<R: Threads + Wait + Sync, N: CutNode + Drop + Send, G: Pa
         &|job: Job<N>| -> Result<Left<GatedNode<N>>, OutOfMemory>
             requires { MayAct named lines.now (map (λ g. g.table.shared.table_id) gates.now) job.0 (map (λ t. seat_of t.seat.table_id t.caller t.seat.me.0.seen) job.1.items) }
             ensures { IfOk result (λ left. CallerLeaves named (length gates.entry.now) operator job.0 (map line_of lines.entry.now) (map (λ g. g.table.shared.table_id) gates.entry.now) (map (λ t. seat_of t.seat.table_id t.caller t.seat.me.0.seen) left.0.items) left.1 left.2 left.3) }
-        { take_lines(rt, alloc, named, lines, gates, pass, operator, job.0, job.1) },
+        { take_lines::<K, _, _, _>(rt, alloc, named, lines, gates, pass, operator, job.0, job.1) },
     )
 }
 

@@ -1,7 +1,7 @@
 // The epoch order of a run, taken by fresh nodes.
 use journal_core::{Node, NodeState, Segment};
 use memory_node::PlainNode;
-use node_history::{Event, Fate};
+use run_safety::{Event, Fate};
 use std::alloc::Global;
 
 /// The node of an event, from 1; 0 where it has none.

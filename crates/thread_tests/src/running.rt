@@ -1,21 +1,25 @@
 // Scripts run by threads, over plain nodes.
 ghost use Rattle.script_text.specs.Grammar.{IsScript};
 
+use caller_seats::Seats;
 use cluster_runner::{plain_nodes, play};
 use gate_seats::Pass;
+use journal_core::OutOfMemory;
 use memory_node::PlainNode;
 use mesh_agreement::agrees;
 use mesh_judge::order_events;
-use node_history::Event;
+use ns_tree::LastSpace;
 use report_text::{Report, report_of};
-use script_lines::Script;
+use run_safety::Event;
+use script_actor::ScriptActor;
+use script_lines::{Script, ScriptLine};
 use script_plays::{Played, scripts_are_playable};
 use script_text::{ReadScript, read_script};
 use std::alloc::Global;
 use std::sync::Wait;
 use std::test::Fail;
 use std::thread::Threads;
-use thread_runner::run_on;
+use thread_runner::{Actors, act_alone, run_on};
 
 /// What a run leaves, the epoch order of its mesh, and whether its lists agree.
 #[derive(Drop)]
@@ -23,6 +27,21 @@ pub(crate) struct Ran {
     pub(crate) played: Played<PlainNode>,
     pub(crate) events: Vec<Event>,
     pub(crate) agrees: bool,
+}
+
+/// The actors of the runs.
+struct TestedActors;
+
+impl Actors for TestedActors {
+    fn act<S: Seats>(
+        alloc: Global,
+        named: bool,
+        lines: &[ScriptLine],
+        actor: u32,
+        seats: &mut S,
+    ) -> Result<Option<LastSpace>, OutOfMemory> {
+        act_alone::<ScriptActor, S>(alloc, named, lines, actor, seats)
+    }
 }
 
 fn run_script<R: Threads + Wait + Sync, G: Pass + Sync>(
@@ -35,7 +54,7 @@ fn run_script<R: Threads + Wait + Sync, G: Pass + Sync>(
 {
     scripts_are_playable();
     let nodes = plain_nodes(alloc, script.nodes())?;
-    let played = run_on(rt, alloc, nodes, script, pass)?;
+    let played = run_on::<TestedActors, _, _, _>(rt, alloc, nodes, script, pass)?;
     let events = order_events(alloc, &played.mesh)?;
     let agrees = agrees(alloc, &played.mesh)?;
     Ok(Ran {
@@ -62,7 +81,7 @@ fn play_script(alloc: Global, script: &Script) -> Result<Played<PlainNode>, Fail
     requires { IsScript script.now }
 {
     scripts_are_playable();
-    Ok(play(alloc, script)?)
+    Ok(play::<ScriptActor>(alloc, script)?)
 }
 
 /// A play of the script with this text.

@@ -4,8 +4,9 @@ ghost use Rattle.writer_core.specs.Writer.{HasBody};
 
 use journal_core::{BodyList, Bytes, Refusal, Reply, Request, SharedRequest};
 use memory_node::PlainNode;
-use node_history::{Event, Fate, NodeAnswer, NodeAsk, Stop};
+use node_history::{NodeAnswer, NodeAsk, Stop};
 use node_world::{Seen, World};
+use run_safety::{Event, Fate};
 use std::alloc::Global;
 use std::process::Abort;
 use std::test::Fail;

@@ -1,4 +1,4 @@
-use Rattle.standby_tailer.specs.declared.tailed.Tailed.TheVariants as tailed
+use Rattle.name_node.specs.declared.tailed.Tailed.TheVariants as tailed
 use Rattle.active_name.proofs.EntryLaws.{tail_entered}
 use Rattle.active_name.proofs.taking.tail_in.Goals as goal
 

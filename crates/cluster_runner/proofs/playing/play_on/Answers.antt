@@ -2,7 +2,7 @@ use Rattle.std.proofs.Common.{◌≡◌, ◌∙◌, ap, sym, subst, arith, lengt
 use Rattle.mesh.specs.declared.whole.Mesh.{Mesh}
 use Rattle.ns_tree.specs.declared.end.End.{End}
 use Rattle.script_lines.specs.declared.script_line.ScriptLine.{ScriptLine}
-use Rattle.script_actor.specs.Lines.{line_of, lines_of, count_actors}
+use Rattle.script_actions.specs.Lines.{line_of, lines_of, count_actors}
 use Rattle.cluster_runner.specs.Goal.{MayTake, IsUnderWay}
 use Rattle.script_plays.specs.Plays.{IsPlayed, states_after}
 use Rattle.cluster_runner.specs.Kept.{mesh_kept}

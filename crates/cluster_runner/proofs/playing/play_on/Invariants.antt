@@ -1,5 +1,5 @@
 use Rattle.std.proofs.Common.{drop}
-use Rattle.script_actor.specs.Lines.{lines_of}
+use Rattle.script_actions.specs.Lines.{lines_of}
 use Rattle.cluster_runner.specs.Goal.{IsUnderWay}
 use Rattle.cluster_runner.proofs.playing.play_on.Given as goal
 

@@ -3,7 +3,7 @@ use Rattle.std.proofs.lemmas.Bool.{eqb-true}
 use Rattle.std.proofs.lemmas.Result.{err_from_is_err_and}
 use Rattle.edit_ops.specs.Records.{kind_of, fields_of}
 use Rattle.edit_fields.specs.Sources.{Fails}
-use Rattle.edit_ops.specs.OpRead.{op_read}
+use Rattle.edit_reading.specs.OpRead.{op_read}
 use Rattle.edit_texts.specs.Saying.{words_group}
 use Rattle.edit_texts.proofs.SayEdits.{no_verb, line_misses, no_more, is_line}
 use Rattle.edit_texts.proofs.SayWords.{split_whole}

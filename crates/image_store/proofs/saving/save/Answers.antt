@@ -1,10 +1,10 @@
 use Rattle.std.proofs.Common.{ap, ◌∙◌}
 use Rattle.md5.specs.Md5.{md5}
 use Rattle.image_codec.specs.Reading.{reading_of}
-use Rattle.image_store.specs.Digests.{digest_line}
-use Rattle.image_store.specs.Saves.{Prepares, Saves}
+use Rattle.image_files.specs.Digests.{digest_line}
+use Rattle.image_files.specs.Saves.{Prepares, Saves}
 use Rattle.image_store.specs.Loads.{SavesImage}
-use Rattle.image_store.proofs.Runs.{effect_by}
+use Rattle.image_files.proofs.Runs.{effect_by}
 use Rattle.image_store.proofs.AnswerLaws.{saves_image, loads_after}
 use Rattle.image_store.proofs.saving.save.Goals as goal
 

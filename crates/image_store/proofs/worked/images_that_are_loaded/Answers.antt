@@ -1,8 +1,8 @@
 use Rattle.std.proofs.Common.{refl, inr, arith}
 use Rattle.std.specs.Prelude.{codes}
 use Rattle.qj_num.specs.Padded.{padded}
-use Rattle.image_store.specs.Names.{name_of}
-use Rattle.image_store.proofs.DigestLaws.{too_short}
+use Rattle.image_files.specs.Names.{name_of}
+use Rattle.image_files.proofs.DigestLaws.{too_short}
 use Rattle.image_store.proofs.worked.images_that_are_loaded.Goals as goal
 
 pub returns-clause-bad_digest : goal.returns-clause-bad_digest

@@ -1,6 +1,6 @@
 use Rattle.std.proofs.Common.{◌≡◌, IfOk, List, rules, subst}
 use Rattle.std.proofs.lemmas.List.Sorted.{answers_always}
-use Rattle.node_history.specs.declared.event.Event.{Event}
+use Rattle.run_safety.specs.declared.event.Event.{Event}
 use Rattle.mesh_judge.proofs.EpochOrder.{pair_of, order_is}
 use Rattle.mesh_judge.proofs.ordering.order_events.Goals as goal
 

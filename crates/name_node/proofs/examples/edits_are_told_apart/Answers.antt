@@ -1,7 +1,7 @@
 use Rattle.std.proofs.Common.{refl}
 use Rattle.writer_core.specs.Writer.{log_limit}
-use Rattle.ns_replay.specs.Admit.{admit_op, admit_of}
-use Rattle.ns_replay.specs.Apply.{apply_op, apply_of}
+use Rattle.ns_rules.specs.Admit.{admit_op, admit_of}
+use Rattle.ns_rules.specs.Apply.{apply_op, apply_of}
 use Rattle.name_node.specs.Submissions.{submit_edits}
 use Rattle.name_node.specs.Examples.{three_edits}
 use Rattle.name_node.proofs.examples.edits_are_told_apart.Goals as goal

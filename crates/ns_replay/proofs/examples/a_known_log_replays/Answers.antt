@@ -1,10 +1,10 @@
 use Rattle.std.proofs.Common.{refl}
 use Rattle.edit_fields.specs.Reading.{field_at}
-use Rattle.ns_replay.specs.Decoded.{op_from, edit_from, opcode_of, decoded}
-use Rattle.ns_replay.specs.Admit.{admit_op, admit_of}
-use Rattle.ns_replay.specs.Apply.{apply_op, apply_of}
-use Rattle.ns_replay.specs.Replay.{entered, replay_from, replay}
-use Rattle.ns_replay.specs.Examples.{known_edits, known_rows}
+use Rattle.ns_rules.specs.Decoded.{op_from, edit_from, opcode_of, decoded}
+use Rattle.ns_rules.specs.Admit.{admit_op, admit_of}
+use Rattle.ns_rules.specs.Apply.{apply_op, apply_of}
+use Rattle.ns_rules.specs.Replay.{entered, replay_from, replay}
+use Rattle.ns_rules.specs.Examples.{known_edits, known_rows}
 use Rattle.ns_replay.proofs.examples.a_known_log_replays.Goals as goal
 
 pub returns : goal.returns

@@ -1,5 +1,5 @@
 use Rattle.std.proofs.Common.{arith}
-use Rattle.edit_ops.specs.declared.decoded.Decoded.TheVariants as answers
+use Rattle.edit_records.specs.declared.decoded.Decoded.TheVariants as answers
 use Rattle.ns_replay.proofs.Decodes.{edit_decodes, fault_decodes}
 use Rattle.ns_replay.proofs.replaying.edit_of.Goals as goal
 

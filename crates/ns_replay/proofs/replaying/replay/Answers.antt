@@ -2,7 +2,7 @@ use Rattle.std.proofs.Common.{◌≡◌, ℕ, ◌+◌, ◌-◌, ◌∙◌, List,
 use Rattle.std.proofs.Math.Seq.{take-length}
 use Rattle.ns_tree.specs.Space.{AreRising}
 use Rattle.journal_core.specs.Views.{last_txid}
-use Rattle.ns_replay.specs.Replay.{entered, replay_from, applied, All, BadEntry}
+use Rattle.ns_rules.specs.Replay.{entered, replay_from, applied, All, BadEntry}
 use Rattle.ns_replay.proofs.Retries.{entry_rising}
 use Rattle.ns_replay.proofs.Splits.{nothing_replayed, replay_next, bad_next, all_applied}
 use Rattle.ns_replay.proofs.replaying.replay.Goals as goal

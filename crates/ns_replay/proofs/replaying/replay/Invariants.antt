@@ -1,6 +1,6 @@
 use Rattle.std.proofs.Common.{◌≡◌, ◌+◌, ◌-◌, take, Some}
 use Rattle.ns_tree.specs.Space.{AreRising}
-use Rattle.ns_replay.specs.Replay.{replay_from}
+use Rattle.ns_rules.specs.Replay.{replay_from}
 use Rattle.ns_replay.proofs.replaying.replay.Given as goal
 
 abbrev pub invariant-loop-i : goal.invariant-loop-i

@@ -16,10 +16,10 @@ use Rattle.mesh.specs.Makers.{maker_of, maker_hears}
 use Rattle.mesh.specs.Matches.{reaches, reached, lines_of}
 use Rattle.mesh.specs.Owners.{wins, owns}
 use Rattle.mesh.specs.Order.{placed_from, place_of, key_of, is_below, tags_of, blocks_cut, blocks_from, put_block, sorted, entries_in, epoch_order}
-use Rattle.script_actor.specs.Lines.{count_actors, names_in, actions_of, operations_in}
+use Rattle.script_actions.specs.Lines.{count_actors, names_in, actions_of, operations_in}
 use Rattle.request_text.specs.Texts.{refusal_cause_text, refusal_name}
 use Rattle.result_lines.specs.Results.{cause_word, cause_words, name_of, for_each, acked_from, acknowledged_results, outcome_results, results_of, inactive_results, too_long_results, late_none}
-use Rattle.script_actor.specs.Actor.{fresh_actor, call_wanted, copy_first, read_first, say_first, wants, is_wanting, is_broken, task_begun, make_copy, take_action, settle, hand_action, turn_taken, turn_with, moved_on, heard_by, settle_again, goes_on, actor_after}
+use Rattle.script_actions.specs.Actor.{fresh_actor, call_wanted, copy_first, read_first, say_first, wants, is_wanting, is_broken, task_begun, make_copy, take_action, settle, hand_action, turn_taken, turn_with, moved_on, heard_by, settle_again, goes_on, actor_after}
 use Rattle.script_plays.specs.Plays.{play_begins, actor_at, node_asked, note_record, same_kind, is_marked, delivery, told_of, call_made, copy_made, meet_want, is_done, line_taken, next_line, take_turn, play_step, play_steps, no_lines, has_ended, history_of, histories_from, mesh_of, ends_of, ends_from}
 use Rattle.script_plays.specs.Told.{told_in, results_in}
 use Rattle.play_examples.specs.Examples.{played, results_at, listed, dropped_call, killed_nodes, competing_takeovers, fenced_writer, fencing_lines, before_recovery, recovered_edit, recovering_lines, lost_fetch, second_fetch_lines, late_copies, late_lines, rolled_and_purged, purging_lines, stopped_in_prepare, stopping_lines, cut_in_accept, cut_lines}

@@ -1,6 +1,6 @@
 use Rattle.std.proofs.Common.{refl, subst}
-use Rattle.qj_cli.specs.Commands.{asked_in, IsAllowed}
-use Rattle.qj_cli.specs.declared.command.Command.TheVariants as command
+use Rattle.command_words.specs.Commands.{asked_in, IsAllowed}
+use Rattle.command_words.specs.declared.command.Command.TheVariants as command
 use Rattle.exit_lines.specs.Uses.{read_from, written_to, done_to}
 use Rattle.qj_cli.proofs.CompleteLaws.{does_as}
 use Rattle.qj_cli.proofs.top.do_command.Goals as goal

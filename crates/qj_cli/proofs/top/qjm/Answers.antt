@@ -1,12 +1,12 @@
 use Rattle.std.proofs.Common.{subst, sym}
 use Rattle.script_text.proofs.ScriptLaws.{breaks_no_rule}
-use Rattle.qj_cli.specs.Commands.{run}
+use Rattle.command_words.specs.Commands.{run}
 use Rattle.qj_cli.specs.Sound.{AreSound}
 use Rattle.qj_cli.specs.Plays.{Plays}
-use Rattle.qj_cli.specs.Usage.{bytes_of}
+use Rattle.command_words.specs.Usage.{bytes_of}
 use Rattle.exit_lines.specs.Uses.{read_from, written_to, done_to}
 use Rattle.qj_cli.specs.Does.{ReadsNone}
-use Rattle.qj_cli.proofs.WordLaws.{one_command, right_words}
+use Rattle.command_words.proofs.WordLaws.{one_command, right_words}
 use Rattle.qj_cli.proofs.CompleteLaws.{completes, does_for}
 use Rattle.qj_cli.proofs.top.qjm.Goals as goal
 

@@ -1,11 +1,11 @@
 use Rattle.std.proofs.Common.{refl, sym, subst, ◌∙◌}
 use Rattle.std.proofs.lemmas.Result.{IfOk-weaker, IfErr-weaker}
 use Rattle.script_text.proofs.ScriptLaws.{breaks_no_rule}
-use Rattle.qj_cli.specs.Commands.{asked_in, run, AskFor}
-use Rattle.qj_cli.specs.Usage.{bytes_of}
+use Rattle.command_words.specs.Commands.{asked_in, run, AskFor}
+use Rattle.command_words.specs.Usage.{bytes_of}
 use Rattle.exit_lines.specs.Uses.{read_from, written_to, done_to}
 use Rattle.qj_cli.specs.Does.{ReadsNone, NeedsThreads}
-use Rattle.qj_cli.proofs.WordLaws.{one_command, right_words}
+use Rattle.command_words.proofs.WordLaws.{one_command, right_words}
 use Rattle.qj_cli.proofs.CompleteLaws.{completes, does_for, refused, needs_run, no_exit}
 use Rattle.qj_cli.proofs.top.qjm_alone.Goals as goal
 

@@ -4,7 +4,7 @@ use Rattle.result_lines.specs.Results.{name_of}
 use Rattle.script_actor.specs.Named.{task_of, takeover_of}
 use Rattle.std.specs.Prelude.{Some, None}
 use Rattle.std.proofs.lemmas.Result.{IfOk-weaker}
-use Rattle.script_actor.specs.Actions.{kept_of}
+use Rattle.script_actions.specs.Actions.{kept_of}
 use Rattle.script_actor.proofs.NamedLaws.{round_rests, round_stands, may_move, rests_from, taken_shown}
 use Rattle.script_actor.proofs.named_tasks.end_task.Goals as goal
 

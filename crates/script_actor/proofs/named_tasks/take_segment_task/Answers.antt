@@ -3,11 +3,11 @@ use Rattle.std.proofs.Common.{◌≡◌, ℕ, Some, None, option_map, sym, ap, �
 use Rattle.writer_core.specs.Writer.{writer_begun}
 use Rattle.writer_core.specs.Views.{WriterView}
 use Rattle.script_actor.specs.Named.{task_of, Stands}
-use Rattle.script_actor.specs.Ready.{IsReady}
-use Rattle.script_actor.specs.Went.{refused_results}
-use Rattle.script_actor.specs.Actions.{kept_of}
-use Rattle.script_actor.proofs.WriterTurn.{none_refused, refused_writer}
-use Rattle.script_actor.proofs.Stretches.{begun_ready, going_under, takes_refused}
+use Rattle.script_actions.specs.Ready.{IsReady}
+use Rattle.script_actions.specs.Went.{refused_results}
+use Rattle.script_actions.specs.Actions.{kept_of}
+use Rattle.script_actions.proofs.WriterTurn.{none_refused, refused_writer}
+use Rattle.actor_tasks.proofs.Stretches.{begun_ready, going_under, takes_refused}
 use Rattle.script_actor.proofs.NamedLaws.{ends_segment, free_whole, takes_from}
 use Rattle.script_actor.proofs.named_tasks.take_segment_task.Goals as goal
 

@@ -2,11 +2,11 @@ use Rattle.std.proofs.Common.{◌≡◌, ℕ, Option, Some, None, refl, ap, ◌�
 use Rattle.writer_core.specs.Views.{WriterView}
 use Rattle.name_node.specs.Holding.{Holding, Broken}
 use Rattle.caller_seats.specs.Logs.{LogView}
-use Rattle.script_actor.specs.Lines.{Action, line_of}
-use Rattle.script_actor.specs.Holdings.{rest_work}
-use Rattle.script_actor.specs.Actions.{kept_of, action_of, IsIdleActor, TakesIf}
-use Rattle.script_actor.proofs.LedLaws.{led_same}
-use Rattle.script_actor.proofs.KeptActor.{handed_broken}
+use Rattle.script_actions.specs.Lines.{Action, line_of}
+use Rattle.name_holding.specs.Holdings.{rest_work}
+use Rattle.script_actions.specs.Actions.{kept_of, action_of, IsIdleActor, TakesIf}
+use Rattle.script_actions.proofs.LedLaws.{led_same}
+use Rattle.script_actions.proofs.KeptActor.{handed_broken}
 use Rattle.script_actor.proofs.script_actor.take_named.Goals as goal
 
 -- an actor that met a bad entry does nothing more

@@ -1,10 +1,10 @@
 use Rattle.std.proofs.Common.{sym, ap, ◌∙◌, None}
 use Rattle.writer_core.specs.declared.task.Task.TheVariants as task
-use Rattle.active_name.proofs.ActiveLaws.{log_going}
-use Rattle.script_actor.specs.Actions.{kept_of}
+use Rattle.quorum_writer.proofs.TaskBegins.{log_going}
+use Rattle.script_actions.specs.Actions.{kept_of}
 use Rattle.result_lines.specs.DueTexts.{dues_of}
 use Rattle.script_actor.specs.Submitting.{log_texts}
-use Rattle.script_actor.proofs.Stretches.{begun_ready, going_under}
+use Rattle.actor_tasks.proofs.Stretches.{begun_ready, going_under}
 use Rattle.script_actor.proofs.SubmitLaws.{writing_over, log_idle, log_rests, log_may_hold, log_stands}
 use Rattle.script_actor.proofs.submissions.log_bodies.Goals as goal
 

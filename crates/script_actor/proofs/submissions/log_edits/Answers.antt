@@ -1,11 +1,11 @@
 use Rattle.std.proofs.Common.{◌≡◌, ◌≢◌, ◌+◌, [], Some, sym, ap, ◌∙◌}
 use Rattle.std.proofs.lemmas.Result.{IfOk-weaker}
-use Rattle.script_actor.specs.Actions.{kept_of}
+use Rattle.script_actions.specs.Actions.{kept_of}
 use Rattle.result_lines.specs.Results.{dues_logged}
 use Rattle.result_lines.specs.DueTexts.{dues_of}
 use Rattle.script_actor.proofs.SubmitLaws.{pends_at, submitted_start, some_from, log_same, no_bodies, none_calls, none_rests, none_held}
 use Rattle.script_actor.proofs.submissions.log_edits.Goals as goal
-use Rattle.active_name.proofs.RoundLaws.{not_empty}
+use Rattle.quorum_writer.proofs.TaskBegins.{not_empty}
 
 pub returns-then-not-is_empty-clause-rests : goal.returns-then-not-is_empty-clause-rests
 returns-then-not-is_empty-clause-rests g c =

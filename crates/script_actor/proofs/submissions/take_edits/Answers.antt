@@ -1,9 +1,9 @@
 use Rattle.std.proofs.Common.{List, length, Some, true, ap, subst}
 use Rattle.std.proofs.lemmas.Result.{IfOk-weaker}
 use Rattle.edit_ops.specs.Records.{EditView}
-use Rattle.script_actor.specs.Actor.{logged_when}
-use Rattle.script_actor.specs.KeptActor.{KeptActor, resting}
-use Rattle.script_actor.specs.Actions.{kept_of, ComesToRest}
+use Rattle.script_actions.specs.Actor.{logged_when}
+use Rattle.script_actions.specs.KeptActor.{KeptActor, resting}
+use Rattle.script_actions.specs.Actions.{kept_of, ComesToRest}
 use Rattle.script_actor.proofs.SubmitLaws.{submits_inactive, submits_takes}
 use Rattle.script_actor.proofs.submissions.take_edits.Goals as goal
 

@@ -2,9 +2,10 @@ use Rattle.std.proofs.Common.{sym, ap, ◌∙◌, Some}
 use Rattle.writer_core.specs.declared.task.Task.TheVariants as task
 use Rattle.writer_core.specs.Writer.{Began}
 use Rattle.result_lines.specs.ResultLists.{trim_texts}
-use Rattle.script_actor.specs.Actions.{kept_of}
-use Rattle.script_actor.proofs.Stretches.{begun_ready, going_under}
-use Rattle.script_actor.proofs.TrimLaws.{purge_begins, purge_rests, purge_moves, purge_stands}
+use Rattle.script_actions.specs.Actions.{kept_of}
+use Rattle.actor_tasks.proofs.Stretches.{begun_ready, going_under}
+use Rattle.quorum_writer.proofs.TaskBegins.{purge_begins}
+use Rattle.script_actor.proofs.TrimLaws.{purge_rests, purge_moves, purge_stands}
 use Rattle.script_actor.proofs.trims.purge.Goals as goal
 
 pub finish-requires-clause-ready : goal.finish-requires-clause-ready

@@ -1,10 +1,10 @@
 use Rattle.std.proofs.Common.{true, sym, ◌∙◌, subst, Some}
 use Rattle.std.proofs.lemmas.Result.{IfOk-weaker}
 use Rattle.name_node.specs.Holding.{Holding}
-use Rattle.script_actor.specs.Lines.{Trims}
-use Rattle.script_actor.specs.Actor.{trim_at}
-use Rattle.script_actor.specs.KeptActor.{resting}
-use Rattle.script_actor.specs.Actions.{kept_of, TakesAction, ComesToRest}
+use Rattle.script_actions.specs.Lines.{Trims}
+use Rattle.script_actions.specs.Actor.{trim_at}
+use Rattle.script_actions.specs.KeptActor.{resting}
+use Rattle.script_actions.specs.Actions.{kept_of, TakesAction, ComesToRest}
 use Rattle.script_actor.proofs.TrimLaws.{trim_inactive, trim_noimage, trim_takes}
 use Rattle.script_actor.proofs.trims.take_trim.Goals as goal
 

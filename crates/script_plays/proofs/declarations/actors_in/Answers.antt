@@ -1,5 +1,5 @@
 use Rattle.std.proofs.Common.{◌≡◌, map, length, arith}
-use Rattle.script_actor.specs.Lines.{line_of, count_actors}
+use Rattle.script_actions.specs.Lines.{line_of, count_actors}
 use Rattle.script_plays.proofs.LinesLeft.{count_more, count_all}
 use Rattle.script_plays.proofs.declarations.actors_in.Goals as goal
 

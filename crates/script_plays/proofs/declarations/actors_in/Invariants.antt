@@ -1,5 +1,5 @@
 use Rattle.std.proofs.Common.{◌≡◌, ◌+◌, drop, map}
-use Rattle.script_actor.specs.Lines.{line_of, count_actors}
+use Rattle.script_actions.specs.Lines.{line_of, count_actors}
 use Rattle.script_plays.proofs.declarations.actors_in.Given as goal
 
 abbrev pub invariant-loop-line : goal.invariant-loop-line

@@ -1,6 +1,6 @@
 use Rattle.script_plays.proofs.Final.{play_follows}
 use Rattle.script_plays.proofs.Sound.{has_nodes}
-use Rattle.script_actor.specs.Lines.{lines_of}
+use Rattle.script_actions.specs.Lines.{lines_of}
 use Rattle.script_plays.proofs.laws.a_play_follows.Goals as goal
 
 pub returns : goal.returns

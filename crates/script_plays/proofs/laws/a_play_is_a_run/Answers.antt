@@ -1,6 +1,6 @@
 use Rattle.script_plays.proofs.Final.{play_runs, play_in_order}
 use Rattle.script_plays.proofs.Sound.{has_nodes}
-use Rattle.script_actor.specs.Lines.{lines_of}
+use Rattle.script_actions.specs.Lines.{lines_of}
 use Rattle.script_plays.proofs.laws.a_play_is_a_run.Goals as goal
 
 pub returns : goal.returns

@@ -1,5 +1,5 @@
 use Rattle.script_plays.proofs.Unique.{one_play}
-use Rattle.script_actor.specs.Lines.{lines_of}
+use Rattle.script_actions.specs.Lines.{lines_of}
 use Rattle.script_plays.proofs.laws.one_script_has_one_play.Goals as goal
 
 pub returns : goal.returns

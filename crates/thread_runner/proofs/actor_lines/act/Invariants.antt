@@ -1,10 +1,10 @@
 use Rattle.std.proofs.Common.{◌≡◌, map, take}
-use Rattle.script_actor.specs.Lines.{actions_of, line_of}
-use Rattle.script_actor.specs.Actions.{kept_by, has_names}
+use Rattle.script_actions.specs.Lines.{actions_of, line_of}
+use Rattle.script_actions.specs.Actions.{kept_by, has_names}
 use Rattle.thread_runner.specs.Threads.{HasDone}
 use Rattle.thread_runner.proofs.actor_lines.act.Given as goal
 
 abbrev pub invariant-loop-line : goal.invariant-loop-line
 invariant-loop-line g l =
-    HasDone (has_names l.initial.by) (g.S.Seats.log l.initial.seats).nodes (actions_of l.actor (map line_of (take l.line-index l.lines))) (kept_by l.by (g.S.Seats.log l.seats))
-    × (has_names l.by ≡ has_names l.initial.by) × g.S.Seats.later l.initial.seats l.seats
+    HasDone (has_names (g.A.Actor.seen l.initial.by)) (g.S.Seats.log l.initial.seats).nodes (actions_of l.actor (map line_of (take l.line-index l.lines))) (kept_by (g.A.Actor.seen l.by) (g.S.Seats.log l.seats))
+    × (has_names (g.A.Actor.seen l.by) ≡ has_names (g.A.Actor.seen l.initial.by)) × g.S.Seats.later l.initial.seats l.seats

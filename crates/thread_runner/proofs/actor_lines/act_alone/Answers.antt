@@ -1,7 +1,7 @@
 use Rattle.std.proofs.Common.{map, ap, subst, ◌≡◌, ◌∙◌}
 use Rattle.std.proofs.lemmas.Result.{IfOk-weaker}
-use Rattle.script_actor.specs.Lines.{actions_of, line_of}
-use Rattle.script_actor.specs.Actions.{has_names, kept_by}
+use Rattle.script_actions.specs.Lines.{actions_of, line_of}
+use Rattle.script_actions.specs.Actions.{has_names, kept_by}
 use Rattle.thread_runner.specs.Threads.{HasDone}
 use Rattle.thread_runner.proofs.ActorLaws.{done_follows, new_named}
 use Rattle.thread_runner.proofs.actor_lines.act_alone.Goals as goal
@@ -10,8 +10,8 @@ pub returns-clause-follows : goal.returns-clause-follows
 returns-clause-follows g c =
     let nodes = (g.S.Seats.log c.args.seats.now).nodes in
     let actions = actions_of c.args.actor (map line_of c.args.lines.now) in
-    let by = c.in_ok-by.by in
+    let by = g.A.Actor.seen c.in_ok-by.by in
     let log = g.S.Seats.log c.act.new.seats in
     let named : has_names by ≡ c.args.named = ap has_names c.in_ok-by.ensures ∙ new_named c.args.named c.nodes.result in
-    let done : HasDone c.args.named nodes actions (kept_by c.act.new.by log) = subst (λ b. HasDone b nodes actions (kept_by c.act.new.by log)) named c.in_ok-act.ensures.done in
-    IfOk-weaker c.into_last.result _ _ (λ last is. done_follows c.args.named nodes actions c.act.new.by log last done is) c.into_last.ensures
+    let done : HasDone c.args.named nodes actions (kept_by (g.A.Actor.seen c.act.new.by) log) = subst (λ b. HasDone b nodes actions (kept_by (g.A.Actor.seen c.act.new.by) log)) named c.in_ok-act.ensures.done in
+    IfOk-weaker c.into_last.result _ _ (λ last is. done_follows c.args.named nodes actions (g.A.Actor.seen c.act.new.by) log last done is) c.into_last.ensures

@@ -1,6 +1,6 @@
 use Rattle.std.proofs.Common.{◌==◌, length, map, sym, ap, subst, ◌∙◌}
 use Rattle.gate_seats.specs.Seated.{seat_of}
-use Rattle.script_actor.specs.Lines.{line_of}
+use Rattle.script_actions.specs.Lines.{line_of}
 use Rattle.thread_runner.specs.Threads.{DoesLines}
 use Rattle.thread_runner.proofs.Leaving.{leaves}
 use Rattle.thread_runner.proofs.caller_lines.take_lines.Goals as goal

@@ -1,5 +1,5 @@
 use Rattle.std.proofs.Common.{◌≡◌, map, take}
-use Rattle.script_actor.specs.Lines.{line_of, names_in}
+use Rattle.script_actions.specs.Lines.{line_of, names_in}
 use Rattle.thread_runner.proofs.ends.names_of.Given as goal
 
 abbrev pub invariant-loop-line : goal.invariant-loop-line

@@ -1,6 +1,6 @@
 use Rattle.std.proofs.Common.{map, take}
 use Rattle.gate_seats.specs.Seated.{AreLater}
-use Rattle.script_actor.specs.Lines.{line_of}
+use Rattle.script_actions.specs.Lines.{line_of}
 use Rattle.thread_runner.specs.Threads.{HasOperated}
 use Rattle.thread_runner.proofs.operator_lines.operate_alone.Given as goal
 

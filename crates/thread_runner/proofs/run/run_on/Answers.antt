@@ -6,7 +6,7 @@ use Rattle.mesh.specs.declared.whole.Mesh.{Mesh}
 use Rattle.gate_seats.specs.Seated.{seat_of}
 use Rattle.gate_seats.specs.Gates.{row_at, AreOf, IsLeft}
 use Rattle.gate_seats.proofs.GateLaws.{columns_many}
-use Rattle.script_actor.specs.Lines.{line_of, lines_of, AreInRange, ArePlayable}
+use Rattle.script_actions.specs.Lines.{line_of, lines_of, AreInRange, ArePlayable}
 use Rattle.thread_runner.specs.Gathered.{AreGathered, MayAct}
 use Rattle.thread_runner.proofs.LineLaws.{may_come}
 use Rattle.thread_runner.proofs.ListLaws.{counts}

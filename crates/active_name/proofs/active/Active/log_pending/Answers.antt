@@ -1,9 +1,10 @@
 use Rattle.std.proofs.Common.{◌≡◌, ◌∙◌, ap, sym, subst, true, false, List, ℕ, None, ◌==◌, length}
 use Rattle.ns_tree.specs.Space.{Space}
 use Rattle.writer_core.specs.Writer.{log_limit}
-use Rattle.active_name.specs.Pendings.{PendingView, none_pending}
+use Rattle.pending_edits.specs.Pendings.{PendingView, none_pending}
 use Rattle.active_name.specs.Actives.{ActiveView, IsActive, is_open}
-use Rattle.active_name.proofs.RoundLaws.{log_kept, log_began, not_empty}
+use Rattle.active_name.proofs.RoundLaws.{log_kept, log_began}
+use Rattle.quorum_writer.proofs.TaskBegins.{not_empty}
 use Rattle.active_name.proofs.active.Active.log_pending.Goals as goal
 
 pub invariant_of-self : goal.invariant_of-self

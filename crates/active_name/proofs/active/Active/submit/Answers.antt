@@ -1,5 +1,5 @@
 use Rattle.std.proofs.Common.{◌≡◌, ◌∙◌, None, subst, true}
-use Rattle.ns_replay.specs.Admit.{admit_of}
+use Rattle.ns_rules.specs.Admit.{admit_of}
 use Rattle.active_name.specs.Actives.{ActiveView, is_open}
 use Rattle.active_name.specs.Acting.{IsSubmitted}
 use Rattle.active_name.proofs.ActiveLaws.{pending_as, pends_at, pended_submits}

@@ -2,7 +2,7 @@ use Rattle.std.proofs.Common.{◌≡◌, ℕ, ◌+◌, ◌++◌, ◌∷◌, [], 
 use Rattle.std.proofs.lemmas.Result.{IfOk-weaker, on_err_weaker}
 use Rattle.journal_core.specs.declared.request.Request.TheVariants.{Read}
 use Rattle.journal_core.specs.declared.peer_call.PeerCall.{PeerCall}
-use Rattle.ns_replay.specs.Replay.{Image}
+use Rattle.ns_rules.specs.Replay.{Image}
 use Rattle.name_node.specs.Tails.{TailStep, GoesOn, tail_hears}
 use Rattle.standby_tailer.specs.declared.step.Step.{Step}
 use Rattle.standby_tailer.specs.Standbys.{held}

@@ -1,7 +1,7 @@
 use Rattle.std.proofs.Common.{◌≡◌, ◌+◌, ◌++◌, ◌∷◌, [], List, length, refl, sym, false, subst}
 use Rattle.std.proofs.lemmas.Result.{IfOk-weaker}
 use Rattle.journal_core.specs.declared.heard.Heard.{Heard}
-use Rattle.ns_replay.specs.Replay.{Image, applied}
+use Rattle.ns_rules.specs.Replay.{Image, applied}
 use Rattle.name_node.specs.Holding.{Work, Tails, with_work}
 use Rattle.name_node.specs.Tails.{tail_hears, up_to, after_applied, no_edits}
 use Rattle.standby_tailer.specs.declared.step.Step.{Step}

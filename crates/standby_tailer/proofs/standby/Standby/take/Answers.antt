@@ -1,6 +1,6 @@
 use Rattle.std.proofs.Common.{◌≡◌, ℕ, ◌+◌, ◌-◌, ◌≤◌, ◌<◌, [], refl, sym, ap, ◌∙◌, subst, arith}
 use Rattle.std.specs.Option.{ForSome}
-use Rattle.ns_replay.specs.Replay.{All, applied}
+use Rattle.ns_rules.specs.Replay.{All, applied}
 use Rattle.name_node.specs.Holding.{Broken, with_work}
 use Rattle.name_node.specs.Tails.{up_to, after_applied, pass_begun, Breaks}
 use Rattle.standby_tailer.specs.Standbys.{StandbyView, held}

@@ -1,0 +1,2 @@
+pub mod GenLaws
+pub mod WordLaws

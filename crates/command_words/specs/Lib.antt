@@ -1,0 +1,4 @@
+pub mod Commands
+pub mod Usage
+pub mod Words
+pub mod Starting

@@ -1,0 +1,7 @@
+pub mod Answers
+pub mod Digests
+pub mod Examples
+pub mod Images
+pub mod Lists
+pub mod Names
+pub mod Saves

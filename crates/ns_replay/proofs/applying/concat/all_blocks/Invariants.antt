@@ -1,6 +1,0 @@
-use Rattle.std.proofs.Common.{◌≡◌, ◌∷◌, take}
-use Rattle.ns_replay.specs.Admit.{blocks_at}
-use Rattle.ns_replay.proofs.applying.concat.all_blocks.Given as goal
-
-abbrev pub invariant-loop-source : goal.invariant-loop-source
-invariant-loop-source l = l.all.items ≡ blocks_at (l.target ∷ take l.source-index l.sources) l.ns.pairs

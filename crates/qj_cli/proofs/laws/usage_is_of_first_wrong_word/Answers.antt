@@ -1,5 +1,0 @@
-use Rattle.qj_cli.proofs.WordLaws.{first_wrong_word}
-use Rattle.qj_cli.proofs.laws.usage_is_of_first_wrong_word.Goals as goal
-
-pub returns : goal.returns
-returns c = first_wrong_word

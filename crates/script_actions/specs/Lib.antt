@@ -1,0 +1,6 @@
+pub mod Lines
+pub mod Actor
+pub mod KeptActor
+pub mod Ready
+pub mod Went
+pub mod Actions

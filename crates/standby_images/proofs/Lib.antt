@@ -1,0 +1,4 @@
+pub mod ImageLists
+pub mod DiskLaws
+pub mod OpenLaws
+pub mod SaveLaws

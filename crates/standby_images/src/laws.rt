@@ -1,0 +1,20 @@
+//! Laws of the images on a disk.
+ghost use Rattle.std.specs.Prelude.{◌≡◌, ℕ, List, [], None};
+ghost use Rattle.qj_disk.specs.Files.{Files};
+ghost use Rattle.ns_rules.specs.Replay.{Image};
+ghost use Rattle.name_node.specs.Holding.{min_to_keep};
+ghost use Rattle.image_files.specs.Answers.{IsKeptFrom};
+ghost use Rattle.image_files.specs.declared.kept_answer.MinToKeep.{MinToKeep};
+ghost use Rattle.standby_images.specs.Disks.{HoldsImages, IsMinOf};
+
+/// A disk without files holds no image.
+pub fn a_new_disk_holds_no_image()
+    ensures { (files : Files) → ((name : List ℕ) → files name ≡ None) → HoldsImages files [] }
+{}
+
+/// What the images on a disk tell of the first txid to keep is what a name node with these images keeps.
+pub fn images_tell_what_to_keep()
+    ensures { (files : Files) (images : List Image) (extra : ℕ) (answer : MinToKeep)
+        → HoldsImages files images → IsKeptFrom files extra answer
+        → IsMinOf (min_to_keep extra images) answer }
+{}
