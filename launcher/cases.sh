@@ -4,9 +4,9 @@
 # Runs a program's cases by a quick run, into the room's file of its name. Fails where that gave no answer of its own.
 answer_cases() {
   set -- "$1" "$top/crates/$1"
-  data=$(sed 's|.*|--data &=data/&|' "$2/args")
+  data=$(cd "$2/data" && find . -type f | sed 's|^\./\(.*\)|--data \1=data/\1|')
   # shellcheck disable=SC2046,SC2086
-  (cd "$2" && exec rt try $data -- $(cat args)) </dev/null >"$room/$1" 2>"$room/notes"
+  (cd "$2" && exec rt try --seconds 600 $data -- $(cat args)) </dev/null >"$room/$1" 2>"$room/notes"
   grep -q '^run=ended status=0 ' "$room/notes" && return
   say "$1 gave no answers; the quick run said:"
   tail -n 5 "$room/notes" >&2

@@ -2,3 +2,4 @@ pub mod MarkLaws
 pub mod IndexLaws
 pub mod LogLaws
 pub mod Fitting
+pub mod ToldLaws

@@ -17,14 +17,28 @@ use node_history::{ActorPlan, Mark, MarkKind, NodeAsk, Record, RecordList, Told}
 use std::alloc::{AllocError, Global};
 use std::marker::Model;
 
-/// What a caller has listed of its calls, its marks, and an index of both by node.
-#[derive(Drop)]
+/// What a caller has listed of its calls, its marks, and an index of both by node. It is let go by
+/// one call wherever it is, which keeps proofs short.
 pub struct CallerLog {
     past: RecordList,
     marks: ActorPlan,
     calls: Vec<CallsTo>,
     // false once memory ran out: the index may then differ from the record and the marks
     is_whole: bool,
+}
+
+impl Drop for CallerLog {
+    fn drop(self) {
+        let CallerLog {
+            past,
+            marks,
+            calls,
+            is_whole: _,
+        } = self;
+        drop(past);
+        drop(marks);
+        drop(calls);
+    }
 }
 
 impl Model for CallerLog {

@@ -17,13 +17,26 @@ use node_history::Record;
 use std::alloc::Global;
 use std::collections::BTreeSet;
 
-/// An actor's calls to one node: their places in its record, in order, and the numbers, from 1, of those that aren't delivered and of
-/// those whose replies are lost.
-#[derive(Drop)]
+/// An actor's calls to one node: their places in its record, in order, and the numbers, from 1, of
+/// those that aren't delivered and of those whose replies are lost. It is let go by one call
+/// wherever it is, which keeps proofs short.
 pub(crate) struct CallsTo {
     places: Vec<usize>,
     dropped: BTreeSet<u64>,
     muted: BTreeSet<u64>,
+}
+
+impl Drop for CallsTo {
+    fn drop(self) {
+        let CallsTo {
+            places,
+            dropped,
+            muted,
+        } = self;
+        drop(places);
+        drop(dropped);
+        drop(muted);
+    }
 }
 
 /// What the call at this place of the record asked.

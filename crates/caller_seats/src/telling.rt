@@ -9,16 +9,13 @@ use node_history::{NodeAnswer, Told};
 use std::alloc::Global;
 
 /// What is told of a call that a node answered so and whose answer is heard.
-#[tactic(auto, unfolding(crate::specs::Deliveries::told_of))]
+#[tactic(auto, using(crate::proofs::ToldLaws::tells))]
 pub fn told_of(answer: NodeAnswer) -> Told
     ensures { result ≡ told_of Delivery.Delivered answer }
 {
-    match answer {
-        NodeAnswer::Replied(reply) => Told::Reply(reply),
-        NodeAnswer::Stopped { keep: _ } => Told::Silent,
-        NodeAnswer::Done => Told::Silent,
-        NodeAnswer::Idle => Told::Silent,
-        NodeAnswer::NotOpened(_) => Told::Silent,
+    match answer.into_heard() {
+        Heard::Answer(reply) => Told::Reply(reply),
+        Heard::Silent => Told::Silent,
     }
 }
 

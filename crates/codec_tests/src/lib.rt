@@ -1,29 +1,21 @@
-//! Tests of the formats and of a node in memory: numbers, edits, frames, listings, requests and replies, scripts, reports.
+//! Tests of what no text shows: values that are shared, a full retry list, images over a disk that fails or is stopped, generated scripts, and a summary.
 #![tactic(auto)]
 
 #[cfg(test)]
-mod edits;
-#[cfg(test)]
-mod entries;
-#[cfg(test)]
-mod frames;
-#[cfg(test)]
 mod generated;
 #[cfg(test)]
-mod listings;
+mod image_disk;
 #[cfg(test)]
-mod names_scripts;
+mod image_lists;
 #[cfg(test)]
-mod numbers;
+mod image_loads;
 #[cfg(test)]
-mod plain_nodes;
+mod image_saves;
 #[cfg(test)]
-mod reports;
-#[cfg(test)]
-mod requests;
+mod retries;
 #[cfg(test)]
 mod rows;
 #[cfg(test)]
-mod scripts;
+mod shares;
 #[cfg(test)]
 mod summaries;

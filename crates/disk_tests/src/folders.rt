@@ -1,140 +1,107 @@
 //! A disk over a real folder.
-use crate::disk_steps::DiskStep::{self, Cut, Remove, Rename, Sync, Write};
-use crate::disk_steps::DiskWant::{self, Bytes, Length, Names};
-use crate::disk_steps::{call, tells};
-use qj_disk::{Disk, DiskFail};
+use node_files::{OpenedFiles, open_files};
+use qj_disk::Disk;
 use qj_outside::FolderDisk;
+use std::alloc::Global;
 use std::fs;
+use std::fs::Permissions;
+use std::os::unix::fs::{PermissionsExt, symlink};
 use std::process::Abort;
 use std::test::Fail;
 
-/// A line of a test: calls that are done or fail, and what is told after them.
-#[derive(Clone, Copy)]
-struct Line<'a> {
-    done: bool,
-    steps: &'a [DiskStep<'a>],
-    wants: &'a [DiskWant<'a>],
-}
-
-fn call_all<D: Disk>(
+// A file's bytes are these, of which there are at most 63; none where it is absent.
+fn reads_as(
     rt: &impl Abort,
-    disk: &mut D,
-    steps: &[DiskStep],
-    done: bool,
-) -> Result<(), DiskFail>
-    requires { D.tells disk.old → ⊥ }
-    ensures { D.tells disk.new → ⊥ }
-{
-    for (place, step) in steps.iter().enumerate() {
-        assert_eq!(rt; call(disk, step)?, done, "at {place}");
+    disk: &mut FolderDisk<HostRuntime>,
+    name: &str,
+    want: &[u8],
+) -> Result<(), Fail> {
+    let mut into = [0; 64];
+    let count = disk.read(name, 0, &mut into)?;
+    assert_eq!(rt; &into[..count.min(64)], want, "of {name}");
+    Ok(())
+}
+
+// The names of all files are these.
+fn lists(rt: &impl Abort, disk: &mut FolderDisk<HostRuntime>, want: &[&str]) -> Result<(), Fail> {
+    let names = disk.list()?;
+    assert_eq!(rt; names.len(), want.len());
+    for (name, want) in names.iter().zip(want.iter()) {
+        assert_eq!(rt; name.as_str(), *want);
     }
     Ok(())
 }
 
-fn tell_all<D: Disk>(rt: &impl Abort, disk: &mut D, wants: &[DiskWant]) -> Result<(), DiskFail>
-    requires { D.tells disk.old → ⊥ }
-    ensures { D.tells disk.new → ⊥ }
-{
-    for want in wants {
-        tells(rt, disk, want)?;
-    }
-    Ok(())
+// There is no file of that name.
+fn is_absent(rt: &impl Abort, disk: &mut FolderDisk<HostRuntime>, name: &str) -> Result<(), Fail> {
+    assert_eq!(rt; disk.length(name)?, None, "of {name}");
+    reads_as(rt, disk, name, b"")
 }
 
-fn take<D: Disk>(rt: &impl Abort, disk: &mut D, line: &Line) -> Result<(), DiskFail>
-    requires { D.tells disk.old → ⊥ }
-    ensures { D.tells disk.new → ⊥ }
-{
-    call_all(rt, disk, line.steps, line.done)?;
-    tell_all(rt, disk, line.wants)
+const TWO: &[&str] = &["a", "b"];
+
+// A file is written in parts and renamed, and cut off.
+fn keeps_a_file(rt: &impl Abort, disk: &mut FolderDisk<HostRuntime>) -> Result<(), Fail> {
+    disk.write_at("b.tmp", 0, b"journal")?;
+    disk.write_at("b.tmp", 5, b"ey")?;
+    disk.write_at("b.tmp", 7, b"..")?;
+    disk.sync("b.tmp")?;
+    disk.rename("b.tmp", "b")?;
+    disk.write_at("a", 0, b"")?;
+    reads_as(rt, disk, "b", b"journey..")?;
+    disk.cut("b", 4)?;
+    reads_as(rt, disk, "b", b"jour")?;
+    lists(rt, disk, TWO)
+}
+
+const BELOW: &[&str] = &["a", "paxos/6", "paxos/7"];
+
+// What isn't there isn't written on from, and files are kept in a subfolder.
+fn keeps_files_below(rt: &impl Abort, disk: &mut FolderDisk<HostRuntime>) -> Result<(), Fail> {
+    assert_eq!(rt; disk.length("b")?, Some(4));
+    assert!(rt; disk.write_at("b", 5, b"!").is_err());
+    assert!(rt; disk.write_at("c", 1, b"!").is_err());
+    disk.rename("b", "paxos/7")?;
+    disk.write_at("paxos/6", 0, b"6")?;
+    disk.sync("paxos/6")?;
+    lists(rt, disk, BELOW)?;
+    reads_as(rt, disk, "paxos/7", b"jour")
+}
+
+const LEFT: &[&str] = &["a", "paxos/6"];
+
+// Two disks have the same folder.
+fn keeps_files(
+    rt: &impl Abort,
+    disk: &mut FolderDisk<HostRuntime>,
+    again: &mut FolderDisk<HostRuntime>,
+) -> Result<(), Fail> {
+    keeps_a_file(rt, disk)?;
+    keeps_files_below(rt, disk)?;
+    again.remove("paxos/7")?;
+    lists(rt, disk, LEFT)
 }
 
 const FOLDER: &str = "folder_disk_test";
-
-const KEPT: &[Line<'static>] = &[
-    Line {
-        done: true,
-        steps: &[
-            Write("b.tmp", 0, b"journal"),
-            Write("b.tmp", 5, b"ey"),
-            Write("b.tmp", 7, b".."),
-            Sync("b.tmp"),
-            Rename("b.tmp", "b"),
-            Write("a", 0, b""),
-        ],
-        wants: &[Bytes("b", b"journey..")],
-    },
-    Line {
-        done: true,
-        steps: &[Cut("b", 4)],
-        wants: &[
-            Length("b", Some(4)),
-            Bytes("b", b"jour"),
-            Names(&["a", "b"]),
-        ],
-    },
-    Line {
-        done: false,
-        steps: &[Write("b", 5, b"!"), Write("c", 1, b"!")],
-        wants: &[],
-    },
-    Line {
-        done: true,
-        steps: &[
-            Rename("b", "paxos/7"),
-            Write("paxos/6", 0, b"6"),
-            Sync("paxos/6"),
-        ],
-        wants: &[
-            Names(&["a", "paxos/6", "paxos/7"]),
-            Bytes("paxos/7", b"jour"),
-        ],
-    },
-];
-
-const REMOVED: &Line<'static> = &Line {
-    done: true,
-    steps: &[Remove("paxos/7")],
-    wants: &[Names(&["a", "paxos/6"])],
-};
-
-fn take_all<D: Disk>(rt: &impl Abort, disk: &mut D, lines: &[Line]) -> Result<(), DiskFail>
-    requires { D.tells disk.old → ⊥ }
-    ensures { D.tells disk.new → ⊥ }
-{
-    for line in lines {
-        take(rt, disk, line)?;
-    }
-    Ok(())
-}
 
 #[test]
 fn files_of_a_folder_are_kept(rt: HostRuntime) -> Result<(), Fail> {
     let _ = fs::remove_dir_all(&rt, FOLDER);
     fs::create_dir(&rt, FOLDER)?;
     let mut disk = FolderDisk::new(rt.clone()?, FOLDER)?;
-    take_all(&rt, &mut disk, KEPT)?;
     let mut again = FolderDisk::new(rt.clone()?, FOLDER)?;
-    take(&rt, &mut again, REMOVED)?;
-    tell_all(&rt, &mut disk, REMOVED.wants)?;
+    keeps_files(&rt, &mut disk, &mut again)?;
     fs::remove_dir_all(&rt, FOLDER)?;
     Ok(())
 }
 
 const NO_FILES: &[&str] = &["", "no such file", "no such folder/file", "..", "/"];
 
-// There is no file of that name.
-fn is_absent<D: Disk>(rt: &impl Abort, disk: &mut D, name: &str) -> Result<(), DiskFail>
-    requires { D.tells disk.old → ⊥ }
-    ensures { D.tells disk.new → ⊥ }
-{
-    tell_all(rt, disk, &[Length(name, None), Bytes(name, b"")])
-}
-
-fn are_absent<D: Disk>(rt: &impl Abort, disk: &mut D, names: &[&str]) -> Result<(), DiskFail>
-    requires { D.tells disk.old → ⊥ }
-    ensures { D.tells disk.new → ⊥ }
-{
+fn are_absent(
+    rt: &impl Abort,
+    disk: &mut FolderDisk<HostRuntime>,
+    names: &[&str],
+) -> Result<(), Fail> {
     for name in names {
         is_absent(rt, disk, name)?;
     }
@@ -143,32 +110,60 @@ fn are_absent<D: Disk>(rt: &impl Abort, disk: &mut D, names: &[&str]) -> Result<
 
 #[test]
 fn what_is_no_file_is_absent(rt: HostRuntime) -> Result<(), Fail> {
+    let long = "n".repeat(rt.alloc(), 300)?;
     let mut here = FolderDisk::new(rt.clone()?, ".")?;
     are_absent(&rt, &mut here, NO_FILES)?;
-    let long = "n".repeat(rt.alloc(), 300)?;
-    is_absent(&rt, &mut here, long.as_str())?;
-    Ok(())
+    is_absent(&rt, &mut here, long.as_str())
 }
 
-const ABSENT: &str = "folder_disk_absent";
-
-const REFUSED: &[Line<'static>] = &[Line {
-    done: false,
-    steps: &[
-        Write("a", 0, b"1"),
-        Write("paxos/1", 0, b"1"),
-        Rename("a", "b"),
-        Remove("a"),
-        Cut("a", 0),
-        Sync("a"),
-    ],
-    wants: &[Length("a", None)],
-}];
+fn takes_nothing(rt: &impl Abort, disk: &mut FolderDisk<HostRuntime>) -> Result<(), Fail> {
+    assert!(rt; disk.write_at("a", 0, b"1").is_err());
+    assert!(rt; disk.write_at("paxos/1", 0, b"1").is_err());
+    assert!(rt; disk.rename("a", "b").is_err());
+    assert!(rt; disk.remove("a").is_err());
+    assert!(rt; disk.cut("a", 0).is_err());
+    assert!(rt; disk.sync("a").is_err());
+    assert!(rt; disk.list().is_err());
+    is_absent(rt, disk, "a")
+}
 
 #[test]
 fn an_absent_folder_takes_nothing(rt: HostRuntime) -> Result<(), Fail> {
-    let mut absent = FolderDisk::new(rt.clone()?, ABSENT)?;
-    take_all(&rt, &mut absent, REFUSED)?;
-    assert!(rt; absent.list().is_err());
+    let mut absent = FolderDisk::new(rt.clone()?, "folder_disk_absent")?;
+    takes_nothing(&rt, &mut absent)
+}
+
+const FOREIGN: &str = "foreign_files_test";
+
+// A file that may not be opened, a link that leads round in a circle, one to nothing, a folder, and
+// a file under the subfolder's name.
+fn make_foreign(rt: &HostRuntime) -> Result<(), Fail> {
+    fs::create_dir(rt, FOREIGN)?;
+    fs::write(rt, "foreign_files_test/notes", "x")?;
+    fs::set_permissions(rt, "foreign_files_test/notes", Permissions::from_mode(0))?;
+    symlink(rt, "circle", "foreign_files_test/circle")?;
+    symlink(rt, "nothing", "foreign_files_test/link")?;
+    fs::create_dir(rt, "foreign_files_test/folder")?;
+    fs::write(rt, "foreign_files_test/paxos", "x")?;
+    Ok(())
+}
+
+fn opens_empty(rt: &impl Abort, alloc: Global, disk: &mut FolderDisk<HostRuntime>) {
+    match open_files(alloc, disk) {
+        OpenedFiles::Files(files) => assert_eq!(rt; files.table.as_slice().len(), 0),
+        _ => panic!(rt; "the folder isn't opened"),
+    }
+}
+
+#[test]
+fn a_folder_with_foreign_files_opens(rt: HostRuntime) -> Result<(), Fail> {
+    let _ = fs::remove_dir_all(&rt, FOREIGN);
+    make_foreign(&rt)?;
+    let mut disk = FolderDisk::new(rt.clone()?, FOREIGN)?;
+    opens_empty(&rt, rt.alloc(), &mut disk);
+    let circle = fs::read_link(&rt, "foreign_files_test/circle")?;
+    assert_eq!(rt; circle.as_str(), "circle");
+    assert!(rt; fs::symlink_metadata(&rt, "foreign_files_test/notes")?.is_file());
+    fs::remove_dir_all(&rt, FOREIGN)?;
     Ok(())
 }

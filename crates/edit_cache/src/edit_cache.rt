@@ -10,9 +10,16 @@ use std::marker::Model;
 
 /// The newest edits of a segment, with consecutive txids, in a ring of bytes that is taken once.
 /// An edit's stored form is its body with the length in two bytes before it.
-#[derive(Drop)]
 pub struct EditCache {
     ring: Ring,
+}
+
+/// A cache is let go by one call wherever it is, which keeps proofs short.
+impl Drop for EditCache {
+    fn drop(self) {
+        let EditCache { ring } = self;
+        drop(ring);
+    }
 }
 
 // Clauses see the bytes of the ring and the edits, oldest first.

@@ -138,3 +138,12 @@ same_opcode k l false false e = (same_code k l e, refl)
 same_opcode k l true true e = (same_code k l (omega (arith, e)), refl)
 same_opcode k l false true e = absurd (omega (arith, e, code_small k))
 same_opcode k l true false e = absurd (omega (arith, e, code_small l))
+
+-- ---- the fields of what an edit does are good
+
+good_after : (call : Option Call) (fields : List Field) → AllByRecursion IsGood (call_fields call ++ fields) → AllByRecursion IsGood fields
+good_after None fields good = good
+good_after (Some call) fields good = good.1.1
+
+pub op_is_good : (e : EditView) → IsEdit e → AllByRecursion IsGood (fields_of e.op)
+op_is_good e is = good_after e.call (fields_of e.op) is.fields

@@ -1,1 +1,3 @@
 pub mod EditLaws
+pub mod Parts
+pub mod VerbLaws

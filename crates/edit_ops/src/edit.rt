@@ -1,5 +1,6 @@
 //! An edit: what it does, and the call of the client that asked for it.
 ghost use Rattle.std.specs.Prelude.{◌≡◌, IfOk};
+ghost use Rattle.edit_ops.specs.Grammar.{IsEdit};
 
 use crate::op::Op;
 use edit_values::Call;
@@ -9,7 +10,6 @@ use std::marker::Model;
 
 /// An edit that has a record: its texts are short enough and printable, its numbers are at most 2^62, its
 /// lists have at most 65,535 members, and a mark of a segment has no call.
-#[derive(Drop)]
 pub struct Edit {
     pub op: Op,
     pub call: Option<Call>,
@@ -26,7 +26,24 @@ impl Model for Edit {
     ghost invariant = { λ e. IsEdit (record { op = e.op; call = e.call }) };
 }
 
+/// An edit is let go by one call wherever it is, which keeps proofs short.
+impl Drop for Edit {
+    fn drop(self) {
+        let Edit { op: _, call: _ } = self;
+    }
+}
+
 impl Edit {
+    /// What it does, and the call that asked for it.
+    pub fn into_parts(self) -> (Op, Option<Call>)
+        ensures op { result.0 ≡ self.op }
+        ensures call { result.1 ≡ self.call }
+        ensures good { IsEdit self }
+    {
+        let Edit { op, call } = self;
+        (op, call)
+    }
+
     /// The same in memory of its own.
     pub fn copy(&self, alloc: Global) -> Result<Edit, OutOfMemory>
         ensures { IfOk result (λ edit. edit ≡ self.now) }

@@ -137,25 +137,29 @@ impl OpKind {
     }
 
     /// The kind of an edit whose text in a script begins with that word; `None` exactly where there is none.
-    #[tactic(auto, unfolding(crate::specs::Words::verb))]
     pub fn of_verb(word: &[u8]) -> Option<OpKind>
         ensures found { IfSome result (λ kind. (is_mark kind ≡ false) × (verb kind ≡ word.now)) }
         ensures none { IfNone result ((kind : OpKind) → is_mark kind ≡ false → verb kind ≢ word.now) }
     {
-        match word {
-            [b'a', b'd', b'd'] => Some(OpKind::Add),
-            [b'm', b'v'] => Some(OpKind::RenameOld),
-            [b'd', b'e', b'l', b'e', b't', b'e'] => Some(OpKind::Delete),
-            [b'm', b'k', b'd', b'i', b'r'] => Some(OpKind::Mkdir),
-            [b's', b'e', b't', b'r', b'e', b'p'] => Some(OpKind::SetReplication),
-            [b'c', b'h', b'm', b'o', b'd'] => Some(OpKind::SetPermissions),
-            [b's', b'e', b't', b'o', b'w', b'n', b'e', b'r'] => Some(OpKind::SetOwner),
-            [b'c', b'l', b'o', b's', b'e'] => Some(OpKind::Close),
-            [b't', b'i', b'm', b'e', b's'] => Some(OpKind::Times),
-            [b'q', b'u', b'o', b't', b'a'] => Some(OpKind::SetQuota),
-            [b'r', b'e', b'n', b'a', b'm', b'e'] => Some(OpKind::Rename),
-            [b'c', b'o', b'n', b'c', b'a', b't'] => Some(OpKind::ConcatDelete),
-            _ => None,
+        let asked = [
+            OpKind::Add,
+            OpKind::RenameOld,
+            OpKind::Delete,
+            OpKind::Mkdir,
+            OpKind::SetReplication,
+            OpKind::SetPermissions,
+            OpKind::SetOwner,
+            OpKind::Close,
+            OpKind::Times,
+            OpKind::SetQuota,
+            OpKind::Rename,
+            OpKind::ConcatDelete,
+        ];
+        for kind in &asked {
+            if word == kind.verb().as_bytes() {
+                return Some(*kind);
+            }
         }
+        None
     }
 }

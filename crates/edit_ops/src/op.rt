@@ -108,7 +108,7 @@ impl Op {
     pub fn copy(&self, alloc: Global) -> Result<Op, OutOfMemory>
         ensures { IfOk result (λ op. op ≡ self.now) }
     {
-        Ok(match self {
+        match self {
             Op::Add {
                 path,
                 replication,
@@ -118,94 +118,172 @@ impl Op {
                 permission,
                 user,
                 group,
-            } => Op::Add {
-                path: path.copy(alloc)?,
-                replication: *replication,
-                mtime: *mtime,
-                atime: *atime,
-                block_size: *block_size,
-                permission: *permission,
-                user: user.copy(alloc)?,
-                group: group.copy(alloc)?,
-            },
-            Op::RenameOld { src, dst, time } => Op::RenameOld {
-                src: src.copy(alloc)?,
-                dst: dst.copy(alloc)?,
-                time: *time,
-            },
-            Op::Delete { path, time } => Op::Delete {
-                path: path.copy(alloc)?,
-                time: *time,
-            },
+            } => {
+                let (path, user, group) = copy_three(alloc, path, user, group)?;
+                Ok(Op::Add {
+                    path,
+                    replication: *replication,
+                    mtime: *mtime,
+                    atime: *atime,
+                    block_size: *block_size,
+                    permission: *permission,
+                    user,
+                    group,
+                })
+            }
+            Op::RenameOld { src, dst, time } => {
+                let (src, dst) = copy_two(alloc, src, dst)?;
+                Ok(Op::RenameOld {
+                    src,
+                    dst,
+                    time: *time,
+                })
+            }
+            Op::Delete { path, time } => {
+                let path = path.copy(alloc)?;
+                Ok(Op::Delete { path, time: *time })
+            }
             Op::Mkdir {
                 path,
                 time,
                 permission,
                 user,
                 group,
-            } => Op::Mkdir {
-                path: path.copy(alloc)?,
-                time: *time,
-                permission: *permission,
-                user: user.copy(alloc)?,
-                group: group.copy(alloc)?,
-            },
-            Op::SetReplication { path, replication } => Op::SetReplication {
-                path: path.copy(alloc)?,
-                replication: *replication,
-            },
-            Op::SetPermissions { path, permission } => Op::SetPermissions {
-                path: path.copy(alloc)?,
-                permission: *permission,
-            },
-            Op::SetOwner { path, user, group } => Op::SetOwner {
-                path: path.copy(alloc)?,
-                user: user.copy(alloc)?,
-                group: group.copy(alloc)?,
-            },
+            } => {
+                let (path, user, group) = copy_three(alloc, path, user, group)?;
+                Ok(Op::Mkdir {
+                    path,
+                    time: *time,
+                    permission: *permission,
+                    user,
+                    group,
+                })
+            }
+            Op::SetReplication { path, replication } => {
+                let path = path.copy(alloc)?;
+                Ok(Op::SetReplication {
+                    path,
+                    replication: *replication,
+                })
+            }
+            Op::SetPermissions { path, permission } => {
+                let path = path.copy(alloc)?;
+                Ok(Op::SetPermissions {
+                    path,
+                    permission: *permission,
+                })
+            }
+            Op::SetOwner { path, user, group } => {
+                let (path, user, group) = copy_three(alloc, path, user, group)?;
+                Ok(Op::SetOwner { path, user, group })
+            }
             Op::Close {
                 path,
                 mtime,
                 atime,
                 lengths,
-            } => Op::Close {
-                path: path.copy(alloc)?,
-                mtime: *mtime,
-                atime: *atime,
-                lengths: lengths.copy(alloc)?,
-            },
-            Op::Times { path, mtime, atime } => Op::Times {
-                path: path.copy(alloc)?,
-                mtime: *mtime,
-                atime: *atime,
-            },
-            Op::SetQuota { path, names, space } => Op::SetQuota {
-                path: path.copy(alloc)?,
-                names: *names,
-                space: *space,
-            },
+            } => {
+                let (path, lengths) = copy_with_numbers(alloc, path, lengths)?;
+                Ok(Op::Close {
+                    path,
+                    mtime: *mtime,
+                    atime: *atime,
+                    lengths,
+                })
+            }
+            Op::Times { path, mtime, atime } => {
+                let path = path.copy(alloc)?;
+                Ok(Op::Times {
+                    path,
+                    mtime: *mtime,
+                    atime: *atime,
+                })
+            }
+            Op::SetQuota { path, names, space } => {
+                let path = path.copy(alloc)?;
+                Ok(Op::SetQuota {
+                    path,
+                    names: *names,
+                    space: *space,
+                })
+            }
             Op::Rename {
                 src,
                 dst,
                 time,
                 overwrite,
-            } => Op::Rename {
-                src: src.copy(alloc)?,
-                dst: dst.copy(alloc)?,
-                time: *time,
-                overwrite: *overwrite,
-            },
+            } => {
+                let (src, dst) = copy_two(alloc, src, dst)?;
+                Ok(Op::Rename {
+                    src,
+                    dst,
+                    time: *time,
+                    overwrite: *overwrite,
+                })
+            }
             Op::ConcatDelete {
                 target,
                 time,
                 sources,
-            } => Op::ConcatDelete {
-                target: target.copy(alloc)?,
-                time: *time,
-                sources: sources.copy(alloc)?,
-            },
-            Op::EndLogSegment => Op::EndLogSegment,
-            Op::StartLogSegment => Op::StartLogSegment,
-        })
+            } => {
+                let (target, sources) = copy_with_names(alloc, target, sources)?;
+                Ok(Op::ConcatDelete {
+                    target,
+                    time: *time,
+                    sources,
+                })
+            }
+            Op::EndLogSegment => Ok(Op::EndLogSegment),
+            Op::StartLogSegment => Ok(Op::StartLogSegment),
+        }
     }
+}
+
+/// Two names, each in memory of its own.
+fn copy_two(alloc: Global, a: &Name, b: &Name) -> Result<(Name, Name), OutOfMemory>
+    ensures { IfOk result (λ both. (both.0 ≡ a.now) × (both.1 ≡ b.now)) }
+{
+    let a = a.copy(alloc)?;
+    let b = b.copy(alloc)?;
+    Ok((a, b))
+}
+
+/// Three names, each in memory of its own.
+fn copy_three(
+    alloc: Global,
+    a: &Name,
+    b: &Name,
+    c: &Name,
+) -> Result<(Name, Name, Name), OutOfMemory>
+    ensures { IfOk result (λ all. (all.0 ≡ a.now) × (all.1 ≡ b.now) × (all.2 ≡ c.now)) }
+{
+    let (a, b) = copy_two(alloc, a, b)?;
+    let c = c.copy(alloc)?;
+    Ok((a, b, c))
+}
+
+/// A name and numbers, each in memory of its own.
+fn copy_with_numbers(
+    alloc: Global,
+    a: &Name,
+    numbers: &NumberList,
+) -> Result<(Name, NumberList), OutOfMemory>
+    ensures { IfOk result (λ both. (both.0 ≡ a.now) × (both.1 ≡ numbers.now)) }
+{
+    let a = a.copy(alloc)?;
+    let numbers = numbers.copy(alloc)?;
+    Ok((a, numbers))
+}
+
+/// A name and names, each in memory of its own.
+fn copy_with_names(
+    alloc: Global,
+    a: &Name,
+    names: &NameList,
+) -> Result<(Name, NameList), OutOfMemory>
+    ensures { IfOk result (λ both. (both.0 ≡ a.now) × (both.1 ≡ names.now)) }
+{
+    let a = a.copy(alloc)?;
+    let names = names.copy(alloc)?;
+    Ok((a, names))
 }

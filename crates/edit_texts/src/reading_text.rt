@@ -25,6 +25,7 @@ fn read_line(alloc: Global, words: &[u8]) -> Result<Op, ReadError<BadText>>
     let mut source = WordSource { alloc, rest };
     let op = read_op(&mut source, kind)?;
     if !source.rest.is_empty() {
+        drop(op);
         return Err(ReadError::Fault(BadText));
     }
     Ok(op)

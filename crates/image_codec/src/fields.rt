@@ -10,7 +10,7 @@ use crate::fault::{ReadError, wrong_at};
 use crate::image_cause::ImageCause;
 use edit_values::NumberList;
 use ns_path::{is_good_owner, is_good_path};
-use qj_num::{MAX, Name};
+use qj_num::{MAX, Name, OutOfMemory};
 use std::alloc::Global;
 
 /// The most bytes of a path.
@@ -185,17 +185,30 @@ pub(crate) fn path_of(bytes: &[u8]) -> Result<(&[u8], &[u8]), ReadError>
     Ok((path, rest))
 }
 
-// A user or a group.
+// A user or a group, where it stands in the bytes.
 #[tactic(auto, unfolding(crate::specs::Reading::owner_at))]
-pub(crate) fn owner_of(alloc: Global, bytes: &[u8]) -> Result<(Name, &[u8]), ReadError>
-    ensures read { Gives (λ x. (x.0, x.1.now)) result (owner_at bytes.now) }
-    ensures good { IfOk result (λ x. is_owner x.0 ≡ true) }
+pub(crate) fn owner_of(bytes: &[u8]) -> Result<(&[u8], &[u8]), ReadError>
+    ensures read { Gives (λ x. (x.0.now, x.1.now)) result (owner_at bytes.now) }
+    ensures good { IfOk result (λ x. is_owner x.0.now ≡ true) }
 {
     let (owner, rest) = text_of(bytes)?;
     if !is_good_owner(owner) {
         return Err(wrong_at(ImageCause::Field, bytes));
     }
-    Ok((Name::from_slice(alloc, owner)?, rest))
+    Ok((owner, rest))
+}
+
+// A user and a group, each in memory of its own.
+pub(crate) fn owners_of(
+    alloc: Global,
+    user: &[u8],
+    group: &[u8],
+) -> Result<(Name, Name), OutOfMemory>
+    ensures { IfOk result (λ x. (x.0 ≡ user.now) × (x.1 ≡ group.now)) }
+{
+    let user = Name::from_slice(alloc, user)?;
+    let group = Name::from_slice(alloc, group)?;
+    Ok((user, group))
 }
 
 // One length more; an `Err` may leave another list.

@@ -4,7 +4,9 @@ ghost use Rattle.ns_tree.specs.Space.{IsInode, is_dir};
 ghost use Rattle.image_codec.specs.Reading.{Gives, dir_at, file_at, inode_at};
 
 use crate::fault::ReadError;
-use crate::fields::{amount_of, blocks_of, byte_of, owner_of, permission_of, size_of, small_of};
+use crate::fields::{
+    amount_of, blocks_of, byte_of, owner_of, owners_of, permission_of, size_of, small_of,
+};
 use ns_tree::Inode;
 use std::alloc::Global;
 
@@ -20,10 +22,11 @@ pub(crate) fn dir_of(alloc: Global, bytes: &[u8]) -> Result<(Inode, &[u8]), Read
 {
     let (mtime, rest) = amount_of(bytes)?;
     let (permission, rest) = permission_of(rest)?;
-    let (user, rest) = owner_of(alloc, rest)?;
-    let (group, rest) = owner_of(alloc, rest)?;
+    let (user, rest) = owner_of(rest)?;
+    let (group, rest) = owner_of(rest)?;
     let (names, rest) = amount_of(rest)?;
     let (space, rest) = amount_of(rest)?;
+    let (user, group) = owners_of(alloc, user, group)?;
     Ok((
         Inode::Dir {
             mtime,
@@ -45,13 +48,14 @@ fn file_of(alloc: Global, bytes: &[u8]) -> Result<(Inode, &[u8]), ReadError>
 {
     let (mtime, rest) = amount_of(bytes)?;
     let (permission, rest) = permission_of(rest)?;
-    let (user, rest) = owner_of(alloc, rest)?;
-    let (group, rest) = owner_of(alloc, rest)?;
+    let (user, rest) = owner_of(rest)?;
+    let (group, rest) = owner_of(rest)?;
     let (replication, rest) = small_of(rest, 1, MOST_COPIES)?;
     let (atime, rest) = amount_of(rest)?;
     let (block_size, rest) = size_of(rest)?;
     let (open, rest) = byte_of(rest, 1)?;
     let (lengths, rest) = blocks_of(alloc, rest)?;
+    let (user, group) = owners_of(alloc, user, group)?;
     Ok((
         Inode::File {
             replication,

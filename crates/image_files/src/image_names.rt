@@ -7,7 +7,6 @@ use small_files::{FileName, push_padded};
 use std::marker::Model;
 
 /// The names of the files of the image of a txid of at most 2^62.
-#[derive(Drop)]
 pub struct ImageNames {
     txid: u64,
     whole: FileName,
@@ -27,6 +26,19 @@ impl Model for ImageNames {
     ghost invariant = { λ n. (n.txid ≤ 2 ^ 62)
         × (n.whole.bytes ≡ name_of n.txid Itself) × (n.checkpoint.bytes ≡ name_of n.txid Checkpoint)
         × (n.digest.bytes ≡ name_of n.txid Digest) × (n.fresh.bytes ≡ name_of n.txid FreshDigest) };
+}
+
+/// They are let go by one call wherever they are, which keeps proofs short.
+impl Drop for ImageNames {
+    fn drop(self) {
+        let ImageNames {
+            txid: _,
+            whole: _,
+            checkpoint: _,
+            digest: _,
+            fresh: _,
+        } = self;
+    }
 }
 
 // A front, the txid and a rest.

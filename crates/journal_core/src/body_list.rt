@@ -7,10 +7,17 @@ use qj_num::Bytes;
 use std::alloc::Global;
 use std::marker::Model;
 
-/// Bodies in order, each the body of one edit.
-#[derive(Drop)]
+/// Bodies in order, each the body of one edit. It is let go by one call wherever it is, which keeps
+/// proofs short.
 pub struct BodyList {
     items: Vec<Bytes>,
+}
+
+impl Drop for BodyList {
+    fn drop(self) {
+        let BodyList { items } = self;
+        drop(items);
+    }
 }
 
 impl Model for BodyList {
@@ -80,7 +87,7 @@ impl BodyList {
         ensures ok { OnOk result (self.new ≡ self.old ++ bodies) }
         ensures err { OnErr result (self.new ≡ self.old) }
     {
-        let mut items = bodies.items;
+        let BodyList { mut items } = bodies;
         self.items.append(&mut items)?;
         Ok(())
     }

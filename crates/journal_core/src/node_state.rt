@@ -6,8 +6,7 @@ use crate::segment_list::SegmentList;
 use std::alloc::Global;
 
 /// The state of a node. `promised`, `writer`, `committed` and `segments` are durable; the others are
-/// forgotten when it goes down.
-#[derive(Drop)]
+/// forgotten when it goes down. It is let go by one call wherever it is, which keeps proofs short.
 pub struct NodeState {
     /// The greatest epoch that it promised.
     pub promised: u64,
@@ -25,6 +24,22 @@ pub struct NodeState {
     pub serial: u64,
     /// It answers.
     pub up: bool,
+}
+
+impl Drop for NodeState {
+    fn drop(self) {
+        let NodeState {
+            promised: _,
+            writer: _,
+            committed: _,
+            known: _,
+            segments,
+            opened: _,
+            serial: _,
+            up: _,
+        } = self;
+        drop(segments);
+    }
 }
 
 impl NodeState {

@@ -6,8 +6,8 @@ ghost use Rattle.journal_core.specs.Step.{closes_segment};
 use crate::batch::Batch;
 use crate::head::Head;
 
-/// A request to a node. Every start, first txid and `from` is at least 1.
-#[derive(Drop)]
+/// A request to a node. Every start, first txid and `from` is at least 1. It is let go by one call
+/// wherever it is, which keeps proofs short.
 pub enum Request {
     /// What is promised?
     State,
@@ -59,6 +59,36 @@ pub enum Request {
     },
     /// List the segments.
     Manifest,
+}
+
+impl Drop for Request {
+    fn drop(self) {
+        match self {
+            Request::State => {}
+            Request::NewEpoch { epoch: _ } => {}
+            Request::Start { head: _, start: _ } => {}
+            Request::Journal {
+                head: _,
+                start: _,
+                batch: _,
+            } => {}
+            Request::Finalize {
+                head: _,
+                start: _,
+                end: _,
+            } => {}
+            Request::Prepare { head: _, start: _ } => {}
+            Request::Fetch {
+                head: _,
+                start: _,
+                from: _,
+            } => {}
+            Request::Accept { head: _, batch: _ } => {}
+            Request::Purge { head: _, min: _ } => {}
+            Request::Read { from: _ } => {}
+            Request::Manifest => {}
+        }
+    }
 }
 
 impl Request {

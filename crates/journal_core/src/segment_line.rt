@@ -15,10 +15,16 @@ pub struct SegmentLine {
     pub epoch: u64,
 }
 
-/// Segments by rising start.
-#[derive(Drop)]
+/// Segments by rising start. It is let go by one call wherever it is, which keeps proofs short.
 pub struct SegmentLines {
     items: Vec<SegmentLine>,
+}
+
+impl Drop for SegmentLines {
+    fn drop(self) {
+        let SegmentLines { items } = self;
+        drop(items);
+    }
 }
 
 impl Model for SegmentLines {

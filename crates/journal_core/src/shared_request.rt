@@ -8,11 +8,18 @@ use std::alloc::Global;
 use std::marker::Model;
 use std::sync::Arc;
 
-/// A request that can be held several times without a copy: a round sends one request to many nodes,
-/// and each history and record lists it. Contracts see it as the request.
-#[derive(Drop)]
+/// A request that can be held several times without a copy: a round sends one request to many
+/// nodes, and each history and record lists it. Contracts see it as the request. It is let go by
+/// one call wherever it is, which keeps proofs short.
 pub struct SharedRequest {
     request: Arc<Request, Global>,
+}
+
+impl Drop for SharedRequest {
+    fn drop(self) {
+        let SharedRequest { request } = self;
+        drop(request);
+    }
 }
 
 impl Model for SharedRequest {

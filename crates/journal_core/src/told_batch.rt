@@ -6,10 +6,17 @@ use crate::batch::Batch;
 use std::alloc::Global;
 use std::marker::Model;
 
-/// A batch that a reply tells, in one word, since most replies tell none. Contracts see it as the batch.
-#[derive(Drop)]
+/// A batch that a reply tells, in one word, since most replies tell none. Contracts see it as the
+/// batch. It is let go by one call wherever it is, which keeps proofs short.
 pub struct ToldBatch {
     batch: Box<Batch>,
+}
+
+impl Drop for ToldBatch {
+    fn drop(self) {
+        let ToldBatch { batch } = self;
+        drop(batch);
+    }
 }
 
 impl Model for ToldBatch {
@@ -43,7 +50,8 @@ impl ToldBatch {
     pub fn into_batch(self) -> Batch
         ensures { result ≡ self }
     {
-        Box::into_inner(self.batch)
+        let ToldBatch { batch } = self;
+        Box::into_inner(batch)
     }
 
     /// The same once more; the bodies' bytes are shared.

@@ -6,10 +6,17 @@ use crate::segment_info::SegmentInfo;
 use std::alloc::Global;
 use std::marker::Model;
 
-/// A segment's state, or none, in one word. Contracts see it as an option.
-#[derive(Drop)]
+/// A segment's state, or none, in one word. Contracts see it as an option. It is let go by one call
+/// wherever it is, which keeps proofs short.
 pub struct ToldSegment {
     info: Option<Box<SegmentInfo>>,
+}
+
+impl Drop for ToldSegment {
+    fn drop(self) {
+        let ToldSegment { info } = self;
+        drop(info);
+    }
 }
 
 impl Model for ToldSegment {

@@ -26,12 +26,27 @@ use std::marker::Model;
 
 /// A node that keeps its state in the files of its own disk. In memory it has its numbers, a table of its
 /// segments and the newest edits of the one that it began last, the cached segment.
-#[derive(Drop)]
 pub struct JournalNode<D: Disk> {
     pub(crate) disk: D,
     pub(crate) memory: NodeState,
     pub(crate) table: SegmentTable,
     pub(crate) recent: RecentEdits,
+}
+
+/// A node is let go by one call wherever it is, which keeps proofs short.
+impl<D: Disk + Drop> Drop for JournalNode<D> {
+    fn drop(self) {
+        let JournalNode {
+            disk,
+            memory,
+            table,
+            recent,
+        } = self;
+        drop(disk);
+        drop(memory);
+        drop(table);
+        drop(recent);
+    }
 }
 
 impl<D: Disk> Model for JournalNode<D> {
@@ -52,7 +67,16 @@ impl<D: Disk> JournalNode<D> {
         ensures stands { D.tells self.disk → StandsAs (D.view self.disk).seen (state_of (D.view self.disk).seen self.memory self.rows) }
         ensures lasting { D.tells self.disk → self.memory.up ≡ true → AllLeave (D.view self.disk) (λ c. StandsAs c (state_of (D.view self.disk).seen self.memory self.rows)) }
     {
-        self.disk
+        let JournalNode {
+            disk,
+            memory,
+            table,
+            recent,
+        } = self;
+        drop(memory);
+        drop(table);
+        drop(recent);
+        disk
     }
 
     /// Answers one request. The reply is found before anything is done, and what the durable effects want of

@@ -6,10 +6,17 @@ use node_history::{HistoryList, RecordList};
 use std::alloc::Global;
 use std::marker::Model;
 
-/// The history of each node, by number.
-#[derive(Drop)]
+/// The history of each node, by number. It is let go by one call wherever it is, which keeps proofs
+/// short.
 pub struct HistoryTable {
     items: Vec<HistoryList>,
+}
+
+impl Drop for HistoryTable {
+    fn drop(self) {
+        let HistoryTable { items } = self;
+        drop(items);
+    }
 }
 
 impl Model for HistoryTable {
@@ -55,10 +62,17 @@ impl HistoryTable {
     }
 }
 
-/// The record of each actor in order of declaration, and then the operator's.
-#[derive(Drop)]
+/// The record of each actor in order of declaration, and then the operator's. It is let go by one
+/// call wherever it is, which keeps proofs short.
 pub struct RecordTable {
     items: Vec<RecordList>,
+}
+
+impl Drop for RecordTable {
+    fn drop(self) {
+        let RecordTable { items } = self;
+        drop(items);
+    }
 }
 
 impl Model for RecordTable {

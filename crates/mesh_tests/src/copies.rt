@@ -1,5 +1,4 @@
 //! Late marks and late copies agree in whatever order they stand.
-use crate::agreeing::is_ordered;
 use crate::plays::mesh_of;
 use journal_core::OutOfMemory;
 use mesh::Mesh;
@@ -13,17 +12,15 @@ const COPIES: &[u8] =
     b"raw 2\nwriter a\ntakeover a\nlog a 0a\nlate a 1 3\nlate a 2 2\nlog a 0b\nlate a 2 4\ntakeover a\n\
 late a 1 1\nlate a 1 7\nlog a 0c\n";
 
-/// The marks from the last to the first, but for those that are left out.
-fn turned(alloc: Global, marks: &[Mark], left_out: Option<Mark>) -> Result<Plan, OutOfMemory> {
+/// The marks from the last to the first, but for the one that is left out.
+fn turned(alloc: Global, marks: &[Mark], left_out: Option<Mark>) -> Result<ActorPlan, OutOfMemory> {
     let mut turned = ActorPlan::new(alloc);
     for mark in marks.iter().rev() {
         if Some(*mark) != left_out {
             turned.push(*mark)?;
         }
     }
-    let mut plan = Plan::new(alloc);
-    plan.push(turned)?;
-    Ok(plan)
+    Ok(turned)
 }
 
 /// The mesh of the copies, with its marks turned round, one left out, and one more.
@@ -41,11 +38,13 @@ fn mesh_turned(alloc: Global, left_out: Option<Mark>, more: Option<Mark>) -> Res
     if let Some(mark) = more {
         marks.push(mark)?;
     }
+    let mut plan = Plan::new(alloc);
+    plan.push(turned(alloc, &marks, left_out)?)?;
     Ok(Mesh {
         nodes,
         histories,
         records,
-        plan: turned(alloc, &marks, left_out)?,
+        plan,
     })
 }
 
@@ -57,33 +56,21 @@ fn late(node: usize, number: u64) -> Option<Mark> {
     })
 }
 
+/// A copy wants a mark of what it asked, and one mark serves all copies of that; a mark of a call that was made wants a copy.
 #[test]
-fn marks_may_stand_in_another_order_than_their_copies(rt: HostRuntime) -> Result<(), Fail> {
+fn copies_have_marks_and_marks_copies(rt: HostRuntime) -> Result<(), Fail> {
     let alloc = rt.alloc();
-    assert!(rt; is_ordered(alloc, &mesh_turned(alloc, None, None)?)?);
-    Ok(())
-}
-
-#[test]
-fn a_copy_without_its_mark_is_refused(rt: HostRuntime) -> Result<(), Fail> {
-    let alloc = rt.alloc();
-    assert!(rt; !agrees(alloc, &mesh_turned(alloc, late(1, 3), None)?)?);
-    assert!(rt; !agrees(alloc, &mesh_turned(alloc, late(2, 2), None)?)?);
-    Ok(())
-}
-
-#[test]
-fn a_mark_serves_all_copies_of_what_was_asked(rt: HostRuntime) -> Result<(), Fail> {
-    let alloc = rt.alloc();
-    assert!(rt; agrees(alloc, &mesh_turned(alloc, late(1, 1), None)?)?);
-    assert!(rt; agrees(alloc, &mesh_turned(alloc, late(1, 7), None)?)?);
-    Ok(())
-}
-
-#[test]
-fn a_mark_without_its_copy_is_refused(rt: HostRuntime) -> Result<(), Fail> {
-    let alloc = rt.alloc();
-    assert!(rt; !agrees(alloc, &mesh_turned(alloc, None, late(2, 3))?)?);
-    assert!(rt; agrees(alloc, &mesh_turned(alloc, None, late(2, 99))?)?);
+    for (left_out, more, wanted) in [
+        (None, None, true),
+        (late(1, 3), None, false),
+        (late(2, 2), None, false),
+        (late(1, 1), None, true),
+        (late(1, 7), None, true),
+        (None, late(2, 3), false),
+        (None, late(2, 99), true),
+    ] {
+        let mesh = mesh_turned(alloc, left_out, more)?;
+        assert_eq!(rt; agrees(alloc, &mesh)?, wanted);
+    }
     Ok(())
 }

@@ -1,202 +1,191 @@
-//! Meshes that agree though no order of all lines fits them, and meshes that don't agree.
-use crate::drafts::Draft;
-use journal_core::{OutOfMemory, Refusal, Reply, Request, SegmentLines};
-use mesh::Mesh;
+//! Lists written line by line: two takeovers that cross agree though no order of all lines fits them, and what is told otherwise in one
+//! list doesn't agree.
+use crate::ordering::text_of;
+use crate::plays::order_of;
+use journal_core::{OutOfMemory, Refusal, Reply, Request, SegmentLines, SharedRequest};
+use mesh::{HistoryTable, Mesh, RecordTable};
 use mesh_agreement::agrees;
-use mesh_judge::order_events;
-use node_history::{ActorPlan, Mark, MarkKind, Plan, Told};
-use run_safety::Event;
+use node_history::{
+    ActorPlan, HistoryLine, HistoryList, Mark, MarkKind, NodeAnswer, NodeAsk, Plan, Record,
+    RecordList, Told,
+};
 use std::alloc::Global;
 use std::test::Fail;
 
-/// What a caller heard in the crossed takeovers: a state or a promise of that epoch.
+/// One call: a caller's at a node, from 1.
 #[derive(Clone, Copy)]
-struct Heard {
+struct Line {
     caller: u32,
     node: usize,
-    epoch: u64,
-    promised: u64,
+    asked: Asked,
 }
 
-impl Heard {
-    /// The caller asked the node for its promise, and it was that.
-    fn state(caller: u32, node: usize, promised: u64) -> Heard {
-        Heard {
-            caller,
-            node,
-            epoch: 0,
-            promised,
-        }
+/// What was asked, and what was answered: a state with that promise, a promise of that epoch, a list of no segments, or a read from that
+/// txid that nothing was there for.
+#[derive(Clone, Copy)]
+enum Asked {
+    State(u64),
+    Promise(u64),
+    Manifest,
+    Read(u64),
+}
+
+impl Asked {
+    fn request(self, alloc: Global) -> Result<SharedRequest, OutOfMemory> {
+        SharedRequest::new(
+            alloc,
+            match self {
+                Asked::State(_) => Request::State,
+                Asked::Promise(epoch) => Request::NewEpoch { epoch },
+                Asked::Manifest => Request::Manifest,
+                Asked::Read(from) => Request::Read { from },
+            },
+        )
     }
 
-    /// The node promised that epoch.
-    fn promise(caller: u32, node: usize, epoch: u64) -> Heard {
-        Heard {
-            caller,
-            node,
-            epoch,
-            promised: 0,
+    fn reply(self, alloc: Global) -> Reply {
+        match self {
+            Asked::State(promised) => Reply::State { promised },
+            Asked::Promise(_) => Reply::NewEpoch { newest: None },
+            Asked::Manifest => Reply::Segments(SegmentLines::new(alloc)),
+            Asked::Read(_) => Reply::Refused(Refusal::NotHere { last: 0 }),
         }
     }
+}
 
-    fn request(self) -> Request {
-        if self.epoch == 0 {
-            Request::State
-        } else {
-            Request::NewEpoch { epoch: self.epoch }
-        }
-    }
-
-    fn reply(self) -> Reply {
-        if self.epoch == 0 {
-            Reply::State {
-                promised: self.promised,
-            }
-        } else {
-            Reply::NewEpoch { newest: None }
-        }
+fn line_of(caller: u32, node: usize, asked: Asked) -> Line {
+    Line {
+        caller,
+        node,
+        asked,
     }
 }
 
 /// Two takeovers, as the nodes list them. At node 1 the second one came after the first had proposed there; at node 2 it came before the
 /// first had asked.
-fn at_nodes() -> [Heard; 8] {
+fn at_nodes() -> [Line; 8] {
     [
-        Heard::state(0, 1, 0),
-        Heard::promise(0, 1, 1),
-        Heard::state(1, 1, 1),
-        Heard::promise(1, 1, 2),
-        Heard::state(1, 2, 0),
-        Heard::state(0, 2, 0),
-        Heard::promise(0, 2, 1),
-        Heard::promise(1, 2, 2),
+        line_of(0, 1, Asked::State(0)),
+        line_of(0, 1, Asked::Promise(1)),
+        line_of(1, 1, Asked::State(1)),
+        line_of(1, 1, Asked::Promise(2)),
+        line_of(1, 2, Asked::State(0)),
+        line_of(0, 2, Asked::State(0)),
+        line_of(0, 2, Asked::Promise(1)),
+        line_of(1, 2, Asked::Promise(2)),
     ]
 }
 
 /// The same as the callers list them.
-fn at_callers() -> [Heard; 8] {
+fn at_callers() -> [Line; 8] {
     [
-        Heard::state(0, 1, 0),
-        Heard::state(0, 2, 0),
-        Heard::promise(0, 1, 1),
-        Heard::promise(0, 2, 1),
-        Heard::state(1, 1, 1),
-        Heard::state(1, 2, 0),
-        Heard::promise(1, 1, 2),
-        Heard::promise(1, 2, 2),
+        line_of(0, 1, Asked::State(0)),
+        line_of(0, 2, Asked::State(0)),
+        line_of(0, 1, Asked::Promise(1)),
+        line_of(0, 2, Asked::Promise(1)),
+        line_of(1, 1, Asked::State(1)),
+        line_of(1, 2, Asked::State(0)),
+        line_of(1, 1, Asked::Promise(2)),
+        line_of(1, 2, Asked::Promise(2)),
     ]
 }
 
-/// The mesh of such lists.
-fn mesh_heard(alloc: Global, nodes: &[Heard], callers: &[Heard]) -> Result<Mesh, OutOfMemory> {
-    let mut draft = Draft::new(alloc, 2, 2)?;
-    for line in nodes {
-        draft.answer(alloc, line.node, line.caller, line.request(), line.reply())?;
+/// The history of a node with these lines.
+fn history_of(alloc: Global, node: usize, lines: &[Line]) -> Result<HistoryList, OutOfMemory> {
+    let mut history = HistoryList::new(alloc);
+    for line in lines.iter().filter(|line| line.node == node) {
+        history.push(HistoryLine {
+            caller: line.caller,
+            ask: NodeAsk::Act {
+                late: false,
+                request: line.asked.request(alloc)?,
+            },
+            answer: NodeAnswer::Replied(line.asked.reply(alloc)),
+        })?;
     }
-    for line in callers {
-        let told = Told::Reply(line.reply());
-        draft.call(alloc, line.caller, line.node, line.request(), told)?;
-    }
-    draft.into_mesh(alloc)
+    Ok(history)
 }
 
-/// The node and the epoch of a proposal.
-fn proposed(event: &Event) -> (usize, u64) {
-    if let Event::Call { node, request, .. } = event {
-        if let Request::NewEpoch { epoch } = request.get() {
-            return (*node, *epoch);
-        }
+/// The record of a caller with these lines.
+fn record_of(alloc: Global, caller: u32, lines: &[Line]) -> Result<RecordList, OutOfMemory> {
+    let mut record = RecordList::new(alloc);
+    for line in lines.iter().filter(|line| line.caller == caller) {
+        record.push(Record::Call {
+            node: line.node,
+            request: line.asked.request(alloc)?,
+            told: Told::Reply(line.asked.reply(alloc)),
+        })?;
     }
-    (0, 0)
+    Ok(record)
+}
+
+/// The mesh of two nodes and two callers with such lists, and a mark of the first caller's.
+fn mesh_told(
+    alloc: Global,
+    at_nodes: &[Line],
+    at_callers: &[Line],
+    mark: Option<Mark>,
+) -> Result<Mesh, OutOfMemory> {
+    let histories = vec![in alloc;
+        history_of(alloc, 1, at_nodes)?,
+        history_of(alloc, 2, at_nodes)?,
+    ]?;
+    let records = vec![in alloc;
+        record_of(alloc, 0, at_callers)?,
+        record_of(alloc, 1, at_callers)?,
+        RecordList::new(alloc),
+    ]?;
+    let mut marks = ActorPlan::new(alloc);
+    if let Some(mark) = mark {
+        marks.push(mark)?;
+    }
+    let mut plan = Plan::new(alloc);
+    plan.push(marks)?;
+    plan.push(ActorPlan::new(alloc))?;
+    Ok(Mesh {
+        nodes: 2,
+        histories: HistoryTable::of(histories),
+        records: RecordTable::of(records),
+        plan,
+    })
 }
 
 #[test]
 fn crossed_takeovers_agree_and_have_an_epoch_order(rt: HostRuntime) -> Result<(), Fail> {
-    let alloc = rt.alloc();
-    let mesh = mesh_heard(alloc, &at_nodes(), &at_callers())?;
-    if !agrees(alloc, &mesh)? {
-        return Err("the mesh doesn't agree".into());
-    }
-    let mut proposals = Vec::new(alloc);
-    for event in order_events(alloc, &mesh)? {
-        proposals.push(proposed(&event))?;
-    }
+    let mesh = mesh_told(rt.alloc(), &at_nodes(), &at_callers(), None)?;
+    let Some(events) = order_of(rt.alloc(), &mesh)? else {
+        return Err("the lists don't agree".into());
+    };
     assert_eq!(rt;
-        proposals.as_slice(),
-        [(1, 1), (2, 1), (1, 2), (2, 2)].as_slice()
+        text_of(rt.alloc(), &events)?.as_str(),
+        "heard 1: 1 2; heard 2: 1 2"
     );
     Ok(())
 }
 
+/// A line that its node doesn't answer so, an answer that was heard otherwise, a mark that no call goes by, and a call that no task makes.
 #[test]
-fn a_line_that_its_node_does_not_answer_is_refused(rt: HostRuntime) -> Result<(), Fail> {
+fn what_one_list_tells_otherwise_is_refused(rt: HostRuntime) -> Result<(), Fail> {
     let alloc = rt.alloc();
-    let mut lines = at_nodes();
-    lines[2] = Heard::state(1, 1, 0);
-    let mut told = at_callers();
-    told[4] = Heard::state(1, 1, 0);
-    assert!(rt; !agrees(alloc, &mesh_heard(alloc, &lines, &told)?)?);
-    Ok(())
-}
-
-#[test]
-fn an_answer_that_was_heard_otherwise_is_refused(rt: HostRuntime) -> Result<(), Fail> {
-    let alloc = rt.alloc();
-    let mut told = at_callers();
-    told[1] = Heard::state(0, 2, 1);
-    assert!(rt; !agrees(alloc, &mesh_heard(alloc, &at_nodes(), &told)?)?);
-    Ok(())
-}
-
-#[test]
-fn a_mark_that_no_call_goes_by_is_refused(rt: HostRuntime) -> Result<(), Fail> {
-    let alloc = rt.alloc();
-    let Mesh {
-        nodes,
-        histories,
-        records,
-        ..
-    } = mesh_heard(alloc, &at_nodes(), &at_callers())?;
-    let mut marks = ActorPlan::new(alloc);
-    marks.push(Mark {
+    let (mut nodes, mut callers) = (at_nodes(), at_callers());
+    nodes[2] = line_of(1, 1, Asked::State(0));
+    callers[4] = line_of(1, 1, Asked::State(0));
+    assert!(rt; !agrees(alloc, &mesh_told(alloc, &nodes, &callers, None)?)?);
+    assert!(rt; !agrees(alloc, &mesh_told(alloc, &at_nodes(), &callers, None)?)?);
+    let muted = Mark {
         node: 2,
         number: 2,
         kind: MarkKind::Muted,
-    })?;
-    let mut plan = Plan::new(alloc);
-    plan.push(marks)?;
-    plan.push(ActorPlan::new(alloc))?;
-    let mesh = Mesh {
-        nodes,
-        histories,
-        records,
-        plan,
     };
-    assert!(rt; !agrees(alloc, &mesh)?);
-    Ok(())
-}
-
-/// One call of one node, which answers it.
-fn mesh_of_call(alloc: Global, from: u64) -> Result<Mesh, OutOfMemory> {
-    let mut draft = Draft::new(alloc, 1, 1)?;
-    if from == 0 {
-        let none = Reply::Segments(SegmentLines::new(alloc));
-        draft.answer(alloc, 1, 0, Request::Manifest, none)?;
-        let none = Reply::Segments(SegmentLines::new(alloc));
-        draft.call(alloc, 0, 1, Request::Manifest, Told::Reply(none))?;
-        return draft.into_mesh(alloc);
-    }
-    let refusal = Refusal::NotHere { last: 0 };
-    draft.answer(alloc, 1, 0, Request::Read { from }, Reply::Refused(refusal))?;
-    let told = Told::Reply(Reply::Refused(refusal));
-    draft.call(alloc, 0, 1, Request::Read { from }, told)?;
-    draft.into_mesh(alloc)
-}
-
-#[test]
-fn a_call_that_no_chore_makes_is_refused(rt: HostRuntime) -> Result<(), Fail> {
-    let alloc = rt.alloc();
-    assert!(rt; !agrees(alloc, &mesh_of_call(alloc, 0)?)?);
-    assert!(rt; agrees(alloc, &mesh_of_call(alloc, 7)?)?);
+    assert!(rt;
+        !agrees(
+            alloc,
+            &mesh_told(alloc, &at_nodes(), &at_callers(), Some(muted))?
+        )?
+    );
+    let listed = [line_of(0, 1, Asked::Manifest)];
+    assert!(rt; !agrees(alloc, &mesh_told(alloc, &listed, &listed, None)?)?);
+    let read = [line_of(0, 1, Asked::Read(7))];
+    assert!(rt; agrees(alloc, &mesh_told(alloc, &read, &read, None)?)?);
     Ok(())
 }

@@ -1,8 +1,7 @@
-//! Tests of agreement and of the epoch order, over the meshes of known and of random scripts.
+//! Tests of meshes, which the texts of plays don't show: which lists agree, in which order the epochs put what moved the nodes, and what
+//! threads leave that overlap.
 #![tactic(auto)]
 
-#[cfg(test)]
-mod actions;
 #[cfg(test)]
 mod agreeing;
 #[cfg(test)]
@@ -10,14 +9,18 @@ mod copies;
 #[cfg(test)]
 mod drafted;
 #[cfg(test)]
-mod drafts;
-#[cfg(test)]
 mod draws;
 #[cfg(test)]
-mod known;
+mod held;
 #[cfg(test)]
 mod ordering;
 #[cfg(test)]
-mod orders;
-#[cfg(test)]
 mod plays;
+#[cfg(test)]
+mod replayed;
+#[cfg(test)]
+mod running;
+#[cfg(test)]
+mod threads;
+#[cfg(test)]
+mod two_threads;

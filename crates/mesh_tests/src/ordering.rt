@@ -1,140 +1,110 @@
-//! The epoch orders of known scripts, as their reports tell them.
-use crate::actions::{Action, Kind, action_of};
-use crate::plays::mesh_of;
-use journal_core::OutOfMemory;
-use mesh_agreement::agrees;
-use mesh_judge::order_events;
+//! The epoch orders of known scripts, told as text.
+use crate::plays::{mesh_of, order_of};
+use journal_core::{OutOfMemory, Request};
+use run_safety::{Event, Fate};
 use std::alloc::Global;
 use std::test::Fail;
 
-/// Events of one kind under one epoch, each at the node with the next of these digits.
-#[derive(Clone, Copy)]
-struct Actions {
-    kind: Kind,
-    epoch: u64,
-    nodes: &'static str,
-}
+/// What an event did to a node: a word, the epoch of its request, or 0, and the node.
+type Action = (&'static str, u64, usize);
 
-impl Actions {
-    fn of(kind: Kind, epoch: u64, nodes: &'static str) -> Actions {
-        Actions { kind, epoch, nodes }
+/// The epoch that a request proposes, that of its head, or 0.
+fn epoch_of(request: &Request) -> u64 {
+    if let Request::NewEpoch { epoch } = request {
+        return *epoch;
+    }
+    match request.head() {
+        Some(head) => head.epoch(),
+        None => 0,
     }
 }
 
-/// The actions that a table tells.
-fn told(alloc: Global, table: &[Actions]) -> Result<Vec<Action>, OutOfMemory> {
-    let mut told = Vec::new(alloc);
-    for row in table {
-        for digit in row.nodes.as_bytes() {
-            told.push(Action {
-                kind: row.kind,
-                node: digit.saturating_sub(b'0') as usize,
-                epoch: row.epoch,
-            })?;
+/// What an event did; none where it did nothing to a node.
+fn action_of(event: &Event) -> Option<Action> {
+    match event {
+        Event::Call {
+            node,
+            request,
+            fate,
+            ..
+        } => {
+            let word = match fate {
+                Fate::Heard => "heard",
+                Fate::Muted => "muted",
+                Fate::Stopped { .. } => "stopped",
+                Fate::Dropped => "dropped",
+            };
+            Some((word, epoch_of(request.get()), *node))
         }
+        Event::Late { node, request, .. } => Some(("late", epoch_of(request.get()), *node)),
+        Event::Kill { node } => Some(("kill", 0, *node)),
+        Event::Restart { node } => Some(("restart", 0, *node)),
+        _ => None,
     }
-    Ok(told)
 }
 
-/// The actions in the epoch order of a text's script, whose mesh agrees.
-fn actions_of(alloc: Global, text: &[u8]) -> Result<Vec<Action>, Fail> {
-    let mesh = mesh_of(alloc, text)?;
-    if !agrees(alloc, &mesh)? {
-        return Err("the mesh doesn't agree".into());
+/// The events as text: of each run of events of one kind under one epoch the word, the epoch, and the nodes in order.
+pub(crate) fn text_of(alloc: Global, events: &[Event]) -> Result<String, OutOfMemory> {
+    let mut text = String::new(alloc);
+    let mut before = ("", 0);
+    for event in events {
+        let Some((word, epoch, node)) = action_of(event) else {
+            continue;
+        };
+        if before.0 != word || before.1 != epoch {
+            let mark = if text.is_empty() { "" } else { "; " };
+            text.push_str(format!(in alloc; "{mark}{word} {epoch}:")?.as_str())?;
+        }
+        text.push_str(format!(in alloc; " {node}")?.as_str())?;
+        before = (word, epoch);
     }
-    let mut actions = Vec::new(alloc);
-    for event in order_events(alloc, &mesh)? {
-        actions.push(action_of(&event))?;
+    Ok(text)
+}
+
+/// Scripts, each with its epoch order: what one owner asked stands in the order of its record, writers stand epoch by epoch, kills and
+/// restarts stay after what moved their node, a late copy of a used serial has no place and one after a restart has one, and a proposal
+/// that lost stands before the one that won.
+const ORDERS: &[(&str, &str)] = &[
+    (
+        "raw 3\nwriter a\ntakeover a\nlog a 0a\nlog a 0b\nlog a 0c\n",
+        "heard 1: 1 2 3 1 2 3 1 2 3 1 2 3 1 2 3 1 2 3",
+    ),
+    (
+        "raw 3\nwriter a\nwriter b\ntakeover a\nlog a 0a\ndrop a 2 1\ndrop a 3 1\nlog a 0b\n\
+takeover b\nlog b 0c\nlog a 0d\ntakeover a\nlog b 0e\nlog a 0f\n",
+        "heard 1: 1 2 3 1 2 3 1 2 3 1 2 3 1; \
+heard 2: 1 2 3 1 2 3 1 1 2 3 1 2 3 1 2 3 1 2 3 1 2 3; \
+heard 3: 1 2 3 1 2 3 1 1 2 3 1 2 3 1 2 3 1 2 3 1 2 3",
+    ),
+    (
+        "raw 3\nwriter a\ntakeover a\nkill 3\nlog a 0a\nrestart 3\nroll a\nlog a 0b\n\
+stop 1 1 1\nlog a 0c\nkill 2\nlog a 0d\nrestart 1\nrestart 2\ntakeover a\nlog a 0e\n",
+        "heard 1: 1 2 3 1 2 3 1 2 3; kill 0: 3; restart 0: 3; heard 1: 1 2 1 2 1 2 1 2 3 1 2 3 1 2 3; stopped 1: 1; restart 0: 1; \
+heard 1: 2; kill 0: 2; restart 0: 2; heard 1: 3 3; heard 2: 1 2 3 1 2 3 3 1 2 3 1 2 3 1 2 3 1 2 3 1 2 3",
+    ),
+    (
+        "raw 3\nwriter a\ntakeover a\nlog a 0a\nlate a 1 3\nroll a\nlate a 2 5\nmute a 3 1\n\
+log a 0b\npurge a 4\nlog a 0c\nclose a\nlate a 1 99\n",
+        "heard 1: 1 2 3 1 2 3 1 2 3 1 2 3 1 2 3 1 2 3 1 2 3 1 2 3 1 2; muted 1: 3; heard 1: 1 2 3 1 2 1 2 1 2",
+    ),
+    (
+        "raw 1\nwriter a\ntakeover a\nkill 1\nrestart 1\nlate a 1 3\n",
+        "heard 1: 1 1 1; kill 0: 1; restart 0: 1; late 1: 1",
+    ),
+    (
+        "raw 3\nwriter a\nwriter b\ndrop a 1 2\ndrop a 2 2\ntakeover a\ndrop b 3 1\ntakeover b\n",
+        "heard 1: 3 1 2 1 2 3 1 2 3",
+    ),
+];
+
+#[test]
+fn events_stand_in_the_order_of_the_epochs(rt: HostRuntime) -> Result<(), Fail> {
+    for (script, wanted) in ORDERS {
+        let mesh = mesh_of(rt.alloc(), script.as_bytes())?;
+        let Some(events) = order_of(rt.alloc(), &mesh)? else {
+            return Err("the lists don't agree".into());
+        };
+        assert_eq!(rt; text_of(rt.alloc(), &events)?.as_str(), *wanted);
     }
-    Ok(actions)
-}
-
-const FIRST: &[u8] = b"raw 3\nwriter a\ntakeover a\nlog a 0a\nlog a 0b\nlog a 0c\n";
-
-#[test]
-fn requests_come_in_the_order_of_the_owners_record(rt: HostRuntime) -> Result<(), Fail> {
-    let wanted = [Actions::of(Kind::Heard, 1, "123123123123123123")];
-    let found = actions_of(rt.alloc(), FIRST)?;
-    assert_eq!(rt; found.as_slice(), told(rt.alloc(), &wanted)?.as_slice());
-    Ok(())
-}
-
-const COMPETING: &[u8] =
-    b"raw 3\nwriter a\nwriter b\ntakeover a\nlog a 0a\ndrop a 2 1\ndrop a 3 1\nlog a 0b\n\
-takeover b\nlog b 0c\nlog a 0d\ntakeover a\nlog b 0e\nlog a 0f\n";
-
-#[test]
-fn two_writers_come_epoch_by_epoch(rt: HostRuntime) -> Result<(), Fail> {
-    let wanted = [
-        Actions::of(Kind::Heard, 1, "1231231231231"),
-        Actions::of(Kind::Heard, 2, "1231231123123123123123"),
-        Actions::of(Kind::Heard, 3, "1231231123123123123123"),
-    ];
-    let found = actions_of(rt.alloc(), COMPETING)?;
-    assert_eq!(rt; found.as_slice(), told(rt.alloc(), &wanted)?.as_slice());
-    Ok(())
-}
-
-const STOPPED: &[u8] =
-    b"raw 3\nwriter a\ntakeover a\nkill 3\nlog a 0a\nrestart 3\nroll a\nlog a 0b\n\
-stop 1 1 1\nlog a 0c\nkill 2\nlog a 0d\nrestart 1\nrestart 2\ntakeover a\nlog a 0e\n";
-
-#[test]
-fn kills_and_restarts_stay_after_what_moved_their_node(rt: HostRuntime) -> Result<(), Fail> {
-    let wanted = [
-        Actions::of(Kind::Heard, 1, "123123123"),
-        Actions::of(Kind::Kill, 0, "3"),
-        Actions::of(Kind::Restart, 0, "3"),
-        Actions::of(Kind::Heard, 1, "121212123123123"),
-        Actions::of(Kind::Stopped, 1, "1"),
-        Actions::of(Kind::Restart, 0, "1"),
-        Actions::of(Kind::Heard, 1, "2"),
-        Actions::of(Kind::Kill, 0, "2"),
-        Actions::of(Kind::Restart, 0, "2"),
-        Actions::of(Kind::Heard, 1, "33"),
-        Actions::of(Kind::Heard, 2, "1231233123123123123123"),
-    ];
-    let found = actions_of(rt.alloc(), STOPPED)?;
-    assert_eq!(rt; found.as_slice(), told(rt.alloc(), &wanted)?.as_slice());
-    Ok(())
-}
-
-const LATE: &[u8] =
-    b"raw 3\nwriter a\ntakeover a\nlog a 0a\nlate a 1 3\nroll a\nlate a 2 5\nmute a 3 1\n\
-log a 0b\npurge a 4\nlog a 0c\nclose a\nlate a 1 99\n";
-
-#[test]
-fn late_copies_of_used_serials_have_no_place(rt: HostRuntime) -> Result<(), Fail> {
-    let wanted = [
-        Actions::of(Kind::Heard, 1, "12312312312312312312312312"),
-        Actions::of(Kind::Muted, 1, "3"),
-        Actions::of(Kind::Heard, 1, "123121212"),
-    ];
-    let found = actions_of(rt.alloc(), LATE)?;
-    assert_eq!(rt; found.as_slice(), told(rt.alloc(), &wanted)?.as_slice());
-    Ok(())
-}
-
-#[test]
-fn a_late_copy_after_a_restart_has_a_place(rt: HostRuntime) -> Result<(), Fail> {
-    let script = b"raw 1\nwriter a\ntakeover a\nkill 1\nrestart 1\nlate a 1 3\n";
-    let wanted = [
-        Actions::of(Kind::Heard, 1, "111"),
-        Actions::of(Kind::Kill, 0, "1"),
-        Actions::of(Kind::Restart, 0, "1"),
-        Actions::of(Kind::Late, 1, "1"),
-    ];
-    let found = actions_of(rt.alloc(), script)?;
-    assert_eq!(rt; found.as_slice(), told(rt.alloc(), &wanted)?.as_slice());
-    Ok(())
-}
-
-#[test]
-fn a_losing_proposal_comes_before_its_winner(rt: HostRuntime) -> Result<(), Fail> {
-    let script =
-        b"raw 3\nwriter a\nwriter b\ndrop a 1 2\ndrop a 2 2\ntakeover a\ndrop b 3 1\ntakeover b\n";
-    let wanted = [Actions::of(Kind::Heard, 1, "312123123")];
-    let found = actions_of(rt.alloc(), script)?;
-    assert_eq!(rt; found.as_slice(), told(rt.alloc(), &wanted)?.as_slice());
     Ok(())
 }

@@ -1,18 +1,36 @@
-//! The mesh of a text's play.
+//! The play of a script's text, and whether what it leaves agrees.
 use cluster_runner::play;
+use journal_core::OutOfMemory;
+use memory_node::PlainNode;
 use mesh::Mesh;
+use mesh_agreement::agrees;
+use mesh_judge::order_events;
+use run_safety::Event;
 use script_actor::ScriptActor;
-use script_plays::scripts_are_playable;
+use script_plays::{Played, scripts_are_playable};
 use script_text::{ReadScript, read_script, scripts_break_no_rule};
 use std::alloc::Global;
 use std::test::Fail;
 
-/// The mesh that the text's script leaves.
-pub fn mesh_of(alloc: Global, text: &[u8]) -> Result<Mesh, Fail> {
+/// What the play of the text's script leaves.
+pub(crate) fn play_text(alloc: Global, text: &[u8]) -> Result<Played<PlainNode>, Fail> {
     scripts_break_no_rule();
     scripts_are_playable();
     let ReadScript::Script(script) = read_script(alloc, text) else {
         return Err("no script".into());
     };
-    Ok(play::<ScriptActor>(alloc, &script)?.mesh)
+    Ok(play::<ScriptActor>(alloc, &script)?)
+}
+
+/// The mesh of such a play.
+pub(crate) fn mesh_of(alloc: Global, text: &[u8]) -> Result<Mesh, Fail> {
+    Ok(play_text(alloc, text)?.mesh)
+}
+
+/// The epoch order of a mesh; none where it doesn't agree.
+pub(crate) fn order_of(alloc: Global, mesh: &Mesh) -> Result<Option<Vec<Event>>, OutOfMemory> {
+    if !agrees(alloc, mesh)? {
+        return Ok(None);
+    }
+    Ok(Some(order_events(alloc, mesh)?))
 }

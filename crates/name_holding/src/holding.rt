@@ -20,7 +20,6 @@ use std::marker::Model;
 /// What a name node of a script holds beside its writer: a namespace with the position up to which the log was
 /// replayed into it, and the images that it saved. One that met a bad entry is broken, and nothing more is
 /// asked of it. Contracts see a `Holding` between two actions.
-#[derive(Drop)]
 pub struct NameHolding {
     standby: Standby,
     images: SavedImages,
@@ -35,6 +34,17 @@ impl Model for NameHolding {
     ghost Value = { Holding };
 
     ghost view = { λ h. with_work (rest_work h.is_broken) (held h.images h.standby) };
+}
+
+/// It is let go by one call wherever it is, which keeps proofs short.
+impl Drop for NameHolding {
+    fn drop(self) {
+        let NameHolding {
+            standby: _,
+            images: _,
+            is_broken: _,
+        } = self;
+    }
 }
 
 /// The tail met an entry that doesn't decode or isn't admitted.
@@ -167,7 +177,8 @@ impl NameHolding {
     pub fn into_last(self, alloc: Global) -> Result<LastSpace, OutOfMemory>
         ensures { IfOk result (λ last. last ≡ record { position = self.position; rows = self.space.pairs }) }
     {
-        let (namespace, position) = self.standby.into_parts();
+        let (standby, _) = self.into_parts();
+        let (namespace, position) = standby.into_parts();
         let rows = RowList::of(namespace.into_rows(alloc)?);
         Ok(LastSpace { position, rows })
     }

@@ -7,18 +7,37 @@ use journal_core::OutOfMemory;
 use std::alloc::Global;
 use std::marker::Model;
 
-/// One line of a node's history: who asked, what was asked, and the answer.
-#[derive(Drop)]
+/// One line of a node's history: who asked, what was asked, and the answer. It is let go by one
+/// call wherever it is, which keeps proofs short.
 pub struct HistoryLine {
     pub caller: u32,
     pub ask: NodeAsk,
     pub answer: NodeAnswer,
 }
 
-/// A node's history, the oldest line first.
-#[derive(Drop)]
+impl Drop for HistoryLine {
+    fn drop(self) {
+        let HistoryLine {
+            caller: _,
+            ask,
+            answer,
+        } = self;
+        drop(ask);
+        drop(answer);
+    }
+}
+
+/// A node's history, the oldest line first. It is let go by one call wherever it is, which keeps
+/// proofs short.
 pub struct HistoryList {
     items: Vec<HistoryLine>,
+}
+
+impl Drop for HistoryList {
+    fn drop(self) {
+        let HistoryList { items } = self;
+        drop(items);
+    }
 }
 
 impl Model for HistoryList {

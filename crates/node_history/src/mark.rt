@@ -25,10 +25,16 @@ pub struct Mark {
     pub kind: MarkKind,
 }
 
-/// The marks of one actor.
-#[derive(Drop)]
+/// The marks of one actor. It is let go by one call wherever it is, which keeps proofs short.
 pub struct ActorPlan {
     items: Vec<Mark>,
+}
+
+impl Drop for ActorPlan {
+    fn drop(self) {
+        let ActorPlan { items } = self;
+        drop(items);
+    }
 }
 
 impl Model for ActorPlan {
@@ -67,10 +73,17 @@ impl ActorPlan {
     }
 }
 
-/// The marks of each actor, in order of declaration.
-#[derive(Drop)]
+/// The marks of each actor, in order of declaration. It is let go by one call wherever it is, which
+/// keeps proofs short.
 pub struct Plan {
     items: Vec<ActorPlan>,
+}
+
+impl Drop for Plan {
+    fn drop(self) {
+        let Plan { items } = self;
+        drop(items);
+    }
 }
 
 impl Model for Plan {

@@ -1,12 +1,12 @@
 // What reaches a node, and what it answers.
 ghost use Rattle.std.specs.Prelude.{◌≡◌, IfOk};
+ghost use Rattle.node_history.specs.Cell.{heard_of};
 
 use crate::shared_stop::SharedStop;
-use journal_core::{NodeFail, OutOfMemory, Reply, SharedRequest};
+use journal_core::{Heard, NodeFail, OutOfMemory, Reply, SharedRequest};
 use std::alloc::Global;
 
-/// What is asked of a node in one step.
-#[derive(Drop)]
+/// What is asked of a node in one step. It is let go by one call wherever it is, which keeps proofs short.
 pub enum NodeAsk {
     /// A request; `late` tells a copy that came late, whose reply goes to nobody.
     Act { late: bool, request: SharedRequest },
@@ -18,8 +18,7 @@ pub enum NodeAsk {
     Arm { calls: u64, stop: SharedStop },
 }
 
-/// What came of it.
-#[derive(Drop)]
+/// What came of it. It is let go by one call wherever it is, which keeps proofs short.
 pub enum NodeAnswer {
     /// The node's reply to a request.
     Replied(Reply),
@@ -31,6 +30,20 @@ pub enum NodeAnswer {
     Idle,
     /// The restarted node could not open its files.
     NotOpened(NodeFail),
+}
+
+impl Drop for NodeAsk {
+    fn drop(self) {
+        match self {
+            NodeAsk::Act {
+                late: _,
+                request: _,
+            } => {}
+            NodeAsk::Kill => {}
+            NodeAsk::Restart => {}
+            NodeAsk::Arm { calls: _, stop: _ } => {}
+        }
+    }
 }
 
 impl NodeAsk {
@@ -66,7 +79,32 @@ fn copy_of(alloc: Global, fail: &NodeFail) -> Result<NodeFail, OutOfMemory>
     })
 }
 
+impl Drop for NodeAnswer {
+    fn drop(self) {
+        match self {
+            NodeAnswer::Replied(_) => {}
+            NodeAnswer::Stopped { keep: _ } => {}
+            NodeAnswer::Done => {}
+            NodeAnswer::Idle => {}
+            NodeAnswer::NotOpened(_) => {}
+        }
+    }
+}
+
 impl NodeAnswer {
+    /// What a caller hears of it.
+    pub fn into_heard(self) -> Heard
+        ensures { result ≡ heard_of self }
+    {
+        match self {
+            NodeAnswer::Replied(reply) => Heard::Answer(reply),
+            NodeAnswer::Stopped { keep: _ } => Heard::Silent,
+            NodeAnswer::Done => Heard::Silent,
+            NodeAnswer::Idle => Heard::Silent,
+            NodeAnswer::NotOpened(_) => Heard::Silent,
+        }
+    }
+
     /// The same answer once more; edits are shared.
     pub fn share(&self, alloc: Global) -> Result<NodeAnswer, OutOfMemory>
         ensures { IfOk result (λ answer. answer ≡ self.now) }

@@ -14,15 +14,28 @@ use journal_core::{CutNode, OutOfMemory, Refusal, Reply, Request};
 use std::alloc::{AllocError, Global};
 use std::marker::Model;
 
-/// A node that counts the requests that reach it where it is armed, and lists whatever reaches it. It is seen as its
-/// cell and its history.
-#[derive(Drop)]
+/// A node that counts the requests that reach it where it is armed, and lists whatever reaches it.
+/// It is seen as its cell and its history. It is let go by one call wherever it is, which keeps
+/// proofs short.
 pub struct NodeCell<N: CutNode> {
     node: N,
     // none once the node lacked memory: it may have gone down
     is_up: Option<bool>,
     arming: Option<Arming>,
     history: HistoryList,
+}
+
+impl<N: CutNode + Drop> Drop for NodeCell<N> {
+    fn drop(self) {
+        let NodeCell {
+            node,
+            is_up: _,
+            arming: _,
+            history,
+        } = self;
+        drop(node);
+        drop(history);
+    }
 }
 
 impl<N: CutNode> Model for NodeCell<N> {

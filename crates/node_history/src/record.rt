@@ -7,8 +7,7 @@ use journal_core::{Bytes, OutOfMemory, Reply, SharedRequest};
 use std::alloc::Global;
 use std::marker::Model;
 
-/// What a caller was told of its call.
-#[derive(Drop)]
+/// What a caller was told of its call. It is let go by one call wherever it is, which keeps proofs short.
 pub enum Told {
     /// The node's reply.
     Reply(Reply),
@@ -20,8 +19,7 @@ pub enum Told {
     Silent,
 }
 
-/// One line of a caller's record.
-#[derive(Drop)]
+/// One line of a caller's record. It is let go by one call wherever it is, which keeps proofs short.
 pub enum Record {
     /// A call, and what was heard of it.
     Call {
@@ -46,10 +44,50 @@ pub enum Record {
     },
 }
 
-/// A caller's record, the oldest line first.
-#[derive(Drop)]
+impl Drop for Told {
+    fn drop(self) {
+        match self {
+            Told::Reply(_) => {}
+            Told::Dropped => {}
+            Told::Muted => {}
+            Told::Silent => {}
+        }
+    }
+}
+
+impl Drop for Record {
+    fn drop(self) {
+        match self {
+            Record::Call {
+                node: _,
+                request: _,
+                told: _,
+            } => {}
+            Record::Late {
+                node: _,
+                request: _,
+            } => {}
+            Record::Operator {
+                node: _,
+                ask: _,
+                done: _,
+            } => {}
+            Record::Outcome { text: _ } => {}
+        }
+    }
+}
+
+/// A caller's record, the oldest line first. It is let go by one call wherever it is, which keeps
+/// proofs short.
 pub struct RecordList {
     items: Vec<Record>,
+}
+
+impl Drop for RecordList {
+    fn drop(self) {
+        let RecordList { items } = self;
+        drop(items);
+    }
 }
 
 impl Model for RecordList {

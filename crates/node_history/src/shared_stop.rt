@@ -7,10 +7,17 @@ use std::alloc::Global;
 use std::marker::Model;
 use std::sync::Arc;
 
-/// A stop in one word, since few lines of a history have one. Sharing it takes no memory. Contracts see it as the stop.
-#[derive(Drop)]
+/// A stop in one word, since few lines of a history have one. Sharing it takes no memory. Contracts
+/// see it as the stop. It is let go by one call wherever it is, which keeps proofs short.
 pub struct SharedStop {
     stop: Arc<Stop, Global>,
+}
+
+impl Drop for SharedStop {
+    fn drop(self) {
+        let SharedStop { stop } = self;
+        drop(stop);
+    }
 }
 
 impl Model for SharedStop {

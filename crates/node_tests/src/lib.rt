@@ -1,24 +1,23 @@
-//! Tests of nodes over a disk, of worlds of nodes, and of writers.
+//! Tests of what no case tells: random sessions at a node over a disk beside a node in memory,
+//! worlds of nodes event by event, and writers at limits and over answers that no node gives.
 #![tactic(auto)]
 
 #[cfg(test)]
 mod bodies;
 #[cfg(test)]
-mod cut_acceptances;
-#[cfg(test)]
-mod cut_tables;
-#[cfg(test)]
-mod disk_nodes;
-#[cfg(test)]
-mod effects;
-#[cfg(test)]
-mod effects_done;
+mod draws;
 #[cfg(test)]
 mod nodes;
 #[cfg(test)]
 mod quorum_writers;
 #[cfg(test)]
-mod texts;
+mod requests;
+#[cfg(test)]
+mod segments;
+#[cfg(test)]
+mod sessions;
+#[cfg(test)]
+mod steps;
 #[cfg(test)]
 mod worlds;
 #[cfg(test)]

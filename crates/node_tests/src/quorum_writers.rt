@@ -1,16 +1,15 @@
-//! What no clause says of a writer that makes its calls: that the calls succeed, and which requests they make, over plain nodes.
+//! A writer that makes its calls at plain nodes, at the limits: batches and segments that are too
+//! long, and the greatest epoch.
 ghost use Rattle.std.specs.Prelude.{◌≡◌, ◌≢◌, [], length};
 ghost use Rattle.quorum_writer.specs.Led.{nodes_of};
 
 use crate::bodies::bodies;
-use journal_core::{BodyList, Node, Peers, Refusal, Request, permitted_nodes};
+use journal_core::{BodyList, Node, Peers, Request, permitted_nodes};
 use memory_node::PlainNode;
-use quorum_writer::{Closed, Logged, PlainPeers, Purging, QuorumWriter, Rolled, Taken};
-use request_text::print_request;
+use quorum_writer::{Logged, PlainPeers, QuorumWriter, Rolled, Taken};
 use std::alloc::Global;
 use std::process::Abort;
 use std::test::Fail;
-use writer_core::Cause;
 
 /// A writer, and the nodes that it calls.
 #[derive(Drop)]
@@ -54,10 +53,6 @@ impl Session {
                 self.log(alloc, bodies(alloc, *count, &bytes)?)
             }
             Task::Roll => Ok(told_by_roll(self.writer.roll(alloc, &mut self.peers))),
-            Task::Purge(min) => {
-                Ok(told_by_purge(self.writer.purge(alloc, &mut self.peers, *min)))
-            }
-            Task::Close => Ok(told_by_close(self.writer.close(alloc, &mut self.peers))),
         }
     }
 
@@ -82,49 +77,6 @@ impl Session {
     fn calls(&self) -> usize {
         self.peers.calls().len()
     }
-
-    /// The requests to that node, a line each, after the first `skip` calls.
-    fn asked(&self, alloc: Global, node: usize, skip: usize) -> Result<Vec<u8>, Fail> {
-        let mut out = Vec::new(alloc);
-        for call in self.peers.calls().iter().skip(skip) {
-            if call.node == node {
-                print_request(call.request.get(), &mut out)?;
-                out.push(b'\n')?;
-            }
-        }
-        Ok(out)
-    }
-
-    /// The same writer at the same nodes, of which the second and the third went down.
-    fn with_one_up(self, alloc: Global) -> Result<Session, Fail> {
-        let Session { peers, writer } = self;
-        let mut nodes = peers.into_nodes();
-        let count = nodes.len();
-        if count != 3 {
-            return Err("three nodes are wanted".into());
-        }
-        let _second = nodes[1].kill();
-        let _third = nodes[2].kill();
-        let peers = PlainPeers::of(alloc, nodes);
-        Ok(Session { peers, writer })
-    }
-
-    /// A new writer at the same nodes, which are up again.
-    fn with_all_up(self, alloc: Global) -> Result<Session, Fail> {
-        let Session { peers, writer: _ } = self;
-        let mut nodes = peers.into_nodes();
-        for node in nodes.iter_mut() {
-            let _up = node.restart(alloc);
-        }
-        Session::of(alloc, nodes)
-    }
-}
-
-#[test]
-fn a_journal_has_some_nodes_and_not_too_many(rt: HostRuntime) {
-    assert!(rt; !permitted_nodes(0));
-    assert!(rt; permitted_nodes(1) && permitted_nodes(15));
-    assert!(rt; !permitted_nodes(16));
 }
 
 /// A task of a writer.
@@ -136,8 +88,6 @@ enum Task<'a> {
     /// So many bodies of that many bytes, each 0.
     LogLong(usize, usize),
     Roll,
-    Purge(u64),
-    Close,
 }
 
 /// What is told of a task.
@@ -151,13 +101,8 @@ enum Told {
     TooLong(u64),
     /// The start of the next segment.
     Rolled(u64),
-    Purged,
-    /// The last txid.
-    Closed(u64),
     /// The greatest promise told.
     EpochLimit(u64),
-    /// The first node did it, and the two others of three are down.
-    OneUp,
     NotActive,
     Other,
 }
@@ -176,17 +121,8 @@ fn told_by_log(logged: Logged) -> Told {
         Logged::Acked { first, last } => Told::Acked(first, last),
         Logged::TooLong { number } => Told::TooLong(number),
         Logged::NotActive => Told::NotActive,
-        Logged::Aborted { causes } => told_by_causes(causes.as_slice()),
+        Logged::Aborted { .. } => Told::Other,
         Logged::OutOfMemory => Told::Other,
-    }
-}
-
-fn told_by_causes(causes: &[Cause]) -> Told {
-    let down = Cause::Refused(Refusal::Down);
-    if causes == [Cause::Ok, down, down].as_slice() {
-        Told::OneUp
-    } else {
-        Told::Other
     }
 }
 
@@ -199,24 +135,6 @@ fn told_by_roll(rolled: Rolled) -> Told {
     }
 }
 
-fn told_by_purge(purging: Purging) -> Told {
-    match purging {
-        Purging::Done => Told::Purged,
-        Purging::NotActive => Told::NotActive,
-        Purging::Aborted { .. } => Told::Other,
-        Purging::OutOfMemory => Told::Other,
-    }
-}
-
-fn told_by_close(closed: Closed) -> Told {
-    match closed {
-        Closed::Closed { last } => Told::Closed(last),
-        Closed::NotActive => Told::NotActive,
-        Closed::Aborted { .. } => Told::Other,
-        Closed::OutOfMemory => Told::Other,
-    }
-}
-
 /// What is done in a session, or seen of it.
 #[derive(Clone, Copy)]
 enum Line<'a> {
@@ -226,8 +144,6 @@ enum Line<'a> {
     Room(u64),
     /// How many calls were made.
     Calls(usize),
-    /// The requests to a node after so many calls.
-    Asked(usize, usize, &'a [u8]),
 }
 
 fn take_line(
@@ -240,9 +156,6 @@ fn take_line(
         Line::Tasks(tasks) => session.take_all(rt, alloc, tasks)?,
         Line::Room(room) => assert_eq!(rt; session.room(), *room),
         Line::Calls(calls) => assert_eq!(rt; session.calls(), *calls),
-        Line::Asked(node, skip, text) => {
-            assert_eq!(rt; session.asked(alloc, *node, *skip)?.as_slice(), *text);
-        }
     }
     Ok(())
 }
@@ -263,34 +176,6 @@ fn take_lines(
 fn play(rt: &impl Abort, alloc: Global, nodes: usize, lines: &[Line]) -> Result<(), Fail> {
     let mut session = Session::new(alloc, nodes)?;
     take_lines(rt, alloc, &mut session, lines)
-}
-
-const CLOSED: &[Line<'static>] = &[
-    Line::Tasks(&[(Task::Roll, Told::NotActive)]),
-    Line::Room(0),
-    Line::Tasks(&[(Task::Takeover, Told::Taken(1, 1))]),
-    Line::Room(16382),
-    Line::Tasks(&[
-        (Task::Roll, Told::Rolled(3)),
-        (Task::Purge(3), Told::Purged),
-        (Task::Close, Told::Closed(4)),
-        (Task::Purge(3), Told::NotActive),
-        (Task::Close, Told::NotActive),
-    ]),
-    Line::Calls(11),
-    Line::Asked(
-        1,
-        0,
-        b"state\nnew 1\nstart 1 1 0 1\njournal 1 2 0 1 1 18\n\
-        journal 1 3 1 1 2 17\nfinalize 1 4 2 1 2\nstart 1 5 2 3\njournal 1 6 2 3 3 18\n\
-        purge 1 7 3 3\n\
-        journal 1 8 3 3 4 17\nfinalize 1 9 4 3 4\n",
-    ),
-];
-
-#[test]
-fn a_roll_a_purge_and_a_close(rt: HostRuntime) -> Result<(), Fail> {
-    play(&rt, rt.alloc(), 1, CLOSED)
 }
 
 const TOO_LONG: &[Line<'static>] = &[
@@ -337,44 +222,6 @@ fn a_segment_is_filled(rt: HostRuntime) -> Result<(), Fail> {
     take_lines(&rt, rt.alloc(), &mut session, TAKEN)?;
     fill(&rt, rt.alloc(), &mut session)?;
     take_lines(&rt, rt.alloc(), &mut session, FILLED)
-}
-
-// The session at three nodes, of which one takes an edit and the others are down.
-fn session_of_one(rt: &impl Abort, alloc: Global) -> Result<Session, Fail> {
-    let mut first = Session::new(alloc, 3)?;
-    take_lines(rt, alloc, &mut first, TAKEN)?;
-    first.with_one_up(alloc)
-}
-
-const ONE_UP: &[Line<'static>] = &[Line::Tasks(&[
-    (Task::Log(1, b"\x0a"), Told::OneUp),
-    (Task::Close, Told::NotActive),
-])];
-
-// A second writer recovers the edit.
-const RECOVERED: &[Line<'static>] = &[
-    Line::Tasks(&[(Task::Takeover, Told::Taken(2, 3))]),
-    Line::Calls(22),
-    Line::Asked(
-        2,
-        0,
-        b"state\nnew 2\nprepare 2 1 0 1\naccept 2 3 0 1 18 0a\nfinalize 2 4 2 1 2\n\
-        start 2 5 2 3\njournal 2 6 2 3 3 18\n",
-    ),
-    Line::Asked(
-        1,
-        9,
-        b"fetch 2 2 0 1 1\naccept 2 3 0 1 18 0a\nfinalize 2 4 2 1 2\n\
-        start 2 5 2 3\njournal 2 6 2 3 3 18\n",
-    ),
-];
-
-#[test]
-fn an_edit_that_one_node_holds_is_recovered(rt: HostRuntime) -> Result<(), Fail> {
-    let mut first = session_of_one(&rt, rt.alloc())?;
-    take_lines(&rt, rt.alloc(), &mut first, ONE_UP)?;
-    let mut second = first.with_all_up(rt.alloc())?;
-    take_lines(&rt, rt.alloc(), &mut second, RECOVERED)
 }
 
 /// The greatest number.

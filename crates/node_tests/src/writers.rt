@@ -28,12 +28,14 @@ fn told(end: u64, epoch: u64, is_final: bool) -> SegmentInfo {
     }
 }
 
-/// A prepared answer with the segment to that end, of that epoch, or one without a segment.
+/// A prepared answer with the segment to that end, of that epoch, another answer, or a prepared one
+/// without a segment.
 #[derive(Clone, Copy)]
 enum Answered {
     Open(u64, u64),
     Final(u64, u64),
     Nothing,
+    NoSegment,
 }
 
 fn reply_of(alloc: Global, answered: Answered) -> Result<Reply, Fail> {
@@ -41,6 +43,11 @@ fn reply_of(alloc: Global, answered: Answered) -> Result<Reply, Fail> {
         Answered::Open(end, epoch) => prepared(alloc, told(end, epoch, false)),
         Answered::Final(end, epoch) => prepared(alloc, told(end, epoch, true)),
         Answered::Nothing => Ok(Reply::Ok),
+        Answered::NoSegment => Ok(Reply::Prepared {
+            writer: 1,
+            committed: 0,
+            segment: ToldSegment::none(),
+        }),
     }
 }
 
@@ -76,6 +83,15 @@ fn ranks_so(
 const BEST: &[(&[Answered], Option<usize>)] = &[
     (&[Answered::Open(106, 3), Answered::Open(102, 5)], Some(1)),
     (&[Answered::Nothing], None),
+    (&[Answered::NoSegment, Answered::NoSegment], None),
+    (
+        &[
+            Answered::NoSegment,
+            Answered::NoSegment,
+            Answered::Open(102, 5),
+        ],
+        Some(2),
+    ),
 ];
 
 fn best_of(alloc: Global, answers: &[Answered]) -> Result<Option<usize>, Fail> {

@@ -1,7 +1,6 @@
 // The journal world, event by event.
 ghost use Rattle.std.specs.Prelude.{◌≡◌, ◌<◌, IfOk, OnOk, length, true, false, Some, None, option_map, map, replicate};
 ghost use Rattle.node_world.specs.World.{IsWithin, IsEvent, take_operation, seen_of, acting_at, is_call, is_reading, called_by, take_call, copied_when, task_begins, with_acting, with_writer, answer_done, Stepped, world_step, new_world};
-ghost use Rattle.node_history.specs.Cell.{heard_of};
 ghost use Rattle.run_safety.specs.Actings.{was_made, fresh_acting};
 ghost use Rattle.node_world.specs.WorldViews.{bare, new_view, StandsFor, view_at, IsAsked, IsDelivered, HasReached, IsStepped, IsSameSize, Steps};
 ghost use Rattle.std.specs.List.{All};
@@ -47,19 +46,6 @@ fn seen_of(answer: &NodeAnswer) -> Seen
         NodeAnswer::Stopped { keep: _ } => Seen::Done,
         NodeAnswer::Done => Seen::Done,
         NodeAnswer::NotOpened(_) => Seen::Done,
-    }
-}
-
-/// What a caller hears of this answer.
-fn heard_of(answer: NodeAnswer) -> Heard
-    ensures { result ≡ heard_of answer }
-{
-    match answer {
-        NodeAnswer::Replied(reply) => Heard::Answer(reply),
-        NodeAnswer::Stopped { keep: _ } => Heard::Silent,
-        NodeAnswer::Done => Heard::Silent,
-        NodeAnswer::Idle => Heard::Silent,
-        NodeAnswer::NotOpened(_) => Heard::Silent,
     }
 }
 
@@ -230,7 +216,7 @@ impl<N: CutNode> World<N> {
             request: request.share()?,
         };
         let answer = self.ask(alloc, node, actor, stop, ask)?;
-        Ok(heard_of(answer))
+        Ok(answer.into_heard())
     }
 
     /// An actor's call goes where its fate lets it; what the actor hears.

@@ -29,7 +29,7 @@ pub fn apply(alloc: Global, ns: &mut Namespace, edit: Edit, txid: u64) -> Result
     ensures err { OnErr result (ns.new ≡ ns.old) }
     ensures free { is_free edit.op ≡ true → IsOk result }
 {
-    let Edit { op, call } = edit;
+    let (op, call) = edit.into_parts();
     apply_op(alloc, ns, op)?;
     match call {
         Some(call) => {

@@ -1,5 +1,5 @@
 -- Edits as JSON: one edit more, and that texts are ASCII.
-use Rattle.std.proofs.Common.{◌≡◌, ℕ, suc, ◌+◌, List, [], ◌∷◌, ◌++◌, length, map, codes, Option, Some, None, Result, Ok, Err, IsAscii, refl, sym, ap, ◌∙◌, append_assoc, arith}
+use Rattle.std.proofs.Common.{◌≡◌, ℕ, suc, ◌+◌, List, [], ◌∷◌, ◌++◌, length, map, codes, Option, Some, None, Result, Ok, Err, IsAscii, refl, sym, ap, subst, ◌∙◌, append_assoc, arith}
 use Rattle.std.specs.List.{flat_map, AllByRecursion}
 use Rattle.std.proofs.lemmas.List.{append-nil}
 use Rattle.std.proofs.lemmas.List.Concat.{flat_map-append}
@@ -12,9 +12,10 @@ use Rattle.hex.proofs.HexLemmas.{IsAscii-encode_with}
 use Rattle.edit_ops.specs.declared.op.Op.{Op}
 use Rattle.edit_ops.specs.declared.op.Op.TheVariants.{Add, RenameOld, Delete, Mkdir, SetReplication, SetPermissions, SetOwner, Close, Times, SetQuota, Rename, ConcatDelete, EndLogSegment, StartLogSegment}
 use Rattle.edit_values.specs.declared.call.Call.{Call}
-use Rattle.edit_fields.specs.Fields.{Field, Text_, path, IsGood}
-use Rattle.edit_ops.specs.Records.{EditView, fields_of, call_fields}
+use Rattle.edit_fields.specs.Fields.{Text_, path, IsGood}
+use Rattle.edit_ops.specs.Records.{EditView, fields_of}
 use Rattle.edit_ops.specs.Grammar.{IsEdit}
+use Rattle.edit_ops.proofs.EditLaws.{op_is_good}
 use Rattle.json_text.specs.Values.{number_of, items_of, array_of, object_of, json_line, member_tokens, AreAsciiTexts, IsAsciiMember}
 use Rattle.json_text.specs.Written.{Adds}
 use Rattle.json_text.proofs.Ascii.{graphic_ascii, texts_ascii}
@@ -89,13 +90,17 @@ late_ascii txid (ConcatDelete p t ss) h = (graphic_ascii (codes "OP_CONCAT_DELET
 late_ascii txid EndLogSegment h = (graphic_ascii (codes "OP_END_LOG_SEGMENT") refl, (tt, tt))
 late_ascii txid StartLogSegment h = (graphic_ascii (codes "OP_START_LOG_SEGMENT") refl, (tt, tt))
 
-fields_good : (call : Option Call) (fs : List Field) → AllByRecursion IsGood (call_fields call ++ fs) → AllByRecursion IsGood fs
-fields_good None fs h = h
-fields_good (Some call) fs h = h.1.1
-
 -- of an edit that has a record
 pub edit_ascii : (txid : ℕ) (edit : EditView) → IsEdit edit → AllByRecursion IsAsciiMember (late txid edit.op)
-edit_ascii txid edit h = late_ascii txid edit.op (fields_good edit.call (fields_of edit.op) h.fields)
+edit_ascii txid edit h = late_ascii txid edit.op (op_is_good edit h)
+
+-- ---- the same of an edit by equal parts
+
+pub late_said : (txid : ℕ) {o op : Op} → o ≡ op → flat_map member_tokens (late txid o) ≡ flat_map member_tokens (late txid op)
+late_said txid e = ap (λ (o : Op). flat_map member_tokens (late txid o)) e
+
+pub late_kept : (txid : ℕ) {o op : Op} → o ≡ op → AllByRecursion IsAsciiMember (late txid op) → AllByRecursion IsAsciiMember (late txid o)
+late_kept txid e h = subst (λ (o : Op). AllByRecursion IsAsciiMember (late txid o)) (sym e) h
 
 -- ---- the whole
 

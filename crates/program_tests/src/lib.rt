@@ -1,25 +1,5 @@
-//! Tests of the program over memory: its words, plays, generated scripts, listings and nodes.
+//! Tests of what comes before the program's top call: the system's words, and a folder that isn't locked.
 #![tactic(auto)]
 
-#[cfg(test)]
-mod bad_scripts;
-#[cfg(test)]
-mod generated;
-#[cfg(test)]
-mod known_scripts;
-#[cfg(test)]
-mod listings;
-#[cfg(test)]
-mod long_logs;
-#[cfg(test)]
-mod names_scripts;
-#[cfg(test)]
-mod node_faults;
-#[cfg(test)]
-mod nodes;
-#[cfg(test)]
-mod program;
-#[cfg(test)]
-mod running;
 #[cfg(test)]
 mod words;

@@ -1,8 +1,7 @@
-//! The words of the program: as bytes of the system, and those that ask for a node.
-use command_words::{asks_for_node, refuse_folder, refuse_words};
+//! The words of the program as bytes of the system, and what is told of a folder that was not locked.
+use command_words::{refuse_folder, refuse_words};
 use exit_lines::Status;
 use qj_outside::{LockFail, MemSink, read_words};
-use std::alloc::{AllocError, Global};
 use std::env::FillError;
 use std::rt::Env;
 use std::test::Fail;
@@ -69,31 +68,6 @@ fn words_are_read_whole(rt: HostRuntime) -> Result<(), Fail> {
     assert_eq!(rt; told.texts.len(), 4);
     for (text, word) in told.texts.iter().zip(words.iter().skip(1)) {
         assert_eq!(rt; text.as_bytes(), *word);
-    }
-    Ok(())
-}
-
-/// Whether these words ask for a node.
-fn asks(alloc: Global, words: &[&str]) -> Result<bool, AllocError> {
-    let mut strings = Vec::new(alloc);
-    for word in words {
-        strings.push(String::from_str(alloc, word)?)?;
-    }
-    Ok(asks_for_node(&strings))
-}
-
-#[test]
-fn a_node_alone_wants_its_folder(rt: HostRuntime) -> Result<(), Fail> {
-    let cases: [(&[&str], bool); 6] = [
-        (&["node"], true),
-        (&[], false),
-        (&["node", "x"], false),
-        (&["nodes"], false),
-        (&["fsck"], false),
-        (&["oev", "list", "node"], false),
-    ];
-    for (words, want) in cases {
-        assert_eq!(rt; asks(rt.alloc(), words)?, want);
     }
     Ok(())
 }

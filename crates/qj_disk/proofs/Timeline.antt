@@ -50,6 +50,14 @@ write_stopped name at bytes r v w keeps synced err = record {
   time = keeps.time;
 }
 
+pub atomic_stopped : {T : Type 0} (step : Files → Files → Type 0) (r : Result T DiskFail) (v w : View) → Keeps v w → IsErr r → Atomic step r v w
+atomic_stopped step r v w keeps err = record {
+  done = IfOk-from_err r (λ _. Happens step v w) err;
+  failed = inr keeps;
+  stored = IfOk-from_err r (λ _. step v.synced w.synced) err;
+  time = keeps.time;
+}
+
 pub cut_stopped : {T : Type 0} (name : List ℕ) (to : ℕ) (r : Result T DiskFail) (v w : View) → Keeps v w → w.synced ≡ v.synced → IsErr r → Cuts name to r v w
 cut_stopped name to r v w keeps synced err = record {
   done = IfOk-from_err r (λ _. ChangesOnly name (IsShortened to) v.seen w.seen) err;

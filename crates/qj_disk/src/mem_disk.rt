@@ -14,7 +14,6 @@ use std::snapshot::Snapshot;
 ///
 /// It keeps of each file its bytes and what takes back the changes since the last sync. What the files
 /// were earlier is known to proofs alone: `past` has one snapshot of no bytes for each change.
-#[derive(Drop)]
 pub struct MemDisk {
     alloc: Global,
     files: FileMap,
@@ -22,6 +21,23 @@ pub struct MemDisk {
     plan: CallPlan,
     shortages: u64,
     reads: u64,
+}
+
+/// A disk in memory is let go by one call wherever it is, which keeps proofs short.
+impl Drop for MemDisk {
+    fn drop(self) {
+        let MemDisk {
+            alloc: _,
+            files,
+            past,
+            plan,
+            shortages: _,
+            reads: _,
+        } = self;
+        drop(files);
+        drop(past);
+        drop(plan);
+    }
 }
 
 // Tells a lack of memory, and counts it.

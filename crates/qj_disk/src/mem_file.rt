@@ -10,12 +10,25 @@ use std::marker::Model;
 
 /// A file: the first `end` bytes of a buffer, and what was changed since the last sync, the oldest
 /// first. It keeps no more than the bytes that it has or had since its last sync.
-#[derive(Drop)]
 pub struct MemFile {
     bytes: Vec<u8>,
     end: usize,
     changes: Vec<Change>,
     is_new: bool,
+}
+
+/// A file is let go by one call wherever it is, which keeps proofs short.
+impl Drop for MemFile {
+    fn drop(self) {
+        let MemFile {
+            bytes,
+            end: _,
+            changes,
+            is_new: _,
+        } = self;
+        drop(bytes);
+        drop(changes);
+    }
 }
 
 impl Model for MemFile {

@@ -7,9 +7,16 @@ use std::alloc::Global;
 use std::marker::Model;
 
 /// The name of a file, or a path, a user or a group of an edit: any bytes, none included. Up to 16 of them take no memory.
-#[derive(Drop)]
 pub struct Name {
     bytes: SmallVec<u8, 16>,
+}
+
+/// A name is let go by one call wherever it is, which keeps proofs short.
+impl Drop for Name {
+    fn drop(self) {
+        let Name { bytes } = self;
+        drop(bytes);
+    }
 }
 
 impl Model for Name {

@@ -4,7 +4,7 @@ ghost use Rattle.std.specs.Prelude.{◌≤◌, length, IfOk};
 use crate::lock_file::LockFile;
 use crate::written_file::WrittenFile;
 use std::alloc::AllocError;
-use std::fs::{File, Files, OpenFile, OpenOptions, TryLockError};
+use std::fs::{DirEntry, File, Files, Metadata, OpenFile, OpenOptions, ReadDir, TryLockError};
 use std::io::{ErrorKind, Read, Seek, SeekFrom};
 use std::os::unix::fs::FileExt;
 use std::path::{Path, PathBuf};
@@ -81,8 +81,7 @@ where
     where
         R::File: LockFile,
     {
-        let path = self.path_of("")?;
-        let folder = File::open(&self.rt, path.as_path())?;
+        let folder = self.open("")?;
         match folder.try_lock() {
             Ok(()) => {
                 self.locked = Some(folder);
@@ -97,10 +96,21 @@ where
         Path::new(self.path.as_str()).join(self.rt.alloc(), name)
     }
 
+    /// Opens a file or a folder for reading.
+    fn open(&self, name: &str) -> io::Result<R::File> {
+        let path = self.path_of(name)?;
+        File::open(&self.rt, path.as_path())
+    }
+
+    /// What the system tells of a file or a folder.
+    fn metadata(&self, name: &str) -> io::Result<Metadata> {
+        let path = self.path_of(name)?;
+        fs::metadata(&self.rt, path.as_path())
+    }
+
     /// The file's length; `None` where no file has that name.
     pub fn length(&self, name: &str) -> io::Result<Option<u64>> {
-        let path = self.path_of(name)?;
-        match fs::metadata(&self.rt, path.as_path()) {
+        match self.metadata(name) {
             Ok(found) if found.is_file() => Ok(Some(found.len())),
             Ok(_) => Ok(None),
             Err(error) if is_absence(&error) => Ok(None),
@@ -131,8 +141,7 @@ where
         if self.length(name)?.is_none() {
             return Ok(0);
         }
-        let path = self.path_of(name)?;
-        let mut file = File::open(&self.rt, path.as_path())?;
+        let mut file = self.open(name)?;
         file.seek(SeekFrom::Start(at))?;
         fill(&mut file, into)
     }
@@ -202,8 +211,7 @@ where
     /// Syncs a file that isn't kept open.
     fn sync_closed(&self, name: &str) -> io::Result<()> {
         self.expect_file(name)?;
-        let path = self.path_of(name)?;
-        let file = File::open(&self.rt, path.as_path())?;
+        let file = self.open(name)?;
         file.sync_data()
     }
 
@@ -238,15 +246,30 @@ where
 
     /// Appends the names of the files in a folder, each after `front`.
     fn list_folder(&self, folder: &str, front: &str, names: &mut Vec<String>) -> io::Result<()> {
-        let path = self.path_of(folder)?;
-        for entry in fs::read_dir(&self.rt, path.as_path())? {
-            match entry {
-                Ok(entry) => self.list_file(front, entry.file_name(), names)?,
-                Err(error) if error.kind() == ErrorKind::InvalidFilename => {}
-                Err(error) => return Err(error),
-            }
+        for entry in self.entries(folder)? {
+            self.list_entry(front, entry, names)?;
         }
         Ok(())
+    }
+
+    /// What the system lists of a folder.
+    fn entries(&self, folder: &str) -> io::Result<ReadDir<R>> {
+        let path = self.path_of(folder)?;
+        fs::read_dir(&self.rt, path.as_path())
+    }
+
+    /// Appends the name of an entry. One that isn't UTF-8 is left out.
+    fn list_entry(
+        &self,
+        front: &str,
+        entry: io::Result<DirEntry<R>>,
+        names: &mut Vec<String>,
+    ) -> io::Result<()> {
+        match entry {
+            Ok(entry) => self.list_file(front, entry.file_name(), names),
+            Err(error) if error.kind() == ErrorKind::InvalidFilename => Ok(()),
+            Err(error) => Err(error),
+        }
     }
 
     /// Whether the name is to be listed: it is that of a file, or the system doesn't tell, as of a link into a folder that may not be
@@ -271,8 +294,7 @@ where
 
     /// The subfolder is there. A file of its name is none.
     fn has_subfolder(&self) -> io::Result<bool> {
-        let path = self.path_of(SUBFOLDER)?;
-        match fs::metadata(&self.rt, path.as_path()) {
+        match self.metadata(SUBFOLDER) {
             Ok(found) => Ok(found.is_dir()),
             Err(error) if is_absence(&error) => Ok(false),
             Err(error) => Err(error),
@@ -307,8 +329,7 @@ where
     }
 
     fn sync_folder(&self, name: &str) -> io::Result<()> {
-        let path = self.path_of(name)?;
-        let file = File::open(&self.rt, path.as_path())?;
+        let file = self.open(name)?;
         file.sync_all()
     }
 }

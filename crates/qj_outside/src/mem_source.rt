@@ -11,10 +11,18 @@ use crate::no_fault::NoFaultSource;
 use std::marker::Model;
 
 /// A source of bytes in memory. It gives as many bytes as fit, and fails at the calls that it was told.
-#[derive(Drop)]
 pub struct MemSource {
     bytes: NoFaultSource,
     plan: FaultPlan,
+}
+
+/// A source in memory is let go by one call wherever it is, which keeps proofs short.
+impl Drop for MemSource {
+    fn drop(self) {
+        let MemSource { bytes, plan } = self;
+        drop(bytes);
+        drop(plan);
+    }
 }
 
 impl Model for MemSource {

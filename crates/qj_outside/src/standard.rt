@@ -11,7 +11,7 @@ use std::{io, thread};
 const PAUSE: u64 = 10;
 
 /// Whether the call is to be made again, and did nothing: a signal came in between, or the end wasn't ready. Then some time passed.
-fn is_to_repeat<R: Clock>(rt: &R, error: &io::Error) -> bool {
+fn is_to_repeat<R: Clock>(rt: &R, error: io::Error) -> bool {
     match error.kind() {
         ErrorKind::Interrupted => true,
         ErrorKind::WouldBlock => {
@@ -63,7 +63,7 @@ impl<R: Input + Clock + Drop> Source for StdSource<R> {
             match self.reader.read(into) {
                 Ok(count) => return Ok(count),
                 Err(error) => {
-                    if !is_to_repeat(&self.rt, &error) {
+                    if !is_to_repeat(&self.rt, error) {
                         break;
                     }
                 }
@@ -110,7 +110,7 @@ impl<R: Print + Clock + Drop> Sink for StdSink<R> {
                 Ok(0) => break,
                 Ok(count) => return Ok(count),
                 Err(error) => {
-                    if !is_to_repeat(&self.rt, &error) {
+                    if !is_to_repeat(&self.rt, error) {
                         break;
                     }
                 }

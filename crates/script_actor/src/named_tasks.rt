@@ -44,7 +44,7 @@ pub(crate) fn take_segment_task<S: Seats>(
         return Ok(held);
     }
     let turn = finish(alloc, writer, seats)?;
-    end_task(alloc, writer, held.holding, seats, task, turn)
+    end_task(alloc, writer, held.into_holding(), seats, task, turn)
 }
 
 /// What follows a task's last turn.

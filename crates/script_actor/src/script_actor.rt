@@ -78,7 +78,7 @@ impl Actor for ScriptActor {
     fn into_last(self, alloc: Global) -> Result<Option<LastSpace>, OutOfMemory> {
         let ScriptActor { writer: _, held } = self;
         match held {
-            Some(held) => Ok(Some(held.holding.into_last(alloc)?)),
+            Some(held) => Ok(Some(held.into_holding().into_last(alloc)?)),
             None => Ok(None),
         }
     }

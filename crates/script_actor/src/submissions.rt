@@ -53,7 +53,7 @@ pub(crate) fn take_edits<S: Seats>(
         say_all(seats, repeat_text(alloc, &text, edits.len())?)?;
         return Ok(held);
     }
-    log_edits(alloc, writer, held.holding, seats, edits)
+    log_edits(alloc, writer, held.into_holding(), seats, edits)
 }
 
 /// Edits are submitted to an open segment in order, and those that are admitted logged.

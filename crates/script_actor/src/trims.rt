@@ -42,7 +42,7 @@ pub(crate) fn take_trim<S: Seats>(
         say_all(seats, one_word(alloc, b"trim noimage")?)?;
         return Ok(held);
     };
-    purge(alloc, writer, held.holding, seats, min)
+    purge(alloc, writer, held.into_holding(), seats, min)
 }
 
 /// The purge of a trim.

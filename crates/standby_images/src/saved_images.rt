@@ -18,7 +18,6 @@ use std::snapshot::Snapshot;
 /// see them, the newest first.
 ///
 /// The namespaces that were saved are known to proofs alone: `saves` has one snapshot of no bytes for each.
-#[derive(Drop)]
 pub struct SavedImages {
     disk: MemDisk,
     saves: Vec<Snapshot<Standby>>,
@@ -34,6 +33,13 @@ impl Model for SavedImages {
     ghost view = { λ s. kept_of_saves s.saves.items };
 
     ghost invariant = { λ s. AreOnDisk s.disk (kept_of_saves s.saves.items) };
+}
+
+/// They are let go by one call wherever they are, which keeps proofs short.
+impl Drop for SavedImages {
+    fn drop(self) {
+        let SavedImages { disk: _, saves: _ } = self;
+    }
 }
 
 impl SavedImages {

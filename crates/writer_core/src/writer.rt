@@ -25,8 +25,7 @@ use std::alloc::Global;
 use std::marker::Model;
 
 /// A writer of the journal, call by call: a task begins, `next` names the call to make, and `hear`
-/// takes what came of it.
-#[derive(Drop)]
+/// takes what came of it. It is let go by one call wherever it is, which keeps proofs short.
 pub struct Writer {
     stage: Stage,
     pieces: Pieces,
@@ -57,6 +56,31 @@ impl Model for Writer {
     ghost view = { λ w. record { view = record { phase = phase_of w.stage w.pieces.bodies; aim = w.aim; epoch = w.epoch; serial = w.serial; committed = w.committed; start = w.start; next = w.next; left = w.left.items; slots = w.slots.items; causes = w.causes.items }; room = w.pieces.room } };
 
     ghost invariant = { λ w. IsKept (record { phase = phase_of w.stage w.pieces.bodies; aim = w.aim; epoch = w.epoch; serial = w.serial; committed = w.committed; start = w.start; next = w.next; left = w.left.items; slots = w.slots.items; causes = w.causes.items }) w.place w.request };
+}
+
+impl Drop for Writer {
+    fn drop(self) {
+        let Writer {
+            stage: _,
+            pieces,
+            aim: _,
+            epoch: _,
+            serial: _,
+            committed: _,
+            start: _,
+            next: _,
+            left,
+            slots,
+            causes,
+            place: _,
+            request,
+        } = self;
+        drop(pieces);
+        drop(left);
+        drop(slots);
+        drop(causes);
+        drop(request);
+    }
 }
 
 impl Writer {

@@ -1,6 +1,7 @@
 use Rattle.std.proofs.Common.{List, length, Some, true, ap, subst}
 use Rattle.std.proofs.lemmas.Result.{IfOk-weaker}
 use Rattle.edit_ops.specs.Records.{EditView}
+use Rattle.name_node.specs.Holding.{Holding}
 use Rattle.script_actions.specs.Actor.{logged_when}
 use Rattle.script_actions.specs.KeptActor.{KeptActor, resting}
 use Rattle.script_actions.specs.Actions.{kept_of, ComesToRest}
@@ -24,5 +25,6 @@ returns-clause-takes g c =
     (λ x rests.
     let k : KeptActor = kept_of v (Some x.holding) new in
     submits_takes old.nodes c.args.edits.now w v h x.holding c.args.held.is_open old new c.requires.idle c.requires.free c.requires.stands c.if-not-held.false
-    (subst (λ (es : List EditView). ComesToRest old.nodes (logged_when true es h (resting (kept_of w (Some h) old))) k) c.as_slice-edits.ensures rests))
+    (subst (λ (es : List EditView). ComesToRest old.nodes (logged_when true es h (resting (kept_of w (Some h) old))) k) c.as_slice-edits.ensures
+    (subst (λ (held : Holding). ComesToRest old.nodes (logged_when true c.as_slice-edits.result.now held (resting (kept_of w (Some held) old))) k) c.into_holding.ensures rests)))
     c.log_edits.ensures.rests

@@ -33,5 +33,6 @@ returns-clause-takes g c =
     IfOk-weaker c.purge.result _ _
     (λ x rests. trim_takes log.nodes c.args.extra c.in-Some.min w v h x.holding c.args.held.is_open log new c.requires.idle c.requires.free c.requires.stands c.if-not-held.false
     (sym c.in-Some.is ∙ c.in_ok-min.ensures.least)
-    (subst (λ (y : Holding). ComesToRest log.nodes (trim_at true (Some c.in-Some.min) (resting (kept_of w (Some y) log))) (kept_of v (Some x.holding) new)) c.min_to_keep.ensures.same rests))
+    (subst (λ (y : Holding). ComesToRest log.nodes (trim_at true (Some c.in-Some.min) (resting (kept_of w (Some y) log))) (kept_of v (Some x.holding) new))
+    (c.into_holding.ensures ∙ c.min_to_keep.ensures.same) rests))
     c.purge.ensures.rests

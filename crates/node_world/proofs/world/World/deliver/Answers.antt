@@ -11,4 +11,4 @@ returns-clause-delivered g c =
     let e : c.in_ok-share.field-0 ≡ c.args.request.now = c.in_ok-share.ensures in
     let asked : IsAsked old.cells c.args.node c.args.actor c.args.stop (Act false c.args.request.now) c.in_ok-answer.answer new.cells =
     subst (λ r. IsAsked old.cells c.args.node c.args.actor c.args.stop (Act false r) c.in_ok-answer.answer new.cells) e c.in_ok-answer.ensures.asked in
-    rw c.heard_of.ensures (delivered old new c.args.actor c.args.node c.args.stop c.args.request.now c.in_ok-answer.answer c.requires asked)
+    rw c.into_heard.ensures (delivered old new c.args.actor c.args.node c.args.stop c.args.request.now c.in_ok-answer.answer c.requires asked)

@@ -1,0 +1,54 @@
+//! Parts of answers.
+use inode_text::put_row;
+use line_words::put_hex;
+use ns_tree::Namespace;
+use qj_num::{OutOfMemory, put_decimal};
+use std::alloc::Global;
+use std::fmt::Debug;
+
+/// Appends a value as it is shown.
+pub fn put_shown<T: Debug>(alloc: Global, value: &T, out: &mut Vec<u8>) -> Result<(), OutOfMemory> {
+    let text = format!(in alloc; "{value:?}")?;
+    out.extend_from_slice(text.as_bytes())
+}
+
+/// Appends a word and a number.
+pub fn put_number(word: &[u8], number: u64, out: &mut Vec<u8>) -> Result<(), OutOfMemory> {
+    out.extend_from_slice(word)?;
+    out.push(b' ')?;
+    put_decimal(out, number)
+}
+
+/// Appends the place and the cause of a fault.
+pub fn put_fault<T: Debug>(
+    alloc: Global,
+    place: usize,
+    cause: &T,
+    out: &mut Vec<u8>,
+) -> Result<(), OutOfMemory> {
+    put_number(b"bad", place as u64, out)?;
+    out.push(b' ')?;
+    put_shown(alloc, cause, out)
+}
+
+/// Appends a word and bytes.
+pub fn put_bytes(word: &[u8], bytes: &[u8], out: &mut Vec<u8>) -> Result<(), OutOfMemory> {
+    out.extend_from_slice(word)?;
+    out.push(b' ')?;
+    put_hex(out, bytes)
+}
+
+/// Appends the rows of a namespace, and the calls that it remembers.
+pub fn put_space(alloc: Global, space: &Namespace, out: &mut Vec<u8>) -> Result<(), OutOfMemory> {
+    for row in &space.walk(alloc)? {
+        put_row(out, row)?;
+        out.push(b'\n')?;
+    }
+    for noted in space.calls() {
+        put_bytes(b"call", &noted.call.client, out)?;
+        put_number(b"", noted.call.number as u64, out)?;
+        put_number(b"", noted.txid, out)?;
+        out.push(b'\n')?;
+    }
+    Ok(())
+}

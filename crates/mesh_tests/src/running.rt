@@ -1,0 +1,59 @@
+// Scripts run by threads, over plain nodes.
+ghost use Rattle.script_text.specs.Grammar.{IsScript};
+
+use caller_seats::Seats;
+use cluster_runner::plain_nodes;
+use gate_seats::Pass;
+use journal_core::OutOfMemory;
+use memory_node::PlainNode;
+use ns_tree::LastSpace;
+use script_actor::ScriptActor;
+use script_lines::{Script, ScriptLine};
+use script_plays::{Played, scripts_are_playable};
+use script_text::{ReadScript, read_script};
+use std::alloc::Global;
+use std::sync::Wait;
+use std::test::Fail;
+use std::thread::Threads;
+use thread_runner::{Actors, act_alone, run_on};
+
+/// The actors of the runs.
+struct TestedActors;
+
+impl Actors for TestedActors {
+    fn act<S: Seats>(
+        alloc: Global,
+        named: bool,
+        lines: &[ScriptLine],
+        actor: u32,
+        seats: &mut S,
+    ) -> Result<Option<LastSpace>, OutOfMemory> {
+        act_alone::<ScriptActor, S>(alloc, named, lines, actor, seats)
+    }
+}
+
+fn run_script<R: Threads + Wait + Sync, G: Pass + Sync>(
+    rt: &R,
+    alloc: Global,
+    script: &Script,
+    pass: &G,
+) -> Result<Played<PlainNode>, OutOfMemory>
+    requires { IsScript script.now }
+{
+    scripts_are_playable();
+    let nodes = plain_nodes(alloc, script.nodes())?;
+    run_on::<TestedActors, _, _, _>(rt, alloc, nodes, script, pass)
+}
+
+/// What a run of the script with this text leaves.
+pub(crate) fn run_text<R: Threads + Wait + Sync, G: Pass + Sync>(
+    rt: &R,
+    alloc: Global,
+    text: &[u8],
+    pass: &G,
+) -> Result<Played<PlainNode>, Fail> {
+    let ReadScript::Script(script) = read_script(alloc, text) else {
+        return Err("it is no script".into());
+    };
+    Ok(run_script(rt, alloc, &script, pass)?)
+}
