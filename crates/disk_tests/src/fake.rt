@@ -35,14 +35,14 @@ impl Fake {
 }
 
 // No byte is given or taken.
-fn fault<T>() -> io::Result<T> {
-    Err(io::Error::from(ErrorKind::Other))
+fn fault() -> io::Error {
+    io::Error::from(ErrorKind::Other)
 }
 
 // What the call with this number is told.
 fn answer(fails: bool, call: u64) -> io::Result<usize> {
     match call % 3 {
-        _ if fails => fault(),
+        _ if fails => Err(fault()),
         0 => Err(io::Error::from(ErrorKind::Interrupted)),
         1 => Err(io::Error::from(ErrorKind::WouldBlock)),
         _ => Ok(1),
@@ -73,7 +73,7 @@ impl Read for FakeReader {
 
 impl BufRead for FakeReader {
     fn fill_buf(&mut self) -> io::Result<&[u8]> {
-        fault()
+        Err(fault())
     }
 
     fn consume(&mut self, _amount: usize) {}
@@ -83,7 +83,7 @@ impl Input for Fake {
     type Reader = FakeReader;
 
     fn read_line<A: Allocator + Clone>(&self, _buf: &mut String<A>) -> io::Result<usize> {
-        fault()
+        Err(fault())
     }
 
     fn lines<A: Allocator>(&self, alloc: A) -> Lines<FakeReader, A> {
@@ -100,15 +100,15 @@ impl Input for Fake {
 
 impl Print for Fake {
     fn print<D: Display + Drop>(&self, _value: D) -> io::Result<()> {
-        fault()
+        Err(fault())
     }
 
     fn println<D: Display + Drop>(&self, _value: D) -> io::Result<()> {
-        fault()
+        Err(fault())
     }
 
     fn write_all(&self, _bytes: &[u8]) -> io::Result<()> {
-        fault()
+        Err(fault())
     }
 
     fn write_some(&self, bytes: &[u8]) -> io::Result<usize> {
@@ -117,7 +117,7 @@ impl Print for Fake {
         let count = answer(self.fails, call)?.min(bytes.len());
         match self.taken.try_borrow_mut() {
             Ok(mut taken) => taken.extend_from_slice(&bytes[..count])?,
-            Err(_) => return fault(),
+            Err(_) => return Err(fault()),
         }
         Ok(count)
     }
@@ -125,11 +125,11 @@ impl Print for Fake {
 
 impl Clock for Fake {
     fn monotonic(&self) -> io::Result<Duration> {
-        fault()
+        Err(fault())
     }
 
     fn since_1970(&self) -> io::Result<Duration> {
-        fault()
+        Err(fault())
     }
 
     fn sleep(&self, _duration: Duration) {
