@@ -1,5 +1,5 @@
 # Cases: lines of text that small programs read and answer. Each answer is compared with the one that is kept. A case is run here
-# without a proof; the gate runs the same cases by the proved programs.
+# without a proof; rt ci runs the same cases by the proved programs.
 
 # Runs a program's cases by a quick run, into the room's file of its name. Fails where that gave no answer of its own.
 answer_cases() {

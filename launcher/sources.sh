@@ -40,12 +40,12 @@ is_built() {
 }
 
 # Whether the program stands there that rt ci made of these sources: beside the one by its second compiler, and newer than all.
-is_built_by_gate() {
+is_built_by_ci() {
   [ ! -f "$sources_built" ] && [ -x "$program.by-rattle" ] &&
     [ -z "$(list_sources | tr '\n' '\0' | xargs -0 sh -c 'find "$@" -newer "$0"' "$program")" ]
 }
 
 # Whether the proved program of these sources stands there.
 is_proved() {
-  [ -x "$program" ] && { is_built || is_built_by_gate; }
+  [ -x "$program" ] && { is_built || is_built_by_ci; }
 }

@@ -1,9 +1,9 @@
 //! Generated scripts: their texts, as a second implementation prints them.
-ghost use Rattle.script_maker.specs.Generated.{IsWithin};
+ghost use Rattle.play_maker.specs.Generated.{IsWithin};
 
-use qj_num::OutOfMemory;
-use script_maker::generate;
-use script_text::print_script;
+use base_words::OutOfMemory;
+use play_maker::generate;
+use play_script::print_script;
 use std::alloc::Global;
 use std::test::Fail;
 

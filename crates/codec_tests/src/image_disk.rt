@@ -1,9 +1,9 @@
 //! Disks of tests of images: what is done to them and what is seen of them, line by line.
 use crate::rows::is_so;
-use image_files::{
+use base_disk::{Choice, Disk, DiskFail, MemDisk, UntoldDisk};
+use ns_store::{
     LoadedBytes, MinToKeep, Newest, load_bytes, min_to_keep, newest, retain, save_bytes,
 };
-use qj_disk::{Choice, Disk, DiskFail, MemDisk, UntoldDisk};
 use std::alloc::Global;
 use std::process::Abort;
 

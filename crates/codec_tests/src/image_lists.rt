@@ -1,8 +1,8 @@
 //! Which images count, and which are kept.
 use crate::image_disk::{CHOICES, Found, Step, found_of, new_disk, retained, save, take_all};
 use crate::rows::is_so;
-use image_files::{MinToKeep, Newest};
-use qj_disk::{Choice, DiskFail, UntoldDisk};
+use base_disk::{Choice, DiskFail, UntoldDisk};
+use ns_store::{MinToKeep, Newest};
 use std::alloc::Global;
 use std::process::Abort;
 
@@ -114,8 +114,8 @@ fn the_newest_images_are_kept_and_the_log_from_the_older_of_two(rt: HostRuntime)
     }
 }
 
-// What becomes of the removal of the images 5 and 9 beside 12 that is stopped after so many calls, and how the images 12 and 5
-// are read after a crash.
+// What becomes of the removal of the images 5 and 9 beside 12 that is stopped after so many calls,
+// and how the images 12 and 5 are read after a crash.
 fn stop_removal(
     rt: &impl Abort,
     alloc: Global,

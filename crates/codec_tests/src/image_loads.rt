@@ -1,15 +1,16 @@
 //! A namespace is saved over a disk that is stopped, and what is loaded of it after a crash.
 use crate::image_disk::{CHOICES, new_disk};
 use crate::rows::is_so;
-use image_codec::{ReadImage, image_of, read_image};
-use image_store::{Loaded, load, save};
-use qj_disk::{Choice, DiskFail, UntoldDisk};
-use qj_num::OutOfMemory;
+use base_disk::{Choice, DiskFail, UntoldDisk};
+use base_words::OutOfMemory;
+use ns_image::{ReadImage, image_of, read_image};
+use ns_store::{Loaded, load, save};
 use std::alloc::Global;
 use std::process::Abort;
 use std::test::Fail;
 
-/// The image at txid 9 of the root, `/u` and the file `/u/f` of two blocks, with two calls, of the edits 3 and 7.
+/// The image at txid 9 of the root, `/u` and the file `/u/f` of two blocks, with two calls, of the
+/// edits 3 and 7.
 const KNOWN: [u8; 233] = [
     81, 74, 73, 77, 0, 0, 0, 2, 0, 0, 0, 0, 0, 0, 0, 9, 0, 0, 0, 3, 0, 1, 47, 0, 0, 0, 0, 0, 0, 0,
     0, 0, 1, 237, 0, 4, 104, 100, 102, 115, 0, 10, 115, 117, 112, 101, 114, 103, 114, 111, 117,
@@ -47,7 +48,8 @@ fn seen_of(alloc: Global, disk: &mut UntoldDisk) -> Result<Seen, OutOfMemory> {
     }
 }
 
-// What becomes of the namespace of the known image that is saved; none where the bytes are no image.
+// What becomes of the namespace of the known image that is saved; none where the bytes are no
+// image.
 fn save_known(
     alloc: Global,
     disk: &mut UntoldDisk,
@@ -71,7 +73,8 @@ fn stop_save(
     Ok((put, seen_of(alloc, &mut disk)?))
 }
 
-// The image is whole after the last call, and there is none before it, for each choice of the crash.
+// The image is whole after the last call, and there is none before it, for each choice of the
+// crash.
 fn stop_by_choice(rt: &impl Abort, alloc: Global, calls: u64) -> Result<(), OutOfMemory> {
     let is_whole = calls > 9;
     let wanted = if is_whole { Seen::Known } else { Seen::NoImage };

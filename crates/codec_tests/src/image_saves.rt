@@ -1,9 +1,9 @@
 //! Images are saved over a disk that fails, is stopped and crashes, and read.
 use crate::image_disk::{CHOICES, Found, Step, found_of, new_disk, play_each, save, take_all};
 use crate::rows::is_so;
-use image_files::{MinToKeep, Newest};
-use qj_disk::{Choice, DiskFail};
-use qj_num::OutOfMemory;
+use base_disk::{Choice, DiskFail};
+use base_words::OutOfMemory;
+use ns_store::{MinToKeep, Newest};
 use std::alloc::Global;
 use std::process::Abort;
 use std::test::Fail;
@@ -57,7 +57,8 @@ fn images_are_saved_and_read(rt: HostRuntime) {
     play_each(&rt, rt.alloc(), &[LEFT_OVER, BOTH_FILES, FAILING]);
 }
 
-/// An image that is saved again, or the first time where the old one has no bytes, with the bytes `two`.
+/// An image that is saved again, or the first time where the old one has no bytes, with the bytes
+/// `two`.
 #[derive(Clone, Copy)]
 struct Stop {
     old: &'static [u8],
@@ -115,7 +116,8 @@ const ONE: &[Step] = &[Step::Save(1, b"one", Ok(()))];
 
 const ONE_STAYS: &[Step] = &[Step::Loads(1, b"one", Found::These)];
 
-// What becomes of the save that is stopped after so many calls, and how the image is read after a crash.
+// What becomes of the save that is stopped after so many calls, and how the image is read after a
+// crash.
 fn stop_save(
     rt: &impl Abort,
     alloc: Global,
@@ -135,7 +137,8 @@ fn stop_save(
     (put, found_of(alloc, &mut disk, 2, b"two"))
 }
 
-// The same for each choice of the crash; what was saved is read.
+// A save that is stopped after so many calls, then each choice of the crash: the image is read as
+// told, and as it was saved where the save was done.
 fn stop_after(rt: &impl Abort, alloc: Global, stop: &Stop, calls: u64) {
     for (row, choice) in CHOICES.iter().enumerate() {
         let (put, found) = stop_save(rt, alloc, stop.old, calls, *choice);

@@ -1,4 +1,6 @@
-//! Tests of what no text shows: values that are shared, a full retry list, images over a disk that fails or is stopped, generated scripts, and a summary.
+//! Tests of what no text shows: values that are shared, a full retry list, images over a disk that
+//! fails or is stopped, generated scripts, a summary, words as bytes of the system, and a folder
+//! that isn't locked.
 #![tactic(auto)]
 
 #[cfg(test)]
@@ -19,3 +21,5 @@ mod rows;
 mod shares;
 #[cfg(test)]
 mod summaries;
+#[cfg(test)]
+mod words;

@@ -1,9 +1,9 @@
 //! The retry list of a namespace remembers 1,024 calls.
 ghost use Rattle.ns_tree.specs.Space.{AreRising};
 
-use edit_values::Call;
+use base_words::OutOfMemory;
+use edit_ops::Call;
 use ns_tree::Namespace;
-use qj_num::OutOfMemory;
 use std::alloc::Global;
 use std::process::Abort;
 use std::test::Fail;
@@ -34,7 +34,7 @@ fn note_calls(tree: &mut Namespace, count: u32) -> bool
 /// Numbers of calls, and the txids that are noted of them, after 1,024 calls.
 const MOST: &[(u32, Option<u64>)] = &[(1, Some(1)), (1024, Some(1024)), (1025, None)];
 
-/// The same after 1,025 calls.
+/// Numbers of calls, and the txids that are noted of them, after 1,025 calls.
 const MORE: &[(u32, Option<u64>)] = &[(1, None), (2, Some(2)), (1025, Some(1025)), (1026, None)];
 
 fn notes(

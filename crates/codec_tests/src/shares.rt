@@ -1,7 +1,7 @@
 //! What is shared or copied is the same, and causes have their texts.
+use base_words::{Bytes, Name, OutOfMemory};
 use journal_core::{Batch, BodyList, Refusal, SegmentInfo, SegmentLine, SegmentLines, ToldSegment};
-use qj_num::{Bytes, Name, OutOfMemory};
-use request_text::print_cause;
+use journal_text::print_cause;
 use std::alloc::Global;
 use std::test::Fail;
 

@@ -1,10 +1,10 @@
 //! The summary of a small mesh.
+use base_words::{Name, OutOfMemory};
 use journal_core::{Batch, BodyList, Bytes, Head, Reply, Request, SharedRequest};
+use journal_history::{Plan, Record, RecordList, Told};
 use mesh::{HistoryTable, Mesh, RecordTable};
-use node_history::{Plan, Record, RecordList, Told};
 use ns_tree::{End, EndList, LastSpace, RowList};
-use play_summary::summary_of;
-use qj_num::{Name, OutOfMemory};
+use play_report::summary_of;
 use std::alloc::Global;
 use std::test::Fail;
 

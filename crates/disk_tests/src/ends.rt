@@ -1,6 +1,6 @@
 //! The standard ends of a program over a runtime that fails, and over one that isn't ready.
 use crate::fake::Fake;
-use qj_outside::{Failed, Input, StdSink, StdSource, read_all, write_all};
+use base_outside::{Failed, Input, StdSink, StdSource, read_all, write_all};
 
 #[test]
 fn errors_of_the_runtime_are_faults(rt: HostRuntime) {

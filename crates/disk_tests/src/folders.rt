@@ -1,7 +1,7 @@
 //! A disk over a real folder.
-use node_files::{OpenedFiles, open_files};
-use qj_disk::Disk;
-use qj_outside::FolderDisk;
+use base_disk::Disk;
+use base_outside::FolderDisk;
+use disk_files::{OpenedFiles, open_files};
 use std::alloc::Global;
 use std::fs;
 use std::fs::Permissions;

@@ -1,5 +1,5 @@
 //! A disk that is lent to a function which takes any disk.
-use qj_disk::{Disk as AnyDisk, DiskFail, MemDisk, UntoldDisk};
+use base_disk::{Disk as AnyDisk, DiskFail, MemDisk, UntoldDisk};
 use std::test::Fail;
 
 // Writes a file, syncs it and tells its length.

@@ -1,5 +1,5 @@
 //! The lock on a folder.
-use qj_outside::{FolderDisk, LockFail};
+use base_outside::{FolderDisk, LockFail};
 use std::fs;
 use std::test::Fail;
 

@@ -1,7 +1,7 @@
 //! How far each slice of a ring of edits runs.
 ghost use Rattle.std.specs.Prelude.{◌≡◌, ◌≤◌, length};
 
-use edit_cache::{EditCache, Entry};
+use disk_recent::{EditCache, Entry};
 use std::process::Abort;
 use std::test::Fail;
 

@@ -1,9 +1,9 @@
 //! A session at a node hands on each reply before it reads the next request.
 ghost use Rattle.std.specs.Prelude.{None};
 
-use memory_node::PlainNode;
-use node_session::{Served, serve};
-use qj_outside::{Failed, Sink, Source};
+use base_outside::{Failed, Sink, Source};
+use journal_session::{Served, serve};
+use journal_step::PlainNode;
 use std::cell::Cell;
 
 // Gives the line `state` at each of three reads, and fails where the reply to the line before

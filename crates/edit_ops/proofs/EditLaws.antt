@@ -5,13 +5,14 @@ use Rattle.std.specs.List.{AllByRecursion}
 use Rattle.edit_ops.specs.declared.kind.OpKind.{OpKind}
 use Rattle.edit_ops.specs.declared.kind.OpKind.TheVariants as kinds
 use Rattle.edit_ops.specs.declared.op.Op.{Op}
-use Rattle.edit_ops.specs.declared.op.Op.TheVariants.{Add, RenameOld, Delete, Mkdir, SetReplication, SetPermissions, SetOwner, Close, Times, SetQuota, Rename, ConcatDelete, EndLogSegment, StartLogSegment}
-use Rattle.edit_values.specs.declared.call.Call.{Call}
+use Rattle.edit_ops.specs.declared.op.Op.TheVariants.{Add, RenameOld, Delete, Mkdir, SetReplication, SetPermissions, SetOwner, Close, Times, SetQuota}
+use Rattle.edit_ops.specs.declared.op.Op.TheVariants.{Rename, ConcatDelete, EndLogSegment, StartLogSegment}
+use Rattle.edit_ops.specs.declared.call.Call.{Call}
 use Rattle.edit_ops.specs.Kinds.{code}
-use Rattle.edit_fields.specs.Fields.{Kind, Field, path, text, number, Text_, Number_, kind_of_field, IsGood, follow}
+use Rattle.edit_ops.specs.Fields.{Kind, Field, path, text, number, Text_, Number_, kind_of_field, IsGood, follow}
 use Rattle.edit_ops.specs.Records.{EditView, kind_of, fields_of, layout, full_layout, call_fields, opcode, called, edit_fields}
 use Rattle.edit_ops.specs.Grammar.{IsEdit}
-use Rattle.edit_fields.specs.Rules.{Matches}
+use Rattle.edit_ops.specs.Rules.{Matches}
 use Rattle.edit_ops.specs.FromFields.{text_in, number_in, op_from, edit_from}
 
 -- ---- fields match their layout
@@ -95,7 +96,13 @@ same_edit a b kinds_same called_same fields_same = sym (edit_again a) ∙ (λ i.
 -- ---- an opcode tells the kind, and whether there is a call
 
 kind_from : ℕ → OpKind
-kind_from k = if k == 0 then kinds.Add else (if k == 1 then kinds.RenameOld else (if k == 2 then kinds.Delete else (if k == 3 then kinds.Mkdir else (if k == 4 then kinds.SetReplication else (if k == 7 then kinds.SetPermissions else (if k == 8 then kinds.SetOwner else (if k == 9 then kinds.Close else (if k == 13 then kinds.Times else (if k == 14 then kinds.SetQuota else (if k == 15 then kinds.Rename else (if k == 16 then kinds.ConcatDelete else (if k == 23 then kinds.EndLogSegment else (kinds.StartLogSegment)))))))))))))
+kind_from k = if k == 0 then kinds.Add else (if k == 1 then kinds.RenameOld
+    else (if k == 2 then kinds.Delete else (if k == 3 then kinds.Mkdir
+    else (if k == 4 then kinds.SetReplication else (if k == 7 then kinds.SetPermissions
+    else (if k == 8 then kinds.SetOwner else (if k == 9 then kinds.Close
+    else (if k == 13 then kinds.Times else (if k == 14 then kinds.SetQuota
+    else (if k == 15 then kinds.Rename else (if k == 16 then kinds.ConcatDelete
+    else (if k == 23 then kinds.EndLogSegment else (kinds.StartLogSegment)))))))))))))
 
 kind_again : (kind : OpKind) → kind_from (code kind) ≡ kind
 unfolding kind_from

@@ -3,8 +3,9 @@ use Rattle.std.specs.Prelude.{ℕ, List, [], drop, map, slice_index_or, Some, No
 use Rattle.edit_ops.specs.declared.kind.OpKind.{OpKind}
 use Rattle.edit_ops.specs.declared.kind.OpKind.TheVariants as kinds
 use Rattle.edit_ops.specs.declared.op.Op.{Op}
-use Rattle.edit_ops.specs.declared.op.Op.TheVariants.{Add, RenameOld, Delete, Mkdir, SetReplication, SetPermissions, SetOwner, Close, Times, SetQuota, Rename, ConcatDelete, EndLogSegment, StartLogSegment}
-use Rattle.edit_fields.specs.Fields.{Field, Text_, Small_, Number_, Flag_, Client_, Call_}
+use Rattle.edit_ops.specs.declared.op.Op.TheVariants.{Add, RenameOld, Delete, Mkdir, SetReplication, SetPermissions, SetOwner, Close, Times, SetQuota}
+use Rattle.edit_ops.specs.declared.op.Op.TheVariants.{Rename, ConcatDelete, EndLogSegment, StartLogSegment}
+use Rattle.edit_ops.specs.Fields.{Field, Text_, Small_, Number_, Flag_, Client_, Call_}
 use Rattle.edit_ops.specs.Records.{EditView}
 
 -- ## What a field holds

@@ -3,7 +3,7 @@ use Rattle.std.specs.Prelude.{◌≡◌, ℕ, List, Bool, true, false}
 use Rattle.std.specs.List.{AllByRecursion}
 use Rattle.edit_ops.specs.declared.kind.OpKind.{OpKind}
 use Rattle.edit_ops.specs.Kinds.{is_mark}
-use Rattle.edit_fields.specs.Fields.{IsGood}
+use Rattle.edit_ops.specs.Fields.{IsGood}
 use Rattle.edit_ops.specs.Records.{EditView, kind_of, called, edit_fields, record_of}
 
 -- no client asks for a mark

@@ -1,7 +1,8 @@
 -- The codes of the kinds of edits.
 use Rattle.std.specs.Prelude.{ℕ, Bool, true, false}
 use Rattle.edit_ops.specs.declared.kind.OpKind.{OpKind}
-use Rattle.edit_ops.specs.declared.kind.OpKind.TheVariants.{Add, RenameOld, Delete, Mkdir, SetReplication, SetPermissions, SetOwner, Close, Times, SetQuota, Rename, ConcatDelete, EndLogSegment, StartLogSegment}
+use Rattle.edit_ops.specs.declared.kind.OpKind.TheVariants.{Add, RenameOld, Delete, Mkdir, SetReplication, SetPermissions, SetOwner, Close, Times}
+use Rattle.edit_ops.specs.declared.kind.OpKind.TheVariants.{SetQuota, Rename, ConcatDelete, EndLogSegment, StartLogSegment}
 
 abbrev pub code : OpKind → ℕ
 code Add = 0

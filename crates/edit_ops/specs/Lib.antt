@@ -1,3 +1,7 @@
+pub mod Fields
+pub mod Sources
+pub mod Reading
+pub mod Rules
 pub mod Kinds
 pub mod Records
 pub mod Grammar

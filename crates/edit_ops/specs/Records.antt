@@ -4,10 +4,12 @@ use Rattle.std.specs.List.{flat_map}
 use Rattle.edit_ops.specs.declared.kind.OpKind.{OpKind}
 use Rattle.edit_ops.specs.declared.kind.OpKind.TheVariants as kinds
 use Rattle.edit_ops.specs.declared.op.Op.{Op}
-use Rattle.edit_ops.specs.declared.op.Op.TheVariants.{Add, RenameOld, Delete, Mkdir, SetReplication, SetPermissions, SetOwner, Close, Times, SetQuota, Rename, ConcatDelete, EndLogSegment, StartLogSegment}
-use Rattle.edit_values.specs.declared.call.Call.{Call}
+use Rattle.edit_ops.specs.declared.op.Op.TheVariants.{Add, RenameOld, Delete, Mkdir, SetReplication, SetPermissions, SetOwner, Close, Times, SetQuota}
+use Rattle.edit_ops.specs.declared.op.Op.TheVariants.{Rename, ConcatDelete, EndLogSegment, StartLogSegment}
+use Rattle.edit_ops.specs.declared.call.Call.{Call}
 use Rattle.edit_ops.specs.Kinds.{code}
-use Rattle.edit_fields.specs.Fields.{Kind, Field, path, owner, new_owner, replication, permission, numbers, paths, text, small, number, flag, client, call_number, Text_, Small_, Number_, Flag_, Client_, Call_, field_bytes}
+use Rattle.edit_ops.specs.Fields.{Kind, Field, path, owner, new_owner, replication, permission, numbers, paths, text, small, number, flag, client}
+use Rattle.edit_ops.specs.Fields.{call_number, Text_, Small_, Number_, Flag_, Client_, Call_, field_bytes}
 
 -- what contracts see of an edit
 pub record EditView : Type 0 where

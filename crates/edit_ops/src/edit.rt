@@ -2,14 +2,14 @@
 ghost use Rattle.std.specs.Prelude.{◌≡◌, IfOk};
 ghost use Rattle.edit_ops.specs.Grammar.{IsEdit};
 
+use crate::call::Call;
 use crate::op::Op;
-use edit_values::Call;
-use qj_num::OutOfMemory;
+use base_words::OutOfMemory;
 use std::alloc::Global;
 use std::marker::Model;
 
-/// An edit that has a record: its texts are short enough and printable, its numbers are at most 2^62, its
-/// lists have at most 65,535 members, and a mark of a segment has no call.
+/// An edit that has a record: its texts are short enough and printable, its numbers are at most
+/// 2^62, its lists have at most 65,535 members, and a mark of a segment has no call.
 pub struct Edit {
     pub op: Op,
     pub call: Option<Call>,
@@ -44,7 +44,7 @@ impl Edit {
         (op, call)
     }
 
-    /// The same in memory of its own.
+    /// A copy of this edit in memory of its own. `OutOfMemory` where there is no room.
     pub fn copy(&self, alloc: Global) -> Result<Edit, OutOfMemory>
         ensures { IfOk result (λ edit. edit ≡ self.now) }
     {

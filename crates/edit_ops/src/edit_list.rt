@@ -2,7 +2,7 @@
 ghost use Rattle.std.specs.Prelude.{◌≡◌, [], ◌∷◌, ◌++◌, OnOk, OnErr};
 
 use crate::edit::Edit;
-use qj_num::OutOfMemory;
+use base_words::OutOfMemory;
 use std::alloc::Global;
 use std::marker::Model;
 

@@ -136,7 +136,8 @@ impl OpKind {
         }
     }
 
-    /// The kind of an edit whose text in a script begins with that word; `None` exactly where there is none.
+    /// The kind of an edit whose text in a script begins with that word; `None` exactly where there
+    /// is none.
     pub fn of_verb(word: &[u8]) -> Option<OpKind>
         ensures found { IfSome result (λ kind. (is_mark kind ≡ false) × (verb kind ≡ word.now)) }
         ensures none { IfNone result ((kind : OpKind) → is_mark kind ≡ false → verb kind ≢ word.now) }

@@ -3,8 +3,8 @@ ghost use Rattle.std.specs.Prelude.{◌≡◌, IfOk};
 ghost use Rattle.edit_ops.specs.Records.{kind_of};
 
 use crate::kind::OpKind;
-use edit_values::{NameList, NumberList};
-use qj_num::{Name, OutOfMemory};
+use crate::lists::{NameList, NumberList};
+use base_words::{Name, OutOfMemory};
 use std::alloc::Global;
 
 /// What an edit does. Times are milliseconds, sizes and lengths bytes; a quota of 0 is none.
@@ -104,7 +104,7 @@ impl Op {
         }
     }
 
-    /// The same in memory of its own.
+    /// A copy of what an edit does, in memory of its own. `OutOfMemory` where there is no room.
     pub fn copy(&self, alloc: Global) -> Result<Op, OutOfMemory>
         ensures { IfOk result (λ op. op ≡ self.now) }
     {

@@ -1,12 +1,16 @@
--- How one request may change the segment at one start, answered or stopped after any number of effects.
-use Rattle.std.proofs.Common.{◌≡◌, ℕ, zero, suc, ◌+◌, ◌<◌, ◌≤◌, ◌⊎◌, ◌==◌, ◌&&◌, ◌||◌, Bool, true, false, not, List, [], ◌∷◌, ◌++◌, length, take, map, Option, Some, None, refl, inl, inr, arith, subst, sym, ap, ◌∙◌, nat_lt, if◌then◌else◌, append_assoc}
+-- How one request may change the segment at one start, answered or stopped after any number of
+-- effects.
+use Rattle.std.proofs.Common.{◌≡◌, ℕ, zero, suc, ◌+◌, ◌<◌, ◌≤◌, ◌⊎◌, ◌==◌, ◌&&◌, ◌||◌, Bool, true, false, not, List, [], ◌∷◌, ◌++◌, length, take, map}
+use Rattle.std.proofs.Common.{Option, Some, None, refl, inl, inr, arith, subst, sym, ap, ◌∙◌, nat_lt, if◌then◌else◌, append_assoc}
 use Rattle.std.specs.List.{filter}
 use Rattle.std.proofs.lemmas.Bool.{cond_both, cases_Bool, cases_eq, eqb-true, leb-true, ltb-false, cond-true, cond-false, and_parts, or_parts, eq-eqb, ne_eqb}
 use Rattle.std.proofs.lemmas.List.{take_all}
 use Rattle.journal_core.specs.Effects.{Effect, Promise, WriterEpoch, Commit, NewSegment, Append, Replace, MakeFinal, Remove, segments_after, appended, finalized}
 use Rattle.journal_core.specs.Limits.{head_of}
 use Rattle.journal_core.specs.Segments.{find_segment, put_segment, remove_segment, newest, has_edit, end_of, AreRising, AreAbove, IsNotFinal}
-use Rattle.journal_core.specs.Step.{node_step, effects_of, refused_at_once, row_refused, row_effects, start_refused, journal_refused, open_refused, finalize_refused, bodies_in, is_one, is_final_one, may_go, last_or_start, front_effects, fronted, front_opened, closes_segment}
+use Rattle.journal_core.specs.Step.{node_step, effects_of, refused_at_once, row_refused, row_effects, start_refused, journal_refused, open_refused}
+use Rattle.journal_core.specs.Step.{finalize_refused, bodies_in, is_one, is_final_one, may_go, last_or_start, front_effects, fronted, front_opened}
+use Rattle.journal_core.specs.Step.{closes_segment}
 use Rattle.journal_core.specs.Views.{HeadView, BatchView}
 use Rattle.journal_core.specs.declared.node_state.NodeState.{NodeState}
 use Rattle.journal_core.specs.declared.refusal.Refusal.{Refusal}
@@ -36,7 +40,8 @@ pub data Change (s : NodeState) (r : Request) (m : ℕ) : Option Segment → Opt
       is_one m (fronted s r).opened ≡ false → Change s r m (Some g) None
 
 -- a put changes one start
-put_change : (s : NodeState) (r : Request) (m : ℕ) (x : Segment) (segments : List Segment) → Change s r x.start (find_segment x.start segments) (Some x) → Change s r m (find_segment m segments) (find_segment m (put_segment x segments))
+put_change : (s : NodeState) (r : Request) (m : ℕ) (x : Segment) (segments : List Segment)
+    → Change s r x.start (find_segment x.start segments) (Some x) → Change s r m (find_segment m segments) (find_segment m (put_segment x segments))
 put_change s r m x segments c = elim (cases_eq x.start m) [
   | inl is ↦ subst (λ k. Change s r k (find_segment k segments) (find_segment k (put_segment x segments))) is
       (subst (λ o. Change s r x.start (find_segment x.start segments) o) (sym (find-put_same x segments)) c)
@@ -199,7 +204,8 @@ is_one_refl : (m : ℕ) → is_one m (Some m) ≡ true
 is_one_refl m = eq-eqb m m refl
 
 purge_change : (s : NodeState) (h : HeadView) (m l k : ℕ) → AreRising s.segments →
-    Change s (Purge h l) m (find_segment m s.segments) (find_segment m (segments_all s.segments (take k (map (λ g. Remove g.start) (filter (may_go (fronted s (Purge h l)) h.committed l) s.segments)))))
+    Change s (Purge h l) m (find_segment m s.segments) (find_segment m
+    (segments_all s.segments (take k (map (λ g. Remove g.start) (filter (may_go (fronted s (Purge h l)) h.committed l) s.segments)))))
 purge_change s h m l k rising = elim (removals m k (filter (may_go (fronted s (Purge h l)) h.committed l) s.segments) s.segments) [
   | inl e ↦ subst (λ o. Change s (Purge h l) m (find_segment m s.segments) o) (sym e) same
   | inr x ↦
@@ -222,7 +228,8 @@ purge_change s h m l k rising = elim (removals m k (filter (may_go (fronted s (P
 
 -- ## Any number of a request's effects
 touch : (s : NodeState) (r : Request) (m k : ℕ) (front xs : List Effect) (e : Effect) (ys : List Effect) → AllQuiet front → AllQuiet xs → AllQuiet ys →
-    Change s r m (find_segment m s.segments) (find_segment m (segments_after s.segments e)) → Change s r m (find_segment m s.segments) (find_segment m (segments_all s.segments (take k (front ++ (xs ++ e ∷ ys)))))
+    Change s r m (find_segment m s.segments) (find_segment m (segments_after s.segments e))
+    → Change s r m (find_segment m s.segments) (find_segment m (segments_all s.segments (take k (front ++ (xs ++ e ∷ ys)))))
 touch s r m k front xs e ys f p q c = subst (λ es. Change s r m (find_segment m s.segments) (find_segment m (segments_all s.segments (take k es)))) (append_assoc front xs (e ∷ ys))
     (elim (one_touch s.segments k (front ++ xs) e ys (quiet_append front xs f p) q) [
       | inl n ↦ subst (λ zs. Change s r m (find_segment m s.segments) (find_segment m zs)) (sym n) same
@@ -250,7 +257,9 @@ change_rows s (Journal h n c) sound d a b k m =
     (journal_change s h m n c sound (front_le s (Journal h n c) h refl a) (journal_passed (fronted s (Journal h n c)) h n c b) (find_segment n s.segments) refl)
 change_rows s (Finalize h n l) sound d a b k m =
     cond_both (is_final_one (find_segment n s.segments)) [] (MakeFinal n ∷ [])
-    (λ es. is_final_one (find_segment n s.segments) ≡ is_final_one (find_segment n s.segments) → Change s (Finalize h n l) m (find_segment m s.segments) (find_segment m (segments_all s.segments (take k (front_effects s (Some h) ++ (es ++ commits))))))
+    (λ es. is_final_one (find_segment n s.segments) ≡ is_final_one (find_segment n s.segments)
+    → Change s (Finalize h n l) m (find_segment m s.segments) (find_segment m
+    (segments_all s.segments (take k (front_effects s (Some h) ++ (es ++ commits))))))
     (λ t u. no_touch s (Finalize h n l) m k (front_effects s (Some h)) commits (quiet_front s (Some h)) (commits_quiet _ _))
     (λ f u. touch s (Finalize h n l) m k (front_effects s (Some h)) [] (MakeFinal n) commits (quiet_front s (Some h)) tt (commits_quiet _ _)
     (seal_change s h m n l (find_segment n s.segments) refl b f)) refl
@@ -275,12 +284,15 @@ take_none : (k : ℕ) (segments : List Segment) → segments_all segments (take 
 take_none zero segments = refl
 take_none (suc k) segments = refl
 
-change_in : (s : NodeState) (r : Request) → OpenIsLed s → IsStored s → Acted s r → (k m : ℕ) → Change s r m (find_segment m s.segments) (find_segment m (segments_all s.segments (take k (effects_of s r))))
+change_in : (s : NodeState) (r : Request) → OpenIsLed s → IsStored s → Acted s r → (k m : ℕ)
+    → Change s r m (find_segment m s.segments) (find_segment m (segments_all s.segments (take k (effects_of s r))))
 change_in s r sound d (at_once x a n e) k m = rw e (subst (λ zs. Change s r m (find_segment m s.segments) (find_segment m zs)) (sym (take_none k s.segments)) same)
-change_in s r sound d (by_row x a b n e) k m = rw e (subst (λ zs. Change s r m (find_segment m s.segments) (find_segment m zs)) (sym (quiet_all s.segments k (front_effects s (head_of r)) (quiet_front s (head_of r)))) same)
+change_in s r sound d (by_row x a b n e) k m = rw e (subst (λ zs. Change s r m (find_segment m s.segments) (find_segment m zs))
+    (sym (quiet_all s.segments k (front_effects s (head_of r)) (quiet_front s (head_of r)))) same)
 change_in s r sound d (done a b n e) k m = rw e (change_rows s r sound d a b k m)
 
-pub change_stopped : (s : NodeState) (r : Request) → OpenIsLed s → IsStored s → (k m : ℕ) → Change s r m (find_segment m s.segments) (find_segment m (segments_all s.segments (take k (effects_of s r))))
+pub change_stopped : (s : NodeState) (r : Request) → OpenIsLed s → IsStored s → (k m : ℕ)
+    → Change s r m (find_segment m s.segments) (find_segment m (segments_all s.segments (take k (effects_of s r))))
 change_stopped s r sound d k m = change_in s r sound d (acted s r) k m
 
 pub change_answered : (s : NodeState) (r : Request) → OpenIsLed s → IsStored s → (m : ℕ) → Change s r m (find_segment m s.segments) (find_segment m (node_step s r).state.segments)

@@ -25,7 +25,8 @@ standing-le (c ∷ cs) calls =
     elim (nat_le c.decides calls) as (λ b. cond b (suc (standing (calls - c.calls) cs)) 0 ≤ suc (length cs))
     [ true ↦ omega (arith, standing-le cs (calls - c.calls)) | false ↦ omega arith ]
 
-none_stand : (cut : Cut) (s : NodeState) (r : Request) (calls : ℕ) (o : Option Refusal) (refusal : Refusal) → o ≡ Some refusal → 0 ≡ standing calls (map (cost_of cut s.segments) (effects_unless s r o))
+none_stand : (cut : Cut) (s : NodeState) (r : Request) (calls : ℕ) (o : Option Refusal) (refusal : Refusal) → o ≡ Some refusal
+    → 0 ≡ standing calls (map (cost_of cut s.segments) (effects_unless s r o))
 unfolding standing
 none_stand cut s r calls o refusal e = rw e refl
 

@@ -8,7 +8,8 @@ use Rattle.journal_core.specs.declared.request.Request.{Request}
 use Rattle.journal_core.specs.Views.{HeadView}
 use Rattle.journal_core.specs.Limits.{head_of}
 use Rattle.journal_core.specs.Effects.{Effect, after_effects, after_effect, promised_after, writer_after, committed_after, segments_after}
-use Rattle.journal_core.specs.Step.{node_step, unless_refused, step_after_front, refused_at_once, front_refused, front_effects, front_promised, fronted, row_refused, effects_of, effects_unless, effects_after, stopped, crashed}
+use Rattle.journal_core.specs.Step.{node_step, unless_refused, step_after_front, refused_at_once, front_refused, front_effects, front_promised}
+use Rattle.journal_core.specs.Step.{fronted, row_refused, effects_of, effects_unless, effects_after, stopped, crashed}
 use Rattle.journal_core.specs.Laws.{SameDurable}
 use Rattle.journal_core.proofs.StopLaws.{same_crash}
 use Rattle.journal_core.proofs.Steps.{front_passed, promise_le}
@@ -37,7 +38,8 @@ unfolding after_effects
 after-append [] ys s = refl
 after-append (x ∷ xs) ys s = after-append xs ys (after_effect s x)
 
-front_durable : (s t : NodeState) (h : Option HeadView) → front_refused s h ≡ None → t.promised ≡ front_promised s.promised h → t.writer ≡ s.writer → t.committed ≡ s.committed → t.segments ≡ s.segments
+front_durable : (s t : NodeState) (h : Option HeadView) → front_refused s h ≡ None → t.promised ≡ front_promised s.promised h → t.writer ≡ s.writer
+    → t.committed ≡ s.committed → t.segments ≡ s.segments
     → SameDurable t (after_effects s (front_effects s h))
 unfolding after_effects
 front_durable s t None n p w c g = (p, w, c, g)

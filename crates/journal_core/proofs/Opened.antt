@@ -144,7 +144,8 @@ finalize_open o h n l m e = elim (cases_Bool (is_one n o)) [
 ]
 
 start_segments : (s : NodeState) (h : HeadView) (n : ℕ) →
-    find_segment n (after_effects (fronted s (Start h n)) (row_effects (fronted s (Start h n)) (Start h n))).segments ≡ Some (record { start = n; epoch = h.epoch; bodies = []; is_final = false; accepted = false })
+    find_segment n (after_effects (fronted s (Start h n)) (row_effects (fronted s (Start h n)) (Start h n))).segments ≡ Some
+    (record { start = n; epoch = h.epoch; bodies = []; is_final = false; accepted = false })
 start_segments s h n =
     ap (λ zs. find_segment n zs) (segments-after (fronted s (Start h n)) (row_effects (fronted s (Start h n)) (Start h n))
     ∙ quiet_first s.segments (if s.writer == h.epoch then [] else WriterEpoch h.epoch ∷ []) (NewSegment n h.epoch ∷ [])
@@ -155,7 +156,8 @@ start_segments s h n =
 abbrev pub done_state : NodeState → Request → NodeState
 done_state s r = row_then (after_effects (fronted s r) (row_effects (fronted s r) r)) r
 
-open_done : (s : NodeState) (r : Request) → OpenIsLed s → IsStored s → Acted s r → refused_at_once s r ≡ None → node_step s r ≡ record { state = done_state s r; reply = row_reply (fronted s r) r } → OpenIsLed (done_state s r)
+open_done : (s : NodeState) (r : Request) → OpenIsLed s → IsStored s → Acted s r → refused_at_once s r ≡ None
+    → node_step s r ≡ record { state = done_state s r; reply = row_reply (fronted s r) r } → OpenIsLed (done_state s r)
 unfolding after_effects
 open_done s State sound d a n e = sound
 open_done s (NewEpoch p) sound d a n e = λ m f. none≢some m f

@@ -1,5 +1,6 @@
 -- Laws of places in a list of segments by rising start.
-use Rattle.std.proofs.Common.{ℕ, ◌≡◌, ◌≢◌, ◌<◌, ◌≤◌, ◌+◌, List, [], ◌∷◌, length, Option, Some, None, Bool, true, false, cond, nat_lt, ◌==◌, refl, sym, ◌∙◌, ap, arith, take, drop, get_or, set, insert, add-one, suc, zero, inl, inr, max, subst}
+use Rattle.std.proofs.Common.{ℕ, ◌≡◌, ◌≢◌, ◌<◌, ◌≤◌, ◌+◌, List, [], ◌∷◌, length, Option, Some, None, Bool, true, false, cond, nat_lt, ◌==◌, refl, sym}
+use Rattle.std.proofs.Common.{◌∙◌, ap, arith, take, drop, get_or, set, insert, add-one, suc, zero, inl, inr, max, subst}
 use Rattle.std.proofs.lemmas.Bool.{cases_order}
 use Rattle.std.proofs.lemmas.Bool.Decides.{nat_tests}
 use Rattle.std.proofs.lemmas.List.{drop_more, drop_all}
@@ -171,17 +172,32 @@ put_between new i gs p = insert_beside new i gs p.below p.above
 pub put_above : (a : ℕ) (new : Segment) (gs : List Segment) → a < new.start → AreAbove a gs → AreAbove a (put_segment new gs)
 put_above a new [] l p = rw (put_last new) (l, tt)
 put_above a new (g ∷ gs) l p =
-    elim (cases_order new.start g.start) [ inl h ↦ rw (put_here new g gs (sym h)) (l, p.1) | inr q ↦ elim q [ inl h ↦ rw (put_before new g gs h) (l, p) | inr h ↦ rw (put_more new g gs h) (p.0, put_above a new gs l p.1) ] ]
+    elim (cases_order new.start g.start) [
+      | inl h ↦ rw (put_here new g gs (sym h)) (l, p.1)
+      | inr q ↦ elim q
+          [ inl h ↦ rw (put_before new g gs h) (l, p) | inr h ↦ rw (put_more new g gs h) (p.0, put_above a new gs l p.1) ]
+    ]
 
 pub put_rising : (new : Segment) (gs : List Segment) → AreRising gs → AreRising (put_segment new gs)
 put_rising new [] r = rw (put_last new) (tt, tt)
 put_rising new (g ∷ gs) r =
-    elim (cases_order new.start g.start) [ inl h ↦ rw (put_here new g gs (sym h)) (rw h r.0, r.1) | inr q ↦ elim q [ inl h ↦ rw (put_before new g gs h) ((h, AreAbove-mono new.start g.start gs (omega arith) r.0), r) | inr h ↦ rw (put_more new g gs h) (put_above g.start new gs h r.0, put_rising new gs r.1) ] ]
+    elim (cases_order new.start g.start) [
+      | inl h ↦ rw (put_here new g gs (sym h)) (rw h r.0, r.1)
+      | inr q ↦ elim q [
+        | inl h ↦ rw (put_before new g gs h) ((h, AreAbove-mono new.start g.start gs (omega arith) r.0), r)
+        | inr h ↦ rw (put_more new g gs h)
+            (put_above g.start new gs h r.0, put_rising new gs r.1)
+      ]
+    ]
 
 pub put_within : (new : Segment) (gs : List Segment) → IsWithin new → AreWithin gs → AreWithin (put_segment new gs)
 put_within new [] n r = rw (put_last new) (n, tt)
 put_within new (g ∷ gs) n r =
-    elim (cases_order new.start g.start) [ inl h ↦ rw (put_here new g gs (sym h)) (n, r.1) | inr q ↦ elim q [ inl h ↦ rw (put_before new g gs h) (n, r) | inr h ↦ rw (put_more new g gs h) (r.0, put_within new gs n r.1) ] ]
+    elim (cases_order new.start g.start) [
+      | inl h ↦ rw (put_here new g gs (sym h)) (n, r.1)
+      | inr q ↦ elim q
+          [ inl h ↦ rw (put_before new g gs h) (n, r) | inr h ↦ rw (put_more new g gs h) (r.0, put_within new gs n r.1) ]
+    ]
 
 pub put_sound : (new : Segment) (gs : List Segment) → IsWithin new → AreSound gs → AreSound (put_segment new gs)
 put_sound new gs n s = record { rising = put_rising new gs s.rising; within = put_within new gs n s.within }

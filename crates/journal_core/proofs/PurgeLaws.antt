@@ -1,5 +1,6 @@
 -- Laws of purges.
-use Rattle.std.proofs.Common.{ℕ, ◌≡◌, ◌<◌, ◌≤◌, List, [], ◌∷◌, Bool, true, false, cond, not, refl, sym, ap, ◌∙◌, arith, filter, map, ◌==◌, ◌≢◌, ◌+◌, ◌-◌, ◌&&◌, length, take, drop, get_or, min, nat_lt, zero, suc, Option, Some, None, subst}
+use Rattle.std.proofs.Common.{ℕ, ◌≡◌, ◌<◌, ◌≤◌, List, [], ◌∷◌, Bool, true, false, cond, not, refl, sym, ap, ◌∙◌, arith, filter, map, ◌==◌, ◌≢◌, ◌+◌}
+use Rattle.std.proofs.Common.{◌-◌, ◌&&◌, length, take, drop, get_or, min, nat_lt, zero, suc, Option, Some, None, subst}
 use Rattle.std.proofs.lemmas.Bool.Decides.{nat_tests}
 use Rattle.std.proofs.lemmas.List.{drop_more, drop_all}
 use Rattle.journal_core.specs.declared.segment.Segment.{Segment}
@@ -161,5 +162,6 @@ pub removes_start : (start : ℕ) (gs : List Segment) → filter (λ g. not (g.s
 unfolding remove_segment
 removes_start start [] = refl
 removes_start start (g ∷ gs) =
-    elim (g.start == start) as (λ b. cond (not b) (g ∷ filter (λ x. not (x.start == start)) gs) (filter (λ x. not (x.start == start)) gs) ≡ cond b (remove_segment start gs) (g ∷ remove_segment start gs))
+    elim (g.start == start) as (λ b. cond (not b) (g ∷ filter (λ x. not (x.start == start)) gs) (filter (λ x. not (x.start == start)) gs) ≡ cond b
+    (remove_segment start gs) (g ∷ remove_segment start gs))
     [ true ↦ removes_start start gs | false ↦ ap (λ xs. g ∷ xs) (removes_start start gs) ]

@@ -11,7 +11,9 @@ use Rattle.journal_core.specs.Limits.{head_of}
 use Rattle.journal_core.specs.Segments.{find_segment, has_edit, any_body, newest, IsNotFinal}
 use Rattle.journal_core.specs.Effects.{after_effects}
 use Rattle.journal_core.specs.Step.{node_step, refused_at_once, effects_of, front_effects, fronted, front_promised, row_effects, row_then, crashed, stopped, fresh_state}
-use Rattle.journal_core.specs.Laws.{Event, Asked, Stopped, Killed, Restarted, after_event, IsStored, OpenIsLed, IsSound, SoundStays, OpenSegmentIsLed, PromiseNeverFalls, epoch_of, AnsweredIsPromised, IsPurge, FinalStays, HeaderNeverFalls, HasEdit, NewestNeverFalls, RefusedAfterLeavesFront, IsQuestion, QuestionsAreIdle}
+use Rattle.journal_core.specs.Laws.{Event, Asked, Stopped, Killed, Restarted, after_event, IsStored, OpenIsLed, IsSound, SoundStays, OpenSegmentIsLed}
+use Rattle.journal_core.specs.Laws.{PromiseNeverFalls, epoch_of, AnsweredIsPromised, IsPurge, FinalStays, HeaderNeverFalls, HasEdit, NewestNeverFalls}
+use Rattle.journal_core.specs.Laws.{RefusedAfterLeavesFront, IsQuestion, QuestionsAreIdle}
 use Rattle.journal_core.proofs.SegmentLists.{newest-above, newest-found}
 use Rattle.journal_core.proofs.Steps.{Acted, at_once, by_row, done, acted, append_nil, front_le, none≢some, segments_all, segments-after}
 use Rattle.journal_core.proofs.KeptLaws.{rows_kept, stop_from_front, event_kept, all_events}
@@ -77,7 +79,8 @@ answered_is_promised s r epoch is told = go (acted s r)
     go (by_row x a b n e) = absurd (told (rw n tt))
     go (done a b n e) = ap (λ z. z.state.promised) n ∙ done_promise r s epoch is a
 
--- stopped after at least one effect of a request that wasn't refused at once, a node has the request's epoch as a promise, or a higher one
+-- stopped after at least one effect of a request that wasn't refused at once, a node has the
+-- request's epoch as a promise, or a higher one
 pub stopped_is_promised : (s : NodeState) (r : Request) (h : HeadView) (k : ℕ) → head_of r ≡ Some h → refused_at_once s r ≡ None → h.epoch ≤ (stopped s r (suc k)).promised
 unfolding after_effects
 stopped_is_promised s r h k is a = go (acted s r)
@@ -137,7 +140,8 @@ final_stays s Killed m g x is f = inl is
 final_stays s Restarted m g x is f = inl is
 
 -- ## Header epochs
-header_change : (s : NodeState) (r : Request) (m : ℕ) (o new : Option Segment) → Change s r m o new → refused_at_once s r ≡ None → (g h : Segment) → o ≡ Some g → new ≡ Some h → g.epoch ≤ s.promised → g.epoch ≤ h.epoch
+header_change : (s : NodeState) (r : Request) (m : ℕ) (o new : Option Segment) → Change s r m o new → refused_at_once s r ≡ None → (g h : Segment)
+    → o ≡ Some g → new ≡ Some h → g.epoch ≤ s.promised → g.epoch ≤ h.epoch
 header_change s r m o new same a g h is to low = let one : g ≡ h = one_of g h (sym is ∙ to) in omega (arith, ap (λ z. z.epoch) one)
 header_change s r m o new (created d q n) a g h is to low =
     let le : s.promised ≤ d.epoch = front_le s r d (ap head_of q) a in
@@ -193,7 +197,8 @@ some_edit : (bodies : List (List ℕ)) → 0 < length bodies → any_body bodies
 some_edit [] l = absurd (omega arith)
 some_edit (x ∷ xs) l = refl
 
-edit_change : (s : NodeState) (r : Request) (m : ℕ) (o new : Option Segment) → Change s r m o new → HasEdit r → newest s.segments ≡ Some m → (g : Segment) → o ≡ Some g → has_edit g ≡ true → HasEditIn new
+edit_change : (s : NodeState) (r : Request) (m : ℕ) (o new : Option Segment) → Change s r m o new → HasEdit r → newest s.segments ≡ Some m
+    → (g : Segment) → o ≡ Some g → has_edit g ≡ true → HasEditIn new
 edit_change s r m o new same brings n g is edit = (g, is, edit)
 edit_change s r m o new (created h q none) brings n g is edit = not_empty o g is edit none
 edit_change s r m (Some x) new (grown h b q header shut first) brings n g is edit =

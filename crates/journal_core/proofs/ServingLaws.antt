@@ -1,5 +1,6 @@
 -- Laws of what a node serves.
-use Rattle.std.proofs.Common.{ℕ, ◌≡◌, ◌≤◌, ◌<◌, ◌+◌, ◌-◌, List, [], ◌∷◌, length, take, drop, get_or, Some, None, Bool, true, false, cond, refl, sym, ◌∙◌, ap, arith, zero, suc, length-take, length-drop, ◌==◌, ◌≢◌, min, max, nat_lt, subst, ◌⊎◌, inl, inr, ◌&&◌}
+use Rattle.std.proofs.Common.{ℕ, ◌≡◌, ◌≤◌, ◌<◌, ◌+◌, ◌-◌, List, [], ◌∷◌, length, take, drop, get_or, Some, None, Bool, true, false, cond, refl, sym}
+use Rattle.std.proofs.Common.{◌∙◌, ap, arith, zero, suc, length-take, length-drop, ◌==◌, ◌≢◌, min, max, nat_lt, subst, ◌⊎◌, inl, inr, ◌&&◌}
 use Rattle.std.proofs.lemmas.Bool.{cases_Bool, cases_lt, lt-ltb, false≢true}
 use Rattle.std.proofs.lemmas.Bool.Decides.{nat_tests, eqb_tells}
 use Rattle.std.proofs.lemmas.List.{drop_more, drop_all, drop-take, take_all, take-take}
@@ -143,7 +144,12 @@ unfolding manifest_of
 line_other g gs e = rw e refl
 
 pub line_at : (gs : List Segment) (i : ℕ) (d : Segment) → i < length gs → has_edit (get_or gs i d) ≡ true
-    → manifest_of (drop i gs) ≡ record { start = (get_or gs i d).start; end = end_of (get_or gs i d); is_final = (get_or gs i d).is_final; epoch = (get_or gs i d).epoch } ∷ manifest_of (drop (i + 1) gs)
+    → manifest_of (drop i gs) ≡ record {
+      start = (get_or gs i d).start;
+      end = end_of (get_or gs i d);
+      is_final = (get_or gs i d).is_final;
+      epoch = (get_or gs i d).epoch;
+    } ∷ manifest_of (drop (i + 1) gs)
 line_at gs i d l e = ap manifest_of (drop_more gs i d l) ∙ line_one (get_or gs i d) (drop (i + 1) gs) e
 
 pub line_next : (gs : List Segment) (i : ℕ) (d : Segment) → i < length gs → has_edit (get_or gs i d) ≡ false → manifest_of (drop i gs) ≡ manifest_of (drop (i + 1) gs)

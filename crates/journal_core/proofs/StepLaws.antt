@@ -6,13 +6,16 @@ use Rattle.journal_core.specs.declared.node_state.NodeState.{NodeState}
 use Rattle.journal_core.specs.declared.request.Request.{Request}
 use Rattle.journal_core.specs.declared.request.Request.TheVariants.{State, NewEpoch, Start, Journal, Finalize, Prepare, Fetch, Accept, Purge, Read, Manifest}
 use Rattle.journal_core.specs.declared.refusal.Refusal.{Refusal}
-use Rattle.journal_core.specs.declared.refusal.Refusal.TheVariants.{Down, Limit, EpochRefused, OldSerial, NotWriter, NoOpenSegment, WrongSegment, WrongTxid, SegmentFinal, SegmentHasEdits, NoSegment, OtherEpoch, LengthDiffers, Purged, NotHere, OutOfMemory, DiskFault, BadFile}
+use Rattle.journal_core.specs.declared.refusal.Refusal.TheVariants.{Down, Limit, EpochRefused, OldSerial, NotWriter, NoOpenSegment, WrongSegment}
+use Rattle.journal_core.specs.declared.refusal.Refusal.TheVariants.{WrongTxid, SegmentFinal, SegmentHasEdits, NoSegment, OtherEpoch, LengthDiffers}
+use Rattle.journal_core.specs.declared.refusal.Refusal.TheVariants.{Purged, NotHere, OutOfMemory, DiskFault, BadFile}
 use Rattle.journal_core.specs.declared.reply.Reply.{Reply}
 use Rattle.journal_core.specs.declared.reply.Reply.TheVariants as reply
 use Rattle.journal_core.specs.Segments.{find_segment, has_edit, end_of}
 use Rattle.journal_core.specs.Limits.{limit_of, head_of}
 use Rattle.journal_core.specs.Reads.{edits_from, answer_from, serving, least_served, last_below}
-use Rattle.journal_core.specs.Step.{Stepped, node_step, unless_refused, step_after_front, refused_at_once, unless_limited, front_refused, fronted, row_refused, start_refused, open_refused, finalize_refused, fetch_refused, accept_refused, row_reply, bodies_in}
+use Rattle.journal_core.specs.Step.{Stepped, node_step, unless_refused, step_after_front, refused_at_once, unless_limited, front_refused, fronted}
+use Rattle.journal_core.specs.Step.{row_refused, start_refused, open_refused, finalize_refused, fetch_refused, accept_refused, row_reply, bodies_in}
 use Rattle.journal_core.specs.Answers.{IsOwn, IsOwnRefusal, row}
 
 abbrev Own : Option Refusal → Type 0

@@ -3,7 +3,8 @@ use Rattle.std.proofs.Common.{◌≡◌, ℕ, zero, suc, ◌≤◌, ◌⊎◌, L
 use Rattle.std.proofs.lemmas.Bool.{cond_both, cases_Bool, ltb-false, cond-true}
 use Rattle.journal_core.specs.Effects.{Effect, Promise, WriterEpoch, Commit, NewSegment, Append, Replace, MakeFinal, Remove, after_effect, after_effects, segments_after}
 use Rattle.journal_core.specs.Limits.{limit_of, head_of}
-use Rattle.journal_core.specs.Step.{node_step, unless_refused, step_after_front, effects_of, effects_unless, effects_after, refused_at_once, unless_limited, front_refused, row_refused, row_effects, row_reply, row_then, front_effects, fronted}
+use Rattle.journal_core.specs.Step.{node_step, unless_refused, step_after_front, effects_of, effects_unless, effects_after, refused_at_once}
+use Rattle.journal_core.specs.Step.{unless_limited, front_refused, row_refused, row_effects, row_reply, row_then, front_effects, fronted}
 use Rattle.journal_core.specs.Views.{HeadView}
 use Rattle.journal_core.specs.declared.node_state.NodeState.{NodeState}
 use Rattle.journal_core.specs.declared.refusal.Refusal.{Refusal}
@@ -116,7 +117,8 @@ pub quiet_append : (xs ys : List Effect) → AllQuiet xs → AllQuiet ys → All
 quiet_append [] ys p q = q
 quiet_append (x ∷ xs) ys p q = (p.0, quiet_append xs ys p.1 q)
 
--- one effect on the segments among quiet ones: it is among the first k, or the segments are as they were
+-- one effect on the segments among quiet ones: it is among the first k, or the segments are as they
+-- were
 pub one_touch : (segments : List Segment) (k : ℕ) (xs : List Effect) (e : Effect) (ys : List Effect) → AllQuiet xs → AllQuiet ys →
     (segments_all segments (take k (xs ++ e ∷ ys)) ≡ segments) ⊎ (segments_all segments (take k (xs ++ e ∷ ys)) ≡ segments_after segments e)
 one_touch segments zero xs e ys p q = inl refl
@@ -136,4 +138,5 @@ answer_segments s r = go (acted s r)
     go : Acted s r → (node_step s r).state.segments ≡ segments_all s.segments (effects_of s r)
     go (at_once x a n e) = rw (n, e)
     go (by_row x a b n e) = rw (n, e) (sym (quiet_whole s.segments (front_effects s (head_of r)) (quiet_front s (head_of r))))
-    go (done a b n e) = rw (n, e) (segments-after (fronted s r) (row_effects (fronted s r) r) ∙ sym (quiet_first s.segments (front_effects s (head_of r)) (row_effects (fronted s r) r) (quiet_front s (head_of r))))
+    go (done a b n e) = rw (n, e) (segments-after (fronted s r) (row_effects (fronted s r) r)
+        ∙ sym (quiet_first s.segments (front_effects s (head_of r)) (row_effects (fronted s r) r) (quiet_front s (head_of r))))

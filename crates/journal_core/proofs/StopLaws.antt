@@ -1,5 +1,6 @@
 -- Laws of stops inside a request.
-use Rattle.std.proofs.Common.{ℕ, ◌≡◌, ◌<◌, ◌≤◌, ◌+◌, ◌-◌, List, [], ◌∷◌, ◌++◌, length, take, filter, min, Option, Some, None, Bool, true, false, cond, nat_lt, refl, sym, ◌∙◌, ap, arith, zero, suc, inl, inr, if◌then◌else◌}
+use Rattle.std.proofs.Common.{ℕ, ◌≡◌, ◌<◌, ◌≤◌, ◌+◌, ◌-◌, List, [], ◌∷◌, ◌++◌, length, take, filter, min, Option, Some, None, Bool, true, false, cond}
+use Rattle.std.proofs.Common.{nat_lt, refl, sym, ◌∙◌, ap, arith, zero, suc, inl, inr, if◌then◌else◌}
 use Rattle.std.proofs.lemmas.Bool.Decides.{leb_tells}
 use Rattle.std.proofs.lemmas.List.{take-map, length-map, length-append}
 use Rattle.journal_core.specs.Views.{HeadView}

@@ -55,13 +55,16 @@ pub any_body_append : (xs ys : List (List ℕ)) → any_body xs ≡ true → any
 any_body_append [] ys e = false≢true e
 any_body_append (x ∷ xs) ys e = refl
 
-appended_below : (p m : ℕ) (bodies : List (List ℕ)) (segments : List Segment) → EachFound (IsBelow p) segments → (o : Option Segment) → find_segment m segments ≡ o → EachFound (IsBelow p) (appended bodies o segments)
+appended_below : (p m : ℕ) (bodies : List (List ℕ)) (segments : List Segment) → EachFound (IsBelow p) segments → (o : Option Segment)
+    → find_segment m segments ≡ o → EachFound (IsBelow p) (appended bodies o segments)
 appended_below p m bodies segments each None e = each
 appended_below p m bodies segments each (Some g) e =
     EachFound-put (IsBelow p) (record g { bodies = g.bodies ++ bodies }) segments
     (record { header = (each m g e).header; final_edit = λ f. any_body_append g.bodies bodies ((each m g e).final_edit f) }) each
 
-sealed_below : (p m : ℕ) (segments : List Segment) → EachFound (IsBelow p) segments → ((g : Segment) → find_segment m segments ≡ Some g → has_edit g ≡ true) → (o : Option Segment) → find_segment m segments ≡ o → EachFound (IsBelow p) (finalized o segments)
+sealed_below : (p m : ℕ) (segments : List Segment) → EachFound (IsBelow p) segments
+    → ((g : Segment) → find_segment m segments ≡ Some g → has_edit g ≡ true) → (o : Option Segment) → find_segment m segments ≡ o
+    → EachFound (IsBelow p) (finalized o segments)
 sealed_below p m segments each edit None e = each
 sealed_below p m segments each edit (Some g) e =
     EachFound-put (IsBelow p) (record g { is_final = true; accepted = false }) segments

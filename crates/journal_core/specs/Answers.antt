@@ -22,14 +22,16 @@ row s r = step_after_front s r (row_refused s r)
 abbrev pub IsStopOf : NodeState → Request → NodeState → Type 0
 IsStopOf old request new = (keep : ℕ) × (new ≡ stopped old request keep)
 
--- The answer is the node step's. A fault of the disk leaves what a stop inside the request may leave, and lack of memory that or the state as it was.
+-- The answer is the node step's. A fault of the disk leaves what a stop inside the request may
+-- leave, and lack of memory that or the state as it was.
 pub record IsAnswer (old : NodeState) (request : Request) (answer : Reply) (new : NodeState) : Type 0 where
   pub step : answer ≢ reply.Refused OutOfMemory → answer ≢ reply.Refused DiskFault → node_step old request ≡ record { state = new; reply = answer }
   pub memory : answer ≡ reply.Refused OutOfMemory → (new ≡ old) ⊎ IsStopOf old request new
   pub fault : answer ≡ reply.Refused DiskFault → IsStopOf old request new
   pub whole : answer ≢ reply.Refused BadFile
 
--- the same of a node that may not tell its state, and goes on telling it or not
+-- A node that tells its state answers as it may, and goes on telling it; of one that doesn't
+-- nothing is said but that it still doesn't.
 abbrev pub Answers : Option NodeState → Request → Reply → Option NodeState → Type 0
 Answers None request answer None = Unit {0}
 Answers (Some old) request answer (Some new) = IsAnswer old request answer new

@@ -23,13 +23,14 @@ number_cost = record { calls = 3; decides = 3 }
 abbrev pub segment_cost : Cost
 segment_cost = record { calls = 3; decides = 3 }
 
--- An append is written after a closed gate, synced, and then the gate is written and synced.
+-- An append is written after a blank seal, synced, and then the seal is written and synced.
 abbrev pub append_cost : Cut → Cost
 append_cost Old = record { calls = 4; decides = 4 }
 append_cost New = record { calls = 4; decides = 3 }
 append_cost A5 = record { calls = 4; decides = 3 }
 
--- An acceptance writes and syncs the content, puts its record and renames the content. Where the record already has the epoch, the content alone is written, synced and renamed.
+-- An acceptance writes and syncs the content, puts its record and renames the content. Where the
+-- record already has the epoch, the content alone is written, synced and renamed.
 abbrev pub accept_cost : Bool → Cost
 accept_cost true = record { calls = 3; decides = 3 }
 accept_cost false = record { calls = 6; decides = 5 }
@@ -44,7 +45,7 @@ abbrev pub has_record : Option Segment → Bool
 has_record None = false
 has_record (Some g) = g.accepted
 
--- the same with that epoch
+-- the segment has the record of an acceptance with that epoch
 abbrev pub has_record_of : ℕ → Option Segment → Bool
 has_record_of epoch None = false
 has_record_of epoch (Some g) = g.accepted && (g.epoch == epoch)

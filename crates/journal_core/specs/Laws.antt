@@ -34,7 +34,8 @@ after_events s [] = s
 after_events s (e ∷ es) = after_events (after_event s e) es
 
 -- ## The parts of what happens
--- the front, one effect of a row that isn't refused, what follows its last effect, going down and coming up
+-- the front, one effect of a row that isn't refused, what follows its last effect, going down and
+-- coming up
 pub data Part (s t : NodeState) : Type 0 where
   front : (r : Request) → refused_at_once s r ≡ None → t ≡ fronted s r → Part s t
   one_effect : (old : NodeState) (r : Request) (before later : List Effect) (e : Effect) → refused_at_once old r ≡ None → row_refused (fronted old r) r ≡ None
@@ -49,7 +50,8 @@ pub data Parts (s : NodeState) : NodeState → Type 0 where
   none : Parts s s
   more : {t u : NodeState} → Parts s t → Part t u → Parts s u
 
--- All that happens is done in parts: so what each part keeps, every step, stop, kill and restart keeps.
+-- All that happens is done in parts: so what each part keeps, every step, stop, kill and restart
+-- keeps.
 abbrev pub EventsAreParts : Type 0
 EventsAreParts = (s : NodeState) (es : List Event) → Parts s (after_events s es)
 

@@ -19,7 +19,8 @@ abbrev pub FitsHeard : Request → Heard → Type 0
 FitsHeard r Silent = Unit {0}
 FitsHeard r (Answer reply) = FitsRequest r reply × (reply ≢ Refused OutOfMemory)
 
--- a call is listed after those before it, with what was heard; where memory was wanting there is none
+-- a call is listed after those before it, with what was heard; where memory was wanting there is
+-- none
 abbrev pub Lists : List PeerCall → ℕ → Request → Result Heard AllocError → List PeerCall → Type 0
 Lists before node r (Ok heard) after = after ≡ before ++ record { node = node; request = r; heard = heard } ∷ []
 Lists before node r (Err e) after = after ≡ before

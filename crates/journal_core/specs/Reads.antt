@@ -22,7 +22,8 @@ abbrev pub or_else : Option (List (List ℕ)) → Option (List (List ℕ)) → O
 or_else (Some bodies) other = Some bodies
 or_else None other = other
 
--- of the segment that serves this txid, the edits from it on; of several, the one with the greatest start
+-- of the segment that serves this txid, the edits from it on; of several, the one with the greatest
+-- start
 unfoldable pub serving : NodeState → ℕ → List Segment → Option (List (List ℕ))
 serving s from [] = None
 serving s from (g ∷ gs) =

@@ -1,5 +1,6 @@
--- One request at a node: the tests before all else, the front of a request with a head, and the table of requests:
--- what is refused after the front, the durable effects in order, what follows them, and the reply.
+-- One request at a node: the tests before all else, the front of a request with a head, and the
+-- table of requests: what is refused after the front, the durable effects in order, what follows
+-- them, and the reply.
 use Rattle.std.specs.Prelude.{ℕ, ◌+◌, ◌==◌, ◌&&◌, ◌||◌, Bool, true, false, not, max, nat_lt, nat_le, List, [], ◌∷◌, ◌++◌, length, map, take, Option, Some, None, if◌then◌else◌}
 use Rattle.std.specs.List.{filter}
 use Rattle.journal_core.specs.Views.{HeadView, BatchView, last_txid}
@@ -8,7 +9,9 @@ use Rattle.journal_core.specs.declared.node_state.NodeState.{NodeState}
 use Rattle.journal_core.specs.declared.request.Request.{Request}
 use Rattle.journal_core.specs.declared.request.Request.TheVariants.{State, NewEpoch, Start, Journal, Finalize, Prepare, Fetch, Accept, Purge, Read, Manifest}
 use Rattle.journal_core.specs.declared.refusal.Refusal.{Refusal}
-use Rattle.journal_core.specs.declared.refusal.Refusal.TheVariants.{Down, Limit, EpochRefused, OldSerial, NotWriter, NoOpenSegment, WrongSegment, WrongTxid, SegmentFinal, SegmentHasEdits, NoSegment, OtherEpoch, LengthDiffers, NotHere}
+use Rattle.journal_core.specs.declared.refusal.Refusal.TheVariants.{Down, Limit, EpochRefused, OldSerial, NotWriter, NoOpenSegment, WrongSegment}
+use Rattle.journal_core.specs.declared.refusal.Refusal.TheVariants.{WrongTxid, SegmentFinal, SegmentHasEdits, NoSegment, OtherEpoch, LengthDiffers}
+use Rattle.journal_core.specs.declared.refusal.Refusal.TheVariants.{NotHere}
 use Rattle.journal_core.specs.declared.reply.Reply.{Reply}
 use Rattle.journal_core.specs.declared.reply.Reply.TheVariants as reply
 use Rattle.journal_core.specs.Segments.{find_segment, has_edit, end_of, newest}
@@ -142,7 +145,8 @@ is_one start (Some other) = other == start
 abbrev pub last_or_start : Segment → ℕ
 last_or_start g = if has_edit g then end_of g else g.start
 
--- A purge removes what isn't open, isn't the newest that holds an edit, and ends below its minimum and within its head's committed txid.
+-- A purge removes what isn't open, isn't the newest that holds an edit, and ends below its minimum
+-- and within its head's committed txid.
 abbrev pub may_go : NodeState → ℕ → ℕ → Segment → Bool
 may_go s committed min g =
     not (is_one g.start s.opened)

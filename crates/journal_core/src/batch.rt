@@ -1,4 +1,4 @@
-// Batches: bodies with the txid of the first.
+//! Batches: bodies with the txid of the first.
 ghost use Rattle.std.specs.Prelude.{◌≡◌, ◌≢◌, ◌≤◌, ◌<◌, ◌^◌, [], IfOk, MatchOption};
 ghost use Rattle.journal_core.specs.Views.{last_txid};
 
@@ -69,7 +69,7 @@ impl Batch {
         &self.bodies
     }
 
-    /// The same batch once more; the bodies' bytes are shared.
+    /// A copy of this batch; the bodies' bytes are shared. `OutOfMemory` where there is no room.
     pub fn share(&self, alloc: Global) -> Result<Batch, OutOfMemory>
         ensures { IfOk result (λ b. b ≡ self.now) }
     {

@@ -1,9 +1,9 @@
-// Lists of bodies.
+//! Lists of bodies.
 ghost use Rattle.std.specs.Prelude.{◌≡◌, ◌++◌, ◌==◌, [], ◌∷◌, List, ℕ, length, take, drop, IfOk, OnOk, OnErr, nat_lt};
 ghost use Rattle.std.specs.List.{list_any};
 
 use crate::OutOfMemory;
-use qj_num::Bytes;
+use base_words::Bytes;
 use std::alloc::Global;
 use std::marker::Model;
 
@@ -106,7 +106,7 @@ impl BodyList {
         pushed
     }
 
-    /// The same list once more; the bodies' bytes are shared.
+    /// A copy of this list; the bodies' bytes are shared. `OutOfMemory` where there is no room.
     pub fn share(&self, alloc: Global) -> Result<BodyList, OutOfMemory>
         ensures { IfOk result (λ l. l ≡ self.now) }
     {

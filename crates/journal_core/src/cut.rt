@@ -1,4 +1,4 @@
-// What a cut may leave of an append.
+//! What a cut may leave of an append.
 
 /// What stands of an append that was written whole and not closed: nothing, all of it, or all of it
 /// after a byte that says so.

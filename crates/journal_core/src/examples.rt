@@ -1,4 +1,4 @@
-// Worked examples, computed by the check.
+//! Worked examples, computed by the check.
 ghost use Rattle.std.specs.Prelude.{◌≡◌, [], ◌∷◌, Some, None};
 ghost use Rattle.journal_core.specs.Step.{fresh_state, crashed};
 ghost use Rattle.journal_core.specs.Limits.{limit_of};

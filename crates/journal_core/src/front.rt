@@ -1,4 +1,4 @@
-// The tests before all else, and the front of a request with a head.
+//! The tests before all else, and the front of a request with a head.
 ghost use Rattle.std.specs.Prelude.{◌≡◌, None, Some, IfNone};
 ghost use Rattle.journal_core.specs.Limits.{limit_of};
 ghost use Rattle.journal_core.specs.Step.{refused_at_once, front_refused, fronted};
@@ -42,7 +42,8 @@ impl NodeState {
         }
     }
 
-    /// The front: a raised promise, the serial, the known committed txid, and the open segment closed.
+    /// The front: a raised promise, the serial, the known committed txid, and the open segment
+    /// closed.
     pub fn pass_front(&mut self, request: &Request)
         ensures { self.new ≡ fronted self.old request.now }
     {

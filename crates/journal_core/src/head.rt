@@ -1,10 +1,10 @@
-// The head of a writer's request.
+//! The head of a writer's request.
 ghost use Rattle.std.specs.Prelude.{◌≡◌, MatchOption, ◌⊎◌};
 
 use std::marker::Model;
 
-/// Who asks: the writer's epoch, the serial of the request under it, and the committed txid that the
-/// writer knows. Epoch and serial are at least 1.
+/// Who asks: the writer's epoch, the serial of the request under it, and the committed txid that
+/// the writer knows. Epoch and serial are at least 1.
 #[derive(Clone, Copy)]
 pub struct Head {
     epoch: u64,

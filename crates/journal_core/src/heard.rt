@@ -1,4 +1,4 @@
-// What a caller hears.
+//! What a caller hears.
 ghost use Rattle.std.specs.Prelude.{◌≡◌, IfOk};
 
 use crate::OutOfMemory;
@@ -13,7 +13,7 @@ pub enum Heard {
 }
 
 impl Heard {
-    /// The same once more; edits are shared.
+    /// A copy of what was heard; edits are shared. `OutOfMemory` where there is no room.
     pub fn share(&self, alloc: Global) -> Result<Heard, OutOfMemory>
         ensures { IfOk result (λ h. h ≡ self.now) }
     {

@@ -1,15 +1,16 @@
-// Laws of the node step, of stops, kills and restarts, each proved for every state and every request.
+//! Laws of the node step, of stops, kills and restarts, each proved for every state and every
+//! request.
 ghost use Rattle.journal_core.specs.Laws.{EventsAreParts, SoundStays, OpenSegmentIsLed, PromiseNeverFalls, AnsweredIsPromised, FinalStays, HeaderNeverFalls, NewestNeverFalls, RefusedAtOnceIsIdle, RefusedAfterLeavesFront, QuestionsAreIdle, StepIsItsEffects, StopAfterNothingIsKill, StopAfterAllIsStep};
 
-/// All that happens to a node is done in parts: the front of a request, single durable effects, what
-/// follows the last of them, going down, and coming up. So what each part keeps is kept by every
-/// step, stop, kill and restart.
+/// All that happens to a node is done in parts: the front of a request, single durable effects,
+/// what follows the last of them, going down, and coming up. So what each part keeps is kept by
+/// every step, stop, kill and restart.
 pub fn events_are_parts()
     ensures { EventsAreParts }
 {}
 
-/// What holds of every node, whatever happens to it: no epoch is above the promise, segments stand by
-/// rising start, a final one holds an edit, and the open one is led by the promise.
+/// What holds of every node, whatever happens to it: no epoch is above the promise, segments stand
+/// by rising start, a final one holds an edit, and the open one is led by the promise.
 pub fn sound_stays()
     ensures { SoundStays }
 {}
@@ -39,7 +40,8 @@ pub fn header_never_falls()
     ensures { HeaderNeverFalls }
 {}
 
-/// The newest start of a segment that holds an edit never falls, where an acceptance brings an edit.
+/// The newest start of a segment that holds an edit never falls, where an acceptance brings an
+/// edit.
 pub fn newest_never_falls()
     ensures { NewestNeverFalls }
 {}

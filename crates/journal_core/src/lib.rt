@@ -26,6 +26,7 @@ mod shared_request;
 mod told_batch;
 mod told_segment;
 
+pub use base_words::{Bytes, Name, OutOfMemory};
 pub use batch::Batch;
 pub use body_list::BodyList;
 pub use cut::Cut;
@@ -47,7 +48,6 @@ pub use node_fail::NodeFail;
 pub use node_state::NodeState;
 pub use peer_call::PeerCall;
 pub use peers::{MAX_NODES, Peers, permitted_nodes};
-pub use qj_num::{Bytes, Name, OutOfMemory};
 pub use refusal::Refusal;
 pub use reply::Reply;
 pub use request::Request;

@@ -1,4 +1,4 @@
-// The greatest numbers and sizes that a node takes.
+//! The greatest numbers and sizes that a node takes.
 ghost use Rattle.std.specs.Prelude.{◌≡◌, [], ◌∷◌, false, length, nat_lt};
 ghost use Rattle.std.specs.List.{list_any};
 ghost use Rattle.journal_core.specs.Views.{last_txid};

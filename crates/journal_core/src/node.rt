@@ -1,4 +1,4 @@
-// A node that answers requests.
+//! A node that answers requests.
 ghost use Rattle.std.specs.Prelude.{◌≡◌, ◌≢◌, ◌≤◌, ◌⊎◌, ℕ, Option, IsTrue};
 ghost use Rattle.std.specs.Option.{ForSome};
 ghost use Rattle.journal_core.specs.declared.node_state.NodeState.{NodeState};

@@ -1,5 +1,5 @@
-// Why a node couldn't be stopped or restarted.
-use qj_num::Name;
+//! Why a node couldn't be stopped or restarted.
+use base_words::Name;
 
 /// A fault below a node.
 #[derive(Drop)]

@@ -1,12 +1,13 @@
-// What a node keeps.
+//! What a node keeps.
 ghost use Rattle.std.specs.Prelude.{◌≡◌};
 ghost use Rattle.journal_core.specs.Step.{fresh_state, crashed, restarted};
 
 use crate::segment_list::SegmentList;
 use std::alloc::Global;
 
-/// The state of a node. `promised`, `writer`, `committed` and `segments` are durable; the others are
-/// forgotten when it goes down. It is let go by one call wherever it is, which keeps proofs short.
+/// The state of a node. `promised`, `writer`, `committed` and `segments` are durable; the others
+/// are forgotten when it goes down. It is let go by one call wherever it is, which keeps proofs
+/// short.
 pub struct NodeState {
     /// The greatest epoch that it promised.
     pub promised: u64,

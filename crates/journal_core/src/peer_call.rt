@@ -1,4 +1,4 @@
-// A call to a node.
+//! A call to a node.
 use crate::heard::Heard;
 use crate::shared_request::SharedRequest;
 

@@ -1,4 +1,4 @@
-// The nodes that a caller can call.
+//! The nodes that a caller can call.
 ghost use Rattle.std.specs.Prelude.{◌≡◌, ◌≤◌, ℕ, List, IfOk, IsTrue, ◌↔◌};
 ghost use Rattle.journal_core.specs.declared.peer_call.PeerCall.{PeerCall};
 ghost use Rattle.journal_core.specs.Peers.{Lists, FitsHeard, IsPermitted};
@@ -31,9 +31,9 @@ pub trait Peers {
     fn nodes(&self) -> usize
         ensures { result ≡ nodes self.now };
 
-    /// Asks one node, and answers what was heard of it: the node's answer, or nothing. `OutOfMemory`
-    /// where memory was wanting, here or at the node; it is never heard as an answer, and such a
-    /// call isn't listed.
+    /// Asks one node, and answers what was heard of it: the node's answer, or nothing.
+    /// `OutOfMemory` where memory was wanting, here or at the node; it is never heard as an answer,
+    /// and such a call isn't listed.
     fn call(
         &mut self,
         alloc: Global,

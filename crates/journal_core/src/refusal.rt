@@ -1,4 +1,4 @@
-// Why a node refuses a request.
+//! Why a node refuses a request.
 ghost use Rattle.std.specs.Prelude.{◌≡◌};
 ghost use Rattle.journal_core.specs.Refusals.{refusal_number, refusal_name, refusal_field};
 

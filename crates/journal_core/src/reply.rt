@@ -1,4 +1,4 @@
-// What a node answers.
+//! What a node answers.
 ghost use Rattle.std.specs.Prelude.{◌≡◌, IfOk};
 
 use crate::OutOfMemory;
@@ -21,7 +21,8 @@ pub enum Reply {
     NewEpoch {
         newest: Option<u64>,
     },
-    /// The writer's epoch, the known committed txid, and the segment that was asked for, if it holds an edit.
+    /// The writer's epoch, the known committed txid, and the segment that was asked for, if it
+    /// holds an edit.
     Prepared {
         writer: u64,
         committed: u64,
@@ -36,7 +37,7 @@ pub enum Reply {
 }
 
 impl Reply {
-    /// The same answer once more; edits are shared.
+    /// A copy of this answer; edits are shared. `OutOfMemory` where there is no room.
     pub fn share(&self, alloc: Global) -> Result<Reply, OutOfMemory>
         ensures { IfOk result (λ r. r ≡ self.now) }
     {

@@ -1,4 +1,4 @@
-// What a node is asked.
+//! What a node is asked.
 ghost use Rattle.std.specs.Prelude.{◌≡◌};
 ghost use Rattle.journal_core.specs.Limits.{head_of};
 ghost use Rattle.journal_core.specs.Step.{closes_segment};

@@ -1,4 +1,4 @@
-// Segments of the log at a node.
+//! Segments of the log at a node.
 ghost use Rattle.std.specs.Prelude.{◌≡◌, nat_lt, nat_le};
 ghost use Rattle.journal_core.specs.Segments.{has_edit, end_of, info_of, IsWithin};
 ghost use Rattle.journal_core.specs.Step.{last_or_start};
@@ -6,7 +6,8 @@ ghost use Rattle.journal_core.specs.Step.{last_or_start};
 use crate::body_list::BodyList;
 use crate::segment_info::SegmentInfo;
 
-/// The edits from one start on, with the epoch of the header: the epoch that wrote or accepted them.
+/// The edits from one start on, with the epoch of the header: the epoch that wrote or accepted
+/// them.
 #[derive(Drop)]
 pub struct Segment {
     pub start: u64,

@@ -1,4 +1,4 @@
-// The state of a segment, without its edits.
+//! The state of a segment, without its edits.
 
 /// A segment's first and last txid, the epoch of its header, and whether it is final or accepted.
 #[derive(Clone, Copy, Debug, PartialEq, Eq)]

@@ -1,4 +1,4 @@
-// The lines of a manifest.
+//! The lines of a manifest.
 ghost use Rattle.std.specs.Prelude.{◌≡◌, ◌++◌, [], ◌∷◌, List, OnOk, OnErr, IfOk};
 ghost use Rattle.journal_core.specs.declared.segment_line.SegmentLine.{SegmentLine};
 
@@ -6,7 +6,8 @@ use crate::OutOfMemory;
 use std::alloc::Global;
 use std::marker::Model;
 
-/// A segment that holds an edit: its first and last txid, whether it is final, and its header epoch.
+/// A segment that holds an edit: its first and last txid, whether it is final, and its header
+/// epoch.
 #[derive(Clone, Copy, Debug, PartialEq, Eq)]
 pub struct SegmentLine {
     pub start: u64,
@@ -62,7 +63,7 @@ impl SegmentLines {
         Ok(())
     }
 
-    /// The same lines once more.
+    /// A copy of these lines. `OutOfMemory` where there is no room.
     pub fn share(&self, alloc: Global) -> Result<SegmentLines, OutOfMemory>
         ensures { IfOk result (λ l. l ≡ self.now) }
     {

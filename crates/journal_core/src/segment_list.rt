@@ -1,4 +1,4 @@
-// The segments of a node.
+//! The segments of a node.
 ghost use Rattle.std.specs.Prelude.{◌≡◌, ◌++◌, [], List, length, take, min as least, not, filter, Option, Some, None, IfOk, IfErr, OnOk, OnErr, IfSome};
 ghost use Rattle.std.specs.Option.{option_copied};
 ghost use Rattle.journal_core.specs.Segments.{find_segment, put_segment, remove_segment, newest, AreSound, AreRising, IsWithin};
@@ -53,7 +53,8 @@ fn search(items: &[Segment], start: u64) -> Result<usize, usize>
     Err(low)
 }
 
-/// The same, with the last segment tried first: requests mostly speak of it.
+/// The place of the segment with that start, or where it would stand. The last segment is tried
+/// first: requests mostly speak of it.
 #[tactic(auto, using(crate::proofs::PlaceLaws::sides))]
 fn place_in(items: &[Segment], start: u64) -> Result<usize, usize>
     requires { AreRising items.now }

@@ -1,4 +1,4 @@
-// A request that several lists hold.
+//! A request that several lists hold.
 ghost use Rattle.std.specs.Prelude.{◌≡◌, IfOk};
 ghost use Rattle.std.specs.Arc.{arc_value};
 
@@ -47,7 +47,7 @@ impl SharedRequest {
         &*self.request
     }
 
-    /// The same request once more, without a copy.
+    /// Another holder of this request, without a copy of it. `OutOfMemory` is the only error.
     pub fn share(&self) -> Result<SharedRequest, OutOfMemory>
         ensures { IfOk result (λ s. s ≡ self.now) }
     {

@@ -1,4 +1,4 @@
-// The edits that a reply tells.
+//! The edits that a reply tells.
 ghost use Rattle.std.specs.Prelude.{◌≡◌, IfOk};
 
 use crate::OutOfMemory;
@@ -54,7 +54,7 @@ impl ToldBatch {
         Box::into_inner(batch)
     }
 
-    /// The same once more; the bodies' bytes are shared.
+    /// A copy of the told edits; their bytes are shared. `OutOfMemory` where there is no room.
     pub fn share(&self, alloc: Global) -> Result<ToldBatch, OutOfMemory>
         ensures { IfOk result (λ t. t ≡ self.now) }
     {

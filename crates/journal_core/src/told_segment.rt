@@ -1,4 +1,4 @@
-// The segment that a prepare answer tells.
+//! The segment that a prepare answer tells.
 ghost use Rattle.std.specs.Prelude.{◌≡◌, IfOk, None, Some};
 
 use crate::OutOfMemory;
@@ -55,7 +55,7 @@ impl ToldSegment {
         }
     }
 
-    /// The same once more.
+    /// A copy of what is told of a segment. `OutOfMemory` where there is no room.
     pub fn share(&self, alloc: Global) -> Result<ToldSegment, OutOfMemory>
         ensures { IfOk result (λ t. t ≡ self.now) }
     {

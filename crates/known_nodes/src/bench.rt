@@ -1,12 +1,13 @@
 //! What a case has: a disk in memory or the node that has it, and a node in memory beside it.
 use crate::files::{call_disk, is_change, is_disk_call};
 use crate::openings::name_text;
-use crate::texts::{ask, choice_of, cut_in_memory, cut_of, number_and_rest, told_by};
+use crate::texts::{ask, cut_in_memory, cut_of, told_by};
 use anyhow::bail;
+use base_disk::{Choice, MemDisk, UntoldDisk};
+use case_files::{CaseLine, choice_of, number_and_rest, word_and_rest};
+use disk_node::{JournalNode, OpenFail};
 use journal_core::Node;
-use journal_node::{JournalNode, OpenFail};
-use memory_node::PlainNode;
-use qj_disk::{Choice, MemDisk, UntoldDisk};
+use journal_step::PlainNode;
 use std::alloc::Global;
 use std::mem;
 
@@ -45,18 +46,18 @@ impl Bench {
     }
 
     /// Begins anew and takes these steps. Those that change nothing are passed over.
-    pub fn replay(&mut self, steps: &[&str]) -> anyhow::Result<()> {
+    pub fn replay(&mut self, steps: &[CaseLine]) -> anyhow::Result<()> {
         self.renew();
         let mut told = String::new(self.alloc);
         for step in steps {
-            let _ = self.change(step, &mut told)?;
+            let _ = self.change(&step.text, &mut told)?;
         }
         Ok(())
     }
 
     /// Takes a step that changes something, and tells what it came to. False says that it is none.
     pub fn change(&mut self, step: &str, told: &mut String) -> anyhow::Result<bool> {
-        let (word, rest) = step.split_once(' ').unwrap_or((step, ""));
+        let (word, rest) = word_and_rest(step);
         if is_disk_call(word) {
             self.call(word, rest, told)?;
             return Ok(true);
@@ -191,7 +192,7 @@ impl Bench {
     // `CALLS CHOICE LINE`: the nodes are cut in a request after so many disk calls, and come up.
     fn cut(&mut self, rest: &str, told: &mut String) -> anyhow::Result<()> {
         let (calls, rest) = number_and_rest(rest)?;
-        let (choice, line) = rest.split_once(' ').unwrap_or((rest, ""));
+        let (choice, line) = word_and_rest(rest);
         let choice = choice_of(choice)?;
         if self.is_paired {
             self.cut_plain(calls, choice, line, told)?;

@@ -1,45 +1,20 @@
-//! Cases are read and done.
+//! Cases are done.
 use crate::bench::Bench;
 use crate::steps::look;
-use anyhow::{Context, bail};
-use std::fs;
+use case_files::{CaseLine, CaseText};
 
-/// Does the cases of that file. `copy` is for what a step does beside the case.
-pub fn do_file(
+/// Does a case, and tells what its steps came to. `copy` is for what a step does beside the case.
+pub fn do_case(
     rt: &HostRuntime,
     bench: &mut Bench,
     copy: &mut Bench,
-    name: &str,
+    case: &CaseText,
 ) -> anyhow::Result<()> {
-    let text = fs::read_to_string(rt, name)?;
-    for block in text.split("\n\n") {
-        do_case(rt, bench, copy, block)?;
-    }
-    Ok(())
-}
-
-// Does the case of these lines.
-fn do_case(
-    rt: &HostRuntime,
-    bench: &mut Bench,
-    copy: &mut Bench,
-    block: &str,
-) -> anyhow::Result<()> {
-    let mut lines = Vec::new(rt.alloc());
-    for line in block.lines() {
-        if !line.starts_with('#') {
-            lines.push(line)?;
-        }
-    }
-    let Some((title, steps)) = lines.as_slice().split_first() else {
-        bail!("a case has no line");
-    };
-    if !title.starts_with("case ") {
-        bail!("no title of a case: {title}");
-    }
-    println!(rt; "{title}")?;
+    println!(rt; "case {}", case.title)?;
     bench.renew();
-    do_steps(rt, bench, copy, steps)
+    do_steps(rt, bench, copy, case)?;
+    println!(rt; "")?;
+    Ok(())
 }
 
 // Does the steps of a case.
@@ -47,16 +22,17 @@ fn do_steps(
     rt: &HostRuntime,
     bench: &mut Bench,
     copy: &mut Bench,
-    steps: &[&str],
+    case: &CaseText,
 ) -> anyhow::Result<()> {
     let mut told = String::new(rt.alloc());
+    let steps = case.lines.as_slice();
     for at in 0..steps.len() {
-        let step = steps[at];
+        let step = &steps[at];
         told.clear();
-        do_step(bench, copy, &steps[..at], step, &mut told).context(format_args!("at {step}"))?;
-        println!(rt; "{step}: {told}")?;
+        let taken = do_step(bench, copy, &steps[..at], &step.text, &mut told);
+        case.at_line(step, taken)?;
+        println!(rt; "{}: {told}", step.text)?;
     }
-    println!(rt; "")?;
     Ok(())
 }
 
@@ -64,7 +40,7 @@ fn do_steps(
 fn do_step(
     bench: &mut Bench,
     copy: &mut Bench,
-    before: &[&str],
+    before: &[CaseLine],
     step: &str,
     told: &mut String,
 ) -> anyhow::Result<()> {

@@ -4,7 +4,8 @@ use crate::openings::opens_text;
 use crate::probe::are_alike;
 use crate::texts::{ask, choice_text};
 use anyhow::bail;
-use qj_disk::{Choice, Disk};
+use base_disk::{Choice, Disk};
+use case_files::CaseLine;
 
 // More calls than a request or an opening makes.
 const MOST_CALLS: u64 = 200;
@@ -35,7 +36,7 @@ pub enum Look {
 #[derive(Clone, Copy)]
 pub struct Each<'a> {
     pub look: Look,
-    pub before: &'a [&'a str],
+    pub before: &'a [CaseLine],
     pub line: &'a str,
 }
 
@@ -49,7 +50,8 @@ fn take_line(copy: &mut Bench, line: &str, told: &mut String) -> anyhow::Result<
     Ok(())
 }
 
-// The same at a copy, after the steps.
+// Takes the steps at a copy, then the request, or the opening, as far as the disk lets it: for so
+// many calls, if a number is given.
 fn retake(
     copy: &mut Bench,
     each: &Each,
@@ -202,7 +204,8 @@ fn looks_so(
     }
 }
 
-// The same for each choice of a crash after it. The first place where it isn't so is told.
+// Looks at it where it ends after so many calls, for each choice of a crash after it. The first
+// choice where it isn't alike is told.
 fn looks_so_after(
     copy: &mut Bench,
     each: &Each,
@@ -218,7 +221,8 @@ fn looks_so_after(
     Ok(true)
 }
 
-// The same at each of its calls.
+// Looks at it where it ends before each of its calls, with each choice of a crash; a request that
+// is cut also after its last call.
 fn looks_so_anywhere(
     copy: &mut Bench,
     each: &Each,

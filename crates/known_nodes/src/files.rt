@@ -1,8 +1,8 @@
 //! Calls of a disk, by their lines.
 use crate::openings::{opens_text, put_names};
-use crate::texts::number_and_rest;
 use anyhow::bail;
-use qj_disk::{Disk, DiskFail, UntoldDisk};
+use base_disk::{Disk, DiskFail, UntoldDisk};
+use case_files::{bytes_of, number_and_rest, word_and_rest};
 use std::alloc::Global;
 
 const CALLS: &[&str] = &[
@@ -37,7 +37,7 @@ fn write_bytes(
     rest: &str,
 ) -> anyhow::Result<Result<(), DiskFail>> {
     let (at, digits) = number_and_rest(rest)?;
-    let bytes = hex::decode(alloc, digits.as_bytes())?;
+    let bytes = bytes_of(alloc, digits)?;
     Ok(disk.write_at(name, at, &bytes))
 }
 
@@ -101,7 +101,7 @@ pub fn call_disk(
     rest: &str,
     told: &mut String,
 ) -> anyhow::Result<()> {
-    let (name, more) = rest.split_once(' ').unwrap_or((rest, ""));
+    let (name, more) = word_and_rest(rest);
     match word {
         "write" => tell_done(write_bytes(alloc, disk, name, more)?, told),
         "shorten" => tell_done(disk.cut(name, more.parse()?), told),

@@ -1,8 +1,7 @@
 //! Known nodes: the cases of the files that the arguments name are done, and told on the standard
-//! output. A case is a block of lines, and an empty line stands between two: the line `case NAME`,
-//! lines `# ..` that say nothing, and steps. It begins with a disk of no files, no node, and a
-//! fresh node in memory beside it. `case NAME` is told, and of each step `STEP: ` and what it came
-//! to.
+//! output. `case_files` has the form of a case, and its lines are steps. It begins with a disk of
+//! no files, no node, and a fresh node in memory beside it. `case TITLE` is told, and of each step
+//! `STEP: ` and what it came to.
 //!
 //! Both nodes take these steps; what the node in memory tells is told where it differs:
 //!
@@ -36,7 +35,7 @@
 //! - `opening at each call`: files open as ever after an opening that was stopped or in which a
 //!   call failed.
 //!
-//! A line that is none of these ends the program with an error.
+//! A line that is none of these ends the program with its place.
 #![tactic(auto)]
 
 mod bench;
@@ -49,13 +48,14 @@ mod steps;
 mod texts;
 
 use crate::bench::Bench;
-use crate::cases::do_file;
-use std::env;
+use crate::cases::do_case;
+use case_files::read_cases;
 
 // Does the cases of the files that the arguments name.
-fn do_files(rt: &HostRuntime, bench: &mut Bench, copy: &mut Bench) -> anyhow::Result<()> {
-    for name in env::args(rt)?.skip(1) {
-        do_file(rt, bench, copy, &name)?;
+fn do_cases(rt: &HostRuntime, bench: &mut Bench, copy: &mut Bench) -> anyhow::Result<()> {
+    let cases = read_cases(rt)?;
+    for case in &cases {
+        do_case(rt, bench, copy, case)?;
     }
     Ok(())
 }
@@ -63,7 +63,7 @@ fn do_files(rt: &HostRuntime, bench: &mut Bench, copy: &mut Bench) -> anyhow::Re
 fn main(rt: HostRuntime) -> anyhow::Result<()> {
     let mut bench = Bench::new(rt.alloc());
     let mut copy = Bench::new(rt.alloc());
-    let done = do_files(&rt, &mut bench, &mut copy);
+    let done = do_cases(&rt, &mut bench, &mut copy);
     drop(copy);
     drop(bench);
     done

@@ -1,9 +1,9 @@
 //! What the files of a disk open as.
 use anyhow::bail;
-use node_files::{NodeFiles, OpenedFiles, open_files};
-use qj_disk::{Disk, UntoldDisk};
-use qj_num::Name;
-use segment_file::SegmentRow;
+use base_disk::{Disk, UntoldDisk};
+use base_words::Name;
+use disk_files::{NodeFiles, OpenedFiles, open_files};
+use disk_segment::SegmentRow;
 use std::alloc::{AllocError, Global};
 
 /// A file isn't in its format.

@@ -4,9 +4,10 @@ use crate::bench::Bench;
 use crate::each::{Each, Look, tell_each};
 use crate::probe::are_alike;
 use anyhow::bail;
+use case_files::CaseLine;
 
 // Whether both nodes are in one state.
-fn tell_same(copy: &mut Bench, before: &[&str], told: &mut String) -> anyhow::Result<()> {
+fn tell_same(copy: &mut Bench, before: &[CaseLine], told: &mut String) -> anyhow::Result<()> {
     copy.replay(before)?;
     if are_alike(copy, told)? {
         told.push_str("alike")?;
@@ -15,7 +16,7 @@ fn tell_same(copy: &mut Bench, before: &[&str], told: &mut String) -> anyhow::Re
 }
 
 // Where each disk call of a step is looked at: at what, and the request.
-fn each_of<'a>(before: &'a [&'a str], step: &'a str) -> Option<Each<'a>> {
+fn each_of<'a>(before: &'a [CaseLine], step: &'a str) -> Option<Each<'a>> {
     if step == "opening at each call" {
         return Some(Each {
             look: Look::Opening,
@@ -36,7 +37,7 @@ fn each_of<'a>(before: &'a [&'a str], step: &'a str) -> Option<Each<'a>> {
 /// Takes a step that looks, after the steps before it.
 pub fn look(
     copy: &mut Bench,
-    before: &[&str],
+    before: &[CaseLine],
     step: &str,
     told: &mut String,
 ) -> anyhow::Result<()> {

@@ -1,9 +1,10 @@
 //! Requests, replies, choices and bytes as texts.
 use anyhow::{anyhow, bail};
+use base_disk::Choice;
+use case_files::number_and_rest;
 use journal_core::{Cut, CutNode, Node, NodeFail, Reply, Request};
-use memory_node::PlainNode;
-use qj_disk::Choice;
-use request_text::{ReadRequest, print_reply, read_request};
+use journal_step::PlainNode;
+use journal_text::{ReadRequest, print_reply, read_request};
 use std::alloc::{AllocError, Global};
 
 // The request of that line.
@@ -99,21 +100,6 @@ pub fn cut_in_memory(
     };
     drop(request);
     Ok(standing?)
-}
-
-/// The number before a blank, and what follows it.
-pub fn number_and_rest(text: &str) -> anyhow::Result<(u64, &str)> {
-    let (number, rest) = text.split_once(' ').unwrap_or((text, ""));
-    Ok((number.parse()?, rest))
-}
-
-/// What a crash leaves: `old`, `new`, or the byte of two hexadecimal digits.
-pub fn choice_of(text: &str) -> anyhow::Result<Choice> {
-    match text {
-        "old" => Ok(Choice::Old),
-        "new" => Ok(Choice::New),
-        _ => Ok(Choice::Fill(u8::from_str_radix(text, 16)?)),
-    }
 }
 
 /// The cut of that choice.

@@ -1,5 +1,5 @@
-// What a case is.
-use qj_disk::Choice;
+//! What a case is.
+use base_disk::Choice;
 use std::alloc::Global;
 
 /// How many bytes a sink takes, if a case says nothing of it.
@@ -31,7 +31,6 @@ pub enum DiskBefore {
 /// One run of the program.
 #[derive(Drop)]
 pub struct Case {
-    pub title: String,
     pub words: Vec<String>,
     pub input: Vec<u8>,
     pub room: usize,
@@ -47,10 +46,9 @@ pub struct Case {
 }
 
 impl Case {
-    /// The case of this title that says nothing more.
-    pub fn new(alloc: Global, title: String) -> Case {
+    /// The case that says nothing.
+    pub fn new(alloc: Global) -> Case {
         Case {
-            title,
             words: Vec::new(alloc),
             input: Vec::new(alloc),
             room: ROOM,

@@ -1,17 +1,30 @@
-// A line of a case.
+//! The lines of a case.
 use crate::case::{Case, DiskBefore, LostCalls, NamedFile};
-use anyhow::{anyhow, bail};
-use qj_disk::Choice;
+use anyhow::bail;
+use case_files::{CaseText, bytes_of, choice_of, put_input, two_words, word_and_rest};
 use std::alloc::{AllocError, Global};
 use std::fs;
+use std::fs::Files;
 
 impl Case {
-    /// Takes a line behind the case's first.
-    pub fn take_line(&mut self, rt: &HostRuntime, line: &str) -> anyhow::Result<()> {
-        if line.starts_with('#') || self.take_flag(line) {
+    /// Takes the lines of a case. An `Err` has the place of the first that is none.
+    pub fn take_lines<R: Files + AllocGlobal>(
+        &mut self,
+        rt: &R,
+        text: &CaseText,
+    ) -> anyhow::Result<()> {
+        for line in &text.lines {
+            let taken = self.take_line(rt, &line.text);
+            text.at_line(line, taken)?;
+        }
+        Ok(())
+    }
+
+    fn take_line<R: Files + AllocGlobal>(&mut self, rt: &R, line: &str) -> anyhow::Result<()> {
+        if self.take_flag(line) {
             return Ok(());
         }
-        let (key, rest) = line.split_once(' ').unwrap_or((line, ""));
+        let (key, rest) = word_and_rest(line);
         match key {
             "words" => put_words(rt.alloc(), &mut self.words, rest)?,
             "word" => self.words.push(rest.to_string(rt.alloc())?)?,
@@ -22,7 +35,7 @@ impl Case {
             "file" => self.files.push(file_of_bytes(rt.alloc(), rest)?)?,
             "text" => self.files.push(file_of_text(rt.alloc(), rest)?)?,
             "script" => self.input = fs::read(rt, rest)?,
-            _ => put_input(rt.alloc(), &mut self.input, key, rest)?,
+            _ => put_piece(rt.alloc(), &mut self.input, key, rest)?,
         }
         Ok(())
     }
@@ -54,11 +67,6 @@ impl LostCalls {
     }
 }
 
-/// The first word, and what comes behind its space.
-fn two_words(text: &str) -> anyhow::Result<(&str, &str)> {
-    text.split_once(' ').ok_or(anyhow!("a word is missing"))
-}
-
 fn put_words(alloc: Global, words: &mut Vec<String>, text: &str) -> Result<(), AllocError> {
     for word in text.split(' ') {
         words.push(word.to_string(alloc)?)?;
@@ -66,19 +74,11 @@ fn put_words(alloc: Global, words: &mut Vec<String>, text: &str) -> Result<(), A
     Ok(())
 }
 
-fn choice_of(text: &str) -> anyhow::Result<Choice> {
-    Ok(match text {
-        "old" => Choice::Old,
-        "new" => Choice::New,
-        _ => Choice::Fill(u8::from_str_radix(text, 16)?),
-    })
-}
-
 fn file_of_bytes(alloc: Global, text: &str) -> anyhow::Result<NamedFile> {
-    let (name, digits) = text.split_once(' ').unwrap_or((text, ""));
+    let (name, digits) = word_and_rest(text);
     Ok(NamedFile {
         name: name.to_string(alloc)?,
-        bytes: hex::decode(alloc, digits.as_bytes())?,
+        bytes: bytes_of(alloc, digits)?,
     })
 }
 
@@ -93,11 +93,11 @@ fn file_of_text(alloc: Global, text: &str) -> anyhow::Result<NamedFile> {
 }
 
 /// Puts a piece of the input, of the kind that the key says.
-fn put_input(alloc: Global, input: &mut Vec<u8>, key: &str, rest: &str) -> anyhow::Result<()> {
+fn put_piece(alloc: Global, input: &mut Vec<u8>, key: &str, rest: &str) -> anyhow::Result<()> {
+    if put_input(alloc, input, key, rest)? {
+        return Ok(());
+    }
     match key {
-        "|" => put_times(input, 1, rest, "\n")?,
-        "-" => put_times(input, 1, rest, "")?,
-        "x" => input.extend_from_slice(&hex::decode(alloc, rest.as_bytes())?)?,
         "lines" => {
             let (count, text) = two_words(rest)?;
             put_times(input, count.parse()?, text, "\n")?;

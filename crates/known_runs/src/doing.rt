@@ -1,10 +1,10 @@
-// A case is done.
+//! A case is done.
 use crate::case::{Case, DiskBefore, NamedFile};
 use crate::counted_pass::CountedPass;
-use exit_lines::Status;
+use base_disk::{Disk, DiskFail, MemDisk, UntoldDisk};
+use base_outside::{MemSink, MemSource};
+use cli_commands::Status;
 use qj_cli::{qjm, qjm_alone};
-use qj_disk::{Disk, DiskFail, MemDisk, UntoldDisk};
-use qj_outside::{MemSink, MemSource};
 use std::alloc::{AllocError, Global};
 use std::mem;
 use std::sync::Wait;

@@ -1,17 +1,21 @@
-// What a case came to is told.
+//! What a case came to is told.
 use crate::case::Case;
 use crate::doing::Done;
-use exit_lines::Status;
-use qj_disk::{Disk, MemDisk};
+use base_disk::{Disk, MemDisk};
+use cli_commands::Status;
 use std::io;
 use std::io::Write;
 
 /// The most bytes of a file that are told.
 const SHOWN: usize = 1000;
 
-/// Tells the title, what the case wrote, its status, and what it asks for.
-pub fn tell(rt: &HostRuntime, case: &Case, done: &Done, disk: &mut MemDisk) -> anyhow::Result<()> {
-    println!(rt; "case {}", case.title)?;
+/// Tells what the case wrote, its status, and what it asks for.
+pub fn tell<R: Print + AllocGlobal>(
+    rt: &R,
+    case: &Case,
+    done: &Done,
+    disk: &mut MemDisk,
+) -> anyhow::Result<()> {
     io::writer(rt).write_all(&done.text)?;
     tell_status(rt, done.status)?;
     if case.tells_passes {
@@ -24,14 +28,14 @@ pub fn tell(rt: &HostRuntime, case: &Case, done: &Done, disk: &mut MemDisk) -> a
     Ok(())
 }
 
-fn tell_status(rt: &HostRuntime, status: Option<Status>) -> io::Result<()> {
+fn tell_status(rt: &impl Print, status: Option<Status>) -> io::Result<()> {
     match status {
         Some(status) => println!(rt; "status {status:?}"),
         None => println!(rt; "no threads"),
     }
 }
 
-fn tell_files(rt: &HostRuntime, disk: &mut MemDisk) -> anyhow::Result<()> {
+fn tell_files<R: Print + AllocGlobal>(rt: &R, disk: &mut MemDisk) -> anyhow::Result<()> {
     let names = disk.list()?;
     for name in names.iter() {
         tell_file(rt, disk, name)?;
@@ -39,7 +43,7 @@ fn tell_files(rt: &HostRuntime, disk: &mut MemDisk) -> anyhow::Result<()> {
     Ok(())
 }
 
-fn tell_file(rt: &HostRuntime, disk: &mut MemDisk, name: &str) -> anyhow::Result<()> {
+fn tell_file<R: Print + AllocGlobal>(rt: &R, disk: &mut MemDisk, name: &str) -> anyhow::Result<()> {
     let mut bytes = vec![in rt.alloc(); 0u8; SHOWN]?;
     let count = disk.read(name, 0, &mut bytes)?;
     bytes.truncate(count);

@@ -1,38 +1,46 @@
 //! One case: its input, and its questions.
 use crate::kind::Kind;
 use anyhow::bail;
-use line_words::read_hex;
-use qj_num::read_number;
-use std::alloc::{AllocError, Global};
+use case_files::{CaseText, bytes_of, put_bytes, put_input, put_line, two_words, word_and_rest};
+use std::alloc::Global;
 
 /// What the lines of a case have said.
 #[derive(Drop)]
-pub struct Case {
+struct Case {
     kinds: Vec<Kind>,
     input: Vec<u8>,
 }
 
 impl Case {
-    pub fn new(alloc: Global) -> Case {
+    fn new(alloc: Global) -> Case {
         Case {
             kinds: Vec::new(alloc),
             input: Vec::new(alloc),
         }
     }
 
-    /// Takes a line after the first; the answer to a question comes at the end of `out`.
-    pub fn take_line(
+    // Takes the lines after the first.
+    fn take_lines(
         &mut self,
         alloc: Global,
-        line: &str,
+        text: &CaseText,
         out: &mut Vec<u8>,
     ) -> anyhow::Result<()> {
-        let (key, rest) = line.split_once(' ').unwrap_or((line, ""));
+        for line in &text.lines {
+            let taken = self.take_line(alloc, &line.text, out);
+            text.at_line(line, taken)?;
+        }
+        Ok(())
+    }
+
+    // Takes a line; the answer to a question comes at the end of `out`.
+    fn take_line(&mut self, alloc: Global, line: &str, out: &mut Vec<u8>) -> anyhow::Result<()> {
+        let (key, rest) = word_and_rest(line);
+        if put_input(alloc, &mut self.input, key, rest)? {
+            return Ok(());
+        }
         match key {
             "kind" => self.set_kinds(rest),
-            "|" => Ok(put_line(&mut self.input, rest)?),
-            "-" => Ok(self.input.extend_from_slice(rest.as_bytes())?),
-            "x" => put_bytes(alloc, &mut self.input, rest),
             "times" => put_times(alloc, &mut self.input, rest),
             _ => {
                 put_line(out, line)?;
@@ -88,7 +96,9 @@ impl Case {
     // Asks the first bytes, of each count that the two numbers say.
     fn cut(&self, alloc: Global, rest: &str, out: &mut Vec<u8>) -> anyhow::Result<()> {
         let (from, to) = two_words(rest)?;
-        for count in number_of(from)?..number_of(to)? {
+        let from: usize = from.parse()?;
+        let to: usize = to.parse()?;
+        for count in from..to {
             let Some(front) = self.input.get(..count) else {
                 bail!("the input isn't so long");
             };
@@ -98,46 +108,21 @@ impl Case {
     }
 }
 
-fn put_line(out: &mut Vec<u8>, text: &str) -> Result<(), AllocError> {
-    out.extend_from_slice(text.as_bytes())?;
-    out.extend_from_slice(b"\n")
-}
-
-fn two_words(text: &str) -> anyhow::Result<(&str, &str)> {
-    match text.split_once(' ') {
-        Some(words) => Ok(words),
-        None => bail!("a word is missing"),
-    }
-}
-
-fn number_of(word: &str) -> anyhow::Result<usize> {
-    match read_number(word.as_bytes()) {
-        Some(number) => Ok(number as usize),
-        None => bail!("no number: {word}"),
-    }
-}
-
-// The bytes of pairs of digits.
-fn bytes_of(alloc: Global, word: &str) -> anyhow::Result<Vec<u8>> {
-    let mut bytes = vec![in alloc; 0u8; word.len()]?;
-    if !read_hex(word.as_bytes(), &mut bytes) {
-        bail!("no bytes: {word}");
-    }
-    bytes.truncate(word.len() / 2);
-    Ok(bytes)
-}
-
-fn put_bytes(alloc: Global, out: &mut Vec<u8>, words: &str) -> anyhow::Result<()> {
-    for word in words.split_whitespace() {
-        out.extend_from_slice(&bytes_of(alloc, word)?)?;
-    }
-    Ok(())
+/// Asks a case, and appends its first line and its answers.
+pub fn answer_case(alloc: Global, text: &CaseText, out: &mut Vec<u8>) -> anyhow::Result<()> {
+    out.extend_from_slice(b"case ")?;
+    put_line(out, &text.title)?;
+    let mut case = Case::new(alloc);
+    let asked = case.take_lines(alloc, text, out);
+    drop(case);
+    asked
 }
 
 fn put_times(alloc: Global, out: &mut Vec<u8>, rest: &str) -> anyhow::Result<()> {
     let (count, word) = two_words(rest)?;
     let bytes = bytes_of(alloc, word)?;
-    for _ in 0..number_of(count)? {
+    let count: u64 = count.parse()?;
+    for _ in 0..count {
         out.extend_from_slice(&bytes)?;
     }
     Ok(())
@@ -146,7 +131,7 @@ fn put_times(alloc: Global, out: &mut Vec<u8>, rest: &str) -> anyhow::Result<()>
 // Puts other bytes at a place.
 fn change(alloc: Global, asked: &mut Vec<u8>, rest: &str) -> anyhow::Result<()> {
     let (place, word) = two_words(rest)?;
-    let at = number_of(place)?;
+    let at: usize = place.parse()?;
     for (row, byte) in bytes_of(alloc, word)?.iter().enumerate() {
         match asked.get_mut(at.saturating_add(row)) {
             Some(there) => *there = *byte,

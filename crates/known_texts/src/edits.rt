@@ -1,10 +1,8 @@
 //! Edits as words and as records.
 use crate::shown::{put_bytes, put_number};
+use base_words::OutOfMemory;
+use edit_codec::{Decoded, ReadText, decode, edit_text, encode, read_text};
 use edit_ops::Edit;
-use edit_records::{Decoded, decode};
-use edit_texts::{ReadText, edit_text, read_text};
-use edit_writing::encode;
-use qj_num::OutOfMemory;
 use std::alloc::{AllocError, Global};
 
 /// The words of an edit.

@@ -1,14 +1,13 @@
 //! Frames, segments and images.
-ghost use Rattle.image_codec.specs.Laws.{IsWithin};
+ghost use Rattle.ns_image.specs.Laws.{IsWithin};
 
 use crate::shown::{put_bytes, put_fault, put_number, put_space};
-use batch_frame::{Framed, Scan, Scanned, frame_after, scan};
-use image_codec::{ReadImage, image_of, read_image};
-use image_files::save_bytes;
-use image_store::{Loaded, load};
+use base_disk::{Disk, DiskFail, MemDisk};
+use base_words::{MAX, OutOfMemory};
+use disk_frame::{Framed, Scan, Scanned, frame_after, scan};
 use journal_core::{Batch, BodyList};
-use qj_disk::{Disk, DiskFail, MemDisk};
-use qj_num::{MAX, OutOfMemory};
+use ns_image::{ReadImage, image_of, read_image};
+use ns_store::{Loaded, load, save_bytes};
 use std::alloc::{AllocError, Global};
 
 /// The most edits of a scan.
@@ -58,30 +57,30 @@ fn put_frame(alloc: Global, bodies: BodyList, out: &mut Vec<u8>) -> Result<(), O
 /// The listing of a segment.
 pub fn tell_edits(
     alloc: Global,
-    listing: &oev_tool::Listing,
+    listing: &list_oev::SegmentListing,
     out: &mut Vec<u8>,
 ) -> Result<(), OutOfMemory> {
     match listing {
-        oev_tool::Listing::Text(text) => out.extend_from_slice(text),
-        oev_tool::Listing::BadBytes { place, cause } => {
+        list_oev::SegmentListing::Text(text) => out.extend_from_slice(text),
+        list_oev::SegmentListing::BadBytes { place, cause } => {
             put_fault(alloc, *place as usize, cause, out)
         }
-        oev_tool::Listing::OutOfMemory => Err(AllocError),
+        list_oev::SegmentListing::OutOfMemory => Err(AllocError),
     }
 }
 
 /// The listing of an image.
 pub fn tell_rows(
     alloc: Global,
-    listing: &oiv_tool::Listing,
+    listing: &list_oiv::ImageListing,
     out: &mut Vec<u8>,
 ) -> Result<(), OutOfMemory> {
     match listing {
-        oiv_tool::Listing::Text(text) => out.extend_from_slice(text),
-        oiv_tool::Listing::BadBytes { place, cause } => {
+        list_oiv::ImageListing::Text(text) => out.extend_from_slice(text),
+        list_oiv::ImageListing::BadBytes { place, cause } => {
             put_fault(alloc, *place as usize, cause, out)
         }
-        oiv_tool::Listing::OutOfMemory => Err(AllocError),
+        list_oiv::ImageListing::OutOfMemory => Err(AllocError),
     }
 }
 

@@ -1,6 +1,6 @@
 //! The kinds of questions.
 use crate::{edits, files, names, sessions, texts};
-use qj_num::OutOfMemory;
+use base_words::OutOfMemory;
 use std::alloc::Global;
 
 /// How bytes are read.
@@ -33,20 +33,23 @@ const KINDS: &[(&str, Kind)] = &[
     ("decimal", Kind::Decimal),
     ("octal", Kind::Octal),
     ("padded", Kind::Padded),
-    // The line of a request, and a script: printed again, or the rule that it breaks (of a script after the line).
+    // The line of a request, and a script: printed again, or the rule that it breaks (of a script
+    // after the line).
     ("request", Kind::Request),
     ("script", Kind::Script),
     // The words of an edit: its record, its line in a listing, and its words again.
     ("edit", Kind::Edit),
     // The record of an edit: its line, its words, and the record again, or the first fault.
     ("record", Kind::Record),
-    // Frames from the txid 1 on: their edits, and one frame of all of them, or the place and the cause of the first fault.
+    // Frames from the txid 1 on: their edits, and one frame of all of them, or the place and the
+    // cause of the first fault.
     ("frames", Kind::Frames),
     // A segment's file, as each tool lists it.
     ("oev-list", Kind::SegmentList),
     ("oev-stats", Kind::SegmentStats),
     ("oev-json", Kind::SegmentJson),
-    // An image: its txid, its rows and calls, and its bytes in layout 2, or the place and the cause of the first fault.
+    // An image: its txid, its rows and calls, and its bytes in layout 2, or the place and the cause
+    // of the first fault.
     ("image", Kind::Image),
     // An image, as each tool lists it.
     ("oiv-delimited", Kind::ImageDelimited),
@@ -56,10 +59,11 @@ const KINDS: &[(&str, Kind)] = &[
     ("digest", Kind::Digest),
     // The bytes of the image 4, which are saved: the file of its digest, and what is loaded.
     ("saved", Kind::Saved),
-    // Lines of edits, of records (`x HEX`) and of questions (`? EDIT`): what the log of the first two leaves of a new namespace,
-    // and which of the last are admitted there.
+    // Lines of edits, of records (`x HEX`) and of questions (`? EDIT`): what the log of the first
+    // two leaves of a new namespace, and which of the last are admitted there.
     ("names", Kind::Names),
-    // Lines to a new node: requests, `stop COUNT REQUEST`, `cut CALLS CHOICE REQUEST` and `restart`; at the end its state.
+    // Lines to a new node: requests, `stop COUNT REQUEST`, `cut CALLS CHOICE REQUEST` and
+    // `restart`; at the end its state.
     ("session", Kind::Session),
 ];
 
@@ -85,15 +89,15 @@ impl Kind {
             Kind::Edit => edits::tell_text(alloc, asked, out),
             Kind::Record => edits::tell_record(alloc, asked, out),
             Kind::Frames => files::tell_frames(alloc, asked, out),
-            Kind::SegmentList => files::tell_edits(alloc, &oev_tool::list(alloc, asked), out),
-            Kind::SegmentStats => files::tell_edits(alloc, &oev_tool::stats(alloc, asked), out),
-            Kind::SegmentJson => files::tell_edits(alloc, &oev_tool::json(alloc, asked), out),
+            Kind::SegmentList => files::tell_edits(alloc, &list_oev::list(alloc, asked), out),
+            Kind::SegmentStats => files::tell_edits(alloc, &list_oev::stats(alloc, asked), out),
+            Kind::SegmentJson => files::tell_edits(alloc, &list_oev::json(alloc, asked), out),
             Kind::Image => files::tell_image(alloc, asked, out),
             Kind::ImageDelimited => {
-                files::tell_rows(alloc, &oiv_tool::list_delimited(alloc, asked), out)
+                files::tell_rows(alloc, &list_oiv::list_delimited(alloc, asked), out)
             }
-            Kind::ImageSizes => files::tell_rows(alloc, &oiv_tool::sizes(alloc, asked), out),
-            Kind::ImageJson => files::tell_rows(alloc, &oiv_tool::json(alloc, asked), out),
+            Kind::ImageSizes => files::tell_rows(alloc, &list_oiv::sizes(alloc, asked), out),
+            Kind::ImageJson => files::tell_rows(alloc, &list_oiv::json(alloc, asked), out),
             Kind::Digest => files::tell_digest(alloc, asked, out),
             Kind::Saved => files::tell_saved(alloc, asked, out),
             Kind::Names => names::tell_names(alloc, asked, out),

@@ -2,15 +2,11 @@
 ghost use Rattle.std.specs.Prelude.{◌≡◌, []};
 
 use crate::shown::{put_shown, put_space};
-use edit_texts::{ReadText, read_text};
-use edit_writing::encode;
+use base_words::{Bytes, MAX, OutOfMemory, read_hex};
+use edit_codec::{ReadText, encode, read_text};
 use journal_core::{Batch, BodyList};
-use line_words::read_hex;
-use ns_edits::admit;
-use ns_replay::replay;
-use ns_rules::AdmitRefusal;
+use ns_edits::{AdmitRefusal, admit, replay};
 use ns_tree::Namespace;
-use qj_num::{Bytes, MAX, OutOfMemory};
 use std::alloc::{AllocError, Global};
 
 /// Lines of a log and of questions.

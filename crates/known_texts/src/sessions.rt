@@ -1,9 +1,10 @@
 //! Lines to a node that keeps its state in memory.
 use crate::shown::put_number;
+use base_words::{OutOfMemory, read_number};
+use case_files::word_and_rest;
 use journal_core::{Cut, CutNode, Node, NodeState, Request, Segment};
-use memory_node::PlainNode;
-use qj_num::{OutOfMemory, read_number};
-use request_text::{ReadRequest, print_reply, read_request};
+use journal_step::PlainNode;
+use journal_text::{ReadRequest, print_reply, read_request};
 use std::alloc::{AllocError, Global};
 
 /// Lines to a new node, and its state at their end.
@@ -36,7 +37,7 @@ fn tell_line(
     line: &str,
     out: &mut Vec<u8>,
 ) -> Result<(), OutOfMemory> {
-    let (word, rest) = line.split_once(' ').unwrap_or((line, ""));
+    let (word, rest) = word_and_rest(line);
     if word == "restart" {
         return restart(alloc, node, out);
     }
@@ -44,7 +45,7 @@ fn tell_line(
     if !is_stop && word != "cut" {
         return tell_reply(alloc, node, line, out);
     }
-    let (number, rest) = rest.split_once(' ').unwrap_or((rest, ""));
+    let (number, rest) = word_and_rest(rest);
     match read_number(number.as_bytes()) {
         Some(count) if is_stop => stop(alloc, node, count, rest, out),
         Some(calls) => cut(alloc, node, calls, rest, out),
@@ -100,7 +101,7 @@ fn cut(
     rest: &str,
     out: &mut Vec<u8>,
 ) -> Result<(), OutOfMemory> {
-    let (choice, line) = rest.split_once(' ').unwrap_or((rest, ""));
+    let (choice, line) = word_and_rest(rest);
     let left = match choice {
         "old" => Cut::Old,
         "new" => Cut::New,

@@ -1,8 +1,7 @@
 //! Parts of answers.
-use inode_text::put_row;
-use line_words::put_hex;
+use base_words::{OutOfMemory, put_decimal, put_hex};
+use list_text::put_row;
 use ns_tree::Namespace;
-use qj_num::{OutOfMemory, put_decimal};
 use std::alloc::Global;
 use std::fmt::Debug;
 

@@ -1,8 +1,8 @@
 //! Numbers, requests and scripts.
 use crate::shown::put_number;
-use qj_num::{OutOfMemory, print19, put_digits, read_digits, read_number, read19};
-use request_text::{ReadRequest, print_request, read_request};
-use script_text::{ReadScript, print_script, read_script};
+use base_words::{OutOfMemory, print19, put_digits, read_digits, read_number, read19};
+use journal_text::{ReadRequest, print_request, read_request};
+use play_script::{ReadScript, print_script, read_script};
 use std::alloc::{AllocError, Global};
 
 /// A decimal number.

@@ -1,4 +1,5 @@
--- The call that a writer makes next, read backwards; and the count of promises in a round, slot by slot.
+-- The call that a writer makes next, read backwards; and the count of promises in a round, slot by
+-- slot.
 use Rattle.std.proofs.Common.{◌≡◌, ℕ, zero, suc, ◌+◌, ◌-◌, ◌<◌, ◌≤◌, List, [], ◌∷◌, Bool, true, false, cond, refl, sym, ap, ◌∙◌, arith, length, get_or, set}
 use Rattle.std.specs.Prelude.{Option, Some, None, position, option_map, count_by}
 use Rattle.std.proofs.lemmas.List.Quantifiers.{position-Some}
@@ -31,7 +32,8 @@ map_is r (Some i) k q h =
     (ap (λ (c : ℕ × Request). Some c.0) whole, sym (ap (λ (c : ℕ × Request). c.1) whole))
 
 call_by : (p : Phase) (w : WriterView) (k : ℕ) (q : Request) → w.phase ≡ p → call_in p w ≡ Some (k, q) → CallAt w k q
-call_by (phase.InRound r) w k q e h = let x : (node_in r w.slots ≡ Some k) × (q ≡ request_in w r) = map_is (request_in w r) (node_in r w.slots) k q h in record { round = r; phase = e; node = x.0; asks = x.1 }
+call_by (phase.InRound r) w k q e h = let x : (node_in r w.slots ≡ Some k) × (q ≡ request_in w r) =
+    map_is (request_in w r) (node_in r w.slots) k q h in record { round = r; phase = e; node = x.0; asks = x.1 }
 call_by phase.Idle w k q e h = absurd (cc h)
 call_by phase.Writing w k q e h = absurd (cc h)
 call_by phase.Stopped w k q e h = absurd (cc h)
@@ -84,7 +86,8 @@ none_passes (l ∷ left) = none_passes left
 pub none_count : (left : List Bool) → count_by (is_ok round.Propose) (to_all left) ≡ 0
 none_count left = sym (is_count (is_ok round.Propose) (to_all left)) ∙ none_passes left
 
-passing_set : {A : Type 0} (test : A → Bool) (xs : List A) (i : ℕ) (d x : A) → i < length xs → test (get_or xs i d) ≡ false → passing test (set xs i x) ≡ cond (test x) (passing test xs + 1) (passing test xs)
+passing_set : {A : Type 0} (test : A → Bool) (xs : List A) (i : ℕ) (d x : A) → i < length xs → test (get_or xs i d) ≡ false
+    → passing test (set xs i x) ≡ cond (test x) (passing test xs + 1) (passing test xs)
 unfolding passing
 passing_set test [] i d x l e = absurd (omega (arith, l))
 passing_set {A} test (y ∷ xs) zero d x l e = by (test y) (test x) e
@@ -102,5 +105,6 @@ passing_set {A} test (y ∷ xs) (suc i) d x l e = by (test y) (test x) (passing_
     by false true h = omega (arith, h)
     by false false h = omega (arith, h)
 
-pub count_set : {A : Type 0} (test : A → Bool) (xs : List A) (i : ℕ) (d x : A) → i < length xs → test (get_or xs i d) ≡ false → count_by test (set xs i x) ≡ cond (test x) (count_by test xs + 1) (count_by test xs)
+pub count_set : {A : Type 0} (test : A → Bool) (xs : List A) (i : ℕ) (d x : A) → i < length xs → test (get_or xs i d) ≡ false
+    → count_by test (set xs i x) ≡ cond (test x) (count_by test xs + 1) (count_by test xs)
 count_set test xs i d x l e = sym (is_count test (set xs i x)) ∙ (passing_set test xs i d x l e ∙ ap (λ (z : ℕ). cond (test x) (z + 1) z) (is_count test xs))

@@ -1,4 +1,5 @@
--- A maker along a record: what holds of its writer as tasks begin and calls are answered, and at reads, which come between tasks.
+-- A maker along a record: what holds of its writer as tasks begin and calls are answered, and at
+-- reads, which come between tasks.
 use Rattle.std.proofs.Common.{◌≡◌, ℕ, zero, suc, ◌+◌, List, [], ◌∷◌, Bool, true, false, cond, refl, sym, ap, ◌∙◌, subst, length, ◌⊎◌, inl, inr}
 use Rattle.std.specs.Prelude.{Option, Some, None, is_some, nat_lt}
 use Rattle.std.proofs.lemmas.Bool.{cases_Bool}
@@ -10,8 +11,8 @@ use Rattle.writer_core.specs.Views.{WriterView}
 use Rattle.writer_core.specs.Writer.{HasBody, is_under_way, writer_begun, next_call, writer_heard}
 use Rattle.writer_core.specs.Left.{IsLive}
 use Rattle.writer_core.proofs.LiveLaws.{someone_called}
-use Rattle.node_history.specs.declared.record.Told.{Told}
-use Rattle.node_history.specs.declared.record.Told.TheVariants as told
+use Rattle.journal_history.specs.declared.record.Told.{Told}
+use Rattle.journal_history.specs.declared.record.Told.TheVariants as told
 use Rattle.mesh.proofs.Calls.{pair}
 use Rattle.mesh.specs.Makers.{heard_of, Chore, Writes, Tails, Reading, Maker, maker_of, asks, read_on, next_node, read_heard, chore_hears, maker_hears, HaveBodies}
 
@@ -56,7 +57,8 @@ module _ {A : Type 0} (P : A → WriterView → Type 0) (begins : (a : A) (w : W
   cond_stands false a x y h g = g
 
   tails_stand : (o : Option (ℕ × Request)) (a : A) (position more : ℕ) (cs : List Chore) (w : WriterView) → next_call w ≡ o → HaveBodies cs → P a w
-      → Stands a (cond (is_some o) (record { chores = Tails position more ∷ cs; writer = w; reading = None }) (record { chores = cs; writer = w; reading = Some (record { position = position; node = 1; more = more }) }))
+      → Stands a (cond (is_some o) (record { chores = Tails position more ∷ cs; writer = w; reading = None })
+      (record { chores = cs; writer = w; reading = Some (record { position = position; node = 1; more = more }) }))
   unfolding HaveBodies
   tails_stand None a position more cs w e b h = record { bodies = b; writer = h; rests = e }
   tails_stand (Some c) a position more cs w e b h = record { bodies = b; writer = h; rests = tt }

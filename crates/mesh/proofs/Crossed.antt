@@ -12,11 +12,11 @@ use Rattle.writer_core.specs.declared.task.Task.TheVariants as task
 use Rattle.writer_core.specs.Best.{best_from, greatest_promise, greatest_newest}
 use Rattle.writer_core.specs.Rounds.{judgment, after_fetch}
 use Rattle.writer_core.specs.Writer.{log_limit, writer_begun, writer_heard}
-use Rattle.node_history.specs.declared.history_line.HistoryLine.{HistoryLine}
-use Rattle.node_history.specs.declared.record.Record.{Record}
-use Rattle.node_history.specs.declared.record.Told.TheVariants as told
-use Rattle.node_history.specs.Cell.{cell_takes, fresh_cell, IsLocalRun}
-use Rattle.node_history.specs.Moving.{Placed, epoch_of, moves, move_of, entry_of, moving_of}
+use Rattle.journal_history.specs.declared.history_line.HistoryLine.{HistoryLine}
+use Rattle.journal_history.specs.declared.record.Record.{Record}
+use Rattle.journal_history.specs.declared.record.Told.TheVariants as told
+use Rattle.journal_history.specs.Cell.{cell_takes, fresh_cell, IsLocalRun}
+use Rattle.journal_history.specs.Moving.{Placed, epoch_of, moves, move_of, entry_of, moving_of}
 use Rattle.run_safety.proofs.Slots.{true≢false}
 use Rattle.mesh.specs.Marks.{IsAsMarked, IsMarked, AreCopied}
 use Rattle.mesh.specs.Makers.{Writes, maker_of, maker_hears, HaveBodies, IsMade, IsOfChores, IsOperators}
@@ -32,7 +32,9 @@ use Rattle.mesh.proofs.InStep.{tied_of, Sent, sent_at}
 use Rattle.mesh.proofs.Traced.{Among, among}
 
 pub crossed_epochs : epoch_order crossed ≡ crossed_order
-unfolding find_segment put_segment remove_segment newest limit_of after_effects node_step effects_of standing cell_takes epoch_of moves move_of entry_of moving_of reaches reached lines_of wins owns placed_from place_of key_of is_below tags_of blocks_cut blocks_from put_block sorted entries_in epoch_order crossed crossed_order
+unfolding find_segment put_segment remove_segment newest limit_of after_effects node_step effects_of standing cell_takes epoch_of moves move_of
+    entry_of moving_of reaches reached lines_of wins owns placed_from place_of key_of is_below tags_of blocks_cut blocks_from put_block sorted
+    entries_in epoch_order crossed crossed_order
 crossed_epochs = refl
 
 -- ## The lists agree
@@ -103,9 +105,11 @@ unfolding history_of
 history_append k [] ys = refl
 history_append k (x ∷ xs) ys = by (x.node == k) (history_append k xs ys)
   where
-    by : (b : Bool) → map (λ (z : Placed). z.line) (filter (λ (z : Placed). z.node == k) (xs ++ ys)) ≡ map (λ (z : Placed). z.line) (filter (λ (z : Placed). z.node == k) xs) ++ map (λ (z : Placed). z.line) (filter (λ (z : Placed). z.node == k) ys)
+    by : (b : Bool) → map (λ (z : Placed). z.line) (filter (λ (z : Placed). z.node == k) (xs ++ ys)) ≡ map (λ (z : Placed). z.line)
+        (filter (λ (z : Placed). z.node == k) xs) ++ map (λ (z : Placed). z.line) (filter (λ (z : Placed). z.node == k) ys)
         → map (λ (z : Placed). z.line) (cond b (x ∷ filter (λ (z : Placed). z.node == k) (xs ++ ys)) (filter (λ (z : Placed). z.node == k) (xs ++ ys)))
-        ≡ map (λ (z : Placed). z.line) (cond b (x ∷ filter (λ (z : Placed). z.node == k) xs) (filter (λ (z : Placed). z.node == k) xs)) ++ map (λ (z : Placed). z.line) (filter (λ (z : Placed). z.node == k) ys)
+        ≡ map (λ (z : Placed). z.line) (cond b (x ∷ filter (λ (z : Placed). z.node == k) xs) (filter (λ (z : Placed). z.node == k) xs)) ++ map
+        (λ (z : Placed). z.line) (filter (λ (z : Placed). z.node == k) ys)
     by true h = ap (λ (l : List HistoryLine). x.line ∷ l) h
     by false h = h
 
@@ -152,7 +156,8 @@ asked_before rs p y is s line none = by s.past s.line s.rest (sym is ∙ s.whole
         let second : asked_two ≡ b = cc e in
         let none_of : AreSame (reached 2 (asked_one 0 ∷ (asked_two ∷ past))) (lines_of 0 []) =
         subst (λ (x : Record). AreSame (reached 2 (x ∷ (asked_two ∷ past))) (lines_of 0 [])) (sym first)
-        (subst (λ (x : Record). AreSame (reached 2 (a ∷ (x ∷ past))) (lines_of 0 [])) (sym second) (subst (λ (hs : List HistoryLine). AreSame (reached 2 (a ∷ (b ∷ past))) (lines_of 0 hs)) none ties)) in
+        (subst (λ (x : Record). AreSame (reached 2 (a ∷ (x ∷ past))) (lines_of 0 [])) (sym second)
+        (subst (λ (hs : List HistoryLine). AreSame (reached 2 (a ∷ (b ∷ past))) (lines_of 0 hs)) none ties)) in
         none_of
 
 -- The second caller asked node 2 after it had asked node 1.
@@ -197,7 +202,8 @@ crossed_has_none t h =
     let w : Among 2 t [] (listed 1 request.State (reply.State 0)) =
     among 2 t [] (first_asks ∷ first_proposes ∷ listed 1 (request.NewEpoch 2) promised ∷ []) (listed 1 request.State (reply.State 0)) (history_two ∙ h.histories 1 numbers.1) in
     let s : Sent 1 (record_of crossed 1) w.past w.line = sent_at 1 (record_of crossed 1) t w.past w.rest w.line (h.records 1 numbers.3) w.whole (ap (λ (z : HistoryLine). z.caller) w.line_is) in
-    let all : history_of 1 w.past ++ history_of 1 (w.line ∷ w.rest) ≡ history_at crossed 0 = sym (history_append 1 w.past (w.line ∷ w.rest)) ∙ ap (history_of 1) (sym w.whole) ∙ sym (h.histories 0 numbers.0) in
+    let all : history_of 1 w.past ++ history_of 1 (w.line ∷ w.rest) ≡ history_at crossed 0 = sym (history_append 1 w.past (w.line ∷ w.rest))
+    ∙ ap (history_of 1) (sym w.whole) ∙ sym (h.histories 0 numbers.0) in
     let one : (tail : List HistoryLine) × (history_of 1 w.past ≡ first_asks ∷ first_proposes ∷ tail) =
     history_one (history_of 1 w.past) (history_of 1 (w.line ∷ w.rest)) all (second_listed (record_of crossed 1) w.past w.line record_one.1 s w.node_is) in
     let v : Among 1 w.past (first_asks ∷ []) (first_proposes) = among 1 w.past (first_asks ∷ []) one.0 (first_proposes) (sym one.1) in

@@ -3,13 +3,14 @@ use Rattle.std.proofs.Common.{◌≡◌, ℕ, zero, suc, ◌+◌, ◌<◌, List,
 use Rattle.std.specs.Prelude.{Option, Some, None, ◌==◌, nat_lt, ◌||◌, ◌&&◌, ◌≢◌, filter_map}
 use Rattle.std.proofs.lemmas.Bool.{le-ltb}
 use Rattle.std.proofs.lemmas.List.Elements.{filter-append}
-use Rattle.node_history.specs.declared.history_line.HistoryLine.{HistoryLine}
-use Rattle.node_history.specs.Cell.{Cell, cell_takes, fresh_cell}
-use Rattle.node_history.specs.Entries.{Entry, Move}
-use Rattle.node_history.specs.Moving.{Placed, move_of, entry_at, entry_of, moving_of, falls}
+use Rattle.journal_history.specs.declared.history_line.HistoryLine.{HistoryLine}
+use Rattle.journal_history.specs.Cell.{Cell, cell_takes, fresh_cell}
+use Rattle.journal_history.specs.Entries.{Entry, Move}
+use Rattle.journal_history.specs.Moving.{Placed, move_of, entry_at, entry_of, moving_of, falls}
 use Rattle.mesh.specs.declared.whole.Mesh.{Mesh}
 use Rattle.mesh.specs.Agree.{Agrees, history_at}
-use Rattle.mesh.specs.Order.{Key, Block, Tagged, is_muted, line_of_caller, placed_from, placed_at, key_of, tag_first, tags_of, with_fall, block_of, blocks_cut, front_block, blocks_at, blocks_from, is_below, put_block, sorted, entries_in, epoch_order, entries_at}
+use Rattle.mesh.specs.Order.{Key, Block, Tagged, is_muted, line_of_caller, placed_from, placed_at, key_of, tag_first, tags_of, with_fall, block_of}
+use Rattle.mesh.specs.Order.{blocks_cut, front_block, blocks_at, blocks_from, is_below, put_block, sorted, entries_in, epoch_order, entries_at}
 use Rattle.mesh.specs.Sorted.{NoneBelow, InOrder, NotBelow, Rising, AllRising, is_at}
 use Rattle.mesh.proofs.Lists.{Alike, alike, same_test, other_test, append_none, cond_true, cond_false}
 use Rattle.mesh.proofs.OneOwner.{has_owners}
@@ -21,7 +22,9 @@ entries_of_tags [] = []
 entries_of_tags (t ∷ ts) = t.entry ∷ entries_of_tags ts
 
 -- ## What the blocks of one node hold
-cut_entries_by : (f : Bool) (b : Block) (t : Tagged) (ts : List Tagged) → entries_in (blocks_cut (with_fall b t.entry) ts) ≡ (b.entries ++ t.entry ∷ []) ++ entries_of_tags ts → entries_in (blocks_cut (block_of b.node t) ts) ≡ t.entry ∷ entries_of_tags ts
+cut_entries_by : (f : Bool) (b : Block) (t : Tagged) (ts : List Tagged)
+    → entries_in (blocks_cut (with_fall b t.entry) ts) ≡ (b.entries ++ t.entry ∷ []) ++ entries_of_tags ts
+    → entries_in (blocks_cut (block_of b.node t) ts) ≡ t.entry ∷ entries_of_tags ts
     → entries_in (cond f (blocks_cut (with_fall b t.entry) ts) (b ∷ blocks_cut (block_of b.node t) ts)) ≡ b.entries ++ t.entry ∷ entries_of_tags ts
 unfolding entries_in
 cut_entries_by true b t ts h g = h ∙ append_assoc b.entries (t.entry ∷ []) (entries_of_tags ts)
@@ -36,7 +39,8 @@ AllAt : ℕ → List Block → Type 0
 AllAt k [] = Unit {0}
 AllAt k (b ∷ bs) = (b.node ≡ k) × AllAt k bs
 
-cut_at_by : (f : Bool) (k : ℕ) (b : Block) (t : Tagged) (ts : List Tagged) → b.node ≡ k → AllAt k (blocks_cut (with_fall b t.entry) ts) → AllAt k (blocks_cut (block_of b.node t) ts) → AllAt k (cond f (blocks_cut (with_fall b t.entry) ts) (b ∷ blocks_cut (block_of b.node t) ts))
+cut_at_by : (f : Bool) (k : ℕ) (b : Block) (t : Tagged) (ts : List Tagged) → b.node ≡ k → AllAt k (blocks_cut (with_fall b t.entry) ts)
+    → AllAt k (blocks_cut (block_of b.node t) ts) → AllAt k (cond f (blocks_cut (with_fall b t.entry) ts) (b ∷ blocks_cut (block_of b.node t) ts))
 unfolding AllAt
 cut_at_by true k b t ts e h g = h
 cut_at_by false k b t ts e h g = (e, g)
@@ -91,7 +95,8 @@ unfolding NoneBelow
 none_off test a [] h = tt
 none_off test a (b ∷ bs) h = by (test b) refl (λ g. none_off test a bs g) h
   where
-    by : (x : Bool) → test b ≡ x → (filter test bs ≡ [] → NoneBelow test a bs) → cond x (b ∷ filter test bs) (filter test bs) ≡ [] → (test b ≡ true → is_below b.key a.key ≡ false) × NoneBelow test a bs
+    by : (x : Bool) → test b ≡ x → (filter test bs ≡ [] → NoneBelow test a bs) → cond x (b ∷ filter test bs) (filter test bs) ≡ []
+        → (test b ≡ true → is_below b.key a.key ≡ false) × NoneBelow test a bs
     by true e go g = absurd (cc g)
     by false e go g = ((λ (f : test b ≡ true). absurd (cc (e, f))), go g)
 
@@ -106,7 +111,8 @@ order_append test [] ys h g off = g
 order_append test (x ∷ xs) ys h g (inr off) = ((λ (e : test x ≡ true). none_append test x xs ys (h.0 e) (none_off test x ys off)), order_append test xs ys h.1 g (inr off))
 order_append test (x ∷ xs) ys h g (inl off) = by (test x) refl (λ f. order_append test xs ys h.1 g (inl f)) off
   where
-    by : (b : Bool) → test x ≡ b → (filter test xs ≡ [] → InOrder test (xs ++ ys)) → cond b (x ∷ filter test xs) (filter test xs) ≡ [] → (test x ≡ true → NoneBelow test x (xs ++ ys)) × InOrder test (xs ++ ys)
+    by : (b : Bool) → test x ≡ b → (filter test xs ≡ [] → InOrder test (xs ++ ys)) → cond b (x ∷ filter test xs) (filter test xs) ≡ []
+        → (test x ≡ true → NoneBelow test x (xs ++ ys)) × InOrder test (xs ++ ys)
     by true e go f = absurd (cc f)
     by false e go f = ((λ (k : test x ≡ true). absurd (cc (e, k))), go f)
 
@@ -138,7 +144,8 @@ unfolding EntriesAt
 entries_snoc k [] x h e = (e, tt)
 entries_snoc k (y ∷ xs) x h e = (h.0, entries_snoc k xs x h.1 e)
 
-cut_pure_by : (f : Bool) (b : Block) (t : Tagged) (ts : List Tagged) → EntriesAt b.node b.entries → ArePure (blocks_cut (with_fall b t.entry) ts) → ArePure (blocks_cut (block_of b.node t) ts) → ArePure (cond f (blocks_cut (with_fall b t.entry) ts) (b ∷ blocks_cut (block_of b.node t) ts))
+cut_pure_by : (f : Bool) (b : Block) (t : Tagged) (ts : List Tagged) → EntriesAt b.node b.entries → ArePure (blocks_cut (with_fall b t.entry) ts)
+    → ArePure (blocks_cut (block_of b.node t) ts) → ArePure (cond f (blocks_cut (with_fall b t.entry) ts) (b ∷ blocks_cut (block_of b.node t) ts))
 unfolding ArePure
 cut_pure_by true b t ts e h g = h
 cut_pure_by false b t ts e h g = (e, g)
@@ -146,7 +153,8 @@ cut_pure_by false b t ts e h g = (e, g)
 cut_pure : (ts : List Tagged) (b : Block) → EntriesAt b.node b.entries → TaggedAt b.node ts → ArePure (blocks_cut b ts)
 unfolding blocks_cut ArePure TaggedAt EntriesAt
 cut_pure [] b h g = (h, tt)
-cut_pure (t ∷ ts) b h g = cut_pure_by (falls t.entry.move) b t ts h (cut_pure ts (with_fall b t.entry) (entries_snoc b.node b.entries t.entry h g.0) g.1) (cut_pure ts (block_of b.node t) (g.0, tt) g.1)
+cut_pure (t ∷ ts) b h g = cut_pure_by (falls t.entry.move) b t ts h (cut_pure ts (with_fall b t.entry) (entries_snoc b.node b.entries t.entry h g.0)
+    g.1) (cut_pure ts (block_of b.node t) (g.0, tt) g.1)
 
 entry_node : (node : ℕ) (o : Option Move) (e : Entry) → entry_at node o ≡ Some e → e.node ≡ node
 entry_node node None e h = absurd (cc h)
@@ -173,7 +181,8 @@ pure_append (x ∷ xs) ys h g = (h.0, pure_append xs ys h.1 g)
 all_pure : (m : Mesh) (k : ℕ) (hss : List (List HistoryLine)) → ArePure (blocks_from m k hss)
 unfolding ArePure blocks_from EntriesAt
 all_pure m k [] = tt
-all_pure m k (hs ∷ hss) = pure_append (blocks_at m k hs) (blocks_from m (k + 1) hss) (cut_pure (tags_of m k fresh_cell [] hs) (front_block k) tt (tags_at m k fresh_cell [] hs)) (all_pure m (k + 1) hss)
+all_pure m k (hs ∷ hss) = pure_append (blocks_at m k hs) (blocks_from m (k + 1) hss)
+    (cut_pure (tags_of m k fresh_cell [] hs) (front_block k) tt (tags_at m k fresh_cell [] hs)) (all_pure m (k + 1) hss)
 
 put_pure_by : (f : Bool) (xs ys : List Block) → ArePure xs → ArePure ys → ArePure (cond f xs ys)
 put_pure_by true xs ys h g = h
@@ -204,7 +213,8 @@ unfolding entries_in ArePure Alike
 entries_pick k [] p = refl
 entries_pick k (b ∷ bs) p = filter-append (λ (e : Entry). e.node == k) b.entries (entries_in bs) ∙ by (alike b.node k) (entries_pick k bs p.1)
   where
-    by : Alike b.node k → entries_at k (entries_in bs) ≡ entries_in (filter (is_at k) bs) → entries_at k b.entries ++ entries_at k (entries_in bs) ≡ entries_in (cond (b.node == k) (b ∷ filter (is_at k) bs) (filter (is_at k) bs))
+    by : Alike b.node k → entries_at k (entries_in bs) ≡ entries_in (filter (is_at k) bs)
+        → entries_at k b.entries ++ entries_at k (entries_in bs) ≡ entries_in (cond (b.node == k) (b ∷ filter (is_at k) bs) (filter (is_at k) bs))
     by (inl e) h =
         ap (λ (l : List Entry). l ++ entries_at k (entries_in bs)) (entries_on k b.entries (subst (λ (z : ℕ). EntriesAt z b.entries) e.1 p.0))
         ∙ (ap (λ (l : List Entry). b.entries ++ l) h ∙ ap entries_in (sym (cond_true (b.node == k) (b ∷ filter (is_at k) bs) (filter (is_at k) bs) e.0)))
@@ -217,7 +227,8 @@ all_off : (m : Mesh) (j k : ℕ) (hss : List (List HistoryLine)) → j < k → f
 unfolding blocks_from
 all_off m j k [] l = refl
 all_off m j k (hs ∷ hss) l = filter-append (is_at j) (blocks_at m k hs) (blocks_from m (k + 1) hss)
-    ∙ (ap (λ (x : List Block). x ++ filter (is_at j) (blocks_from m (k + 1) hss)) (filter_off j k (blocks_at m k hs) (λ (e : k ≡ j). omega (arith, e, l)) (cut_at k (tags_of m k fresh_cell [] hs) (front_block k) refl))
+    ∙ (ap (λ (x : List Block). x ++ filter (is_at j) (blocks_from m (k + 1) hss))
+    (filter_off j k (blocks_at m k hs) (λ (e : k ≡ j). omega (arith, e, l)) (cut_at k (tags_of m k fresh_cell [] hs) (front_block k) refl))
     ∙ all_off m j (k + 1) hss (omega (arith, l)))
 
 all_on : (m : Mesh) (i k : ℕ) (hss : List (List HistoryLine)) → i < length hss → filter (is_at (k + i)) (blocks_from m k hss) ≡ blocks_at m (k + i) (get_or hss i [])
@@ -231,7 +242,9 @@ all_on m zero k (hs ∷ hss) l =
     ∙ (ap (λ (x : List Block). blocks_at m k hs ++ x) (all_off m k (k + 1) hss (omega arith)) ∙ append_none (blocks_at m k hs))))
 all_on m (suc i) k (hs ∷ hss) l =
     filter-append (is_at (k + suc i)) (blocks_at m k hs) (blocks_from m (k + 1) hss)
-    ∙ (ap (λ (x : List Block). x ++ filter (is_at (k + suc i)) (blocks_from m (k + 1) hss)) (filter_off (k + suc i) k (blocks_at m k hs) (λ (e : k ≡ k + suc i). omega (arith, e)) (cut_at k (tags_of m k fresh_cell [] hs) (front_block k) refl))
+    ∙ (ap (λ (x : List Block). x ++ filter (is_at (k + suc i)) (blocks_from m (k + 1) hss))
+    (filter_off (k + suc i) k (blocks_at m k hs) (λ (e : k ≡ k + suc i). omega (arith, e))
+    (cut_at k (tags_of m k fresh_cell [] hs) (front_block k) refl))
     ∙ subst (λ (j : ℕ). filter (is_at j) (blocks_from m (k + 1) hss) ≡ blocks_at m j (get_or hss i [])) (omega arith) (all_on m i (k + 1) hss (omega (arith, l))))
 
 all_order : (m : Mesh) (j k : ℕ) (hss : List (List HistoryLine)) → AllRising m k hss → InOrder (is_at j) (blocks_from m k hss)
@@ -244,7 +257,8 @@ all_order m j k (hs ∷ hss) h = order_append (is_at j) (blocks_at m k hs) (bloc
     by (inl e) = inr (all_off m j (k + 1) hss (omega (arith, e.1)))
     by (inr e) = inl (filter_off j k (blocks_at m k hs) e.1 (cut_at k (tags_of m k fresh_cell [] hs) (front_block k) refl))
 
-first_moved : (x : Placed) (o : Option Entry) (key : Key) (ts : List Tagged) (xs : List Placed) → entry_of x ≡ o → entries_of_tags ts ≡ filter_map entry_of xs → entries_of_tags (tag_first o key ts) ≡ filter_map entry_of (x ∷ xs)
+first_moved : (x : Placed) (o : Option Entry) (key : Key) (ts : List Tagged) (xs : List Placed) → entry_of x ≡ o
+    → entries_of_tags ts ≡ filter_map entry_of xs → entries_of_tags (tag_first o key ts) ≡ filter_map entry_of (x ∷ xs)
 unfolding entries_of_tags
 first_moved x None key ts xs e h = rw e h
 first_moved x (Some y) key ts xs e h = rw e (ap (λ (l : List Entry). y ∷ l) h)

@@ -1,5 +1,6 @@
 -- What the actors' records say moved the nodes is a tale of fair entries, caller by caller.
-use Rattle.std.proofs.Common.{◌≡◌, ◌≢◌, ℕ, zero, suc, ◌+◌, ◌-◌, ◌<◌, ◌≤◌, inl, inr, List, [], ◌∷◌, ◌++◌, Bool, true, false, not, cond, filter, length, refl, sym, ap, ◌∙◌, subst, arith, append_assoc, Option, Some, None, is_some}
+use Rattle.std.proofs.Common.{◌≡◌, ◌≢◌, ℕ, zero, suc, ◌+◌, ◌-◌, ◌<◌, ◌≤◌, inl, inr, List, [], ◌∷◌, ◌++◌, Bool, true, false, not, cond, filter, length}
+use Rattle.std.proofs.Common.{refl, sym, ap, ◌∙◌, subst, arith, append_assoc, Option, Some, None, is_some}
 use Rattle.std.specs.Prelude.{slice_get, ◌&&◌}
 use Rattle.journal_core.specs.declared.request.Request.{Request}
 use Rattle.journal_core.specs.declared.request.Request.TheVariants as request
@@ -10,21 +11,21 @@ use Rattle.writer_core.specs.declared.task.Task.{Task}
 use Rattle.writer_core.specs.Views.{WriterView}
 use Rattle.writer_core.specs.Writer.{new_writer, HasBody, writer_begun, next_call, writer_heard}
 use Rattle.writer_core.proofs.Plain.{plain_heard}
-use Rattle.node_history.specs.declared.node_ask.NodeAsk.{NodeAsk}
-use Rattle.node_history.specs.declared.node_ask.NodeAsk.TheVariants.{Act}
-use Rattle.node_history.specs.declared.node_ask.NodeAnswer.{NodeAnswer}
-use Rattle.node_history.specs.declared.node_ask.NodeAnswer.TheVariants.{Replied, Stopped, Done, Idle, NotOpened}
-use Rattle.node_history.specs.declared.history_line.HistoryLine.{HistoryLine}
-use Rattle.node_history.specs.declared.record.Record.{Record}
-use Rattle.node_history.specs.declared.record.Record.TheVariants.{Call, Late, Operator, Outcome}
-use Rattle.node_history.specs.declared.record.Told.{Told}
-use Rattle.node_history.specs.declared.record.Told.TheVariants as told
-use Rattle.node_history.specs.declared.mark.Mark.{Mark}
-use Rattle.node_history.specs.Cell.{Cell, fresh_cell, cell_takes, IsLocalRun}
-use Rattle.node_history.specs.Entries.{Heard, Muted, Late as LateWay, Move, Answer, Stop, Entry, Earlier}
-use Rattle.node_history.specs.Moving.{epoch_of, is_refused_at_once, moves, move_of, entry_at, entry_of, falls}
+use Rattle.journal_history.specs.declared.node_ask.NodeAsk.{NodeAsk}
+use Rattle.journal_history.specs.declared.node_ask.NodeAsk.TheVariants.{Act}
+use Rattle.journal_history.specs.declared.node_ask.NodeAnswer.{NodeAnswer}
+use Rattle.journal_history.specs.declared.node_ask.NodeAnswer.TheVariants.{Replied, Stopped, Done, Idle, NotOpened}
+use Rattle.journal_history.specs.declared.history_line.HistoryLine.{HistoryLine}
+use Rattle.journal_history.specs.declared.record.Record.{Record}
+use Rattle.journal_history.specs.declared.record.Record.TheVariants.{Call, Late, Operator, Outcome}
+use Rattle.journal_history.specs.declared.record.Told.{Told}
+use Rattle.journal_history.specs.declared.record.Told.TheVariants as told
+use Rattle.journal_history.specs.declared.mark.Mark.{Mark}
+use Rattle.journal_history.specs.Cell.{Cell, fresh_cell, cell_takes, IsLocalRun}
+use Rattle.journal_history.specs.Entries.{Heard, Muted, Late as LateWay, Move, Answer, Stop, Entry, Earlier}
+use Rattle.journal_history.specs.Moving.{epoch_of, is_refused_at_once, moves, move_of, entry_at, entry_of, falls}
 use Rattle.run_safety.proofs.Slots.{true≢false}
-use Rattle.node_history.proofs.Raised.{CellRaised, cell_raised}
+use Rattle.journal_history.proofs.Raised.{CellRaised, cell_raised}
 use Rattle.run_safety.proofs.Tales.{Tale, place_below}
 use Rattle.run_safety.proofs.WriterRange.{new_sized}
 use Rattle.run_safety.proofs.Tracked.{free}
@@ -51,7 +52,8 @@ pub record HasRequest (h : HistoryLine) : Type 0 where
   pub epoch : ℕ
   pub of : epoch_of request ≡ Some epoch
 
-pub line_request : (c : Cell) (hs : List HistoryLine) (h : HistoryLine) (caller : ℕ) (muted : Bool) (m : Move) → IsLocalRun c hs → In h hs → move_of caller muted h.ask h.answer ≡ Some m → falls m ≡ false → HasRequest h
+pub line_request : (c : Cell) (hs : List HistoryLine) (h : HistoryLine) (caller : ℕ) (muted : Bool) (m : Move) → IsLocalRun c hs → In h hs
+    → move_of caller muted h.ask h.answer ≡ Some m → falls m ≡ false → HasRequest h
 unfolding IsLocalRun In
 line_request c [] h caller muted m run i is off = absurd i
 line_request c (x ∷ hs) h caller muted m run (inr i) is off = line_request (cell_takes c x.ask).cell hs h caller muted m run.1 i is off
@@ -166,7 +168,8 @@ reached_at k [] rest r e = rw e refl
 reached_at k (x ∷ before) rest r e = by (reaches k x) (reached_at k before rest r e)
   where
     by : (b : Bool) → filter (reaches k) (before ++ r ∷ rest) ≡ filter (reaches k) before ++ r ∷ filter (reaches k) rest
-        → cond b (x ∷ filter (reaches k) (before ++ r ∷ rest)) (filter (reaches k) (before ++ r ∷ rest)) ≡ cond b (x ∷ filter (reaches k) before) (filter (reaches k) before) ++ r ∷ filter (reaches k) rest
+        → cond b (x ∷ filter (reaches k) (before ++ r ∷ rest)) (filter (reaches k) (before ++ r ∷ rest)) ≡ cond b (x ∷ filter (reaches k) before)
+        (filter (reaches k) before) ++ r ∷ filter (reaches k) rest
     by true h = ap (λ (l : List Record). x ∷ l) h
     by false h = h
 
@@ -178,11 +181,13 @@ pub record LineOf (m : Mesh) (c k : ℕ) (before : List Record) (r : Record) : T
   pub in_history : In line (history_at m (k - 1))
   pub caller : line.caller ≡ c
 
-pub line_of : (m : Mesh) (c k : ℕ) (before rest : List Record) (r : Record) → Agrees m → c ≤ operator_of m → before ++ r ∷ rest ≡ record_of m c → 1 ≤ k → k ≤ m.nodes → reaches k r ≡ true → LineOf m c k before r
+pub line_of : (m : Mesh) (c k : ℕ) (before rest : List Record) (r : Record) → Agrees m → c ≤ operator_of m → before ++ r ∷ rest ≡ record_of m c
+    → 1 ≤ k → k ≤ m.nodes → reaches k r ≡ true → LineOf m c k before r
 line_of m c k before rest r a l whole low high e =
     let back : k - 1 + 1 ≡ k = omega (arith, low) in
     let in_ : k - 1 < m.nodes = omega (arith, low, high) in
-    let all : AreSame (reached k (record_of m c)) (lines_of c (history_at m (k - 1))) = subst (λ (j : ℕ). AreSame (reached j (record_of m c)) (lines_of c (history_at m (k - 1)))) back (a.lists.same (k - 1) c in_ l) in
+    let all : AreSame (reached k (record_of m c)) (lines_of c (history_at m (k - 1))) =
+    subst (λ (j : ℕ). AreSame (reached j (record_of m c)) (lines_of c (history_at m (k - 1)))) back (a.lists.same (k - 1) c in_ l) in
     let here : AreSame (reached k before ++ r ∷ reached k rest) (lines_of c (history_at m (k - 1))) =
     subst (λ (x : List Record). AreSame x (lines_of c (history_at m (k - 1)))) (ap (reached k) (sym whole) ∙ reached_at k before rest r e) all in
     let w = same_at (reached k before) r (reached k rest) (lines_of c (history_at m (k - 1))) here in
@@ -192,7 +197,8 @@ line_of m c k before rest r a l whole low high e =
 stops_under : (m : Mesh) (k : ℕ) (h : HistoryLine) (late : Bool) (q : Request) → Agrees m → 1 ≤ k → k ≤ m.nodes → In h (history_at m (k - 1)) → h.ask ≡ Act late q → StopsUnder q h.answer
 unfolding move_of
 stops_under m k h late q a low high i asks kept is =
-    let moved : move_of 0 false h.ask h.answer ≡ Some (Stop 0 late q (suc kept)) = ap (λ (z : NodeAnswer). move_of 0 false h.ask z) is ∙ ap (λ (z : NodeAsk). move_of 0 false z (Stopped (suc kept))) asks in
+    let moved : move_of 0 false h.ask h.answer ≡ Some (Stop 0 late q (suc kept)) = ap (λ (z : NodeAnswer). move_of 0 false h.ask z) is
+    ∙ ap (λ (z : NodeAsk). move_of 0 false z (Stopped (suc kept))) asks in
     let w : HasRequest h = line_request fresh_cell (history_at m (k - 1)) h 0 false (Stop 0 late q (suc kept)) (a.lists.local (k - 1) (omega (arith, low, high))) i moved refl in
     let one : q ≡ w.request = request_is (sym asks ∙ w.asks) in
     ap (λ (z : Request). is_some (epoch_of z)) one ∙ ap is_some w.of
@@ -210,7 +216,8 @@ module _ (m : Mesh) (c : ℕ) (a : Agrees m) (mine : c < operator_of m) where
   abbrev n : ℕ
   n = m.nodes
 
-  call_noted : (p : ℕ) (before rest : List Record) (k : ℕ) (q : Request) (t : Told) (ss : List Sign) → before ++ Call k q t ∷ rest ≡ record_of m c → 1 ≤ k → k ≤ n → t ≢ told.Dropped → reaches k (Call k q t) ≡ true
+  call_noted : (p : ℕ) (before rest : List Record) (k : ℕ) (q : Request) (t : Told) (ss : List Sign) → before ++ Call k q t ∷ rest ≡ record_of m c
+      → 1 ≤ k → k ≤ n → t ≢ told.Dropped → reaches k (Call k q t) ≡ true
       → CallLeft n (entries ss) c k q (heard_of t) (entries (noted_at m c p before k (Call k q t) ss))
   unfolding IsSame
   call_noted p before rest k q t ss whole low high off reach =
@@ -255,7 +262,8 @@ module _ (m : Mesh) (c : ℕ) (a : Agrees m) (mine : c < operator_of m) where
   abbrev Ends : List Entry → Type 0
   Ends past = (b : Tale) × IsTold n b past
 
-  record_told : (rs : List Record) (mk : Maker) (p : ℕ) (before : List Record) (plan : List Mark) (ss : List Sign) → before ++ rs ≡ record_of m c → AreWithin n rs → IsMade mk rs → IsMarked plan before rs
+  record_told : (rs : List Record) (mk : Maker) (p : ℕ) (before : List Record) (plan : List Mark) (ss : List Sign) → before ++ rs ≡ record_of m c
+      → AreWithin n rs → IsMade mk rs → IsMarked plan before rs
       → MakerStands before (entries ss) mk → Ends (entries (diary m c p before rs ss))
   unfolding diary AreWithin IsMade IsMarked reaches
   record_told [] mk p before plan ss whole w d i h = (h.writer.tale, h.writer.told)
@@ -305,6 +313,7 @@ all_told m a (suc c) l =
     let mine : c < operator_of m = omega (arith, l) in
     let h : (b : Tale) × IsTold m.nodes b (entries (all_signs m c)) = all_told m a c (omega (arith, l)) in
     let d = a.made c mine in
-    let s : Standing m.nodes c [] (entries (all_signs m c)) (new_writer m.nodes) = record { tale = h.0; told = h.1; status = free refl; sized = new_sized m.nodes; own = λ node i r e some. absurd (unfold calls_to in cc e) } in
+    let s : Standing m.nodes c [] (entries (all_signs m c)) (new_writer m.nodes) =
+    record { tale = h.0; told = h.1; status = free refl; sized = new_sized m.nodes; own = λ node i r e some. absurd (unfold calls_to in cc e) } in
     record_told m c a mine (record_of m c) (maker_of d.0 (new_writer m.nodes)) 1 [] (plan_of m c) (all_signs m c) refl (a.lists.within c (omega (arith, mine))) d.2 (a.lists.marked c mine)
     (maker_stands (StandsAt m c a mine) (task_begins m c a mine) d.0 ([], entries (all_signs m c)) (new_writer m.nodes) d.1 s)

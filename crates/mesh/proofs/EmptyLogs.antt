@@ -7,11 +7,11 @@ use Rattle.journal_core.specs.Limits.{limit_of}
 use Rattle.journal_core.specs.Effects.{after_effects}
 use Rattle.journal_core.specs.Step.{node_step, effects_of}
 use Rattle.journal_core.specs.Cuts.{standing}
-use Rattle.node_history.specs.Cell.{cell_takes}
-use Rattle.node_history.specs.Entries.{Entry}
-use Rattle.node_history.specs.Moving.{epoch_of, moves, move_of, entry_of, moving_of}
+use Rattle.journal_history.specs.Cell.{cell_takes}
+use Rattle.journal_history.specs.Entries.{Entry}
+use Rattle.journal_history.specs.Moving.{epoch_of, moves, move_of, entry_of, moving_of}
 use Rattle.run_safety.specs.Run.{Story, IsMade, IsRun, takeover_at}
-use Rattle.run_safety.proofs.SeenLaws.{Round, Propose, Ask, Get, Recover, Seal, Open, Write, Clean, Other, Writer, seen, asked}
+use Rattle.run_safety.proofs.SeenLaws.{Round, Propose, Ask, Get, Recover, Finalizing, Open, Write, Clean, Other, Writer, seen, asked}
 use Rattle.run_safety.proofs.Sent.{made_asks}
 use Rattle.run_safety.proofs.Frames.{Framed, Sound}
 use Rattle.run_safety.proofs.Table.{sound_at}
@@ -28,19 +28,23 @@ journal_is e s c w Propose h m b f is = absurd (cc is)
 journal_is e s c w (Ask x) h m b f is = absurd (cc is)
 journal_is e s c w (Get node x end bodies) h m b f is = absurd (cc is)
 journal_is e s c w (Recover x) h m b f is = absurd (cc is)
-journal_is e s c w (Seal x l) h m b f is = absurd (cc is)
+journal_is e s c w (Finalizing x l) h m b f is = absurd (cc is)
 journal_is e s c w (Open x) h m b f is = absurd (cc is)
 journal_is e s c w (Write x y) h m b f is = let same : b ≡ y = cc is in subst (λ (z : BatchView). 1 ≤ length z.bodies) (sym same) f.5
 journal_is e s c w (Clean l) h m b f is = absurd (cc is)
 journal_is e s c w Other h m b f is = absurd (cc is)
 
-journal_has_bodies : (n : ℕ) (story : Story) (past : List Entry) (caller node : ℕ) (h : HeadView) (m : ℕ) (b : BatchView) → IsMade n story past caller node (request.Journal h m b) → 1 ≤ length b.bodies
+journal_has_bodies : (n : ℕ) (story : Story) (past : List Entry) (caller node : ℕ) (h : HeadView) (m : ℕ) (b : BatchView)
+    → IsMade n story past caller node (request.Journal h m b) → 1 ≤ length b.bodies
 journal_has_bodies n story past caller node h m b x =
     let so : Sound n (takeover_at story past) (story.round (length past)) x.underway = sound_at n (takeover_at story past) (story.round (length past)) x.underway x.tasks_follow x.is_there in
-    journal_is (takeover_at story past).epoch (story.round (length past)) (seen x.underway).committed (seen x.underway) (seen x.underway).round h m b so.frame (made_asks n story past caller node (request.Journal h m b) x)
+    journal_is (takeover_at story past).epoch (story.round (length past)) (seen x.underway).committed (seen x.underway) (seen x.underway).round h m b
+    so.frame (made_asks n story past caller node (request.Journal h m b) x)
 
 pub its_order : epoch_order empty_log ≡ empty_order
-unfolding find_segment put_segment remove_segment newest limit_of after_effects node_step effects_of standing cell_takes epoch_of moves move_of entry_of moving_of reaches reached lines_of wins owns placed_from place_of key_of is_below tags_of blocks_cut blocks_from put_block sorted entries_in epoch_order empty_log empty_order
+unfolding find_segment put_segment remove_segment newest limit_of after_effects node_step effects_of standing cell_takes epoch_of moves move_of
+    entry_of moving_of reaches reached lines_of wins owns placed_from place_of key_of is_below tags_of blocks_cut blocks_from put_block sorted
+    entries_in epoch_order empty_log empty_order
 its_order = refl
 
 pub no_run : IsRun 1 empty_order → ⊥

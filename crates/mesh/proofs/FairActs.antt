@@ -7,10 +7,10 @@ use Rattle.writer_core.specs.declared.task.Task.{Task}
 use Rattle.writer_core.specs.Views.{WriterView}
 use Rattle.writer_core.specs.Writer.{next_call, writer_heard, HasBody}
 use Rattle.writer_core.proofs.WholeRounds.{IsCalling, calling_in}
-use Rattle.node_history.specs.declared.record.Record.{Record}
-use Rattle.node_history.specs.declared.record.Record.TheVariants.{Call, Late, Operator, Outcome}
-use Rattle.node_history.specs.declared.record.Told.{Told}
-use Rattle.node_history.specs.Entries.{Entry}
+use Rattle.journal_history.specs.declared.record.Record.{Record}
+use Rattle.journal_history.specs.declared.record.Record.TheVariants.{Call, Late, Operator, Outcome}
+use Rattle.journal_history.specs.declared.record.Told.{Told}
+use Rattle.journal_history.specs.Entries.{Entry}
 use Rattle.run_safety.proofs.Tales.{Tale}
 use Rattle.run_safety.proofs.TaleSteps.{Continues, made_later}
 use Rattle.run_safety.proofs.CallLeft.{CopyLeft, HasEpoch, CallLeft}
@@ -69,7 +69,8 @@ get_last [] y r (suc i) e = absurd (cc e)
 get_last (x ∷ xs) y r zero e = inl e
 get_last (x ∷ xs) y r (suc i) e = get_last xs y r i e
 
-own_call : (n : ℕ) (a : Tale) (past : List Entry) (c k : ℕ) (q : Request) (t : Told) (before : List Record) → Own n a past c before → (HasEpoch q → IsMadeBy n a past c k q) → Own n a past c (before ++ Call k q t ∷ [])
+own_call : (n : ℕ) (a : Tale) (past : List Entry) (c k : ℕ) (q : Request) (t : Told) (before : List Record) → Own n a past c before
+    → (HasEpoch q → IsMadeBy n a past c k q) → Own n a past c (before ++ Call k q t ∷ [])
 unfolding Alike
 own_call n a past c k q t before h g node i r e some = by (alike k node)
   where
@@ -121,7 +122,8 @@ task_stands n c before past v t body h =
     record { tale = g.0; told = g.1; status = g.3; sized = begun_sized n v t h.sized; own = own_later n c h.tale g.0 past past before g.2 h.own }
 
 -- ## A late copy
-pub other_stands : (n c : ℕ) (before : List Record) (past : List Entry) (v : WriterView) (x : Record) → ((node : ℕ) → calls_to node (x ∷ []) ≡ []) → Standing n c before past v → Standing n c (before ++ x ∷ []) past v
+pub other_stands : (n c : ℕ) (before : List Record) (past : List Entry) (v : WriterView) (x : Record) → ((node : ℕ) → calls_to node (x ∷ []) ≡ [])
+    → Standing n c before past v → Standing n c (before ++ x ∷ []) past v
 other_stands n c before past v x none h = record { tale = h.tale; told = h.told; status = h.status; sized = h.sized; own = own_other n h.tale past c x before none h.own }
 
 pub copy_stands : (n c : ℕ) (before : List Record) (past next : List Entry) (v : WriterView) (k i : ℕ) (q : Request) → slice_get (calls_to k before) i ≡ Some q → CopyLeft n past c k q next

@@ -2,14 +2,14 @@
 use Rattle.std.proofs.Common.{◌≡◌, ℕ, zero, suc, ◌+◌, ◌-◌, ◌<◌, ◌≤◌, List, [], ◌∷◌, ◌++◌, Bool, true, false, cond, filter, refl, sym, ap, ◌∙◌, subst, arith, append_assoc, ◌⊎◌, inl, inr}
 use Rattle.std.specs.Prelude.{Some, ◌==◌, slice_get}
 use Rattle.journal_core.specs.declared.request.Request.{Request}
-use Rattle.node_history.specs.declared.node_ask.NodeAsk.{NodeAsk}
-use Rattle.node_history.specs.declared.node_ask.NodeAsk.TheVariants.{Act}
-use Rattle.node_history.specs.declared.history_line.HistoryLine.{HistoryLine}
-use Rattle.node_history.specs.declared.record.Record.{Record}
-use Rattle.node_history.specs.declared.record.Record.TheVariants.{Call, Late, Operator, Outcome}
-use Rattle.node_history.specs.declared.record.Told.{Told}
-use Rattle.node_history.specs.declared.mark.Mark.{Mark}
-use Rattle.node_history.specs.Moving.{epoch_of, is_proposal}
+use Rattle.journal_history.specs.declared.node_ask.NodeAsk.{NodeAsk}
+use Rattle.journal_history.specs.declared.node_ask.NodeAsk.TheVariants.{Act}
+use Rattle.journal_history.specs.declared.history_line.HistoryLine.{HistoryLine}
+use Rattle.journal_history.specs.declared.record.Record.{Record}
+use Rattle.journal_history.specs.declared.record.Record.TheVariants.{Call, Late, Operator, Outcome}
+use Rattle.journal_history.specs.declared.record.Told.{Told}
+use Rattle.journal_history.specs.declared.mark.Mark.{Mark}
+use Rattle.journal_history.specs.Moving.{epoch_of, is_proposal}
 use Rattle.mesh.specs.declared.whole.Mesh.{Mesh}
 use Rattle.mesh.specs.Marks.{calls_to, IsMarked}
 use Rattle.mesh.specs.Makers.{Maker, maker_hears, IsMade, IsOfChores, IsOperation, IsOperators}
@@ -142,7 +142,8 @@ within_in n (y ∷ hs) h w (inl e) = subst (λ (z : HistoryLine). z.caller ≤ n
 within_in n (y ∷ hs) h w (inr x) = within_in n hs h w.1 x
 
 -- the line's request was sent by its caller
-line_sent : (rs : List Record) (plan : List Mark) (n : ℕ) (r : Record) (h : HistoryLine) (late : Bool) (q : Request) → IsOfChores n rs → IsMarked plan [] rs → In r rs → IsSame r h → h.ask ≡ Act late q → Sends q rs
+line_sent : (rs : List Record) (plan : List Mark) (n : ℕ) (r : Record) (h : HistoryLine) (late : Bool) (q : Request) → IsOfChores n rs
+    → IsMarked plan [] rs → In r rs → IsSame r h → h.ask ≡ Act late q → Sends q rs
 unfolding IsSame
 line_sent rs plan n (Call k p t) h late q d m x s e =
     let same : p ≡ q = cc (s.0, e) in subst (λ (z : Request). Sends z rs) same (call_sends k p t rs x)

@@ -1,7 +1,8 @@
--- A caller's record and an order of all lines that has its lines in the order of the record: what stands before each of them in both.
+-- A caller's record and an order of all lines that has its lines in the order of the record: what
+-- stands before each of them in both.
 use Rattle.std.proofs.Common.{◌≡◌, ℕ, List, [], ◌∷◌, ◌++◌, refl, sym, ap, ◌∙◌, subst, append_assoc, ◌⊎◌, inl, inr}
-use Rattle.node_history.specs.declared.record.Record.{Record}
-use Rattle.node_history.specs.Moving.{Placed}
+use Rattle.journal_history.specs.declared.record.Record.{Record}
+use Rattle.journal_history.specs.Moving.{Placed}
 use Rattle.mesh.specs.Matches.{reached, lines_of, AreSame}
 use Rattle.mesh.specs.Traces.{history_of, IsEvent, InStep, begins, notes, waits, goes}
 use Rattle.mesh.proofs.Tied.{Tied, quiet, others, both}

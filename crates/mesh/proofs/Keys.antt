@@ -1,17 +1,18 @@
 -- In an agreeing mesh the keys of each node rise.
-use Rattle.std.proofs.Common.{◌≡◌, ℕ, zero, suc, ◌+◌, ◌<◌, ◌≤◌, List, [], ◌∷◌, ◌++◌, Bool, true, false, cond, filter, refl, sym, ap, ◌∙◌, subst, arith, length, get_or, append_assoc, length-append, ◌⊎◌, inl, inr}
+use Rattle.std.proofs.Common.{◌≡◌, ℕ, zero, suc, ◌+◌, ◌<◌, ◌≤◌, List, [], ◌∷◌, ◌++◌, Bool, true, false, cond, filter, refl, sym, ap, ◌∙◌, subst}
+use Rattle.std.proofs.Common.{arith, length, get_or, append_assoc, length-append, ◌⊎◌, inl, inr}
 use Rattle.std.specs.Prelude.{Option, Some, None, ◌==◌, nat_lt, ◌&&◌, ◌||◌}
 use Rattle.std.proofs.lemmas.Bool.{le-ltb, cases_Bool}
 use Rattle.std.proofs.lemmas.List.Elements.{filter-append}
 use Rattle.journal_core.specs.declared.request.Request.{Request}
-use Rattle.node_history.specs.declared.node_ask.NodeAsk.TheVariants.{Act}
-use Rattle.node_history.specs.declared.history_line.HistoryLine.{HistoryLine}
-use Rattle.node_history.specs.declared.record.Record.{Record}
-use Rattle.node_history.specs.Cell.{Cell, cell_takes, fresh_cell, IsLocalRun}
-use Rattle.node_history.specs.Entries.{Move, Entry}
-use Rattle.node_history.specs.Moving.{is_proposal, move_of, entry_at, entry_of, falls}
-use Rattle.node_history.proofs.Raised.{Raised, CellRaised, cell_raised}
-use Rattle.node_history.proofs.CellLaws.{promise}
+use Rattle.journal_history.specs.declared.node_ask.NodeAsk.TheVariants.{Act}
+use Rattle.journal_history.specs.declared.history_line.HistoryLine.{HistoryLine}
+use Rattle.journal_history.specs.declared.record.Record.{Record}
+use Rattle.journal_history.specs.Cell.{Cell, cell_takes, fresh_cell, IsLocalRun}
+use Rattle.journal_history.specs.Entries.{Move, Entry}
+use Rattle.journal_history.specs.Moving.{is_proposal, move_of, entry_at, entry_of, falls}
+use Rattle.journal_history.proofs.Raised.{Raised, CellRaised, cell_raised}
+use Rattle.journal_history.proofs.CellLaws.{promise}
 use Rattle.mesh.specs.declared.whole.Mesh.{Mesh}
 use Rattle.mesh.specs.Matches.{reaches, reached, lines_of, AreSame, CallersWithin}
 use Rattle.mesh.specs.Agree.{Agrees, operator_of, history_at, record_of}
@@ -41,13 +42,16 @@ places_rise k i j p [] l m = absurd (omega (arith, m))
 places_rise k i zero p (r ∷ rs) l m = absurd (omega (arith, l))
 places_rise k zero (suc j) p (r ∷ rs) l m = by (reaches k r) m (at_least k j (p + 1) rs) (λ x. places_rise k zero (suc j) (p + 1) rs l x)
   where
-    by : (b : Bool) → suc j < length (cond b (r ∷ filter (reaches k) rs) (filter (reaches k) rs)) → p + 1 ≤ place_of k j (p + 1) rs → (suc j < length (filter (reaches k) rs) → place_of k zero (p + 1) rs < place_of k (suc j) (p + 1) rs)
+    by : (b : Bool) → suc j < length (cond b (r ∷ filter (reaches k) rs) (filter (reaches k) rs)) → p + 1 ≤ place_of k j (p + 1) rs
+        → (suc j < length (filter (reaches k) rs) → place_of k zero (p + 1) rs < place_of k (suc j) (p + 1) rs)
         → cond b p (place_of k zero (p + 1) rs) < cond b (place_of k j (p + 1) rs) (place_of k (suc j) (p + 1) rs)
     by true x h go = omega (arith, h)
     by false x h go = go x
 places_rise k (suc i) (suc j) p (r ∷ rs) l m = by (reaches k r) m (λ x. places_rise k i j (p + 1) rs (omega (arith, l)) x) (λ x. places_rise k (suc i) (suc j) (p + 1) rs l x)
   where
-    by : (b : Bool) → suc j < length (cond b (r ∷ filter (reaches k) rs) (filter (reaches k) rs)) → (j < length (filter (reaches k) rs) → place_of k i (p + 1) rs < place_of k j (p + 1) rs) → (suc j < length (filter (reaches k) rs) → place_of k (suc i) (p + 1) rs < place_of k (suc j) (p + 1) rs)
+    by : (b : Bool) → suc j < length (cond b (r ∷ filter (reaches k) rs) (filter (reaches k) rs))
+        → (j < length (filter (reaches k) rs) → place_of k i (p + 1) rs < place_of k j (p + 1) rs)
+        → (suc j < length (filter (reaches k) rs) → place_of k (suc i) (p + 1) rs < place_of k (suc j) (p + 1) rs)
         → cond b (place_of k i (p + 1) rs) (place_of k (suc i) (p + 1) rs) < cond b (place_of k j (p + 1) rs) (place_of k (suc j) (p + 1) rs)
     by true x h go = h (omega (arith, x))
     by false x h go = go x
@@ -58,7 +62,8 @@ count_of c hs = length (lines_of c hs)
 
 pub count_append : (c : ℕ) (xs ys : List HistoryLine) → count_of c (xs ++ ys) ≡ count_of c xs + count_of c ys
 unfolding count_of lines_of
-count_append c xs ys = ap length (filter-append (λ (h : HistoryLine). h.caller == c) xs ys) ∙ length-append (filter (λ (h : HistoryLine). h.caller == c) xs) (filter (λ (h : HistoryLine). h.caller == c) ys)
+count_append c xs ys = ap length (filter-append (λ (h : HistoryLine). h.caller == c) xs ys)
+    ∙ length-append (filter (λ (h : HistoryLine). h.caller == c) xs) (filter (λ (h : HistoryLine). h.caller == c) ys)
 
 pub count_self : (h : HistoryLine) (hs : List HistoryLine) → count_of h.caller (h ∷ hs) ≡ suc (count_of h.caller hs)
 unfolding count_of lines_of
@@ -117,20 +122,23 @@ module _ (m : Mesh) (i : ℕ) (all : List HistoryLine) (in_ : i < m.nodes) (is :
     abbrev place : ℕ → ℕ → ℕ
     place c j = place_of (i + 1) j 1 (record_of m c)
 
-    -- a moving line against an earlier one under the same promise, which was the j-th of the caller c
+    -- a moving line against an earlier one under the same promise, which was the j-th of the caller
+    -- c
     later_place : (before after : List HistoryLine) (h : HistoryLine) (cell : Cell) (c j e : ℕ) (late : Bool) (q : Request) → before ++ h ∷ after ≡ all → h.ask ≡ Act late q
         → Raised cell.state.promised (cell_takes cell h.ask).cell.state.promised q → e ≤ cell.state.promised → j < count_of c before → (cell_takes cell h.ask).cell.state.promised ≡ e
         → owners_place (owns m c e) (place c j) ≤ owners_place (owns m h.caller (cell_takes cell h.ask).cell.state.promised) (place h.caller (count_of h.caller before))
     later_place before after h cell c j e late q whole ask mv low less same = by (cases_Bool (is_proposal q))
       where
-        by : (is_proposal q ≡ true) ⊎ (is_proposal q ≡ false) → owners_place (owns m c e) (place c j) ≤ owners_place (owns m h.caller (cell_takes cell h.ask).cell.state.promised) (place h.caller (count_of h.caller before))
+        by : (is_proposal q ≡ true) ⊎ (is_proposal q ≡ false) → owners_place (owns m c e) (place c j) ≤ owners_place
+            (owns m h.caller (cell_takes cell h.ask).cell.state.promised) (place h.caller (count_of h.caller before))
         by (inl p) = absurd (omega (arith, mv.rises p, mv.is, low, same))
         by (inr p) =
             let owner : owns m h.caller (cell_takes cell h.ask).cell.state.promised ≡ true = ap (owns m h.caller) mv.is ∙ own.heads i before after h late q mv.epoch in_ (is ∙ sym whole) ask mv.of p in
             place_by (owns m c e) (owns m h.caller (cell_takes cell h.ask).cell.state.promised) (place c j) (place h.caller (count_of h.caller before)) owner
             (λ (mine : owns m c e ≡ true).
             let one : c ≡ h.caller = own.one c h.caller e mine (ap (owns m h.caller) (sym same) ∙ owner) in
-            let total : count_of h.caller all ≡ count_of h.caller before + suc (count_of h.caller after) = ap (count_of h.caller) (sym whole) ∙ (count_append h.caller before (h ∷ after) ∙ ap (λ (x : ℕ). count_of h.caller before + x) (count_self h after)) in
+            let total : count_of h.caller all ≡ count_of h.caller before + suc (count_of h.caller after) = ap (count_of h.caller) (sym whole)
+            ∙ (count_append h.caller before (h ∷ after) ∙ ap (λ (x : ℕ). count_of h.caller before + x) (count_self h after)) in
             let fits : count_of h.caller before < length (reached (i + 1) (record_of m h.caller)) = places h.caller (count_of h.caller before) (omega (arith, total)) in
             let rise : place h.caller j < place h.caller (count_of h.caller before) =
             places_rise (i + 1) j (count_of h.caller before) 1 (record_of m h.caller) (subst (λ (x : ℕ). j < count_of x before) one less) fits in
@@ -146,9 +154,12 @@ module _ (m : Mesh) (i : ℕ) (all : List HistoryLine) (in_ : i < m.nodes) (is :
         (key_of m (i + 1) (cell_takes cell h.ask).cell.state.promised before h) (tags_of m (i + 1) (cell_takes cell h.ask).cell (before ++ h ∷ []) hs)
         (λ (x : Entry) (f : _) (off : _).
         let w : CellRaised cell h.ask = raised_at m (i + 1) before h cell x run.0 f off in
-        unfold count_of in not_below_by (cell_takes cell h.ask).cell.state.promised (owners_place (owns m h.caller (cell_takes cell h.ask).cell.state.promised) (place h.caller (count_of h.caller before))) e (owners_place (owns m c e) (place c j))
+        unfold count_of in not_below_by (cell_takes cell h.ask).cell.state.promised
+        (owners_place (owns m h.caller (cell_takes cell h.ask).cell.state.promised) (place h.caller (count_of h.caller before))) e
+        (owners_place (owns m c e) (place c j))
         (omega (arith, promise cell h.ask, low)) (λ (same : (cell_takes cell h.ask).cell.state.promised ≡ e). later_place before hs h cell c j e w.late w.request whole w.asks w.raised low less same))
-        (none_after (before ++ h ∷ []) hs (cell_takes cell h.ask).cell c j e (append_assoc before (h ∷ []) hs ∙ whole) run.1 (omega (arith, promise cell h.ask, low)) (omega (arith, less, count_append c before (h ∷ []))))
+        (none_after (before ++ h ∷ []) hs (cell_takes cell h.ask).cell c j e (append_assoc before (h ∷ []) hs ∙ whole) run.1
+        (omega (arith, promise cell h.ask, low)) (omega (arith, less, count_append c before (h ∷ []))))
 
     tags_rise : (before hs : List HistoryLine) (cell : Cell) → before ++ hs ≡ all → IsLocalRun cell hs → Rising (tags_of m (i + 1) cell before hs)
     unfolding Rising tags_of key_of IsLocalRun
@@ -157,7 +168,8 @@ module _ (m : Mesh) (i : ℕ) (all : List HistoryLine) (in_ : i < m.nodes) (is :
         rising_first (entry_of (record { node = i + 1; line = h; muted = is_muted (line_of_caller m (i + 1) before h) }))
         (key_of m (i + 1) (cell_takes cell h.ask).cell.state.promised before h) (tags_of m (i + 1) (cell_takes cell h.ask).cell (before ++ h ∷ []) hs)
         (λ (x : Entry) (f : _) (off : _).
-        unfold count_of in none_after (before ++ h ∷ []) hs (cell_takes cell h.ask).cell h.caller (count_of h.caller before) (cell_takes cell h.ask).cell.state.promised (append_assoc before (h ∷ []) hs ∙ whole) run.1 (omega arith)
+        unfold count_of in none_after (before ++ h ∷ []) hs (cell_takes cell h.ask).cell h.caller (count_of h.caller before)
+        (cell_takes cell h.ask).cell.state.promised (append_assoc before (h ∷ []) hs ∙ whole) run.1 (omega arith)
         (omega (arith, count_append h.caller before (h ∷ []), count_self h [])))
         (tags_rise (before ++ h ∷ []) hs (cell_takes cell h.ask).cell (append_assoc before (h ∷ []) hs ∙ whole) run.1)
 
@@ -167,7 +179,8 @@ unfolding CallersWithin count_of lines_of Alike
 caller_within n c [] j w l = absurd (omega (arith, l))
 caller_within n c (h ∷ hs) j w l = by (alike h.caller c) l (λ x. caller_within n c hs j w.1 x)
   where
-    by : Alike h.caller c → j < length (cond (h.caller == c) (h ∷ filter (λ (x : HistoryLine). x.caller == c) hs) (filter (λ (x : HistoryLine). x.caller == c) hs)) → (j < length (filter (λ (x : HistoryLine). x.caller == c) hs) → c ≤ n) → c ≤ n
+    by : Alike h.caller c → j < length (cond (h.caller == c) (h ∷ filter (λ (x : HistoryLine). x.caller == c) hs)
+        (filter (λ (x : HistoryLine). x.caller == c) hs)) → (j < length (filter (λ (x : HistoryLine). x.caller == c) hs) → c ≤ n) → c ≤ n
     by (inl e) x go = omega (arith, e.1, w.0)
     by (inr e) x go = go (rw e.0 at x)
 

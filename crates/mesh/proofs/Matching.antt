@@ -1,18 +1,19 @@
--- A line of a node's history and the line of its caller's record that is the same event, with what stands before both.
+-- A line of a node's history and the line of its caller's record that is the same event, with what
+-- stands before both.
 use Rattle.std.proofs.Common.{◌≡◌, ℕ, zero, suc, ◌+◌, ◌-◌, ◌<◌, ◌≤◌, ◌==◌, inl, inr, List, [], ◌∷◌, ◌++◌, Bool, true, false, cond, filter, length, refl, sym, ap, ◌∙◌, subst, arith, Option, Some, None}
 use Rattle.std.specs.Prelude.{slice_get}
 use Rattle.journal_core.specs.declared.request.Request.{Request}
-use Rattle.node_history.specs.declared.node_ask.NodeAsk.{NodeAsk}
-use Rattle.node_history.specs.declared.node_ask.NodeAsk.TheVariants.{Act}
-use Rattle.node_history.specs.declared.node_ask.NodeAnswer.{NodeAnswer}
-use Rattle.node_history.specs.declared.node_ask.NodeAnswer.TheVariants.{Replied, Stopped, Done, Idle, NotOpened}
-use Rattle.node_history.specs.declared.history_line.HistoryLine.{HistoryLine}
-use Rattle.node_history.specs.declared.record.Record.{Record}
-use Rattle.node_history.specs.declared.record.Record.TheVariants.{Call, Late, Operator, Outcome}
-use Rattle.node_history.specs.declared.record.Told.TheVariants as told
-use Rattle.node_history.specs.Cell.{fresh_cell}
-use Rattle.node_history.specs.Entries.{Move, Answer, Stop, Entry}
-use Rattle.node_history.specs.Moving.{moves, way_of, move_of, entry_at, entry_of, falls}
+use Rattle.journal_history.specs.declared.node_ask.NodeAsk.{NodeAsk}
+use Rattle.journal_history.specs.declared.node_ask.NodeAsk.TheVariants.{Act}
+use Rattle.journal_history.specs.declared.node_ask.NodeAnswer.{NodeAnswer}
+use Rattle.journal_history.specs.declared.node_ask.NodeAnswer.TheVariants.{Replied, Stopped, Done, Idle, NotOpened}
+use Rattle.journal_history.specs.declared.history_line.HistoryLine.{HistoryLine}
+use Rattle.journal_history.specs.declared.record.Record.{Record}
+use Rattle.journal_history.specs.declared.record.Record.TheVariants.{Call, Late, Operator, Outcome}
+use Rattle.journal_history.specs.declared.record.Told.TheVariants as told
+use Rattle.journal_history.specs.Cell.{fresh_cell}
+use Rattle.journal_history.specs.Entries.{Move, Answer, Stop, Entry}
+use Rattle.journal_history.specs.Moving.{moves, way_of, move_of, entry_at, entry_of, falls}
 use Rattle.mesh.specs.declared.whole.Mesh.{Mesh}
 use Rattle.mesh.specs.Makers.{IsOperators}
 use Rattle.mesh.specs.Matches.{reaches, reached, lines_of, IsSame, AreSame, IsWithin, AreWithin}
@@ -45,7 +46,8 @@ cut_filter test [] [] x more e = absurd (cc e)
 cut_filter test [] (k ∷ kept) x more e = absurd (cc e)
 cut_filter {A} test (y ∷ xs) kept x more e = by (test y) refl kept e (λ ks f. cut_filter test xs ks x more f)
   where
-    by : (b : Bool) → test y ≡ b → (ks : List A) → cond b (y ∷ filter test xs) (filter test xs) ≡ ks ++ x ∷ more → ((l : List A) → filter test xs ≡ l ++ x ∷ more → Cut test xs l x) → Cut test (y ∷ xs) ks x
+    by : (b : Bool) → test y ≡ b → (ks : List A) → cond b (y ∷ filter test xs) (filter test xs) ≡ ks ++ x ∷ more
+        → ((l : List A) → filter test xs ≡ l ++ x ∷ more → Cut test xs l x) → Cut test (y ∷ xs) ks x
     by false off ks f go = cut_more test y xs ks x off (go ks f)
     by true on [] f go = let same : y ≡ x = cc f in record { past = []; rest = xs; whole = ap (λ (z : A). z ∷ xs) (sym same); before = refl; passes = ap test (sym same) ∙ on }
     by true on (k ∷ ks) f go =
@@ -53,7 +55,7 @@ cut_filter {A} test (y ∷ xs) kept x more e = by (test y) refl kept e (λ ks f.
         let rest : filter test xs ≡ ks ++ x ∷ more = cc f in
         subst (λ (z : A). Cut test (y ∷ xs) (z ∷ ks) x) same (cut_kept test y xs ks x on (go ks rest))
 
--- ## The same event in both lists
+-- ## An event of one list stands in the other
 lines_at : (c : ℕ) (before rest : List HistoryLine) (h : HistoryLine) → h.caller ≡ c → lines_of c (before ++ h ∷ rest) ≡ lines_of c before ++ h ∷ lines_of c rest
 unfolding lines_of
 lines_at c [] rest h e = rw (same_test h.caller c e) refl
@@ -114,13 +116,15 @@ place_at k zero p [] rest r on e = rw on (omega arith)
 place_at k (suc j) p [] rest r on e = absurd (omega (arith, e))
 place_at k zero p (x ∷ past) rest r on e = by (reaches k x) e (λ f. place_at k zero (p + 1) past rest r on f)
   where
-    by : (b : Bool) → length (cond b (x ∷ filter (reaches k) past) (filter (reaches k) past)) ≡ 0 → (length (filter (reaches k) past) ≡ 0 → place_of k zero (p + 1) (past ++ r ∷ rest) ≡ p + 1 + length past)
+    by : (b : Bool) → length (cond b (x ∷ filter (reaches k) past) (filter (reaches k) past)) ≡ 0
+        → (length (filter (reaches k) past) ≡ 0 → place_of k zero (p + 1) (past ++ r ∷ rest) ≡ p + 1 + length past)
         → cond b p (place_of k zero (p + 1) (past ++ r ∷ rest)) ≡ p + suc (length past)
     by true f go = absurd (omega (arith, f))
     by false f go = omega (arith, go f)
 place_at k (suc j) p (x ∷ past) rest r on e = by (reaches k x) e (λ f. place_at k (suc j) (p + 1) past rest r on f) (λ f. place_at k j (p + 1) past rest r on f)
   where
-    by : (b : Bool) → length (cond b (x ∷ filter (reaches k) past) (filter (reaches k) past)) ≡ suc j → (length (filter (reaches k) past) ≡ suc j → place_of k (suc j) (p + 1) (past ++ r ∷ rest) ≡ p + 1 + length past)
+    by : (b : Bool) → length (cond b (x ∷ filter (reaches k) past) (filter (reaches k) past)) ≡ suc j
+        → (length (filter (reaches k) past) ≡ suc j → place_of k (suc j) (p + 1) (past ++ r ∷ rest) ≡ p + 1 + length past)
         → (length (filter (reaches k) past) ≡ j → place_of k j (p + 1) (past ++ r ∷ rest) ≡ p + 1 + length past)
         → cond b (place_of k j (p + 1) (past ++ r ∷ rest)) (place_of k (suc j) (p + 1) (past ++ r ∷ rest)) ≡ p + suc (length past)
     by true f go less = omega (arith, less (omega (arith, f)))
@@ -144,8 +148,10 @@ line_is m i before h x =
 -- its place there
 pub place_is : (m : Mesh) (i : ℕ) (before : List HistoryLine) (h : HistoryLine) (x : Matched m (i + 1) before h) → place_here m (i + 1) before h ≡ length x.past + 1
 place_is m i before h x =
-    let place : place_of (i + 1) (length (lines_of h.caller before)) 1 (x.past ++ x.line ∷ x.rest) ≡ 1 + length x.past = place_at (i + 1) (length (lines_of h.caller before)) 1 x.past x.rest x.line x.reach x.count in
-    let moved : place_here m (i + 1) before h ≡ place_of (i + 1) (length (lines_of h.caller before)) 1 (x.past ++ x.line ∷ x.rest) = ap (place_of (i + 1) (length (lines_of h.caller before)) 1) (sym x.whole) in
+    let place : place_of (i + 1) (length (lines_of h.caller before)) 1 (x.past ++ x.line ∷ x.rest) ≡ 1 + length x.past =
+    place_at (i + 1) (length (lines_of h.caller before)) 1 x.past x.rest x.line x.reach x.count in
+    let moved : place_here m (i + 1) before h ≡ place_of (i + 1) (length (lines_of h.caller before)) 1 (x.past ++ x.line ∷ x.rest) =
+    ap (place_of (i + 1) (length (lines_of h.caller before)) 1) (sym x.whole) in
     omega (arith, place, moved)
 
 both_note : (m : Mesh) (i : ℕ) (before after : List HistoryLine) (h : HistoryLine) → before ++ h ∷ after ≡ history_at m i → (x : Matched m (i + 1) before h)
@@ -162,7 +168,8 @@ both_note m i before after h whole x =
     )
 
 -- ## A history's line that did more than fall is noted
-pub entry_moves : (k : ℕ) (h : HistoryLine) (muted : Bool) (e : Entry) → entry_of (record { node = k; line = h; muted = muted }) ≡ Some e → (move_of h.caller muted h.ask h.answer ≡ Some e.move) × (e.node ≡ k)
+pub entry_moves : (k : ℕ) (h : HistoryLine) (muted : Bool) (e : Entry) → entry_of (record { node = k; line = h; muted = muted }) ≡ Some e
+    → (move_of h.caller muted h.ask h.answer ≡ Some e.move) × (e.node ≡ k)
 unfolding entry_of
 entry_moves k h muted e f = by (move_of h.caller muted h.ask h.answer) f
   where

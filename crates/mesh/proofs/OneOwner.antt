@@ -5,19 +5,19 @@ use Rattle.std.proofs.lemmas.Bool.{ltb-true}
 use Rattle.journal_core.specs.declared.request.Request.{Request}
 use Rattle.journal_core.specs.declared.request.Request.TheVariants as request
 use Rattle.journal_core.specs.declared.reply.Reply.TheVariants as reply
-use Rattle.node_history.specs.declared.node_ask.NodeAsk.TheVariants.{Act}
-use Rattle.node_history.specs.declared.node_ask.NodeAnswer.TheVariants.{Replied}
-use Rattle.node_history.specs.declared.history_line.HistoryLine.{HistoryLine}
-use Rattle.node_history.specs.declared.record.Record.{Record}
-use Rattle.node_history.specs.declared.record.Record.TheVariants.{Call, Late, Operator, Outcome}
-use Rattle.node_history.specs.declared.record.Told.{Told}
-use Rattle.node_history.specs.declared.record.Told.TheVariants as told
-use Rattle.node_history.specs.Cell.{Cell, cell_takes, fresh_cell, IsLocalRun}
-use Rattle.node_history.specs.Entries as entry
-use Rattle.node_history.specs.Entries.{Move}
-use Rattle.node_history.specs.Moving.{epoch_of, moves, move_of, falls, way_of}
-use Rattle.node_history.proofs.Raised.{Raised, CellRaised, cell_raised}
-use Rattle.node_history.proofs.CellLaws.{promise}
+use Rattle.journal_history.specs.declared.node_ask.NodeAsk.TheVariants.{Act}
+use Rattle.journal_history.specs.declared.node_ask.NodeAnswer.TheVariants.{Replied}
+use Rattle.journal_history.specs.declared.history_line.HistoryLine.{HistoryLine}
+use Rattle.journal_history.specs.declared.record.Record.{Record}
+use Rattle.journal_history.specs.declared.record.Record.TheVariants.{Call, Late, Operator, Outcome}
+use Rattle.journal_history.specs.declared.record.Told.{Told}
+use Rattle.journal_history.specs.declared.record.Told.TheVariants as told
+use Rattle.journal_history.specs.Cell.{Cell, cell_takes, fresh_cell, IsLocalRun}
+use Rattle.journal_history.specs.Entries as entry
+use Rattle.journal_history.specs.Entries.{Move}
+use Rattle.journal_history.specs.Moving.{epoch_of, moves, move_of, falls, way_of}
+use Rattle.journal_history.proofs.Raised.{Raised, CellRaised, cell_raised}
+use Rattle.journal_history.proofs.CellLaws.{promise}
 use Rattle.mesh.specs.declared.whole.Mesh.{Mesh}
 use Rattle.mesh.specs.Makers.{IsOperators}
 use Rattle.mesh.specs.Matches.{reaches, reached, lines_of, IsSame, AreSame, AreWithin}
@@ -54,7 +54,8 @@ takes_moved c e h run t =
     ap (move_of h.caller false h.ask) (sym run ∙ t.answer) ∙ (ap (λ (a : _). move_of h.caller false a (Replied (reply.NewEpoch t.newest))) t.ask ∙ moves_so h.caller e t.late t.newest) in
     let w : CellRaised c h.ask = cell_raised c h.ask h.caller false m moved (falls_not h.caller e t.late t.newest) in
     let same : w.request ≡ request.NewEpoch e = cc (w.asks, t.ask) in
-    let r : Raised c.state.promised (cell_takes c h.ask).cell.state.promised (request.NewEpoch e) = subst (λ (q : Request). Raised c.state.promised (cell_takes c h.ask).cell.state.promised q) same w.raised in
+    let r : Raised c.state.promised (cell_takes c h.ask).cell.state.promised (request.NewEpoch e) =
+    subst (λ (q : Request). Raised c.state.promised (cell_takes c h.ask).cell.state.promised q) same w.raised in
     let of : e ≡ r.epoch = cc r.of in
     (omega (arith, r.rises refl, of), r.is ∙ sym of)
 
@@ -133,7 +134,9 @@ lines_out c h (y ∷ hs) i = by (alike y.caller c) i (λ z. lines_out c h hs z)
     rest : List HistoryLine
     rest = filter (λ (z : HistoryLine). z.caller == c) hs
 
-    by : Alike y.caller c → In h (cond (y.caller == c) (y ∷ filter (λ (z : HistoryLine). z.caller == c) hs) (filter (λ (z : HistoryLine). z.caller == c) hs)) → (In h (filter (λ (z : HistoryLine). z.caller == c) hs) → In h hs × (h.caller ≡ c)) → ((y ≡ h) ⊎ In h hs) × (h.caller ≡ c)
+    by : Alike y.caller c → In h (cond (y.caller == c) (y ∷ filter (λ (z : HistoryLine). z.caller == c) hs)
+        (filter (λ (z : HistoryLine). z.caller == c) hs)) → (In h (filter (λ (z : HistoryLine). z.caller == c) hs) → In h hs × (h.caller ≡ c))
+        → ((y ≡ h) ⊎ In h hs) × (h.caller ≡ c)
     by (inl e) z go = at (rw e.0 at z) go
       where
         at : (y ≡ h) ⊎ In h (filter (λ (z : HistoryLine). z.caller == c) hs) → (In h (filter (λ (z : HistoryLine). z.caller == c) hs) → In h hs × (h.caller ≡ c)) → ((y ≡ h) ⊎ In h hs) × (h.caller ≡ c)

@@ -1,17 +1,19 @@
--- In the epoch order the entries of one caller under one epoch stand by place, but for proposals of others than the owner, which stand by node.
-use Rattle.std.proofs.Common.{◌≡◌, ℕ, suc, ◌+◌, ◌<◌, ◌≤◌, ◌==◌, ◌⊎◌, inl, inr, List, [], ◌∷◌, ◌++◌, Bool, true, false, cond, length, reverse, get_or, refl, sym, ap, ◌∙◌, subst, arith, append_assoc, Option, Some, None}
+-- In the epoch order the entries of one caller under one epoch stand by place, but for proposals of
+-- others than the owner, which stand by node.
+use Rattle.std.proofs.Common.{◌≡◌, ℕ, suc, ◌+◌, ◌<◌, ◌≤◌, ◌==◌, ◌⊎◌, inl, inr, List, [], ◌∷◌, ◌++◌, Bool, true, false, cond, length, reverse, get_or}
+use Rattle.std.proofs.Common.{refl, sym, ap, ◌∙◌, subst, arith, append_assoc, Option, Some, None}
 use Rattle.std.specs.Prelude.{nat_lt, ◌&&◌}
 use Rattle.std.proofs.lemmas.List.{reverse-append}
 use Rattle.std.proofs.lemmas.Bool.{lt-ltb, le-ltb, ltb-true, cases_Bool}
 use Rattle.journal_core.specs.declared.request.Request.{Request}
-use Rattle.node_history.specs.declared.node_ask.NodeAsk.{NodeAsk}
-use Rattle.node_history.specs.declared.node_ask.NodeAsk.TheVariants.{Act}
-use Rattle.node_history.specs.declared.history_line.HistoryLine.{HistoryLine}
-use Rattle.node_history.specs.Cell.{Cell, cell_takes, fresh_cell, IsLocalRun}
-use Rattle.node_history.specs.Entries.{Entry}
-use Rattle.node_history.specs.Moving.{epoch_of, is_proposal, move_of, falls}
-use Rattle.node_history.proofs.Raised.{CellRaised, cell_raised}
-use Rattle.node_history.proofs.CellLaws.{promise}
+use Rattle.journal_history.specs.declared.node_ask.NodeAsk.{NodeAsk}
+use Rattle.journal_history.specs.declared.node_ask.NodeAsk.TheVariants.{Act}
+use Rattle.journal_history.specs.declared.history_line.HistoryLine.{HistoryLine}
+use Rattle.journal_history.specs.Cell.{Cell, cell_takes, fresh_cell, IsLocalRun}
+use Rattle.journal_history.specs.Entries.{Entry}
+use Rattle.journal_history.specs.Moving.{epoch_of, is_proposal, move_of, falls}
+use Rattle.journal_history.proofs.Raised.{CellRaised, cell_raised}
+use Rattle.journal_history.proofs.CellLaws.{promise}
 use Rattle.mesh.specs.declared.whole.Mesh.{Mesh}
 use Rattle.mesh.specs.Matches.{reached, lines_of}
 use Rattle.mesh.specs.Agree.{Agrees, operator_of, history_at, record_of}
@@ -26,7 +28,9 @@ use Rattle.mesh.proofs.SignLists.{Older, here, there, Signed, one_sign}
 use Rattle.mesh.proofs.Rearranged.{Rivals, Stand, Keeps}
 use Rattle.mesh.proofs.Noting.{signs_fall}
 use Rattle.mesh.proofs.Matching.{entry_here, place_here, entry_moves, move_tells, history_noted}
-use Rattle.mesh.proofs.OrderSigns.{Marked, mark_first, marks_of, SignBlock, first_onto, signs_of, with_rest, begun, marks_cut, front, signs_at, signs_from, put_signs, in_order, signs_in, order_signs, in_either, put_out, order_out, signs_out, HasBlock, block_out}
+use Rattle.mesh.proofs.OrderSigns.{Marked, mark_first, marks_of, SignBlock, first_onto, signs_of, with_rest, begun, marks_cut, front, signs_at}
+use Rattle.mesh.proofs.OrderSigns.{signs_from, put_signs, in_order, signs_in, order_signs, in_either, put_out, order_out, signs_out, HasBlock}
+use Rattle.mesh.proofs.OrderSigns.{block_out}
 
 -- ## Keys
 abbrev pub Lower : Key → Key → Type 0
@@ -159,12 +163,15 @@ unfoldable Rises : List Marked → Type 0
 Rises [] = Unit {0}
 Rises (t ∷ ts) = (falls t.sign.entry.move ≡ false → AllAbove t.key ts) × Rises ts
 
-first_known : (m : Mesh) (k : ℕ) (o : Option Entry) (c p : ℕ) (key : Key) (ts : List Marked) → ((e : Entry) → o ≡ Some e → (e.node ≡ k) × (falls e.move ≡ false → Known m k key (sign e c p))) → AllKnown m k ts → AllKnown m k (mark_first o c p key ts)
+first_known : (m : Mesh) (k : ℕ) (o : Option Entry) (c p : ℕ) (key : Key) (ts : List Marked)
+    → ((e : Entry) → o ≡ Some e → (e.node ≡ k) × (falls e.move ≡ false → Known m k key (sign e c p))) → AllKnown m k ts
+    → AllKnown m k (mark_first o c p key ts)
 unfolding AllKnown
 first_known m k None c p key ts f h = h
 first_known m k (Some e) c p key ts f h = (f e refl, h)
 
-first_above : (low : Key) (o : Option Entry) (c p : ℕ) (key : Key) (ts : List Marked) → ((e : Entry) → o ≡ Some e → falls e.move ≡ false → Lower low key) → AllAbove low ts → AllAbove low (mark_first o c p key ts)
+first_above : (low : Key) (o : Option Entry) (c p : ℕ) (key : Key) (ts : List Marked)
+    → ((e : Entry) → o ≡ Some e → falls e.move ≡ false → Lower low key) → AllAbove low ts → AllAbove low (mark_first o c p key ts)
 unfolding AllAbove
 first_above low None c p key ts f h = h
 first_above low (Some e) c p key ts f h = ((λ (off : falls e.move ≡ false). f e refl off), h)
@@ -174,7 +181,8 @@ unfolding Rises
 first_rises None c p key ts f h = h
 first_rises (Some e) c p key ts f h = ((λ (off : falls e.move ≡ false). f e refl off), h)
 
-line_raised : (m : Mesh) (k : ℕ) (past : List HistoryLine) (h : HistoryLine) (cell : Cell) (e : Entry) → h.answer ≡ (cell_takes cell h.ask).answer → entry_here m k past h ≡ Some e → falls e.move ≡ false → CellRaised cell h.ask
+line_raised : (m : Mesh) (k : ℕ) (past : List HistoryLine) (h : HistoryLine) (cell : Cell) (e : Entry) → h.answer ≡ (cell_takes cell h.ask).answer
+    → entry_here m k past h ≡ Some e → falls e.move ≡ false → CellRaised cell h.ask
 line_raised m k past h cell e run is off =
     let muted : Bool = is_muted (line_of_caller m k past h) in
     cell_raised cell h.ask h.caller muted e.move (ap (move_of h.caller muted h.ask) (sym run) ∙ (entry_moves k h muted e is).0) off
@@ -207,7 +215,11 @@ module _ (m : Mesh) (a : Agrees m) (i : ℕ) (in_ : i < m.nodes) where
 
       by : (e < (cell_takes cell h.ask).cell.state.promised) ⊎ ((cell_takes cell h.ask).cell.state.promised ≤ e)
           → Lower (record { promise = e; place = owners_place (owns m c e) (place_of k j 1 (record_of m c)) })
-          (record { promise = (cell_takes cell h.ask).cell.state.promised; place = owners_place (owns m h.caller (cell_takes cell h.ask).cell.state.promised) (place_of k (length (lines_of h.caller past)) 1 (record_of m h.caller)) })
+          (record {
+            promise = (cell_takes cell h.ask).cell.state.promised;
+            place = owners_place (owns m h.caller (cell_takes cell h.ask).cell.state.promised)
+                (place_of k (length (lines_of h.caller past)) 1 (record_of m h.caller));
+          })
       by (inl l) = inl l
       by (inr l) = at (cases_Bool (is_proposal w.request))
         where
@@ -216,13 +228,21 @@ module _ (m : Mesh) (a : Agrees m) (i : ℕ) (in_ : i < m.nodes) where
 
           at : (is_proposal w.request ≡ true) ⊎ (is_proposal w.request ≡ false)
               → Lower (record { promise = e; place = owners_place (owns m c e) (place_of k j 1 (record_of m c)) })
-              (record { promise = (cell_takes cell h.ask).cell.state.promised; place = owners_place (owns m h.caller (cell_takes cell h.ask).cell.state.promised) (place_of k (length (lines_of h.caller past)) 1 (record_of m h.caller)) })
-          at (inl p) = let up : cell.state.promised < w.raised.epoch = w.raised.rises p in let is : (cell_takes cell h.ask).cell.state.promised ≡ w.raised.epoch = w.raised.is in absurd (omega (arith, up, is, low, same))
+              (record {
+                promise = (cell_takes cell h.ask).cell.state.promised;
+                place = owners_place (owns m h.caller (cell_takes cell h.ask).cell.state.promised)
+                    (place_of k (length (lines_of h.caller past)) 1 (record_of m h.caller));
+              })
+          at (inl p) = let up : cell.state.promised < w.raised.epoch =
+              w.raised.rises p in let is : (cell_takes cell h.ask).cell.state.promised ≡ w.raised.epoch =
+              w.raised.is in absurd (omega (arith, up, is, low, same))
           at (inr p) =
-              let owner : owns m h.caller (cell_takes cell h.ask).cell.state.promised ≡ true = ap (owns m h.caller) w.raised.is ∙ own.heads i past after h w.late w.request w.raised.epoch in_ (sym whole) w.asks w.raised.of p in
+              let owner : owns m h.caller (cell_takes cell h.ask).cell.state.promised ≡ true = ap (owns m h.caller) w.raised.is
+              ∙ own.heads i past after h w.late w.request w.raised.epoch in_ (sym whole) w.asks w.raised.of p in
               inr (
                 sym same,
-                place_less c h.caller e (place_of k j 1 (record_of m c)) (place_of k (length (lines_of h.caller past)) 1 (record_of m h.caller)) (owns m h.caller (cell_takes cell h.ask).cell.state.promised) owner
+                place_less c h.caller e (place_of k j 1 (record_of m c)) (place_of k (length (lines_of h.caller past)) 1 (record_of m h.caller))
+                    (owns m h.caller (cell_takes cell h.ask).cell.state.promised) owner
                     (at_least k (length (lines_of h.caller past)) 1 (record_of m h.caller))
                     (λ (mine : owns m c e ≡ true).
                     let one : c ≡ h.caller = own.one c h.caller e mine (ap (owns m h.caller) (sym same) ∙ owner) in
@@ -250,12 +270,15 @@ module _ (m : Mesh) (a : Agrees m) (i : ℕ) (in_ : i < m.nodes) where
   unfolding marks_of IsLocalRun Rises key_of
   marks_rise past [] cell whole run = tt
   marks_rise past (h ∷ hs) cell whole run =
-      first_rises (entry_here m k past h) h.caller (place_here m k past h) (key_of m k (cell_takes cell h.ask).cell.state.promised past h) (marks_of m k (cell_takes cell h.ask).cell (past ++ h ∷ []) hs)
-      (λ x is off. above_after (past ++ h ∷ []) hs (cell_takes cell h.ask).cell h.caller (length (lines_of h.caller past)) (cell_takes cell h.ask).cell.state.promised (append_assoc past (h ∷ []) hs ∙ whole) run.1 (omega arith)
+      first_rises (entry_here m k past h) h.caller (place_here m k past h) (key_of m k (cell_takes cell h.ask).cell.state.promised past h)
+      (marks_of m k (cell_takes cell h.ask).cell (past ++ h ∷ []) hs)
+      (λ x is off. above_after (past ++ h ∷ []) hs (cell_takes cell h.ask).cell h.caller (length (lines_of h.caller past))
+      (cell_takes cell h.ask).cell.state.promised (append_assoc past (h ∷ []) hs ∙ whole) run.1 (omega arith)
       (unfold count_of in omega (arith, count_append h.caller past (h ∷ []), count_self h [])))
       (marks_rise (past ++ h ∷ []) hs (cell_takes cell h.ask).cell (append_assoc past (h ∷ []) hs ∙ whole) run.1)
 
-  mark_known : (past after : List HistoryLine) (h : HistoryLine) (cell : Cell) (e : Entry) → past ++ h ∷ after ≡ history_at m i → h.answer ≡ (cell_takes cell h.ask).answer → entry_here m k past h ≡ Some e → falls e.move ≡ false
+  mark_known : (past after : List HistoryLine) (h : HistoryLine) (cell : Cell) (e : Entry) → past ++ h ∷ after ≡ history_at m i
+      → h.answer ≡ (cell_takes cell h.ask).answer → entry_here m k past h ≡ Some e → falls e.move ≡ false
       → Known m k (key_of m k (cell_takes cell h.ask).cell.state.promised past h) (sign e h.caller (place_here m k past h))
   unfolding key_of
   mark_known past after h cell e whole run is off =
@@ -268,7 +291,8 @@ module _ (m : Mesh) (a : Agrees m) (i : ℕ) (in_ : i < m.nodes) where
         noted = history_noted m i past after h e a in_ whole is off;
         promise = λ x. w.raised.is ∙ epoch_same (sym w.raised.of ∙ ap epoch_of (request_same (sym t.0 ∙ x.asks)) ∙ x.of);
         place = refl;
-        heads = λ x p. ap (owns m h.caller) w.raised.is ∙ own.heads i past after h w.late w.request w.raised.epoch in_ (sym whole) w.asks w.raised.of (ap is_proposal (request_same (sym t.0 ∙ x.asks)) ∙ p);
+        heads = λ x p. ap (owns m h.caller) w.raised.is ∙ own.heads i past after h w.late w.request w.raised.epoch in_ (sym whole) w.asks w.raised.of
+            (ap is_proposal (request_same (sym t.0 ∙ x.asks)) ∙ p);
       }
     where
       request_same : {x y : Request} → Some x ≡ Some y → x ≡ y
@@ -281,7 +305,8 @@ module _ (m : Mesh) (a : Agrees m) (i : ℕ) (in_ : i < m.nodes) where
   unfolding marks_of IsLocalRun AllKnown
   marks_known past [] cell whole run = tt
   marks_known past (h ∷ hs) cell whole run =
-      first_known m k (entry_here m k past h) h.caller (place_here m k past h) (key_of m k (cell_takes cell h.ask).cell.state.promised past h) (marks_of m k (cell_takes cell h.ask).cell (past ++ h ∷ []) hs)
+      first_known m k (entry_here m k past h) h.caller (place_here m k past h) (key_of m k (cell_takes cell h.ask).cell.state.promised past h)
+      (marks_of m k (cell_takes cell h.ask).cell (past ++ h ∷ []) hs)
       (λ x is. ((entry_moves k h (is_muted (line_of_caller m k past h)) x is).1, λ off. mark_known past hs h cell x whole run.0 is off))
       (marks_known (past ++ h ∷ []) hs (cell_takes cell h.ask).cell (append_assoc past (h ∷ []) hs ∙ whole) run.1)
 
@@ -367,7 +392,8 @@ no_first : (k : ℕ) → IsFirst (front k) → ⊥
 no_first k f = cc f.1
 
 node_fits : (m : Mesh) (a : Agrees m) (i : ℕ) → i < m.nodes → (c : SignBlock) → In c (signs_at m (i + 1) (history_at m i)) → Fits m (i + 1) c
-node_fits m a i in_ c j = cut_fits m (i + 1) (marks_of m (i + 1) fresh_cell [] (history_at m i)) (front (i + 1)) (front_fits m (i + 1)) (marks_known m a i in_ [] (history_at m i) fresh_cell refl (a.lists.local i in_)) c j
+node_fits m a i in_ c j = cut_fits m (i + 1) (marks_of m (i + 1) fresh_cell [] (history_at m i)) (front (i + 1)) (front_fits m (i + 1))
+    (marks_known m a i in_ [] (history_at m i) fresh_cell refl (a.lists.local i in_)) c j
 
 from_fits : (m : Mesh) (a : Agrees m) (c : SignBlock) → In c (signs_from m 1 m.histories) → (i : ℕ) × (i < m.nodes) × Fits m (i + 1) c
 from_fits m a c j =
@@ -376,7 +402,8 @@ from_fits m a c j =
     (w.0, in_, node_fits m a w.0 in_ c (subst (λ (x : ℕ). In c (signs_at m x (history_at m w.0))) (omega arith) w.2))
 
 node_ahead : (m : Mesh) (a : Agrees m) (i : ℕ) → i < m.nodes → Pairs Ahead (signs_at m (i + 1) (history_at m i))
-node_ahead m a i in_ = cut_ahead (marks_of m (i + 1) fresh_cell [] (history_at m i)) (front (i + 1)) (λ f. absurd (no_first (i + 1) f)) (marks_rise m a i in_ [] (history_at m i) fresh_cell refl (a.lists.local i in_))
+node_ahead m a i in_ = cut_ahead (marks_of m (i + 1) fresh_cell [] (history_at m i)) (front (i + 1)) (λ f. absurd (no_first (i + 1) f))
+    (marks_rise m a i in_ [] (history_at m i) fresh_cell refl (a.lists.local i in_))
 
 -- each block of a node has its number
 cut_node : (ts : List Marked) (b : SignBlock) (c : SignBlock) → In c (marks_cut b ts) → c.node ≡ b.node
@@ -385,7 +412,8 @@ cut_node [] b c (inl e) = ap (λ (z : SignBlock). z.node) (sym e)
 cut_node [] b c (inr i) = absurd i
 cut_node (t ∷ ts) b c i = by (falls t.sign.entry.move) i (λ j. cut_node ts (with_rest b t.sign) c j) (λ j. cut_node ts (begun b.node t) c j)
   where
-    by : (x : Bool) → In c (cond x (marks_cut (with_rest b t.sign) ts) (b ∷ marks_cut (begun b.node t) ts)) → (In c (marks_cut (with_rest b t.sign) ts) → c.node ≡ b.node) → (In c (marks_cut (begun b.node t) ts) → c.node ≡ b.node) → c.node ≡ b.node
+    by : (x : Bool) → In c (cond x (marks_cut (with_rest b t.sign) ts) (b ∷ marks_cut (begun b.node t) ts))
+        → (In c (marks_cut (with_rest b t.sign) ts) → c.node ≡ b.node) → (In c (marks_cut (begun b.node t) ts) → c.node ≡ b.node) → c.node ≡ b.node
     by true j go on = go j
     by false (inl e) go on = ap (λ (z : SignBlock). z.node) (sym e)
     by false (inr j) go on = on j

@@ -1,9 +1,10 @@
--- The epoch order of a mesh that agrees is a run, and so a safe one; so is any order that keeps what stands in order.
+-- The epoch order of a mesh that agrees is a run, and so a safe one; so is any order that keeps
+-- what stands in order.
 use Rattle.std.proofs.Common.{◌≡◌, ℕ, ◌+◌, ◌<◌, ◌≤◌, ◌⊎◌, inl, inr, List, [], ◌∷◌, false, reverse, refl, sym, ap, ◌∙◌, subst, arith}
-use Rattle.node_history.specs.Entries.{node_after}
+use Rattle.journal_history.specs.Entries.{node_after}
 use Rattle.run_safety.specs.Run.{Story, IsRun}
 use Rattle.run_safety.specs.Safe.{IsSafe}
-use Rattle.node_history.specs.Moving.{moving_of, falls}
+use Rattle.journal_history.specs.Moving.{moving_of, falls}
 use Rattle.run_safety.proofs.Safety.{run_safe}
 use Rattle.run_safety.proofs.Tales.{Tale}
 use Rattle.mesh.specs.declared.whole.Mesh.{Mesh}
@@ -28,8 +29,8 @@ all_within n [] h = tt
 all_within n (s ∷ ss) h = let w = h s (inl refl) in (w.0, w.1, all_within n ss (λ t i. h t (inr i)))
 
 -- ## Any order of the entries of a mesh
--- An order of the moving entries of all nodes, oldest first: it keeps the order of each node, and that of each caller's entries under one
--- epoch, but for proposals, which may stand by node.
+-- An order of the moving entries of all nodes, oldest first: it keeps the order of each node, and
+-- that of each caller's entries under one epoch, but for proposals, which may stand by node.
 pub record Arranged (m : Mesh) (ss : List Sign) : Type 0 where
   pub noted : (s : Sign) → In s ss → falls s.entry.move ≡ false → In s (all_signs m (operator_of m))
   pub all : (s : Sign) → In s (all_signs m (operator_of m)) → In s ss

@@ -1,9 +1,10 @@
 -- The epoch order with the caller and the place of each entry.
-use Rattle.std.proofs.Common.{◌≡◌, ℕ, zero, suc, ◌+◌, ◌<◌, ◌⊎◌, inl, inr, List, [], ◌∷◌, ◌++◌, Bool, true, false, cond, length, map, get_or, refl, sym, ap, ◌∙◌, subst, arith, append_assoc, Option, Some, None}
-use Rattle.node_history.specs.declared.history_line.HistoryLine.{HistoryLine}
-use Rattle.node_history.specs.Cell.{Cell, cell_takes, fresh_cell}
-use Rattle.node_history.specs.Entries.{Entry}
-use Rattle.node_history.specs.Moving.{falls}
+use Rattle.std.proofs.Common.{◌≡◌, ℕ, zero, suc, ◌+◌, ◌<◌, ◌⊎◌, inl, inr, List, [], ◌∷◌, ◌++◌, Bool, true, false, cond, length, map, get_or, refl}
+use Rattle.std.proofs.Common.{sym, ap, ◌∙◌, subst, arith, append_assoc, Option, Some, None}
+use Rattle.journal_history.specs.declared.history_line.HistoryLine.{HistoryLine}
+use Rattle.journal_history.specs.Cell.{Cell, cell_takes, fresh_cell}
+use Rattle.journal_history.specs.Entries.{Entry}
+use Rattle.journal_history.specs.Moving.{falls}
 use Rattle.mesh.specs.declared.whole.Mesh.{Mesh}
 use Rattle.mesh.specs.Order.{Key, key_of, is_below, Tagged, tag_first, tags_of, Block, block_of, with_fall, blocks_cut, front_block, blocks_at, blocks_from, put_block, sorted, entries_in, epoch_order}
 use Rattle.mesh.proofs.Lists.{append_none}
@@ -110,7 +111,8 @@ unfolding marks_cut blocks_cut
 cut_strip [] b = refl
 cut_strip (t ∷ ts) b = by (falls t.sign.entry.move) (cut_strip ts (with_rest b t.sign)) (cut_strip ts (begun b.node t))
   where
-    by : (f : Bool) → map strip (marks_cut (with_rest b t.sign) ts) ≡ blocks_cut (strip (with_rest b t.sign)) (map tag ts) → map strip (marks_cut (begun b.node t) ts) ≡ blocks_cut (strip (begun b.node t)) (map tag ts)
+    by : (f : Bool) → map strip (marks_cut (with_rest b t.sign) ts) ≡ blocks_cut (strip (with_rest b t.sign)) (map tag ts)
+        → map strip (marks_cut (begun b.node t) ts) ≡ blocks_cut (strip (begun b.node t)) (map tag ts)
         → map strip (cond f (marks_cut (with_rest b t.sign) ts) (b ∷ marks_cut (begun b.node t) ts))
         ≡ cond f (blocks_cut (with_fall (strip b) t.sign.entry) (map tag ts)) (strip b ∷ blocks_cut (block_of b.node (tag t)) (map tag ts))
     by true h g = h ∙ ap (λ (x : Block). blocks_cut x (map tag ts)) (fall_strip b t.sign)
@@ -279,8 +281,10 @@ mark_in m k cell past (x ∷ xs) h after e is =
     let next : (past ++ x ∷ []) ++ xs ≡ past ++ x ∷ xs = append_assoc past (x ∷ []) xs in
     let w = mark_in m k (cell_takes cell x.ask).cell (past ++ x ∷ []) xs h after e (subst (λ (l : List HistoryLine). entry_here m k l h ≡ Some e) (sym next) is) in (
       w.0,
-      first_mark_in (entry_here m k past x) x.caller (place_here m k past x) (key_of m k (cell_takes cell x.ask).cell.state.promised past x) (marks_of m k (cell_takes cell x.ask).cell (past ++ x ∷ []) (xs ++ h ∷ after)) _
-          (subst (λ (l : List HistoryLine). In (record { sign = sign e h.caller (place_here m k l h); key = w.0 }) (marks_of m k (cell_takes cell x.ask).cell (past ++ x ∷ []) (xs ++ h ∷ after))) next w.1),
+      first_mark_in (entry_here m k past x) x.caller (place_here m k past x) (key_of m k (cell_takes cell x.ask).cell.state.promised past x)
+          (marks_of m k (cell_takes cell x.ask).cell (past ++ x ∷ []) (xs ++ h ∷ after)) _
+          (subst (λ (l : List HistoryLine). In (record { sign = sign e h.caller (place_here m k l h); key = w.0 })
+          (marks_of m k (cell_takes cell x.ask).cell (past ++ x ∷ []) (xs ++ h ∷ after))) next w.1),
     )
 
 pub block_in : (m : Mesh) (k i : ℕ) (hss : List (List HistoryLine)) (b : SignBlock) → i < length hss → In b (signs_at m (k + i) (get_or hss i [])) → In b (signs_from m k hss)

@@ -2,10 +2,10 @@
 use Rattle.std.proofs.Common.{◌≡◌, ◌≢◌, ℕ, ◌+◌, ◌-◌, ◌<◌, ◌≤◌, ◌==◌, inl, inr, List, [], ◌∷◌, ◌++◌, Bool, refl, sym, ap, ◌∙◌, subst, arith, Option, Some, None}
 use Rattle.std.specs.Prelude.{filter_map}
 use Rattle.journal_core.specs.declared.node_state.NodeState.{NodeState}
-use Rattle.node_history.specs.declared.history_line.HistoryLine.{HistoryLine}
-use Rattle.node_history.specs.Cell.{Cell, cell_takes, fresh_cell, IsLocalRun}
-use Rattle.node_history.specs.Entries.{Move, Entry, after_move, node_after}
-use Rattle.node_history.specs.Moving.{Placed, move_of, entry_at, entry_of, moving_of}
+use Rattle.journal_history.specs.declared.history_line.HistoryLine.{HistoryLine}
+use Rattle.journal_history.specs.Cell.{Cell, cell_takes, fresh_cell, IsLocalRun}
+use Rattle.journal_history.specs.Entries.{Move, Entry, after_move, node_after}
+use Rattle.journal_history.specs.Moving.{Placed, move_of, entry_at, entry_of, moving_of}
 use Rattle.run_safety.proofs.Entering.{Did, still, gone, line_did}
 use Rattle.mesh.specs.declared.whole.Mesh.{Mesh}
 use Rattle.mesh.specs.Agree.{Agrees, history_at}
@@ -88,7 +88,9 @@ sounds_on n (e ∷ es) past w s h = sounds_on n es (e ∷ past) w.2 (here, s) (�
     next : (i : ℕ) → i < n → Alike e.node (i + 1) → SoundFrom (node_after (i + 1) (e ∷ past)) (entries_at (i + 1) es)
     next i l (inl f) =
         subst (λ (k : ℕ). SoundFrom (node_after k (e ∷ past)) (entries_at k es)) f.1
-        (subst (λ (z : NodeState). SoundFrom z (entries_at e.node es)) (sym (cond_true (e.node == e.node) (after_move (node_after e.node past) e.move) (node_after e.node past) (same_test e.node e.node refl))) first.2)
+        (subst (λ (z : NodeState). SoundFrom z (entries_at e.node es))
+        (sym (cond_true (e.node == e.node) (after_move (node_after e.node past) e.move) (node_after e.node past) (same_test e.node e.node refl)))
+        first.2)
     next i l (inr f) =
         subst (λ (z : NodeState). SoundFrom z (entries_at (i + 1) es)) (sym (cond_false (e.node == i + 1) (after_move (node_after (i + 1) past) e.move) (node_after (i + 1) past) f.0))
         (subst (SoundFrom (node_after (i + 1) past)) (cond_false (e.node == i + 1) (e ∷ entries_at (i + 1) es) (entries_at (i + 1) es) f.0) (h i l))

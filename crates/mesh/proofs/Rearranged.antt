@@ -1,21 +1,22 @@
--- Fair entries that are put in another order stay fair, where the entries of one caller under one epoch keep their order, but for its proposals,
--- which may stand by number of their node.
+-- Fair entries that are put in another order stay fair, where the entries of one caller under one
+-- epoch keep their order, but for its proposals, which may stand by number of their node.
 use Rattle.std.proofs.Common.{◌≡◌, ℕ, zero, suc, ◌<◌, ◌≤◌, ◌==◌, ◌⊎◌, inl, inr, List, [], ◌∷◌, Bool, true, false, cond, length, refl, sym, ap, ◌∙◌, subst, arith, Some}
 use Rattle.std.specs.List.{list_all}
 use Rattle.journal_core.specs.declared.request.Request.{Request}
 use Rattle.journal_core.specs.declared.reply.Reply.{Reply}
 use Rattle.writer_core.specs.Whole.{Takeover, writer_at}
-use Rattle.node_history.specs.Entries.{Way, Heard, Muted, Late, Move, Answer, Stop, Kill, Restart, Entry}
+use Rattle.journal_history.specs.Entries.{Way, Heard, Muted, Late, Move, Answer, Stop, Kill, Restart, Entry}
 use Rattle.run_safety.specs.Run.{Story, takeover_at, WasHeard, may_follow, IsMade, IsInTurn, IsInOrder, IsHeardAs, IsCall}
-use Rattle.node_history.specs.Moving.{epoch_of, is_proposal, falls}
-use Rattle.run_safety.proofs.SeenLaws.{Round, Propose, Ask, Get, Recover, Seal, Open, Write, Clean, Other, seen, asked}
+use Rattle.journal_history.specs.Moving.{epoch_of, is_proposal, falls}
+use Rattle.run_safety.proofs.SeenLaws.{Round, Propose, Ask, Get, Recover, Finalizing, Open, Write, Clean, Other, seen, asked}
 use Rattle.run_safety.proofs.Sent.{made_at, made_asks}
 use Rattle.run_safety.proofs.Before.{proposal_first}
 use Rattle.mesh.proofs.Lists.{same_test, other_test}
 use Rattle.mesh.proofs.Shared.{In}
 use Rattle.run_safety.proofs.Fair.{IsFair, IsFairEntry, Fairs}
 use Rattle.mesh.proofs.Signs.{Sign, entries}
-use Rattle.mesh.proofs.SignLists.{Older, here, there, older_trans, older_in, in_older, in_earlier, older_tail, older_length, older_entries, SignOf, sign_of, apart, IsUnder, Falling, all_under_in, falling_at, rank, rank_at, requests, caller_of, Signed}
+use Rattle.mesh.proofs.SignLists.{Older, here, there, older_trans, older_in, in_older, in_earlier, older_tail, older_length, older_entries, SignOf}
+use Rattle.mesh.proofs.SignLists.{sign_of, apart, IsUnder, Falling, all_under_in, falling_at, rank, rank_at, requests, caller_of, Signed}
 
 -- ## The call of an entry that did more than fall
 pub record FairCall (n : ℕ) (story : Story) (past : List Entry) (node : ℕ) (move : Move) : Type 0 where
@@ -43,7 +44,7 @@ asked_epoch e s c Propose x h = cc h
 asked_epoch e s c (Ask m) x h = cc h
 asked_epoch e s c (Get node m end bodies) x h = cc h
 asked_epoch e s c (Recover b) x h = cc h
-asked_epoch e s c (Seal m l) x h = cc h
+asked_epoch e s c (Finalizing m l) x h = cc h
 asked_epoch e s c (Open m) x h = cc h
 asked_epoch e s c (Write m b) x h = cc h
 asked_epoch e s c (Clean l) x h = cc h
@@ -54,7 +55,7 @@ asked_proposal e s c Propose h = refl
 asked_proposal e s c (Ask m) h = absurd (cc h)
 asked_proposal e s c (Get node m end bodies) h = absurd (cc h)
 asked_proposal e s c (Recover b) h = absurd (cc h)
-asked_proposal e s c (Seal m l) h = absurd (cc h)
+asked_proposal e s c (Finalizing m l) h = absurd (cc h)
 asked_proposal e s c (Open m) h = absurd (cc h)
 asked_proposal e s c (Write m b) h = absurd (cc h)
 asked_proposal e s c (Clean l) h = absurd (cc h)
@@ -218,7 +219,12 @@ module _ (n : ℕ) (story : Story) (first ss : List Sign) (fairs : Fairs n story
               entries w.0,
               u.entry,
               older_entries w.1,
-              (whose_is u w.0 x.0 ∙ whose_at w.0 q, round_is u w.0 x.0 ∙ ap story.round x.1 ∙ h.3.1, ap (λ (e : Entry). e.node) so.entry ∙ h.3.2, (h.3.3.0, h.3.3.1, ap (λ (e : Entry). e.move) so.entry ∙ h.3.3.2)),
+              (
+                whose_is u w.0 x.0 ∙ whose_at w.0 q,
+                round_is u w.0 x.0 ∙ ap story.round x.1 ∙ h.3.1,
+                ap (λ (e : Entry). e.node) so.entry ∙ h.3.2,
+                (h.3.3.0, h.3.3.1, ap (λ (e : Entry). e.move) so.entry ∙ h.3.3.2),
+              ),
             )
         by (inl (inr e)) =
             let less : u.place < t.place = lower (ap (λ (z : Sign). z.caller) e) in
@@ -233,7 +239,8 @@ module _ (n : ℕ) (story : Story) (first ss : List Sign) (fairs : Fairs n story
             after (inl l) = let less : u.place < t.place = lower (sym back.caller) in absurd (omega (arith, l, less))
             after (inr g) = let zero_round : story.round (length (entries b.rest)) ≡ 0 = first_round t old b g.0 in absurd (omega (arith, zero_round, lt))
 
-    made_moves : (t : Sign) (old : List Sign) → Older (t ∷ old) ss → (b : Both t old) → (caller : ℕ) (r : Request) → IsMade n story (entries b.rest) caller t.entry.node r → IsMade n new (entries old) caller t.entry.node r
+    made_moves : (t : Sign) (old : List Sign) → Older (t ∷ old) ss → (b : Both t old) → (caller : ℕ) (r : Request)
+        → IsMade n story (entries b.rest) caller t.entry.node r → IsMade n new (entries old) caller t.entry.node r
     made_moves t old p b caller r m =
         let same : takeover_at new (entries old) ≡ takeover_at story (entries b.rest) = takeover_is t old b in
         let round : new.round (length (entries old)) ≡ story.round (length (entries b.rest)) = round_is t old b in
@@ -292,7 +299,8 @@ module _ (n : ℕ) (story : Story) (first ss : List Sign) (fairs : Fairs n story
             stand (inl (inr f)) = let same_place : u.place ≡ t.place = ap (λ (z : Sign). z.place) f in absurd (omega (arith, same_place, l))
             stand (inr w) = no (all_under_in u.caller u.place w.0 t (falling_at falling w.1) w.2)
               where
-                no : IsUnder u.caller u.place t → (new.round (length older) < new.round (length (entries old))) ⊎ ((new.round (length older) ≡ new.round (length (entries old))) × (e.node < t.entry.node))
+                no : IsUnder u.caller u.place t → (new.round (length older) < new.round (length (entries old)))
+                    ⊎ ((new.round (length older) ≡ new.round (length (entries old))) × (e.node < t.entry.node))
                 no (inl g) = let one : u.caller ≡ t.caller = rival.caller in absurd (omega (arith, one, g))
                 no (inr g) = absurd (omega (arith, l, g.1))
             stand (inl (inl i)) =
@@ -301,12 +309,15 @@ module _ (n : ℕ) (story : Story) (first ss : List Sign) (fairs : Fairs n story
                 let mark_round : story.round (length (entries w.0)) ≡ story.round (length (entries x.rest)) = ap story.round mark in
                 at mark_round (order (entries w.0) u.entry (older_entries w.1) (ap story.whose mark ∙ whose_same) turn_u)
               where
-                at : {y : ℕ} → story.round y ≡ story.round (length (entries x.rest)) → (story.round y < story.round (length (entries b.rest))) ⊎ ((story.round y ≡ story.round (length (entries b.rest))) × (u.entry.node < t.entry.node))
+                at : {y : ℕ} → story.round y ≡ story.round (length (entries x.rest))
+                    → (story.round y < story.round (length (entries b.rest)))
+                    ⊎ ((story.round y ≡ story.round (length (entries b.rest))) × (u.entry.node < t.entry.node))
                     → (new.round (length older) < new.round (length (entries old))) ⊎ ((new.round (length older) ≡ new.round (length (entries old))) × (e.node < t.entry.node))
                 at f (inl g) = inl (omega (arith, f, g, round_u, round_t))
                 at f (inr g) = inr (round_u ∙ sym f ∙ g.0 ∙ sym round_t, omega (arith, g.1, node_u))
 
-    call_moves : (t : Sign) (old : List Sign) → Older (t ∷ old) ss → (b : Both t old) → (caller : ℕ) (r : Request) (move : Move) → IsCall n story (entries b.rest) caller t.entry.node r move → IsCall n new (entries old) caller t.entry.node r move
+    call_moves : (t : Sign) (old : List Sign) → Older (t ∷ old) ss → (b : Both t old) → (caller : ℕ) (r : Request) (move : Move)
+        → IsCall n story (entries b.rest) caller t.entry.node r move → IsCall n new (entries old) caller t.entry.node r move
     call_moves t old p b caller r move c = record { made = made_moves t old p b caller r c.made; in_order = λ turn. order_moves t old p b (c.in_order turn) }
 
     heard_as_moves : (t : Sign) (old : List Sign) (b : Both t old) (node : ℕ) (reply : Reply) (way : Way) → IsHeardAs story (entries b.rest) node reply way → IsHeardAs new (entries old) node reply way

@@ -1,4 +1,5 @@
--- Who sends a request with a head has had its proposals of that epoch promised by more than half of the nodes.
+-- Who sends a request with a head has had its proposals of that epoch promised by more than half of
+-- the nodes.
 use Rattle.std.proofs.Common.{◌≡◌, ℕ, ◌+◌, ◌-◌, ◌*◌, ◌<◌, List, [], ◌∷◌, ◌++◌, Bool, true, false, cond, refl, sym, ap, ◌∙◌, subst, arith, length, length-set, append_assoc, ◌⊎◌, inl, inr}
 use Rattle.std.specs.Prelude.{Option, Some, None, ◌==◌, ◌||◌, nat_lt, count_by}
 use Rattle.std.proofs.lemmas.Bool.{lt-ltb, or_left, or_right}
@@ -20,10 +21,10 @@ use Rattle.writer_core.specs.Rounds.{request_in}
 use Rattle.writer_core.specs.Writer.{new_writer, Began, HasBody, writer_begun, log_begins, log_limit, is_writing, is_under_way, if_writing, next_call, node_in, writer_heard, with_answer}
 use Rattle.writer_core.specs.Left.{IsLive}
 use Rattle.writer_core.proofs.LiveLaws.{heard_live, begun_live, new_live}
-use Rattle.node_history.specs.declared.record.Record.{Record}
-use Rattle.node_history.specs.declared.record.Record.TheVariants.{Call, Late, Operator, Outcome}
-use Rattle.node_history.specs.declared.record.Told.{Told as TellsOf}
-use Rattle.node_history.specs.Moving.{epoch_of, is_proposal}
+use Rattle.journal_history.specs.declared.record.Record.{Record}
+use Rattle.journal_history.specs.declared.record.Record.TheVariants.{Call, Late, Operator, Outcome}
+use Rattle.journal_history.specs.declared.record.Told.{Told as TellsOf}
+use Rattle.journal_history.specs.Moving.{epoch_of, is_proposal}
 use Rattle.mesh.specs.Makers.{heard_of, Maker, maker_of, maker_hears, IsMade, IsOfChores}
 use Rattle.mesh.specs.Owners.{proposes, promised_to, wins}
 use Rattle.mesh.proofs.Lists.{same_test}
@@ -148,7 +149,8 @@ module _ (n : ℕ) where
   told_count : (w : WriterView) (k : ℕ) (t : TellsOf) → Waiter w.slots k → promises (with_answer w k (heard_of t)).slots ≡ cond (promised_to t) (promises w.slots + 1) (promises w.slots)
   told_count w k t x = count_set (is_ok round.Propose) w.slots (k - 1) Waiting (Told (heard_of t)) (omega (arith, x.low, x.high)) (ap (is_ok round.Propose) x.waits)
 
-  proposed : (w : WriterView) (xs : List Record) (k : ℕ) (q : Request) (t : TellsOf) → Waiter w.slots k → q ≡ request.NewEpoch w.epoch → Counts w.epoch (promises w.slots) xs → Counts w.epoch (promises (with_answer w k (heard_of t)).slots) (xs ++ Call k q t ∷ [])
+  proposed : (w : WriterView) (xs : List Record) (k : ℕ) (q : Request) (t : TellsOf) → Waiter w.slots k → q ≡ request.NewEpoch w.epoch
+      → Counts w.epoch (promises w.slots) xs → Counts w.epoch (promises (with_answer w k (heard_of t)).slots) (xs ++ Call k q t ∷ [])
   proposed w xs k q t x asks h =
       subst (λ (c : ℕ). Counts w.epoch c (xs ++ Call k q t ∷ [])) (sym (told_count w k t x))
       (subst (λ (p : Request). Counts w.epoch (cond (promised_to t) (promises w.slots + 1) (promises w.slots)) (xs ++ Call k p t ∷ [])) (sym asks) (counts_one w.epoch (promises w.slots) k t xs h))
@@ -175,7 +177,8 @@ module _ (n : ℕ) where
       let long : length (with_answer w k h).slots ≡ n = length-set w.slots (k - 1) (Told h) ∙ s.slots in
       grind (arith, nat_tests, e, long)
 
-  next_owns : (w : WriterView) (xs : List Record) (k : ℕ) (q : Request) (t : TellsOf) (v : WriterView) → CallAt w k q → Sized n w → OwnsIn w.phase w.epoch (promises w.slots) xs → Next w k (heard_of t) v
+  next_owns : (w : WriterView) (xs : List Record) (k : ℕ) (q : Request) (t : TellsOf) (v : WriterView) → CallAt w k q → Sized n w
+      → OwnsIn w.phase w.epoch (promises w.slots) xs → Next w k (heard_of t) v
       → OwnsIn v.phase v.epoch (promises v.slots) (xs ++ Call k q t ∷ [])
   next_owns w xs k q t _ at s h (Stays r p) =
       subst (λ (x : Phase). OwnsIn x w.epoch (promises (with_answer w k (heard_of t)).slots) (xs ++ Call k q t ∷ [])) (sym p)
@@ -224,10 +227,12 @@ module _ (n : ℕ) where
   if_owns true x w xs h g = g refl
   if_owns false x w xs h g = h
 
-  begun_owns : (t : Task) (w : WriterView) (xs : List Record) → OwnsIn w.phase w.epoch (promises w.slots) xs → OwnsIn (writer_begun w t).writer.phase (writer_begun w t).writer.epoch (promises (writer_begun w t).writer.slots) xs
+  begun_owns : (t : Task) (w : WriterView) (xs : List Record) → OwnsIn w.phase w.epoch (promises w.slots) xs
+      → OwnsIn (writer_begun w t).writer.phase (writer_begun w t).writer.epoch (promises (writer_begun w t).writer.slots) xs
   unfolding writer_begun
   begun_owns task.Takeover w xs h = tt
-  begun_owns (task.Log bodies) w xs h = if_owns (is_writing w.phase) (log_begins (log_limit w bodies) bodies w) w xs h (λ is. log_owns (log_limit w bodies) bodies w xs h (writing_owned w.phase w.epoch (promises w.slots) xs is h))
+  begun_owns (task.Log bodies) w xs h = if_owns (is_writing w.phase) (log_begins (log_limit w bodies) bodies w) w xs h
+      (λ is. log_owns (log_limit w bodies) bodies w xs h (writing_owned w.phase w.epoch (promises w.slots) xs is h))
   begun_owns task.Roll w xs h = if_owns (is_writing w.phase) _ w xs h (λ is. writing_owned w.phase w.epoch (promises w.slots) xs is h)
   begun_owns task.Close w xs h = if_owns (is_writing w.phase) _ w xs h (λ is. writing_owned w.phase w.epoch (promises w.slots) xs is h)
   begun_owns (task.Purge min) w xs h = if_owns (is_writing w.phase) _ w xs h (λ is. writing_owned w.phase w.epoch (promises w.slots) xs is h)
@@ -236,7 +241,8 @@ module _ (n : ℕ) where
   task_owns xs w t b h = record { sized = begun_sized n w t h.sized; live = begun_live w t h.live; owns = begun_owns t w xs h.owns }
 
   -- ## A call with a head
-  asked_owned : (r : Round) (w : WriterView) (xs : List Record) (e : ℕ) → OwnsIn (phase.InRound r) w.epoch (promises w.slots) xs → epoch_of (request_in w r) ≡ Some e → is_proposal (request_in w r) ≡ false → Owned e xs
+  asked_owned : (r : Round) (w : WriterView) (xs : List Record) (e : ℕ) → OwnsIn (phase.InRound r) w.epoch (promises w.slots) xs
+      → epoch_of (request_in w r) ≡ Some e → is_proposal (request_in w r) ≡ false → Owned e xs
   unfolding epoch_of
   asked_owned round.State w xs e h i p = absurd (cc i)
   asked_owned round.Propose w xs e h i p = absurd (cc p)
@@ -252,7 +258,8 @@ module _ (n : ℕ) where
   call_owned : (w : WriterView) (xs : List Record) (k : ℕ) (q : Request) (e : ℕ) → Owns xs w → next_call w ≡ Some (k, q) → epoch_of q ≡ Some e → is_proposal q ≡ false → Owned e xs
   call_owned w xs k q e h c i p =
       let at : CallAt w k q = call_at w k q c in
-      asked_owned at.round w xs e (subst (λ (x : Phase). OwnsIn x w.epoch (promises w.slots) xs) at.phase h.owns) (subst (λ (z : Request). epoch_of z ≡ Some e) at.asks i) (subst (λ (z : Request). is_proposal z ≡ false) at.asks p)
+      asked_owned at.round w xs e (subst (λ (x : Phase). OwnsIn x w.epoch (promises w.slots) xs) at.phase h.owns)
+      (subst (λ (z : Request). epoch_of z ≡ Some e) at.asks i) (subst (λ (z : Request). is_proposal z ≡ false) at.asks p)
 
   skip_in : (p : Phase) (e c : ℕ) (xs : List Record) (r : Record) → ((e c : ℕ) (ys : List Record) → wins n e c (r ∷ ys) ≡ wins n e c ys) → OwnsIn p e c xs → OwnsIn p e c (xs ++ r ∷ [])
   skip_in (phase.InRound round.State) e c xs r skip h = tt
@@ -303,7 +310,8 @@ module _ (n : ℕ) where
   made_owns m xs (Call k x t ∷ rs) e q h d (inr s) i p =
       subst (λ (l : List Record). wins n e 0 l ≡ true) (append_assoc xs (Call k x t ∷ []) rs)
       (made_owns (maker_hears m k t) (xs ++ Call k x t ∷ []) rs e q
-      (hears_stands Owns task_owns (xs ++ Call k x t ∷ []) m k x t h.bodies h.rests d.0 (λ c. heard_owns m.writer xs k x t c h.writer) (λ from is none. rests_owns xs (Call k x t) m.writer none h.writer))
+      (hears_stands Owns task_owns (xs ++ Call k x t ∷ []) m k x t h.bodies h.rests d.0 (λ c. heard_owns m.writer xs k x t c h.writer)
+      (λ from is none. rests_owns xs (Call k x t) m.writer none h.writer))
       d.1 s i p)
   made_owns m xs (Late k x ∷ rs) e q h d s i p =
       subst (λ (l : List Record). wins n e 0 l ≡ true) (append_assoc xs (Late k x ∷ []) rs)

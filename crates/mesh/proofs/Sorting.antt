@@ -1,4 +1,5 @@
--- Putting blocks in order keeps the order of those that already stood in order among themselves, as the blocks of one node do.
+-- Putting blocks in order keeps the order of those that already stood in order among themselves, as
+-- the blocks of one node do.
 use Rattle.std.proofs.Common.{◌≡◌, List, [], ◌∷◌, Bool, true, false, cond, filter, refl, ap, ◌∙◌}
 use Rattle.mesh.specs.Order.{Block, is_below, put_block, sorted}
 use Rattle.mesh.specs.Sorted.{NoneBelow, InOrder}
@@ -23,7 +24,8 @@ module _ (test : Block → Bool) where
   put_filter b (c ∷ cs) h = in_by b c cs (is_below c.key b.key) (test b) (test c) refl refl (λ x y. (h x).0 y) (put_filter b cs (λ x. (h x).1))
 
   -- a block that goes into a list of which it is none below
-  none_put_by : (a b c : Block) (cs : List Block) (below : Bool) → (test b ≡ true → is_below b.key a.key ≡ false) → (test c ≡ true → is_below c.key a.key ≡ false) → NoneBelow test a cs → NoneBelow test a (put_block b cs)
+  none_put_by : (a b c : Block) (cs : List Block) (below : Bool) → (test b ≡ true → is_below b.key a.key ≡ false)
+      → (test c ≡ true → is_below c.key a.key ≡ false) → NoneBelow test a cs → NoneBelow test a (put_block b cs)
       → NoneBelow test a (cond below (c ∷ put_block b cs) (b ∷ c ∷ cs))
   unfolding NoneBelow
   none_put_by a b c cs true hb hc h g = (hc, g)

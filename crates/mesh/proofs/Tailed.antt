@@ -10,8 +10,8 @@ use Rattle.writer_core.specs.declared.task.Task.TheVariants as task
 use Rattle.writer_core.specs.Best.{best_from, greatest_promise, greatest_newest}
 use Rattle.writer_core.specs.Rounds.{judgment, after_fetch}
 use Rattle.writer_core.specs.Writer.{log_limit, writer_begun, writer_heard}
-use Rattle.node_history.specs.Cell.{cell_takes, fresh_cell, IsLocalRun}
-use Rattle.node_history.specs.Moving.{epoch_of, moves, move_of, entry_of, moving_of}
+use Rattle.journal_history.specs.Cell.{cell_takes, fresh_cell, IsLocalRun}
+use Rattle.journal_history.specs.Moving.{epoch_of, moves, move_of, entry_of, moving_of}
 use Rattle.mesh.specs.Marks.{IsMarked, AreCopied}
 use Rattle.mesh.specs.Makers.{Writes, Tails, maker_of, maker_hears, HaveBodies, IsMade, IsOfChores, IsOperators}
 use Rattle.mesh.specs.Matches.{reaches, reached, lines_of, IsSame, AreSame, AreWithin, CallersWithin}
@@ -23,7 +23,9 @@ use Rattle.mesh.proofs.Lists.{contains_none}
 use Rattle.mesh.proofs.Crossed.{unmarked}
 
 pub tailed_epochs : epoch_order tailed ≡ tailed_order
-unfolding find_segment put_segment remove_segment newest limit_of after_effects serving last_below least_served edits_from node_step effects_of standing cell_takes epoch_of moves move_of entry_of moving_of reaches reached lines_of wins owns placed_from place_of key_of is_below tags_of blocks_cut blocks_from put_block sorted entries_in epoch_order tailed tailed_order
+unfolding find_segment put_segment remove_segment newest limit_of after_effects serving last_below least_served edits_from node_step effects_of
+    standing cell_takes epoch_of moves move_of entry_of moving_of reaches reached lines_of wins owns placed_from place_of key_of is_below tags_of
+    blocks_cut blocks_from put_block sorted entries_in epoch_order tailed tailed_order
 tailed_epochs = refl
 
 local_of : (i : ℕ) → i < 1 → IsLocalRun fresh_cell (history_at tailed i)

@@ -1,10 +1,10 @@
 -- A caller's record and a node's history, when either or both get one line more.
 use Rattle.std.proofs.Common.{◌≡◌, ℕ, ◌≤◌, List, [], ◌∷◌, ◌++◌, Bool, true, false, cond, filter, map, Contains, refl, sym, ap, ◌∙◌, subst, inl, inr}
 use Rattle.std.specs.Prelude.{◌≢◌, ◌==◌}
-use Rattle.node_history.specs.declared.history_line.HistoryLine.{HistoryLine}
-use Rattle.node_history.specs.declared.record.Record.{Record}
-use Rattle.node_history.specs.Cell.{Cell, cell_takes, IsLocalRun, cell_after}
-use Rattle.node_history.specs.Moving.{Placed}
+use Rattle.journal_history.specs.declared.history_line.HistoryLine.{HistoryLine}
+use Rattle.journal_history.specs.declared.record.Record.{Record}
+use Rattle.journal_history.specs.Cell.{Cell, cell_takes, IsLocalRun, cell_after}
+use Rattle.journal_history.specs.Moving.{Placed}
 use Rattle.mesh.specs.Matches.{reaches, reached, lines_of, IsSame, AreSame, CallersWithin}
 use Rattle.mesh.specs.Traces.{history_of}
 use Rattle.mesh.proofs.Lists.{filter_snoc, cond_true, cond_false, Alike, alike, same_test, other_test, contains_head, contains_tail}
@@ -80,7 +80,8 @@ others k c rs t x e h = by (alike x.node k)
     by (inr g) = along _ _ _ _ refl (ap (lines_of c) (history_off k t x g.1)) h
 
 -- a line of this caller, at this node or at another
-pub both : (k c : ℕ) (rs : List Record) (r : Record) (t : List Placed) (x : Placed) → x.line.caller ≡ c → reaches k r ≡ (x.node == k) → IsSame r x.line → Tied k c rs t → Tied k c (rs ++ r ∷ []) (t ++ x ∷ [])
+pub both : (k c : ℕ) (rs : List Record) (r : Record) (t : List Placed) (x : Placed) → x.line.caller ≡ c → reaches k r ≡ (x.node == k)
+    → IsSame r x.line → Tied k c rs t → Tied k c (rs ++ r ∷ []) (t ++ x ∷ [])
 unfolding Tied Alike
 both k c rs r t x e f s h = by (alike x.node k)
   where

@@ -1,9 +1,10 @@
 -- Where one order of all lines fits all lists of a mesh that agrees, its moving entries are a run.
-use Rattle.std.proofs.Common.{◌≡◌, ℕ, ◌+◌, ◌-◌, ◌<◌, ◌≤◌, ◌==◌, inl, inr, List, [], ◌∷◌, ◌++◌, Bool, true, false, cond, filter, map, Contains, length, refl, sym, ap, ◌∙◌, subst, arith, append_assoc, length-append, Option, Some, None}
+use Rattle.std.proofs.Common.{◌≡◌, ℕ, ◌+◌, ◌-◌, ◌<◌, ◌≤◌, ◌==◌, inl, inr, List, [], ◌∷◌, ◌++◌, Bool, true, false, cond, filter, map, Contains, length}
+use Rattle.std.proofs.Common.{refl, sym, ap, ◌∙◌, subst, arith, append_assoc, length-append, Option, Some, None}
 use Rattle.std.specs.Prelude.{filter_map, ◌≢◌}
-use Rattle.node_history.specs.declared.history_line.HistoryLine.{HistoryLine}
-use Rattle.node_history.specs.Entries.{Entry}
-use Rattle.node_history.specs.Moving.{Placed, entry_at, entry_of, move_of, moving_of, falls}
+use Rattle.journal_history.specs.declared.history_line.HistoryLine.{HistoryLine}
+use Rattle.journal_history.specs.Entries.{Entry}
+use Rattle.journal_history.specs.Moving.{Placed, entry_at, entry_of, move_of, moving_of, falls}
 use Rattle.run_safety.specs.Run.{IsRun}
 use Rattle.run_safety.proofs.Slots.{true≢false}
 use Rattle.mesh.specs.declared.whole.Mesh.{Mesh}
@@ -84,11 +85,13 @@ from_out m past (x ∷ xs) s i = by (entry_of x) refl i (λ j. from_out m (past 
       place = ap (λ (l : List Placed). place_in m l x) (append_none past) ∙ ap (λ (z : Sign). z.place) f;
     }
 
-from_in : (m : Mesh) (past before after : List Placed) (x : Placed) (e : Entry) → entry_of x ≡ Some e → In (sign e x.line.caller (place_in m (past ++ before) x)) (signs_on m past (before ++ x ∷ after))
+from_in : (m : Mesh) (past before after : List Placed) (x : Placed) (e : Entry) → entry_of x ≡ Some e
+    → In (sign e x.line.caller (place_in m (past ++ before) x)) (signs_on m past (before ++ x ∷ after))
 unfolding signs_on In
 from_in m past [] after x e is = subst (λ (l : List Placed). In (sign e x.line.caller (place_in m l x)) (signs_on m past (x ∷ after))) (sym (append_none past)) (rw is (inl refl))
 from_in m past (y ∷ before) after x e is = by (entry_of y)
-    (subst (λ (l : List Placed). In (sign e x.line.caller (place_in m l x)) (signs_on m (past ++ y ∷ []) (before ++ x ∷ after))) (append_assoc past (y ∷ []) before) (from_in m (past ++ y ∷ []) before after x e is))
+    (subst (λ (l : List Placed). In (sign e x.line.caller (place_in m l x)) (signs_on m (past ++ y ∷ []) (before ++ x ∷ after)))
+    (append_assoc past (y ∷ []) before) (from_in m (past ++ y ∷ []) before after x e is))
   where
     by : (o : Option Entry) → In (sign e x.line.caller (place_in m (past ++ y ∷ before) x)) (signs_on m (past ++ y ∷ []) (before ++ x ∷ after))
         → In (sign e x.line.caller (place_in m (past ++ y ∷ before) x)) (sign_first o y.line.caller (place_in m past y) (signs_on m (past ++ y ∷ []) (before ++ x ∷ after)))
@@ -107,7 +110,8 @@ history_between k (y ∷ before) after x e = by (y.node == k) (history_between k
   where
     by : (b : Bool) → map (λ (z : Placed). z.line) (filter (λ (z : Placed). z.node == k) before) ++ x.line ∷ map (λ (z : Placed). z.line) (filter (λ (z : Placed). z.node == k) after)
         ≡ map (λ (z : Placed). z.line) (filter (λ (z : Placed). z.node == k) (before ++ x ∷ after))
-        → map (λ (z : Placed). z.line) (cond b (y ∷ filter (λ (z : Placed). z.node == k) before) (filter (λ (z : Placed). z.node == k) before)) ++ x.line ∷ map (λ (z : Placed). z.line) (filter (λ (z : Placed). z.node == k) after)
+        → map (λ (z : Placed). z.line) (cond b (y ∷ filter (λ (z : Placed). z.node == k) before) (filter (λ (z : Placed). z.node == k) before)) ++
+        x.line ∷ map (λ (z : Placed). z.line) (filter (λ (z : Placed). z.node == k) after)
         ≡ map (λ (z : Placed). z.line) (cond b (y ∷ filter (λ (z : Placed). z.node == k) (before ++ x ∷ after)) (filter (λ (z : Placed). z.node == k) (before ++ x ∷ after)))
     by true h = ap (λ (l : List HistoryLine). y.line ∷ l) h
     by false h = h
@@ -152,7 +156,15 @@ unfolding history_of Alike
 among k t before after h e =
     let u : Unmapped (filter (λ (z : Placed). z.node == k) t) before h = unmapped (filter (λ (z : Placed). z.node == k) t) before after h e in
     let c : Cut (λ (z : Placed). z.node == k) t u.past u.line = cut_filter (λ (z : Placed). z.node == k) t u.past u.line u.rest u.whole in
-    record { past = c.past; line = u.line; rest = c.rest; whole = sym c.whole; before_is = ap (map (λ (z : Placed). z.line)) c.before ∙ u.before_is; line_is = u.line_is; node_is = at u.line.node c.passes (alike u.line.node k) }
+    record {
+      past = c.past;
+      line = u.line;
+      rest = c.rest;
+      whole = sym c.whole;
+      before_is = ap (map (λ (z : Placed). z.line)) c.before ∙ u.before_is;
+      line_is = u.line_is;
+      node_is = at u.line.node c.passes (alike u.line.node k);
+    }
   where
     at : (j : ℕ) → (j == k) ≡ true → Alike j k → j ≡ k
     at j f (inl g) = g.1
@@ -186,7 +198,7 @@ none_notes k x xs es None e off h = rw e h
 none_notes k x xs es (Some y) e off h = rw (e, other_test y.node k (off y refl)) h
 
 module _ (m : Mesh) (t : List Placed) (a : Agrees m) (tr : IsTrace m t) where
-  -- the same line in its node's history and in its caller's record
+  -- a line of a node's history has its line in the record of its caller, which sent it
   matched_at : (c i : ℕ) (before : List Placed) (x : Placed) → x.line.caller ≡ c → x.node ≡ i + 1 → Sent c (record_of m c) before x → Matched m (i + 1) (history_of (i + 1) before) x.line
   unfolding Tied
   matched_at c i before x by at s = record {
@@ -195,7 +207,8 @@ module _ (m : Mesh) (t : List Placed) (a : Agrees m) (tr : IsTrace m t) where
     rest = s.rest;
     whole = sym s.whole ∙ ap (record_of m) (sym by);
     reach = s.event.reach (i + 1) ∙ same_test x.node (i + 1) at;
-    count = same_length (reached (i + 1) s.past) (lines_of c (history_of (i + 1) before)) (tied_of (i + 1) c s.past before s.step) ∙ ap (λ (d : ℕ). length (lines_of d (history_of (i + 1) before))) (sym by);
+    count = same_length (reached (i + 1) s.past) (lines_of c (history_of (i + 1) before)) (tied_of (i + 1) c s.past before s.step)
+        ∙ ap (λ (d : ℕ). length (lines_of d (history_of (i + 1) before))) (sym by);
     same = s.event.same;
   }
 
@@ -207,10 +220,12 @@ module _ (m : Mesh) (t : List Placed) (a : Agrees m) (tr : IsTrace m t) where
       ap (λ (k : ℕ). place_here m k (history_of k before) x.line) at ∙ place_is m (x.node - 1) (history_of (x.node - 1 + 1) before) x.line (matched_at c (x.node - 1) before x by at s)
 
   -- what it did to its node
-  entry_at_node : (i : ℕ) (before : List Placed) (x : Placed) → x.node ≡ i + 1 → Sent x.line.caller (record_of m x.line.caller) before x → entry_here m (i + 1) (history_of (i + 1) before) x.line ≡ entry_of x
+  entry_at_node : (i : ℕ) (before : List Placed) (x : Placed) → x.node ≡ i + 1 → Sent x.line.caller (record_of m x.line.caller) before x
+      → entry_here m (i + 1) (history_of (i + 1) before) x.line ≡ entry_of x
   unfolding entry_of matched_at
   entry_at_node i before x at s =
-      let its : is_muted (line_of_caller m (i + 1) (history_of (i + 1) before) x.line) ≡ x.muted = ap is_muted (line_is m i (history_of (i + 1) before) x.line (matched_at x.line.caller i before x refl at s)) ∙ s.event.muted in
+      let its : is_muted (line_of_caller m (i + 1) (history_of (i + 1) before) x.line) ≡ x.muted =
+      ap is_muted (line_is m i (history_of (i + 1) before) x.line (matched_at x.line.caller i before x refl at s)) ∙ s.event.muted in
       ap (λ (b : Bool). entry_at (i + 1) (move_of x.line.caller b x.line.ask x.line.answer)) its ∙ ap (λ (k : ℕ). entry_at k (move_of x.line.caller x.muted x.line.ask x.line.answer)) (sym at)
 
   sent_of : (before after : List Placed) (x : Placed) → t ≡ before ++ x ∷ after → IsInMesh m x → Sent x.line.caller (record_of m x.line.caller) before x
@@ -292,7 +307,8 @@ module _ (m : Mesh) (t : List Placed) (a : Agrees m) (tr : IsTrace m t) where
       by (Some e) h = (first e, h)
 
   -- ## At each node it has the node's moving entries
-  at_node : (i : ℕ) (past xs : List Placed) → t ≡ past ++ xs → entries_at (i + 1) (filter_map entry_of xs) ≡ filter_map entry_of (placed_from m (i + 1) (history_of (i + 1) past) (history_of (i + 1) xs))
+  at_node : (i : ℕ) (past xs : List Placed) → t ≡ past ++ xs → entries_at (i + 1) (filter_map entry_of xs) ≡ filter_map entry_of
+      (placed_from m (i + 1) (history_of (i + 1) past) (history_of (i + 1) xs))
   unfolding Alike
   at_node i past [] whole = unfold history_of placed_from in refl
   at_node i past (x ∷ xs) whole = by (alike x.node (i + 1)) (at_node i (past ++ x ∷ []) xs (whole ∙ sym (append_assoc past (x ∷ []) xs)))
@@ -300,16 +316,20 @@ module _ (m : Mesh) (t : List Placed) (a : Agrees m) (tr : IsTrace m t) where
       on : x.node ≡ i + 1 → entries_at (i + 1) (filter_map entry_of xs) ≡ filter_map entry_of (placed_from m (i + 1) (history_of (i + 1) past ++ x.line ∷ []) (history_of (i + 1) xs))
           → entries_at (i + 1) (filter_map entry_of (x ∷ xs)) ≡ filter_map entry_of (placed_from m (i + 1) (history_of (i + 1) past) (x.line ∷ history_of (i + 1) xs))
       on e h = unfold placed_from in both_note (i + 1) x (record { node = i + 1; line = x.line; muted = is_muted (line_of_caller m (i + 1) (history_of (i + 1) past) x.line) })
-          xs (placed_from m (i + 1) (history_of (i + 1) past ++ x.line ∷ []) (history_of (i + 1) xs)) (entry_of x) refl (entry_at_node i past x e (sent_of past xs x whole (in_mesh past xs x whole))) (λ y f. node_of x y f ∙ e) h
+          xs (placed_from m (i + 1) (history_of (i + 1) past ++ x.line ∷ []) (history_of (i + 1) xs)) (entry_of x) refl
+          (entry_at_node i past x e (sent_of past xs x whole (in_mesh past xs x whole))) (λ y f. node_of x y f ∙ e) h
 
       by : Alike x.node (i + 1) → entries_at (i + 1) (filter_map entry_of xs) ≡ filter_map entry_of (placed_from m (i + 1) (history_of (i + 1) (past ++ x ∷ [])) (history_of (i + 1) xs))
           → entries_at (i + 1) (filter_map entry_of (x ∷ xs)) ≡ filter_map entry_of (placed_from m (i + 1) (history_of (i + 1) past) (history_of (i + 1) (x ∷ xs)))
       by (inl e) h =
-          subst (λ (hs : List HistoryLine). entries_at (i + 1) (filter_map entry_of (x ∷ xs)) ≡ filter_map entry_of (placed_from m (i + 1) (history_of (i + 1) past) hs)) (sym (history_next (i + 1) x xs e.1))
-          (on e.1 (subst (λ (hs : List HistoryLine). entries_at (i + 1) (filter_map entry_of xs) ≡ filter_map entry_of (placed_from m (i + 1) hs (history_of (i + 1) xs))) (history_more (i + 1) past x e.1) h))
+          subst (λ (hs : List HistoryLine). entries_at (i + 1) (filter_map entry_of (x ∷ xs)) ≡ filter_map entry_of
+          (placed_from m (i + 1) (history_of (i + 1) past) hs)) (sym (history_next (i + 1) x xs e.1))
+          (on e.1 (subst (λ (hs : List HistoryLine). entries_at (i + 1) (filter_map entry_of xs) ≡ filter_map entry_of
+          (placed_from m (i + 1) hs (history_of (i + 1) xs))) (history_more (i + 1) past x e.1) h))
       by (inr e) h =
           none_notes (i + 1) x xs _ (entry_of x) refl (λ y f g. e.1 (sym (node_of x y f) ∙ g))
-          (subst (λ (hs : List HistoryLine). entries_at (i + 1) (filter_map entry_of xs) ≡ filter_map entry_of (placed_from m (i + 1) (history_of (i + 1) past) hs)) (sym (history_passed (i + 1) x xs e.1))
+          (subst (λ (hs : List HistoryLine). entries_at (i + 1) (filter_map entry_of xs) ≡ filter_map entry_of
+          (placed_from m (i + 1) (history_of (i + 1) past) hs)) (sym (history_passed (i + 1) x xs e.1))
           (subst (λ (hs : List HistoryLine). entries_at (i + 1) (filter_map entry_of xs) ≡ filter_map entry_of (placed_from m (i + 1) hs (history_of (i + 1) xs))) (history_off (i + 1) past x e.1) h))
 
   nodes_are : (i : ℕ) → i < m.nodes → entries_at (i + 1) (entries (signs_on m [] t)) ≡ moving_of (placed_at m i)

@@ -1,5 +1,6 @@
 -- Who owns an epoch was promised it by more than half of the nodes, all of them different.
-use Rattle.std.proofs.Common.{◌≡◌, ℕ, ◌+◌, ◌-◌, ◌*◌, ◌<◌, ◌≤◌, List, [], ◌∷◌, ◌++◌, Bool, true, false, cond, refl, sym, ap, ◌∙◌, subst, arith, length, get_or, set, length-set, get_or-set_other, get_or-set_same, append_assoc, ◌⊎◌, inl, inr}
+use Rattle.std.proofs.Common.{◌≡◌, ℕ, ◌+◌, ◌-◌, ◌*◌, ◌<◌, ◌≤◌, List, [], ◌∷◌, ◌++◌, Bool, true, false, cond, refl, sym, ap, ◌∙◌, subst, arith, length}
+use Rattle.std.proofs.Common.{get_or, set, length-set, get_or-set_other, get_or-set_same, append_assoc, ◌⊎◌, inl, inr}
 use Rattle.std.specs.Prelude.{Option, Some, None, ◌||◌, nat_lt}
 use Rattle.std.proofs.lemmas.Bool.{ltb-true, cases_Bool}
 use Rattle.journal_core.specs.declared.request.Request.{Request}
@@ -19,9 +20,9 @@ use Rattle.writer_core.specs.Rounds.{request_in}
 use Rattle.writer_core.specs.Writer.{new_writer, Began, HasBody, writer_begun, log_begins, log_limit, is_writing, is_under_way, if_writing, next_call, node_in, writer_heard, with_answer}
 use Rattle.writer_core.specs.Left.{IsLive}
 use Rattle.writer_core.proofs.LiveLaws.{heard_live, begun_live, new_live}
-use Rattle.node_history.specs.declared.record.Record.{Record}
-use Rattle.node_history.specs.declared.record.Record.TheVariants.{Call, Late, Operator, Outcome}
-use Rattle.node_history.specs.declared.record.Told.{Told as TellsOf}
+use Rattle.journal_history.specs.declared.record.Record.{Record}
+use Rattle.journal_history.specs.declared.record.Record.TheVariants.{Call, Late, Operator, Outcome}
+use Rattle.journal_history.specs.declared.record.Told.{Told as TellsOf}
 use Rattle.mesh.specs.Makers.{heard_of, Maker, maker_of, asks, maker_hears, IsMade, IsOfChores}
 use Rattle.mesh.specs.Owners.{proposes, promised_to, wins}
 use Rattle.mesh.proofs.Lists.{Alike, alike}
@@ -157,7 +158,8 @@ module _ (n e : ℕ) where
   unfolding Below
   none_below ls z = subst (Below 1) (sym z) tt
 
-  next_turn : (w : WriterView) (k : ℕ) (x : Request) (h : Heard) (ls : List ℕ) (v : WriterView) (at : CallAt w k x) → (at.round ≡ round.Propose → w.epoch ≡ e → Below (k + 1) ls) → (at.round ≡ round.State → ls ≡ [])
+  next_turn : (w : WriterView) (k : ℕ) (x : Request) (h : Heard) (ls : List ℕ) (v : WriterView) (at : CallAt w k x)
+      → (at.round ≡ round.Propose → w.epoch ≡ e → Below (k + 1) ls) → (at.round ≡ round.State → ls ≡ [])
       → Next w k h v → TurnIn v.phase v.epoch v.slots ls
   unfolding WaitsFrom
   next_turn w k x h ls _ at b z (Stays r p) = subst (λ (y : Phase). TurnIn y w.epoch (with_answer w k h).slots ls) (sym p) (stay_turn r w k x h ls at (same_round w at.round r at.phase p) b)
@@ -166,7 +168,8 @@ module _ (n e : ℕ) where
   next_turn w k x h ls v at b z (Stops _ is) = subst (λ (y : Phase). TurnIn y v.epoch v.slots ls) (sym is) tt
   next_turn w k x h ls v at b z (Goes _ r p d epoch l) = later_turn v.phase v.epoch v.slots ls l
 
-  hears_runs : (w : WriterView) (ks ls : List ℕ) (k : ℕ) (x : Request) (t : TellsOf) (at : CallAt w k x) → Runs ks w → (at.round ≡ round.Propose → w.epoch ≡ e → Below (k + 1) ls) → (at.round ≡ round.State → ls ≡ [])
+  hears_runs : (w : WriterView) (ks ls : List ℕ) (k : ℕ) (x : Request) (t : TellsOf) (at : CallAt w k x) → Runs ks w
+      → (at.round ≡ round.Propose → w.epoch ≡ e → Below (k + 1) ls) → (at.round ≡ round.State → ls ≡ [])
       → Runs ls (writer_heard w k (heard_of t)).writer
   hears_runs w ks ls k x t at h b z = record {
     sized = heard_sized n w k (heard_of t) h.sized;
@@ -185,11 +188,14 @@ module _ (n e : ℕ) where
       (a.low, omega (arith, a.high, h.sized.slots), below_more t.0 k ks (omega (arith, lo, a.low)) (t.3 f))
 
   -- ## A task that begins
-  log_turn : (o : Option ℕ) (bodies : List (List ℕ)) (w : WriterView) (ks : List ℕ) → TurnIn w.phase w.epoch w.slots ks → TurnIn (log_begins o bodies w).writer.phase (log_begins o bodies w).writer.epoch (log_begins o bodies w).writer.slots ks
+  log_turn : (o : Option ℕ) (bodies : List (List ℕ)) (w : WriterView) (ks : List ℕ) → TurnIn w.phase w.epoch w.slots ks
+      → TurnIn (log_begins o bodies w).writer.phase (log_begins o bodies w).writer.epoch (log_begins o bodies w).writer.slots ks
   log_turn (Some k) bodies w ks h = h
   log_turn None bodies w ks h = tt
 
-  if_turn : (b : Bool) (x : Began) (w : WriterView) (ks : List ℕ) → TurnIn w.phase w.epoch w.slots ks → TurnIn x.writer.phase x.writer.epoch x.writer.slots ks → TurnIn (if_writing b x w).writer.phase (if_writing b x w).writer.epoch (if_writing b x w).writer.slots ks
+  if_turn : (b : Bool) (x : Began) (w : WriterView) (ks : List ℕ) → TurnIn w.phase w.epoch w.slots ks
+      → TurnIn x.writer.phase x.writer.epoch x.writer.slots ks → TurnIn (if_writing b x w).writer.phase (if_writing b x w).writer.epoch
+      (if_writing b x w).writer.slots ks
   if_turn true x w ks h g = g
   if_turn false x w ks h g = h
 
@@ -259,14 +265,17 @@ module _ (n e : ℕ) where
 
   -- it was a read
   has_read : (m : Maker) (ks ls : List ℕ) (k : ℕ) (x : Request) (t : TellsOf) → Standing ks m → asks m.reading m.writer ≡ Some (k, x) → next_call m.writer ≡ None → Standing ls (maker_hears m k t)
-  has_read m ks ls k x t h e none = hears_stands Runs task_runs ls m k x t h.bodies h.rests e (λ f. absurd (none_some (next_call m.writer) (k, x) none f)) (λ from is none. rests_runs ks ls m.writer none h.writer)
+  has_read m ks ls k x t h e none = hears_stands Runs task_runs ls m k x t h.bodies h.rests e
+      (λ f. absurd (none_some (next_call m.writer) (k, x) none f)) (λ from is none. rests_runs ks ls m.writer none h.writer)
 
   made_majority : (m : Maker) (xs rs : List Record) (ks : List ℕ) → Standing ks m → Below (n + 1) ks → AllHeard e ks xs → IsMade m rs → wins n e (length ks) rs ≡ true → HasMajority n e (xs ++ rs)
   unfolding IsMade wins
   made_majority m xs [] ks h b a d o = record { nodes = ks; below = b; more = ltb-true n (2 * length ks) o; heard = all_left e ks xs [] a }
-  made_majority m xs (Late k x ∷ rs) ks h b a d o = subst (HasMajority n e) (append_assoc xs (Late k x ∷ []) rs) (made_majority m (xs ++ Late k x ∷ []) rs ks h b (all_left e ks xs (Late k x ∷ []) a) d o)
+  made_majority m xs (Late k x ∷ rs) ks h b a d o = subst (HasMajority n e) (append_assoc xs (Late k x ∷ []) rs)
+      (made_majority m (xs ++ Late k x ∷ []) rs ks h b (all_left e ks xs (Late k x ∷ []) a) d o)
   made_majority m xs (Operator k x y ∷ rs) ks h b a d o = absurd d
-  made_majority m xs (Outcome x ∷ rs) ks h b a d o = subst (HasMajority n e) (append_assoc xs (Outcome x ∷ []) rs) (made_majority m (xs ++ Outcome x ∷ []) rs ks h b (all_left e ks xs (Outcome x ∷ []) a) d o)
+  made_majority m xs (Outcome x ∷ rs) ks h b a d o = subst (HasMajority n e) (append_assoc xs (Outcome x ∷ []) rs)
+      (made_majority m (xs ++ Outcome x ∷ []) rs ks h b (all_left e ks xs (Outcome x ∷ []) a) d o)
   made_majority m xs (Call k x t ∷ rs) ks h b a d o =
       subst (HasMajority n e) (append_assoc xs (Call k x t ∷ []) rs)
       (split (asked_of m k x d.0 h.rests) (λ ls r l v w. made_majority (maker_hears m k t) (xs ++ Call k x t ∷ []) rs ls r l v d.1 w))
@@ -288,7 +297,8 @@ module _ (n e : ℕ) where
           either (inl l) = more l
           either (inr l) = let y : wins n e 0 rs ≡ true = rw l at w in go [] s (unfold Below in tt) (unfold AllHeard in tt) y
 
-      by : (p : Bool) → proposes e x ≡ p → cond p (wins n e (cond (promised_to t) (length ks + 1) (length ks)) rs) (nat_lt n (2 * length ks) || wins n e 0 rs) ≡ true → next_call m.writer ≡ Some (k, x) → CallAt m.writer k x → GoesOn → Goal
+      by : (p : Bool) → proposes e x ≡ p → cond p (wins n e (cond (promised_to t) (length ks + 1) (length ks)) rs)
+          (nat_lt n (2 * length ks) || wins n e 0 rs) ≡ true → next_call m.writer ≡ Some (k, x) → CallAt m.writer k x → GoesOn → Goal
       by true pe w c at go = turn (proposing at.round m.writer (sym at.asks ∙ proposal_is x pe))
         where
           turn : (at.round ≡ round.Propose) × (m.writer.epoch ≡ e) → Goal
@@ -304,11 +314,13 @@ module _ (n e : ℕ) where
               counted true ve y c2 =
                   let next : length (k ∷ ks) ≡ length ks + 1 = omega arith in
                   let here : Below (k + 1) (k ∷ ks) = unfold Below in (c2.0, omega arith, c2.2) in
-                  go (k ∷ ks) (wrote m ks (k ∷ ks) k x t h d.0 c (hears_runs m.writer ks (k ∷ ks) k x t at h.writer (λ i j. here) (λ z. absurd (no_state z)))) (below_more (k + 1) (n + 1) (k ∷ ks) (omega (arith, c2.1)) here)
+                  go (k ∷ ks) (wrote m ks (k ∷ ks) k x t h d.0 c (hears_runs m.writer ks (k ∷ ks) k x t at h.writer (λ i j. here)
+                  (λ z. absurd (no_state z)))) (below_more (k + 1) (n + 1) (k ∷ ks) (omega (arith, c2.1)) here)
                   (unfold AllHeard in (subst (λ (z : Request). HeardOk k e (xs ++ Call k z t ∷ [])) (sym (proposal_is x pe)) (heard_last k e t xs ve), all_left e ks xs (Call k x t ∷ []) a))
                   (subst (λ (z : ℕ). wins n e z rs ≡ true) (sym next) y)
               counted false ve y c2 =
-                  go ks (wrote m ks ks k x t h d.0 c (hears_runs m.writer ks ks k x t at h.writer (λ i j. below_more k (k + 1) ks (omega arith) c2.2) (λ z. absurd (no_state z)))) b (all_left e ks xs (Call k x t ∷ []) a) y
+                  go ks (wrote m ks ks k x t h d.0 c (hears_runs m.writer ks ks k x t at h.writer (λ i j. below_more k (k + 1) ks (omega arith) c2.2)
+                  (λ z. absurd (no_state z)))) b (all_left e ks xs (Call k x t ∷ []) a) y
       by false pe w c at go = anew (wrote m ks [] k x t h d.0 c (hears_runs m.writer ks [] k x t at h.writer (λ i j. unfold Below in tt) (λ z. refl))) w go
 
       split : Asked m k x → GoesOn → Goal

@@ -1,4 +1,5 @@
--- What an answer leaves a writer in: the same round, the round of proposals after that of states, a later one, or none.
+-- What an answer leaves a writer in: the same round, the round of proposals after that of states, a
+-- later one, or none.
 use Rattle.std.proofs.Common.{◌≡◌, ℕ, ◌+◌, ◌-◌, List, ◌++◌, Bool, true, false, cond, refl, ◌∙◌, length, take, ◌⊎◌, inl, inr}
 use Rattle.std.proofs.lemmas.Bool.{and_parts}
 use Rattle.std.specs.Prelude.{Option, Some, None, ◌≢◌, ◌&&◌, nat_lt}
@@ -17,7 +18,9 @@ use Rattle.writer_core.specs.declared.phase.Aim.TheVariants as aim
 use Rattle.writer_core.specs.Views.{WriterView}
 use Rattle.writer_core.specs.Answers.{is_waiting, has_majority, fits_edits}
 use Rattle.writer_core.specs.Best.{Best, best_of, greatest_promise, greatest_newest}
-use Rattle.writer_core.specs.Rounds.{numbers_fit, keep_going, stops_with, begin_propose, after_round, with_causes, judgment_by, judgment, without_answer_of, after_fetch, after_propose, begin_recovery, after_finalize, after_open, after_write, after_edits, after_no_edits, next_serial, left_out_after, to_all, asks_all, batch_from}
+use Rattle.writer_core.specs.Rounds.{numbers_fit, keep_going, stops_with, begin_propose, after_round, with_causes, judgment_by, judgment}
+use Rattle.writer_core.specs.Rounds.{without_answer_of, after_fetch, after_propose, begin_recovery, after_finalize, after_open, after_write}
+use Rattle.writer_core.specs.Rounds.{after_edits, after_no_edits, next_serial, left_out_after, to_all, asks_all, batch_from}
 use Rattle.writer_core.specs.Writer.{with_answer, judgment_when, heard_in, heard_at, writer_heard}
 use Rattle.writer_core.specs.declared.turn.Turn.TheVariants as turn
 
@@ -102,7 +105,8 @@ done_later (round.Write bodies) w off =
 done_later (round.Purge min) w off = record { epoch = refl; phase = tt }
 
 -- ## A round that was heard whole
-state_by : (b : Bool) (told : ℕ) (w u : WriterView) (k : ℕ) (h : Heard) → w.phase ≡ phase.InRound round.State → Next w k h (cond b (keep_going (begin_propose told u)) (stops_with (turn.EpochLimit told) u)).writer
+state_by : (b : Bool) (told : ℕ) (w u : WriterView) (k : ℕ) (h : Heard) → w.phase ≡ phase.InRound round.State
+    → Next w k h (cond b (keep_going (begin_propose told u)) (stops_with (turn.EpochLimit told) u)).writer
 state_by true told w u k h p = Proposes _ p refl refl
 state_by false told w u k h p = Stops _ refl
 
@@ -110,15 +114,18 @@ state_next : (b : Bool) (w : WriterView) (k : ℕ) (h : Heard) → w.phase ≡ p
 state_next true w k h p = let u : WriterView = with_causes round.State (with_answer w k h) in state_by (nat_lt (greatest_promise u.slots) max_number) (greatest_promise u.slots) w u k h p
 state_next false w k h p = Stops _ refl
 
-judged_next : (b : Bool) (r s : Round) (w u : WriterView) (k : ℕ) (h : Heard) → w.phase ≡ phase.InRound s → r ≢ round.State → u.epoch ≡ w.epoch → (b ≡ true → IsLaterRound s ⊎ IsDone w k h s) → Next w k h (judgment_by b r u).writer
+judged_next : (b : Bool) (r s : Round) (w u : WriterView) (k : ℕ) (h : Heard) → w.phase ≡ phase.InRound s → r ≢ round.State → u.epoch ≡ w.epoch
+    → (b ≡ true → IsLaterRound s ⊎ IsDone w k h s) → Next w k h (judgment_by b r u).writer
 judged_next true r s w u k h p off e d = later w k h _ s p (d refl) (along w (with_causes r u) _ e (done_later r (with_causes r u) off))
 judged_next false r s w u k h p off e d = Stops _ refl
 
-round_next : (b : Bool) (r : Round) (w : WriterView) (k : ℕ) (h : Heard) → w.phase ≡ phase.InRound r → r ≢ round.State → (has_majority r (with_answer w k h).slots ≡ true → IsLaterRound r ⊎ IsDone w k h r) → Next w k h (judgment_when b r (with_answer w k h)).writer
+round_next : (b : Bool) (r : Round) (w : WriterView) (k : ℕ) (h : Heard) → w.phase ≡ phase.InRound r → r ≢ round.State
+    → (has_majority r (with_answer w k h).slots ≡ true → IsLaterRound r ⊎ IsDone w k h r) → Next w k h (judgment_when b r (with_answer w k h)).writer
 unfolding judgment
 round_next true r w k h p off d = Stays r p
 round_next false r w k h p off d =
-    judged_next (numbers_fit (with_answer w k h) r && has_majority r (with_answer w k h).slots) r r w (with_answer w k h) k h p off refl (λ e. d (and_parts (numbers_fit (with_answer w k h) r) (has_majority r (with_answer w k h).slots) e).1)
+    judged_next (numbers_fit (with_answer w k h) r && has_majority r (with_answer w k h).slots) r r w (with_answer w k h) k h p off refl
+    (λ e. d (and_parts (numbers_fit (with_answer w k h) r) (has_majority r (with_answer w k h).slots) e).1)
 
 state_round : (b : Bool) (w : WriterView) (k : ℕ) (h : Heard) → w.phase ≡ phase.InRound round.State → Next w k h (judgment_when b round.State (with_answer w k h)).writer
 unfolding judgment
@@ -133,17 +140,22 @@ pieced_by false node start end bodies u w e = record { epoch = e; phase = tt }
 
 missing_next : (node start : ℕ) (heard : Heard) (w : WriterView) (k : ℕ) (h : Heard) (s : Round) → w.phase ≡ phase.InRound s → IsLaterRound s → Next w k h (after_no_edits node start heard w).writer
 missing_next node start heard w k h s p l =
-    judged_next (has_majority (round.Prepare start) (without_answer_of node heard w).slots) (round.Prepare start) s w (without_answer_of node heard w) k h p (λ (x : round.Prepare start ≡ round.State). cc x) refl (λ e. inl l)
+    judged_next (has_majority (round.Prepare start) (without_answer_of node heard w).slots) (round.Prepare start) s w (without_answer_of node heard w)
+    k h p (λ (x : round.Prepare start ≡ round.State). cc x) refl (λ e. inl l)
 
-edits_next : (b : Bool) (node start end : ℕ) (bodies : List (List ℕ)) (batch : BatchView) (w : WriterView) (k : ℕ) (h : Heard) (s : Round) → w.phase ≡ phase.InRound s → IsLaterRound s → Next w k h (after_edits b node start end bodies batch w).writer
+edits_next : (b : Bool) (node start end : ℕ) (bodies : List (List ℕ)) (batch : BatchView) (w : WriterView) (k : ℕ) (h : Heard) (s : Round)
+    → w.phase ≡ phase.InRound s → IsLaterRound s → Next w k h (after_edits b node start end bodies batch w).writer
 edits_next true node start end bodies batch w k h s p l =
     let more : List (List ℕ) = bodies ++ take (end + 1 - (start + length bodies)) batch.bodies in
     later w k h _ s p (inl l) (pieced_by (nat_lt end (start + length more)) node start end more (next_serial w) w refl)
 edits_next false node start end bodies batch w k h s p l = missing_next node start Silent w k h s p l
 
-fetched_next : (node start end : ℕ) (bodies : List (List ℕ)) (w : WriterView) (k : ℕ) (h : Heard) (s : Round) → w.phase ≡ phase.InRound s → IsLaterRound s → Next w k h (after_fetch node start end bodies h w).writer
+fetched_next : (node start end : ℕ) (bodies : List (List ℕ)) (w : WriterView) (k : ℕ) (h : Heard) (s : Round) → w.phase ≡ phase.InRound s
+    → IsLaterRound s → Next w k h (after_fetch node start end bodies h w).writer
 unfolding after_fetch
-fetched_next node start end bodies w k (Answer (reply.Edits batch)) s p l = edits_next (numbers_fit w (round.Fetch node start end bodies) && fits_edits (start + length bodies) batch) node start end bodies batch w k (Answer (reply.Edits batch)) s p l
+fetched_next node start end bodies w k (Answer (reply.Edits batch)) s p l =
+    edits_next (numbers_fit w (round.Fetch node start end bodies) && fits_edits (start + length bodies) batch) node start end bodies batch w k
+    (Answer (reply.Edits batch)) s p l
 fetched_next node start end bodies w k (Answer reply.Ok) s p l = missing_next node start (Answer reply.Ok) w k (Answer reply.Ok) s p l
 fetched_next node start end bodies w k (Answer (reply.State promised)) s p l = missing_next node start (Answer (reply.State promised)) w k (Answer (reply.State promised)) s p l
 fetched_next node start end bodies w k (Answer (reply.NewEpoch newest)) s p l = missing_next node start (Answer (reply.NewEpoch newest)) w k (Answer (reply.NewEpoch newest)) s p l
@@ -159,7 +171,8 @@ in_next round.State w k h p = state_round (list_any is_waiting (with_answer w k 
 in_next round.Propose w k h p = round_next (list_any is_waiting (with_answer w k h).slots) round.Propose w k h p (λ (x : round.Propose ≡ round.State). cc x) (λ e. inr (refl, e))
 in_next (round.Prepare start) w k h p = round_next (list_any is_waiting (with_answer w k h).slots) (round.Prepare start) w k h p (λ (x : round.Prepare start ≡ round.State). cc x) (λ e. inl tt)
 in_next (round.Accept batch) w k h p = round_next (list_any is_waiting (with_answer w k h).slots) (round.Accept batch) w k h p (λ (x : round.Accept batch ≡ round.State). cc x) (λ e. inl tt)
-in_next (round.Finalize start end) w k h p = round_next (list_any is_waiting (with_answer w k h).slots) (round.Finalize start end) w k h p (λ (x : round.Finalize start end ≡ round.State). cc x) (λ e. inl tt)
+in_next (round.Finalize start end) w k h p = round_next (list_any is_waiting (with_answer w k h).slots) (round.Finalize start end) w k h p
+    (λ (x : round.Finalize start end ≡ round.State). cc x) (λ e. inl tt)
 in_next round.Start w k h p = round_next (list_any is_waiting (with_answer w k h).slots) round.Start w k h p (λ (x : round.Start ≡ round.State). cc x) (λ e. inl tt)
 in_next round.Open w k h p = round_next (list_any is_waiting (with_answer w k h).slots) round.Open w k h p (λ (x : round.Open ≡ round.State). cc x) (λ e. inl tt)
 in_next (round.Write bodies) w k h p = round_next (list_any is_waiting (with_answer w k h).slots) (round.Write bodies) w k h p (λ (x : round.Write bodies ≡ round.State). cc x) (λ e. inl tt)

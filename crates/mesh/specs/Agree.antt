@@ -1,9 +1,9 @@
 -- When the lists of all nodes and of all callers are of one play.
 use Rattle.std.specs.Prelude.{◌≡◌, ℕ, ◌+◌, ◌<◌, ◌≤◌, List, [], length, slice_index_or}
-use Rattle.node_history.specs.declared.history_line.HistoryLine.{HistoryLine}
-use Rattle.node_history.specs.declared.record.Record.{Record}
-use Rattle.node_history.specs.declared.mark.Mark.{Mark}
-use Rattle.node_history.specs.Cell.{fresh_cell, IsLocalRun}
+use Rattle.journal_history.specs.declared.history_line.HistoryLine.{HistoryLine}
+use Rattle.journal_history.specs.declared.record.Record.{Record}
+use Rattle.journal_history.specs.declared.mark.Mark.{Mark}
+use Rattle.journal_history.specs.Cell.{fresh_cell, IsLocalRun}
 use Rattle.mesh.specs.declared.whole.Mesh.{Mesh}
 use Rattle.mesh.specs.Marks.{IsMarked, AreCopied}
 use Rattle.mesh.specs.Makers.{IsOfChores, IsOperators}

@@ -7,13 +7,13 @@ use Rattle.journal_core.specs.declared.request.Request.TheVariants as request
 use Rattle.journal_core.specs.declared.reply.Reply.{Reply}
 use Rattle.journal_core.specs.declared.reply.Reply.TheVariants as reply
 use Rattle.writer_core.specs.Rounds.{start_record}
-use Rattle.node_history.specs.declared.node_ask.NodeAsk.TheVariants.{Act}
-use Rattle.node_history.specs.declared.node_ask.NodeAnswer.TheVariants.{Replied}
-use Rattle.node_history.specs.declared.history_line.HistoryLine.{HistoryLine}
-use Rattle.node_history.specs.declared.record.Record.{Record}
-use Rattle.node_history.specs.declared.record.Record.TheVariants.{Call}
-use Rattle.node_history.specs.declared.record.Told.TheVariants as told
-use Rattle.node_history.specs.Entries.{Answer, Heard, Entry}
+use Rattle.journal_history.specs.declared.node_ask.NodeAsk.TheVariants.{Act}
+use Rattle.journal_history.specs.declared.node_ask.NodeAnswer.TheVariants.{Replied}
+use Rattle.journal_history.specs.declared.history_line.HistoryLine.{HistoryLine}
+use Rattle.journal_history.specs.declared.record.Record.{Record}
+use Rattle.journal_history.specs.declared.record.Record.TheVariants.{Call}
+use Rattle.journal_history.specs.declared.record.Told.TheVariants as told
+use Rattle.journal_history.specs.Entries.{Answer, Heard, Entry}
 use Rattle.mesh.specs.declared.whole.Mesh.{Mesh}
 
 -- a call that was answered, as its node lists it, as its caller does, and as an entry
@@ -30,8 +30,8 @@ abbrev pub promised : Reply
 promised = reply.NewEpoch None
 
 -- ## Two takeovers
--- Each asks node 1 and then node 2 for their promises, and proposes an epoch. At node 1 the second one came after the first had proposed
--- there. At node 2 it came before the first had asked.
+-- Each asks node 1 and then node 2 for their promises, and proposes an epoch. At node 1 the second
+-- one came after the first had proposed there. At node 2 it came before the first had asked.
 unfoldable pub crossed : Mesh
 crossed =
     record {
@@ -81,7 +81,8 @@ empty_order =
     ∷ answered 1 0 (request.Journal (first_head 2 0) 1 (batch_at 1 start_record)) reply.Ok ∷ answered 1 0 (request.Journal (first_head 3 1) 1 (batch_at 2 [])) reply.Ok ∷ []
 
 -- ## A takeover and a log at one node, which another caller tails
--- It reads the record that begins the segment, which the log told its node is committed, and then that the edit is not.
+-- It reads the record that begins the segment, which the log told its node is committed, and then
+-- that the edit is not.
 abbrev pub logged : List (List ℕ)
 logged = (42 ∷ []) ∷ []
 

@@ -1,6 +1,6 @@
 -- What holds of every mesh that agrees.
 use Rattle.std.specs.Prelude.{◌≡◌, ℕ, ◌+◌, ◌<◌, List}
-use Rattle.node_history.specs.Moving.{Placed, moving_of}
+use Rattle.journal_history.specs.Moving.{Placed, moving_of}
 use Rattle.run_safety.specs.Run.{IsRun}
 use Rattle.run_safety.specs.Safe.{IsSafe}
 use Rattle.mesh.specs.declared.whole.Mesh.{Mesh}

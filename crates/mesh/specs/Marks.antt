@@ -2,13 +2,13 @@
 use Rattle.std.specs.Prelude.{◌≡◌, ◌≢◌, ℕ, ◌+◌, ◌-◌, ◌≤◌, ◌↔◌, ◌==◌, ◌&&◌, Bool, true, false, List, [], ◌∷◌, ◌++◌, length, Some, slice_get, Contains, if◌then◌else◌}
 use Rattle.std.specs.List.{list_any}
 use Rattle.journal_core.specs.declared.request.Request.{Request}
-use Rattle.node_history.specs.declared.record.Record.{Record}
-use Rattle.node_history.specs.declared.record.Record.TheVariants.{Call, Late, Operator, Outcome}
-use Rattle.node_history.specs.declared.record.Told.{Told}
-use Rattle.node_history.specs.declared.record.Told.TheVariants as told
-use Rattle.node_history.specs.declared.mark.Mark.{Mark}
-use Rattle.node_history.specs.declared.mark.MarkKind.{MarkKind}
-use Rattle.node_history.specs.declared.mark.MarkKind.TheVariants as kind
+use Rattle.journal_history.specs.declared.record.Record.{Record}
+use Rattle.journal_history.specs.declared.record.Record.TheVariants.{Call, Late, Operator, Outcome}
+use Rattle.journal_history.specs.declared.record.Told.{Told}
+use Rattle.journal_history.specs.declared.record.Told.TheVariants as told
+use Rattle.journal_history.specs.declared.mark.Mark.{Mark}
+use Rattle.journal_history.specs.declared.mark.MarkKind.{MarkKind}
+use Rattle.journal_history.specs.declared.mark.MarkKind.TheVariants as kind
 
 abbrev pub mark : ℕ → ℕ → MarkKind → Mark
 mark node number kind = record { node = node; number = number; kind = kind }
@@ -39,7 +39,8 @@ next_number node rs = length (calls_to node rs) + 1
 abbrev pub Asked : ℕ → ℕ → Request → List Record → Type 0
 Asked node number r rs = (1 ≤ number) × (slice_get (calls_to node rs) (number - 1) ≡ Some r)
 
--- A call is dropped exactly where the plan drops it; else its reply is lost exactly where the plan mutes it.
+-- A call is dropped exactly where the plan drops it; else its reply is lost exactly where the plan
+-- mutes it.
 abbrev pub IsAsMarked : List Mark → ℕ → ℕ → Told → Type 0
 IsAsMarked plan node number t =
     ((t ≡ told.Dropped) ↔ Contains plan (mark node number kind.Dropped))

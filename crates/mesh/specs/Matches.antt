@@ -1,13 +1,13 @@
 -- What a caller lists of a node, and what the node lists of the caller.
 use Rattle.std.specs.Prelude.{◌≡◌, ℕ, ◌≤◌, ◌==◌, Bool, true, false, List, [], ◌∷◌, filter}
-use Rattle.node_history.specs.declared.node_ask.NodeAsk.TheVariants.{Act}
-use Rattle.node_history.specs.declared.node_ask.NodeAnswer.{NodeAnswer}
-use Rattle.node_history.specs.declared.node_ask.NodeAnswer.TheVariants.{Replied, Stopped, Done, Idle, NotOpened}
-use Rattle.node_history.specs.declared.history_line.HistoryLine.{HistoryLine}
-use Rattle.node_history.specs.declared.record.Record.{Record}
-use Rattle.node_history.specs.declared.record.Record.TheVariants.{Call, Late, Operator, Outcome}
-use Rattle.node_history.specs.declared.record.Told.{Told}
-use Rattle.node_history.specs.declared.record.Told.TheVariants as told
+use Rattle.journal_history.specs.declared.node_ask.NodeAsk.TheVariants.{Act}
+use Rattle.journal_history.specs.declared.node_ask.NodeAnswer.{NodeAnswer}
+use Rattle.journal_history.specs.declared.node_ask.NodeAnswer.TheVariants.{Replied, Stopped, Done, Idle, NotOpened}
+use Rattle.journal_history.specs.declared.history_line.HistoryLine.{HistoryLine}
+use Rattle.journal_history.specs.declared.record.Record.{Record}
+use Rattle.journal_history.specs.declared.record.Record.TheVariants.{Call, Late, Operator, Outcome}
+use Rattle.journal_history.specs.declared.record.Told.{Told}
+use Rattle.journal_history.specs.declared.record.Told.TheVariants as told
 
 -- it reached this node: a dropped call reached none
 unfoldable pub reaches : ℕ → Record → Bool
@@ -30,7 +30,8 @@ IsStop Done = ⊥
 IsStop Idle = ⊥
 IsStop (NotOpened fail) = ⊥
 
--- What was heard is the answer. Nothing is heard of a call inside which the node was stopped; a muted call had any answer.
+-- What was heard is the answer. Nothing is heard of a call inside which the node was stopped; a
+-- muted call had any answer.
 abbrev pub StandsFor : Told → NodeAnswer → Type 0
 StandsFor (told.Reply reply) answer = answer ≡ Replied reply
 StandsFor told.Dropped answer = ⊥

@@ -1,15 +1,16 @@
--- The moving entries of all histories in one order: by the promise that the node has after the entry; under one promise first the
--- proposals of callers that don't own it, by node, and then the owner's entries in the order of its record. Kills, restarts and stops after
--- no effect stay behind the moving entry of their node before them, or at the front.
+-- The moving entries of all histories in one order: by the promise that the node has after the
+-- entry; under one promise first the proposals of callers that don't own it, by node, and then the
+-- owner's entries in the order of its record. Kills, restarts and stops after no effect stay behind
+-- the moving entry of their node before them, or at the front.
 use Rattle.std.specs.Prelude.{ℕ, zero, suc, ◌+◌, ◌==◌, ◌&&◌, ◌||◌, nat_lt, Bool, true, false, List, [], ◌∷◌, ◌++◌, length, filter, slice_get, Option, Some, None, if◌then◌else◌}
-use Rattle.node_history.specs.declared.history_line.HistoryLine.{HistoryLine}
-use Rattle.node_history.specs.declared.record.Record.{Record}
-use Rattle.node_history.specs.declared.record.Record.TheVariants.{Call}
-use Rattle.node_history.specs.declared.record.Told.{Told}
-use Rattle.node_history.specs.declared.record.Told.TheVariants as told
-use Rattle.node_history.specs.Cell.{Cell, fresh_cell, cell_takes}
-use Rattle.node_history.specs.Entries.{Entry}
-use Rattle.node_history.specs.Moving.{Placed, entry_of, falls}
+use Rattle.journal_history.specs.declared.history_line.HistoryLine.{HistoryLine}
+use Rattle.journal_history.specs.declared.record.Record.{Record}
+use Rattle.journal_history.specs.declared.record.Record.TheVariants.{Call}
+use Rattle.journal_history.specs.declared.record.Told.{Told}
+use Rattle.journal_history.specs.declared.record.Told.TheVariants as told
+use Rattle.journal_history.specs.Cell.{Cell, fresh_cell, cell_takes}
+use Rattle.journal_history.specs.Entries.{Entry}
+use Rattle.journal_history.specs.Moving.{Placed, entry_of, falls}
 use Rattle.mesh.specs.declared.whole.Mesh.{Mesh}
 use Rattle.mesh.specs.Agree.{record_of, history_at}
 use Rattle.mesh.specs.Matches.{reaches, reached, lines_of}
@@ -24,7 +25,8 @@ abbrev pub is_muted : Option Record → Bool
 is_muted (Some (Call node r t)) = was_muted t
 is_muted _ = false
 
--- the line of the caller's record that is this line of the node's history, with what stands before it there
+-- the line of the caller's record that is this line of the node's history, with what stands before
+-- it there
 abbrev pub line_of_caller : Mesh → ℕ → List HistoryLine → HistoryLine → Option Record
 line_of_caller m node before h = slice_get (reached node (record_of m h.caller)) (length (lines_of h.caller before))
 
@@ -37,7 +39,8 @@ placed_from m node before (h ∷ hs) =
 abbrev pub placed_at : Mesh → ℕ → List Placed
 placed_at m index = placed_from m (index + 1) [] (history_at m index)
 
--- the place in a record, counted on from this one, of the line that is after so many others that reached the node
+-- the place in a record, counted on from this one, of the line that is after so many others that
+-- reached the node
 unfoldable pub place_of : ℕ → ℕ → ℕ → List Record → ℕ
 place_of node others place [] = place
 place_of node zero place (r ∷ rs) = if reaches node r then place else place_of node zero (place + 1) rs

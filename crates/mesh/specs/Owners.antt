@@ -5,12 +5,12 @@ use Rattle.journal_core.specs.declared.request.Request.TheVariants as request
 use Rattle.writer_core.specs.declared.round.Round.TheVariants as round
 use Rattle.writer_core.specs.declared.slot.Slot.TheVariants as slot
 use Rattle.writer_core.specs.Answers.{is_ok}
-use Rattle.node_history.specs.declared.node_ask.NodeAsk.TheVariants.{Act}
-use Rattle.node_history.specs.declared.history_line.HistoryLine.{HistoryLine}
-use Rattle.node_history.specs.declared.record.Record.{Record}
-use Rattle.node_history.specs.declared.record.Record.TheVariants.{Call, Late, Operator, Outcome}
-use Rattle.node_history.specs.declared.record.Told.{Told}
-use Rattle.node_history.specs.Moving.{epoch_of, is_proposal}
+use Rattle.journal_history.specs.declared.node_ask.NodeAsk.TheVariants.{Act}
+use Rattle.journal_history.specs.declared.history_line.HistoryLine.{HistoryLine}
+use Rattle.journal_history.specs.declared.record.Record.{Record}
+use Rattle.journal_history.specs.declared.record.Record.TheVariants.{Call, Late, Operator, Outcome}
+use Rattle.journal_history.specs.declared.record.Told.{Told}
+use Rattle.journal_history.specs.Moving.{epoch_of, is_proposal}
 use Rattle.mesh.specs.declared.whole.Mesh.{Mesh}
 use Rattle.mesh.specs.Makers.{heard_of}
 use Rattle.mesh.specs.Agree.{record_of, history_at}
@@ -23,7 +23,8 @@ proposes epoch _ = false
 abbrev pub promised_to : Told → Bool
 promised_to t = is_ok round.Propose (slot.Told (heard_of t))
 
--- A run of proposals of the epoch, with no other call among them, was promised by more than half of the nodes; so many of them were heard so far.
+-- A run of proposals of the epoch, with no other call among them, was promised by more than half of
+-- the nodes; so many of them were heard so far.
 unfoldable pub wins : ℕ → ℕ → ℕ → List Record → Bool
 wins nodes epoch heard [] = nat_lt nodes (2 * heard)
 wins nodes epoch heard (Late node r ∷ rs) = wins nodes epoch heard rs

@@ -1,8 +1,8 @@
 -- When blocks and tagged lines stand in order.
 use Rattle.std.specs.Prelude.{◌≡◌, ℕ, ◌+◌, ◌==◌, List, [], ◌∷◌, Bool, true, false}
-use Rattle.node_history.specs.declared.history_line.HistoryLine.{HistoryLine}
-use Rattle.node_history.specs.Cell.{fresh_cell}
-use Rattle.node_history.specs.Moving.{falls}
+use Rattle.journal_history.specs.declared.history_line.HistoryLine.{HistoryLine}
+use Rattle.journal_history.specs.Cell.{fresh_cell}
+use Rattle.journal_history.specs.Moving.{falls}
 use Rattle.mesh.specs.declared.whole.Mesh.{Mesh}
 use Rattle.mesh.specs.Order.{Key, Block, is_below, Tagged, tags_of}
 

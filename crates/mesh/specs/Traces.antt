@@ -1,8 +1,8 @@
 -- One order of all lines of a mesh, where there is one: it fits all lists.
 use Rattle.std.specs.Prelude.{◌≡◌, ◌≢◌, ℕ, ◌+◌, ◌<◌, ◌≤◌, ◌==◌, false, List, [], ◌∷◌, ◌++◌, map, filter, Some, Contains}
-use Rattle.node_history.specs.declared.history_line.HistoryLine.{HistoryLine}
-use Rattle.node_history.specs.declared.record.Record.{Record}
-use Rattle.node_history.specs.Moving.{Placed}
+use Rattle.journal_history.specs.declared.history_line.HistoryLine.{HistoryLine}
+use Rattle.journal_history.specs.declared.record.Record.{Record}
+use Rattle.journal_history.specs.Moving.{Placed}
 use Rattle.mesh.specs.declared.whole.Mesh.{Mesh}
 use Rattle.mesh.specs.Matches.{reaches, IsSame}
 use Rattle.mesh.specs.Agree.{operator_of, history_at, record_of}
@@ -18,8 +18,8 @@ pub record IsEvent (r : Record) (x : Placed) : Type 0 where
   pub same : IsSame r x.line
   pub muted : is_muted (Some r) ≡ x.muted
 
--- It has the caller's lines in the order of its record. Both are built up line by line: the caller notes what reached no node, somebody else
--- reaches a node, or the caller does.
+-- It has the caller's lines in the order of its record. Both are built up line by line: the caller
+-- notes what reached no node, somebody else reaches a node, or the caller does.
 pub data InStep (caller : ℕ) : List Record → List Placed → Type 0 where
   begins : InStep caller [] []
   notes : (rs more : List Record) (t : List Placed) (r : Record) → more ≡ rs ++ r ∷ [] → ((node : ℕ) → reaches node r ≡ false) → InStep caller rs t → InStep caller more t

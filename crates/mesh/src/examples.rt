@@ -1,13 +1,14 @@
-// Worked meshes, computed by the check.
+//! Worked meshes, computed by the check.
 ghost use Rattle.std.specs.Prelude.{◌≡◌, List};
-ghost use Rattle.node_history.specs.Moving.{Placed};
+ghost use Rattle.journal_history.specs.Moving.{Placed};
 ghost use Rattle.run_safety.specs.Run.{IsRun};
 ghost use Rattle.mesh.specs.Agree.{Agrees};
 ghost use Rattle.mesh.specs.Order.{epoch_order};
 ghost use Rattle.mesh.specs.Traces.{IsTrace};
 ghost use Rattle.mesh.specs.Examples.{crossed, crossed_order, empty_log, empty_order, tailed, tailed_order};
 
-/// Two takeovers that crossed at two nodes: all lists agree, no one order of all lines fits them, and there is an epoch order.
+/// Two takeovers that crossed at two nodes: all lists agree, no one order of all lines fits them,
+/// and there is an epoch order.
 pub fn shows_crossed_takeovers()
     ensures agrees { Agrees crossed }
     ensures no_order { (t : List Placed) → IsTrace crossed t → ⊥ }

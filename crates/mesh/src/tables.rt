@@ -1,8 +1,8 @@
-// Tables of histories and of records.
+//! Tables of histories and of records.
 ghost use Rattle.std.specs.Prelude.{◌≡◌, ◌++◌, [], ◌∷◌, List, OnOk, OnErr};
 
 use journal_core::OutOfMemory;
-use node_history::{HistoryList, RecordList};
+use journal_history::{HistoryList, RecordList};
 use std::alloc::Global;
 use std::marker::Model;
 
@@ -21,7 +21,7 @@ impl Drop for HistoryTable {
 
 impl Model for HistoryTable {
     ghost use Rattle.std.specs.Prelude.{List};
-    ghost use Rattle.node_history.specs.declared.history_line.HistoryLine.{HistoryLine};
+    ghost use Rattle.journal_history.specs.declared.history_line.HistoryLine.{HistoryLine};
 
     ghost Value = { List (List HistoryLine) };
 
@@ -77,7 +77,7 @@ impl Drop for RecordTable {
 
 impl Model for RecordTable {
     ghost use Rattle.std.specs.Prelude.{List};
-    ghost use Rattle.node_history.specs.declared.record.Record.{Record};
+    ghost use Rattle.journal_history.specs.declared.record.Record.{Record};
 
     ghost Value = { List (List Record) };
 

@@ -1,6 +1,6 @@
-// The lists of all nodes and of all callers.
+//! The lists of all nodes and of all callers.
 use crate::tables::{HistoryTable, RecordTable};
-use node_history::Plan;
+use journal_history::Plan;
 
 /// What a play leaves: one history per node, one record per actor and then the operator's, and the
 /// script's plan.

@@ -5,9 +5,9 @@ use Rattle.std.specs.Ordering.{nat_cmp}
 use Rattle.std.proofs.lemmas.List.{drop_all}
 use Rattle.journal_core.specs.declared.request.Request.{Request}
 use Rattle.journal_core.specs.declared.request.Request.TheVariants as request
-use Rattle.node_history.specs.declared.record.Record.{Record}
-use Rattle.node_history.specs.declared.record.Record.TheVariants.{Call, Late, Operator, Outcome}
-use Rattle.node_history.specs.declared.record.Told.{Told}
+use Rattle.journal_history.specs.declared.record.Record.{Record}
+use Rattle.journal_history.specs.declared.record.Record.TheVariants.{Call, Late, Operator, Outcome}
+use Rattle.journal_history.specs.declared.record.Told.{Told}
 use Rattle.mesh.specs.Owners.{wins, proposes, promised_to}
 use Rattle.mesh.proofs.Lists.{Alike, alike}
 use Rattle.mesh_judge.specs.declared.won.Tally.{Tally}
@@ -48,7 +48,9 @@ proposed nodes epoch node other t u v told rest p is won count turned same more 
 
     by : Alike epoch other → wins_on nodes v other rest ≡ wins_on nodes t other (Call node (request.NewEpoch epoch) told ∷ rest)
     by (inl e) =
-        ap (λ b. b || wins nodes other (promises_to v other) rest) (has ∙ ap (λ b. contains nat_cmp t.won other || (not b && nat_lt nodes (2 * n))) e.0 ∙ or_none (contains nat_cmp t.won other) (nat_lt nodes (2 * n)))
+        ap (λ b. b || wins nodes other (promises_to v other) rest) (has
+        ∙ ap (λ b. contains nat_cmp t.won other || (not b && nat_lt nodes (2 * n))) e.0
+        ∙ or_none (contains nat_cmp t.won other) (nat_lt nodes (2 * n)))
         ∙ ap (λ z. contains nat_cmp t.won other || wins nodes other z rest)
         (at ∙ ap (λ b. cond b v.promises 0) e.0 ∙ counted ∙ ap (λ z. cond p (promises_to t z + 1) (promises_to t z)) e.1 ∙ ap (λ b. cond b (n + 1) n) is)
         ∙ ap (λ b. contains nat_cmp t.won other || goes b) (sym e.0)
@@ -59,7 +61,8 @@ proposed nodes epoch node other t u v told rest p is won count turned same more 
         ∙ ap (λ b. contains nat_cmp t.won other || goes b) (sym e.0)
 
 -- ## A line that is no call
-pub passed : (nodes epoch : ℕ) (t : Tally) (line : Record) (rest : List Record) → ((x : ℕ) (y : Request) (z : Told) → line ≡ Call x y z → ⊥) → wins_on nodes t epoch rest ≡ wins_on nodes t epoch (line ∷ rest)
+pub passed : (nodes epoch : ℕ) (t : Tally) (line : Record) (rest : List Record) → ((x : ℕ) (y : Request) (z : Told) → line ≡ Call x y z → ⊥)
+    → wins_on nodes t epoch rest ≡ wins_on nodes t epoch (line ∷ rest)
 unfolding wins
 passed nodes epoch t (Call node r told) rest off = absurd (off node r told refl)
 passed nodes epoch t (Late node r) rest off = refl

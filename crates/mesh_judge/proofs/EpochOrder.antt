@@ -1,4 +1,5 @@
--- Sorting the events of all blocks by rank, so that those of equal rank keep their order, gives the events of the sorted blocks.
+-- Sorting the events of all blocks by rank, so that those of equal rank keep their order, gives the
+-- events of the sorted blocks.
 use Rattle.std.proofs.Common.{◌≡◌, ℕ, ◌+◌, ◌<◌, ◌≤◌, ◌==◌, nat_lt, List, [], ◌∷◌, ◌++◌, Bool, true, false, not, cond, filter, map, length, refl, sym, ap, ◌∙◌, subst, drop, append_assoc, ◌⊎◌, inl, inr}
 use Rattle.std.specs.Prelude.{◌&&◌, ◌||◌}
 use Rattle.std.specs.declared.cmp.Ordering.{Ordering}
@@ -12,8 +13,8 @@ use Rattle.std.proofs.lemmas.List.Elements.{filter-append}
 use Rattle.std.proofs.lemmas.List.Sorted.{ranks_by}
 use Rattle.std.proofs.lemmas.Bool.{cases_Bool}
 use Rattle.run_safety.specs.declared.event.Event.{Event}
-use Rattle.node_history.specs.Entries.{Entry}
-use Rattle.node_history.specs.declared.history_line.HistoryLine.{HistoryLine}
+use Rattle.journal_history.specs.Entries.{Entry}
+use Rattle.journal_history.specs.declared.history_line.HistoryLine.{HistoryLine}
 use Rattle.mesh.specs.declared.whole.Mesh.{Mesh}
 use Rattle.mesh.specs.Agree.{history_at}
 use Rattle.mesh.specs.Order.{Key, Block, is_below, put_block, sorted, entries_in, blocks_at, blocks_from, epoch_order}
@@ -69,7 +70,11 @@ each b = true
 none_chain : (b c : Block) (cs : List Block) → is_below c.key b.key ≡ false → NoneBelow each c cs → NoneBelow each b cs
 unfolding NoneBelow
 none_chain b c [] e h = tt
-none_chain b c (d ∷ cs) e h = ((λ t. not_below d.key b.key (rank_order.chain (by_key d.key) (by_key c.key) (by_key b.key) (not_less d.key c.key (h.0 t)) (not_less c.key b.key e))), none_chain b c cs e h.1)
+none_chain b c (d ∷ cs) e h = (
+  (λ t. not_below d.key b.key (rank_order.chain (by_key d.key) (by_key c.key) (by_key b.key)
+      (not_less d.key c.key (h.0 t)) (not_less c.key b.key e))),
+  none_chain b c cs e h.1,
+)
 
 none_put : (a b : Block) (cs : List Block) → is_below b.key a.key ≡ false → NoneBelow each a cs → NoneBelow each a (put_block b cs)
 unfolding NoneBelow put_block
@@ -159,7 +164,8 @@ tied_none x b [] t = tt
 tied_none x b (c ∷ bs) t = (
   (λ u.
       not_below c.key b.key
-      (rank_order.chain (by_key c.key) x.rank (by_key b.key) (parts (rank_less x.rank (by_key c.key)) (rank_less (by_key c.key) x.rank) u).1 (parts (rank_less x.rank (by_key b.key)) (rank_less (by_key b.key) x.rank) t).0)),
+      (rank_order.chain (by_key c.key) x.rank (by_key b.key) (parts (rank_less x.rank (by_key c.key)) (rank_less (by_key c.key) x.rank) u).1
+      (parts (rank_less x.rank (by_key b.key)) (rank_less (by_key b.key) x.rank) t).0)),
   tied_none x b bs t,
 )
 
@@ -190,7 +196,8 @@ pub order_is : (m : Mesh) (xs ys : List Ranked) → xs ≡ ranked_in (blocks_fro
     → map (λ (r : Ranked). r.event) ys ≡ map event_of (epoch_order m)
 unfolding epoch_order
 order_is m xs ys is up stable =
-    ap (map (λ (r : Ranked). r.event)) (rank_sorted (blocks_from m 1 m.histories) ys up (subst (λ (l : List Ranked). IsStableByKey pair_of pair_cmp l ys) is stable)) ∙ events_in (sorted (blocks_from m 1 m.histories))
+    ap (map (λ (r : Ranked). r.event)) (rank_sorted (blocks_from m 1 m.histories) ys up
+    (subst (λ (l : List Ranked). IsStableByKey pair_of pair_cmp l ys) is stable)) ∙ events_in (sorted (blocks_from m 1 m.histories))
 
 -- ## Node by node
 ranked_append : (xs bs : List Block) → ranked_in (xs ++ bs) ≡ ranked_in xs ++ ranked_in bs

@@ -3,3 +3,14 @@ pub mod ReachLaws
 pub mod Walking
 pub mod Uniqueness
 pub mod EpochOrder
+pub mod Deciding
+pub mod LineLaws
+pub mod MatchLaws
+pub mod KeyLaws
+pub mod MarkLaws
+pub mod Chores
+pub mod Leading
+pub mod LeadingCode
+pub mod Alike
+pub mod Following
+pub mod PartLaws

@@ -1,10 +1,12 @@
--- The lines of a record that reached a node, with their places: one more line, and the line with a given number.
-use Rattle.std.proofs.Common.{◌≡◌, ℕ, zero, suc, ◌+◌, ◌-◌, ◌<◌, ◌≤◌, ◌==◌, List, [], ◌∷◌, ◌++◌, Bool, true, false, cond, length, refl, sym, ap, ◌∙◌, subst, arith, get_or, set, take, filter, Some, None, inl, inr}
+-- The lines of a record that reached a node, with their places: one more line, and the line with a
+-- given number.
+use Rattle.std.proofs.Common.{◌≡◌, ℕ, zero, suc, ◌+◌, ◌-◌, ◌<◌, ◌≤◌, ◌==◌, List, [], ◌∷◌, ◌++◌, Bool, true, false, cond, length, refl, sym, ap, ◌∙◌}
+use Rattle.std.proofs.Common.{subst, arith, get_or, set, take, filter, Some, None, inl, inr}
 use Rattle.std.specs.Prelude.{slice_get}
 use Rattle.std.proofs.lemmas.List.{take_more, take_all, get_or-set_same, get_or-set_other, length-set, append-nil}
-use Rattle.node_history.specs.declared.record.Record.{Record}
-use Rattle.node_history.specs.declared.record.Record.TheVariants.{Call, Late, Operator, Outcome}
-use Rattle.node_history.specs.declared.record.Told.TheVariants as told
+use Rattle.journal_history.specs.declared.record.Record.{Record}
+use Rattle.journal_history.specs.declared.record.Record.TheVariants.{Call, Late, Operator, Outcome}
+use Rattle.journal_history.specs.declared.record.Told.TheVariants as told
 use Rattle.mesh.specs.Matches.{reaches, reached, IsWithin, AreWithin}
 use Rattle.mesh.specs.Order.{is_muted, place_of}
 use Rattle.mesh.proofs.Lists.{Alike, alike}
@@ -30,7 +32,8 @@ places_snoc node p (x ∷ rs) r = by (reaches node x) (places_snoc node (p + 1) 
     next = omega arith
 
     by : (b : Bool) → places node (p + 1) (rs ++ r ∷ []) ≡ places node (p + 1) rs ++ more (reaches node r) (p + 1 + length rs) r
-        → cond b (reach p x ∷ places node (p + 1) (rs ++ r ∷ [])) (places node (p + 1) (rs ++ r ∷ [])) ≡ cond b (reach p x ∷ places node (p + 1) rs) (places node (p + 1) rs) ++ more (reaches node r) (p + suc (length rs)) r
+        → cond b (reach p x ∷ places node (p + 1) (rs ++ r ∷ [])) (places node (p + 1) (rs ++ r ∷ [])) ≡ cond b (reach p x ∷ places node (p + 1) rs)
+        (places node (p + 1) rs) ++ more (reaches node r) (p + suc (length rs)) r
     by true h = ap (λ (l : List Reach). reach p x ∷ l) (h ∙ ap (λ n. places node (p + 1) rs ++ more (reaches node r) n r) next)
     by false h = h ∙ ap (λ n. places node (p + 1) rs ++ more (reaches node r) n r) next
 
@@ -52,7 +55,8 @@ place_at node j p [] d l = absurd (omega (arith, l))
 place_at node zero p (r ∷ rs) d l = by (reaches node r) l (λ x. place_at node zero (p + 1) rs d x)
   where
     by : (b : Bool) → zero < length (cond b (r ∷ filter (reaches node) rs) (filter (reaches node) rs))
-        → (zero < length (filter (reaches node) rs) → get_or (places node (p + 1) rs) zero d ≡ record { place = place_of node zero (p + 1) rs; is_muted = is_muted (slice_get (filter (reaches node) rs) zero) })
+        → (zero < length (filter (reaches node) rs) → get_or (places node (p + 1) rs) zero d ≡
+        record { place = place_of node zero (p + 1) rs; is_muted = is_muted (slice_get (filter (reaches node) rs) zero) })
         → get_or (cond b (reach p r ∷ places node (p + 1) rs) (places node (p + 1) rs)) zero d
         ≡ record { place = cond b p (place_of node zero (p + 1) rs); is_muted = is_muted (slice_get (cond b (r ∷ filter (reaches node) rs) (filter (reaches node) rs)) zero) }
     by true x h = refl
@@ -61,9 +65,13 @@ place_at node (suc j) p (r ∷ rs) d l = by (reaches node r) l (λ x. place_at n
   where
     by : (b : Bool) → suc j < length (cond b (r ∷ filter (reaches node) rs) (filter (reaches node) rs))
         → (j < length (filter (reaches node) rs) → get_or (places node (p + 1) rs) j d ≡ record { place = place_of node j (p + 1) rs; is_muted = is_muted (slice_get (filter (reaches node) rs) j) })
-        → (suc j < length (filter (reaches node) rs) → get_or (places node (p + 1) rs) (suc j) d ≡ record { place = place_of node (suc j) (p + 1) rs; is_muted = is_muted (slice_get (filter (reaches node) rs) (suc j)) })
+        → (suc j < length (filter (reaches node) rs) → get_or (places node (p + 1) rs) (suc j) d ≡
+        record { place = place_of node (suc j) (p + 1) rs; is_muted = is_muted (slice_get (filter (reaches node) rs) (suc j)) })
         → get_or (cond b (reach p r ∷ places node (p + 1) rs) (places node (p + 1) rs)) (suc j) d
-        ≡ record { place = cond b (place_of node j (p + 1) rs) (place_of node (suc j) (p + 1) rs); is_muted = is_muted (slice_get (cond b (r ∷ filter (reaches node) rs) (filter (reaches node) rs)) (suc j)) }
+        ≡ record {
+          place = cond b (place_of node j (p + 1) rs) (place_of node (suc j) (p + 1) rs);
+          is_muted = is_muted (slice_get (cond b (r ∷ filter (reaches node) rs) (filter (reaches node) rs)) (suc j));
+        }
     by true x h g = h (omega (arith, x))
     by false x h g = g x
 
@@ -126,13 +134,16 @@ places_more node i rs r l is =
     let one : take (i + 1) rs ≡ take i rs ++ r ∷ [] = take_more rs i r l ∙ ap (λ x. take i rs ++ x ∷ []) (sym is) in
     ap (places node 1) one ∙ places_snoc node 1 (take i rs) r ∙ ap (λ n. places node 1 (take i rs) ++ more (reaches node r) (1 + n) r) (taken_length i rs (omega (arith, l)))
 
-pub split_skips : (nodes i : ℕ) (rs : List Record) (r : Record) (lists : List (List Reach)) → i < length rs → r ≡ get_or rs i r → node_reached r ≡ None → Split nodes (take i rs) lists → Split nodes (take (i + 1) rs) lists
+pub split_skips : (nodes i : ℕ) (rs : List Record) (r : Record) (lists : List (List Reach)) → i < length rs → r ≡ get_or rs i r
+    → node_reached r ≡ None → Split nodes (take i rs) lists → Split nodes (take (i + 1) rs) lists
 split_skips nodes i rs r lists l is e h = record {
   size = h.size;
-  each = λ k less. h.each k less ∙ sym (places_more (k + 1) i rs r l is ∙ ap (λ b. places (k + 1) 1 (take i rs) ++ more b (1 + i) r) (none_reaches (k + 1) r e) ∙ append-nil (places (k + 1) 1 (take i rs)));
+  each = λ k less. h.each k less ∙ sym (places_more (k + 1) i rs r l is
+      ∙ ap (λ b. places (k + 1) 1 (take i rs) ++ more b (1 + i) r) (none_reaches (k + 1) r e) ∙ append-nil (places (k + 1) 1 (take i rs)));
 }
 
-pub split_adds : (nodes node i : ℕ) (rs : List Record) (r : Record) (lists : List (List Reach)) (x : Reach) (list : List Reach) → i < length rs → r ≡ get_or rs i r → node_reached r ≡ Some node → (1 ≤ node) × (node ≤ nodes)
+pub split_adds : (nodes node i : ℕ) (rs : List Record) (r : Record) (lists : List (List Reach)) (x : Reach) (list : List Reach) → i < length rs
+    → r ≡ get_or rs i r → node_reached r ≡ Some node → (1 ≤ node) × (node ≤ nodes)
     → x ≡ reach (i + 1) r → list ≡ get_or lists (node - 1) [] ++ x ∷ [] → Split nodes (take i rs) lists → Split nodes (take (i + 1) rs) (set lists (node - 1) list)
 unfolding Alike
 split_adds nodes node i rs r lists x list l is e w made grown h = record {
@@ -149,7 +160,9 @@ split_adds nodes node i rs r lists x list l is e w made grown h = record {
     by : (k : ℕ) → k < nodes → Alike node (k + 1) → get_or (set lists (node - 1) list) k [] ≡ places (k + 1) 1 (take (i + 1) rs)
     by k less (inl f) =
         let same : node - 1 ≡ k = omega (arith, f.1) in
-        let there : get_or (set lists (node - 1) list) k [] ≡ list = subst (λ n. get_or (set lists (node - 1) list) n [] ≡ list) same (get_or-set_same lists (node - 1) list [] (omega (arith, h.size, w.0, w.1))) in
+        let there : get_or (set lists (node - 1) list) k [] ≡ list =
+        subst (λ n. get_or (set lists (node - 1) list) n [] ≡ list) same
+        (get_or-set_same lists (node - 1) list [] (omega (arith, h.size, w.0, w.1))) in
         there ∙ grown ∙ ap (λ n. get_or lists n [] ++ x ∷ []) same ∙ ap (λ ys. ys ++ x ∷ []) (h.each k less)
         ∙ ap (λ z. places (k + 1) 1 (take i rs) ++ z ∷ []) (made ∙ ap (λ n. reach n r) place) ∙ sym (tells k true f.0)
     by k less (inr f) =

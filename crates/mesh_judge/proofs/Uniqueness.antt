@@ -1,4 +1,5 @@
--- Two lists that rise are the same where those that tie stand in the same order in both: a stable sort has one result.
+-- Two lists that rise are the same where those that tie stand in the same order in both: a stable
+-- sort has one result.
 use Rattle.std.proofs.Common.{◌≡◌, ℕ, suc, zero, ◌<◌, ◌≤◌, List, [], ◌∷◌, Bool, true, false, not, cond, filter, refl, sym, ap, ◌∙◌, subst, arith, get_or, length, ◌⊎◌, inl, inr}
 use Rattle.std.specs.Prelude.{◌&&◌}
 use Rattle.std.specs.Cmp.{IsStrictWeakOrder}

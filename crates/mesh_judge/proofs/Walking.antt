@@ -1,20 +1,23 @@
--- A node's history, line by line: where each caller stands in its record, and what is ranked so far.
-use Rattle.std.proofs.Common.{◌≡◌, ℕ, zero, suc, ◌+◌, ◌<◌, ◌≤◌, ◌==◌, List, [], ◌∷◌, ◌++◌, Bool, true, false, cond, map, length, refl, sym, ap, ◌∙◌, subst, arith, get_or, set, take, drop, filter, replicate, append_assoc, Option, Some, None, ◌⊎◌, inl, inr}
+-- A node's history, line by line: where each caller stands in its record, and what is ranked so
+-- far.
+use Rattle.std.proofs.Common.{◌≡◌, ℕ, zero, suc, ◌+◌, ◌<◌, ◌≤◌, ◌==◌, List, [], ◌∷◌, ◌++◌, Bool, true, false, cond, map, length, refl, sym, ap, ◌∙◌}
+use Rattle.std.proofs.Common.{subst, arith, get_or, set, take, drop, filter, replicate, append_assoc, Option, Some, None, ◌⊎◌, inl, inr}
 use Rattle.std.specs.Prelude.{◌≢◌, slice_get}
 use Rattle.std.specs.BTreeSet.{contains}
 use Rattle.std.specs.Ordering.{nat_cmp}
 use Rattle.std.proofs.lemmas.Bool.{cases_Bool}
-use Rattle.std.proofs.lemmas.List.{map-append, get_or_default, take_more, drop_more, drop_all, take-append-drop, get_or-set_same, get_or-set_other, get_or-replicate, length-replicate, length-set, append-nil}
+use Rattle.std.proofs.lemmas.List.{map-append, get_or_default, take_more, drop_more, drop_all, take-append-drop, get_or-set_same, get_or-set_other}
+use Rattle.std.proofs.lemmas.List.{get_or-replicate, length-replicate, length-set, append-nil}
 use Rattle.journal_core.specs.declared.request.Request.{Request}
-use Rattle.node_history.specs.declared.node_ask.NodeAsk.TheVariants.{Act}
-use Rattle.node_history.specs.declared.node_ask.NodeAnswer.{NodeAnswer}
-use Rattle.node_history.specs.declared.node_ask.NodeAnswer.TheVariants.{Replied, Stopped, Done, Idle, NotOpened}
+use Rattle.journal_history.specs.declared.node_ask.NodeAsk.TheVariants.{Act}
+use Rattle.journal_history.specs.declared.node_ask.NodeAnswer.{NodeAnswer}
+use Rattle.journal_history.specs.declared.node_ask.NodeAnswer.TheVariants.{Replied, Stopped, Done, Idle, NotOpened}
 use Rattle.run_safety.specs.declared.event.Event.{Event}
-use Rattle.node_history.specs.declared.history_line.HistoryLine.{HistoryLine}
-use Rattle.node_history.specs.Cell.{Cell, fresh_cell, cell_takes, cell_after, IsLocalRun}
-use Rattle.node_history.specs.Entries.{Move, Answer, Stop, Kill, Restart, Entry}
-use Rattle.node_history.specs.Moving.{Placed, epoch_of, moves, way_of, move_of, falls, entry_of}
-use Rattle.node_history.proofs.Raised.{CellRaised, cell_raised}
+use Rattle.journal_history.specs.declared.history_line.HistoryLine.{HistoryLine}
+use Rattle.journal_history.specs.Cell.{Cell, fresh_cell, cell_takes, cell_after, IsLocalRun}
+use Rattle.journal_history.specs.Entries.{Move, Answer, Stop, Kill, Restart, Entry}
+use Rattle.journal_history.specs.Moving.{Placed, epoch_of, moves, way_of, move_of, falls, entry_of}
+use Rattle.journal_history.proofs.Raised.{CellRaised, cell_raised}
 use Rattle.mesh.specs.declared.whole.Mesh.{Mesh}
 use Rattle.mesh.specs.Matches.{reached, lines_of, CallersWithin}
 use Rattle.mesh.specs.Agree.{Agrees, operator_of, history_at, record_of}
@@ -92,7 +95,8 @@ move_epoch caller muted late r Idle v e off = absurd (cc e)
 move_epoch caller muted late r (NotOpened fail) v e off = absurd (cc e)
 
 -- ## One line
--- a line of the node i + 1, after these, with what is known of its caller and of its place in the caller's record
+-- a line of the node i + 1, after these, with what is known of its caller and of its place in the
+-- caller's record
 module _ (m : Mesh) (i : ℕ) (before : List HistoryLine) (h : HistoryLine) (cell : Cell) (c : Caller) (place : ℕ) (last : Rank)
     (run : h.answer ≡ (cell_takes cell h.ask).answer)
     (owned : (epoch : ℕ) → contains nat_cmp c.won epoch ≡ wins m.nodes epoch 0 (record_of m h.caller))
@@ -129,7 +133,8 @@ module _ (m : Mesh) (i : ℕ) (before : List HistoryLine) (h : HistoryLine) (cel
     line_still rest e = by (entry_of placed) e
       where
         by : (o : Option Entry) → moved_by o ≡ None
-            → ranks_from last (tag_first o key (tags_of m (i + 1) (cell_takes cell h.ask).cell (before ++ h ∷ []) rest)) ≡ ranks_from last (tags_of m (i + 1) (cell_takes cell h.ask).cell (before ++ h ∷ []) rest)
+            → ranks_from last (tag_first o key (tags_of m (i + 1) (cell_takes cell h.ask).cell (before ++ h ∷ []) rest)) ≡ ranks_from last
+            (tags_of m (i + 1) (cell_takes cell h.ask).cell (before ++ h ∷ []) rest)
         by None f = refl
         by (Some x) f = absurd (cc f)
 
@@ -168,7 +173,8 @@ unfolding count_of lines_of
 count_le c [] = omega arith
 count_le c (h ∷ hs) = by (h.caller == c) (count_le c hs)
   where
-    by : (b : Bool) → length (filter (λ (x : HistoryLine). x.caller == c) hs) ≤ length hs → length (cond b (h ∷ filter (λ (x : HistoryLine). x.caller == c) hs) (filter (λ (x : HistoryLine). x.caller == c) hs)) ≤ suc (length hs)
+    by : (b : Bool) → length (filter (λ (x : HistoryLine). x.caller == c) hs) ≤ length hs
+        → length (cond b (h ∷ filter (λ (x : HistoryLine). x.caller == c) hs) (filter (λ (x : HistoryLine). x.caller == c) hs)) ≤ suc (length hs)
     by true l = omega (arith, l)
     by false l = omega (arith, l)
 
@@ -185,7 +191,8 @@ unfolding count_of lines_of
 count_nothing c = refl
 
 -- the line h of the node i + 1 stands at k
-module _ (m : Mesh) (cs : List Caller) (i k : ℕ) (h : HistoryLine) (a : Agrees m) (known : KnowsAll m cs) (in_ : i < m.nodes) (l : k < length (history_at m i)) (is : h ≡ get_or (history_at m i) k h) where
+module _ (m : Mesh) (cs : List Caller) (i k : ℕ) (h : HistoryLine) (a : Agrees m) (known : KnowsAll m cs) (in_ : i < m.nodes)
+    (l : k < length (history_at m i)) (is : h ≡ get_or (history_at m i) k h) where
   abbrev past : List HistoryLine
   past = take k (history_at m i)
 
@@ -204,7 +211,8 @@ module _ (m : Mesh) (cs : List Caller) (i k : ℕ) (h : HistoryLine) (a : Agrees
   count_small = omega (arith, count_le h.caller past, taken_length k (history_at m i) (omega (arith, l)))
 
 -- the lines that are read are the node's
-pub lines_are : (m : Mesh) (i : ℕ) (tables : List (List HistoryLine)) (d lines : List HistoryLine) → i < m.nodes → length m.histories ≡ m.nodes → tables ≡ m.histories → d ≡ get_or tables i d → lines ≡ d → lines ≡ history_at m i
+pub lines_are : (m : Mesh) (i : ℕ) (tables : List (List HistoryLine)) (d lines : List HistoryLine) → i < m.nodes → length m.histories ≡ m.nodes
+    → tables ≡ m.histories → d ≡ get_or tables i d → lines ≡ d → lines ≡ history_at m i
 lines_are m i tables d lines in_ size whole at is = is ∙ at ∙ ap (λ (t : List (List HistoryLine)). get_or t i d) whole ∙ get_or_default m.histories i d [] (omega (arith, in_, size))
 
 -- ## All lines
@@ -234,7 +242,8 @@ walk_ends m cs i k old out taken last w l =
 
 -- one more line
 module _ (m : Mesh) (cs : List Caller) (i k : ℕ) (h : HistoryLine) (a : Agrees m) (known : KnowsAll m cs) (in_ : i < m.nodes) (l : k < length (history_at m i)) (is : h ≡ get_or (history_at m i) k h)
-    (old out : List Ranked) (taken : List ℕ) (last : Rank) (w : Walked m cs i old out taken last k) (c : Caller) (there : c ≡ get_or cs h.caller c) (number : ℕ) (numbered : number ≡ get_or taken h.caller 0)
+    (old out : List Ranked) (taken : List ℕ) (last : Rank) (w : Walked m cs i old out taken last k) (c : Caller) (there : c ≡ get_or cs h.caller c)
+    (number : ℕ) (numbered : number ≡ get_or taken h.caller 0)
   where
     abbrev all : List HistoryLine
     all = history_at m i
@@ -310,7 +319,8 @@ module _ (m : Mesh) (cs : List Caller) (i k : ℕ) (h : HistoryLine) (a : Agrees
 
     tags_next : tags_of m (i + 1) (cell_after fresh_cell (take (k + 1) all)) (take (k + 1) all) (drop (k + 1) all) ≡ tags_on
     tags_next =
-        ap (λ (x : Cell). tags_of m (i + 1) x (take (k + 1) all) (drop (k + 1) all)) moved_cell ∙ ap (λ (x : List HistoryLine). tags_of m (i + 1) (cell_takes cell h.ask).cell x (drop (k + 1) all)) next
+        ap (λ (x : Cell). tags_of m (i + 1) x (take (k + 1) all) (drop (k + 1) all)) moved_cell
+        ∙ ap (λ (x : List HistoryLine). tags_of m (i + 1) (cell_takes cell h.ask).cell x (drop (k + 1) all)) next
 
     tags_now : tags_of m (i + 1) cell (take k all) (drop k all) ≡ tags_of m (i + 1) cell (take k all) (h ∷ drop (k + 1) all)
     tags_now = ap (λ (x : List HistoryLine). tags_of m (i + 1) cell (take k all) x) more

@@ -1,11 +1,12 @@
--- Entries of a run as events of the journal world, which tell what was done and not what was replied.
+-- Entries of a run as events of the journal world, which tell what was done and not what was
+-- replied.
 use Rattle.std.specs.Prelude.{ℕ, zero, suc, Bool, true, false, Option, Some, None}
 use Rattle.journal_core.specs.declared.request.Request.{Request}
 use Rattle.run_safety.specs.declared.event.Fate.TheVariants as fate
 use Rattle.run_safety.specs.declared.event.Event.{Event}
 use Rattle.run_safety.specs.declared.event.Event.TheVariants as event
-use Rattle.node_history.specs.Entries.{Way, Heard, Muted, Late, Move, Answer, Stop, Kill, Restart, Entry}
-use Rattle.node_history.specs.Moving.{epoch_of}
+use Rattle.journal_history.specs.Entries.{Way, Heard, Muted, Late, Move, Answer, Stop, Kill, Restart, Entry}
+use Rattle.journal_history.specs.Moving.{epoch_of}
 use Rattle.mesh_judge.specs.declared.moved.Moved.{Moved}
 
 abbrev pub call_event : ℕ → ℕ → Way → Request → Event

@@ -3,3 +3,8 @@ pub mod Events
 pub mod Ranks
 pub mod Reaches
 pub mod Callers
+pub mod Keys
+pub mod Matching
+pub mod Parts
+pub mod Marking
+pub mod Leading

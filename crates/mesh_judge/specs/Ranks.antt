@@ -2,14 +2,15 @@
 use Rattle.std.specs.Prelude.{ℕ, List, [], ◌∷◌, ◌++◌, map, Option, Some, None}
 use Rattle.std.specs.BTreeSet.{contains}
 use Rattle.std.specs.Ordering.{nat_cmp}
-use Rattle.node_history.specs.Entries.{Entry}
+use Rattle.journal_history.specs.Entries.{Entry}
 use Rattle.mesh.specs.Order.{Key, Block, owners_place}
 use Rattle.mesh_judge.specs.declared.caller.Caller.{Caller}
 use Rattle.mesh_judge.specs.declared.ranking.Rank.{Rank}
 use Rattle.mesh_judge.specs.declared.ranking.Ranked.{Ranked}
 use Rattle.mesh_judge.specs.Events.{event_of}
 
--- the rank of a caller's line at this place that moved its node under this epoch, or under none after this rank
+-- the rank of a caller's line at this place that moved its node under this epoch, or under none
+-- after this rank
 abbrev pub rank_of : Caller → Option ℕ → ℕ → Rank → Rank
 rank_of c None place last = last
 rank_of c (Some epoch) place last = record { promise = epoch; place = owners_place (contains nat_cmp c.won epoch) place }

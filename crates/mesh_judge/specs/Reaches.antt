@@ -1,8 +1,8 @@
 -- The lines of a record that reached a node, by place.
 use Rattle.std.specs.Prelude.{ℕ, ◌+◌, List, [], ◌∷◌, Option, Some, None, if◌then◌else◌}
-use Rattle.node_history.specs.declared.record.Record.{Record}
-use Rattle.node_history.specs.declared.record.Record.TheVariants.{Call, Late, Operator, Outcome}
-use Rattle.node_history.specs.declared.record.Told.TheVariants as told
+use Rattle.journal_history.specs.declared.record.Record.{Record}
+use Rattle.journal_history.specs.declared.record.Record.TheVariants.{Call, Late, Operator, Outcome}
+use Rattle.journal_history.specs.declared.record.Told.TheVariants as told
 use Rattle.mesh.specs.Matches.{reaches}
 use Rattle.mesh.specs.Order.{is_muted}
 use Rattle.mesh_judge.specs.declared.reached.Reach.{Reach}

@@ -2,7 +2,7 @@
 use Rattle.std.specs.Prelude.{ℕ, ◌==◌, ◌||◌, Bool, List, if◌then◌else◌}
 use Rattle.std.specs.BTreeSet.{contains}
 use Rattle.std.specs.Ordering.{nat_cmp}
-use Rattle.node_history.specs.declared.record.Record.{Record}
+use Rattle.journal_history.specs.declared.record.Record.{Record}
 use Rattle.mesh.specs.Owners.{wins}
 use Rattle.mesh_judge.specs.declared.won.Tally.{Tally}
 

@@ -1,4 +1,4 @@
-// What is known of a caller by its record.
+//! What is known of a caller by its record.
 ghost use Rattle.std.specs.Prelude.{◌≡◌, ◌<◌, ℕ, [], IfOk, length, slice_index_or};
 ghost use Rattle.std.specs.BTreeSet.{contains};
 ghost use Rattle.std.specs.Ordering.{nat_cmp};
@@ -11,8 +11,8 @@ ghost use Rattle.mesh_judge.specs.Callers.{Knows, KnowsAll};
 use crate::reached::{Reach, ReachList, reached_by_node};
 use crate::won::won_epochs;
 use journal_core::OutOfMemory;
+use journal_history::Record;
 use mesh::Mesh;
-use node_history::Record;
 use std::alloc::Global;
 use std::collections::BTreeSet;
 

@@ -1,15 +1,16 @@
-// What a line of a history did to its node.
+//! What a line of a history did to its node.
 ghost use Rattle.std.specs.Prelude.{◌≡◌, Some, IfOk};
-ghost use Rattle.node_history.specs.declared.node_ask.NodeAsk.TheVariants as ask;
-ghost use Rattle.node_history.specs.declared.node_ask.NodeAnswer.TheVariants as answer;
-ghost use Rattle.node_history.specs.Moving.{epoch_of, is_at_once, is_refused_at_once, moves, way_of, move_of, entry_at, entry_of};
+ghost use Rattle.journal_history.specs.declared.node_ask.NodeAsk.TheVariants as ask;
+ghost use Rattle.journal_history.specs.declared.node_ask.NodeAnswer.TheVariants as answer;
+ghost use Rattle.journal_history.specs.Moving.{epoch_of, is_at_once, is_refused_at_once, moves, way_of, move_of, entry_at, entry_of};
 ghost use Rattle.mesh_judge.specs.Events.{call_event, stop_event, moved_by};
 
 use journal_core::{OutOfMemory, Refusal, Reply, Request, SharedRequest};
-use node_history::{HistoryLine, NodeAnswer, NodeAsk};
+use journal_history::{HistoryLine, NodeAnswer, NodeAsk};
 use run_safety::{Event, Fate};
 
-/// What moved a node, and the epoch under which it moved; none of a kill, a restart, or a stop after no effect.
+/// What moved a node, and the epoch under which it moved; none of a kill, a restart, or a stop
+/// after no effect.
 #[derive(Drop)]
 pub(crate) struct Moved {
     pub(crate) event: Event,
@@ -17,7 +18,7 @@ pub(crate) struct Moved {
 }
 
 /// The epoch that a request proposes, or that of its head.
-#[tactic(auto, unfolding(node_history::specs::Moving::epoch_of))]
+#[tactic(auto, unfolding(journal_history::specs::Moving::epoch_of))]
 fn epoch_of(request: &Request) -> Option<u64>
     ensures { result ≡ epoch_of request.now }
 {
@@ -44,7 +45,7 @@ fn is_at_once(refusal: &Refusal) -> bool
 }
 
 /// A request that was answered so moved its node.
-#[tactic(auto, unfolding(node_history::specs::Moving::moves))]
+#[tactic(auto, unfolding(journal_history::specs::Moving::moves))]
 fn moves(request: &Request, reply: &Reply) -> bool
     ensures { result ≡ moves request.now reply.now }
 {
@@ -97,7 +98,7 @@ fn stop_event(node: usize, caller: u32, late: bool, request: SharedRequest, keep
 }
 
 /// What a request did to this node.
-#[tactic(auto, unfolding(node_history::specs::Moving::move_of))]
+#[tactic(auto, unfolding(journal_history::specs::Moving::move_of))]
 fn moved_by_request(
     node: usize,
     caller: u32,
@@ -125,8 +126,9 @@ fn moved_by_request(
     }
 }
 
-/// What a line of this node's history did to it, if anything; `muted` tells that its caller didn't hear the reply.
-#[tactic(auto, unfolding(node_history::specs::Moving::entry_of, node_history::specs::Moving::move_of))]
+/// What a line of this node's history did to it, if anything; `muted` tells that its caller didn't
+/// hear the reply.
+#[tactic(auto, unfolding(journal_history::specs::Moving::entry_of, journal_history::specs::Moving::move_of))]
 pub(crate) fn moved_by(
     node: usize,
     line: &HistoryLine,

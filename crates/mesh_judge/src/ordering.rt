@@ -1,4 +1,4 @@
-// The epoch order of a mesh.
+//! The epoch order of a mesh.
 ghost use Rattle.std.specs.Prelude.{◌≡◌, IfOk, map};
 ghost use Rattle.mesh.specs.Agree.{Agrees};
 ghost use Rattle.mesh.specs.Order.{epoch_order};
@@ -21,9 +21,9 @@ fn events_of(alloc: Global, ranked: Vec<Ranked>) -> Result<Vec<Event>, OutOfMemo
     Ok(events)
 }
 
-/// The epoch order of a mesh that agrees: what moved its nodes, as events, by the promise that the node has after each; under one
-/// promise first the proposals of callers that don't own it, and then the owner's events in the order of its record. `OutOfMemory`
-/// where the lists can't be made.
+/// The epoch order of a mesh that agrees: what moved its nodes, as events, by the promise that the
+/// node has after each; under one promise first the proposals of callers that don't own it, and
+/// then the owner's events in the order of its record. `OutOfMemory` where the lists can't be made.
 pub fn order_events(alloc: Global, mesh: &Mesh) -> Result<Vec<Event>, OutOfMemory>
     requires { Agrees mesh.now }
     ensures { IfOk result (λ events. events.items ≡ map event_of (epoch_order mesh.now)) }

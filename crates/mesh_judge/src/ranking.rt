@@ -1,4 +1,4 @@
-// The moving lines of histories, with what they are sorted by.
+//! The moving lines of histories, with what they are sorted by.
 ghost use Rattle.std.specs.Prelude.{◌≡◌, ◌<◌, ◌+◌, ◌++◌, IfOk, OnOk, replicate};
 ghost use Rattle.mesh.specs.Agree.{Agrees, history_at};
 ghost use Rattle.mesh.specs.Order.{blocks_at, blocks_from};
@@ -12,22 +12,24 @@ use mesh::Mesh;
 use run_safety::Event;
 use std::alloc::Global;
 
-/// What a moving line is sorted by: the promise that its node has after it, and its place in the record of that epoch's owner, or 0.
+/// What a moving line is sorted by: the promise that its node has after it, and its place in the
+/// record of that epoch's owner, or 0.
 #[derive(Clone, Copy, Debug, PartialEq, Eq)]
 pub(crate) struct Rank {
     pub(crate) promise: u64,
     pub(crate) place: usize,
 }
 
-/// A moving line as an event. A kill, a restart and a stop after no effect have the rank of the line before them that moved the
-/// node otherwise.
+/// A moving line as an event. A kill, a restart and a stop after no effect have the rank of the
+/// line before them that moved the node otherwise.
 #[derive(Drop)]
 pub(crate) struct Ranked {
     pub(crate) rank: Rank,
     pub(crate) event: Event,
 }
 
-/// The rank of a line of this caller that moved its node under this epoch, or under none after this rank.
+/// The rank of a line of this caller that moved its node under this epoch, or under none after this
+/// rank.
 fn rank_of(caller: &Caller, epoch: Option<u64>, place: usize, last: Rank) -> Rank
     ensures { result ≡ rank_of caller.now epoch place last }
 {

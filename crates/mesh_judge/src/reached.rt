@@ -1,16 +1,17 @@
-// The lines of a record that reached each node.
+//! The lines of a record that reached each node.
 ghost use Rattle.std.specs.Prelude.{◌≡◌, ◌<◌, ◌+◌, ◌++◌, ◌∷◌, [], ℕ, List, Some, IfOk, OnOk, OnErr, length, slice_index_or};
-ghost use Rattle.node_history.specs.declared.record.Record.{Record};
+ghost use Rattle.journal_history.specs.declared.record.Record.{Record};
 ghost use Rattle.mesh.specs.Order.{was_muted, is_muted};
 ghost use Rattle.mesh.specs.Matches.{AreWithin, IsWithin};
 ghost use Rattle.mesh_judge.specs.Reaches.{node_reached, places};
 
 use journal_core::OutOfMemory;
-use node_history::{Record, Told};
+use journal_history::{Record, Told};
 use std::alloc::Global;
 use std::marker::Model;
 
-/// A line that reached a node: its place in the caller's record, from 1, and whether the reply to it was lost.
+/// A line that reached a node: its place in the caller's record, from 1, and whether the reply to
+/// it was lost.
 #[derive(Clone, Copy, Debug, PartialEq, Eq)]
 pub struct Reach {
     pub place: usize,

@@ -1,17 +1,18 @@
-// The epochs that a caller owns.
+//! The epochs that a caller owns.
 ghost use Rattle.std.specs.Prelude.{◌≡◌, ◌<◌, ◌≤◌, ◌+◌, ◌*◌, ◌^◌, ◌∷◌, ◌||◌, ◌&&◌, ◌==◌, not, ℕ, List, nat_lt, IfOk, OnOk};
 ghost use Rattle.std.specs.BTreeSet.{contains};
 ghost use Rattle.std.specs.Ordering.{nat_cmp};
-ghost use Rattle.node_history.specs.declared.record.Record.{Record};
+ghost use Rattle.journal_history.specs.declared.record.Record.{Record};
 ghost use Rattle.mesh.specs.Owners.{wins, promised_to};
 ghost use Rattle.mesh_judge.specs.Tallies.{promises_to, wins_on};
 
 use journal_core::{MAX_NUMBER, OutOfMemory, Reply, Request};
-use node_history::{Record, Told};
+use journal_history::{Record, Told};
 use std::alloc::Global;
 use std::collections::BTreeSet;
 
-/// The epochs that a caller won so far, and the epoch that it proposes, with the promises of this run of proposals.
+/// The epochs that a caller won so far, and the epoch that it proposes, with the promises of this
+/// run of proposals.
 #[derive(Drop)]
 pub(crate) struct Tally {
     epoch: u64,

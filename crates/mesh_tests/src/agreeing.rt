@@ -1,11 +1,11 @@
-//! Lists of known and of random plays agree, and fresh nodes that take their epoch orders come to the states of their nodes. What is mixed
-//! of two plays doesn't agree.
+//! Lists of known and of random plays agree, and fresh nodes that take their epoch orders come to
+//! the states of their nodes. What is mixed of two plays doesn't agree.
 use crate::draws::{Draws, draw_script};
 use crate::plays::{mesh_of, order_of, play_text};
 use crate::replayed::are_replayed;
 use journal_core::OutOfMemory;
 use mesh::Mesh;
-use mesh_agreement::agrees;
+use mesh_judge::agrees;
 use std::alloc::Global;
 use std::process::Abort;
 use std::test::Fail;
@@ -25,7 +25,8 @@ stop 3 1 1\nlog a 0b\nkill 1\ntakeover b\nrestart 1\nrestart 3\ntakeover b\nlate
 const CUT: &str =
     "raw 3\nwriter a\nwriter b\ntakeover a\nlog a 0a\ncut 1 1 3 old\nlog a 0b\nrestart 1\ntakeover b\nlog b 0c\n";
 
-/// The text's play leaves lists that agree, with an epoch order that leads fresh nodes to its nodes' states.
+/// The text's play leaves lists that agree, with an epoch order that leads fresh nodes to its
+/// nodes' states.
 fn is_played(rt: &impl Abort, alloc: Global, text: &str) -> Result<(), Fail> {
     let played = play_text(alloc, text.as_bytes())?;
     let Some(events) = order_of(alloc, &played.mesh)? else {
@@ -38,8 +39,8 @@ fn is_played(rt: &impl Abort, alloc: Global, text: &str) -> Result<(), Fail> {
     Ok(())
 }
 
-/// Thirty rolls that no majority hears, each before a takeover. What fails in its first round may have been a log, a roll or a close; so
-/// many doubts don't pile up.
+/// Thirty rolls that no majority hears, each before a takeover. What fails in its first round may
+/// have been a log, a roll or a close; so many doubts don't pile up.
 fn failing_rolls(alloc: Global) -> Result<String, OutOfMemory> {
     let mut text = format!(in alloc; "raw 3\nwriter a\ntakeover a\n")?;
     for _ in 0..30 {

@@ -1,9 +1,9 @@
 //! Late marks and late copies agree in whatever order they stand.
 use crate::plays::mesh_of;
 use journal_core::OutOfMemory;
+use journal_history::{ActorPlan, Mark, MarkKind, Plan};
 use mesh::Mesh;
-use mesh_agreement::agrees;
-use node_history::{ActorPlan, Mark, MarkKind, Plan};
+use mesh_judge::agrees;
 use std::alloc::Global;
 use std::test::Fail;
 
@@ -56,7 +56,8 @@ fn late(node: usize, number: u64) -> Option<Mark> {
     })
 }
 
-/// A copy wants a mark of what it asked, and one mark serves all copies of that; a mark of a call that was made wants a copy.
+/// A copy wants a mark of what it asked, and one mark serves all copies of that; a mark of a call
+/// that was made wants a copy.
 #[test]
 fn copies_have_marks_and_marks_copies(rt: HostRuntime) -> Result<(), Fail> {
     let alloc = rt.alloc();

@@ -1,14 +1,14 @@
-//! Lists written line by line: two takeovers that cross agree though no order of all lines fits them, and what is told otherwise in one
-//! list doesn't agree.
+//! Lists written line by line: two takeovers that cross agree though no order of all lines fits
+//! them, and what is told otherwise in one list doesn't agree.
 use crate::ordering::text_of;
 use crate::plays::order_of;
 use journal_core::{OutOfMemory, Refusal, Reply, Request, SegmentLines, SharedRequest};
-use mesh::{HistoryTable, Mesh, RecordTable};
-use mesh_agreement::agrees;
-use node_history::{
+use journal_history::{
     ActorPlan, HistoryLine, HistoryList, Mark, MarkKind, NodeAnswer, NodeAsk, Plan, Record,
     RecordList, Told,
 };
+use mesh::{HistoryTable, Mesh, RecordTable};
+use mesh_judge::agrees;
 use std::alloc::Global;
 use std::test::Fail;
 
@@ -20,8 +20,8 @@ struct Line {
     asked: Asked,
 }
 
-/// What was asked, and what was answered: a state with that promise, a promise of that epoch, a list of no segments, or a read from that
-/// txid that nothing was there for.
+/// What was asked, and what was answered: a state with that promise, a promise of that epoch, a
+/// list of no segments, or a read from that txid that nothing was there for.
 #[derive(Clone, Copy)]
 enum Asked {
     State(u64),
@@ -61,8 +61,8 @@ fn line_of(caller: u32, node: usize, asked: Asked) -> Line {
     }
 }
 
-/// Two takeovers, as the nodes list them. At node 1 the second one came after the first had proposed there; at node 2 it came before the
-/// first had asked.
+/// Two takeovers, as the nodes list them. At node 1 the second one came after the first had
+/// proposed there; at node 2 it came before the first had asked.
 fn at_nodes() -> [Line; 8] {
     [
         line_of(0, 1, Asked::State(0)),
@@ -76,7 +76,7 @@ fn at_nodes() -> [Line; 8] {
     ]
 }
 
-/// The same as the callers list them.
+/// The lines of two takeovers that cross, as the callers list them.
 fn at_callers() -> [Line; 8] {
     [
         line_of(0, 1, Asked::State(0)),
@@ -163,7 +163,8 @@ fn crossed_takeovers_agree_and_have_an_epoch_order(rt: HostRuntime) -> Result<()
     Ok(())
 }
 
-/// A line that its node doesn't answer so, an answer that was heard otherwise, a mark that no call goes by, and a call that no task makes.
+/// A line that its node doesn't answer so, an answer that was heard otherwise, a mark that no call
+/// goes by, and a call that no task makes.
 #[test]
 fn what_one_list_tells_otherwise_is_refused(rt: HostRuntime) -> Result<(), Fail> {
     let alloc = rt.alloc();

@@ -1,7 +1,7 @@
-// Two actors that are at their calls at one time.
+//! Two actors that are at their calls at one time.
 use crate::running::run_text;
-use gate_seats::Pass;
 use mesh::Mesh;
+use play_gates::Pass;
 use std::sync::Wait;
 use std::sync::atomic::{AtomicU64, Ordering};
 use std::test::Fail;
@@ -10,8 +10,9 @@ use std::thread;
 // How often a hold looks before it gives up.
 const TURNS: u64 = 1_000_000;
 
-// It holds a's first call to node 1 until b's first call to node 2 was answered, which b's call to node 3 shows, and b's first call to
-// node 2 until a has come to node 1. So the two are at their calls at one time, whoever came first.
+// It holds a's first call to node 1 until b's first call to node 2 was answered, which b's call to
+// node 3 shows, and b's first call to node 2 until a has come to node 1. So the two are at their
+// calls at one time, whoever came first.
 #[derive(Drop)]
 struct Holds {
     a_at_one: AtomicU64,

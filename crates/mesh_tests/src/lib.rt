@@ -1,5 +1,5 @@
-//! Tests of meshes, which the texts of plays don't show: which lists agree, in which order the epochs put what moved the nodes, and what
-//! threads leave that overlap.
+//! Tests of meshes, which the texts of plays don't show: which lists agree, in which order the
+//! epochs put what moved the nodes, and what threads leave that overlap.
 #![tactic(auto)]
 
 #[cfg(test)]

@@ -43,7 +43,8 @@ fn action_of(event: &Event) -> Option<Action> {
     }
 }
 
-/// The events as text: of each run of events of one kind under one epoch the word, the epoch, and the nodes in order.
+/// The events as text: of each run of events of one kind under one epoch the word, the epoch, and
+/// the nodes in order.
 pub(crate) fn text_of(alloc: Global, events: &[Event]) -> Result<String, OutOfMemory> {
     let mut text = String::new(alloc);
     let mut before = ("", 0);
@@ -61,9 +62,10 @@ pub(crate) fn text_of(alloc: Global, events: &[Event]) -> Result<String, OutOfMe
     Ok(text)
 }
 
-/// Scripts, each with its epoch order: what one owner asked stands in the order of its record, writers stand epoch by epoch, kills and
-/// restarts stay after what moved their node, a late copy of a used serial has no place and one after a restart has one, and a proposal
-/// that lost stands before the one that won.
+/// Scripts, each with its epoch order: what one owner asked stands in the order of its record,
+/// writers stand epoch by epoch, kills and restarts stay after what moved their node, a late copy
+/// of a used serial has no place and one after a restart has one, and a proposal that lost stands
+/// before the one that won.
 const ORDERS: &[(&str, &str)] = &[
     (
         "raw 3\nwriter a\ntakeover a\nlog a 0a\nlog a 0b\nlog a 0c\n",

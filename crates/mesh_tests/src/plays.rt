@@ -1,14 +1,13 @@
 //! The play of a script's text, and whether what it leaves agrees.
-use cluster_runner::play;
 use journal_core::OutOfMemory;
-use memory_node::PlainNode;
+use journal_step::PlainNode;
 use mesh::Mesh;
-use mesh_agreement::agrees;
-use mesh_judge::order_events;
+use mesh_judge::{agrees, order_events};
+use play_actor::ScriptActor;
+use play_model::{Played, scripts_are_playable};
+use play_order::play;
+use play_script::{ReadScript, read_script, scripts_break_no_rule};
 use run_safety::Event;
-use script_actor::ScriptActor;
-use script_plays::{Played, scripts_are_playable};
-use script_text::{ReadScript, read_script, scripts_break_no_rule};
 use std::alloc::Global;
 use std::test::Fail;
 

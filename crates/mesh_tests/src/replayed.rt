@@ -1,6 +1,6 @@
-// The epoch order of a run, taken by fresh nodes.
+//! The epoch order of a run, taken by fresh nodes.
 use journal_core::{Node, NodeState, Segment};
-use memory_node::PlainNode;
+use journal_step::PlainNode;
 use run_safety::{Event, Fate};
 use std::alloc::Global;
 

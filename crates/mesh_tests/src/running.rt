@@ -1,21 +1,20 @@
-// Scripts run by threads, over plain nodes.
-ghost use Rattle.script_text.specs.Grammar.{IsScript};
+//! Scripts run by threads, over plain nodes.
+ghost use Rattle.play_script.specs.Grammar.{IsScript};
 
-use caller_seats::Seats;
-use cluster_runner::plain_nodes;
-use gate_seats::Pass;
 use journal_core::OutOfMemory;
-use memory_node::PlainNode;
+use journal_step::PlainNode;
 use ns_tree::LastSpace;
-use script_actor::ScriptActor;
-use script_lines::{Script, ScriptLine};
-use script_plays::{Played, scripts_are_playable};
-use script_text::{ReadScript, read_script};
+use play_actor::ScriptActor;
+use play_calls::Seats;
+use play_gates::Pass;
+use play_model::{Played, scripts_are_playable};
+use play_order::plain_nodes;
+use play_script::{ReadScript, Script, ScriptLine, read_script};
+use play_threads::{Actors, act_alone, run_on};
 use std::alloc::Global;
 use std::sync::Wait;
 use std::test::Fail;
 use std::thread::Threads;
-use thread_runner::{Actors, act_alone, run_on};
 
 /// The actors of the runs.
 struct TestedActors;

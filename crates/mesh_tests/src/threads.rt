@@ -1,9 +1,10 @@
-// Lists of runs by threads agree, and fresh nodes that take their epoch orders come to the states of their nodes.
+//! Lists of runs by threads agree, and fresh nodes that take their epoch orders come to the states
+//! of their nodes.
 use crate::draws::{Draws, draw_script};
 use crate::plays::order_of;
 use crate::replayed::are_replayed;
 use crate::running::run_text;
-use gate_seats::FreePass;
+use play_gates::FreePass;
 use std::alloc::Global;
 use std::process::Abort;
 use std::sync::Wait;

@@ -1,9 +1,9 @@
 //! A node over a disk in memory beside a node in memory.
+use base_disk::{Choice, MemDisk};
+use disk_node::{JournalNode, OpenFail};
 use journal_core::{Node, NodeFail, NodeState, Reply, Request};
-use journal_node::{JournalNode, OpenFail};
-use memory_node::PlainNode;
-use qj_disk::{Choice, MemDisk};
-use request_text::print_reply;
+use journal_step::PlainNode;
+use journal_text::print_reply;
 use std::alloc::{AllocError, Global};
 use std::mem;
 use std::test::Fail;

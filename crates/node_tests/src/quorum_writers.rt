@@ -1,15 +1,15 @@
 //! A writer that makes its calls at plain nodes, at the limits: batches and segments that are too
 //! long, and the greatest epoch.
 ghost use Rattle.std.specs.Prelude.{◌≡◌, ◌≢◌, [], length};
-ghost use Rattle.quorum_writer.specs.Led.{nodes_of};
+ghost use Rattle.writer_calls.specs.Led.{nodes_of};
 
 use crate::bodies::bodies;
 use journal_core::{BodyList, Node, Peers, Request, permitted_nodes};
-use memory_node::PlainNode;
-use quorum_writer::{Logged, PlainPeers, QuorumWriter, Rolled, Taken};
+use journal_step::PlainNode;
 use std::alloc::Global;
 use std::process::Abort;
 use std::test::Fail;
+use writer_calls::{Logged, PlainPeers, QuorumWriter, Rolled, Taken};
 
 /// A writer, and the nodes that it calls.
 #[derive(Drop)]

@@ -1,6 +1,6 @@
 //! What a node holds, body by body.
 use journal_core::{BodyList, Segment};
-use memory_node::PlainNode;
+use journal_step::PlainNode;
 
 /// A segment as a test wants it: its start, its header's epoch, whether it is final, and its
 /// bodies.

@@ -3,8 +3,8 @@
 use crate::draws::Draws;
 use crate::nodes::Nodes;
 use crate::requests::draw_request;
+use base_disk::Choice;
 use journal_core::Request;
-use qj_disk::Choice;
 use std::alloc::Global;
 use std::process::Abort;
 use std::test::Fail;

@@ -4,10 +4,10 @@ ghost use Rattle.std.specs.Prelude.{◌≢◌, [], IfOk};
 ghost use Rattle.writer_core.specs.Writer.{HasBody};
 
 use journal_core::{BodyList, Bytes, Refusal, Reply, Request, SharedRequest};
-use memory_node::PlainNode;
-use node_history::{NodeAnswer, NodeAsk, Stop};
-use node_world::{Seen, World};
+use journal_history::{NodeAnswer, NodeAsk, Stop};
+use journal_step::PlainNode;
 use run_safety::{Event, Fate};
+use run_world::{Seen, World};
 use std::alloc::Global;
 use std::process::Abort;
 use std::test::Fail;

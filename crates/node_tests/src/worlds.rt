@@ -2,8 +2,8 @@
 use crate::segments::{Wanted, has_segments};
 use crate::steps::{Act, Losses, What, play};
 use journal_core::Refusal;
-use memory_node::PlainNode;
-use node_world::World;
+use journal_step::PlainNode;
+use run_world::World;
 use std::alloc::Global;
 use std::process::Abort;
 use std::test::Fail;

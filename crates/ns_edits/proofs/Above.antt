@@ -1,4 +1,5 @@
--- Above what is there stand directories that are there: a walk to it from the root meets nothing that refuses.
+-- Above what is there stand directories that are there: a walk to it from the root meets nothing
+-- that refuses.
 use Rattle.std.proofs.Common.{◌≡◌, ℕ, zero, suc, ◌<◌, ◌≤◌, List, [], ◌∷◌, ◌++◌, length, Bool, true, false, cond, refl, sym, ap, ◌∙◌, append_assoc, append-nil, Option, Some, None, arith, ◌==◌, ◌&&◌}
 use Rattle.std.specs.Prelude.{is_some, ◌||◌}
 use Rattle.ns_tree.specs.declared.inode.Inode.{Inode}
@@ -9,8 +10,8 @@ use Rattle.ns_tree.specs.Places.{IsTree}
 use Rattle.ns_path.proofs.Order.{same_text_is}
 use Rattle.ns_path.proofs.Parents.{Below, below_root, stem_same, shorter}
 use Rattle.ns_tree.proofs.Ancestors.{dir_some, found_parent}
-use Rattle.ns_rules.specs.declared.refusal.AdmitRefusal.{AdmitRefusal}
-use Rattle.ns_rules.specs.Admit.{Refusal, first, ancestor, ancestors}
+use Rattle.ns_edits.specs.declared.refusal.AdmitRefusal.{AdmitRefusal}
+use Rattle.ns_edits.specs.Admit.{Refusal, first, ancestor, ancestors}
 
 -- ## Walks
 both_none : (a b : Refusal) → a ≡ None → b ≡ None → first (a ∷ b ∷ []) ≡ None
@@ -44,19 +45,24 @@ walk_last r xs so_far (b ∷ bs) s e f = by (b == 47) (has_slash bs) refl refl s
     by : (c d : Bool) → (b == 47) ≡ c → has_slash bs ≡ d → (c || d) ≡ true
         → ancestors r xs so_far (cond d (b ∷ before_last_slash bs) []) ≡ None
         → ancestor r (find (path_of_stem (so_far ++ cond d (b ∷ before_last_slash bs) [])) xs) ≡ None
-        → (has_slash bs ≡ true → ancestors r xs (so_far ++ b ∷ []) (before_last_slash bs) ≡ None → ancestor r (find (path_of_stem ((so_far ++ b ∷ []) ++ before_last_slash bs)) xs) ≡ None → ancestors r xs (so_far ++ b ∷ []) bs ≡ None)
+        → (has_slash bs ≡ true → ancestors r xs (so_far ++ b ∷ []) (before_last_slash bs) ≡ None
+        → ancestor r (find (path_of_stem ((so_far ++ b ∷ []) ++ before_last_slash bs)) xs) ≡ None → ancestors r xs (so_far ++ b ∷ []) bs ≡ None)
         → cond c (first (ancestor r (find (path_of_stem so_far) xs) ∷ ancestors r xs (so_far ++ b ∷ []) bs ∷ [])) (ancestors r xs (so_far ++ b ∷ []) bs) ≡ None
     by true true is slash t e f go =
-        let w : cond true (first (ancestor r (find (path_of_stem so_far) xs) ∷ ancestors r xs (so_far ++ b ∷ []) (before_last_slash bs) ∷ [])) (ancestors r xs (so_far ++ b ∷ []) (before_last_slash bs)) ≡ None = (rw is at e) in
-        let parts : (ancestor r (find (path_of_stem so_far) xs) ≡ None) × (ancestors r xs (so_far ++ b ∷ []) (before_last_slash bs) ≡ None) = each_none (ancestor r (find (path_of_stem so_far) xs)) (ancestors r xs (so_far ++ b ∷ []) (before_last_slash bs)) w in
+        let w : cond true (first (ancestor r (find (path_of_stem so_far) xs) ∷ ancestors r xs (so_far ++ b ∷ []) (before_last_slash bs) ∷ []))
+        (ancestors r xs (so_far ++ b ∷ []) (before_last_slash bs)) ≡ None = (rw is at e) in
+        let parts : (ancestor r (find (path_of_stem so_far) xs) ≡ None) × (ancestors r xs (so_far ++ b ∷ []) (before_last_slash bs) ≡ None) =
+        each_none (ancestor r (find (path_of_stem so_far) xs)) (ancestors r xs (so_far ++ b ∷ []) (before_last_slash bs)) w in
         both_none (ancestor r (find (path_of_stem so_far) xs)) (ancestors r xs (so_far ++ b ∷ []) bs) parts.0 (go slash parts.1 (deeper f))
       where
         deeper : ancestor r (find (path_of_stem (so_far ++ b ∷ before_last_slash bs)) xs) ≡ None → ancestor r (find (path_of_stem ((so_far ++ b ∷ []) ++ before_last_slash bs)) xs) ≡ None
         deeper f = ap (λ (l : List ℕ). ancestor r (find (path_of_stem l) xs)) (append_assoc so_far (b ∷ []) (before_last_slash bs)) ∙ f
     by true false is slash t e f go =
-        both_none (ancestor r (find (path_of_stem so_far) xs)) (ancestors r xs (so_far ++ b ∷ []) bs) (ap (λ (l : List ℕ). ancestor r (find (path_of_stem l) xs)) (sym (append-nil so_far)) ∙ f) (no_walk r xs (so_far ++ b ∷ []) bs slash)
+        both_none (ancestor r (find (path_of_stem so_far) xs)) (ancestors r xs (so_far ++ b ∷ []) bs)
+        (ap (λ (l : List ℕ). ancestor r (find (path_of_stem l) xs)) (sym (append-nil so_far)) ∙ f) (no_walk r xs (so_far ++ b ∷ []) bs slash)
     by false true is slash t e f go =
-        let w : cond false (first (ancestor r (find (path_of_stem so_far) xs) ∷ ancestors r xs (so_far ++ b ∷ []) (before_last_slash bs) ∷ [])) (ancestors r xs (so_far ++ b ∷ []) (before_last_slash bs)) ≡ None = (rw is at e) in
+        let w : cond false (first (ancestor r (find (path_of_stem so_far) xs) ∷ ancestors r xs (so_far ++ b ∷ []) (before_last_slash bs) ∷ []))
+        (ancestors r xs (so_far ++ b ∷ []) (before_last_slash bs)) ≡ None = (rw is at e) in
         go slash w (ap (λ (l : List ℕ). ancestor r (find (path_of_stem l) xs)) (append_assoc so_far (b ∷ []) (before_last_slash bs)) ∙ f)
     by false false is slash t e f go = absurd (cc t)
 
@@ -103,7 +109,8 @@ module _ (s : Space) (h : IsTree s) (r : AdmitRefusal) where
   step p same slash dir e = ap (ancestors r s.pairs []) same ∙ walk_last r s.pairs [] p slash (below_it (before_last_slash p) e) (dir_passes r (find (parent_of p) s.pairs) dir)
 
   -- by the length of the path; at its directory it is known
-  walk_to : (p : List ℕ) → is_some (find p s.pairs) ≡ true → (Below p → is_dir_there (find (parent_of p) s.pairs) ≡ true → ancestors r s.pairs [] (stem (parent_of p)) ≡ None) → ancestors r s.pairs [] (stem p) ≡ None
+  walk_to : (p : List ℕ) → is_some (find p s.pairs) ≡ true → (Below p → is_dir_there (find (parent_of p) s.pairs) ≡ true
+      → ancestors r s.pairs [] (stem (parent_of p)) ≡ None) → ancestors r s.pairs [] (stem p) ≡ None
   walk_to p there go = by (is_root p) refl
     where
       by : (z : Bool) → is_root p ≡ z → ancestors r s.pairs [] (stem p) ≡ None
@@ -115,7 +122,8 @@ module _ (s : Space) (h : IsTree s) (r : AdmitRefusal) where
 
   walked : (n : ℕ) (p : List ℕ) → length p ≤ n → is_some (find p s.pairs) ≡ true → ancestors r s.pairs [] (stem p) ≡ None
   walked zero p le there = walk_to p there (λ b dir. let less : length (parent_of p) < length p = parent_shorter p b in absurd (omega arith))
-  walked (suc n) p le there = walk_to p there (λ b dir. let less : length (parent_of p) < length p = parent_shorter p b in walked n (parent_of p) (omega arith) (dir_some (find (parent_of p) s.pairs) dir))
+  walked (suc n) p le there = walk_to p there (λ b dir. let less : length (parent_of p) < length p =
+      parent_shorter p b in walked n (parent_of p) (omega arith) (dir_some (find (parent_of p) s.pairs) dir))
 
   -- where something stands, no directory above it is wanting
   pub above_found : (p : List ℕ) (i : Inode) → find p s.pairs ≡ Some i → ancestors r s.pairs [] (stem p) ≡ None

@@ -4,18 +4,19 @@ use Rattle.std.specs.Prelude.{not, ◌||◌, ◌^◌, is_some, nat_lt, nat_le}
 use Rattle.std.specs.List.{AllByRecursion}
 use Rattle.std.proofs.lemmas.Bool.Decides.{nat_tests}
 use Rattle.std.proofs.lemmas.List.{append-nil}
-use Rattle.edit_values.specs.declared.call.Call.{Call}
+use Rattle.edit_ops.specs.declared.call.Call.{Call}
 use Rattle.edit_ops.specs.declared.op.Op.{Op}
-use Rattle.edit_fields.specs.Fields.{IsGood}
+use Rattle.edit_ops.specs.Fields.{IsGood}
 use Rattle.edit_ops.specs.Records.{EditView, fields_of, call_fields}
 use Rattle.ns_tree.specs.declared.inode.Inode.{Inode}
 use Rattle.ns_tree.specs.declared.inode.Row.{Row}
 use Rattle.ns_path.specs.Path.{stem, path_of_stem, has_slash, before_last_slash, parent_of, is_path, is_owner, is_root}
 use Rattle.ns_tree.specs.Space.{Space, is_dir, is_dir_there, find, txid_of}
 use Rattle.ns_path.proofs.Parents.{Below, below_root}
-use Rattle.ns_rules.specs.declared.refusal.AdmitRefusal.{AdmitRefusal}
-use Rattle.ns_rules.specs.declared.refusal.AdmitRefusal.TheVariants.{NoParent, Exists, Missing, NotDirectory, NotFile, Root, BadName, BadNumber, RepeatedCall}
-use Rattle.ns_rules.specs.Admit.{Refusal, first, refused_if, bad_path, bad_owner, bad_permission, bad_replication, bad_block_size, ancestor, ancestors, finds, has_parent, refused_there, refused_dir, admit_op, repeated_at, repeated, refused_first, admit_of}
+use Rattle.ns_edits.specs.declared.refusal.AdmitRefusal.{AdmitRefusal}
+use Rattle.ns_edits.specs.declared.refusal.AdmitRefusal.TheVariants.{NoParent, Exists, Missing, NotDirectory, NotFile, Root, BadName, BadNumber, RepeatedCall}
+use Rattle.ns_edits.specs.Admit.{Refusal, first, refused_if, bad_path, bad_owner, bad_permission, bad_replication, bad_block_size, ancestor}
+use Rattle.ns_edits.specs.Admit.{ancestors, finds, has_parent, refused_there, refused_dir, admit_op, repeated_at, repeated, refused_first, admit_of}
 use Rattle.std.proofs.lemmas.Bool.{or_parts}
 
 -- ## Tests that were passed
@@ -61,20 +62,27 @@ pub ancestor_is : (r : AdmitRefusal) (o : Option Inode) → ancestor r o ≡ Non
 ancestor_is r None e = none≢some r (sym e)
 ancestor_is r (Some i) e = is_so (is_dir i) NotDirectory e
 
-pub parent_met : (r : AdmitRefusal) (xs : List Row) (so_far rest : List ℕ) → ancestors r xs so_far rest ≡ None → has_slash rest ≡ true → is_dir_there (find (path_of_stem (so_far ++ before_last_slash rest)) xs) ≡ true
+pub parent_met : (r : AdmitRefusal) (xs : List Row) (so_far rest : List ℕ) → ancestors r xs so_far rest ≡ None → has_slash rest ≡ true
+    → is_dir_there (find (path_of_stem (so_far ++ before_last_slash rest)) xs) ≡ true
 parent_met r xs so_far [] e s = absurd (cc s)
 parent_met r xs so_far (b ∷ bs) e s = by (b == 47) refl e (has_slash bs) refl (λ f g. parent_met r xs (so_far ++ b ∷ []) bs f g)
   where
     Goal : Bool → Type 0
     Goal c = is_dir_there (find (path_of_stem (so_far ++ cond c (b ∷ before_last_slash bs) [])) xs) ≡ true
 
-    deeper : (ancestors r xs (so_far ++ b ∷ []) bs ≡ None → has_slash bs ≡ true → is_dir_there (find (path_of_stem ((so_far ++ b ∷ []) ++ before_last_slash bs)) xs) ≡ true) → ancestors r xs (so_far ++ b ∷ []) bs ≡ None → has_slash bs ≡ true → Goal true
+    deeper : (ancestors r xs (so_far ++ b ∷ []) bs ≡ None → has_slash bs ≡ true
+        → is_dir_there (find (path_of_stem ((so_far ++ b ∷ []) ++ before_last_slash bs)) xs) ≡ true) → ancestors r xs (so_far ++ b ∷ []) bs ≡ None
+        → has_slash bs ≡ true → Goal true
     deeper go f g = ap (λ (l : List ℕ). is_dir_there (find (path_of_stem l) xs)) (sym (append_assoc so_far (b ∷ []) (before_last_slash bs))) ∙ go f g
 
-    by : (z : Bool) → (b == 47) ≡ z → cond z (first (ancestor r (find (path_of_stem so_far) xs) ∷ ancestors r xs (so_far ++ b ∷ []) bs ∷ [])) (ancestors r xs (so_far ++ b ∷ []) bs) ≡ None → (c : Bool) → has_slash bs ≡ c
+    by : (z : Bool) → (b == 47) ≡ z → cond z (first (ancestor r (find (path_of_stem so_far) xs) ∷ ancestors r xs (so_far ++ b ∷ []) bs ∷ []))
+        (ancestors r xs (so_far ++ b ∷ []) bs) ≡ None → (c : Bool) → has_slash bs ≡ c
         → (ancestors r xs (so_far ++ b ∷ []) bs ≡ None → has_slash bs ≡ true → is_dir_there (find (path_of_stem ((so_far ++ b ∷ []) ++ before_last_slash bs)) xs) ≡ true) → Goal c
-    by true is e true g go = let p : AllPassed (ancestor r (find (path_of_stem so_far) xs) ∷ ancestors r xs (so_far ++ b ∷ []) bs ∷ []) = all_passed (ancestor r (find (path_of_stem so_far) xs) ∷ ancestors r xs (so_far ++ b ∷ []) bs ∷ []) e in deeper go p.1.0 g
-    by true is e false g go = let p : AllPassed (ancestor r (find (path_of_stem so_far) xs) ∷ ancestors r xs (so_far ++ b ∷ []) bs ∷ []) = all_passed (ancestor r (find (path_of_stem so_far) xs) ∷ ancestors r xs (so_far ++ b ∷ []) bs ∷ []) e in ap (λ (l : List ℕ). is_dir_there (find (path_of_stem l) xs)) (append-nil so_far) ∙ ancestor_is r (find (path_of_stem so_far) xs) p.0
+    by true is e true g go = let p : AllPassed (ancestor r (find (path_of_stem so_far) xs) ∷ ancestors r xs (so_far ++ b ∷ []) bs ∷ []) =
+        all_passed (ancestor r (find (path_of_stem so_far) xs) ∷ ancestors r xs (so_far ++ b ∷ []) bs ∷ []) e in deeper go p.1.0 g
+    by true is e false g go = let p : AllPassed (ancestor r (find (path_of_stem so_far) xs) ∷ ancestors r xs (so_far ++ b ∷ []) bs ∷ []) =
+        all_passed (ancestor r (find (path_of_stem so_far) xs) ∷ ancestors r xs (so_far ++ b ∷ []) bs ∷ []) e in ap
+        (λ (l : List ℕ). is_dir_there (find (path_of_stem l) xs)) (append-nil so_far) ∙ ancestor_is r (find (path_of_stem so_far) xs) p.0
     by false is e true g go = deeper go e g
     by false is e false g go = absurd (cc (sym s ∙ (ap (λ (z : Bool). z || has_slash bs) is ∙ g)))
 
@@ -89,7 +97,8 @@ has_parent_is p xs path e =
 -- ## What is there, and where something can stand
 pub is_there : (p : List ℕ) (xs : List Row) → finds p xs ≡ None → IsSome (find p xs)
 is_there p xs e =
-    let t : AllPassed (ancestors Missing xs [] (stem p) ∷ refused_if (not (is_some (find p xs))) Missing ∷ []) = all_passed (ancestors Missing xs [] (stem p) ∷ refused_if (not (is_some (find p xs))) Missing ∷ []) e in
+    let t : AllPassed (ancestors Missing xs [] (stem p) ∷ refused_if (not (is_some (find p xs))) Missing ∷ []) =
+    all_passed (ancestors Missing xs [] (stem p) ∷ refused_if (not (is_some (find p xs))) Missing ∷ []) e in
     is_so (is_some (find p xs)) Missing t.1.0
 
 -- a path at which nothing stands, under a directory

@@ -31,6 +31,7 @@ change_found p f i (x ∷ xs) o e = by (same_text p x.path) refl e (λ g. change
         at_path same = subst (λ (q : List ℕ). Each (λ y. walk_cmp q y.path ≡ Less) xs) same o.0
 
 -- the inode that a change leaves at p is one that f makes
-pub changed_by : (p : List ℕ) (f : Inode → Inode) (i j : Inode) (s : Space) → IsTree s → find p s.pairs ≡ Some i → j ≡ f i → record s { pairs = set_at p j s.pairs } ≡ record s { pairs = change_at p f s.pairs }
+pub changed_by : (p : List ℕ) (f : Inode → Inode) (i j : Inode) (s : Space) → IsTree s → find p s.pairs ≡ Some i → j ≡ f i
+    → record s { pairs = set_at p j s.pairs } ≡ record s { pairs = change_at p f s.pairs }
 changed_by p f i j s h found made =
     ap (λ (xs : List Row). record s { pairs = xs }) (ap (λ (k : Inode). set_at p k s.pairs) made ∙ sym (change_found p f i s.pairs h.ordered found))

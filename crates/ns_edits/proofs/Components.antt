@@ -2,7 +2,7 @@
 use Rattle.std.proofs.Common.{◌≡◌, ℕ, zero, suc, ◌<◌, ◌+◌, List, [], ◌∷◌, length, drop, refl, arith, false, true, get_or, add-one}
 use Rattle.ns_path.specs.Path.{has_slash}
 use Rattle.ns_path.proofs.Scans.{slash_at}
-use Rattle.ns_rules.specs.Admit.{last_component}
+use Rattle.ns_edits.specs.Admit.{last_component}
 
 pub whole_component : (p : List ℕ) → has_slash p ≡ false → last_component p ≡ p
 whole_component [] e = refl

@@ -4,16 +4,19 @@ use Rattle.std.specs.Prelude.{not, ◌^◌, is_some, nat_lt, nat_le}
 use Rattle.std.specs.List.{AllByRecursion}
 use Rattle.std.proofs.lemmas.Bool.Decides.{nat_tests}
 use Rattle.edit_ops.specs.declared.op.Op.TheVariants.{Add, Mkdir, Close, Times, SetQuota, ConcatDelete}
-use Rattle.edit_fields.specs.Fields.{IsGood}
+use Rattle.edit_ops.specs.Fields.{IsGood}
 use Rattle.edit_ops.specs.Records.{fields_of}
 use Rattle.ns_tree.specs.declared.inode.Inode.{Inode}
 use Rattle.ns_tree.specs.declared.inode.Inode.TheVariants.{Dir, File}
 use Rattle.ns_tree.specs.declared.inode.Row.{Row}
 use Rattle.ns_path.specs.Path.{same_text, is_path, is_owner}
 use Rattle.ns_tree.specs.Space.{is_dir, find, Each, AreLengths, IsInode, IsPair}
-use Rattle.ns_rules.specs.declared.refusal.AdmitRefusal.TheVariants.{Exists, Missing, NotFile, BadName, BadNumber}
-use Rattle.ns_rules.specs.Admit.{refused_if, bad_path, bad_owner, bad_new_owner, bad_permission, bad_replication, bad_block_size, finds, has_parent, refused_there, refused_dir, blocks_of, are_within, bad_blocks, admit_part, admit_sources, blocks_at, no_source, bad_paths, admit_add, admit_mkdir, admit_close, admit_set_replication, admit_set_permissions, admit_set_owner, admit_concat}
-use Rattle.ns_rules.specs.Apply.{with_blocks, with_replication, with_permission, or_old, with_owner, with_times, with_quota, with_all_blocks}
+use Rattle.ns_edits.specs.declared.refusal.AdmitRefusal.TheVariants.{Exists, Missing, NotFile, BadName, BadNumber}
+use Rattle.ns_edits.specs.Admit.{refused_if, bad_path, bad_owner, bad_new_owner, bad_permission, bad_replication, bad_block_size, finds, has_parent}
+use Rattle.ns_edits.specs.Admit.{refused_there, refused_dir, blocks_of, are_within, bad_blocks, admit_part, admit_sources, blocks_at, no_source}
+use Rattle.ns_edits.specs.Admit.{bad_paths, admit_add, admit_mkdir, admit_close, admit_set_replication, admit_set_permissions, admit_set_owner}
+use Rattle.ns_edits.specs.Admit.{admit_concat}
+use Rattle.ns_edits.specs.Apply.{with_blocks, with_replication, with_permission, or_old, with_owner, with_times, with_quota, with_all_blocks}
 use Rattle.ns_edits.proofs.Admitted.{none≢some, AllPassed, all_passed, not_refused, is_so, permission_fits, replication_fits, block_fits, is_there, CanStand, can_stand}
 
 -- ## What is made
@@ -25,7 +28,17 @@ module _ (path : List ℕ) (r m a b s : ℕ) (u g : List ℕ) (xs : List Row) (e
   add_stands = can_stand path xs add_passed.0 add_passed.1.1.1.1.1.1.0 add_passed.1.1.1.1.1.1.1.0
 
   pub add_good : AllByRecursion IsGood (fields_of (Add path r m a b s u g)) → IsInode (File r m a b s u g [] true)
-  add_good f = (replication_fits r add_passed.1.1.1.1.0, f.1.1.0, f.1.1.1.0, block_fits b add_passed.1.1.1.1.1.0, permission_fits s add_passed.1.1.1.0, is_so (is_owner u) BadName add_passed.1.0, is_so (is_owner g) BadName add_passed.1.1.0, tt, omega arith)
+  add_good f = (
+    replication_fits r add_passed.1.1.1.1.0,
+    f.1.1.0,
+    f.1.1.1.0,
+    block_fits b add_passed.1.1.1.1.1.0,
+    permission_fits s add_passed.1.1.1.0,
+    is_so (is_owner u) BadName add_passed.1.0,
+    is_so (is_owner g) BadName add_passed.1.1.0,
+    tt,
+    omega arith,
+  )
 
 module _ (path : List ℕ) (t s : ℕ) (u g : List ℕ) (xs : List Row) (e : admit_mkdir path s u g xs ≡ None) where
   mkdir_passed : AllPassed (bad_path path ∷ bad_owner u ∷ bad_owner g ∷ bad_permission s ∷ has_parent path xs ∷ refused_there Exists (find path xs) ∷ [])
@@ -95,7 +108,8 @@ pub closed_dir : (m a : ℕ) (ls : List ℕ) (i : Inode) → is_dir (with_blocks
 closed_dir m a ls (Dir m2 p u g q s) = refl
 closed_dir m a ls (File r m2 a2 b p u g ls2 c) = refl
 
-pub closed_good : (path : List ℕ) (m a : ℕ) (ls : List ℕ) (xs : List Row) → AllByRecursion IsGood (fields_of (Close path m a ls)) → Each (IsPair xs) xs → admit_close path ls xs ≡ None → (i : Inode) → IsInode i → IsInode (with_blocks m a ls i)
+pub closed_good : (path : List ℕ) (m a : ℕ) (ls : List ℕ) (xs : List Row) → AllByRecursion IsGood (fields_of (Close path m a ls))
+    → Each (IsPair xs) xs → admit_close path ls xs ≡ None → (i : Inode) → IsInode i → IsInode (with_blocks m a ls i)
 closed_good path m a ls xs f pairs e (Dir m2 p u g q s) h = h
 closed_good path m a ls xs f pairs e (File r m2 a2 b p u g ls2 c) h =
     let t = all_passed (bad_path path ∷ finds path xs ∷ refused_dir NotFile (find path xs) ∷ bad_blocks ls (find path xs) ∷ []) e in
@@ -158,7 +172,8 @@ pub joined_good : (target : List ℕ) (t : ℕ) (ps : List (List ℕ)) (xs : Lis
     → (i : Inode) → IsInode i → IsInode (with_all_blocks t (blocks_at (target ∷ ps) xs) i)
 joined_good target t ps xs f pairs e (Dir m2 p u2 g2 q2 s2) h = h
 joined_good target t ps xs f pairs e (File r2 m2 a2 b p u2 g2 ls2 c) h =
-    let q = all_passed (bad_path target ∷ bad_paths ps ∷ refused_if (no_source ps) BadNumber ∷ admit_part target xs ∷ admit_sources (target ∷ []) ps xs ∷ refused_if (nat_lt 65535 (length (blocks_at (target ∷ ps) xs))) BadNumber ∷ []) e in
+    let q = all_passed (bad_path target ∷ bad_paths ps ∷ refused_if (no_source ps) BadNumber ∷ admit_part target xs ∷ admit_sources (target ∷ []) ps
+    xs ∷ refused_if (nat_lt 65535 (length (blocks_at (target ∷ ps) xs))) BadNumber ∷ []) e in
     let many : nat_lt 65535 (length (blocks_at (target ∷ ps) xs)) ≡ false = not_refused (nat_lt 65535 (length (blocks_at (target ∷ ps) xs))) BadNumber q.1.1.1.1.1.0 in
     let few : length (blocks_at (target ∷ ps) xs) ≤ 65535 = grind (arith, nat_tests, many) in
     (h.0, f.1.0, h.2, h.3, h.4, h.5, h.6, all_blocks (target ∷ ps) xs pairs, few)

@@ -1,5 +1,6 @@
 -- The sources of a concat can go one after the other: each is a file, and none is under another.
-use Rattle.std.proofs.Common.{◌≡◌, ℕ, ◌≤◌, List, [], ◌∷◌, ◌++◌, length, Bool, true, false, cond, refl, sym, ap, ◌∙◌, subst, append_assoc, Option, Some, None, ◌==◌, ◌&&◌, arith, suc, ◌<◌, ◌+◌, take, drop, get_or, add-one, drop-cons, append-nil}
+use Rattle.std.proofs.Common.{◌≡◌, ℕ, ◌≤◌, List, [], ◌∷◌, ◌++◌, length, Bool, true, false, cond, refl, sym, ap, ◌∙◌, subst, append_assoc, Option}
+use Rattle.std.proofs.Common.{Some, None, ◌==◌, ◌&&◌, arith, suc, ◌<◌, ◌+◌, take, drop, get_or, add-one, drop-cons, append-nil}
 use Rattle.std.proofs.Math.Seq.{take-suc}
 use Rattle.std.specs.Prelude.{not, ◌||◌, is_some, nat_lt}
 use Rattle.std.specs.List.{AllByRecursion, list_any}
@@ -12,10 +13,11 @@ use Rattle.ns_tree.specs.Space.{is_dir, is_dir_there, find, without, raise, rais
 use Rattle.ns_path.proofs.Order.{same_text_is, same_text_self}
 use Rattle.ns_tree.proofs.Finds.{changed, find_change, find_without}
 use Rattle.ns_path.proofs.Parents.{root_path, Below, below_root, stem_same}
-use Rattle.ns_rules.specs.declared.refusal.AdmitRefusal.{AdmitRefusal}
-use Rattle.ns_rules.specs.declared.refusal.AdmitRefusal.TheVariants.{Missing, NotFile, IntoItself, BadName, BadNumber}
-use Rattle.ns_rules.specs.Admit.{Refusal, first, refused_if, bad_path, ancestor, ancestors, finds, refused_dir, refused_open, is_one_of, bad_paths, admit_part, admit_sources, no_source, blocks_of, blocks_at, admit_concat}
-use Rattle.ns_rules.specs.Apply.{is_file_there, IsSource, AreSources}
+use Rattle.ns_edits.specs.declared.refusal.AdmitRefusal.{AdmitRefusal}
+use Rattle.ns_edits.specs.declared.refusal.AdmitRefusal.TheVariants.{Missing, NotFile, IntoItself, BadName, BadNumber}
+use Rattle.ns_edits.specs.Admit.{Refusal, first, refused_if, bad_path, ancestor, ancestors, finds, refused_dir, refused_open, is_one_of, bad_paths}
+use Rattle.ns_edits.specs.Admit.{admit_part, admit_sources, no_source, blocks_of, blocks_at, admit_concat}
+use Rattle.ns_edits.specs.Apply.{is_file_there, IsSource, AreSources}
 use Rattle.ns_edits.proofs.Admitted.{none≢some, AllPassed, all_passed, not_refused, is_so, ancestor_is, is_there}
 use Rattle.std.proofs.lemmas.Bool.{or_parts}
 use Rattle.ns_tree.proofs.Sound.{raised_dir}
@@ -63,7 +65,8 @@ front_of (n ∷ p) (x ∷ q) e = more (front_of p q (both (n == x) (begins_with 
     both false b e = absurd (cc e)
 
     more : Front p q → Front (n ∷ p) (x ∷ q)
-    more f = let same : n ≡ x = (let t : (n == x) ≡ true = (both (n == x) (begins_with (p ++ 47 ∷ []) q) e).0 in grind (arith, nat_tests, t)) in record { rest = f.rest; is = (λ i. sym same i ∷ f.is i) }
+    more f = let same : n ≡ x = (let t : (n == x) ≡ true = (both (n == x) (begins_with (p ++ 47 ∷ []) q) e).0 in grind (arith, nat_tests, t))
+        in record { rest = f.rest; is = (λ i. sym same i ∷ f.is i) }
 
 -- nothing that is found is under a file
 file_apart : (p q : List ℕ) (xs : List Row) → Below p → Below q → is_file_there (find p xs) ≡ true → finds q xs ≡ None → is_under p q ≡ false
@@ -134,7 +137,8 @@ other_text p q e = by (same_text p q) refl
 
 -- those that are listed after p, which is one of those listed before them
 module _ (p : List ℕ) (xs : List Row) (root : is_dir_there (find root_path xs) ≡ true) (source : IsSource p xs) where
-  apart_from : (before ps : List (List ℕ)) → ((q : List ℕ) → is_one_of q before ≡ false → same_text q p ≡ false) → bad_paths ps ≡ None → admit_sources before ps xs ≡ None → AllByRecursion (λ q. is_at_or_under p q ≡ false) ps
+  apart_from : (before ps : List (List ℕ)) → ((q : List ℕ) → is_one_of q before ≡ false → same_text q p ≡ false) → bad_paths ps ≡ None
+      → admit_sources before ps xs ≡ None → AllByRecursion (λ q. is_at_or_under p q ≡ false) ps
   apart_from before [] listed paths e = tt
   apart_from before (q ∷ qs) listed paths e =
       let t = all_passed (bad_path q ∷ bad_paths qs ∷ []) paths in
@@ -160,7 +164,8 @@ pub record Joins (target : List ℕ) (ps : List (List ℕ)) (xs : List Row) : Ty
 
 pub concat_joins : (target : List ℕ) (ps : List (List ℕ)) (xs : List Row) → is_dir_there (find root_path xs) ≡ true → admit_concat target ps xs ≡ None → Joins target ps xs
 concat_joins target ps xs root e =
-    let q = all_passed (bad_path target ∷ bad_paths ps ∷ refused_if (no_source ps) BadNumber ∷ admit_part target xs ∷ admit_sources (target ∷ []) ps xs ∷ refused_if (nat_lt 65535 (length (blocks_at (target ∷ ps) xs))) BadNumber ∷ []) e in
+    let q = all_passed (bad_path target ∷ bad_paths ps ∷ refused_if (no_source ps) BadNumber ∷ admit_part target xs ∷ admit_sources (target ∷ []) ps
+    xs ∷ refused_if (nat_lt 65535 (length (blocks_at (target ∷ ps) xs))) BadNumber ∷ []) e in
     record {
       there = (all_passed (finds target xs ∷ refused_dir NotFile (find target xs) ∷ refused_open (find target xs) ∷ []) q.1.1.1.0).0;
       sources = are_sources (target ∷ []) ps xs root q.1.0 q.1.1.1.1.0;
@@ -170,7 +175,8 @@ concat_joins target ps xs root e =
 pub next_source : (ps : List (List ℕ)) (i : ℕ) (p : List ℕ) → i < length ps → p ≡ get_or ps i p → drop i ps ≡ p ∷ drop (i + 1) ps
 next_source ps i p h is = rw add-one (drop-cons ps i p h ∙ ap (λ (q : List ℕ). q ∷ drop (suc i) ps) (sym is))
 
-pub blocks_next : (target : List ℕ) (ps : List (List ℕ)) (xs : List Row) (i : ℕ) (p : List ℕ) (all new : List ℕ) → i < length ps → p ≡ get_or ps i p → all ≡ blocks_at (target ∷ take i ps) xs → new ≡ all ++ blocks_of (find p xs)
+pub blocks_next : (target : List ℕ) (ps : List (List ℕ)) (xs : List Row) (i : ℕ) (p : List ℕ) (all new : List ℕ) → i < length ps → p ≡ get_or ps i p
+    → all ≡ blocks_at (target ∷ take i ps) xs → new ≡ all ++ blocks_of (find p xs)
     → new ≡ blocks_at (target ∷ take (i + 1) ps) xs
 blocks_next target ps xs i p all new h is before grown =
     let front : take (i + 1) ps ≡ take i ps ++ p ∷ [] = rw add-one (take-suc ps i p h ∙ ap (λ (q : List ℕ). take i ps ++ q ∷ []) (sym is)) in

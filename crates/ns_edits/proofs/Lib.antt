@@ -5,4 +5,10 @@ pub mod Admitted
 pub mod Inodes
 pub mod Changes
 pub mod Joins
-pub mod Moves
+pub mod AdmittedRenames
+pub mod Splits
+pub mod Decodes
+pub mod Calls
+pub mod Retries
+pub mod EditsSound
+pub mod Sounds

@@ -1,5 +1,7 @@
--- The sources of a concat, one by one: which paths were listed before one of them, and how many blocks there are.
-use Rattle.std.proofs.Common.{◌≡◌, ℕ, suc, Option, Some, None, drop-cons, nat_lt, ◌+◌, ◌<◌, ◌≤◌, List, [], ◌∷◌, ◌++◌, length, take, drop, get_or, add-one, append-nil, Bool, true, false, refl, sym, ap, ◌∙◌, append_assoc, length-append, arith}
+-- The sources of a concat, one by one: which paths were listed before one of them, and how many
+-- blocks there are.
+use Rattle.std.proofs.Common.{◌≡◌, ℕ, suc, Option, Some, None, drop-cons, nat_lt, ◌+◌, ◌<◌, ◌≤◌, List, [], ◌∷◌, ◌++◌, length, take, drop, get_or}
+use Rattle.std.proofs.Common.{add-one, append-nil, Bool, true, false, refl, sym, ap, ◌∙◌, append_assoc, length-append, arith}
 use Rattle.std.specs.Prelude.{◌||◌}
 use Rattle.std.specs.List.{list_any}
 use Rattle.std.proofs.Math.Seq.{take-suc}
@@ -8,9 +10,9 @@ use Rattle.std.proofs.lemmas.Bool.Decides.{nat_tests}
 use Rattle.ns_tree.specs.declared.inode.Row.{Row}
 use Rattle.ns_path.specs.Path.{same_text}
 use Rattle.ns_tree.specs.Space.{find}
-use Rattle.ns_rules.specs.declared.refusal.AdmitRefusal.{AdmitRefusal}
-use Rattle.ns_rules.specs.declared.refusal.AdmitRefusal.TheVariants.{IntoItself, BadNumber}
-use Rattle.ns_rules.specs.Admit.{Refusal, first, refused_if, blocks_of, blocks_at, is_one_of, admit_part, admit_sources}
+use Rattle.ns_edits.specs.declared.refusal.AdmitRefusal.{AdmitRefusal}
+use Rattle.ns_edits.specs.declared.refusal.AdmitRefusal.TheVariants.{IntoItself, BadNumber}
+use Rattle.ns_edits.specs.Admit.{Refusal, first, refused_if, blocks_of, blocks_at, is_one_of, admit_part, admit_sources}
 
 -- paths before others, the last of the others first
 abbrev pub onto : List (List ℕ) → List (List ℕ) → List (List ℕ)
@@ -56,7 +58,8 @@ first_in_two (Some r) b c = refl
 
 pub source_step : (target : List ℕ) (ps : List (List ℕ)) (xs : List Row) (i : ℕ) (p : List ℕ) → i < length ps → p ≡ get_or ps i p
     → admit_sources (listed target (take i ps)) (drop i ps) xs
-    ≡ first (first (refused_if (same_text p target || list_any (same_text p) (take i ps)) IntoItself ∷ admit_part p xs ∷ []) ∷ admit_sources (listed target (take (i + 1) ps)) (drop (i + 1) ps) xs ∷ [])
+    ≡ first (first (refused_if (same_text p target || list_any (same_text p) (take i ps)) IntoItself ∷ admit_part p xs ∷ []) ∷ admit_sources
+    (listed target (take (i + 1) ps)) (drop (i + 1) ps) xs ∷ [])
 source_step target ps xs i p h is =
     let here : drop i ps ≡ p ∷ drop (i + 1) ps = rw add-one (drop-cons ps i p h ∙ ap (λ (q : List ℕ). q ∷ drop (suc i) ps) (sym is)) in
     let front : take (i + 1) ps ≡ take i ps ++ p ∷ [] = rw add-one (take-suc ps i p h ∙ ap (λ (q : List ℕ). take i ps ++ q ∷ []) (sym is)) in
@@ -64,7 +67,8 @@ source_step target ps xs i p h is =
     ap (λ (qs : List (List ℕ)). admit_sources (listed target (take i ps)) qs xs) here
     ∙ ap (λ (z : Bool). first (refused_if z IntoItself ∷ admit_part p xs ∷ admit_sources (p ∷ listed target (take i ps)) (drop (i + 1) ps) xs ∷ [])) (one_of_listed p target (take i ps))
     ∙ first_in_two (refused_if (same_text p target || list_any (same_text p) (take i ps)) IntoItself) (admit_part p xs) (admit_sources (p ∷ listed target (take i ps)) (drop (i + 1) ps) xs)
-    ∙ ap (λ (qs : List (List ℕ)). first (first (refused_if (same_text p target || list_any (same_text p) (take i ps)) IntoItself ∷ admit_part p xs ∷ []) ∷ admit_sources qs (drop (i + 1) ps) xs ∷ [])) (sym before)
+    ∙ ap (λ (qs : List (List ℕ)). first (first (refused_if (same_text p target || list_any (same_text p) (take i ps)) IntoItself ∷ admit_part p xs ∷
+    []) ∷ admit_sources qs (drop (i + 1) ps) xs ∷ [])) (sym before)
 
 pub refused_at : (r : AdmitRefusal) (a b c d : Refusal) → a ≡ b → b ≡ first (c ∷ d ∷ []) → Some r ≡ c → Some r ≡ a
 refused_at r a b c d e f g = sym (e ∙ f ∙ ap (λ (z : Refusal). first (z ∷ d ∷ [])) (sym g))
@@ -85,7 +89,8 @@ count_append : (ps qs : List (List ℕ)) (xs : List Row) → length (blocks_at (
 count_append ps qs xs = ap (λ (ns : List ℕ). length ns) (blocks_append ps qs xs) ∙ length-append (blocks_at ps xs) (blocks_at qs xs)
 
 -- one more source
-count_next : (ps : List (List ℕ)) (xs : List Row) (i : ℕ) (p : List ℕ) → i < length ps → p ≡ get_or ps i p → length (blocks_at (take (i + 1) ps) xs) ≡ length (blocks_at (take i ps) xs) + length (blocks_of (find p xs))
+count_next : (ps : List (List ℕ)) (xs : List Row) (i : ℕ) (p : List ℕ) → i < length ps → p ≡ get_or ps i p
+    → length (blocks_at (take (i + 1) ps) xs) ≡ length (blocks_at (take i ps) xs) + length (blocks_of (find p xs))
 count_next ps xs i p h is =
     let front : take (i + 1) ps ≡ take i ps ++ p ∷ [] = rw add-one (take-suc ps i p h ∙ ap (λ (q : List ℕ). take i ps ++ q ∷ []) (sym is)) in
     rw front (count_append (take i ps) (p ∷ []) xs ∙ ap (λ (n : ℕ). length (blocks_at (take i ps) xs) + n) (ap (λ (ns : List ℕ). length ns) (append-nil (blocks_of (find p xs)))))
@@ -109,7 +114,8 @@ count_over target ps xs i room p r h is left e = by (nat_lt room (length (blocks
         let over : room < length (blocks_of (find p xs)) = grind (arith, nat_tests, f) in
         let next : length (blocks_at (take (i + 1) ps) xs) ≡ length (blocks_at (take i ps) xs) + length (blocks_of (find p xs)) = count_next ps xs i p h is in
         let most : length (blocks_at (take (i + 1) ps) xs) ≤ length (blocks_at ps xs) = count_most ps xs (i + 1) in
-        let here : length (blocks_at (target ∷ take i ps) xs) ≡ length (blocks_of (find target xs)) + length (blocks_at (take i ps) xs) = length-append (blocks_of (find target xs)) (blocks_at (take i ps) xs) in
+        let here : length (blocks_at (target ∷ take i ps) xs) ≡ length (blocks_of (find target xs)) + length (blocks_at (take i ps) xs) =
+        length-append (blocks_of (find target xs)) (blocks_at (take i ps) xs) in
         let all : length (blocks_at (target ∷ ps) xs) ≡ length (blocks_of (find target xs)) + length (blocks_at ps xs) = length-append (blocks_of (find target xs)) (blocks_at ps xs) in
         let much : 65535 < length (blocks_at (target ∷ ps) xs) = omega (arith, left, over, next, most, here, all) in
         let test : nat_lt 65535 (length (blocks_at (target ∷ ps) xs)) ≡ true = grind (arith, nat_tests, much) in
@@ -120,6 +126,8 @@ pub count_left : (target : List ℕ) (ps : List (List ℕ)) (xs : List Row) (i r
     → left + length (blocks_at (target ∷ take (i + 1) ps) xs) ≡ 65535
 count_left target ps xs i room left p h is e f =
     let next : length (blocks_at (take (i + 1) ps) xs) ≡ length (blocks_at (take i ps) xs) + length (blocks_of (find p xs)) = count_next ps xs i p h is in
-    let here : length (blocks_at (target ∷ take i ps) xs) ≡ length (blocks_of (find target xs)) + length (blocks_at (take i ps) xs) = length-append (blocks_of (find target xs)) (blocks_at (take i ps) xs) in
-    let there : length (blocks_at (target ∷ take (i + 1) ps) xs) ≡ length (blocks_of (find target xs)) + length (blocks_at (take (i + 1) ps) xs) = length-append (blocks_of (find target xs)) (blocks_at (take (i + 1) ps) xs) in
+    let here : length (blocks_at (target ∷ take i ps) xs) ≡ length (blocks_of (find target xs)) + length (blocks_at (take i ps) xs) =
+    length-append (blocks_of (find target xs)) (blocks_at (take i ps) xs) in
+    let there : length (blocks_at (target ∷ take (i + 1) ps) xs) ≡ length (blocks_of (find target xs)) + length (blocks_at (take (i + 1) ps) xs) =
+    length-append (blocks_of (find target xs)) (blocks_at (take (i + 1) ps) xs) in
     omega (arith, e, f, next, here, there)

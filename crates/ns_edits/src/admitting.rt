@@ -2,24 +2,23 @@
 ghost use Rattle.std.specs.Prelude.{◌≡◌, ◌≤◌, length};
 ghost use Rattle.std.specs.Result.{result_err};
 ghost use Rattle.std.specs.List.{AllByRecursion};
-ghost use Rattle.edit_fields.specs.Fields.{IsGood};
+ghost use Rattle.edit_ops.specs.Fields.{IsGood};
 ghost use Rattle.edit_ops.specs.Records.{fields_of};
-ghost use Rattle.ns_rules.specs.Admit.{admit_of, admit_op, repeated};
+ghost use Rattle.ns_edits.specs.Admit.{admit_of, admit_op, repeated};
 
 mod concat;
 mod kinds;
-pub(crate) mod renames;
+pub(crate) mod rename_checks;
 mod walks;
 mod words;
 
-use edit_ops::{Edit, Op};
-use edit_values::Call;
-use ns_rules::AdmitRefusal;
+use crate::refusal::AdmitRefusal;
+use edit_ops::{Call, Edit, Op};
 use ns_tree::Namespace;
 
-/// The first condition that an edit breaks, in the order of the table of its kind; of all conditions the
-/// first is that its call isn't in the retry list. Takes no memory.
-#[tactic(auto, unfolding(ns_rules::specs::Admit::admit_of))]
+/// The first condition that an edit breaks, in the order of the table of its kind; of all
+/// conditions the first is that its call isn't in the retry list. Takes no memory.
+#[tactic(auto, unfolding(crate::specs::Admit::admit_of))]
 pub fn admit(namespace: &Namespace, edit: &Edit) -> Result<(), AdmitRefusal>
     ensures { result_err result ≡ admit_of namespace.now edit.now }
 {
@@ -40,7 +39,7 @@ fn check_call(namespace: &Namespace, call: &Option<Call>) -> Result<(), AdmitRef
     }
 }
 
-#[tactic(auto, unfolding(ns_rules::specs::Admit::admit_op))]
+#[tactic(auto, unfolding(crate::specs::Admit::admit_op))]
 fn check_op(namespace: &Namespace, op: &Op) -> Result<(), AdmitRefusal>
     requires { AllByRecursion IsGood (fields_of op.now) }
     ensures { result_err result ≡ admit_op op.now namespace.now.pairs }
@@ -81,14 +80,14 @@ fn check_op(namespace: &Namespace, op: &Op) -> Result<(), AdmitRefusal>
         }
         Op::Delete { path, .. } => kinds::check_delete(namespace, path.as_slice()),
         Op::RenameOld { src, dst, .. } => {
-            renames::check_rename_old(namespace, src.as_slice(), dst.as_slice())
+            rename_checks::check_rename_old(namespace, src.as_slice(), dst.as_slice())
         }
         Op::Rename {
             src,
             dst,
             overwrite,
             ..
-        } => renames::check_rename(namespace, src.as_slice(), dst.as_slice(), *overwrite),
+        } => rename_checks::check_rename(namespace, src.as_slice(), dst.as_slice(), *overwrite),
         Op::SetReplication { path, replication } => {
             kinds::check_set_replication(namespace, path.as_slice(), *replication)
         }

@@ -4,8 +4,8 @@ ghost use Rattle.std.specs.Prelude.{◌≡◌};
 use edit_ops::{Edit, Op};
 use ns_tree::Namespace;
 
-/// Has a namespace look first where an edit is, which is then admitted and applied with fewer searches. Changes
-/// nothing. Takes no memory.
+/// Has a namespace look first where an edit is, which is then admitted and applied with fewer
+/// searches. Changes nothing. Takes no memory.
 pub fn aim(namespace: &mut Namespace, edit: &Edit)
     ensures { namespace.new ≡ namespace.old }
 {

@@ -1,26 +1,26 @@
 //! An admitted edit applied: the table of the kinds and what each leaves.
 ghost use Rattle.std.specs.Prelude.{◌≡◌, ◌≤◌, ◌-◌, true, None, IsOk, OnOk, OnErr};
 ghost use Rattle.std.specs.List.{AllByRecursion};
-ghost use Rattle.edit_fields.specs.Fields.{IsGood};
+ghost use Rattle.edit_ops.specs.Fields.{IsGood};
 ghost use Rattle.edit_ops.specs.Records.{fields_of};
 ghost use Rattle.ns_tree.specs.Space.{AreRising};
-ghost use Rattle.ns_rules.specs.Admit.{admit_op, admit_of};
-ghost use Rattle.ns_rules.specs.Apply.{apply_op, apply_of, is_free};
+ghost use Rattle.ns_edits.specs.Admit.{admit_op, admit_of};
+ghost use Rattle.ns_edits.specs.Apply.{apply_op, apply_of, is_free};
 
 mod concat;
 mod inodes;
 mod made;
-mod moved;
+mod rename_edits;
 mod settings;
 
+use base_words::OutOfMemory;
 use edit_ops::{Edit, Op};
 use ns_tree::Namespace;
-use qj_num::OutOfMemory;
 use std::alloc::Global;
 
-/// Applies an edit that the namespace admits, as the entry of this txid. All memory is taken before the first
-/// change; after an `Err`, which is lack of memory or of room for one more row, all is as before. Where nothing is added there is
-/// no `Err`.
+/// Applies an edit that the namespace admits, as the entry of this txid. All memory is taken before
+/// the first change; after an `Err`, which is lack of memory or of room for one more row, all is as
+/// before. Where nothing is added there is no `Err`.
 pub fn apply(alloc: Global, ns: &mut Namespace, edit: Edit, txid: u64) -> Result<(), OutOfMemory>
     requires admitted { admit_of ns.old edit ≡ None }
     requires positive { 1 ≤ txid }
@@ -40,7 +40,7 @@ pub fn apply(alloc: Global, ns: &mut Namespace, edit: Edit, txid: u64) -> Result
     }
 }
 
-#[tactic(auto, unfolding(ns_rules::specs::Admit::admit_op, ns_rules::specs::Apply::apply_op))]
+#[tactic(auto, unfolding(crate::specs::Admit::admit_op, crate::specs::Apply::apply_op))]
 fn apply_op(alloc: Global, ns: &mut Namespace, op: Op) -> Result<(), OutOfMemory>
     requires good { AllByRecursion IsGood (fields_of op) }
     requires admitted { admit_op op ns.old.pairs ≡ None }
@@ -91,14 +91,14 @@ fn apply_op(alloc: Global, ns: &mut Namespace, op: Op) -> Result<(), OutOfMemory
             Ok(())
         }
         Op::RenameOld { src, dst, time } => {
-            moved::rename_old(alloc, ns, src.as_slice(), dst.as_slice(), time)
+            rename_edits::rename_old(alloc, ns, src.as_slice(), dst.as_slice(), time)
         }
         Op::Rename {
             src,
             dst,
             time,
             overwrite,
-        } => moved::rename(alloc, ns, src.as_slice(), dst.as_slice(), time, overwrite),
+        } => rename_edits::rename(alloc, ns, src.as_slice(), dst.as_slice(), time, overwrite),
         Op::SetReplication { path, replication } => {
             settings::set_replication(ns, path.as_slice(), replication);
             Ok(())

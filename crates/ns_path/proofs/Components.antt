@@ -1,4 +1,5 @@
--- The order of a walk is the order of the lists of components, and what is under a directory comes right after it.
+-- The order of a walk is the order of the lists of components, and what is under a directory comes
+-- right after it.
 use Rattle.std.proofs.Common.{◌≡◌, ℕ, ◌+◌, List, [], ◌∷◌, ◌++◌, Bool, true, false, refl, sym, ap, ◌∙◌, arith, ◌==◌, ◌&&◌}
 use Rattle.std.proofs.lemmas.Bool.Decides.{nat_tests}
 use Rattle.std.specs.declared.cmp.Ordering.{Ordering}

@@ -78,7 +78,8 @@ under_parent p q b d e = by (before_last_slash q) refl e
     under_it h = or_right (same_text p q) (is_under p q) (ap (λ (w : List ℕ). begins_with (w ++ 47 ∷ []) (stem q)) (stem_same p b) ∙ ap (begins_with (p ++ 47 ∷ [])) (stem_same q d) ∙ h)
 
     no_root : same_text p (47 ∷ []) ≡ true → ⊥
-    no_root s = let one : p ≡ 47 ∷ [] = same_text_is p (47 ∷ []) s in let two : b.first ∷ b.second ∷ b.rest ≡ 47 ∷ [] = sym b.is ∙ one in let lengths : length (b.first ∷ b.second ∷ b.rest) ≡ 1 = ap (λ (l : List ℕ). length l) two in omega (arith, lengths)
+    no_root s = let one : p ≡ 47 ∷ [] = same_text_is p (47 ∷ []) s in let two : b.first ∷ b.second ∷ b.rest ≡ 47 ∷ [] = sym b.is
+        ∙ one in let lengths : length (b.first ∷ b.second ∷ b.rest) ≡ 1 = ap (λ (l : List ℕ). length l) two in omega (arith, lengths)
 
     long : (ws : List ℕ) → begins_with (p ++ 47 ∷ []) (stem ws) ≡ true → begins_with (p ++ 47 ∷ []) ws ≡ true
     long [] h = h
@@ -115,7 +116,8 @@ root_apart p b = by (same_text p root_path) refl
     under = ap (λ (l : List ℕ). begins_with (stem l ++ 47 ∷ []) []) b.is
 
     by : (z : Bool) → same_text p root_path ≡ z → (z || is_under p root_path) ≡ false
-    by true s = absurd (let one : p ≡ 47 ∷ [] = same_text_is p (47 ∷ []) s in let two : b.first ∷ b.second ∷ b.rest ≡ 47 ∷ [] = sym b.is ∙ one in let lengths : length (b.first ∷ b.second ∷ b.rest) ≡ 1 = ap (λ (l : List ℕ). length l) two in omega (arith, lengths))
+    by true s = absurd (let one : p ≡ 47 ∷ [] = same_text_is p (47 ∷ []) s in let two : b.first ∷ b.second ∷ b.rest ≡ 47 ∷ [] = sym b.is
+        ∙ one in let lengths : length (b.first ∷ b.second ∷ b.rest) ≡ 1 = ap (λ (l : List ℕ). length l) two in omega (arith, lengths))
     by false s = under
 
 pub path_long : (p : List ℕ) → is_path p ≡ true → 0 < length p

@@ -9,13 +9,15 @@ next_byte : (p : List ℕ) (i : ℕ) → i < length p → drop i p ≡ get_or p 
 next_byte p i h = rw add-one (drop-cons p i 0 h)
 
 -- a `/` ends a good component
-pub ended : (p : List ℕ) (start i : ℕ) → i < length p → get_or p i 0 ≡ 47 → is_component (take (i - start) (drop start p)) ≡ true → are_components (take (i - start) (drop start p)) (drop i p) ≡ are_components (take (i + 1 - (i + 1)) (drop (i + 1) p)) (drop (i + 1) p)
+pub ended : (p : List ℕ) (start i : ℕ) → i < length p → get_or p i 0 ≡ 47 → is_component (take (i - start) (drop start p)) ≡ true
+    → are_components (take (i - start) (drop start p)) (drop i p) ≡ are_components (take (i + 1 - (i + 1)) (drop (i + 1) p)) (drop (i + 1) p)
 ended p start i h slash good =
     let none : i + 1 - (i + 1) ≡ 0 = omega arith in
     rw (next_byte p i h, slash, good, none) refl
 
 -- another byte goes to the component
-pub grown : (p : List ℕ) (start i : ℕ) → start ≤ i → i < length p → (get_or p i 0 == 47) ≡ false → are_components (take (i - start) (drop start p)) (drop i p) ≡ are_components (take (i + 1 - start) (drop start p)) (drop (i + 1) p)
+pub grown : (p : List ℕ) (start i : ℕ) → start ≤ i → i < length p → (get_or p i 0 == 47) ≡ false
+    → are_components (take (i - start) (drop start p)) (drop i p) ≡ are_components (take (i + 1 - start) (drop start p)) (drop (i + 1) p)
 grown p start i le h other =
     let more : i + 1 - start ≡ suc (i - start) = omega arith in
     let long : i - start < length (drop start p) = omega (arith, length-drop start p) in

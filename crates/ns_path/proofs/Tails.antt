@@ -2,7 +2,8 @@
 use Rattle.std.proofs.Common.{◌≡◌, ℕ, ◌<◌, ◌+◌, List, [], ◌∷◌, ◌++◌, length, drop, Bool, true, false, cond, refl, sym, ap, ◌∙◌, append_assoc, append-nil, length-append, arith, ◌==◌, ◌&&◌}
 use Rattle.std.specs.Prelude.{◌||◌}
 use Rattle.std.proofs.lemmas.Bool.Decides.{nat_tests}
-use Rattle.ns_path.specs.Path.{same_text, walk_cmp, begins_with, stem, path_of_stem, is_under, is_at_or_under, has_slash, before_last_slash, parent_of, is_component, are_components, is_path, is_root, moved_path}
+use Rattle.ns_path.specs.Path.{same_text, walk_cmp, begins_with, stem, path_of_stem, is_under, is_at_or_under, has_slash, before_last_slash}
+use Rattle.ns_path.specs.Path.{parent_of, is_component, are_components, is_path, is_root, moved_path}
 use Rattle.ns_path.proofs.Order.{same_text_is, same_text_self}
 use Rattle.ns_path.proofs.Parents.{root_path, Below, below_root, stem_same, front_begins, shorter, root_apart, under_parent}
 use Rattle.ns_path.proofs.Under.{prefix_cmp}
@@ -150,8 +151,10 @@ components_split c (b ∷ p) u = by (b == 47) (components_split [] p u) (compone
     and_assoc true y z = refl
     and_assoc false y z = refl
 
-    by : (z : Bool) → are_components [] (p ++ 47 ∷ u) ≡ (are_components [] p && are_components [] u) → are_components (c ++ b ∷ []) (p ++ 47 ∷ u) ≡ (are_components (c ++ b ∷ []) p && are_components [] u)
-        → cond z (is_component c && are_components [] (p ++ 47 ∷ u)) (are_components (c ++ b ∷ []) (p ++ 47 ∷ u)) ≡ (cond z (is_component c && are_components [] p) (are_components (c ++ b ∷ []) p) && are_components [] u)
+    by : (z : Bool) → are_components [] (p ++ 47 ∷ u) ≡ (are_components [] p && are_components [] u)
+        → are_components (c ++ b ∷ []) (p ++ 47 ∷ u) ≡ (are_components (c ++ b ∷ []) p && are_components [] u)
+        → cond z (is_component c && are_components [] (p ++ 47 ∷ u)) (are_components (c ++ b ∷ []) (p ++ 47 ∷ u)) ≡
+        (cond z (is_component c && are_components [] p) (are_components (c ++ b ∷ []) p) && are_components [] u)
     by true e f = ap (λ (x : Bool). is_component c && x) e ∙ and_assoc (is_component c) (are_components [] p) (are_components [] u)
     by false e f = f
 

@@ -1,4 +1,5 @@
--- The names of what is right under a path are in the order of their bytes where the paths are in the order of a walk.
+-- The names of what is right under a path are in the order of their bytes where the paths are in
+-- the order of a walk.
 use Rattle.std.proofs.Common.{◌≡◌, ℕ, ◌+◌, List, [], ◌∷◌, ◌++◌, length, drop, Bool, true, false, cond, refl, sym, ap, ◌∙◌, length-append, arith, ◌==◌}
 use Rattle.std.specs.Prelude.{not}
 use Rattle.std.specs.declared.cmp.Ordering.{Ordering}

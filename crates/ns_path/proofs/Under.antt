@@ -37,7 +37,7 @@ begins_between (c ∷ cs) (x ∷ xs) (y ∷ ys) a b h =
     let between = begins_between cs xs ys in
     grind (arith, nat_tests)
 
--- ---- the same over `is_under`, for a path that is not empty
+-- ---- what is under a path, by `is_under`, and what stands between, for a path that is not empty
 
 pub under_after : (p q : List ℕ) → 0 < length p → is_under p q ≡ true → walk_cmp p q ≡ Less
 under_after [] q n h = absurd (omega arith)

@@ -29,7 +29,8 @@ by_components = slice_cmp (slice_cmp nat_cmp)
 abbrev pub WalkIsByComponents : Type 0
 WalkIsByComponents = (p q : List ℕ) → is_path p ≡ true → is_path q ≡ true → walk_cmp p q ≡ by_components (components p) (components q)
 
--- what is under a directory comes after it, and nothing else comes between: so the directory stands right before it
+-- what is under a directory comes after it, and nothing else comes between: so the directory stands
+-- right before it
 abbrev pub UnderComesRightAfter : Type 0
 UnderComesRightAfter =
     (p q : List ℕ) → is_path p ≡ true → is_under p q ≡ true

@@ -32,7 +32,8 @@ is_under p q = begins_with (stem p ++ 47 ∷ []) (stem q)
 abbrev pub is_at_or_under : List ℕ → List ℕ → Bool
 is_at_or_under p q = same_text p q || is_under p q
 
--- a byte's place in the order of a walk: the `/` that ends a component comes before each byte of one
+-- a byte's place in the order of a walk: the `/` that ends a component comes before each byte of
+-- one
 abbrev pub rank_of : ℕ → ℕ
 rank_of b = if b == 47 then 0 else b + 1
 
@@ -82,7 +83,8 @@ is_dot_name c = same_text c (46 ∷ []) || same_text c (46 ∷ 46 ∷ [])
 abbrev pub is_component : List ℕ → Bool
 is_component c = nat_lt 0 (length c) && nat_le (length c) 255 && not (is_dot_name c) && all_component_bytes c
 
--- what a path is after its first `/`: components with a `/` between them; `c` is the component so far
+-- what a path is after its first `/`: components with a `/` between them; `c` is the component so
+-- far
 abbrev pub are_components : List ℕ → List ℕ → Bool
 are_components c [] = is_component c
 are_components c (b ∷ bs) = if b == 47 then is_component c && are_components [] bs else are_components (c ++ b ∷ []) bs

@@ -1,8 +1,8 @@
 //! What holds of the order of a walk.
 ghost use Rattle.ns_path.specs.Components.{UnderComesRightAfter, WalkIsByComponents};
 
-/// The order in which a walk comes to two paths is the order of their lists of components: component by
-/// component, each byte by byte, and a list before those that go on from it.
+/// The order in which a walk comes to two paths is the order of their lists of components:
+/// component by component, each byte by byte, and a list before those that go on from it.
 pub fn walks_go_by_components()
     ensures { WalkIsByComponents }
 {}

@@ -1,4 +1,5 @@
-//! Paths: their grammar and that of names, the order of a walk, their parents, and what lies under what.
+//! Paths: their grammar and that of names, the order of a walk, their parents, and what lies under
+//! what.
 #![tactic(auto)]
 
 mod examples;

@@ -2,7 +2,7 @@
 ghost use Rattle.std.specs.Prelude.{◌≡◌, ◌+◌, ◌≤◌, length, drop, [], ◌∷◌, ◌++◌, IfOk};
 ghost use Rattle.ns_path.specs.Path.{same_text, walk_cmp, rank_of, is_under, is_at_or_under, stem, begins_with, has_slash, path_of_stem, parent_of, is_root};
 
-use qj_num::{Name, OutOfMemory};
+use base_words::{Name, OutOfMemory};
 use std::alloc::Global;
 use std::cmp::Ordering;
 

@@ -1,4 +1,5 @@
--- What is under a path has that path above it as a directory: nothing is under a path where no directory is.
+-- What is under a path has that path above it as a directory: nothing is under a path where no
+-- directory is.
 use Rattle.std.proofs.Common.{◌≡◌, ℕ, zero, suc, ◌<◌, ◌≤◌, List, [], ◌∷◌, ◌++◌, length, Bool, true, false, cond, refl, sym, ap, ◌∙◌, append-nil, Option, Some, None, IsSome, arith, ◌==◌}
 use Rattle.std.specs.Prelude.{is_some, ◌||◌}
 use Rattle.std.proofs.lemmas.Bool.Decides.{nat_tests}
@@ -23,7 +24,8 @@ pub found_parent : (ys xs : List Row) (q : List ℕ) → Each (IsPair ys) xs →
 found_parent ys [] q h e = absurd (cc e)
 found_parent ys (x ∷ xs) q h e = by (same_text q x.path) refl e (λ f. found_parent ys xs q h.1 f)
   where
-    by : (z : Bool) → same_text q x.path ≡ z → is_some (cond z (Some x.inode) (find q xs)) ≡ true → (is_some (find q xs) ≡ true → is_dir_there (find (parent_of q) ys) ≡ true) → is_dir_there (find (parent_of q) ys) ≡ true
+    by : (z : Bool) → same_text q x.path ≡ z → is_some (cond z (Some x.inode) (find q xs)) ≡ true
+        → (is_some (find q xs) ≡ true → is_dir_there (find (parent_of q) ys) ≡ true) → is_dir_there (find (parent_of q) ys) ≡ true
     by true s e go = ap (λ (w : List ℕ). is_dir_there (find (parent_of w) ys)) (same_text_is q x.path s) ∙ h.0.parent
     by false s e go = go e
 
@@ -51,7 +53,8 @@ module _ (s : Space) (p : List ℕ) (h : IsTree s) (b : Below p) where
       by u (c ∷ v) is g =
           let slash : c ≡ 47 = (let e : (c == 47) ≡ true = g in grind (arith, nat_tests, e)) in
           let whole : x.path ≡ p ++ 47 ∷ v = is ∙ ap (λ (n : ℕ). p ++ n ∷ v) slash in
-          let above : is_dir_there (find (p ++ before_last_slash (47 ∷ v)) s.pairs) ≡ true = ap (λ (q : List ℕ). is_dir_there (find q s.pairs)) (sym (ap parent_of whole ∙ parent_tail p v b)) ∙ k.parent in
+          let above : is_dir_there (find (p ++ before_last_slash (47 ∷ v)) s.pairs) ≡ true =
+          ap (λ (q : List ℕ). is_dir_there (find q s.pairs)) (sym (ap parent_of whole ∙ parent_tail p v b)) ∙ k.parent in
           cc (sym no_dir ∙ climb (length (before_last_slash (47 ∷ v))) (before_last_slash (47 ∷ v)) (omega arith) (tail_parent v) above)
 
   pub no_dir_empty : is_dir_there (find p s.pairs) ≡ false → has_under p s.pairs ≡ false

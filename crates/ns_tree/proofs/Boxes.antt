@@ -39,7 +39,8 @@ in_box {B = B} f bs i b d h is = at_map f (λ (x : Row). x ≡ f b) bs i d h (λ
     other (x ∷ xs) (suc i) e h is = other xs i e (omega arith) is
 
 -- a row of which a part is changed in its box
-pub set_in_box : {B : Type 0} (f : B → Row) (g : Row → Row) (bs : List B) (i : ℕ) (b : B) (d : Row) → i < length bs → b ≡ get_or bs i b → (new : B) → f new ≡ g (f b) → map f (set bs i new) ≡ set (map f bs) i (g (get_or (map f bs) i d))
+pub set_in_box : {B : Type 0} (f : B → Row) (g : Row → Row) (bs : List B) (i : ℕ) (b : B) (d : Row) → i < length bs → b ≡ get_or bs i b → (new : B)
+    → f new ≡ g (f b) → map f (set bs i new) ≡ set (map f bs) i (g (get_or (map f bs) i d))
 set_in_box f g bs i b d h is new made = rw (map-set f bs i new, made, in_box f bs i b d h is) refl
 
 -- ## Parts

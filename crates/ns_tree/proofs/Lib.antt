@@ -9,7 +9,7 @@ pub mod Sound
 pub mod Noting
 pub mod Marks
 pub mod Run
-pub mod Renames
+pub mod RenameKeeps
 pub mod Turning
 pub mod Ancestors
 pub mod Names

@@ -1,10 +1,11 @@
 -- The marks of calls, and a list of calls of which the first ones have gone.
-use Rattle.std.proofs.Common.{◌≡◌, ◌≢◌, ℕ, zero, suc, ◌+◌, ◌-◌, ◌<◌, ◌≤◌, List, [], ◌∷◌, ◌++◌, length, length-append, length-drop, drop, set, get_or, None, Bool, true, false, refl, sym, ap, ◌∙◌, subst, arith, ◌==◌, ◌&&◌}
+use Rattle.std.proofs.Common.{◌≡◌, ◌≢◌, ℕ, zero, suc, ◌+◌, ◌-◌, ◌<◌, ◌≤◌, List, [], ◌∷◌, ◌++◌, length, length-append, length-drop, drop, set, get_or}
+use Rattle.std.proofs.Common.{None, Bool, true, false, refl, sym, ap, ◌∙◌, subst, arith, ◌==◌, ◌&&◌}
 use Rattle.std.specs.Prelude.{nat_le}
 use Rattle.std.proofs.lemmas.List.{drop-append-le, drop-drop, get_or-set_other}
 use Rattle.std.proofs.lemmas.Grind.{get_or-set_at}
 use Rattle.std.proofs.lemmas.Bool.Decides.{nat_tests}
-use Rattle.edit_values.specs.declared.call.Call.{Call}
+use Rattle.edit_ops.specs.declared.call.Call.{Call}
 use Rattle.ns_tree.specs.declared.inode.Noted.{Noted}
 use Rattle.ns_path.specs.Path.{same_text}
 use Rattle.ns_tree.specs.Space.{same_call, txid_of, last_calls, noted, AreRising}
@@ -66,7 +67,8 @@ marked_snoc marks [] n m le = (le, tt)
 marked_snoc marks (x ∷ xs) n m le = (m.0, marked_snoc marks xs n m.1 le)
 
 -- a call that is noted under its mark
-pub marked_noted : (marks : List ℕ) (call : Call) (txid : ℕ) (ns : List Noted) → mark_of call < length marks → AreMarked marks ns → AreRising 0 (txid - 1) ns → AreMarked (set marks (mark_of call) txid) (noted call txid ns)
+pub marked_noted : (marks : List ℕ) (call : Call) (txid : ℕ) (ns : List Noted) → mark_of call < length marks → AreMarked marks ns
+    → AreRising 0 (txid - 1) ns → AreMarked (set marks (mark_of call) txid) (noted call txid ns)
 marked_noted marks call txid ns h m r =
     let there : txid ≤ get_or (set marks (mark_of call) txid) (mark_of call) 0 = rw (get_or-set_at marks (mark_of call) (mark_of call) txid 0 refl h) (omega arith) in
     marked_drop _ (set marks (mark_of call) txid) _ (marked_snoc (set marks (mark_of call) txid) ns _ (marked_set marks (mark_of call) txid 0 (txid - 1) ns h m r (omega arith)) there)
@@ -79,7 +81,8 @@ longer : (gone : ℕ) (xs : List Noted) (n : Noted) → gone ≤ length xs → l
 longer gone xs n h = let all = length-append (drop gone xs) (n ∷ []) in let left = length-drop gone xs in omega (arith, all, left, h)
 
 -- a call whose mark tells a txid before the first of the list
-pub none_marked : (call : Call) (marks : List ℕ) (mark to : ℕ) (ns : List Noted) (d : Noted) → AreMarked marks ns → AreRising 0 to ns → mark_of call < length marks → mark ≡ get_or marks (mark_of call) mark → nat_le (get_or ns 0 d).txid mark ≡ false → txid_of call ns ≡ None
+pub none_marked : (call : Call) (marks : List ℕ) (mark to : ℕ) (ns : List Noted) (d : Noted) → AreMarked marks ns → AreRising 0 to ns
+    → mark_of call < length marks → mark ≡ get_or marks (mark_of call) mark → nat_le (get_or ns 0 d).txid mark ≡ false → txid_of call ns ≡ None
 none_marked call marks mark to [] d m r h is before = refl
 none_marked call marks mark to (n ∷ ns) d m r h is before =
     let less : mark < n.txid = grind (arith, nat_tests, before) in

@@ -21,7 +21,9 @@ all_after : (p : List ℕ) (x : Row) (ys : List Row) → is_right_under p x.path
 all_after p x [] h e = none_after (part_under p x.path)
 all_after p x (y ∷ ys) h e = by (is_right_under p y.path) refl (all_after p x ys h e.1)
   where
-    by : (z : Bool) → is_right_under p y.path ≡ z → All (IsBefore (part_under p x.path)) (names_under p ys) → All (IsBefore (part_under p x.path)) (map (λ (w : Row). part_under p w.path) (cond z (y ∷ filter (λ (w : Row). is_right_under p w.path) ys) (filter (λ (w : Row). is_right_under p w.path) ys)))
+    by : (z : Bool) → is_right_under p y.path ≡ z → All (IsBefore (part_under p x.path)) (names_under p ys)
+        → All (IsBefore (part_under p x.path)) (map (λ (w : Row). part_under p w.path)
+        (cond z (y ∷ filter (λ (w : Row). is_right_under p w.path) ys) (filter (λ (w : Row). is_right_under p w.path) ys)))
     by true k rest = All-cons (IsBefore (part_under p x.path)) (part_under p y.path) (names_under p ys) (name_less p x.path y.path h k e.0) rest
     by false k rest = rest
 
@@ -29,7 +31,9 @@ names_ordered : (p : List ℕ) (xs : List Row) → IsInWalkOrder xs → AreInByt
 names_ordered p [] h = λ i j d lt most. absurd (omega arith)
 names_ordered p (x ∷ xs) h = by (is_right_under p x.path) refl (names_ordered p xs h.1)
   where
-    by : (z : Bool) → is_right_under p x.path ≡ z → AllPairs IsBefore (names_under p xs) → AllPairs IsBefore (map (λ (w : Row). part_under p w.path) (cond z (x ∷ filter (λ (w : Row). is_right_under p w.path) xs) (filter (λ (w : Row). is_right_under p w.path) xs)))
+    by : (z : Bool) → is_right_under p x.path ≡ z → AllPairs IsBefore (names_under p xs)
+        → AllPairs IsBefore (map (λ (w : Row). part_under p w.path) (cond z (x ∷ filter (λ (w : Row). is_right_under p w.path) xs)
+        (filter (λ (w : Row). is_right_under p w.path) xs)))
     by true k rest = AllPairs-cons IsBefore (part_under p x.path) (names_under p xs) (all_after p x xs k h.0) rest
     by false k rest = rest
 

@@ -1,9 +1,10 @@
 -- The retry list stays sound: 1,024 calls at most, each once, with rising txids.
-use Rattle.std.proofs.Common.{◌≡◌, ℕ, zero, suc, ◌+◌, ◌-◌, ◌<◌, ◌≤◌, List, [], ◌∷◌, ◌++◌, length, length-append, length-drop, drop, Some, None, Bool, true, false, cond, refl, sym, ap, ◌∙◌, subst, arith, ◌==◌, ◌&&◌}
+use Rattle.std.proofs.Common.{◌≡◌, ℕ, zero, suc, ◌+◌, ◌-◌, ◌<◌, ◌≤◌, List, [], ◌∷◌, ◌++◌, length, length-append, length-drop, drop, Some, None, Bool}
+use Rattle.std.proofs.Common.{true, false, cond, refl, sym, ap, ◌∙◌, subst, arith, ◌==◌, ◌&&◌}
 use Rattle.std.specs.List.{remove}
 use Rattle.std.proofs.lemmas.Bool.Decides.{nat_tests}
 use Rattle.std.specs.Prelude.{◌^◌}
-use Rattle.edit_values.specs.declared.call.Call.{Call}
+use Rattle.edit_ops.specs.declared.call.Call.{Call}
 use Rattle.ns_tree.specs.declared.inode.Noted.{Noted}
 use Rattle.ns_path.specs.Path.{same_text}
 use Rattle.ns_tree.specs.Space.{Space, same_call, txid_of, last_calls, noted, AreRising, AreOtherCalls, AreDistinct}
@@ -98,7 +99,8 @@ rising_noted call txid ns positive later =
     subst (λ (k : ℕ). AreRising 0 k (ns ++ record { call = call; txid = k } ∷ [])) step (rising_snoc 0 (txid - 1) ns call later) in
     rising_drop (length (ns ++ record { call = call; txid = txid } ∷ []) - 1024) 0 txid (ns ++ record { call = call; txid = txid } ∷ []) all
 
-pub sound_noted : (s : Space) (call : Call) (txid : ℕ) → IsTree s → txid_of call s.calls ≡ None → 1 ≤ txid → txid ≤ 2 ^ 64 - 1 → AreRising 0 (txid - 1) s.calls → IsTree (record s { calls = noted call txid s.calls })
+pub sound_noted : (s : Space) (call : Call) (txid : ℕ) → IsTree s → txid_of call s.calls ≡ None → 1 ≤ txid → txid ≤ 2 ^ 64 - 1
+    → AreRising 0 (txid - 1) s.calls → IsTree (record s { calls = noted call txid s.calls })
 sound_noted s call txid h new positive most later =
     record {
       ordered = h.ordered;
@@ -106,5 +108,6 @@ sound_noted s call txid h new positive most later =
       root = h.root;
       few = last_few (s.calls ++ record { call = call; txid = txid } ∷ []);
       rising = rising_later 0 txid (2 ^ 64 - 1) (noted call txid s.calls) most (rising_noted call txid s.calls positive later);
-      distinct = distinct_drop (length (s.calls ++ record { call = call; txid = txid } ∷ []) - 1024) (s.calls ++ record { call = call; txid = txid } ∷ []) (distinct_snoc call txid s.calls new h.distinct);
+      distinct = distinct_drop (length (s.calls ++ record { call = call; txid = txid } ∷ []) - 1024)
+          (s.calls ++ record { call = call; txid = txid } ∷ []) (distinct_snoc call txid s.calls new h.distinct);
     }

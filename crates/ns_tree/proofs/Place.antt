@@ -1,5 +1,7 @@
 -- What a search finds among pairs in walk order, and what an edit at that place does.
-use Rattle.std.proofs.Common.{◌≡◌, ℕ, zero, suc, ◌<◌, ◌≤◌, ◌+◌, List, [], ◌∷◌, ◌++◌, length, take, drop, filter, map, set, refl, sym, ◌∙◌, ap, subst, arith, cond, Bool, true, false, get_or, Some, None, Result, Ok, Err, MatchResult, nat_lt, append_assoc, append-nil, add-one}
+use Rattle.std.proofs.Common.{◌≡◌, ℕ, zero, suc, ◌<◌, ◌≤◌, ◌+◌, List, [], ◌∷◌, ◌++◌, length, take, drop, filter, map, set, refl, sym, ◌∙◌, ap, subst}
+use Rattle.std.proofs.Common.{arith, cond, Bool, true, false, get_or, Some, None, Result, Ok, Err, MatchResult, nat_lt, append_assoc, append-nil}
+use Rattle.std.proofs.Common.{add-one}
 use Rattle.std.proofs.lemmas.List.{take-append-drop}
 use Rattle.std.proofs.lemmas.List.Elements.{filter-append}
 use Rattle.std.proofs.lemmas.Bool.Decides.{nat_tests}
@@ -87,9 +89,11 @@ module _ (xs : List Row) (ordered : IsInWalkOrder xs) (p : List ℕ) where
   pub searched : (r : Result ℕ ℕ) → IsSearchInRange r (length xs) → IsBinarySearchResult (λ x. walk_cmp x.path p) xs r → MatchResult r (IsAt xs p) (IsGapFor xs p)
   searched (Ok at) in_range equal = record {
     in_range = in_range;
-    below = each_take (λ x. walk_cmp x.path p ≡ Less) at xs (omega arith) (λ k d h. subst (λ q. walk_cmp (get_or xs k d).path q ≡ Less) (walk_cmp_exact _ _ (equal d)) (order_at xs ordered k at d h in_range));
+    below = each_take (λ x. walk_cmp x.path p ≡ Less) at xs (omega arith)
+        (λ k d h. subst (λ q. walk_cmp (get_or xs k d).path q ≡ Less) (walk_cmp_exact _ _ (equal d)) (order_at xs ordered k at d h in_range));
     here = λ d. walk_cmp_exact _ _ (equal d);
-    above = each_drop (λ x. walk_cmp p x.path ≡ Less) (at + 1) xs (λ k d h l. subst (λ q. walk_cmp q (get_or xs k d).path ≡ Less) (walk_cmp_exact _ _ (equal d)) (order_at xs ordered at k d (omega arith) l));
+    above = each_drop (λ x. walk_cmp p x.path ≡ Less) (at + 1) xs (λ k d h l.
+        subst (λ q. walk_cmp q (get_or xs k d).path ≡ Less) (walk_cmp_exact _ _ (equal d)) (order_at xs ordered at k d (omega arith) l));
   }
   searched (Err at) in_range parted = record {
     in_range = in_range;
@@ -97,18 +101,21 @@ module _ (xs : List Row) (ordered : IsInWalkOrder xs) (p : List ℕ) where
     above = each_drop (λ x. walk_cmp p x.path ≡ Less) at xs (λ k d h l. turned (get_or xs k d).path p ((parted rises).1 k d h l));
   }
 
--- the same of a search over what holds the rows
-pub searched_in : {B : Type 0} (f : B → Row) (bs : List B) → IsInWalkOrder (map f bs) → (p : List ℕ) (r : Result ℕ ℕ) → IsSearchInRange r (length bs) → IsBinarySearchResult (λ b. walk_cmp (f b).path p) bs r → MatchResult r (IsAt (map f bs) p) (IsGapFor (map f bs) p)
+-- what a search finds among items that each hold a row, where their rows are in walk order
+pub searched_in : {B : Type 0} (f : B → Row) (bs : List B) → IsInWalkOrder (map f bs) → (p : List ℕ) (r : Result ℕ ℕ) → IsSearchInRange r (length bs)
+    → IsBinarySearchResult (λ b. walk_cmp (f b).path p) bs r → MatchResult r (IsAt (map f bs) p) (IsGapFor (map f bs) p)
 searched_in f bs ordered p (Ok at) in_range equal =
     searched (map f bs) ordered p (Ok at) (rw (length-boxes f bs) in_range) (λ d. at_map f (λ (x : Row). walk_cmp x.path p ≡ Equal) bs at d in_range equal)
 searched_in f bs ordered p (Err at) in_range parted =
     let rise : IsNonDecreasingBy (λ b. ordering_index (walk_cmp (f b).path p)) bs =
-    λ i j d h l. let both : ordering_index (walk_cmp (get_or (map f bs) i (f d)).path p) ≤ ordering_index (walk_cmp (get_or (map f bs) j (f d)).path p) = rises (map f bs) ordered p i j (f d) h (rw (length-boxes f bs) l) in
+    λ i j d h l. let both : ordering_index (walk_cmp (get_or (map f bs) i (f d)).path p) ≤ ordering_index
+    (walk_cmp (get_or (map f bs) j (f d)).path p) = rises (map f bs) ordered p i j (f d) h (rw (length-boxes f bs) l) in
     rw (get-map f bs i d, get-map f bs j d) at both in
     searched (map f bs) ordered p (Err at) (rw (length-boxes f bs) in_range)
     (λ _. (
       λ k d a h. at_map f (λ (x : Row). walk_cmp x.path p ≡ Less) bs k d (omega (arith, in_range)) (λ e. (parted rise).0 k e a h),
-      λ k d a h. let within : k < length bs = (let h2 : k < length (map f bs) = h in omega (arith, h2, length-boxes f bs)) in at_map f (λ (x : Row). walk_cmp x.path p ≡ Greater) bs k d within (λ e. (parted rise).1 k e a within),
+      λ k d a h. let within : k < length bs = (let h2 : k < length (map f bs) = h in omega (arith, h2, length-boxes f bs)) in at_map f
+          (λ (x : Row). walk_cmp x.path p ≡ Greater) bs k d within (λ e. (parted rise).1 k e a within),
     ))
 
 -- ---- what is found
@@ -203,7 +210,8 @@ change_gap xs p f i gap =
 
 -- ---- a place at a row, or right after it
 
-pub gap_next : (xs : List Row) → IsInWalkOrder xs → (p : List ℕ) (i : ℕ) → i < length xs → ((d : Row) → walk_cmp (get_or xs i d).path p ≡ Less) → ((d : Row) → i + 1 < length xs → walk_cmp (get_or xs (i + 1) d).path p ≡ Greater) → IsGapFor xs p (i + 1)
+pub gap_next : (xs : List Row) → IsInWalkOrder xs → (p : List ℕ) (i : ℕ) → i < length xs → ((d : Row) → walk_cmp (get_or xs i d).path p ≡ Less)
+    → ((d : Row) → i + 1 < length xs → walk_cmp (get_or xs (i + 1) d).path p ≡ Greater) → IsGapFor xs p (i + 1)
 gap_next xs ordered p i h before after = record {
   in_range = omega (arith, h);
   below = each_take (λ x. walk_cmp x.path p ≡ Less) (i + 1) xs (omega (arith, h)) (λ k d l. low k d l (nat_lt k i) refl);

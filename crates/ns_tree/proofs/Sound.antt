@@ -41,7 +41,8 @@ no_root s p h absent = by (is_root p) refl
     by false e = e
 
 -- ## Changes
-pub sound_put : (s : Space) (p : List ℕ) (inode : Inode) → IsTree s → is_path p ≡ true → length p ≤ 1000 → IsInode inode → find p s.pairs ≡ None → is_dir_there (find (parent_of p) s.pairs) ≡ true → IsTree (record s { pairs = put p inode s.pairs })
+pub sound_put : (s : Space) (p : List ℕ) (inode : Inode) → IsTree s → is_path p ≡ true → length p ≤ 1000 → IsInode inode → find p s.pairs ≡ None
+    → is_dir_there (find (parent_of p) s.pairs) ≡ true → IsTree (record s { pairs = put p inode s.pairs })
 sound_put s p inode h path short good absent parent =
     sound_pairs s (put p inode s.pairs) h (order_put p inode s.pairs h.ordered) (kept_put p inode s.pairs path (no_root s p h absent) short good absent parent (pairs_of s h))
 
@@ -66,7 +67,8 @@ sound_raise s p t h le =
     sound_pairs s (raise p t s.pairs) h (order_change p (raised t) s.pairs h.ordered) (kept_change p (raised t) s.pairs (raised_dir t) (raised_good t le) (pairs_of s h))
 
 -- another inode of the same kind
-pub sound_set : (s : Space) (p : List ℕ) (inode : Inode) (i : Inode) → IsTree s → IsInode inode → find p s.pairs ≡ Some i → is_dir inode ≡ is_dir i → IsTree (record s { pairs = set_at p inode s.pairs })
+pub sound_set : (s : Space) (p : List ℕ) (inode : Inode) (i : Inode) → IsTree s → IsInode inode → find p s.pairs ≡ Some i → is_dir inode ≡ is_dir i
+    → IsTree (record s { pairs = set_at p inode s.pairs })
 sound_set s p inode i h good found kind =
     sound_pairs s (set_at p inode s.pairs) h (order_change p (λ _. inode) s.pairs h.ordered) (record { pairs = rows s.pairs h.pairs; root = there root_path ∙ h.root })
   where

@@ -18,15 +18,19 @@ filter_all : (f : Row → Bool) (xs : List Row) → ((k : ℕ) (d : Row) → k <
 filter_all f [] h = refl
 filter_all f (x ∷ xs) h = rw (h 0 x (omega arith)) (ap (λ ys. x ∷ ys) (filter_all f xs (λ k d l. h (suc k) d (omega arith))))
 
-pub filter_cut : (f : Row → Bool) (i end : ℕ) (xs : List Row) → i ≤ end → end ≤ length xs → ((k : ℕ) (d : Row) → k < i → f (get_or xs k d) ≡ true) → ((k : ℕ) (d : Row) → i ≤ k → k < end → f (get_or xs k d) ≡ false) → ((k : ℕ) (d : Row) → end ≤ k → k < length xs → f (get_or xs k d) ≡ true) → filter f xs ≡ take i xs ++ drop end xs
+pub filter_cut : (f : Row → Bool) (i end : ℕ) (xs : List Row) → i ≤ end → end ≤ length xs → ((k : ℕ) (d : Row) → k < i → f (get_or xs k d) ≡ true)
+    → ((k : ℕ) (d : Row) → i ≤ k → k < end → f (get_or xs k d) ≡ false) → ((k : ℕ) (d : Row) → end ≤ k → k < length xs → f (get_or xs k d) ≡ true)
+    → filter f xs ≡ take i xs ++ drop end xs
 filter_cut f zero zero xs a b before inside after = filter_all f xs (λ k d l. after k d (omega arith) l)
 filter_cut f zero (suc end) [] a b before inside after = absurd (omega arith)
 filter_cut f zero (suc end) (x ∷ xs) a b before inside after =
-    rw (inside 0 x (omega arith) (omega arith)) (filter_cut f zero end xs (omega arith) (omega arith) (λ k d l. absurd (omega arith)) (λ k d l m. inside (suc k) d (omega arith) (omega arith)) (λ k d l m. after (suc k) d (omega arith) (omega arith)))
+    rw (inside 0 x (omega arith) (omega arith)) (filter_cut f zero end xs (omega arith) (omega arith) (λ k d l. absurd (omega arith))
+    (λ k d l m. inside (suc k) d (omega arith) (omega arith)) (λ k d l m. after (suc k) d (omega arith) (omega arith)))
 filter_cut f (suc i) zero xs a b before inside after = absurd (omega arith)
 filter_cut f (suc i) (suc end) [] a b before inside after = absurd (omega arith)
 filter_cut f (suc i) (suc end) (x ∷ xs) a b before inside after =
-    rw (before 0 x (omega arith)) (ap (λ ys. x ∷ ys) (filter_cut f i end xs (omega arith) (omega arith) (λ k d l. before (suc k) d (omega arith)) (λ k d l m. inside (suc k) d (omega arith) (omega arith)) (λ k d l m. after (suc k) d (omega arith) (omega arith))))
+    rw (before 0 x (omega arith)) (ap (λ ys. x ∷ ys) (filter_cut f i end xs (omega arith) (omega arith) (λ k d l. before (suc k) d (omega arith))
+    (λ k d l m. inside (suc k) d (omega arith) (omega arith)) (λ k d l m. after (suc k) d (omega arith) (omega arith))))
 
 module _ (xs : List Row) (p : List ℕ) (i end : ℕ) (n : 0 < length p) (ordered : IsInWalkOrder xs) (at : IsAt xs p i) (part : IsSubtreeEnd xs p i end) where
   pub later_at : (k : ℕ) (d : Row) → i < k → k < length xs → walk_cmp p (get_or xs k d).path ≡ Less
@@ -101,7 +105,8 @@ module _ (xs : List Row) (p : List ℕ) (i : ℕ) (n : 0 < length p) (ordered : 
       clash k d l m true t e none =
           let less : i + 1 < k = grind (arith, nat_tests) in
           let same : get_or xs (i + 1) d ≡ x = get_or_default xs (i + 1) d x h ∙ sym is in
-          let after : walk_cmp p x.path ≡ Less = subst (λ q. walk_cmp q x.path ≡ Less) (at.here d) (subst (λ (y : Row). walk_cmp (get_or xs i d).path y.path ≡ Less) same (order_at xs ordered i (i + 1) d (omega arith) h)) in
+          let after : walk_cmp p x.path ≡ Less = subst (λ q. walk_cmp q x.path ≡ Less) (at.here d)
+          (subst (λ (y : Row). walk_cmp (get_or xs i d).path y.path ≡ Less) same (order_at xs ordered i (i + 1) d (omega arith) h)) in
           let step : walk_cmp x.path (get_or xs k d).path ≡ Less = subst (λ (y : Row). walk_cmp y.path (get_or xs k d).path ≡ Less) same (order_at xs ordered (i + 1) k d less m) in
           let between = under_between p x.path (get_or xs k d).path n after step e in
           cc
@@ -112,18 +117,23 @@ module _ (xs : List Row) (p : List ℕ) (i : ℕ) (n : 0 < length p) (ordered : 
 
       by : (b : Bool) → is_under p x.path ≡ b → has_under p (drop (i + 1) xs) ≡ b
       by true t = rw (parts, t) refl
-      by false t = has_under_none p (drop (i + 1) xs) (each_drop (λ x. is_under p x.path ≡ false) (i + 1) xs (λ k d l m. not_true (is_under p (get_or xs k d).path) (λ e. clash k d l m (nat_lt (i + 1) k) refl e t)))
+      by false t = has_under_none p (drop (i + 1) xs) (each_drop (λ x. is_under p x.path ≡ false) (i + 1) xs
+          (λ k d l m. not_true (is_under p (get_or xs k d).path) (λ e. clash k d l m (nat_lt (i + 1) k) refl e t)))
 
 -- what a filter keeps of a list of which it keeps a run
 filter_none : (f : Row → Bool) (xs : List Row) → ((k : ℕ) (d : Row) → k < length xs → f (get_or xs k d) ≡ false) → filter f xs ≡ []
 filter_none f [] h = refl
 filter_none f (x ∷ xs) h = rw (h 0 x (omega arith)) (filter_none f xs (λ k d l. h (suc k) d (omega arith)))
 
-pub filter_run : (f : Row → Bool) (i n : ℕ) (xs : List Row) → i + n ≤ length xs → ((k : ℕ) (d : Row) → k < i → f (get_or xs k d) ≡ false) → ((k : ℕ) (d : Row) → i ≤ k → k < i + n → f (get_or xs k d) ≡ true) → ((k : ℕ) (d : Row) → i + n ≤ k → k < length xs → f (get_or xs k d) ≡ false) → filter f xs ≡ take n (drop i xs)
+pub filter_run : (f : Row → Bool) (i n : ℕ) (xs : List Row) → i + n ≤ length xs → ((k : ℕ) (d : Row) → k < i → f (get_or xs k d) ≡ false)
+    → ((k : ℕ) (d : Row) → i ≤ k → k < i + n → f (get_or xs k d) ≡ true) → ((k : ℕ) (d : Row) → i + n ≤ k → k < length xs → f (get_or xs k d) ≡ false)
+    → filter f xs ≡ take n (drop i xs)
 filter_run f zero zero xs a before inside after = filter_none f xs (λ k d l. after k d (omega arith) l)
 filter_run f zero (suc n) [] a before inside after = absurd (omega arith)
 filter_run f zero (suc n) (x ∷ xs) a before inside after =
-    rw (inside 0 x (omega arith) (omega arith)) (ap (λ ys. x ∷ ys) (filter_run f zero n xs (omega arith) (λ k d l. absurd (omega arith)) (λ k d l m. inside (suc k) d (omega arith) (omega arith)) (λ k d l m. after (suc k) d (omega arith) (omega arith))))
+    rw (inside 0 x (omega arith) (omega arith)) (ap (λ ys. x ∷ ys) (filter_run f zero n xs (omega arith) (λ k d l. absurd (omega arith))
+    (λ k d l m. inside (suc k) d (omega arith) (omega arith)) (λ k d l m. after (suc k) d (omega arith) (omega arith))))
 filter_run f (suc i) n [] a before inside after = absurd (omega arith)
 filter_run f (suc i) n (x ∷ xs) a before inside after =
-    rw (before 0 x (omega arith)) (filter_run f i n xs (omega arith) (λ k d l. before (suc k) d (omega arith)) (λ k d l m. inside (suc k) d (omega arith) (omega arith)) (λ k d l m. after (suc k) d (omega arith) (omega arith)))
+    rw (before 0 x (omega arith)) (filter_run f i n xs (omega arith) (λ k d l. before (suc k) d (omega arith))
+    (λ k d l m. inside (suc k) d (omega arith) (omega arith)) (λ k d l m. after (suc k) d (omega arith) (omega arith)))

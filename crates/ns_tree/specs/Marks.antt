@@ -1,6 +1,6 @@
 -- The marks of calls: a call of which the mark tells a txid before the list's isn't in the list.
 use Rattle.std.specs.Prelude.{ℕ, ◌+◌, ◌*◌, ◌%◌, ◌≤◌, List, [], ◌∷◌, slice_index_or}
-use Rattle.edit_values.specs.declared.call.Call.{Call}
+use Rattle.edit_ops.specs.declared.call.Call.{Call}
 use Rattle.ns_tree.specs.declared.inode.Noted.{Noted}
 
 -- one of 8,192

@@ -1,4 +1,5 @@
--- Where a path stands, or would stand, among pairs in the order of a walk, and where what is under it ends.
+-- Where a path stands, or would stand, among pairs in the order of a walk, and where what is under
+-- it ends.
 use Rattle.std.specs.Prelude.{◌≡◌, ℕ, zero, suc, ◌+◌, ◌-◌, ◌^◌, ◌<◌, ◌≤◌, true, false, List, [], ◌∷◌, length, take, drop, slice_index_or}
 use Rattle.std.specs.declared.cmp.Ordering.TheVariants.{Less}
 use Rattle.ns_tree.specs.declared.inode.Inode.{Inode}
@@ -40,7 +41,7 @@ named [] xs = xs
 named (n ∷ ns) [] = []
 named (n ∷ ns) (x ∷ xs) = pair n x.inode ∷ named ns xs
 
--- the same from an index on
+-- rows with other paths from an index on, in order, and the rest as it is
 abbrev pub given : ℕ → List (List ℕ) → List Row → List Row
 given zero ns xs = named ns xs
 given (suc i) ns [] = []

@@ -1,9 +1,10 @@
 -- A namespace: its pairs in the order of a walk, and its retry list.
-use Rattle.std.specs.Prelude.{◌≡◌, ℕ, ◌-◌, ◌^◌, ◌<◌, ◌≤◌, Bool, true, false, not, ◌&&◌, ◌||◌, ◌==◌, nat_lt, List, [], ◌∷◌, ◌++◌, length, drop, filter, map, AllPairs, Option, Some, None, codes, if◌then◌else◌}
+use Rattle.std.specs.Prelude.{◌≡◌, ℕ, ◌-◌, ◌^◌, ◌<◌, ◌≤◌, Bool, true, false, not, ◌&&◌, ◌||◌, ◌==◌, nat_lt, List, [], ◌∷◌, ◌++◌, length, drop, filter}
+use Rattle.std.specs.Prelude.{map, AllPairs, Option, Some, None, codes, if◌then◌else◌}
 use Rattle.std.specs.declared.cmp.Ordering.TheVariants.{Less}
 use Rattle.std.specs.Ordering.{is_lt, nat_cmp}
 use Rattle.std.specs.Cmp.Lexicographic.{slice_cmp}
-use Rattle.edit_values.specs.declared.call.Call.{Call}
+use Rattle.edit_ops.specs.declared.call.Call.{Call}
 use Rattle.ns_tree.specs.declared.inode.Inode.{Inode}
 use Rattle.ns_tree.specs.declared.inode.Inode.TheVariants.{Dir, File}
 use Rattle.ns_tree.specs.declared.inode.Noted.{Noted}

@@ -6,8 +6,8 @@ ghost use Rattle.ns_tree.specs.Last.{is_after_last, has_parent};
 
 use crate::inode::Row;
 use crate::namespace::Namespace;
+use base_words::OutOfMemory;
 use ns_path::{parent, walk_order};
-use qj_num::OutOfMemory;
 use std::alloc::Global;
 
 impl Namespace {
@@ -36,8 +36,8 @@ impl Namespace {
         walk_order(last.path.as_slice(), path).is_lt()
     }
 
-    /// Whether the directory that a path stands in is there. Takes no memory, and no search where the last
-    /// row stands in the same directory.
+    /// Whether the directory that a path stands in is there. Takes no memory, and no search where
+    /// the last row stands in the same directory.
     pub fn has_parent(&self, path: &[u8]) -> bool
         ensures { result ≡ has_parent path.now self.now.pairs }
     {

@@ -2,7 +2,7 @@
 ghost use Rattle.std.specs.Prelude.{◌≡◌, ◌++◌, [], ◌∷◌, OnOk, OnErr};
 
 use crate::inode::Row;
-use qj_num::{Name, OutOfMemory};
+use base_words::{Name, OutOfMemory};
 use std::alloc::Global;
 use std::marker::Model;
 
@@ -12,7 +12,8 @@ pub struct RowList {
     items: Vec<Row>,
 }
 
-/// What an actor with names holds at last: how many edits it has applied, and the rows that they left.
+/// What an actor with names holds at last: how many edits it has applied, and the rows that they
+/// left.
 #[derive(Drop)]
 pub struct LastSpace {
     pub position: u64,

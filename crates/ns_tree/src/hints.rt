@@ -1,4 +1,5 @@
-//! Where a table's searches look first. A place is only tried: any number does, and what a search finds is the same.
+//! Where a table's searches look first. A place is only tried: any number does, and what a search
+//! finds is the same.
 
 /// A directory's place, and that of the row after which a path was put into it last.
 #[derive(Clone, Copy)]

@@ -5,8 +5,8 @@ ghost use Rattle.ns_tree.specs.Space.{same_call, txid_of, noted, last_calls, Are
 ghost use Rattle.ns_tree.specs.Marks.{mark_of};
 
 use crate::inode::Noted;
-use edit_values::Call;
-use qj_num::OutOfMemory;
+use base_words::OutOfMemory;
+use edit_ops::Call;
 use std::alloc::Global;
 use std::marker::Model;
 
@@ -124,7 +124,8 @@ fn put_last(calls: &mut Vec<Noted>, gone: usize, noted: Noted) -> usize
     }
 }
 
-/// Has room for one more call: where there is none, those that have gone leave. Tells how many have gone then.
+/// Has room for one more call: where there is none, those that have gone leave. Tells how many have
+/// gone then.
 fn make_room(calls: &mut Vec<Noted>, gone: usize) -> usize
     requires gone { gone ≤ length calls.old.items }
     requires few { length calls.old.items - gone ≤ 1024 }

@@ -10,8 +10,8 @@ ghost use Rattle.ns_tree.specs.Places.{IsAt, IsGapFor, IsSubtreeEnd};
 
 use crate::hints::Hints;
 use crate::inode::{Inode, Row};
+use base_words::OutOfMemory;
 use ns_path::{lies_under, walk_order};
-use qj_num::OutOfMemory;
 use std::alloc::{AllocError, Global};
 use std::boxed::Box;
 use std::cmp::Ordering;
@@ -93,7 +93,8 @@ impl RowTable {
         search_hinted(&self.boxes, self.hints.last, self.hints.other, path)
     }
 
-    /// The same, of a path that may be one of the directories that were looked for last.
+    /// Where a path stands among rows in the order of a walk, or where it would stand. The
+    /// directories that were looked for last are tried first.
     pub fn search_above(&self, path: &[u8]) -> Result<usize, usize>
         requires { IsInWalkOrder self.now }
         ensures { MatchResult result (IsAt self.now path.now) (IsGapFor self.now path.now) }
@@ -120,7 +121,8 @@ impl RowTable {
         }
     }
 
-    /// Has the next searches look first where a path of the directory that was aimed at would stand. No row changes.
+    /// Has the next searches look first where a path of the directory that was aimed at would
+    /// stand. No row changes.
     pub fn aim_in(&mut self, path: &[u8])
         requires { IsInWalkOrder self.old }
         ensures { self.new ≡ self.old }
@@ -134,7 +136,8 @@ impl RowTable {
         self.hints.look_in(place);
     }
 
-    /// The same among the first rows.
+    /// Where a path stands among the first `count` rows, which are in the order of a walk, or where
+    /// it would stand among them.
     pub fn search_first(&self, count: usize, path: &[u8]) -> Result<usize, usize>
         requires in_range { count ≤ length self.now }
         requires order { IsInWalkOrder (take count self.now) }
@@ -235,7 +238,8 @@ fn row_of(place: Result<usize, usize>) -> usize {
     }
 }
 
-/// Two places are tried before all rows are searched, since edits that follow one another are often at one place.
+/// Two places are tried before all rows are searched, since edits that follow one another are often
+/// at one place.
 fn search_hinted(rows: &[Box<Row>], last: usize, other: usize, path: &[u8]) -> Result<usize, usize>
     requires { IsInWalkOrder (map (λ b. b.value) rows.now) }
     ensures { MatchResult result (IsAt (map (λ b. b.value) rows.now) path.now) (IsGapFor (map (λ b. b.value) rows.now) path.now) }
@@ -288,7 +292,7 @@ fn near(rows: &[Box<Row>], at: usize, path: &[u8]) -> Option<Result<usize, usize
     }
 }
 
-/// The same, where the path comes after the row.
+/// The place of a path that comes after the row at an index, where that is right after the row.
 fn next_to(rows: &[Box<Row>], at: usize, path: &[u8]) -> Option<Result<usize, usize>>
     requires order { IsInWalkOrder (map (λ b. b.value) rows.now) }
     requires in_range { at < length rows.now }

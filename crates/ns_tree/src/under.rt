@@ -6,8 +6,8 @@ ghost use Rattle.ns_tree.specs.Places.{IsAt};
 
 use crate::inode::{Inode, Row};
 use crate::namespace::Namespace;
+use base_words::{Name, OutOfMemory};
 use ns_path::{contains_slash, lies_under, part_from, stem_of};
-use qj_num::{Name, OutOfMemory};
 use std::alloc::Global;
 
 impl Namespace {
@@ -40,8 +40,8 @@ impl Namespace {
         }
     }
 
-    /// The last components of what is right under a directory, in the order of their bytes; none where
-    /// there is no directory.
+    /// The last components of what is right under a directory, in the order of their bytes; none
+    /// where there is no directory.
     pub fn children(&self, alloc: Global, path: &[u8]) -> Result<Vec<Name>, OutOfMemory>
         ensures names { IfOk result (λ names. names.items ≡ children_of path.now self.now.pairs) }
         ensures order { IfOk result (λ names. AreInByteOrder names.items) }
@@ -87,8 +87,9 @@ impl Namespace {
         }
     }
 
-    /// All rows in the order of a walk, which is that of their lists of components (`walks_go_by_components`): a
-    /// directory stands right before what is under it (`directories_come_right_before`).
+    /// All rows in the order of a walk, which is that of their lists of components
+    /// (`walks_go_by_components`): a directory stands right before what is under it
+    /// (`directories_come_right_before`).
     pub fn walk(&self, alloc: Global) -> Result<Vec<Row>, OutOfMemory>
         ensures { IfOk result (λ rows. rows.items ≡ self.now.pairs) }
     {

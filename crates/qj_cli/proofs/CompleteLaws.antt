@@ -1,40 +1,40 @@
 -- Where the input is right and nothing fails a command is done, or memory ran out.
 use Rattle.std.proofs.Common.{◌≡◌, ℕ, ◌<◌, ◌≤◌, List, Option, Some, None, Bool, true, false, ◌==◌, refl, sym, ap, subst, ◌∙◌, arith, inl, inr, ◌⊎◌, length}
 use Rattle.std.specs.Prelude.{if◌then◌else◌, Result, Ok, Err, IfOk, IsErr}
-use Rattle.qj_outside.specs.Faults.{Rose}
+use Rattle.base_outside.specs.Faults.{Rose}
 use Rattle.journal_core.specs.declared.segment.Segment.{Segment}
-use Rattle.journal_node.specs.Opening.{IsRefusedFile}
-use Rattle.journal_node.proofs.Reopens.{one_segments, not_unfilled}
-use Rattle.node_files.specs.Durable.{StandsAs, AreFilled}
-use Rattle.node_session.specs.declared.served.Served.{Served}
-use Rattle.node_session.specs.declared.served.Served.TheVariants as served
-use Rattle.qj_disk.specs.Files.{Files}
+use Rattle.disk_node.specs.Opening.{IsRefusedFile}
+use Rattle.disk_node.proofs.Reopens.{one_segments, not_unfilled}
+use Rattle.disk_files.specs.Durable.{StandsAs, AreFilled}
+use Rattle.journal_session.specs.declared.served.Served.{Served}
+use Rattle.journal_session.specs.declared.served.Served.TheVariants as served
+use Rattle.base_disk.specs.Files.{Files}
 use Rattle.mesh.specs.declared.whole.Mesh.{Mesh}
 use Rattle.ns_tree.specs.declared.end.End.{End}
-use Rattle.script_lines.specs.Scripts.{ScriptView}
-use Rattle.script_text.specs.Rules.{fault_of}
-use Rattle.script_text.specs.Laws.{ScriptBreaksNoRule}
-use Rattle.exit_lines.specs.declared.status.Status.{Status}
-use Rattle.exit_lines.specs.declared.status.Status.TheVariants as status
-use Rattle.exit_lines.specs.declared.fault.Fault.{Fault}
-use Rattle.exit_lines.specs.declared.fault.Fault.TheVariants as fault
-use Rattle.command_words.specs.declared.command.Command.{Command}
-use Rattle.file_commands.specs.declared.tool.Tool.{Tool}
-use Rattle.exit_lines.specs.Uses.{SourceUse, SinkUse, DiskUse}
-use Rattle.exit_lines.specs.Faults.{status_of}
-use Rattle.exit_lines.specs.Told.{IsToldAs, TellsFault, TellsText, Told, wrote_text, told_fault}
-use Rattle.command_words.specs.Commands.{Asked, asked_in, play, run, node, fsck, gen, list, AskFor}
+use Rattle.play_script.specs.Scripts.{ScriptView}
+use Rattle.play_script.specs.Rules.{fault_of}
+use Rattle.play_script.specs.Laws.{ScriptBreaksNoRule}
+use Rattle.cli_commands.specs.declared.status.Status.{Status}
+use Rattle.cli_commands.specs.declared.status.Status.TheVariants as status
+use Rattle.cli_commands.specs.declared.command_fault.CommandFault.{CommandFault}
+use Rattle.cli_commands.specs.declared.command_fault.CommandFault.TheVariants as fault
+use Rattle.cli_commands.specs.declared.command.Command.{Command}
+use Rattle.cli_commands.specs.declared.tool.Tool.{Tool}
+use Rattle.cli_commands.specs.Uses.{SourceUse, SinkUse, DiskUse}
+use Rattle.cli_commands.specs.Faults.{status_of}
+use Rattle.cli_commands.specs.Told.{IsToldAs, TellsFault, TellsText, Told, wrote_text, told_fault}
+use Rattle.cli_commands.specs.Commands.{Asked, asked_in, play, run, node, fsck, gen, list, AskFor}
 use Rattle.qj_cli.specs.Sound.{AreSound, ComeOf}
 use Rattle.qj_cli.specs.Plays.{longest_script, AreTold, IsReadWhole, IsTooLong, IsPlayFault, Plays}
 use Rattle.qj_cli.specs.Report.{HasLongReport}
-use Rattle.file_commands.specs.Listing.{longest_file, IsTooLong as IsTooLongFile, file_under, IsFileFault, OfFile, GivesListing, IsListFault}
-use Rattle.node_command.specs.Serving.{status_at, is_disk_fault, IsNodeSessionOf, IsNodeSession, ServesNode, IsUnopened, IsServedOrNot, opened, unopened, Serves}
-use Rattle.file_commands.specs.Checks.{status_with, GivesFindings, IsCheckFault}
+use Rattle.cli_commands.specs.Listing.{longest_file, IsTooLong as IsTooLongFile, file_under, IsFileFault, OfFile, GivesListing, IsListFault}
+use Rattle.cli_commands.specs.Serving.{status_at, is_disk_fault, IsNodeSessionOf, IsNodeSession, ServesNode, IsUnopened, IsServedOrNot, opened, unopened, Serves}
+use Rattle.cli_commands.specs.Checks.{status_with, GivesFindings, IsCheckFault}
 use Rattle.qj_cli.specs.Generates.{IsSummaryFault, Generates}
 use Rattle.qj_cli.specs.Does.{Does, Refuses, NeedsThreads}
 use Rattle.qj_cli.specs.Complete.{HasScript, HasRequests, HasNode, HasFile, NothingFails, IsComplete}
-use Rattle.file_commands.proofs.OneListing.{in_grammar}
-use Rattle.command_words.proofs.WordLaws.{one_command}
+use Rattle.cli_commands.proofs.OneListing.{in_grammar}
+use Rattle.cli_commands.proofs.WordLaws.{one_command}
 use Rattle.qj_cli.proofs.RequestLaws.{no_bad_next, no_long_next}
 
 -- it is done, or memory ran out
@@ -43,7 +43,7 @@ Done s = (s ≡ status.Ok) ⊎ (s ≡ status.OutOfMemory)
 
 -- ## What was told
 -- memory that ran out is told as that
-memory_told : (told : Fault) (s : Status) → IsToldAs fault.OutOfMemory told → s ≡ status_of told → Done s
+memory_told : (told : CommandFault) (s : Status) → IsToldAs fault.OutOfMemory told → s ≡ status_of told → Done s
 memory_told told s (inl e) is = inr (is ∙ ap status_of e)
 memory_told told s (inr e) is = inr (is ∙ ap status_of e.0)
 
@@ -56,7 +56,8 @@ some_told : (told : Option (List ℕ)) (bytes read : List ℕ) → told ≡ Some
 some_told None bytes read e is = absurd (cc e)
 some_told (Some x) bytes read e is = is ∙ cc e
 
-module _ (Leaves : ScriptView → Mesh → List End → Type 0) (source : SourceUse) (right : HasScript Leaves source) (reads : Rose source.faults_before source.faults_now → ⊥) (no_rule : ScriptBreaksNoRule) where
+module _ (Leaves : ScriptView → Mesh → List End → Type 0) (source : SourceUse) (right : HasScript Leaves source)
+    (reads : Rose source.faults_before source.faults_now → ⊥) (no_rule : ScriptBreaksNoRule) where
   same_bytes : (read : List ℕ) → AreTold source.told read → read ≡ right.bytes
   same_bytes read is = some_told source.told right.bytes read right.told is
 
@@ -81,7 +82,7 @@ module _ (Leaves : ScriptView → Mesh → List End → Type 0) (source : Source
   limit_none number (inl is) = not_long is.1
   limit_none number (inr is) = not_reported is.0 is.1 is.2.2
 
-  play_fault : (of : Fault) (s : Status) (sink : SinkUse) → IsPlayFault Leaves source of → TellsFault of s sink → Done s
+  play_fault : (of : CommandFault) (s : Status) (sink : SinkUse) → IsPlayFault Leaves source of → TellsFault of s sink → Done s
   play_fault (fault.Usage place) s sink is tells = absurd is
   play_fault (fault.BadScript line rule) s sink is tells = let none : fault_of is.0 ≡ None = unbroken is.0 is.1 in let some = is.2 in absurd (cc (none, some))
   play_fault fault.NoFile s sink is tells = absurd is
@@ -98,7 +99,7 @@ module _ (Leaves : ScriptView → Mesh → List End → Type 0) (source : Source
   play_done sink s writes (told_fault of is tells) = play_fault of s sink is tells
 
 -- ## A generated script
-summary_fault : (of : Fault) (s : Status) (sink : SinkUse) → IsSummaryFault of → TellsFault of s sink → Done s
+summary_fault : (of : CommandFault) (s : Status) (sink : SinkUse) → IsSummaryFault of → TellsFault of s sink → Done s
 summary_fault (fault.Usage place) s sink is tells = absurd is
 summary_fault (fault.BadScript line rule) s sink is tells = absurd is
 summary_fault fault.NoFile s sink is tells = absurd is
@@ -129,12 +130,14 @@ module _ {D : Type 0} (of : Tool) (name : List ℕ) (disk : DiskUse D) (right : 
       let short : length right.bytes ≤ longest_file = right.short in
       omega (arith, same, is, short)
 
-  list_fault : (why : Fault) (s : Status) (sink : SinkUse) → IsListFault of name disk why → TellsFault why s sink → Done s
+  list_fault : (why : CommandFault) (s : Status) (sink : SinkUse) → IsListFault of name disk why → TellsFault why s sink → Done s
   list_fault (fault.Usage place) s sink is tells = absurd is
   list_fault (fault.BadScript line rule) s sink is tells = absurd is
   list_fault fault.NoFile s sink is tells = absurd (some_file (there (λ file. IsFileFault of file fault.NoFile) is))
-  list_fault (fault.BadBytes place cause) s sink is tells = absurd (in_grammar of right.bytes (fault.BadBytes place cause) right.is (there (λ file. IsFileFault of file (fault.BadBytes place cause)) is).1)
-  list_fault (fault.BadImage place cause) s sink is tells = absurd (in_grammar of right.bytes (fault.BadImage place cause) right.is (there (λ file. IsFileFault of file (fault.BadImage place cause)) is).1)
+  list_fault (fault.BadBytes place cause) s sink is tells = absurd (in_grammar of right.bytes (fault.BadBytes place cause) right.is
+      (there (λ file. IsFileFault of file (fault.BadBytes place cause)) is).1)
+  list_fault (fault.BadImage place cause) s sink is tells = absurd (in_grammar of right.bytes (fault.BadImage place cause) right.is
+      (there (λ file. IsFileFault of file (fault.BadImage place cause)) is).1)
   list_fault (fault.BadFile file) s sink is tells = absurd is
   list_fault (fault.Limit number) s sink is tells = absurd (file_long (file_under disk name) right.there (is.2 right.tells))
   list_fault fault.ReadFault s sink is tells = absurd is
@@ -163,7 +166,7 @@ memory_checked s (inl e) = inl (inl e)
 memory_checked s (inr e) = inr e
 
 module _ {D : Type 0} (disk : DiskUse D) (calls : Rose (disk.faults disk.before) (disk.faults disk.now) → ⊥) where
-  check_fault : (why : Fault) (s : Status) (sink : SinkUse) → IsCheckFault disk why → TellsFault why s sink → Checked s
+  check_fault : (why : CommandFault) (s : Status) (sink : SinkUse) → IsCheckFault disk why → TellsFault why s sink → Checked s
   check_fault (fault.Usage place) s sink is tells = absurd is
   check_fault (fault.BadScript line rule) s sink is tells = absurd is
   check_fault fault.NoFile s sink is tells = absurd is
@@ -207,7 +210,8 @@ module _ {D : Type 0} (source : SourceUse) (sink : SinkUse) (disk : DiskUse D) (
   unopened_done status.Locked none why = absurd why
 
   -- how a session ended
-  session_of : (told : Option (List ℕ)) (o : Served) (left before now : Option (List ℕ)) → told ≡ Some right.bytes → IsNodeSessionOf disk o told left before now → IsNodeSession disk o right.bytes left before now
+  session_of : (told : Option (List ℕ)) (o : Served) (left before now : Option (List ℕ)) → told ≡ Some right.bytes
+      → IsNodeSessionOf disk o told left before now → IsNodeSession disk o right.bytes left before now
   session_of None o left before now e is = absurd (cc e)
   session_of (Some bytes) o left before now e is = subst (λ (x : List ℕ). IsNodeSession disk o x left before now) (let p : bytes ≡ right.bytes = cc e in p) is
 
@@ -239,7 +243,8 @@ module _ {D : Type 0} (source : SourceUse) (sink : SinkUse) (disk : DiskUse D) (
   served_done none (unopened o) = unopened_done s none o.why
 
 -- ## Each command
-pub completes : {D : Type 0} (asked : Asked) (source : SourceUse) (sink : SinkUse) (disk : DiskUse D) (s : Status) → ScriptBreaksNoRule → Does asked source sink disk s → IsComplete asked source sink disk s
+pub completes : {D : Type 0} (asked : Asked) (source : SourceUse) (sink : SinkUse) (disk : DiskUse D) (s : Status) → ScriptBreaksNoRule
+    → Does asked source sink disk s → IsComplete asked source sink disk s
 completes play source sink disk s no_rule does = λ right nothing. play_done ComeOf source right nothing.reads no_rule sink s nothing.writes does.0
 completes run source sink disk s no_rule does = λ right nothing. play_done AreSound source right nothing.reads no_rule sink s nothing.writes does.0
 completes node source sink disk s no_rule does =
@@ -258,7 +263,8 @@ pub refused : {D : Type 0} (at place : ℕ) (sink : SinkUse) (disk : DiskUse D) 
 refused at place sink disk s e is = subst (λ (n : ℕ). Refuses n sink disk s) (let same : at ≡ place = cc e in same) is
 
 -- the command is this one
-pub does_as : {D : Type 0} (is by : Command) (source : SourceUse) (sink : SinkUse) (disk : DiskUse D) (s : Status) → is ≡ by → Does (asked_in by) source sink disk s → Does (asked_in is) source sink disk s
+pub does_as : {D : Type 0} (is by : Command) (source : SourceUse) (sink : SinkUse) (disk : DiskUse D) (s : Status) → is ≡ by
+    → Does (asked_in by) source sink disk s → Does (asked_in is) source sink disk s
 does_as is by source sink disk s e does = subst (λ (c : Command). Does (asked_in c) source sink disk s) (sym e) does
 
 -- only `run` needs threads

@@ -1,19 +1,20 @@
--- What a mesh that follows a script is to the laws on safety: its actors hold nothing, or it is one of a script with names.
+-- What a mesh that follows a script is to the laws on safety: its actors hold nothing, or it is one
+-- of a script with names.
 use Rattle.std.proofs.Common.{◌≡◌, ℕ, ◌<◌, Bool, List, [], ◌∷◌, false, length, sym, refl, subst, ◌∙◌, ap}
 use Rattle.std.proofs.lemmas.List.{length-map}
 use Rattle.std.proofs.lemmas.Option.{slice_get_within}
-use Rattle.node_history.specs.declared.record.Record.{Record}
+use Rattle.journal_history.specs.declared.record.Record.{Record}
 use Rattle.mesh.specs.declared.whole.Mesh.{Mesh}
 use Rattle.mesh.specs.Agree.{operator_of, record_of}
 use Rattle.ns_tree.specs.declared.end.End.{End}
-use Rattle.script_actions.specs.Lines.{Line, ArePlayable, actions_of}
-use Rattle.script_actions.specs.Actor.{Actor, fresh_actor, actor_after, last_of}
-use Rattle.script_plays.specs.Follows.{actor_with, FollowsLines}
-use Rattle.script_plays.specs.Safe.{HoldNothing}
-use Rattle.script_plays.proofs.Holds.{RawActor, raw_settled, raw_goes}
-use Rattle.script_plays.proofs.Sound.{actions_raw}
-use Rattle.script_plays.proofs.Final.{names_count}
-use Rattle.script_plays.proofs.PlayableActions.{playable_actions}
+use Rattle.play_model.specs.Lines.{Line, ArePlayable, actions_of}
+use Rattle.play_model.specs.Actor.{Actor, fresh_actor, actor_after, last_of}
+use Rattle.play_model.specs.Follows.{actor_with, FollowsLines}
+use Rattle.play_model.specs.Safe.{HoldNothing}
+use Rattle.play_model.proofs.Holds.{RawActor, raw_settled, raw_goes}
+use Rattle.play_model.proofs.Sound.{actions_raw}
+use Rattle.play_model.proofs.Final.{names_count}
+use Rattle.play_model.proofs.PlayableActions.{playable_actions}
 
 -- one end for each actor
 ends_many : (named : Bool) (nodes : ℕ) (lines : List Line) (m : Mesh) (ends : List End) → FollowsLines named nodes lines m ends → length ends ≡ operator_of m
@@ -29,5 +30,7 @@ unfolding fresh_actor
 meshes_hold_nothing nodes lines m ends can f c e at =
     let many = ends_many false nodes lines m ends f in
     let follows = f.actors c e (subst (λ n. c < n) many (slice_get_within ends c e at)) at in
-    let begun : RawActor (actor_with false nodes (actions_of c lines)) = raw_settled (actions_of c lines) (fresh_actor false nodes) (actions_raw (actions_of c lines) (playable_actions false nodes 0 lines can c)) refl in
+    let begun : RawActor (actor_with false nodes (actions_of c lines)) =
+    raw_settled (actions_of c lines) (fresh_actor false nodes) (actions_raw (actions_of c lines) (playable_actions false nodes 0 lines can c))
+    refl in
     follows.end ∙ ap last_of (raw_after (record_of m c) (actor_with false nodes (actions_of c lines)) begun).holds

@@ -1,18 +1,18 @@
 -- What is due of a source.
 use Rattle.std.proofs.Common.{◌≡◌, ℕ, zero, suc, ◌<◌, ◌≤◌, List, [], ◌∷◌, Option, Some, None, refl, ap, arith, inl, inr, length}
 use Rattle.std.specs.Prelude.{IfSome}
-use Rattle.qj_outside.specs.Whole.{GivesAll}
+use Rattle.base_outside.specs.Whole.{GivesAll}
 use Rattle.mesh.specs.declared.whole.Mesh.{Mesh}
 use Rattle.ns_tree.specs.declared.end.End.{End}
-use Rattle.script_lines.specs.Scripts.{ScriptView}
-use Rattle.script_text.specs.Grammar.{IsScriptText}
-use Rattle.script_text.proofs.ScriptLaws.{breaks_no_rule}
-use Rattle.report_text.specs.Text.{text_of}
-use Rattle.report_text.specs.Limit.{longest_report}
-use Rattle.exit_lines.specs.declared.status.Status.TheVariants as status
-use Rattle.exit_lines.specs.declared.fault.Fault.{Fault}
-use Rattle.exit_lines.specs.declared.fault.Fault.TheVariants as fault
-use Rattle.exit_lines.specs.Uses.{SourceUse, NoReadFailed}
+use Rattle.play_script.specs.Scripts.{ScriptView}
+use Rattle.play_script.specs.Grammar.{IsScriptText}
+use Rattle.play_script.proofs.ScriptLaws.{breaks_no_rule}
+use Rattle.play_report.specs.Text.{text_of}
+use Rattle.play_report.specs.Limit.{longest_report}
+use Rattle.cli_commands.specs.declared.status.Status.TheVariants as status
+use Rattle.cli_commands.specs.declared.command_fault.CommandFault.{CommandFault}
+use Rattle.cli_commands.specs.declared.command_fault.CommandFault.TheVariants as fault
+use Rattle.cli_commands.specs.Uses.{SourceUse, NoReadFailed}
 use Rattle.qj_cli.specs.Plays.{longest_script, AreTold, IsReadOut, IsReadWhole, GivesScript, IsTextFault, IsReadingFault, IsReportFault, GivesReport, IsPlayFault}
 use Rattle.qj_cli.specs.Report.{IsReport}
 
@@ -48,11 +48,13 @@ too_long source h same =
 
 -- ## A script that was read, and its lists
 
-report_of : (Leaves : ScriptView → Mesh → List End → Type 0) (source : SourceUse) (script : ScriptView) (m : Mesh) (ends : List End) (text : List ℕ) → (given : GivesScript source script) → Leaves script m ends → text ≡ text_of m ends
+report_of : (Leaves : ScriptView → Mesh → List End → Type 0) (source : SourceUse) (script : ScriptView) (m : Mesh) (ends : List End) (text : List ℕ)
+    → (given : GivesScript source script) → Leaves script m ends → text ≡ text_of m ends
     → IsReport Leaves given.bytes text
 report_of Leaves source script m ends text given left is = record { script = script; reads = given.reads; mesh = m; ends = ends; leaves = left; printed = is }
 
-pub gives_report : (Leaves : ScriptView → Mesh → List End → Type 0) (source : SourceUse) (script : ScriptView) (m : Mesh) (ends : List End) (text : List ℕ) → GivesScript source script → Leaves script m ends → text ≡ text_of m ends
+pub gives_report : (Leaves : ScriptView → Mesh → List End → Type 0) (source : SourceUse) (script : ScriptView) (m : Mesh) (ends : List End)
+    (text : List ℕ) → GivesScript source script → Leaves script m ends → text ≡ text_of m ends
     → length text ≤ longest_report → GivesReport Leaves source status.Ok text
 gives_report Leaves source script m ends text given left is within = record {
   good_is = refl;
@@ -61,7 +63,8 @@ gives_report Leaves source script m ends text given left is within = record {
   due = record { unbroken = breaks_no_rule given.bytes script given.reads; printed = record { report = report_of Leaves source script m ends text given left is; within = within } };
 }
 
-pub report_fault : (Leaves : ScriptView → Mesh → List End → Type 0) (source : SourceUse) (script : ScriptView) (m : Mesh) (ends : List End) (of : Fault) → GivesScript source script → Leaves script m ends → IsReportFault (text_of m ends) of
+pub report_fault : (Leaves : ScriptView → Mesh → List End → Type 0) (source : SourceUse) (script : ScriptView) (m : Mesh) (ends : List End)
+    (of : CommandFault) → GivesScript source script → Leaves script m ends → IsReportFault (text_of m ends) of
     → IsPlayFault Leaves source of
 report_fault Leaves source script m ends (fault.Usage place) given left is = absurd is
 report_fault Leaves source script m ends (fault.BadScript line rule) given left is = absurd is
@@ -70,7 +73,15 @@ report_fault Leaves source script m ends (fault.BadBytes place cause) given left
 report_fault Leaves source script m ends (fault.BadImage place cause) given left is = absurd is
 report_fault Leaves source script m ends (fault.BadFile name) given left is = absurd is
 report_fault Leaves source script m ends (fault.Limit number) given left is =
-    inr (given.bytes, given.read, (is.0, breaks_no_rule given.bytes script given.reads, record { text = text_of m ends; report = report_of Leaves source script m ends (text_of m ends) given left refl; longer = is.1 }))
+    inr (
+      given.bytes,
+      given.read,
+      (
+        is.0,
+        breaks_no_rule given.bytes script given.reads,
+        record { text = text_of m ends; report = report_of Leaves source script m ends (text_of m ends) given left refl; longer = is.1 },
+      ),
+    )
 report_fault Leaves source script m ends fault.ReadFault given left is = absurd is
 report_fault Leaves source script m ends fault.DiskFault given left is = absurd is
 report_fault Leaves source script m ends fault.OutOfMemory given left is = tt

@@ -6,18 +6,18 @@ use Rattle.ns_tree.specs.declared.end.End.{End}
 use Rattle.mesh.specs.Agree.{Agrees}
 use Rattle.mesh.specs.Order.{epoch_order}
 use Rattle.mesh.specs.Laws.{OrderIsRun}
-use Rattle.script_lines.specs.Scripts.{ScriptView}
-use Rattle.script_text.specs.Laws.{TextIsOfOneScript}
-use Rattle.script_actions.specs.Lines.{Line, lines_of, ArePlayable, IsPlayable}
-use Rattle.script_maker.specs.Generated.{generated}
-use Rattle.script_plays.specs.Plays.{Play, Plays, mesh_of, ends_of, IsPlayed}
-use Rattle.script_plays.specs.Laws.{PlaysAgree, PlaysFollow, MeshesAreSafe, OnePlay}
-use Rattle.script_plays.specs.Safe.{IsSafeWithEnds}
-use Rattle.script_plays.specs.Follows.{FollowsLines, FollowsScript}
-use Rattle.names_safety.specs.Laws.{EpochOrderIsSafe}
-use Rattle.names_safety.proofs.NamedPlays.{is_named}
-use Rattle.report_text.specs.Text.{text_of}
-use Rattle.play_summary.specs.Summary.{summary_text}
+use Rattle.play_script.specs.Scripts.{ScriptView}
+use Rattle.play_script.specs.Laws.{TextIsOfOneScript}
+use Rattle.play_model.specs.Lines.{Line, lines_of, ArePlayable, IsPlayable}
+use Rattle.play_maker.specs.Generated.{generated}
+use Rattle.play_model.specs.Plays.{Play, Plays, mesh_of, ends_of, IsPlayed}
+use Rattle.play_model.specs.Laws.{PlaysAgree, PlaysFollow, MeshesAreSafe, OnePlay}
+use Rattle.play_model.specs.Safe.{IsSafeWithEnds}
+use Rattle.play_model.specs.Follows.{FollowsLines, FollowsScript}
+use Rattle.play_laws.specs.Laws.{EpochOrderIsSafe}
+use Rattle.play_laws.proofs.NamedPlays.{is_named}
+use Rattle.play_report.specs.Text.{text_of}
+use Rattle.play_report.specs.Summary.{summary_text}
 use Rattle.qj_cli.specs.Sound.{AreSound, ComeOf}
 use Rattle.qj_cli.specs.Report.{IsReport, ScriptsHaveOneReport}
 use Rattle.qj_cli.specs.Generates.{IsSummary, NumbersHaveOneSummary}

@@ -1,12 +1,13 @@
--- An input of request lines alone: the next line after some of them is a request, and isn't too long.
+-- An input of request lines alone: the next line after some of them is a request, and isn't too
+-- long.
 use Rattle.std.proofs.Common.{◌≡◌, ℕ, ◌+◌, ◌<◌, ◌≤◌, List, [], ◌∷◌, ◌++◌, refl, sym, ap, subst, ◌∙◌, arith, inl, inr, ◌⊎◌, length}
 use Rattle.std.specs.Prelude.{◌≢◌}
 use Rattle.std.proofs.lemmas.List.{append_assoc}
 use Rattle.journal_core.specs.declared.request.Request.{Request}
-use Rattle.request_text.specs.Reading.{reading_of}
-use Rattle.request_text.specs.declared.request_line.ReadRequest.TheVariants.{Read, Bad}
-use Rattle.node_session.specs.Lines.{longest_line, IsLine, AreLines, lines_text}
-use Rattle.node_session.specs.Session.{AreAll, IsBadNext, IsLong}
+use Rattle.journal_text.specs.Reading.{reading_of}
+use Rattle.journal_text.specs.declared.request_line.ReadRequest.TheVariants.{Read, Bad}
+use Rattle.journal_session.specs.Lines.{longest_line, IsLine, AreLines, lines_text}
+use Rattle.journal_session.specs.Session.{AreAll, IsBadNext, IsLong}
 use Rattle.qj_cli.specs.Complete.{AreRequests}
 
 -- ## Lines apart

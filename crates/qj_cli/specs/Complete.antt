@@ -1,29 +1,29 @@
 -- A command is done where its input is right and nothing fails.
 use Rattle.std.specs.Prelude.{ℕ, ◌≡◌, ◌⊎◌, ◌≤◌, List, [], ◌∷◌, Some, length}
-use Rattle.qj_outside.specs.Faults.{Rose}
+use Rattle.base_outside.specs.Faults.{Rose}
 use Rattle.journal_core.specs.declared.node_state.NodeState.{NodeState}
 use Rattle.journal_core.specs.declared.request.Request.{Request}
 use Rattle.journal_core.specs.Segments.{AreSound}
-use Rattle.request_text.specs.Reading.{reading_of}
-use Rattle.request_text.specs.declared.request_line.ReadRequest.TheVariants.{Read}
-use Rattle.segment_file.specs.RowsTell.{AreStarts}
-use Rattle.node_files.specs.Durable.{StandsAs, AreFilled}
-use Rattle.node_session.specs.Lines.{AreLines}
-use Rattle.node_session.specs.Session.{AreAll}
+use Rattle.journal_text.specs.Reading.{reading_of}
+use Rattle.journal_text.specs.declared.request_line.ReadRequest.TheVariants.{Read}
+use Rattle.disk_segment.specs.RowsTell.{AreStarts}
+use Rattle.disk_files.specs.Durable.{StandsAs, AreFilled}
+use Rattle.journal_session.specs.Lines.{AreLines}
+use Rattle.journal_session.specs.Session.{AreAll}
 use Rattle.mesh.specs.declared.whole.Mesh.{Mesh}
 use Rattle.ns_tree.specs.declared.end.End.{End}
-use Rattle.script_lines.specs.Scripts.{ScriptView}
-use Rattle.script_text.specs.Grammar.{IsScriptText}
-use Rattle.report_text.specs.Limit.{longest_report}
-use Rattle.file_commands.specs.declared.tool.Tool.{Tool}
-use Rattle.exit_lines.specs.declared.status.Status.{Status}
-use Rattle.exit_lines.specs.declared.status.Status.TheVariants as status
-use Rattle.exit_lines.specs.Uses.{SourceUse, SinkUse, DiskUse, AReadFailed, AWriteFailed}
-use Rattle.command_words.specs.Commands.{Asked, play, run, node, fsck, gen, list}
+use Rattle.play_script.specs.Scripts.{ScriptView}
+use Rattle.play_script.specs.Grammar.{IsScriptText}
+use Rattle.play_report.specs.Limit.{longest_report}
+use Rattle.cli_commands.specs.declared.tool.Tool.{Tool}
+use Rattle.cli_commands.specs.declared.status.Status.{Status}
+use Rattle.cli_commands.specs.declared.status.Status.TheVariants as status
+use Rattle.cli_commands.specs.Uses.{SourceUse, SinkUse, DiskUse, AReadFailed, AWriteFailed}
+use Rattle.cli_commands.specs.Commands.{Asked, play, run, node, fsck, gen, list}
 use Rattle.qj_cli.specs.Sound.{AreSound as AreSoundLists, ComeOf}
 use Rattle.qj_cli.specs.Report.{IsReport}
 use Rattle.qj_cli.specs.Plays.{longest_script}
-use Rattle.file_commands.specs.Listing.{longest_file, IsInGrammar, file_under}
+use Rattle.cli_commands.specs.Listing.{longest_file, IsInGrammar, file_under}
 
 -- ## Input in its grammar and within the limits
 -- the source's bytes are a script's, and none of its reports is longer than a report may be

@@ -1,18 +1,19 @@
 -- What each command does.
 use Rattle.std.specs.Prelude.{ℕ, ◌≡◌}
-use Rattle.exit_lines.specs.declared.status.Status.{Status}
-use Rattle.exit_lines.specs.declared.fault.Fault.TheVariants as fault
-use Rattle.exit_lines.specs.Uses.{SourceUse, SinkUse, DiskUse}
-use Rattle.exit_lines.specs.Told.{TellsFault}
-use Rattle.command_words.specs.Commands.{Asked, play, run, node, fsck, gen, list}
+use Rattle.cli_commands.specs.declared.status.Status.{Status}
+use Rattle.cli_commands.specs.declared.command_fault.CommandFault.TheVariants as fault
+use Rattle.cli_commands.specs.Uses.{SourceUse, SinkUse, DiskUse}
+use Rattle.cli_commands.specs.Told.{TellsFault}
+use Rattle.cli_commands.specs.Commands.{Asked, play, run, node, fsck, gen, list}
 use Rattle.qj_cli.specs.Sound.{AreSound, ComeOf}
 use Rattle.qj_cli.specs.Plays.{Plays}
-use Rattle.file_commands.specs.Listing.{Lists}
-use Rattle.node_command.specs.Serving.{Serves}
-use Rattle.file_commands.specs.Checks.{Checks}
+use Rattle.cli_commands.specs.Listing.{Lists}
+use Rattle.cli_commands.specs.Serving.{Serves}
+use Rattle.cli_commands.specs.Checks.{Checks}
 use Rattle.qj_cli.specs.Generates.{Generates}
 
--- With this status, by what it did to its source, its sink and its disk. A play leaves the disk alone, also that of a generated script.
+-- With this status, by what it did to its source, its sink and its disk. A play leaves the disk
+-- alone, also that of a generated script.
 abbrev pub Does : {D : Type 0} → Asked → SourceUse → SinkUse → DiskUse D → Status → Type 0
 Does play source sink disk s = Plays ComeOf source sink s × (disk.now ≡ disk.before)
 Does run source sink disk s = Plays AreSound source sink s × (disk.now ≡ disk.before)

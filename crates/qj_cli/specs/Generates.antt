@@ -1,14 +1,14 @@
 -- How the play of a generated script ends, and what it writes.
 use Rattle.std.specs.Prelude.{ℕ, ◌≡◌, List}
-use Rattle.script_maker.specs.Generated.{generated}
-use Rattle.script_plays.specs.Plays.{Play, mesh_of, ends_of}
-use Rattle.play_summary.specs.Summary.{summary_text}
-use Rattle.exit_lines.specs.declared.status.Status.{Status}
-use Rattle.exit_lines.specs.declared.status.Status.TheVariants as status
-use Rattle.exit_lines.specs.declared.fault.Fault.{Fault}
-use Rattle.exit_lines.specs.declared.fault.Fault.TheVariants as fault
-use Rattle.exit_lines.specs.Uses.{SinkUse}
-use Rattle.exit_lines.specs.Told.{Told}
+use Rattle.play_maker.specs.Generated.{generated}
+use Rattle.play_model.specs.Plays.{Play, mesh_of, ends_of}
+use Rattle.play_report.specs.Summary.{summary_text}
+use Rattle.cli_commands.specs.declared.status.Status.{Status}
+use Rattle.cli_commands.specs.declared.status.Status.TheVariants as status
+use Rattle.cli_commands.specs.declared.command_fault.CommandFault.{CommandFault}
+use Rattle.cli_commands.specs.declared.command_fault.CommandFault.TheVariants as fault
+use Rattle.cli_commands.specs.Uses.{SinkUse}
+use Rattle.cli_commands.specs.Told.{Told}
 use Rattle.qj_cli.specs.Sound.{IsSound}
 
 -- the text is the summary of the one play of the script that the number gives
@@ -23,7 +23,7 @@ pub record GivesSummary (number edits nodes : ℕ) (good : Status) (text : List 
   pub summary : IsSummary number edits nodes text
 
 -- nothing else comes than lack of memory
-abbrev pub IsSummaryFault : Fault → Type 0
+abbrev pub IsSummaryFault : CommandFault → Type 0
 IsSummaryFault fault.OutOfMemory = Unit {0}
 IsSummaryFault _ = ⊥
 

@@ -2,16 +2,16 @@
 use Rattle.std.specs.Prelude.{ℕ, ◌≡◌, ◌≢◌, ◌<◌, ◌≤◌, ◌⊎◌, List, [], Option, Some, None, length}
 use Rattle.mesh.specs.declared.whole.Mesh.{Mesh}
 use Rattle.ns_tree.specs.declared.end.End.{End}
-use Rattle.script_lines.specs.Scripts.{ScriptView}
-use Rattle.script_text.specs.Grammar.{IsScriptText}
-use Rattle.script_text.specs.Rules.{fault_of}
-use Rattle.report_text.specs.Limit.{longest_report}
-use Rattle.exit_lines.specs.declared.status.Status.{Status}
-use Rattle.exit_lines.specs.declared.status.Status.TheVariants as status
-use Rattle.exit_lines.specs.declared.fault.Fault.{Fault}
-use Rattle.exit_lines.specs.declared.fault.Fault.TheVariants as fault
-use Rattle.exit_lines.specs.Uses.{SourceUse, SinkUse, AReadFailed, NoReadFailed}
-use Rattle.exit_lines.specs.Told.{Told}
+use Rattle.play_script.specs.Scripts.{ScriptView}
+use Rattle.play_script.specs.Grammar.{IsScriptText}
+use Rattle.play_script.specs.Rules.{fault_of}
+use Rattle.play_report.specs.Limit.{longest_report}
+use Rattle.cli_commands.specs.declared.status.Status.{Status}
+use Rattle.cli_commands.specs.declared.status.Status.TheVariants as status
+use Rattle.cli_commands.specs.declared.command_fault.CommandFault.{CommandFault}
+use Rattle.cli_commands.specs.declared.command_fault.CommandFault.TheVariants as fault
+use Rattle.cli_commands.specs.Uses.{SourceUse, SinkUse, AReadFailed, NoReadFailed}
+use Rattle.cli_commands.specs.Told.{Told}
 use Rattle.qj_cli.specs.Report.{IsPrinted, HasLongReport}
 
 abbrev pub longest_script : ℕ
@@ -50,23 +50,23 @@ pub record GivesScript (source : SourceUse) (script : ScriptView) : Type 0 where
   pub reads : IsScriptText bytes script
 
 -- why bytes give none; where the first line is wrong it isn't lack of memory
-abbrev pub IsTextFault : List ℕ → Fault → Type 0
+abbrev pub IsTextFault : List ℕ → CommandFault → Type 0
 IsTextFault bytes (fault.BadScript line rule) = fault_of bytes ≡ Some (line, rule)
 IsTextFault bytes fault.OutOfMemory = (line : ℕ) → fault_of bytes ≢ Some (line, 1)
 IsTextFault bytes _ = ⊥
 
 -- why a source gives none
-abbrev pub IsReadingFault : SourceUse → Fault → Type 0
+abbrev pub IsReadingFault : SourceUse → CommandFault → Type 0
 IsReadingFault source (fault.BadScript line rule) = (bytes : List ℕ) × IsReadWhole source bytes × (fault_of bytes ≡ Some (line, rule))
 IsReadingFault source (fault.Limit number) = (number ≡ longest_script) × IsTooLong source
 IsReadingFault source fault.ReadFault = AReadFailed source
 IsReadingFault source fault.OutOfMemory = Unit {0}
 IsReadingFault source _ = ⊥
 
--- why the report with this text isn't printed; where it is too long it isn't lack of memory
-abbrev pub IsReportFault : List ℕ → Fault → Type 0
+-- why the report with this text isn't printed
+abbrev pub IsReportFault : List ℕ → CommandFault → Type 0
 IsReportFault text (fault.Limit number) = (number ≡ longest_report) × (longest_report < length text)
-IsReportFault text fault.OutOfMemory = length text ≤ longest_report
+IsReportFault text fault.OutOfMemory = Unit {0}
 IsReportFault text _ = ⊥
 
 -- ## What is due of a script's bytes
@@ -75,7 +75,7 @@ pub record IsDueReport (Leaves : ScriptView → Mesh → List End → Type 0) (b
   pub unbroken : fault_of bytes ≡ None
   pub printed : IsPrinted Leaves bytes text
 
-abbrev pub IsScriptFault : (ScriptView → Mesh → List End → Type 0) → List ℕ → Fault → Type 0
+abbrev pub IsScriptFault : (ScriptView → Mesh → List End → Type 0) → List ℕ → CommandFault → Type 0
 IsScriptFault Leaves bytes (fault.BadScript line rule) = fault_of bytes ≡ Some (line, rule)
 IsScriptFault Leaves bytes (fault.Limit number) = (number ≡ longest_report) × (fault_of bytes ≡ None) × HasLongReport Leaves bytes
 IsScriptFault Leaves bytes fault.OutOfMemory = Unit {0}
@@ -90,12 +90,13 @@ pub record GivesReport (Leaves : ScriptView → Mesh → List End → Type 0) (s
   pub due : IsDueReport Leaves bytes text
 
 -- of bytes that were read
-abbrev pub OfBytes : (ScriptView → Mesh → List End → Type 0) → SourceUse → Fault → Type 0
+abbrev pub OfBytes : (ScriptView → Mesh → List End → Type 0) → SourceUse → CommandFault → Type 0
 OfBytes Leaves source of = (bytes : List ℕ) × IsReadWhole source bytes × IsScriptFault Leaves bytes of
 
--- Each fault comes only where this holds. No two of them hold of the same bytes, but for a read that failed and lack of memory, so
--- each comes exactly there.
-abbrev pub IsPlayFault : (ScriptView → Mesh → List End → Type 0) → SourceUse → Fault → Type 0
+-- Each fault comes only where this holds. No two of them hold of the same bytes, but for lack of
+-- memory, which may come in the place of each; a read that failed may come beside a script's own
+-- fault.
+abbrev pub IsPlayFault : (ScriptView → Mesh → List End → Type 0) → SourceUse → CommandFault → Type 0
 IsPlayFault Leaves source (fault.BadScript line rule) = OfBytes Leaves source (fault.BadScript line rule)
 IsPlayFault Leaves source (fault.Limit number) = (number ≡ longest_script) × IsTooLong source ⊎ OfBytes Leaves source (fault.Limit number)
 IsPlayFault Leaves source fault.ReadFault = AReadFailed source

@@ -2,15 +2,15 @@
 use Rattle.std.specs.Prelude.{ℕ, ◌≡◌, ◌<◌, ◌≤◌, List, length}
 use Rattle.mesh.specs.declared.whole.Mesh.{Mesh}
 use Rattle.ns_tree.specs.declared.end.End.{End}
-use Rattle.script_lines.specs.Scripts.{ScriptView}
-use Rattle.script_text.specs.Grammar.{IsScriptText}
-use Rattle.script_plays.specs.Faultless.{ShowsNoFault}
-use Rattle.report_text.specs.Text.{text_of}
-use Rattle.report_text.specs.Limit.{longest_report}
+use Rattle.play_script.specs.Scripts.{ScriptView}
+use Rattle.play_script.specs.Grammar.{IsScriptText}
+use Rattle.play_model.specs.Faultless.{ShowsNoFault}
+use Rattle.play_report.specs.Text.{text_of}
+use Rattle.play_report.specs.Limit.{longest_report}
 use Rattle.qj_cli.specs.Sound.{ComeOf}
 
--- The bytes are a script's, and the text is the report of lists that it may leave: those of its one play, or any that are sound, as its threads
--- leave them.
+-- The bytes are a script's, and the text is the report of lists that it may leave: those of its one
+-- play, or any that are sound, as its threads leave them.
 pub record IsReport (Leaves : ScriptView → Mesh → List End → Type 0) (bytes text : List ℕ) : Type 0 where
   pub script : ScriptView
   pub reads : IsScriptText bytes script

@@ -5,14 +5,15 @@ use Rattle.mesh.specs.declared.whole.Mesh.{Mesh}
 use Rattle.mesh.specs.Agree.{Agrees}
 use Rattle.mesh.specs.Order.{epoch_order}
 use Rattle.ns_tree.specs.declared.end.End.{End}
-use Rattle.script_lines.specs.Scripts.{ScriptView}
-use Rattle.script_plays.specs.Plays.{Play, Plays, mesh_of, ends_of}
-use Rattle.script_plays.specs.Follows.{FollowsScript}
-use Rattle.script_plays.specs.Safe.{IsSafeWithEnds}
+use Rattle.play_script.specs.Scripts.{ScriptView}
+use Rattle.play_model.specs.Plays.{Play, Plays, mesh_of, ends_of}
+use Rattle.play_model.specs.Follows.{FollowsScript}
+use Rattle.play_model.specs.Safe.{IsSafeWithEnds}
 
--- The lists agree, and they are what the script's lines ask for. What moved its nodes, in the order of the epochs, is a run of the journal world, and a
--- safe one with what its actors end with: an acknowledged edit survives, finalised segments agree, and each namespace is the replay of the line's first
--- entries.
+-- The lists agree, and they are what the script's lines ask for. What moved its nodes, in the order
+-- of the epochs, is a run of the journal world, and a safe one with what its actors end with: an
+-- acknowledged edit survives, finalised segments agree, and each namespace is the replay of the
+-- line's first entries.
 pub record AreSound (script : ScriptView) (m : Mesh) (ends : List End) : Type 0 where
   pub agrees : Agrees m
   pub follows : FollowsScript script m ends

@@ -1,22 +1,23 @@
-// What is due of a number, before any of it is written.
+//! What is due of a number, before any of it is written.
 ghost use Rattle.std.specs.Prelude.{◌≡◌, IfOk, IfErr};
-ghost use Rattle.play_summary.specs.Summary.{summary_text};
-ghost use Rattle.script_maker.specs.Generated.{IsWithin};
-ghost use Rattle.exit_lines.specs.Uses.{written_to};
+ghost use Rattle.play_report.specs.Summary.{summary_text};
+ghost use Rattle.play_maker.specs.Generated.{IsWithin};
+ghost use Rattle.cli_commands.specs.Uses.{written_to};
 ghost use Rattle.qj_cli.specs.Generates.{IsSummary, GivesSummary, IsSummaryFault, Generates};
 
 use crate::plays::play_soundly;
-use exit_lines::{Fault, Status, write_due};
+use base_outside::Sink;
+use cli_commands::{CommandFault, Status, write_due};
 use journal_core::OutOfMemory;
-use play_summary::summary_of;
-use qj_outside::Sink;
-use script_lines::Script;
-use script_maker::generate;
-use script_plays::Played;
+use play_maker::generate;
+use play_model::Played;
+use play_report::summary_of;
+use play_script::Script;
 use std::alloc::Global;
 use std::mem;
 
-/// The summary of what a script's play left. Nothing of it is given back: the process ends once the summary is written.
+/// The summary of what a script's play left. Nothing of it is given back: the process ends once the
+/// summary is written.
 fn summary_of_played<N: Drop>(
     alloc: Global,
     script: Script,
@@ -45,14 +46,19 @@ fn summary(alloc: Global, number: u64, edits: u64, nodes: u64) -> Result<Vec<u8>
 }
 
 /// What is due of a number.
-fn due_of_number(alloc: Global, number: u64, edits: u64, nodes: u64) -> Result<Vec<u8>, Fault>
+fn due_of_number(
+    alloc: Global,
+    number: u64,
+    edits: u64,
+    nodes: u64,
+) -> Result<Vec<u8>, CommandFault>
     requires { IsWithin number edits nodes }
     ensures text { IfOk result (λ text. GivesSummary number edits nodes Status.Ok text.items) }
     ensures fault { IfErr result IsSummaryFault }
 {
     match summary(alloc, number, edits, nodes) {
         Ok(text) => Ok(text),
-        Err(_) => Err(Fault::OutOfMemory),
+        Err(_) => Err(CommandFault::OutOfMemory),
     }
 }
 

@@ -1,11 +1,11 @@
-// What holds of every script and of every file.
+//! What holds of every script and of every file.
 ghost use Rattle.qj_cli.specs.Sound.{AreSound, ComeOf};
 ghost use Rattle.qj_cli.specs.Report.{ScriptsHaveOneReport, ReportsShowNoFault};
 ghost use Rattle.qj_cli.specs.Generates.{NumbersHaveOneSummary};
-ghost use Rattle.file_commands.specs.Listing.{FilesHaveOneListing, FilesHaveOneFault, ListedFilesHaveNoFault};
+ghost use Rattle.cli_commands.specs.Listing.{FilesHaveOneListing, FilesHaveOneFault, ListedFilesHaveNoFault};
 
-use script_plays::{a_mesh_that_agrees_shows_no_fault, one_script_has_one_play};
-use script_text::text_is_of_one_script;
+use play_model::{a_mesh_that_agrees_shows_no_fault, one_script_has_one_play};
+use play_script::text_is_of_one_script;
 
 /// A script has one report, so it is too long or it isn't.
 pub fn scripts_have_one_report()
@@ -22,8 +22,8 @@ pub fn numbers_have_one_summary()
     one_script_has_one_play();
 }
 
-/// No report, of a play in order or by threads, shows a fault of a disk, a lack of memory or a bad file: no answer and nothing that a
-/// caller was told is one.
+/// No report, of a play in order or by threads, shows a fault of a disk, a lack of memory or a bad
+/// file: no answer and nothing that a caller was told is one.
 pub fn reports_show_no_fault()
     ensures in_order { ReportsShowNoFault ComeOf }
     ensures by_threads { ReportsShowNoFault AreSound }

@@ -1,27 +1,26 @@
-// Scripts played over fresh nodes on disks in memory, in order or by threads.
+//! Scripts played over fresh nodes on disks in memory, in order or by threads.
 ghost use Rattle.std.specs.Prelude.{IfOk};
-ghost use Rattle.script_text.specs.Grammar.{IsScript};
+ghost use Rattle.play_script.specs.Grammar.{IsScript};
 ghost use Rattle.qj_cli.specs.Sound.{AreSound, ComeOf};
 
-use caller_seats::Seats;
-use cluster_runner::play_on;
-use disk_nodes::fresh_nodes;
-use gate_seats::Pass;
+use base_disk::MemDisk;
+use disk_node::{JournalNode, fresh_nodes};
 use journal_core::OutOfMemory;
-use journal_node::JournalNode;
 use mesh::epoch_order_is_a_run;
-use names_safety::epoch_order_is_safe;
 use ns_tree::LastSpace;
-use qj_disk::MemDisk;
-use script_actor::ScriptActor;
-use script_lines::{Script, ScriptLine};
-use script_plays::{
+use play_actor::ScriptActor;
+use play_calls::Seats;
+use play_gates::Pass;
+use play_laws::epoch_order_is_safe;
+use play_model::{
     Played, a_mesh_that_agrees_is_safe, a_play_agrees, a_play_follows, scripts_are_playable,
 };
+use play_order::play_on;
+use play_script::{Script, ScriptLine};
+use play_threads::{Actors, act_alone, run_on};
 use std::alloc::Global;
 use std::sync::Wait;
 use std::thread::Threads;
-use thread_runner::{Actors, act_alone, run_on};
 
 /// The actors of the program's threads.
 struct ScriptActors;
@@ -57,7 +56,8 @@ pub fn play_soundly(
     Ok(played)
 }
 
-/// A script played by a thread for each actor and one for the operator, each with its own lines in order. `pass` is called before each call.
+/// A script played by a thread for each actor and one for the operator, each with its own lines in
+/// order. `pass` is called before each call.
 pub fn run_soundly<R: Threads + Wait + Sync, G: Pass + Sync>(
     rt: &R,
     alloc: Global,

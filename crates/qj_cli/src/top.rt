@@ -1,25 +1,25 @@
-// The top call.
+//! The top call.
 ghost use Rattle.std.specs.Prelude.{◌≡◌, ◌↔◌, ℕ, Some, IfOk, IfErr, IsErr};
-ghost use Rattle.command_words.specs.Commands.{Asked, asked_in, IsAllowed, AskFor, run};
-ghost use Rattle.command_words.specs.Usage.{bytes_of, usage_of};
-ghost use Rattle.exit_lines.specs.Uses.{read_from, written_to, done_to};
+ghost use Rattle.cli_commands.specs.Commands.{Asked, asked_in, IsAllowed, AskFor, run};
+ghost use Rattle.cli_commands.specs.Usage.{bytes_of, usage_of};
+ghost use Rattle.cli_commands.specs.Uses.{read_from, written_to, done_to};
 ghost use Rattle.qj_cli.specs.Does.{Does, Refuses, ReadsNone, NeedsThreads};
 ghost use Rattle.qj_cli.specs.Complete.{IsComplete};
 
 use crate::generating::play_generated;
 use crate::playing::{play_script, run_script};
-use command_words::{Command, read_command};
-use exit_lines::{Exit, Fault, write_fault};
-use file_commands::{check_files, list_file};
-use gate_seats::Pass;
-use node_command::serve_node;
-use qj_disk::Disk;
-use qj_outside::{Sink, Source};
+use base_disk::Disk;
+use base_outside::{Sink, Source};
+use cli_commands::{
+    Command, CommandFault, Exit, check_files, list_file, read_command, serve_node, write_fault,
+};
+use play_gates::Pass;
 use std::alloc::Global;
 use std::sync::Wait;
 use std::thread::Threads;
 
-/// Does a command that needs no threads. The disk comes back alone where the command needs them, and then nothing was done.
+/// Does a command that needs no threads. The disk comes back alone where the command needs them,
+/// and then nothing was done.
 fn do_command<S: Source, K: Sink, D: Disk>(
     alloc: Global,
     command: Command<'_>,
@@ -63,8 +63,9 @@ fn do_command<S: Source, K: Sink, D: Disk>(
     }
 }
 
-/// Does what `qjm` does for each command that needs no threads, without them; it returns always. The disk alone comes back
-/// exactly where the words are the one word `run`, and then nothing was read or written.
+/// Does what `qjm` does for each command that needs no threads, without them; it returns always.
+/// The disk alone comes back exactly where the words are the one word `run`, and then nothing was
+/// read or written.
 pub fn qjm_alone<S: Source, K: Sink, D: Disk>(
     alloc: Global,
     words: &[String],
@@ -97,7 +98,7 @@ pub fn qjm_alone<S: Source, K: Sink, D: Disk>(
     match read_command(words) {
         Ok(command) => do_command(alloc, command, source, sink, disk),
         Err(place) => Ok(Exit {
-            status: write_fault(alloc, sink, &Fault::Usage(place)),
+            status: write_fault(alloc, sink, &CommandFault::Usage(place)),
             disk,
         }),
     }
@@ -105,34 +106,40 @@ pub fn qjm_alone<S: Source, K: Sink, D: Disk>(
 
 /// Does the command that the words after the program's name ask for:
 ///
-/// - `play` plays the script that the source gives, over nodes on disks in memory, and writes the report to the sink. The disk
-///   isn't called.
-/// - `run` does the same by a thread for each actor and one for the operator, each with its own lines in order; how their calls fall
-///   among one another is the schedule's. `pass` is called before each call. The call may wait.
-/// - `oev list NAME`, `oev stats NAME` and `oev json NAME` read the disk's file of that name, a segment's, and write a line for
-///   each of its edits, how many there are of each kind, or all as an array of JSON. The source isn't read, and the disk isn't
-///   changed.
-/// - `oiv delimited NAME`, `oiv sizes NAME` and `oiv json NAME` do the same for an image: a line of columns for each inode, how
-///   many files there are of each size, or all inodes as an array of JSON.
-/// - `gen NUMBER EDITS NODES` plays the script that the number gives, with so many edits over so many nodes, and writes its summary.
-///   NUMBER is at most 2^62, EDITS at most 10,000, NODES from 1 to 15. The source isn't read, and the disk isn't called.
-/// - `fsck` checks each file of the disk, and writes a line for each, and how many findings there are. The source isn't read, and
-///   the disk isn't changed. `Unsound`: there is a finding.
-/// - `node` opens a JournalNode on the disk, which keeps its state in the disk's files, and answers each request line of the
-///   source with its reply line. Each reply is written, and the sink flushed, before the source is read again. A crash at any
-///   moment of the call leaves files that stand for the state after some of the lines, stopped inside the next one, and no
-///   fewer than were answered by then.
+/// - `play` plays the script that the source gives, over nodes on disks in memory, and writes the
+///   report to the sink. The disk isn't called.
+/// - `run` does the same by a thread for each actor and one for the operator, each with its own
+///   lines in order; how their calls fall among one another is the schedule's. `pass` is called
+///   before each call. The call may wait.
+/// - `oev list NAME`, `oev stats NAME` and `oev json NAME` read the disk's file of that name, a
+///   segment's, and write a line for each of its edits, how many there are of each kind, or all as
+///   an array of JSON. The source isn't read, and the disk isn't changed.
+/// - `oiv delimited NAME`, `oiv sizes NAME` and `oiv json NAME` do the same for an image: a line of
+///   columns for each inode, how many files there are of each size, or all inodes as an array of
+///   JSON.
+/// - `gen NUMBER EDITS NODES` plays the script that the number gives, with so many edits over so
+///   many nodes, and writes its summary. NUMBER is at most 2^62, EDITS at most 10,000, NODES from 1
+///   to 15. The source isn't read, and the disk isn't called.
+/// - `fsck` checks each file of the disk, and writes a line for each, and how many findings there
+///   are. The source isn't read, and the disk isn't changed. `Unsound`: there is a finding.
+/// - `node` opens a JournalNode on the disk, which keeps its state in the disk's files, and answers
+///   each request line of the source with its reply line. Each reply is written, and the sink
+///   flushed, before the source is read again. A crash at any moment of the call leaves files that
+///   stand for the state after some of the lines, stopped inside the next one, and no fewer than
+///   were answered by then.
 ///
-/// A report, a summary, a listing and findings are computed before any of it is written. `Usage`: other words, with the place, from 0, of the first
-/// word that is missing or wrong; neither the source nor the disk is called then. `Limit`: the source has more than
-/// 1,048,576 bytes, the report would have more than 268,435,456, or the file has more than 134,217,728; of a node a line with
-/// more than 1,048,576, or a source with more than 1,073,741,824. `BadScript`: the first line, from 1, that breaks a rule, and
-/// the rule; of a node the first that isn't a request. `BadBytes`: the place of the file's first damage and its cause, `0
-/// NoFile` where there is no such file; of a node `0 BadFile NAME` where this file isn't in its format, so that the node isn't
-/// opened. `ReadFault`: the source failed. `DiskFault`: the disk failed. `WriteFault`: the sink failed while the report, the
-/// listing or a reply was written; a prefix was. `OutOfMemory`: memory ran out. Each but `WriteFault` writes its line `error
-/// NAME ..`, after the replies of a node to the lines before, and stays the status where that line's writing fails. The disk
-/// is given back.
+/// A report, a summary, a listing and findings are computed before any of it is written. `Usage`:
+/// other words, with the place, from 0, of the first word that is missing or wrong; neither the
+/// source nor the disk is called then. `Limit`: the source has more than 1,048,576 bytes, the
+/// report would have more than 268,435,456, or the file has more than 134,217,728; of a node a line
+/// with more than 1,048,576, or a source with more than 1,073,741,824. `BadScript`: the first line,
+/// from 1, that breaks a rule, and the rule; of a node the first that isn't a request. `BadBytes`:
+/// the place of the file's first damage and its cause, `0 NoFile` where there is no such file; of a
+/// node `0 BadFile NAME` where this file isn't in its format, so that the node isn't opened.
+/// `ReadFault`: the source failed. `DiskFault`: the disk failed. `WriteFault`: the sink failed
+/// while the report, the listing or a reply was written; a prefix was. `OutOfMemory`: memory ran
+/// out. Each but `WriteFault` writes its line `error NAME ..`, after the replies of a node to the
+/// lines before, and stays the status where that line's writing fails. The disk is given back.
 pub fn qjm<R: Threads + Wait + Sync, G: Pass + Sync, S: Source, K: Sink, D: Disk>(
     rt: &R,
     alloc: Global,

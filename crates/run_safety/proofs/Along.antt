@@ -1,4 +1,5 @@
--- One node along a run: what an entry may change at one start, and what stays from one place to a later one.
+-- One node along a run: what an entry may change at one start, and what stays from one place to a
+-- later one.
 use Rattle.std.proofs.Common.{◌≡◌, ◌≢◌, ℕ, zero, suc, ◌<◌, ◌≤◌, ◌⊎◌, ◌==◌, Bool, List, [], ◌∷◌, take, Option, Some, None, refl, inl, inr, arith, subst, sym, ap, ◌∙◌}
 use Rattle.std.proofs.lemmas.Bool.{cases_eq, cond-true, cond-false, eq-eqb, ne_eqb}
 use Rattle.journal_core.specs.Laws.{IsStored, OpenIsLed}
@@ -10,7 +11,7 @@ use Rattle.journal_core.specs.declared.node_state.NodeState.{NodeState}
 use Rattle.journal_core.specs.declared.reply.Reply.{Reply}
 use Rattle.journal_core.specs.declared.request.Request.{Request}
 use Rattle.journal_core.specs.declared.segment.Segment.{Segment}
-use Rattle.node_history.specs.Entries.{Entry, Move, Answer, Stop, Kill, Restart, Way, after_move, node_after, Earlier, now, before}
+use Rattle.journal_history.specs.Entries.{Entry, Move, Answer, Stop, Kill, Restart, Way, after_move, node_after, Earlier, now, before}
 use Rattle.journal_core.proofs.Steps.{Acted, at_once, by_row, done, acted, front_le, none≢some, segments_all, segments-after}
 use Rattle.run_safety.proofs.SoundNodes.{stored_after, promise_earlier, led_after}
 use Rattle.journal_core.proofs.Changes.{Change, same, created, grown, made_final, replaced, removed, change_stopped, change_answered}
@@ -51,13 +52,15 @@ passed_or s r = go (acted s r)
     go (done a b n e) = inr a
 
 answer_change : (s : NodeState) (r : Request) (m : ℕ) → OpenIsLed s → IsStored s → Acted s r →
-    (find_segment m (node_step s r).state.segments ≡ find_segment m s.segments) ⊎ ((refused_at_once s r ≡ None) × Change s r m (find_segment m s.segments) (find_segment m (node_step s r).state.segments))
+    (find_segment m (node_step s r).state.segments ≡ find_segment m s.segments)
+    ⊎ ((refused_at_once s r ≡ None) × Change s r m (find_segment m s.segments) (find_segment m (node_step s r).state.segments))
 answer_change s r m sound d (at_once x a n e) = inl (ap (λ z. find_segment m z.state.segments) n)
 answer_change s r m sound d (by_row x a b n e) = inr (a, change_answered s r sound d m)
 answer_change s r m sound d (done a b n e) = inr (a, change_answered s r sound d m)
 
 stop_change : (s : NodeState) (caller : ℕ) (late : Bool) (r : Request) (k m : ℕ) → OpenIsLed s → IsStored s →
-    (find_segment m (after_move s (Stop caller late r k)).segments ≡ find_segment m s.segments) ⊎ ChangedBy s (Stop caller late r k) m (find_segment m s.segments) (find_segment m (after_move s (Stop caller late r k)).segments)
+    (find_segment m (after_move s (Stop caller late r k)).segments ≡ find_segment m s.segments)
+    ⊎ ChangedBy s (Stop caller late r k) m (find_segment m s.segments) (find_segment m (after_move s (Stop caller late r k)).segments)
 stop_change s caller late r zero m sound d = inl (ap (λ zs. find_segment m zs) (segments-after s []))
 stop_change s caller late r (suc k) m sound d = elim (passed_or s r) [
   | inl none ↦ inl (ap (λ zs. find_segment m zs) (segments-after s (take (suc k) (effects_of s r)) ∙ ap (λ es. segments_all s.segments (take (suc k) es)) none))
@@ -65,7 +68,9 @@ stop_change s caller late r (suc k) m sound d = elim (passed_or s r) [
 ]
   where
     go : (es : List Effect) → effects_of s r ≡ es → refused_at_once s r ≡ None →
-        (find_segment m (after_move s (Stop caller late r (suc k))).segments ≡ find_segment m s.segments) ⊎ ChangedBy s (Stop caller late r (suc k)) m (find_segment m s.segments) (find_segment m (after_move s (Stop caller late r (suc k))).segments)
+        (find_segment m (after_move s (Stop caller late r (suc k))).segments ≡ find_segment m s.segments)
+        ⊎ ChangedBy s (Stop caller late r (suc k)) m (find_segment m s.segments)
+        (find_segment m (after_move s (Stop caller late r (suc k))).segments)
     go [] is passed = inl (ap (λ zs. find_segment m zs) (segments-after s (take (suc k) (effects_of s r)) ∙ ap (λ es. segments_all s.segments (take (suc k) es)) is))
     go (x ∷ xs) is passed = inr (record {
       request = r;
@@ -94,13 +99,18 @@ entry_change i e old m = elim (cases_eq e.node i) [
   | inr other ↦ inl (ap (λ z. find_segment m z.segments) (node_elsewhere i e old other))
   | inl is ↦ elim (move_change (node_after i old) e.move m (led_after i old) (stored_after i old)) [
     | inl unchanged ↦ inl (ap (λ z. find_segment m z.segments) (node_here i e old is) ∙ unchanged)
-    | inr c ↦ inr (record { node = is; by = subst (λ z. ChangedBy (node_after i old) e.move m (find_segment m (node_after i old).segments) (find_segment m z.segments)) (sym (node_here i e old is)) c })
+    | inr c ↦ inr (record {
+      node = is;
+      by = subst (λ z. ChangedBy (node_after i old) e.move m (find_segment m (node_after i old).segments)
+          (find_segment m z.segments)) (sym (node_here i e old is)) c;
+    })
   ]
 ]
 
 -- what each change keeps holds at a later place
 pub along : (i m : ℕ) (P : Option Segment → Type 0) {q past : List Entry} → Earlier q past → P (find_segment m (node_after i q).segments) →
-    ((e : Entry) (old : List Entry) → Earlier q old → Earlier (e ∷ old) past → Changes i e old m → P (find_segment m (node_after i old).segments) → P (find_segment m (node_after i (e ∷ old)).segments)) →
+    ((e : Entry) (old : List Entry) → Earlier q old → Earlier (e ∷ old) past → Changes i e old m → P (find_segment m (node_after i old).segments)
+    → P (find_segment m (node_after i (e ∷ old)).segments)) →
     P (find_segment m (node_after i past).segments)
 along i m P now p step = p
 along i m P (before {past = old} {e = e} q) p step =

@@ -1,4 +1,5 @@
--- What a round that was done leaves: the answers that were heard, the best of them, and the next task.
+-- What a round that was done leaves: the answers that were heard, the best of them, and the next
+-- task.
 use Rattle.std.proofs.Common.{◌≡◌, ℕ, suc, ◌+◌, ◌<◌, ◌≤◌, ◌⊎◌, ◌&&◌, Bool, true, false, List, [], ◌∷◌, length, Option, Some, None, refl, inl, inr, arith, subst, sym, ap, ◌∙◌}
 use Rattle.std.specs.List.{list_all}
 use Rattle.std.proofs.lemmas.Bool.{cases_Bool, and_parts, eqb-true, leb-true, ltb-true}
@@ -23,7 +24,9 @@ use Rattle.writer_core.specs.Rounds.{end_record, to_all, Judgment, numbers_fit, 
 use Rattle.writer_core.specs.Writer.{log_limit, log_begins, writer_begun}
 use Rattle.writer_core.specs.Whole.{Takeover, TaskProgress, fill_slots, progress_from, has_begun, next_begun, next_task, round_after}
 use Rattle.run_safety.specs.Run.{may_follow}
-use Rattle.run_safety.proofs.Slots.{none≢some, some_same, true≢false, At, At-range, IsFresh, AllWait, all_fresh, to_all_wait, to_others_fresh, filled_length, filled_heard, filled_all, ok_from, in_ok, ok_majority, ok_slot, TellsSegment, best_told, told_newest, TellsNewest, newest_told_by, newest_told_least}
+use Rattle.run_safety.proofs.Slots.{none≢some, some_same, true≢false, At, At-range, IsFresh, AllWait, all_fresh, to_all_wait, to_others_fresh}
+use Rattle.run_safety.proofs.Slots.{filled_length, filled_heard, filled_all, ok_from, in_ok, ok_majority, ok_slot, TellsSegment, best_told}
+use Rattle.run_safety.proofs.Slots.{told_newest, TellsNewest, newest_told_by, newest_told_least}
 use Rattle.run_safety.proofs.SeenLaws.{Writer, seen_round, seen_next, seen, is_ok_kind}
 use Rattle.run_safety.proofs.Frames.{Done, Newest, Counted, Framed, low_of, end_below, IsWriting, IsGet, IsAsking, committed_after, opens_found_none, gets, goes_on, Stands, Next}
 
@@ -31,18 +34,22 @@ use Rattle.run_safety.proofs.Frames.{Done, Newest, Counted, Framed, low_of, end_
 abbrev pub After : Judgment → List Task → TaskProgress → Type 0
 After j tasks next = round_after j.writer.phase j.writer tasks ≡ Some next
 
-pub judged_by_passed : (b : Bool) (r : TableRound) (w : WriterView) (tasks : List Task) (next : TaskProgress) → After (judgment_by b r w) tasks next → (b ≡ true) × After (after_round r (with_causes r w)) tasks next
+pub judged_by_passed : (b : Bool) (r : TableRound) (w : WriterView) (tasks : List Task) (next : TaskProgress) → After (judgment_by b r w) tasks next
+    → (b ≡ true) × After (after_round r (with_causes r w)) tasks next
 judged_by_passed true r w tasks next e = (refl, e)
 judged_by_passed false r w tasks next e = none≢some next e
 
-pub judged_passed : (r : TableRound) (w : WriterView) (tasks : List Task) (next : TaskProgress) → After (judgment r w) tasks next → (has_majority r w.slots ≡ true) × After (after_round r (with_causes r w)) tasks next
+pub judged_passed : (r : TableRound) (w : WriterView) (tasks : List Task) (next : TaskProgress) → After (judgment r w) tasks next
+    → (has_majority r w.slots ≡ true) × After (after_round r (with_causes r w)) tasks next
 unfolding judgment
 judged_passed r w tasks next e =
     let p = judged_by_passed (numbers_fit w r && has_majority r w.slots) r w tasks next e in
     ((and_parts (numbers_fit w r) (has_majority r w.slots) p.0).1, p.1)
 
 -- a round in which each was called, heard whole
-pub heard_done : (n : ℕ) (r : TableRound) (w : WriterView) (heard : ℕ → Option Reply) (x : Writer) → IsFresh w.slots → length w.slots ≡ n → has_majority r (fill_slots 1 heard w.slots) ≡ true → ((reply : Reply) → fits_round r reply ≡ true → is_ok_kind x.round reply ≡ true) → Done n x heard
+pub heard_done : (n : ℕ) (r : TableRound) (w : WriterView) (heard : ℕ → Option Reply) (x : Writer) → IsFresh w.slots → length w.slots ≡ n
+    → has_majority r (fill_slots 1 heard w.slots) ≡ true → ((reply : Reply) → fits_round r reply ≡ true → is_ok_kind x.round reply ≡ true)
+    → Done n x heard
 heard_done n r w heard x fresh len enough kind = record {
   nodes = ok_from r 1 (fill_slots 1 heard w.slots);
   majority = ok_majority n r (fill_slots 1 heard w.slots) whole enough;
@@ -94,7 +101,8 @@ newest_heard n heard slots wait len = record {
       let range = At-range 1 (fill_slots 1 heard slots) t.node t.slot t.at in
       let whole : length (fill_slots 1 heard slots) ≡ length slots = filled_length 1 heard slots in
       (t.node, r.0, range.0, omega (arith, range.1, len), filled_heard 1 heard slots (all_fresh slots wait) t.node r.0 (subst (λ z. At 1 (fill_slots 1 heard slots) t.node z) r.1 t.at), r.2, r.3));
-  least = λ i k reply one up h f e. newest_told_least 1 (fill_slots 1 heard slots) i k (Told (Answer reply)) (filled_all 1 heard slots wait i reply one (omega (arith, up, len)) h) (newest_in_slot reply k f e);
+  least = λ i k reply one up h f e. newest_told_least 1 (fill_slots 1 heard slots) i k (Told (Answer reply))
+      (filled_all 1 heard slots wait i reply one (omega (arith, up, len)) h) (newest_in_slot reply k f e);
 }
 
 -- a told start is at least 1
@@ -109,7 +117,9 @@ newest_one (Segments l) m f e = none≢some m e
 newest_one (Refused x) m f e = none≢some m e
 
 -- ## The answers to a prepare
-pub segment_slot : (m : ℕ) (slot : Slot) (g : SegmentInfo) → segment_in m slot ≡ Some g → (writer committed : ℕ) × (slot ≡ Told (Answer (Prepared writer committed (Some g)))) × (fits_prepare m (Prepared writer committed (Some g)) ≡ true)
+pub segment_slot : (m : ℕ) (slot : Slot) (g : SegmentInfo) → segment_in m slot ≡ Some g
+    → (writer committed : ℕ) × (slot ≡ Told (Answer (Prepared writer committed (Some g))))
+    × (fits_prepare m (Prepared writer committed (Some g)) ≡ true)
 segment_slot m Waiting g e = none≢some g e
 segment_slot m LeftOut g e = none≢some g e
 segment_slot m (Told Silent) g e = none≢some g e
@@ -176,7 +186,8 @@ pub record Asked (n : ℕ) (t : Takeover) (s m : ℕ) (u : TaskProgress) (w : Wr
   pub done : (IsGet (seen u).round → ⊥) → Done n (seen u) (t.heard s)
   pub low : end_below (seen u) (seen u).round ≡ 0
 
-pub recovering_next : (n : ℕ) (t : Takeover) (s m : ℕ) (u : TaskProgress) (w : WriterView) (next : TaskProgress) → Asked n t s m u w → (o : Option Best) → best_of m w.slots ≡ o → After (keep_going (begin_recovery m o (next_serial w))) u.tasks next → Next n t s u next
+pub recovering_next : (n : ℕ) (t : Takeover) (s m : ℕ) (u : TaskProgress) (w : WriterView) (next : TaskProgress) → Asked n t s m u w
+    → (o : Option Best) → best_of m w.slots ≡ o → After (keep_going (begin_recovery m o (next_serial w))) u.tasks next → Next n t s u next
 recovering_next n t s m u w next a None is e = subst (λ z. Next n t s u z) (some_same e) (record {
   sound = record {
     epoch = a.epoch;
@@ -299,7 +310,8 @@ pub record Wrote (n : ℕ) (t : Takeover) (s : ℕ) (u : TaskProgress) (x : Writ
   pub low : end_below (seen u) (seen u).round ≤ x.next
   pub done : Done n (seen u) (t.heard s)
 
-pub wrote_next : (n : ℕ) (t : Takeover) (s : ℕ) (u : TaskProgress) (x : WriterView) (next : TaskProgress) → Wrote n t s u x → round_after phase.Writing (record x { phase = phase.Writing }) u.tasks ≡ Some next → Next n t s u next
+pub wrote_next : (n : ℕ) (t : Takeover) (s : ℕ) (u : TaskProgress) (x : WriterView) (next : TaskProgress) → Wrote n t s u x
+    → round_after phase.Writing (record x { phase = phase.Writing }) u.tasks ≡ Some next → Next n t s u next
 wrote_next n t s u x next a e = by d.is
   where
     d : TaskNext x next
@@ -313,13 +325,23 @@ wrote_next n t s u x next a e = by d.is
         left = d.left ∙ a.left;
         slots = d.slots ∙ a.left;
         tasks = d.tasks;
-        frame = subst (λ z. Framed (record { round = seen_round next.writer z; committed = next.writer.committed; start = next.writer.start; next = seen_next next.writer z }) (seen_round next.writer z)) (sym r.1)
+        frame = subst (λ z. Framed (record {
+          round = seen_round next.writer z;
+          committed = next.writer.committed;
+          start = next.writer.start;
+          next = seen_next next.writer z;
+        }) (seen_round next.writer z)) (sym r.1)
             (omega (arith, d.committed, d.next_is, a.next_is), refl, omega (arith, d.start, a.start_one), omega (arith, d.start, d.next_is, a.start_below), refl, r.2);
         stands = subst (λ z. Stands n t (suc s) next.writer.slots z) (sym r.1) d.fresh;
       };
       step = goes_on a.writing (subst (λ z. IsWriting (seen_round next.writer z)) (sym r.1) tt) (d.start ∙ a.start) (d.committed ∙ a.committed);
       done = λ no. a.done;
-      low = subst (λ z. end_below (seen u) (seen u).round ≤ low_of (record { round = seen_round next.writer z; committed = next.writer.committed; start = next.writer.start; next = seen_next next.writer z }) (seen_round next.writer z)) (sym r.1)
+      low = subst (λ z. end_below (seen u) (seen u).round ≤ low_of (record {
+        round = seen_round next.writer z;
+        committed = next.writer.committed;
+        start = next.writer.start;
+        next = seen_next next.writer z;
+      }) (seen_round next.writer z)) (sym r.1)
           (omega (arith, d.next_is, a.low));
     }
     by (inr r) = record {
@@ -329,12 +351,22 @@ wrote_next n t s u x next a e = by d.is
         left = d.left ∙ a.left;
         slots = d.slots ∙ a.left;
         tasks = d.tasks;
-        frame = subst (λ z. Framed (record { round = seen_round next.writer z; committed = next.writer.committed; start = next.writer.start; next = seen_next next.writer z }) (seen_round next.writer z)) (sym r.1)
+        frame = subst (λ z. Framed (record {
+          round = seen_round next.writer z;
+          committed = next.writer.committed;
+          start = next.writer.start;
+          next = seen_next next.writer z;
+        }) (seen_round next.writer z)) (sym r.1)
             (omega (arith, d.committed, d.next_is, a.next_is), omega (arith, d.start, a.start_one), omega (arith, d.start, d.next_is, a.start_below));
         stands = subst (λ z. Stands n t (suc s) next.writer.slots z) (sym r.1) d.fresh;
       };
       step = goes_on a.writing (subst (λ z. IsWriting (seen_round next.writer z)) (sym r.1) tt) (d.start ∙ a.start) (d.committed ∙ a.committed);
       done = λ no. a.done;
-      low = subst (λ z. end_below (seen u) (seen u).round ≤ low_of (record { round = seen_round next.writer z; committed = next.writer.committed; start = next.writer.start; next = seen_next next.writer z }) (seen_round next.writer z)) (sym r.1)
+      low = subst (λ z. end_below (seen u) (seen u).round ≤ low_of (record {
+        round = seen_round next.writer z;
+        committed = next.writer.committed;
+        start = next.writer.start;
+        next = seen_next next.writer z;
+      }) (seen_round next.writer z)) (sym r.1)
           (omega (arith, d.next_is, a.low));
     }

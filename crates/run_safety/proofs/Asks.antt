@@ -23,9 +23,9 @@ use Rattle.writer_core.proofs.Plain.{plain}
 use Rattle.writer_core.proofs.Filling.{fills_first}
 use Rattle.writer_core.proofs.WholeLaws.{Reaches}
 use Rattle.writer_core.proofs.WholeRounds.{IsCalling, unslotted_alike}
-use Rattle.node_history.specs.Entries.{Entry}
+use Rattle.journal_history.specs.Entries.{Entry}
 use Rattle.run_safety.specs.Run.{may_follow}
-use Rattle.node_history.specs.Moving.{epoch_of}
+use Rattle.journal_history.specs.Moving.{epoch_of}
 use Rattle.run_safety.proofs.Tales.{Tale}
 use Rattle.run_safety.proofs.Fair.{IsTold, told_still}
 use Rattle.run_safety.proofs.TaleSteps.{put_here, Continues, continues_not, taken_over, taken_continues}
@@ -61,7 +61,8 @@ proposing_status n a past c told w is e f = (
     by = ap (λ (t : Takeover). t.caller) same;
     follow = ap (λ (t : Takeover). list_all may_follow t.tasks) same;
     writer = proposer n (told + 1);
-    reaches = subst (λ (t : Takeover). Reaches n t ((new_tale a c told).top k) (proposer n (told + 1))) (sym same) (subst (λ (s : ℕ). Reaches n (begun_takeover c told) s (proposer n (told + 1))) (sym top) (first_round n c told));
+    reaches = subst (λ (t : Takeover). Reaches n t ((new_tale a c told).top k) (proposer n (told + 1))) (sym same)
+        (subst (λ (s : ℕ). Reaches n (begun_takeover c told) s (proposer n (told + 1))) (sym top) (first_round n c told));
     stands = calling round.Propose tt refl (unslotted_alike (begin_propose told w) (proposer n (told + 1)) alike)
         (fills_first 1 (((new_tale a c told).story.takeover k).heard ((new_tale a c told).top k)) (begin_propose told w).slots (proposer n (told + 1)).slots
         (λ i. silent ((new_tale a c told).top k) i) (ap (λ (x : WriterView). x.slots) alike));
@@ -113,7 +114,8 @@ when_by : (n : ℕ) (a : Tale) (past : List Entry) (c : ℕ) (b : Bool) (w : Wri
 when_by n a past c true w is p e f = (a, is, continues_not c a past, asking p e f)
 when_by n a past c false w is p e f = state_judged n a past c w is e f
 
-pub hears_asking : (n : ℕ) (a : Tale) (past : List Entry) (c : ℕ) (v : WriterView) (node : ℕ) (d : HeardOf) → IsTold n a past → v.phase ≡ phase.InRound round.State → v.aim ≡ aim.Takeover → v.left ≡ replicate n false
+pub hears_asking : (n : ℕ) (a : Tale) (past : List Entry) (c : ℕ) (v : WriterView) (node : ℕ) (d : HeardOf) → IsTold n a past
+    → v.phase ≡ phase.InRound round.State → v.aim ≡ aim.Takeover → v.left ≡ replicate n false
     → Gives n c a past past (λ t. Status n t past c (writer_heard v node d).writer)
 unfolding writer_heard
 hears_asking n a past c v node d is p e f =
@@ -134,7 +136,8 @@ asks_no_epoch v node r call p some = off (sym (ap (λ (x : Request). is_some (ep
     off : is_some (epoch_of (request_in v round.State)) ≡ true → ⊥
     off x = cc x
 
-pub asked : (n : ℕ) (a : Tale) (past next : List Entry) (c node : ℕ) (r : Request) (d : HeardOf) → (HasEpoch r → ⊥) → IsTold n a past → CallLeft n past c node r d next → Gives n c a past next (λ b. Unit {0})
+pub asked : (n : ℕ) (a : Tale) (past next : List Entry) (c node : ℕ) (r : Request) (d : HeardOf) → (HasEpoch r → ⊥) → IsTold n a past
+    → CallLeft n past c node r d next → Gives n c a past next (λ b. Unit {0})
 unfolding Quiet
 asked n a past next c node r d off told (nothing same quiet) = subst (λ (l : List Entry). Gives n c a past l (λ b. Unit {0})) (sym same) (a, told, continues_not c a past, tt)
 asked n a past next c node r d off told (unheard move same quiet turn enters) =

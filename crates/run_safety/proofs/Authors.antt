@@ -1,4 +1,5 @@
--- Each part of the line has an author: an epoch whose owner journaled all from its first start to there, as it stands on the line.
+-- Each part of the line has an author: an epoch whose owner journaled all from its first start to
+-- there, as it stands on the line.
 use Rattle.std.proofs.Common.{◌≡◌, ℕ, zero, suc, ◌+◌, ◌-◌, ◌<◌, ◌≤◌, ◌⊎◌, List, [], ◌∷◌, length, Option, Some, None, refl, inl, inr, arith, subst, sym, ap, ◌∙◌}
 use Rattle.std.specs.Prelude.{slice_get}
 use Rattle.std.proofs.lemmas.Bool.{cases_lt, cases_order}
@@ -10,7 +11,7 @@ use Rattle.journal_core.specs.declared.request.Request.TheVariants.{Start, Journ
 use Rattle.journal_core.specs.declared.reply.Reply.{Reply}
 use Rattle.journal_core.specs.declared.segment.Segment.{Segment}
 use Rattle.run_safety.specs.Majority.{Member}
-use Rattle.node_history.specs.Entries.{Heard, Answer, Entry, node_after, Earlier, now, before}
+use Rattle.journal_history.specs.Entries.{Heard, Answer, Entry, node_after, Earlier, now, before}
 use Rattle.run_safety.specs.Run.{Story, Follows}
 use Rattle.run_safety.specs.Safe.{IsOnLine, IsOf, IsStart}
 use Rattle.run_safety.specs.Parts.{IsJournaled, IsAuthor}
@@ -20,7 +21,7 @@ use Rattle.journal_core.proofs.SegmentLists.{find-start}
 use Rattle.journal_core.proofs.Changes.{Change, same, created, grown, made_final, replaced, removed}
 use Rattle.run_safety.proofs.Along.{Requested, entry_change}
 use Rattle.run_safety.proofs.Slots.{none≢some, some_same}
-use Rattle.run_safety.proofs.SeenLaws.{Round, Propose, Ask, Get, Recover, Seal, Open, Write, Clean, Other, Writer, seen_at, seen_first, asked}
+use Rattle.run_safety.proofs.SeenLaws.{Round, Propose, Ask, Get, Recover, Finalizing, Open, Write, Clean, Other, Writer, seen_at, seen_first, asked}
 use Rattle.run_safety.proofs.Frames.{OkHeard, Framed, low_of, end_below, IsWriting, IsGet, IsAsking}
 use Rattle.run_safety.proofs.Rounds.{Comes, comes, frame, below_later}
 use Rattle.run_safety.proofs.Before.{stage, StageLater, stage_later, OpenedBy, at_one, found_none, after_seal_of, open_before, OpenedAt, opened_at}
@@ -88,7 +89,9 @@ module _ (n : ℕ) (story : Story) (past : List Entry) (run : Follows n story pa
       stages p q (inl lt) = omega arith
       stages p q (inr c) = omega (arith, c.0)
 
-came_change : (n : ℕ) (story : Story) (past old : List Entry) (x : Entry) → Follows n story past → Earlier (x ∷ old) past → (s : NodeState) (r : Request) (m : ℕ) (o new : Option Segment) → Change s r m o new → IsOf x r → OfRound n story past r → CameOr n story past m o → CameOr n story past m new
+came_change : (n : ℕ) (story : Story) (past old : List Entry) (x : Entry) → Follows n story past → Earlier (x ∷ old) past
+    → (s : NodeState) (r : Request) (m : ℕ) (o new : Option Segment) → Change s r m o new → IsOf x r → OfRound n story past r
+    → CameOr n story past m o → CameOr n story past m new
 came_change n story past old x run p s r m o new same is z v = v
 came_change n story past old x run p s r m o new (created h q none) is z v =
     let y = start_round (story.takeover z.a).epoch z.s z.w.committed z.w.round h m (sym q ∙ z.is) in
@@ -100,7 +103,9 @@ came_change n story past old x run p s r m (Some g) new (grown h b q header f fi
     ])
 came_change n story past old x run p s r m (Some g) new (grown h b q header f first) is z (by_accept c at rec bodies) =
     let y = journal_round (story.takeover z.a).epoch z.s z.w.committed z.w.round h m b (sym q ∙ z.is) in
-    let opens : InRound n story past (story.takeover z.a).epoch (Open m) = write_opens n story past z.a z.s z.w m z.sent (write_is z.w m b y.0) (write_start z.w m b (frame n (story.takeover z.a) z.s z.w z.sent.at) y.0) in
+    let opens : InRound n story past (story.takeover z.a).epoch (Open m) =
+    write_opens n story past z.a z.s z.w m z.sent (write_is z.w m b y.0)
+    (write_start z.w m b (frame n (story.takeover z.a) z.s z.w z.sent.at) y.0) in
     absurd (not_both n story past run g.epoch m c (to (λ e. InRound n story past e (Open m)) (sym y.1 ∙ sym header) opens) rec at)
 came_change n story past old x run p s r m (Some g) new (made_final h l q edit f header ends) is z v = v
 came_change n story past old x run p s r m o new (replaced h b q first f) is z v =
@@ -112,7 +117,8 @@ came_or : (n : ℕ) (story : Story) (past : List Entry) → Follows n story past
 unfolding node_after find_segment
 came_or n story [] f i m = tt
 came_or n story (e ∷ old) f i m =
-    let earlier : CameOr n story (e ∷ old) m (find_segment m (node_after i old).segments) = CameOr-later n story m (find_segment m (node_after i old).segments) (before now) (came_or n story old f.1 i m) in
+    let earlier : CameOr n story (e ∷ old) m (find_segment m (node_after i old).segments) =
+    CameOr-later n story m (find_segment m (node_after i old).segments) (before now) (came_or n story old f.1 i m) in
     elim (entry_change i e old m) [
       | inl same_one ↦ subst (λ o. CameOr n story (e ∷ old) m o) (sym same_one) earlier
       | inr c ↦
@@ -148,7 +154,8 @@ module _ (n : ℕ) (story : Story) (past : List Entry) (run : Follows n story pa
     pub all : (t : ℕ) → first ≤ t → t < m → (body : List ℕ) × IsJournaled past e t body × ((k : ℕ) × Maj n past e k t body)
 
   -- the opening of a segment that is written was done
-  pub start_entry : (a s m : ℕ) (w v : Writer) (r : ℕ) → (p : Sent n story past a s w) → r < s → seen_at n (story.takeover a) r ≡ Some v → v.round ≡ Open m → (old : List Entry) × (x : Entry) × Earlier (x ∷ old) past × IsStart x (story.takeover a).epoch m
+  pub start_entry : (a s m : ℕ) (w v : Writer) (r : ℕ) → (p : Sent n story past a s w) → r < s → seen_at n (story.takeover a) r ≡ Some v
+      → v.round ≡ Open m → (old : List Entry) × (x : Entry) × Earlier (x ∷ old) past × IsStart x (story.takeover a).epoch m
   start_entry a s m w v r p lt at is = by (ans.each some.0 some.1)
     where
       ans : Answers n story p.old a r
@@ -160,7 +167,8 @@ module _ (n : ℕ) (story : Story) (past : List Entry) (run : Follows n story pa
       round : ans.w.round ≡ Open m
       round = ap (λ z. z.round) (some_same (sym ans.at ∙ at)) ∙ is
 
-      by : (reply : Reply) × Answered n story p.old a r ans.w some.0 reply × OkHeard n ans.w ((story.takeover a).heard r) some.0 reply → (old : List Entry) × (x : Entry) × Earlier (x ∷ old) past × IsStart x (story.takeover a).epoch m
+      by : (reply : Reply) × Answered n story p.old a r ans.w some.0 reply × OkHeard n ans.w ((story.takeover a).heard r) some.0 reply
+          → (old : List Entry) × (x : Entry) × Earlier (x ∷ old) past × IsStart x (story.takeover a).epoch m
       by y = (
         y.1.old,
         y.1.entry,
@@ -173,7 +181,9 @@ module _ (n : ℕ) (story : Story) (past : List Entry) (run : Follows n story pa
       )
 
   -- an opening right after these has none before it
-  open_least : (e a s m : ℕ) (w : Writer) → (p : Sent n story past a s w) → (story.takeover a).epoch ≡ e → (is : w.round ≡ Open m) → ((k : ℕ) (v : Writer) → k < s → seen_at n (story.takeover a) k ≡ Some v → (j : ℕ) → v.round ≡ Open j → ⊥) → (k : ℕ) → Opn n story past run e k → m ≤ k
+  open_least : (e a s m : ℕ) (w : Writer) → (p : Sent n story past a s w) → (story.takeover a).epoch ≡ e → (is : w.round ≡ Open m)
+      → ((k : ℕ) (v : Writer) → k < s → seen_at n (story.takeover a) k ≡ Some v → (j : ℕ) → v.round ≡ Open j → ⊥) → (k : ℕ) → Opn n story past run e k
+      → m ≤ k
   open_least e a s m w p epoch is none k o = elim (cases_order o.s s) [
     | inl same_round ↦ (let one_w : o.w ≡ w = some_same (sym at ∙ (ap (λ j. seen_at n (story.takeover a) j) same_round ∙ p.at)) in
         let same_open : Open k ≡ Open m = sym o.is ∙ (ap (λ z. z.round) one_w ∙ is) in let eq : k ≡ m = cc in omega arith)
@@ -194,7 +204,8 @@ module _ (n : ℕ) (story : Story) (past : List Entry) (run : Follows n story pa
       at = to (λ b. seen_at n (story.takeover b) o.s ≡ Some o.w) one o.sent.at
 
   -- no opening stands before a round of an earlier stage
-  none_open : (a s : ℕ) (v : Writer) → seen_at n (story.takeover a) s ≡ Some v → stage v.round < 4 → (k : ℕ) (u : Writer) → k < suc s → seen_at n (story.takeover a) k ≡ Some u → (j : ℕ) → u.round ≡ Open j → ⊥
+  none_open : (a s : ℕ) (v : Writer) → seen_at n (story.takeover a) s ≡ Some v → stage v.round < 4 → (k : ℕ) (u : Writer) → k < suc s
+      → seen_at n (story.takeover a) k ≡ Some u → (j : ℕ) → u.round ≡ Open j → ⊥
   none_open a s v at low k u lt at_k j is = elim (cases_lt k s) [
     | inl earlier ↦ late (ap stage is) (stage_later n (story.takeover a) k s u v earlier at_k at)
     | inr le ↦ (let one : u ≡ v = some_same (sym at_k ∙ (ap (λ z. seen_at n (story.takeover a) z) (let eq : k ≡ s = omega arith in eq) ∙ at)) in
@@ -210,7 +221,7 @@ module _ (n : ℕ) (story : Story) (past : List Entry) (run : Follows n story pa
   asking_low m (Get i k l bodies) a = omega arith
   asking_low m Propose a = absurd a
   asking_low m (Recover b) a = absurd a
-  asking_low m (Seal k l) a = absurd a
+  asking_low m (Finalizing k l) a = absurd a
   asking_low m (Open k) a = absurd a
   asking_low m (Write k b) a = absurd a
   asking_low m (Clean l) a = absurd a
@@ -218,12 +229,14 @@ module _ (n : ℕ) (story : Story) (past : List Entry) (run : Follows n story pa
 
   first_of : (fuel e a s m : ℕ) (w : Writer) → s < fuel → Sent n story past a s w → (story.takeover a).epoch ≡ e → IsWriting w.round → w.start ≡ m → FirstOf e m
   first_of zero e a s m w lt p epoch writing start = absurd (omega arith)
-  first_of (suc fuel) e a s m w lt p epoch writing start = at_opening o.round o.writer o.before o.at (o.opens ∙ ap (λ z. Open z) start) (λ k v r2 lt2 p2 writing2 start2. first_of fuel e a r2 k v lt2 p2 epoch writing2 start2)
+  first_of (suc fuel) e a s m w lt p epoch writing start = at_opening o.round o.writer o.before o.at (o.opens ∙ ap (λ z. Open z) start)
+      (λ k v r2 lt2 p2 writing2 start2. first_of fuel e a r2 k v lt2 p2 epoch writing2 start2)
     where
       o : OpenedAt n (story.takeover a) s w.start
       o = opened_at n (story.takeover a) s w p.at writing
 
-      at_opening : (r : ℕ) (v : Writer) → r < s → seen_at n (story.takeover a) r ≡ Some v → v.round ≡ Open m → ((k : ℕ) (u : Writer) (r2 : ℕ) → r2 < fuel → Sent n story past a r2 u → IsWriting u.round → u.start ≡ k → FirstOf e k) → FirstOf e m
+      at_opening : (r : ℕ) (v : Writer) → r < s → seen_at n (story.takeover a) r ≡ Some v → v.round ≡ Open m
+          → ((k : ℕ) (u : Writer) (r2 : ℕ) → r2 < fuel → Sent n story past a r2 u → IsWriting u.round → u.start ≡ k → FirstOf e k) → FirstOf e m
       at_opening zero v r_lt at is again = let clash : Open m ≡ Propose = sym is ∙ (seen_first n (story.takeover a) v at).0 in cc
       at_opening (suc r) v r_lt at is again = by (open_before n (story.takeover a) r v m c is)
         where
@@ -242,7 +255,7 @@ module _ (n : ℕ) (story : Story) (past : List Entry) (run : Follows n story pa
             all = λ t le up. absurd (omega arith);
           }
 
-          behind : (k l : ℕ) → c.writer.round ≡ Seal k l → m ≡ l + 1 → FirstOf e m
+          behind : (k l : ℕ) → c.writer.round ≡ Finalizing k l → m ≡ l + 1 → FirstOf e m
           behind k l seals next = cover sc.covers.is
             where
               sc : SealCovers n (story.takeover a) r k l
@@ -264,11 +277,14 @@ module _ (n : ℕ) (story : Story) (past : List Entry) (run : Follows n story pa
                   after_recovery j u j_lt at_j q q_is (inl before_it) = none_open a sc.round sc.writer sc.at (to (λ y. stage y < 4) (sym z.0) (omega arith)) j u before_it at_j q q_is
                   after_recovery j u j_lt at_j q q_is (inr le) = (let at_r : j ≡ r = omega (arith, sc.right_before) in
                       let one : u ≡ c.writer = some_same (sym at_j ∙ (ap (λ y. seen_at n (story.takeover a) y) at_r ∙ c.at)) in
-                      let clash : Open q ≡ Seal k l = sym q_is ∙ (ap (λ y. y.round) one ∙ seals) in cc)
-              cover (inr z) = more (again k sc.writer sc.round (omega (arith, sc.right_before)) sent_s (write_is sc.writer k sc.covers.batch z) (write_start sc.writer k sc.covers.batch (frame n (story.takeover a) sc.round sc.writer sc.at) z))
+                      let clash : Open q ≡ Finalizing k l = sym q_is ∙ (ap (λ y. y.round) one ∙ seals) in cc)
+              cover (inr z) = more (again k sc.writer sc.round (omega (arith, sc.right_before)) sent_s (write_is sc.writer k sc.covers.batch z)
+                  (write_start sc.writer k sc.covers.batch (frame n (story.takeover a) sc.round sc.writer sc.at) z))
                 where
                   opn : Opn n story past run e k
-                  opn = to (λ y. InRound n story past y (Open k)) epoch (write_opens n story past a sc.round sc.writer k sent_s (write_is sc.writer k sc.covers.batch z) (write_start sc.writer k sc.covers.batch (frame n (story.takeover a) sc.round sc.writer sc.at) z))
+                  opn = to (λ y. InRound n story past y (Open k)) epoch
+                      (write_opens n story past a sc.round sc.writer k sent_s (write_is sc.writer k sc.covers.batch z)
+                      (write_start sc.writer k sc.covers.batch (frame n (story.takeover a) sc.round sc.writer sc.at) z))
 
                   last : (x : List ℕ) × Maj n past e k l x
                   last = (let y = write_chosen n story past run a (suc r) sc.round v sc.writer k sc.covers.batch sent_v (omega (arith, sc.right_before)) sc.at z in
@@ -306,7 +322,8 @@ module _ (n : ℕ) (story : Story) (past : List Entry) (run : Follows n story pa
   -- where the segment was written by the owner of its epoch, that epoch is the author
   author_here : (i m t : ℕ) (q : List Entry) (g : Segment) → Earlier q past → find_segment m (node_after i q).segments ≡ Some g → m ≤ t → t < m + length g.bodies → Agrees m t g →
       ((k : ℕ) (body : List ℕ) → slice_get g.bodies k ≡ Some body → JournaledIn past g.epoch m (m + k) body) → (first : ℕ) × IsAuthor n past g.epoch first t
-  author_here i m t q g p is le lt agrees all = by (first_of (suc z.s) g.epoch z.a z.s m z.w (omega arith) z.sent (sym r.1 ∙ j.3.2) (write_is z.w m j.3.1 r.0) (write_start z.w m j.3.1 (frame n (story.takeover z.a) z.s z.w z.sent.at) r.0))
+  author_here i m t q g p is le lt agrees all = by (first_of (suc z.s) g.epoch z.a z.s m z.w (omega arith) z.sent (sym r.1 ∙ j.3.2)
+      (write_is z.w m j.3.1 r.0) (write_start z.w m j.3.1 (frame n (story.takeover z.a) z.s z.w z.sent.at) r.0))
     where
       start : g.start ≡ m
       start = find-start m (node_after i q).segments g is
@@ -342,11 +359,14 @@ module _ (n : ℕ) (story : Story) (past : List Entry) (run : Follows n story pa
         },
       )
 
-  author_fuel : (fuel i m t : ℕ) (q : List Entry) (g : Segment) → g.epoch < fuel → Earlier q past → find_segment m (node_after i q).segments ≡ Some g → m ≤ t → t < m + length g.bodies → Agrees m t g → (epoch : ℕ) × (first : ℕ) × IsAuthor n past epoch first t
+  author_fuel : (fuel i m t : ℕ) (q : List Entry) (g : Segment) → g.epoch < fuel → Earlier q past → find_segment m (node_after i q).segments ≡ Some g
+      → m ≤ t → t < m + length g.bodies → Agrees m t g → (epoch : ℕ) × (first : ℕ) × IsAuthor n past epoch first t
   author_fuel zero i m t q g low p is le lt agrees = absurd (omega arith)
   author_fuel (suc fuel) i m t q g low p is le lt agrees = by (came i m q g p is) (λ j q2 h e_lt p2 is2 lt2 agrees2. author_fuel fuel j m t q2 h e_lt p2 is2 le lt2 agrees2)
     where
-      by : Came n story past m g.epoch g.bodies → ((j : ℕ) (q2 : List Entry) (h : Segment) → h.epoch < fuel → Earlier q2 past → find_segment m (node_after j q2).segments ≡ Some h → t < m + length h.bodies → Agrees m t h → (epoch : ℕ) × (first : ℕ) × IsAuthor n past epoch first t) →
+      by : Came n story past m g.epoch g.bodies → ((j : ℕ) (q2 : List Entry) (h : Segment) → h.epoch < fuel → Earlier q2 past
+          → find_segment m (node_after j q2).segments ≡ Some h → t < m + length h.bodies → Agrees m t h
+          → (epoch : ℕ) × (first : ℕ) × IsAuthor n past epoch first t) →
           (epoch : ℕ) × (first : ℕ) × IsAuthor n past epoch first t
       by (by_journal o all) again = (let a = author_here i m t q g p is le lt agrees all in (g.epoch, a.0, a.1))
       by (by_accept b first rec bodies) again = taken (from_best n story past run g.epoch b rec)
@@ -388,7 +408,8 @@ module _ (n : ℕ) (story : Story) (past : List Entry) (run : Follows n story pa
               from : HeldAt past i.0 o.epoch j.0 t x → (epoch : ℕ) × (first : ℕ) × IsAuthor n past epoch first t
               from h = author_fuel (suc h.segment.epoch) i.0 j.0 t h.old h.segment (omega arith) h.within h.found above.1 (omega (arith, start, long, h.has.1))
                   (λ u y low up has. (let c = within_segment n story past run o.epoch j.0 t u x j.1 low up in
-                  let own : Wrote n story past o.epoch j.0 u y = held_wrote n story past run i.0 o.epoch j.0 u y (record { old = h.old; within = h.within; segment = h.segment; found = h.found; header = h.header; has = has }) in
+                  let own : Wrote n story past o.epoch j.0 u y = held_wrote n story past run i.0 o.epoch j.0 u y
+                  (record { old = h.old; within = h.within; segment = h.segment; found = h.found; header = h.header; has = has }) in
                   let same_body : c.0 ≡ y = (wrote_once n story past o.epoch j.0 j.0 u c.0 y run (maj_wrote n story past run o.epoch j.0 u c.0 c.1) own).1 in
                   to (λ z. IsOnLine n past u z) same_body (on_line n story past run o.epoch j.0 u c.0 c.1)))
                 where

@@ -8,8 +8,9 @@ use Rattle.writer_core.specs.Best.{best_of}
 use Rattle.writer_core.specs.Rounds.{start_record, batch_from}
 use Rattle.writer_core.specs.Whole.{Takeover}
 use Rattle.run_safety.proofs.Slots.{some_same}
-use Rattle.run_safety.proofs.SeenLaws.{Round, Propose, Ask, Get, Recover, Seal, Open, Write, Clean, Other, Writer, seen_at, seen_first}
-use Rattle.run_safety.proofs.Frames.{Newest, Counted, Getting, Framed, Frame, IsWriting, IsAsking, more_pieces, StepOf, asks_for, opens_at_one, opens_found_none, gets, gets_more, recovers, seals_recovered, opens_next, writes_first, seals_written, goes_on}
+use Rattle.run_safety.proofs.SeenLaws.{Round, Propose, Ask, Get, Recover, Finalizing, Open, Write, Clean, Other, Writer, seen_at, seen_first}
+use Rattle.run_safety.proofs.Frames.{Newest, Counted, Getting, Framed, Frame, IsWriting, IsAsking, more_pieces, StepOf, asks_for, opens_at_one}
+use Rattle.run_safety.proofs.Frames.{opens_found_none, gets, gets_more, recovers, seals_recovered, opens_next, writes_first, seals_written, goes_on}
 use Rattle.run_safety.proofs.Rounds.{Comes, comes, frame}
 
 -- ## The stages of a takeover
@@ -19,7 +20,7 @@ stage Propose = 0
 stage (Ask m) = 1
 stage (Get node m end bodies) = 2
 stage (Recover b) = 3
-stage (Seal m l) = 4
+stage (Finalizing m l) = 4
 stage (Open m) = 4
 stage (Write m b) = 4
 stage (Clean l) = 4
@@ -34,7 +35,7 @@ asking_stage m (Ask k) a = inl refl
 asking_stage m (Get node k end bodies) a = inr refl
 asking_stage m Propose a = absurd a
 asking_stage m (Recover b) a = absurd a
-asking_stage m (Seal k l) a = absurd a
+asking_stage m (Finalizing k l) a = absurd a
 asking_stage m (Open k) a = absurd a
 asking_stage m (Write k b) a = absurd a
 asking_stage m (Clean l) a = absurd a
@@ -47,7 +48,7 @@ writing_stage Propose w = absurd w
 writing_stage (Ask m) w = absurd w
 writing_stage (Get node m end bodies) w = absurd w
 writing_stage (Recover b) w = absurd w
-writing_stage (Seal m l) w = absurd w
+writing_stage (Finalizing m l) w = absurd w
 writing_stage (Open m) w = absurd w
 writing_stage Other w = absurd w
 
@@ -83,7 +84,8 @@ stage_later n t s (suc later) w x lt a b =
     ]
 
 -- a stage that isn't repeated has one round
-pub one_round : (n : ℕ) (t : Takeover) (s k : ℕ) (w x : Writer) → seen_at n t s ≡ Some w → seen_at n t k ≡ Some x → stage w.round ≡ stage x.round → (stage w.round ≡ 2 → ⊥) → (stage w.round ≡ 4 → ⊥) → s ≡ k
+pub one_round : (n : ℕ) (t : Takeover) (s k : ℕ) (w x : Writer) → seen_at n t s ≡ Some w → seen_at n t k ≡ Some x → stage w.round ≡ stage x.round
+    → (stage w.round ≡ 2 → ⊥) → (stage w.round ≡ 4 → ⊥) → s ≡ k
 one_round n t s k w x a b same two four = elim (cases_order s k) [
   | inl is ↦ is
   | inr other ↦ elim other [
@@ -113,7 +115,7 @@ proposal_first n t (suc s) w e is =
 pub data OpenedBy (n : ℕ) (t : Takeover) (s : ℕ) (w : Writer) (m : ℕ) : Type 0 where
   at_one : w.round ≡ Propose → Newest n (t.heard s) None → m ≡ 1 → OpenedBy n t s w m
   found_none : (slots : List Slot) → IsAsking m w.round → Counted n t m slots → best_of m slots ≡ None → OpenedBy n t s w m
-  after_seal_of : (k l : ℕ) → w.round ≡ Seal k l → m ≡ l + 1 → OpenedBy n t s w m
+  after_seal_of : (k l : ℕ) → w.round ≡ Finalizing k l → m ≡ l + 1 → OpenedBy n t s w m
 
 opened_from : (n : ℕ) (t : Takeover) (s : ℕ) (w next : Writer) (m : ℕ) → StepOf n t s w next → next.round ≡ Open m → OpenedBy n t s w m
 opened_from n t s w next m (asks_for k is o e) q = let no : Open m ≡ Ask k = sym q ∙ e in cc
@@ -124,10 +126,10 @@ opened_from n t s w next m (opens_found_none k slots a c o e) q =
 opened_from n t s w next m (gets k node end slots a g e) q = let no : Open m ≡ Get node k end [] = sym q ∙ e in cc
 opened_from n t s w next m (gets_more k node end bodies batch slots is h g e) q = let no : Open m ≡ Get node k end (more_pieces k end bodies batch) = sym q ∙ e in cc
 opened_from n t s w next m (recovers k node end bodies batch slots is h g lt e) q = let no : Open m ≡ Recover (batch_from k (more_pieces k end bodies batch)) = sym q ∙ e in cc
-opened_from n t s w next m (seals_recovered b is e) q = let no : Open m ≡ Seal b.first (last_txid b) = sym q ∙ e in cc
+opened_from n t s w next m (seals_recovered b is e) q = let no : Open m ≡ Finalizing b.first (last_txid b) = sym q ∙ e in cc
 opened_from n t s w next m (opens_next k l is e) q = let same : Open m ≡ Open (l + 1) = sym q ∙ e in after_seal_of k l is cc
 opened_from n t s w next m (writes_first k is e st co) q = let no : Open m ≡ Write k (batch_from k start_record) = sym q ∙ e in cc
-opened_from n t s w next m (seals_written k b is e) q = let no : Open m ≡ Seal w.start (last_txid b) = sym q ∙ e in cc
+opened_from n t s w next m (seals_written k b is e) q = let no : Open m ≡ Finalizing w.start (last_txid b) = sym q ∙ e in cc
 opened_from n t s w next m (goes_on a b st co) q = absurd (subst (λ r. IsWriting r) q b)
 
 pub open_before : (n : ℕ) (t : Takeover) (s : ℕ) (w : Writer) (m : ℕ) → (c : Comes n t s w) → w.round ≡ Open m → OpenedBy n t s c.writer m
@@ -156,19 +158,21 @@ recovered_from n t s w next b (recovers k node end bodies batch slots is h g lt 
     let same : Recover b ≡ Recover (batch_from k (more_pieces k end bodies batch)) = sym q ∙ e in
     let one : batch_from k (more_pieces k end bodies batch) ≡ b = cc in
     subst (λ z. RecoveredBy n t s w z) one (record { node = node; end = end; pieces = bodies; batch = batch; slots = slots; round = is; heard = h; getting = g; reached = lt; bodies = refl })
-recovered_from n t s w next b (seals_recovered k is e) q = let no : Recover b ≡ Seal k.first (last_txid k) = sym q ∙ e in cc
+recovered_from n t s w next b (seals_recovered k is e) q = let no : Recover b ≡ Finalizing k.first (last_txid k) = sym q ∙ e in cc
 recovered_from n t s w next b (opens_next k l is e) q = let no : Recover b ≡ Open (l + 1) = sym q ∙ e in cc
 recovered_from n t s w next b (writes_first k is e st co) q = let no : Recover b ≡ Write k (batch_from k start_record) = sym q ∙ e in cc
-recovered_from n t s w next b (seals_written k x is e) q = let no : Recover b ≡ Seal w.start (last_txid x) = sym q ∙ e in cc
+recovered_from n t s w next b (seals_written k x is e) q = let no : Recover b ≡ Finalizing w.start (last_txid x) = sym q ∙ e in cc
 recovered_from n t s w next b (goes_on a x st co) q = absurd (subst (λ r. IsWriting r) q x)
 
 pub recover_before : (n : ℕ) (t : Takeover) (s : ℕ) (w : Writer) (b : BatchView) → (c : Comes n t s w) → w.round ≡ Recover b → RecoveredBy n t s c.writer b
 recover_before n t s w b c q = recovered_from n t s c.writer w b c.step q
 
--- before a fetch: another one of the same segment, whose piece was heard; or none was heard yet from this node
+-- before a fetch: another one of the same segment, whose piece was heard; or none was heard yet
+-- from this node
 pub data GotBy (n : ℕ) (t : Takeover) (s : ℕ) (w : Writer) (node m end : ℕ) (pieces : List (List ℕ)) : Type 0 where
   nothing_yet : IsAsking m w.round → pieces ≡ [] → GotBy n t s w node m end pieces
-  one_more : (earlier : List (List ℕ)) (batch : BatchView) → w.round ≡ Get node m end earlier → t.heard s node ≡ Some (Edits batch) → pieces ≡ more_pieces m end earlier batch → GotBy n t s w node m end pieces
+  one_more : (earlier : List (List ℕ)) (batch : BatchView) → w.round ≡ Get node m end earlier → t.heard s node ≡ Some (Edits batch)
+      → pieces ≡ more_pieces m end earlier batch → GotBy n t s w node m end pieces
 
 got_from : (n : ℕ) (t : Takeover) (s : ℕ) (w next : Writer) (node m end : ℕ) (pieces : List (List ℕ)) → StepOf n t s w next → next.round ≡ Get node m end pieces → GotBy n t s w node m end pieces
 got_from n t s w next node m end pieces (asks_for k is o e) q = let no : Get node m end pieces ≡ Ask k = sym q ∙ e in cc
@@ -182,11 +186,12 @@ got_from n t s w next node m end pieces (gets_more k node2 end2 bodies batch slo
     let a : node2 ≡ node = cc in let b : k ≡ m = cc in let c : end2 ≡ end = cc in let d : pieces ≡ more_pieces k end2 bodies batch = cc in
     one_more bodies batch (is ∙ (ap (λ z. Get z k end2 bodies) a ∙ (ap (λ z. Get node z end2 bodies) b ∙ ap (λ z. Get node m z bodies) c))) (ap (λ z. t.heard s z) (sym a) ∙ h)
     (d ∙ (ap (λ z. more_pieces z end2 bodies batch) b ∙ ap (λ z. more_pieces m z bodies batch) c))
-got_from n t s w next node m end pieces (recovers k node2 end2 bodies batch slots is h g lt e) q = let no : Get node m end pieces ≡ Recover (batch_from k (more_pieces k end2 bodies batch)) = sym q ∙ e in cc
-got_from n t s w next node m end pieces (seals_recovered k is e) q = let no : Get node m end pieces ≡ Seal k.first (last_txid k) = sym q ∙ e in cc
+got_from n t s w next node m end pieces (recovers k node2 end2 bodies batch slots is h g lt e) q =
+    let no : Get node m end pieces ≡ Recover (batch_from k (more_pieces k end2 bodies batch)) = sym q ∙ e in cc
+got_from n t s w next node m end pieces (seals_recovered k is e) q = let no : Get node m end pieces ≡ Finalizing k.first (last_txid k) = sym q ∙ e in cc
 got_from n t s w next node m end pieces (opens_next k l is e) q = let no : Get node m end pieces ≡ Open (l + 1) = sym q ∙ e in cc
 got_from n t s w next node m end pieces (writes_first k is e st co) q = let no : Get node m end pieces ≡ Write k (batch_from k start_record) = sym q ∙ e in cc
-got_from n t s w next node m end pieces (seals_written k x is e) q = let no : Get node m end pieces ≡ Seal w.start (last_txid x) = sym q ∙ e in cc
+got_from n t s w next node m end pieces (seals_written k x is e) q = let no : Get node m end pieces ≡ Finalizing w.start (last_txid x) = sym q ∙ e in cc
 got_from n t s w next node m end pieces (goes_on a x st co) q = absurd (subst (λ r. IsWriting r) q x)
 
 pub got_before : (n : ℕ) (t : Takeover) (s : ℕ) (w : Writer) (node m end : ℕ) (pieces : List (List ℕ)) → (c : Comes n t s w) → w.round ≡ Get node m end pieces → GotBy n t s c.writer node m end pieces
@@ -200,10 +205,10 @@ asked_from n t s w next m (opens_found_none k slots a c o e) q = let no : Ask m 
 asked_from n t s w next m (gets k node end slots a g e) q = let no : Ask m ≡ Get node k end [] = sym q ∙ e in cc
 asked_from n t s w next m (gets_more k node end bodies batch slots is h g e) q = let no : Ask m ≡ Get node k end (more_pieces k end bodies batch) = sym q ∙ e in cc
 asked_from n t s w next m (recovers k node end bodies batch slots is h g lt e) q = let no : Ask m ≡ Recover (batch_from k (more_pieces k end bodies batch)) = sym q ∙ e in cc
-asked_from n t s w next m (seals_recovered k is e) q = let no : Ask m ≡ Seal k.first (last_txid k) = sym q ∙ e in cc
+asked_from n t s w next m (seals_recovered k is e) q = let no : Ask m ≡ Finalizing k.first (last_txid k) = sym q ∙ e in cc
 asked_from n t s w next m (opens_next k l is e) q = let no : Ask m ≡ Open (l + 1) = sym q ∙ e in cc
 asked_from n t s w next m (writes_first k is e st co) q = let no : Ask m ≡ Write k (batch_from k start_record) = sym q ∙ e in cc
-asked_from n t s w next m (seals_written k x is e) q = let no : Ask m ≡ Seal w.start (last_txid x) = sym q ∙ e in cc
+asked_from n t s w next m (seals_written k x is e) q = let no : Ask m ≡ Finalizing w.start (last_txid x) = sym q ∙ e in cc
 asked_from n t s w next m (goes_on a x st co) q = absurd (subst (λ r. IsWriting r) q x)
 
 pub ask_before : (n : ℕ) (t : Takeover) (s : ℕ) (w : Writer) (m : ℕ) → (c : Comes n t s w) → w.round ≡ Ask m → (c.writer.round ≡ Propose) × Newest n (t.heard s) (Some m)
@@ -225,7 +230,9 @@ asked_at n t (suc s) w m e a = by w.round refl a (λ v at b. asked_at n t s v m 
     c : Comes n t s w
     c = comes n t s w e
 
-    by : (r : Round) → w.round ≡ r → IsAsking m r → ((v : Writer) → seen_at n t s ≡ Some v → IsAsking m v.round → (x : Writer) × (seen_at n t 1 ≡ Some x) × (x.round ≡ Ask m) × (1 ≤ s)) → (x : Writer) × (seen_at n t 1 ≡ Some x) × (x.round ≡ Ask m) × (1 ≤ suc s)
+    by : (r : Round) → w.round ≡ r → IsAsking m r → ((v : Writer) → seen_at n t s ≡ Some v → IsAsking m v.round
+        → (x : Writer) × (seen_at n t 1 ≡ Some x) × (x.round ≡ Ask m) × (1 ≤ s))
+        → (x : Writer) × (seen_at n t 1 ≡ Some x) × (x.round ≡ Ask m) × (1 ≤ suc s)
     by (Ask k) is b again =
         (let one : suc s ≡ 1 = ask_round n t (suc s) w k e is in
         (w, subst (λ z. seen_at n t z ≡ Some w) one e, is ∙ ap (λ z. Ask z) b, omega arith))
@@ -236,7 +243,7 @@ asked_at n t (suc s) w m e a = by w.round refl a (λ v at b. asked_at n t s v m 
         got (one_more old batch before h more) = (let y = again c.writer c.at (subst (λ z. IsAsking m z) (sym before) b) in (y.0, y.1, y.2, omega arith))
     by Propose is b again = absurd b
     by (Recover x) is b again = absurd b
-    by (Seal k l) is b again = absurd b
+    by (Finalizing k l) is b again = absurd b
     by (Open k) is b again = absurd b
     by (Write k x) is b again = absurd b
     by (Clean l) is b again = absurd b
@@ -247,24 +254,25 @@ pub data SealedBy (w : Writer) (m l : ℕ) : Type 0 where
   a_recovery : (b : BatchView) → w.round ≡ Recover b → m ≡ b.first → l ≡ last_txid b → SealedBy w m l
   a_write : (b : BatchView) → w.round ≡ Write m b → w.start ≡ m → l ≡ last_txid b → SealedBy w m l
 
-sealed_from : (n : ℕ) (t : Takeover) (s : ℕ) (w next : Writer) (m l : ℕ) → Frame w → StepOf n t s w next → next.round ≡ Seal m l → SealedBy w m l
-sealed_from n t s w next m l f (asks_for k is o e) q = let no : Seal m l ≡ Ask k = sym q ∙ e in cc
-sealed_from n t s w next m l f (opens_at_one is o e) q = let no : Seal m l ≡ Open 1 = sym q ∙ e in cc
-sealed_from n t s w next m l f (opens_found_none k slots a c o e) q = let no : Seal m l ≡ Open k = sym q ∙ e in cc
-sealed_from n t s w next m l f (gets k node end slots a g e) q = let no : Seal m l ≡ Get node k end [] = sym q ∙ e in cc
-sealed_from n t s w next m l f (gets_more k node end bodies batch slots is h g e) q = let no : Seal m l ≡ Get node k end (more_pieces k end bodies batch) = sym q ∙ e in cc
-sealed_from n t s w next m l f (recovers k node end bodies batch slots is h g lt e) q = let no : Seal m l ≡ Recover (batch_from k (more_pieces k end bodies batch)) = sym q ∙ e in cc
-sealed_from n t s w next m l f (seals_recovered b is e) q = let same : Seal m l ≡ Seal b.first (last_txid b) = sym q ∙ e in let start : m ≡ b.first = cc in let last : l ≡ last_txid b = cc in a_recovery b is start last
-sealed_from n t s w next m l f (opens_next k j is e) q = let no : Seal m l ≡ Open (j + 1) = sym q ∙ e in cc
-sealed_from n t s w next m l f (writes_first k is e st co) q = let no : Seal m l ≡ Write k (batch_from k start_record) = sym q ∙ e in cc
+sealed_from : (n : ℕ) (t : Takeover) (s : ℕ) (w next : Writer) (m l : ℕ) → Frame w → StepOf n t s w next → next.round ≡ Finalizing m l → SealedBy w m l
+sealed_from n t s w next m l f (asks_for k is o e) q = let no : Finalizing m l ≡ Ask k = sym q ∙ e in cc
+sealed_from n t s w next m l f (opens_at_one is o e) q = let no : Finalizing m l ≡ Open 1 = sym q ∙ e in cc
+sealed_from n t s w next m l f (opens_found_none k slots a c o e) q = let no : Finalizing m l ≡ Open k = sym q ∙ e in cc
+sealed_from n t s w next m l f (gets k node end slots a g e) q = let no : Finalizing m l ≡ Get node k end [] = sym q ∙ e in cc
+sealed_from n t s w next m l f (gets_more k node end bodies batch slots is h g e) q = let no : Finalizing m l ≡ Get node k end (more_pieces k end bodies batch) = sym q ∙ e in cc
+sealed_from n t s w next m l f (recovers k node end bodies batch slots is h g lt e) q = let no : Finalizing m l ≡ Recover (batch_from k (more_pieces k end bodies batch)) = sym q ∙ e in cc
+sealed_from n t s w next m l f (seals_recovered b is e) q = let same : Finalizing m l ≡ Finalizing b.first (last_txid b) = sym q ∙ e in let start : m ≡ b.first =
+    cc in let last : l ≡ last_txid b = cc in a_recovery b is start last
+sealed_from n t s w next m l f (opens_next k j is e) q = let no : Finalizing m l ≡ Open (j + 1) = sym q ∙ e in cc
+sealed_from n t s w next m l f (writes_first k is e st co) q = let no : Finalizing m l ≡ Write k (batch_from k start_record) = sym q ∙ e in cc
 sealed_from n t s w next m l f (seals_written k b is e) q =
-    let same : Seal m l ≡ Seal w.start (last_txid b) = sym q ∙ e in
+    let same : Finalizing m l ≡ Finalizing w.start (last_txid b) = sym q ∙ e in
     let start : m ≡ w.start = cc in
     let own : w.start ≡ k = (subst (λ r. Framed w r) is f).1 in
     a_write b (is ∙ ap (λ z. Write z b) (sym (start ∙ own))) (sym start) cc
 sealed_from n t s w next m l f (goes_on a x st co) q = absurd (subst (λ r. IsWriting r) q x)
 
-pub seal_before : (n : ℕ) (t : Takeover) (s : ℕ) (w : Writer) (m l : ℕ) → (c : Comes n t s w) → w.round ≡ Seal m l → SealedBy c.writer m l
+pub seal_before : (n : ℕ) (t : Takeover) (s : ℕ) (w : Writer) (m l : ℕ) → (c : Comes n t s w) → w.round ≡ Finalizing m l → SealedBy c.writer m l
 seal_before n t s w m l c q = sealed_from n t s c.writer w m l (frame n t s c.writer c.at) c.step q
 
 -- ## When the segment that is written was opened
@@ -280,7 +288,8 @@ pub record OpenedAt (n : ℕ) (t : Takeover) (s start : ℕ) : Type 0 where
   pub opens : writer.round ≡ Open start
   pub writes : Writes n t round s start
 
-more_writes : (n : ℕ) (t : Takeover) (opened s start : ℕ) (w : Writer) → seen_at n t (suc s) ≡ Some w → IsWriting w.round → w.start ≡ start → Writes n t opened s start → Writes n t opened (suc s) start
+more_writes : (n : ℕ) (t : Takeover) (opened s start : ℕ) (w : Writer) → seen_at n t (suc s) ≡ Some w → IsWriting w.round → w.start ≡ start
+    → Writes n t opened s start → Writes n t opened (suc s) start
 more_writes n t opened s start w at writing is old = λ k x lt le e. elim (cases_lt s k) [
   | inr below ↦ old k x lt below e
   | inl above ↦ (let same : k ≡ suc s = omega arith in

@@ -15,9 +15,9 @@ use Rattle.journal_core.specs.declared.heard.Heard.TheVariants.{Answer as Answer
 use Rattle.writer_core.specs.declared.slot.Slot.TheVariants.{Told}
 use Rattle.writer_core.specs.Best.{Best, best_of, segment_told}
 use Rattle.run_safety.specs.Majority.{Member}
-use Rattle.node_history.specs.Entries.{Entry, node_after, Earlier}
+use Rattle.journal_history.specs.Entries.{Entry, node_after, Earlier}
 use Rattle.run_safety.specs.Run.{Story, Follows}
-use Rattle.run_safety.proofs.SeenLaws.{Seal, Open, Clean, Writer, seen_at, seen_first}
+use Rattle.run_safety.proofs.SeenLaws.{Finalizing, Open, Clean, Writer, seen_at, seen_first}
 use Rattle.run_safety.proofs.Places.{Earlier-trans, Earlier-tail, Follows-earlier}
 use Rattle.run_safety.proofs.Majorities.{majorities_share}
 use Rattle.journal_core.proofs.SegmentLists.{find-start}
@@ -51,7 +51,9 @@ told_some (Some k) g is edit =
 -- a told segment stands there
 told_from : (o : Option Segment) (info : SegmentInfo) → told_of o ≡ Some info → (g : Segment) × (o ≡ Some g) × (info_of g ≡ info)
 told_from None info is = none≢some info is
-told_from (Some k) info is = cond_both (has_edit k) (Some (info_of k)) None (λ o. o ≡ Some info → (g : Segment) × (◌≡◌ {A = Option Segment} (Some k) (Some g)) × (info_of g ≡ info)) (λ t e. (k, refl, some_same e)) (λ f e. none≢some info e) is
+told_from (Some k) info is = cond_both (has_edit k) (Some (info_of k)) None
+    (λ o. o ≡ Some info → (g : Segment) × (◌≡◌ {A = Option Segment} (Some k) (Some g)) × (info_of g ≡ info)) (λ t e. (k, refl, some_same e))
+    (λ f e. none≢some info e) is
 
 module _ (n : ℕ) (story : Story) (past : List Entry) (run : Follows n story past) (f m : ℕ) (x : Asking n story past run f m) where
   -- a round after the prepare is no earlier than the third
@@ -111,7 +113,8 @@ module _ (n : ℕ) (story : Story) (past : List Entry) (run : Follows n story pa
       abbrev Whole : Option Segment → Type 0
       Whole o = (g : Segment) × (o ≡ Some g) × (g.is_final ≡ true) × (end_of g ≡ d.end) × (has_edit g ≡ true)
 
-      whole_purge : (i : ℕ) (y : AnswerAt n story past run f m x i) (r : Request) (h : HeadView) (l : ℕ) → r ≡ Purge h l → (z : OfRound n story y.old r) → (g : Segment) → end_of g ≡ d.end → has_edit g ≡ true →
+      whole_purge : (i : ℕ) (y : AnswerAt n story past run f m x i) (r : Request) (h : HeadView) (l : ℕ) → r ≡ Purge h l
+          → (z : OfRound n story y.old r) → (g : Segment) → end_of g ≡ d.end → has_edit g ≡ true →
           e ≤ h.epoch → h.epoch < f → last_or_start g ≤ h.committed → ⊥
       whole_purge i y r h l q z g ends edit le lt low = elim (cases_order e h.epoch) [
         | inl same_epoch ↦ own same_epoch (cases_order z.w.start m)
@@ -145,12 +148,16 @@ module _ (n : ℕ) (story : Story) (past : List Entry) (run : Follows n story pa
           own : e ≡ h.epoch → (z.w.start ≡ m) ⊎ ((z.w.start < m) ⊎ (m < z.w.start)) → ⊥
           own same_epoch (inr (inr gt)) = omega (arith, start_le)
           own same_epoch (inr (inl lower)) =
-              (let one : z.a ≡ wrote_it.a = one_owner n story past z.a wrote_it.a z.s wrote_it.s z.w wrote_it.w run sent_z wrote_it.sent zs (later_round n story past wrote_it.a wrote_it.s wrote_it.w m u wrote_it.sent wrote_it.covers) (sym pr.1 ∙ (sym same_epoch ∙ sym wrote_it.epoch)) in
-              let c : z.w.committed < m = clean_below_start n (story.takeover wrote_it.a) z.s wrote_it.s z.w wrote_it.w l m u (to (λ k. seen_at n (story.takeover k) z.s ≡ Some z.w) one sent_z.at) wrote_it.sent.at pr.0 wrote_it.covers lower in
+              (let one : z.a ≡ wrote_it.a = one_owner n story past z.a wrote_it.a z.s wrote_it.s z.w wrote_it.w run sent_z wrote_it.sent zs
+              (later_round n story past wrote_it.a wrote_it.s wrote_it.w m u wrote_it.sent wrote_it.covers)
+              (sym pr.1 ∙ (sym same_epoch ∙ sym wrote_it.epoch)) in
+              let c : z.w.committed < m = clean_below_start n (story.takeover wrote_it.a) z.s wrote_it.s z.w wrote_it.w l m u
+              (to (λ k. seen_at n (story.takeover k) z.s ≡ Some z.w) one sent_z.at) wrote_it.sent.at pr.0 wrote_it.covers lower in
               omega (arith, low_end, frame_d.2))
           own same_epoch (inl start) =
               (let one : z.a ≡ d.a = one_owner n story past z.a d.a z.s d.s z.w d.w run sent_z d.sent zs (omega (arith, d.earlier)) (sym pr.1 ∙ (sym same_epoch ∙ sym d.epoch)) in
-              let c : z.w.committed < d.end = clean_below_seal n (story.takeover d.a) z.s d.round z.w d.writer l d.end (to (λ k. seen_at n (story.takeover k) z.s ≡ Some z.w) one sent_z.at) d.at pr.0 (d.is ∙ ap (λ k. Seal k d.end) (sym start)) in
+              let c : z.w.committed < d.end = clean_below_seal n (story.takeover d.a) z.s d.round z.w d.writer l d.end
+              (to (λ k. seen_at n (story.takeover k) z.s ≡ Some z.w) one sent_z.at) d.at pr.0 (d.is ∙ ap (λ k. Finalizing k d.end) (sym start)) in
               omega (arith, low_end))
 
       whole_change : (i : ℕ) (y : AnswerAt n story past run f m x i) (old : List Entry) (o new : Option Segment) (r : Request) → Change (node_after i old) r m o new → (z : OfRound n story y.old r) →
@@ -163,7 +170,8 @@ module _ (n : ℕ) (story : Story) (past : List Entry) (run : Follows n story pa
       whole_change i y old (Some k) new r (removed h l q newer low shut) z lt up w =
           let one : w.0 ≡ k = sym (some_same w.1) in
           let pr = purge_round (story.takeover z.a).epoch z.s z.w.committed z.w.round h l (sym q ∙ z.is) in
-          absurd (whole_purge i y r h l q z k (to (λ v. end_of v ≡ d.end) one w.3) (to (λ v. has_edit v ≡ true) one w.4) (up h (ap head_of q)) (lt h (ap head_of q) (to IsWork (sym pr.0) tt) (sym pr.1)) low)
+          absurd (whole_purge i y r h l q z k (to (λ v. end_of v ≡ d.end) one w.3) (to (λ v. has_edit v ≡ true) one w.4) (up h (ap head_of q))
+          (lt h (ap head_of q) (to IsWork (sym pr.0) tt) (sym pr.1)) low)
 
       pub whole_at_answer : (i : ℕ) × (y : AnswerAt n story past run f m x i) × Whole (find_segment m (node_after i y.old).segments)
       whole_at_answer = (
@@ -197,7 +205,7 @@ module _ (n : ℕ) (story : Story) (past : List Entry) (run : Follows n story pa
           writer = some_same (sym fs.at ∙ d.at)
 
           ok : OkAt d.sent.old i (Finalize head m d.end)
-          ok = (let r = fs.each i share.1 in ok_at n story d.sent.old d.a d.round fs.w i r.0 (Seal m d.end) (ap (λ z. z.round) writer ∙ d.is) r.1)
+          ok = (let r = fs.each i share.1 in ok_at n story d.sent.old d.a d.round fs.w i r.0 (Finalizing m d.end) (ap (λ z. z.round) writer ∙ d.is) r.1)
 
           held : FinalizeHeld (node_after i ok.old) head m d.end
           held = finalize_held (node_after i ok.old) head m d.end ok.passed_by
@@ -206,7 +214,8 @@ module _ (n : ℕ) (story : Story) (past : List Entry) (run : Follows n story pa
           start = (held.held, ap (λ z. find_segment m z.segments) ok.state ∙ held.found, held.final, held.ends, held.edit)
 
           promise : (node_after i (ok.entry ∷ ok.old)).promised ≡ e
-          promise = (let p : (node_after i (ok.entry ∷ ok.old)).promised ≡ max (node_after i ok.old).promised head.epoch = ap (λ z. z.promised) (ok.state ∙ ok.passed_by.state) ∙ promise_done (node_after i ok.old) (Finalize head m d.end) (λ z. z) in
+          promise = (let p : (node_after i (ok.entry ∷ ok.old)).promised ≡ max (node_after i ok.old).promised head.epoch =
+              ap (λ z. z.promised) (ok.state ∙ ok.passed_by.state) ∙ promise_done (node_after i ok.old) (Finalize head m d.end) (λ z. z) in
               let le : (node_after i ok.old).promised ≤ head.epoch = front_le (node_after i ok.old) (Finalize head m d.end) head refl ok.passed_by.at_once in omega (arith, d.epoch))
 
     -- ## A told segment that is high enough
@@ -238,7 +247,8 @@ module _ (n : ℕ) (story : Story) (past : List Entry) (run : Follows n story pa
     -- the best told segment ranks at least as high
     pub best_top : IsTop (info_of high_at.segment) (best_of m x.slots)
     best_top = best_is_top m 1 x.slots high_at.node (Told (AnswerHeard (Prepared high_at.answer.writer high_at.answer.known high_at.answer.segment))) (info_of high_at.segment) high_at.answer.at
-        (ap (λ z. segment_told z (Prepared high_at.answer.writer high_at.answer.known high_at.answer.segment)) high_at.answer.fits ∙ (high_at.answer.tells ∙ told_some _ high_at.segment high_at.found high_at.edit))
+        (ap (λ z. segment_told z (Prepared high_at.answer.writer high_at.answer.known high_at.answer.segment)) high_at.answer.fits
+        ∙ (high_at.answer.tells ∙ told_some _ high_at.segment high_at.found high_at.edit))
 
     rank_high : (g best : Segment) → RankLe (info_of g) (info_of best) → g.start ≡ m → best.start ≡ m → HighEnough n story past run e m u g → HighEnough n story past run e m u best
     rank_high g best r gs bs (inl final) = inl (r.final final)
@@ -290,4 +300,6 @@ module _ (n : ℕ) (story : Story) (past : List Entry) (run : Follows n story pa
         top = to (λ o. IsTop (info_of high_at.segment) o) is best_top
 
         high : HighEnough n story past run e m u g.0
-        high = rank_high high_at.segment g.0 (to (λ z. RankLe (info_of high_at.segment) z) (sym g.2) top) (find-start m (node_after high_at.node high_at.answer.old).segments high_at.segment high_at.found) (find-start m (node_after best.node y.old).segments g.0 g.1) high_at.high
+        high = rank_high high_at.segment g.0 (to (λ z. RankLe (info_of high_at.segment) z) (sym g.2) top)
+            (find-start m (node_after high_at.node high_at.answer.old).segments high_at.segment high_at.found)
+            (find-start m (node_after best.node y.old).segments g.0 g.1) high_at.high

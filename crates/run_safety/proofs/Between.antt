@@ -1,4 +1,5 @@
--- What may come at a node before its answer to a prepare: only requests of lower epochs; and what stands between a purge and a later segment.
+-- What may come at a node before its answer to a prepare: only requests of lower epochs; and what
+-- stands between a purge and a later segment.
 use Rattle.std.proofs.Common.{◌≡◌, ℕ, zero, suc, ◌+◌, ◌-◌, ◌<◌, ◌≤◌, max, ◌⊎◌, List, ◌∷◌, Option, Some, None, refl, inl, inr, arith, sym, ap, ◌∙◌}
 use Rattle.std.proofs.lemmas.Bool.{cases_lt, cases_eq}
 use Rattle.journal_core.specs.Effects.{after_effects}
@@ -12,8 +13,8 @@ use Rattle.journal_core.specs.declared.request.Request.{Request}
 use Rattle.journal_core.specs.declared.request.Request.TheVariants.{State, NewEpoch, Start, Journal, Finalize, Prepare, Fetch, Accept, Purge, Read, Manifest}
 use Rattle.journal_core.specs.declared.segment.Segment.{Segment}
 use Rattle.writer_core.specs.Whole.{Takeover}
-use Rattle.node_history.specs.Entries.{Entry, Move, Answer, Stop, Way, after_move, node_after, Earlier, now, before}
-use Rattle.run_safety.proofs.SeenLaws.{Round, Propose, Ask, Get, Open, Other, Recover, Seal, Write, Clean, Writer, seen_at}
+use Rattle.journal_history.specs.Entries.{Entry, Move, Answer, Stop, Way, after_move, node_after, Earlier, now, before}
+use Rattle.run_safety.proofs.SeenLaws.{Round, Propose, Ask, Get, Open, Other, Recover, Finalizing, Write, Clean, Writer, seen_at}
 use Rattle.journal_core.proofs.Steps.{Acted, at_once, by_row, done, acted, none≢some}
 use Rattle.journal_core.proofs.SegmentLaws.{stopped_is_promised}
 use Rattle.journal_core.proofs.Changes.{Change, same, created, grown, made_final, replaced, removed}
@@ -21,7 +22,8 @@ use Rattle.journal_core.proofs.Opened.{promise_done, IsProposal}
 use Rattle.run_safety.proofs.Along.{Requested, entry_change, frozen}
 use Rattle.run_safety.proofs.Slots.{some_same}
 use Rattle.run_safety.proofs.Rounds.{frame, Comes, comes}
-use Rattle.run_safety.proofs.Frames.{end_below, IsWriting, StepOf, asks_for, opens_at_one, opens_found_none, recovers, seals_recovered, opens_next, writes_first, seals_written, goes_on, gets, gets_more, IsAsking}
+use Rattle.run_safety.proofs.Frames.{end_below, IsWriting, StepOf, asks_for, opens_at_one, opens_found_none, recovers, seals_recovered, opens_next}
+use Rattle.run_safety.proofs.Frames.{writes_first, seals_written, goes_on, gets, gets_more, IsAsking}
 use Rattle.run_safety.proofs.Spans.{Covers, covers_end, Against, below_it, opens_it, in_it, against, write_start, covers_in, covers≢open}
 use Rattle.run_safety.proofs.Sent.{to}
 use Rattle.run_safety.proofs.Shapes.{HeldAt}
@@ -74,7 +76,8 @@ request_of : (s : NodeState) (move : Move) (c : ℕ) (y : Way) (r q : Request) (
 request_of s move c y r q reply is (inl x) = let both : Answer x.0 x.1 r x.2 ≡ Answer c y q reply = sym x.3 ∙ is in cc
 request_of s move c y r q reply is (inr x) = let no : Stop x.0 x.1 r x.2 ≡ Answer c y q reply = sym x.3 ∙ is in cc
 
-pub asking_entry : (i m : ℕ) (e : Entry) (old : List Entry) (c : ℕ) (y : Way) (q : Request) (reply : Reply) → e.move ≡ Answer c y q reply → OnlyAsks q → find_segment m (node_after i (e ∷ old)).segments ≡ find_segment m (node_after i old).segments
+pub asking_entry : (i m : ℕ) (e : Entry) (old : List Entry) (c : ℕ) (y : Way) (q : Request) (reply : Reply) → e.move ≡ Answer c y q reply → OnlyAsks q
+    → find_segment m (node_after i (e ∷ old)).segments ≡ find_segment m (node_after i old).segments
 asking_entry i m e old c y q reply is a = elim (entry_change i e old m) [
   | inl same_one ↦ same_one
   | inr x ↦ asking_same (node_after i old) x.by.request m _ _ (to OnlyAsks (sym (request_of (node_after i old) e.move c y x.by.request q reply is x.by.asked)) a) x.by.change
@@ -86,9 +89,11 @@ place_order now p = inr p
 place_order {x} {q} {xs} (before a) now = inl a
 place_order (before a) (before b) = place_order a b
 
--- where a segment under e was held at some place, it was so before a place that raises the promise above e
+-- where a segment under e was held at some place, it was so before a place that raises the promise
+-- above e
 pub held_before : (i e m t : ℕ) (body : List ℕ) (x : Entry) (xs past : List Entry) → HeldAt past i e m t body → Earlier (x ∷ xs) past → e < (node_after i (x ∷ xs)).promised →
-    (find_segment m (node_after i (x ∷ xs)).segments ≡ find_segment m (node_after i xs).segments) → (q : List Entry) × (g : Segment) × Earlier q xs × (find_segment m (node_after i q).segments ≡ Some g) × (g.epoch ≡ e) × HasAt g t body
+    (find_segment m (node_after i (x ∷ xs)).segments ≡ find_segment m (node_after i xs).segments)
+    → (q : List Entry) × (g : Segment) × Earlier q xs × (find_segment m (node_after i q).segments ≡ Some g) × (g.epoch ≡ e) × HasAt g t body
 held_before i e m t body x xs past h p lt quiet = elim (place_order h.within p) [
   | inl a ↦ (h.old, h.segment, a, h.found, h.header, h.has)
   | inr b ↦ (xs, h.segment, now, sym quiet ∙ frozen i m h.segment b h.found (omega (arith, h.header)), h.header, h.has)
@@ -101,7 +106,7 @@ pub record SealedAt (n : ℕ) (t : Takeover) (s m : ℕ) : Type 0 where
   pub writer : Writer
   pub at : seen_at n t round ≡ Some writer
   pub end : ℕ
-  pub is : writer.round ≡ Seal m end
+  pub is : writer.round ≡ Finalizing m end
 
 not_both : (m : ℕ) (r : Round) → IsAsking m r → IsWriting r → ⊥
 not_both m (Write k b) a w = a
@@ -110,12 +115,15 @@ not_both m Propose a w = w
 not_both m (Ask k) a w = w
 not_both m (Get i k l bodies) a w = w
 not_both m (Recover b) a w = w
-not_both m (Seal k l) a w = w
+not_both m (Finalizing k l) a w = w
 not_both m (Open k) a w = w
 not_both m Other a w = w
 
-still_or_sealed : (n : ℕ) (t : Takeover) (s d m : ℕ) (w x : Writer) → seen_at n t s ≡ Some w → IsWriting w.round → w.start ≡ m → seen_at n t (d + s) ≡ Some x → (IsWriting x.round × (x.start ≡ m)) ⊎ SealedAt n t (d + s) m
-still_or_sealed n t s zero m w x a writing is b = inl (let one : w ≡ x = some_same (sym a ∙ (ap (λ z. seen_at n t z) (let h : s ≡ 0 + s = omega arith in h) ∙ b)) in to (λ z. IsWriting z.round × (z.start ≡ m)) one (writing, is))
+still_or_sealed : (n : ℕ) (t : Takeover) (s d m : ℕ) (w x : Writer) → seen_at n t s ≡ Some w → IsWriting w.round → w.start ≡ m
+    → seen_at n t (d + s) ≡ Some x → (IsWriting x.round × (x.start ≡ m)) ⊎ SealedAt n t (d + s) m
+still_or_sealed n t s zero m w x a writing is b = inl (let one : w ≡ x =
+    some_same (sym a ∙ (ap (λ z. seen_at n t z) (let h : s ≡ 0 + s = omega arith in h) ∙ b)) in to (λ z. IsWriting z.round × (z.start ≡ m)) one
+    (writing, is))
 still_or_sealed n t s (suc d) m w x a writing is b = next (still_or_sealed n t s d m w c.writer a writing is c.at)
   where
     there : seen_at n t (suc (d + s)) ≡ Some x
@@ -134,7 +142,7 @@ still_or_sealed n t s (suc d) m w x a writing is b = next (still_or_sealed n t s
     step y z (seals_recovered k q e) = absurd (to (λ r. IsWriting r) q y)
     step y z (opens_next k l q e) = absurd (to (λ r. IsWriting r) q y)
     step y z (writes_first k q e st co) = absurd (to (λ r. IsWriting r) q y)
-    step y z (seals_written k k2 q e) = inr (record { round = suc d + s; before = omega arith; writer = x; at = b; end = last_txid k2; is = e ∙ ap (λ u. Seal u (last_txid k2)) z })
+    step y z (seals_written k k2 q e) = inr (record { round = suc d + s; before = omega arith; writer = x; at = b; end = last_txid k2; is = e ∙ ap (λ u. Finalizing u (last_txid k2)) z })
     step y z (goes_on p q e co) = inl (q, e ∙ z)
 
     next : (IsWriting c.writer.round × (c.writer.start ≡ m)) ⊎ SealedAt n t (d + s) m → (IsWriting x.round × (x.start ≡ m)) ⊎ SealedAt n t (suc d + s) m
@@ -142,7 +150,8 @@ still_or_sealed n t s (suc d) m w x a writing is b = next (still_or_sealed n t s
     next (inr y) = inr (record { round = y.round; before = (let h : y.round ≤ d + s = y.before in omega arith); writer = y.writer; at = y.at; end = y.end; is = y.is })
 
 -- a purge from m, and a later segment that was written: m was finalised before that
-pub sealed_between : (n : ℕ) (t : Takeover) (s k : ℕ) (w x : Writer) (min m l : ℕ) → seen_at n t s ≡ Some w → w.round ≡ Clean min → w.start ≡ m → seen_at n t k ≡ Some x → Covers x l l → m < l → (y : SealedAt n t k m) × (y.round < k)
+pub sealed_between : (n : ℕ) (t : Takeover) (s k : ℕ) (w x : Writer) (min m l : ℕ) → seen_at n t s ≡ Some w → w.round ≡ Clean min → w.start ≡ m
+    → seen_at n t k ≡ Some x → Covers x l l → m < l → (y : SealedAt n t k m) × (y.round < k)
 sealed_between n t s k w x min m l a is start b c above = elim (cases_lt s k) [
   | inr le ↦ absurd (place (against n t k s x w le b a (to (λ r. IsWriting r) (sym is) tt)))
   | inl lt ↦ by_cover lt c.is
@@ -153,7 +162,8 @@ sealed_between n t s k w x min m l a is start b c above = elim (cases_lt s k) [
     place (opens_it q) = covers≢open x w.start l l c q
     place (in_it p q) = (let same_start : l ≡ w.start = covers_in x w.start l l (frame n t k x b) c p q in omega (arith, start))
 
-    finish : s < k → ((IsWriting x.round × (x.start ≡ m)) ⊎ SealedAt n t (k - s + s) m) → (x.round ≡ Recover c.batch) × (c.batch.first ≡ l) ⊎ (x.round ≡ Write l c.batch) → (y : SealedAt n t k m) × (y.round < k)
+    finish : s < k → ((IsWriting x.round × (x.start ≡ m)) ⊎ SealedAt n t (k - s + s) m)
+        → (x.round ≡ Recover c.batch) × (c.batch.first ≡ l) ⊎ (x.round ≡ Write l c.batch) → (y : SealedAt n t k m) × (y.round < k)
     finish lt (inl y) (inl z) = absurd (to (λ r. IsWriting r) z.0 y.0)
     finish lt (inl y) (inr z) = (let same_start : x.start ≡ l = write_start x l c.batch (frame n t k x b) z in absurd (omega (arith, y.1)))
     finish lt (inr y) z = (let e : k - s + s ≡ k = omega arith in let le : y.round ≤ k - s + s = y.before in (
@@ -164,9 +174,9 @@ sealed_between n t s k w x min m l a is start b c above = elim (cases_lt s k) [
       ],
     ))
       where
-        clash : {e : ℕ} → (x.round ≡ Recover c.batch) × (c.batch.first ≡ l) ⊎ (x.round ≡ Write l c.batch) → x.round ≡ Seal m e → ⊥
-        clash {e} (inl q) r = let no : Recover c.batch ≡ Seal m e = sym q.0 ∙ r in cc
-        clash {e} (inr q) r = let no : Write l c.batch ≡ Seal m e = sym q ∙ r in cc
+        clash : {e : ℕ} → (x.round ≡ Recover c.batch) × (c.batch.first ≡ l) ⊎ (x.round ≡ Write l c.batch) → x.round ≡ Finalizing m e → ⊥
+        clash {e} (inl q) r = let no : Recover c.batch ≡ Finalizing m e = sym q.0 ∙ r in cc
+        clash {e} (inr q) r = let no : Write l c.batch ≡ Finalizing m e = sym q ∙ r in cc
 
     by_cover : s < k → (x.round ≡ Recover c.batch) × (c.batch.first ≡ l) ⊎ (x.round ≡ Write l c.batch) → (y : SealedAt n t k m) × (y.round < k)
     by_cover lt z = finish lt (still_or_sealed n t s (k - s) m w x a (to (λ r. IsWriting r) (sym is) tt) start (ap (λ q. seen_at n t q) (let e : k - s + s ≡ k = omega arith in e) ∙ b)) z

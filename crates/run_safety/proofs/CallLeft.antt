@@ -5,9 +5,9 @@ use Rattle.journal_core.specs.declared.reply.Reply.{Reply}
 use Rattle.journal_core.specs.declared.heard.Heard.{Heard as HeardOf}
 use Rattle.journal_core.specs.declared.heard.Heard.TheVariants as told
 use Rattle.writer_core.proofs.Plain.{plain_heard}
-use Rattle.node_history.specs.Entries.{Heard, Muted, Late, Move, Answer, Stop, Entry}
+use Rattle.journal_history.specs.Entries.{Heard, Muted, Late, Move, Answer, Stop, Entry}
 use Rattle.run_safety.specs.Run.{Story, IsInTurn, IsInOrder}
-use Rattle.node_history.specs.Moving.{epoch_of}
+use Rattle.journal_history.specs.Moving.{epoch_of}
 use Rattle.run_safety.proofs.Tales.{Tale, IsMadeAt, made_here}
 use Rattle.run_safety.proofs.Fair.{IsFairEntry}
 
@@ -29,11 +29,13 @@ EntersHeard n past caller node r reply =
     (b : Tale) (k s : ℕ) → b.story.whose (length past) ≡ k → b.story.round (length past) ≡ s → IsMadeAt n b past k s caller node r
     → IsInOrder b.story past node → (b.story.takeover k).heard s node ≡ Some reply → IsFairEntry n b.story past (entry node (Answer caller Heard r reply))
 
--- A call that left nothing: it was refused at once, or not delivered. Else it left an entry, and its caller heard nothing, or its answer.
+-- A call that left nothing: it was refused at once, or not delivered. Else it left an entry, and
+-- its caller heard nothing, or its answer.
 pub data CallLeft (n : ℕ) (past : List Entry) (caller node : ℕ) (r : Request) (d : HeardOf) (next : List Entry) : Type 0 where
   nothing : next ≡ past → (HasEpoch r → plain_heard d ≡ told.Silent) → CallLeft n past caller node r d next
   unheard : (move : Move) → next ≡ entry node move ∷ past → plain_heard d ≡ told.Silent → (IsInTurn move → HasEpoch r) → Enters n past caller node r move → CallLeft n past caller node r d next
-  answered : (reply : Reply) → next ≡ entry node (Answer caller Heard r reply) ∷ past → d ≡ told.Answer reply → HasEpoch r → EntersHeard n past caller node r reply → CallLeft n past caller node r d next
+  answered : (reply : Reply) → next ≡ entry node (Answer caller Heard r reply) ∷ past → d ≡ told.Answer reply → HasEpoch r
+      → EntersHeard n past caller node r reply → CallLeft n past caller node r d next
 
 -- ## The entries of an answer and of a stop
 pub enters_answer : (n : ℕ) (past : List Entry) (caller node : ℕ) (r : Request) (reply : Reply) → HasEpoch r → EntersHeard n past caller node r reply

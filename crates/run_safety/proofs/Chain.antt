@@ -7,7 +7,7 @@ use Rattle.journal_core.specs.declared.request.Request.TheVariants.{Finalize}
 use Rattle.journal_core.specs.declared.reply.Reply.TheVariants.{Ok}
 use Rattle.journal_core.specs.declared.segment.Segment.{Segment}
 use Rattle.run_safety.specs.Majority.{Member}
-use Rattle.node_history.specs.Entries.{Heard, Entry}
+use Rattle.journal_history.specs.Entries.{Heard, Entry}
 use Rattle.run_safety.specs.Run.{Story, Follows}
 use Rattle.run_safety.specs.Safe.{IsHeld, SaidOk}
 use Rattle.run_safety.specs.Parts.{IsFinalised}
@@ -79,7 +79,8 @@ module _ (n : ℕ) (story : Story) (past : List Entry) (run : Follows n story pa
     | inl above ↦ elim (cases_lt l g.start) [
       | inl after ↦ inr after
       | inr within ↦ absurd (between e m l g.epoch g.start first.0 (finalised_sent e m l f)
-          (held_wrote n story past run i g.epoch g.start g.start first.0 (record { old = held.0; within = held.1; segment = g; found = held.2; header = refl; has = (0, omega arith, first.1) })) above within)
+          (held_wrote n story past run i g.epoch g.start g.start first.0
+          (record { old = held.0; within = held.1; segment = g; found = held.2; header = refl; has = (0, omega arith, first.1) })) above within)
     ]
   ]
     where

@@ -1,5 +1,6 @@
 -- A test of runs over finite tables, and that what passes it is a run.
-use Rattle.std.proofs.Common.{◌≡◌, ◌≢◌, ℕ, ◌<◌, ◌⊎◌, ◌==◌, ◌&&◌, ◌||◌, Bool, true, false, not, List, [], ◌∷◌, length, get_or, Option, Some, None, refl, inl, inr, arith, subst, sym, ap, ◌∙◌, nat_lt, nat_le}
+use Rattle.std.proofs.Common.{◌≡◌, ◌≢◌, ℕ, ◌<◌, ◌⊎◌, ◌==◌, ◌&&◌, ◌||◌, Bool, true, false, not, List, [], ◌∷◌, length, get_or, Option, Some, None}
+use Rattle.std.proofs.Common.{refl, inl, inr, arith, subst, sym, ap, ◌∙◌, nat_lt, nat_le}
 use Rattle.std.specs.List.{list_all}
 use Rattle.std.proofs.lemmas.Bool.{cond_both, and_parts, or_cases, eqb-true, eq-eqb, ltb-true, lt-ltb, leb-true}
 use Rattle.journal_core.specs.declared.segment_info.SegmentInfo.{SegmentInfo}
@@ -11,13 +12,13 @@ use Rattle.journal_core.specs.declared.reply.Reply.{Reply}
 use Rattle.journal_core.specs.declared.reply.Reply.TheVariants as reply
 use Rattle.journal_core.specs.Step.{node_step, effects_of}
 use Rattle.writer_core.specs.Whole.{TaskProgress, writer_at, request_of_round, calls}
-use Rattle.node_history.specs.Entries.{Way, Heard, Muted, Late, Move, Answer, Stop, Kill, Restart, Entry, after_move, node_after, Earlier, now, before}
+use Rattle.journal_history.specs.Entries.{Way, Heard, Muted, Late, Move, Answer, Stop, Kill, Restart, Entry, after_move, node_after, Earlier, now, before}
 use Rattle.run_safety.specs.Run.{Story, WasHeard, may_follow, IsMade, IsInTurn, IsHeardAs, IsCall, IsNext, Follows}
 use Rattle.run_safety.specs.Safe.{SaidOk, IsStart}
 use Rattle.run_safety.specs.Tables.{Told, TakeoverTable, Tables, heard_in, takeover_of, no_takeover, story_of}
-use Rattle.node_history.specs.Same.{same_batch, same_request}
+use Rattle.journal_history.specs.Same.{same_batch, same_request}
 use Rattle.run_safety.proofs.Slots.{none≢some, some_same, true≢false}
-use Rattle.node_history.proofs.SameLaws.{batch_same, request_same}
+use Rattle.journal_history.proofs.SameLaws.{batch_same, request_same}
 
 -- ## Tests of equality, for what examples need
 abbrev pub same_option : Option ℕ → Option ℕ → Bool
@@ -53,7 +54,8 @@ info_same None None e = refl
 info_same None (Some y) e = true≢false (sym e)
 info_same (Some x) None e = true≢false (sym e)
 info_same (Some x) (Some y) e =
-    let p = and_parts (x.start == y.start) _ e in let q = and_parts (x.end == y.end) _ p.1 in let r = and_parts (x.epoch == y.epoch) _ q.1 in let s = and_parts (same_bool x.is_final y.is_final) (same_bool x.accepted y.accepted) r.1 in
+    let p = and_parts (x.start == y.start) _ e in let q = and_parts (x.end == y.end) _ p.1 in let r = and_parts (x.epoch == y.epoch) _ q.1 in let s =
+    and_parts (same_bool x.is_final y.is_final) (same_bool x.accepted y.accepted) r.1 in
     ap (λ z. Some (record { start = z; end = x.end; epoch = x.epoch; is_final = x.is_final; accepted = x.accepted })) (eqb-true x.start y.start p.0)
     ∙ (ap (λ z. Some (record { start = y.start; end = z; epoch = x.epoch; is_final = x.is_final; accepted = x.accepted })) (eqb-true x.end y.end q.0)
     ∙ (ap (λ z. Some (record { start = y.start; end = y.end; epoch = z; is_final = x.is_final; accepted = x.accepted })) (eqb-true x.epoch y.epoch r.0)
@@ -139,7 +141,8 @@ not_true : (b : Bool) → b ≡ true → not b ≡ true → ⊥
 not_true true p e = true≢false (sym e)
 not_true false p e = true≢false (sym p)
 
-heard_before : (story : Story) (past : List Entry) (a r : ℕ) (answers : List Told) → all_stand story past a r answers ≡ true → (s i : ℕ) (reply : Reply) → s < r → heard_in answers s i ≡ Some reply → WasHeard story past a s i reply
+heard_before : (story : Story) (past : List Entry) (a r : ℕ) (answers : List Told) → all_stand story past a r answers ≡ true
+    → (s i : ℕ) (reply : Reply) → s < r → heard_in answers s i ≡ Some reply → WasHeard story past a s i reply
 heard_before story past a r [] e s i reply lt h = none≢some reply h
 heard_before story past a r (t ∷ answers) e s i reply lt h =
     let p = and_parts (not (nat_lt t.round r) || stands story past a t.round t.node t.reply) (all_stand story past a r answers) e in
@@ -150,7 +153,9 @@ heard_before story past a r (t ∷ answers) e s i reply lt h =
     let one : t.reply ≡ reply = some_same f in
     elim (or_cases (not (nat_lt t.round r)) (stands story past a t.round t.node t.reply) p.0) [
       | inl late ↦ absurd (not_true (nat_lt t.round r) (lt-ltb t.round r (omega arith)) late)
-      | inr there ↦ subst (λ z. WasHeard story past a z i reply) at_s (subst (λ z. WasHeard story past a t.round z reply) at_i (subst (λ z. WasHeard story past a t.round t.node z) one (was_heard story past a t.round t.node t.reply there)))
+      | inr there ↦ subst (λ z. WasHeard story past a z i reply) at_s
+          (subst (λ z. WasHeard story past a t.round z reply) at_i (subst (λ z. WasHeard story past a t.round t.node z) one
+          (was_heard story past a t.round t.node t.reply there)))
     ]))
     (λ elsewhere f. heard_before story past a r answers p.1 s i reply lt f) h
 
@@ -197,7 +202,8 @@ orderly story a r node (e ∷ past) =
     (not (story.whose (length past) == a) || (not (in_turn e.move) || (nat_lt (story.round (length past)) r || ((story.round (length past) == r) && nat_lt e.node node))))
     && orderly story a r node past
 
-in_order : (story : Story) (a r node : ℕ) (past : List Entry) → orderly story a r node past ≡ true → (old : List Entry) (e : Entry) → Earlier (e ∷ old) past → story.whose (length old) ≡ a → IsInTurn e.move →
+in_order : (story : Story) (a r node : ℕ) (past : List Entry) → orderly story a r node past ≡ true → (old : List Entry) (e : Entry)
+    → Earlier (e ∷ old) past → story.whose (length old) ≡ a → IsInTurn e.move →
     (story.round (length old) < r) ⊎ (story.round (length old) ≡ r) × (e.node < node)
 in_order story a r node [] t old e p whose turn = elim p [ ]
 in_order story a r node (x ∷ past) t old e now whose turn =
@@ -219,7 +225,8 @@ abbrev pub calls_and_asks : Option TaskProgress → ℕ → Request → Bool
 calls_and_asks None node request = false
 calls_and_asks (Some u) node request = calls u node && same_request request (request_of_round u)
 
-asks_there : (o : Option TaskProgress) (node : ℕ) (request : Request) → calls_and_asks o node request ≡ true → (u : TaskProgress) × (o ≡ Some u) × (calls u node ≡ true) × (request ≡ request_of_round u)
+asks_there : (o : Option TaskProgress) (node : ℕ) (request : Request) → calls_and_asks o node request ≡ true
+    → (u : TaskProgress) × (o ≡ Some u) × (calls u node ≡ true) × (request ≡ request_of_round u)
 asks_there None node request e = true≢false (sym e)
 asks_there (Some u) node request e = let p = and_parts (calls u node) (same_request request (request_of_round u)) e in (u, refl, p.0, request_same request (request_of_round u) p.1)
 

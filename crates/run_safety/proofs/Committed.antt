@@ -1,15 +1,17 @@
--- The committed txid that a request carries: all up to it is chosen, under epochs that aren't above the request's.
+-- The committed txid that a request carries: all up to it is chosen, under epochs that aren't above
+-- the request's.
 use Rattle.std.proofs.Common.{◌≡◌, ℕ, zero, suc, ◌+◌, ◌-◌, ◌<◌, ◌≤◌, List, length, Some, refl, inl, inr, arith, sym, ap, ◌∙◌}
 use Rattle.std.specs.Prelude.{slice_get}
 use Rattle.std.proofs.lemmas.Bool.{cases_lt}
 use Rattle.journal_core.specs.Views.{BatchView, last_txid}
 use Rattle.run_safety.specs.Majority.{Member}
-use Rattle.node_history.specs.Entries.{Entry}
+use Rattle.journal_history.specs.Entries.{Entry}
 use Rattle.run_safety.specs.Run.{Story, Follows}
-use Rattle.run_safety.proofs.SeenLaws.{Round, Propose, Ask, Get, Other, Recover, Seal, Open, Write, Clean, Writer, seen_at, asked, seen_first}
+use Rattle.run_safety.proofs.SeenLaws.{Round, Propose, Ask, Get, Other, Recover, Finalizing, Open, Write, Clean, Writer, seen_at, asked, seen_first}
 use Rattle.run_safety.proofs.Slots.{some_same}
 use Rattle.run_safety.proofs.Rounds.{Comes, comes, frame}
-use Rattle.run_safety.proofs.Frames.{Framed, IsWriting, IsGet, committed_after, StepOf, asks_for, opens_at_one, opens_found_none, gets, gets_more, recovers, seals_recovered, opens_next, writes_first, seals_written, goes_on}
+use Rattle.run_safety.proofs.Frames.{Framed, IsWriting, IsGet, committed_after, StepOf, asks_for, opens_at_one, opens_found_none, gets, gets_more}
+use Rattle.run_safety.proofs.Frames.{recovers, seals_recovered, opens_next, writes_first, seals_written, goes_on}
 use Rattle.run_safety.proofs.Sent.{Sent, Sent-round, Answers, answers_of, no_fetch, to}
 use Rattle.run_safety.proofs.Values.{Wrote, wrote_by, get_there}
 use Rattle.run_safety.proofs.Shapes.{HeldAt, Maj}
@@ -40,7 +42,8 @@ module _ (n : ℕ) (story : Story) (past : List Entry) (run : Follows n story pa
       above : (1 ≤ m) × (m ≤ t)
       above = wrote_above n story past run e m t x w
 
-      chain : After n story past run e m → (u : ℕ) → 1 ≤ u → u < m → ((g k l : ℕ) (y : List ℕ) → l < fuel → Maj n past g k l y → UpTo g l) → (f : ℕ) × (k : ℕ) × (b : List ℕ) × (f ≤ e) × Maj n past f k u b
+      chain : After n story past run e m → (u : ℕ) → 1 ≤ u → u < m → ((g k l : ℕ) (y : List ℕ) → l < fuel → Maj n past g k l y → UpTo g l)
+          → (f : ℕ) × (k : ℕ) × (b : List ℕ) × (f ≤ e) × Maj n past f k u b
       chain (inl first) u one under again = absurd (omega arith)
       chain (inr c) u one under again =
           (let s : Sealed n story past run c.0 c.1 c.2 = sealed n story past run c.0 c.1 c.2 c.4 in
@@ -62,7 +65,8 @@ module _ (n : ℕ) (story : Story) (past : List Entry) (run : Follows n story pa
   after_upto e m c (inr x) is = (let l : x.2 ≡ c = omega (arith, x.5) in to (λ z. UpTo e z) l (UpTo-more x.0 e x.2 x.3 (fin_upto x.0 x.1 x.2 x.4)))
 
   -- a write that was done: each of its txids is chosen
-  pub write_chosen : (a s r : ℕ) (w v : Writer) (m : ℕ) (b : BatchView) → (p : Sent n story past a s w) → r < s → seen_at n (story.takeover a) r ≡ Some v → v.round ≡ Write m b → (x : List ℕ) × Maj n past (story.takeover a).epoch m (last_txid b) x
+  pub write_chosen : (a s r : ℕ) (w v : Writer) (m : ℕ) (b : BatchView) → (p : Sent n story past a s w) → r < s
+      → seen_at n (story.takeover a) r ≡ Some v → v.round ≡ Write m b → (x : List ℕ) × Maj n past (story.takeover a).epoch m (last_txid b) x
   write_chosen a s r w v m b p lt at is = (y.0, record { nodes = ans.nodes; majority = ans.majority; each = each })
     where
       ans : Answers n story p.old a r
@@ -89,7 +93,8 @@ module _ (n : ℕ) (story : Story) (past : List Entry) (run : Follows n story pa
 
   -- an opening
   open_upto : (a s m : ℕ) (w : Writer) → Sent n story past a s w → w.round ≡ Open m → UpTo (story.takeover a).epoch w.committed
-  open_upto a s m w p is = after_upto (story.takeover a).epoch m w.committed ((good n story past run (story.takeover a).epoch).opened_chain m (record { a = a; s = s; w = w; sent = p; epoch = refl; is = is }))
+  open_upto a s m w p is = after_upto (story.takeover a).epoch m w.committed
+      ((good n story past run (story.takeover a).epoch).opened_chain m (record { a = a; s = s; w = w; sent = p; epoch = refl; is = is }))
       (to (λ z. Framed w z) is (frame n (story.takeover a) s w p.at)).0
 
   -- the rounds of an open segment
@@ -114,7 +119,7 @@ module _ (n : ℕ) (story : Story) (past : List Entry) (run : Follows n story pa
       then (Ask m) is v again = absurd v
       then (Get i m l bodies) is v again = absurd v
       then (Recover b) is v again = absurd v
-      then (Seal m l) is v again = absurd v
+      then (Finalizing m l) is v again = absurd v
       then (Open m) is v again = absurd v
       then Other is v again = absurd v
 
@@ -147,7 +152,7 @@ module _ (n : ℕ) (story : Story) (past : List Entry) (run : Follows n story pa
       by_round (Get i m l bodies) is = none_yet w.committed (framed (Get i m l bodies) is).0
       by_round Other is = absurd (framed Other is)
       by_round (Recover b) is = none_yet w.committed (framed (Recover b) is).0
-      by_round (Seal m l) is = to (λ z. UpTo (story.takeover a).epoch z) (sym (framed (Seal m l) is).0)
+      by_round (Finalizing m l) is = to (λ z. UpTo (story.takeover a).epoch z) (sym (framed (Finalizing m l) is).0)
           (fin_upto (story.takeover a).epoch m l (record { a = a; s = s; w = w; sent = p; epoch = refl; is = is }))
       by_round (Open m) is = open_upto a s m w p is
       by_round (Write m b) is = writing_upto a s w p (to (λ r. IsWriting r) (sym is) tt)

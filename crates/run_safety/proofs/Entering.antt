@@ -7,17 +7,17 @@ use Rattle.journal_core.specs.declared.reply.Reply.{Reply}
 use Rattle.journal_core.specs.declared.reply.Reply.TheVariants.{Refused}
 use Rattle.journal_core.specs.Effects.{Effect, after_effects}
 use Rattle.journal_core.specs.Step.{node_step, effects_of, stopped, crashed, restarted}
-use Rattle.node_history.specs.declared.stop.Stop.{Stop as StopAt}
-use Rattle.node_history.specs.declared.node_ask.NodeAsk.{NodeAsk}
-use Rattle.node_history.specs.declared.node_ask.NodeAsk.TheVariants as ask
-use Rattle.node_history.specs.declared.node_ask.NodeAnswer.{NodeAnswer}
-use Rattle.node_history.specs.declared.node_ask.NodeAnswer.TheVariants as answer
-use Rattle.node_history.specs.declared.arming.Arming.{Arming}
-use Rattle.node_history.specs.Cell.{Cell, Taken, kept_by, replies, stops, count_request, take_request, take_kill as cell_killed, started_again, take_arming, cell_takes}
-use Rattle.node_history.specs.Entries.{Move, Answer, Stop, Kill, Restart, after_move}
-use Rattle.node_history.specs.Moving.{epoch_of, moves, way_of, move_of}
-use Rattle.node_history.proofs.Stops.{kept_within}
-use Rattle.node_history.proofs.Moves.{Went, stays, goes, went, effects_epoch}
+use Rattle.journal_history.specs.declared.stop.Stop.{Stop as StopAt}
+use Rattle.journal_history.specs.declared.node_ask.NodeAsk.{NodeAsk}
+use Rattle.journal_history.specs.declared.node_ask.NodeAsk.TheVariants as ask
+use Rattle.journal_history.specs.declared.node_ask.NodeAnswer.{NodeAnswer}
+use Rattle.journal_history.specs.declared.node_ask.NodeAnswer.TheVariants as answer
+use Rattle.journal_history.specs.declared.arming.Arming.{Arming}
+use Rattle.journal_history.specs.Cell.{Cell, Taken, kept_by, replies, stops, count_request, take_request, take_kill as cell_killed, started_again, take_arming, cell_takes}
+use Rattle.journal_history.specs.Entries.{Move, Answer, Stop, Kill, Restart, after_move}
+use Rattle.journal_history.specs.Moving.{epoch_of, moves, way_of, move_of}
+use Rattle.journal_history.proofs.Stops.{kept_within}
+use Rattle.journal_history.proofs.Moves.{Went, stays, goes, went, effects_epoch}
 use Rattle.run_safety.proofs.Fair.{IsDue}
 
 -- ## A request
@@ -42,7 +42,8 @@ asked c late r = by c.state.up refl
     by true e = asked_counted c.state r c.arming e
     by false e = replied refl refl
 
--- What a request left: nothing, the entry of an answer, or the entry of a stop. `t` is the state after it.
+-- What a request left: nothing, the entry of an answer, or the entry of a stop. `t` is the state
+-- after it.
 pub data Entered (s t : NodeState) (caller : ℕ) (muted late : Bool) (r : Request) (a : NodeAnswer) : Type 0 where
   quiet : (x : Reply) → a ≡ answer.Replied x → move_of caller muted (ask.Act late r) a ≡ None → t ≡ s → (is_some (epoch_of r) ≡ true → (f : Refusal) × (x ≡ Refused f))
       → Entered s t caller muted late r a
@@ -98,11 +99,13 @@ restarts c caller muted = by c.state.up refl
     by true e = nothing refl refl
     by false e = again refl e refl (λ same. let f : true ≡ c.state.up = ap (λ (x : NodeState). x.up) same in absurd (cc (e, f)))
 
-pub arms : (c : Cell) (caller calls : ℕ) (muted : Bool) (x : StopAt) → Operated c.state (cell_takes c (ask.Arm calls x)).cell.state (move_of caller muted (ask.Arm calls x) (cell_takes c (ask.Arm calls x)).answer)
+pub arms : (c : Cell) (caller calls : ℕ) (muted : Bool) (x : StopAt)
+    → Operated c.state (cell_takes c (ask.Arm calls x)).cell.state (move_of caller muted (ask.Arm calls x) (cell_takes c (ask.Arm calls x)).answer)
 unfolding cell_takes move_of
 arms c caller calls muted x = by c.state.up
   where
-    by : (b : Bool) → Operated c.state (take_arming b c (record { calls = calls; stop = x })).cell.state (move_of caller muted (ask.Arm calls x) (take_arming b c (record { calls = calls; stop = x })).answer)
+    by : (b : Bool) → Operated c.state (take_arming b c (record { calls = calls; stop = x })).cell.state
+        (move_of caller muted (ask.Arm calls x) (take_arming b c (record { calls = calls; stop = x })).answer)
     by true = nothing refl refl
     by false = nothing refl refl
 
@@ -111,7 +114,8 @@ pub data Did (s t : NodeState) (o : Option Move) : Type 0 where
   still : o ≡ None → t ≡ s → Did s t o
   gone : (v : Move) → o ≡ Some v → IsDue s v → t ≡ after_move s v → t ≢ s → Did s t o
 
-asked_did : (c : Cell) (caller : ℕ) (muted late : Bool) (r : Request) → Did c.state (cell_takes c (ask.Act late r)).cell.state (move_of caller muted (ask.Act late r) (cell_takes c (ask.Act late r)).answer)
+asked_did : (c : Cell) (caller : ℕ) (muted late : Bool) (r : Request)
+    → Did c.state (cell_takes c (ask.Act late r)).cell.state (move_of caller muted (ask.Act late r) (cell_takes c (ask.Act late r)).answer)
 asked_did c caller muted late r = by (entered c caller muted late r)
   where
     by : Entered c.state (cell_takes c (ask.Act late r)).cell.state caller muted late r (cell_takes c (ask.Act late r)).answer

@@ -1,4 +1,5 @@
--- What an epoch owes to the ones below it, and what follows where all epochs below some number keep it.
+-- What an epoch owes to the ones below it, and what follows where all epochs below some number keep
+-- it.
 use Rattle.std.proofs.Common.{◌≡◌, ℕ, zero, suc, ◌+◌, ◌-◌, ◌<◌, ◌≤◌, ◌⊎◌, List, length, Some, refl, inl, inr, arith, sym, ap, ◌∙◌}
 use Rattle.std.specs.Prelude.{slice_get}
 use Rattle.std.proofs.lemmas.Bool.{cases_lt}
@@ -6,10 +7,10 @@ use Rattle.journal_core.specs.Segments.{find_segment, HasAt}
 use Rattle.journal_core.specs.Views.{BatchView, last_txid}
 use Rattle.journal_core.specs.declared.segment.Segment.{Segment}
 use Rattle.writer_core.specs.Whole.{Takeover}
-use Rattle.node_history.specs.Entries.{Entry, node_after, Earlier}
+use Rattle.journal_history.specs.Entries.{Entry, node_after, Earlier}
 use Rattle.run_safety.specs.Parts.{IsFinalised}
 use Rattle.run_safety.specs.Run.{Story, Follows}
-use Rattle.run_safety.proofs.SeenLaws.{seen_first, Round, Propose, Recover, Seal, Open, Write, Writer, seen_at}
+use Rattle.run_safety.proofs.SeenLaws.{seen_first, Round, Propose, Recover, Finalizing, Open, Write, Writer, seen_at}
 use Rattle.run_safety.proofs.Places.{Follows-earlier}
 use Rattle.run_safety.proofs.Majorities.{majorities_share}
 use Rattle.journal_core.proofs.SegmentLists.{find-start}
@@ -35,7 +36,7 @@ recover_once n t s k w x b c p q is also =
 
 module _ (n : ℕ) (story : Story) (past : List Entry) (run : Follows n story past) where
   abbrev pub Fin : ℕ → ℕ → ℕ → Type 0
-  Fin e m l = InRound n story past e (Seal m l)
+  Fin e m l = InRound n story past e (Finalizing m l)
 
   abbrev pub Rec : ℕ → BatchView → Type 0
   Rec e b = InRound n story past e (Recover b)
@@ -43,7 +44,8 @@ module _ (n : ℕ) (story : Story) (past : List Entry) (run : Follows n story pa
   abbrev pub Opn : ℕ → ℕ → Type 0
   Opn e m = InRound n story past e (Open m)
 
-  -- a start is 1, or comes right after the end of a finalise that was done under an epoch that isn't above f
+  -- a start is 1, or comes right after the end of a finalise that was done under an epoch that
+  -- isn't above f
   abbrev pub After : ℕ → ℕ → Type 0
   After f k = (k ≡ 1) ⊎ ((e : ℕ) × (m : ℕ) × (l : ℕ) × (e ≤ f) × Fin e m l × (l + 1 ≡ k) × IsFinalised n past e m l)
 
@@ -125,7 +127,8 @@ module _ (n : ℕ) (story : Story) (past : List Entry) (run : Follows n story pa
       never x = elim (cases_lt w.s r.s) [
         | inl lt ↦ (let h : end_below w.w w.w.round ≤ low_of r.w r.w.round = below_later n (story.takeover w.a) w.s r.s w.w r.w lt w.sent.at at in
             let h2 : end_below w.w w.w.round ≤ b.first = to (λ z. end_below w.w w.w.round ≤ low_of r.w z) r.is h in omega (arith, past_end, start.1))
-        | inr le ↦ place (against n (story.takeover w.a) r.s w.s r.w w.w le at w.sent.at (write_is w.w m w.covers.batch x)) (write_start w.w m w.covers.batch (frame n (story.takeover w.a) w.s w.w w.sent.at) x)
+        | inr le ↦ place (against n (story.takeover w.a) r.s w.s r.w w.w le at w.sent.at (write_is w.w m w.covers.batch x))
+            (write_start w.w m w.covers.batch (frame n (story.takeover w.a) w.s w.w w.sent.at) x)
       ]
 
       go : (w.w.round ≡ Recover w.covers.batch) × (w.covers.batch.first ≡ m) ⊎ (w.w.round ≡ Write m w.covers.batch) → HasIn b t body
@@ -138,7 +141,8 @@ module _ (n : ℕ) (story : Story) (past : List Entry) (run : Follows n story pa
           (w.k, w.place ∙ ap (λ z. z.first + w.k) (sym same_one), ap (λ z. slice_get z.bodies w.k) same_one ∙ w.has))
 
   -- ## What a segment has that stands under an epoch
-  pub has_place : (i m t : ℕ) (q : List Entry) (g : Segment) → Earlier q past → find_segment m (node_after i q).segments ≡ Some g → m ≤ t → t < m + length g.bodies → (y : List ℕ) × HasAt g t y × Wrote n story past g.epoch m t y
+  pub has_place : (i m t : ℕ) (q : List Entry) (g : Segment) → Earlier q past → find_segment m (node_after i q).segments ≡ Some g → m ≤ t
+      → t < m + length g.bodies → (y : List ℕ) × HasAt g t y × Wrote n story past g.epoch m t y
   has_place i m t q g p is le lt =
       let start : g.start ≡ m = find-start m (node_after i q).segments g is in
       let y = get_there g.bodies (t - m) (omega arith) in
@@ -146,14 +150,16 @@ module _ (n : ℕ) (story : Story) (past : List Entry) (run : Follows n story pa
       (y.0, has, held_wrote i g.epoch m t y.0 (record { old = q; within = p; segment = g; found = is; header = refl; has = has }))
 
   -- under the same epoch: the same body
-  pub same_epoch : (i e m t : ℕ) (body : List ℕ) (q : List Entry) (g : Segment) → Earlier q past → find_segment m (node_after i q).segments ≡ Some g → g.epoch ≡ e → Wrote n story past e m t body → t < m + length g.bodies → HasAt g t body
+  pub same_epoch : (i e m t : ℕ) (body : List ℕ) (q : List Entry) (g : Segment) → Earlier q past → find_segment m (node_after i q).segments ≡ Some g
+      → g.epoch ≡ e → Wrote n story past e m t body → t < m + length g.bodies → HasAt g t body
   same_epoch i e m t body q g p is header w lt =
       let x = has_place i m t q g p is (wrote_above e m t body w).1 lt in
       let once = wrote_once n story past e m m t x.0 body run (to (λ z. Wrote n story past z m t x.0) header x.2) w in
       to (λ z. HasAt g t z) once.1 x.1
 
   -- under a higher epoch: what a majority held
-  pub higher_epoch : (i e m t : ℕ) (body : List ℕ) (q : List Entry) (g : Segment) → Earlier q past → find_segment m (node_after i q).segments ≡ Some g → e < g.epoch → Good g.epoch → Maj n past e m t body → HasAt g t body
+  pub higher_epoch : (i e m t : ℕ) (body : List ℕ) (q : List Entry) (g : Segment) → Earlier q past → find_segment m (node_after i q).segments ≡ Some g
+      → e < g.epoch → Good g.epoch → Maj n past e m t body → HasAt g t body
   higher_epoch i e m t body q g p is lt good j = go (Shaped-later n story m g p (shaped n story q (Follows-earlier n story p run) i m g is)).shape
     where
       above : (1 ≤ m) × (m ≤ t)

@@ -1,9 +1,10 @@
--- What a story says of an entry, without the node's part: the request is its takeover's, in its order, and a heard answer is what it heard.
--- A run is a list of such entries in which each node answers as it does.
+-- What a story says of an entry, without the node's part: the request is its takeover's, in its
+-- order, and a heard answer is what it heard. A run is a list of such entries in which each node
+-- answers as it does.
 use Rattle.std.proofs.Common.{◌≡◌, ◌≢◌, ℕ, ◌<◌, ◌≤◌, List, [], ◌∷◌, true, false, length, arith}
 use Rattle.journal_core.specs.declared.node_state.NodeState.{NodeState}
 use Rattle.journal_core.specs.Step.{node_step, effects_of}
-use Rattle.node_history.specs.Entries.{Move, Answer, Stop, Kill, Restart, Entry, after_move, node_after, Earlier, now, before}
+use Rattle.journal_history.specs.Entries.{Move, Answer, Stop, Kill, Restart, Entry, after_move, node_after, Earlier, now, before}
 use Rattle.run_safety.specs.Run.{Story, IsHeardAs, IsCall, IsNext, Follows}
 use Rattle.run_safety.proofs.Tales.{Tale, place_below, IsLabelled, AreLabelled, Tells, labelled_still, call_still, heard_as_still}
 

@@ -1,10 +1,11 @@
--- A final copy of a segment has all that was held of it under its epoch, and is what is held of it under each higher epoch.
+-- A final copy of a segment has all that was held of it under its epoch, and is what is held of it
+-- under each higher epoch.
 use Rattle.std.proofs.Common.{◌≡◌, ℕ, suc, ◌+◌, ◌<◌, ◌≤◌, true, List, length, Some, refl, inl, inr, arith, sym, ap, ◌∙◌}
 use Rattle.std.specs.Prelude.{slice_get}
 use Rattle.journal_core.specs.Segments.{find_segment, end_of, HasAt}
 use Rattle.journal_core.specs.Views.{last_txid}
 use Rattle.journal_core.specs.declared.segment.Segment.{Segment}
-use Rattle.node_history.specs.Entries.{Entry, node_after}
+use Rattle.journal_history.specs.Entries.{Entry, node_after}
 use Rattle.run_safety.specs.Run.{Story, Follows}
 use Rattle.run_safety.specs.Safe.{IsHeld}
 use Rattle.run_safety.proofs.Places.{Follows-earlier}
@@ -46,8 +47,10 @@ module _ (n : ℕ) (story : Story) (past : List Entry) (run : Follows n story pa
       both : (d : ℕ) → (y : (body : List ℕ) × Maj n past s.epoch g.start (g.start + d) body) → (body : List ℕ) × (slice_get h.bodies d ≡ Some body) × (slice_get g.bodies d ≡ Some body)
       both d y = (
         y.0,
-        body_at h g.start d y.0 start (higher_epoch n story past run j s.epoch g.start (g.start + d) y.0 hh.0 h hh.1 (found_at j g.start h hh start) (omega (arith, s.le, lt)) (good n story past run h.epoch) y.1),
-        body_at g g.start d y.0 refl (has_chosen n story past run (suc g.epoch) i s.epoch g.start (g.start + d) y.0 hg.0 g (all_good n story past run (suc g.epoch)) (omega (arith, s.le)) (omega arith) hg.1 hg.2 (inl final) y.1),
+        body_at h g.start d y.0 start (higher_epoch n story past run j s.epoch g.start (g.start + d) y.0 hh.0 h hh.1 (found_at j g.start h hh start)
+            (omega (arith, s.le, lt)) (good n story past run h.epoch) y.1),
+        body_at g g.start d y.0 refl (has_chosen n story past run (suc g.epoch) i s.epoch g.start (g.start + d) y.0 hg.0 g
+            (all_good n story past run (suc g.epoch)) (omega (arith, s.le)) (omega arith) hg.1 hg.2 (inl final) y.1),
       )
 
       same_ends : length h.bodies ≡ length g.bodies → h.bodies ≡ g.bodies

@@ -1,4 +1,5 @@
--- A node that answered a finalise with Ok holds the segment, unless a later start has an acknowledged edit under an epoch that isn't above its promise.
+-- A node that answered a finalise with Ok holds the segment, unless a later start has an
+-- acknowledged edit under an epoch that isn't above its promise.
 use Rattle.std.proofs.Common.{◌≡◌, ℕ, ◌+◌, ◌<◌, ◌≤◌, ◌⊎◌, true, false, List, ◌∷◌, length, Option, Some, refl, inl, inr, arith, sym, ap, ◌∙◌, subst}
 use Rattle.std.proofs.lemmas.Bool.{cases_lt, cases_eq, cond-true}
 use Rattle.journal_core.specs.Limits.{head_of}
@@ -13,7 +14,7 @@ use Rattle.journal_core.specs.declared.segment.Segment.{Segment}
 use Rattle.journal_core.proofs.SegmentLists.{find-start}
 use Rattle.journal_core.proofs.Steps.{front_le}
 use Rattle.journal_core.proofs.Changes.{Change, same, created, grown, made_final, replaced, removed, NoEdit}
-use Rattle.node_history.specs.Entries.{Heard, Answer, Entry, Earlier, after_move, node_after}
+use Rattle.journal_history.specs.Entries.{Heard, Answer, Entry, Earlier, after_move, node_after}
 use Rattle.run_safety.specs.Run.{Story, Follows, IsNext}
 use Rattle.run_safety.specs.Safe.{SaidOk}
 use Rattle.run_safety.specs.Parts.{IsAcknowledgedIn}
@@ -21,7 +22,7 @@ use Rattle.run_safety.proofs.Places.{Earlier-trans, Earlier-tail, next_of}
 use Rattle.run_safety.proofs.SoundNodes.{stored_after, promise_earlier}
 use Rattle.run_safety.proofs.Along.{Requested, Changes, along, node_here}
 use Rattle.run_safety.proofs.Slots.{some_same, true≢false}
-use Rattle.run_safety.proofs.SeenLaws.{Clean, Seal, Write, Writer, seen_at, asked, is_ok_kind}
+use Rattle.run_safety.proofs.SeenLaws.{Clean, Finalizing, Write, Writer, seen_at, asked, is_ok_kind}
 use Rattle.run_safety.proofs.Frames.{Framed, OkHeard, IsGet, IsWriting}
 use Rattle.run_safety.proofs.Rounds.{frame}
 use Rattle.run_safety.proofs.Spans.{FirstWrite, first_write, clean_below_seal, clean_below_start}
@@ -43,7 +44,13 @@ final_edit i m past g found final =
 module _ (n : ℕ) (story : Story) (past : List Entry) (run : Follows n story past) where
   -- ## A purge comes after the first write of its segment was done
   purge_acknowledged : (a s : ℕ) (w : Writer) (min : ℕ) → Sent n story past a s w → w.round ≡ Clean min → IsAcknowledgedIn n past (story.takeover a).epoch w.start
-  purge_acknowledged a s w min p is = (record { epoch = (story.takeover a).epoch; serial = fw.round; committed = ans.w.committed }, fw.batch, refl, fr.5, (ans.nodes, ans.majority, λ i mem. by i (ans.each i mem)))
+  purge_acknowledged a s w min p is = (
+    record { epoch = (story.takeover a).epoch; serial = fw.round; committed = ans.w.committed },
+    fw.batch,
+    refl,
+    fr.5,
+    (ans.nodes, ans.majority, λ i mem. by i (ans.each i mem)),
+  )
     where
       fw : FirstWrite n (story.takeover a) s w.start
       fw = first_write n (story.takeover a) s w min p.at is
@@ -54,7 +61,8 @@ module _ (n : ℕ) (story : Story) (past : List Entry) (run : Follows n story pa
       round : ans.w.round ≡ Write w.start fw.batch
       round = ap (λ z. z.round) (some_same (sym ans.at ∙ fw.at)) ∙ fw.is
 
-      fr : (fw.writer.committed + 1 ≡ fw.batch.first) × (fw.writer.start ≡ w.start) × (1 ≤ w.start) × (w.start ≤ fw.batch.first) × (fw.writer.next ≡ fw.batch.first + length fw.batch.bodies) × (1 ≤ length fw.batch.bodies)
+      fr : (fw.writer.committed + 1 ≡ fw.batch.first) × (fw.writer.start ≡ w.start) × (1 ≤ w.start) × (w.start ≤ fw.batch.first)
+          × (fw.writer.next ≡ fw.batch.first + length fw.batch.bodies) × (1 ≤ length fw.batch.bodies)
       fr = to (λ r. Framed fw.writer r) fw.is (frame n (story.takeover a) fw.round fw.writer fw.at)
 
       by : (i : ℕ) → (reply : Reply) × Answered n story p.old a fw.round ans.w i reply × OkHeard n ans.w ((story.takeover a).heard fw.round) i reply
@@ -102,13 +110,18 @@ module _ (n : ℕ) (story : Story) (past : List Entry) (run : Follows n story pa
       own : g.epoch ≡ (story.takeover a).epoch → w.start ≤ m → ⊥
       own same_epoch le = elim (cases_eq w.start m) [
         | inl at_m ↦ (let x : Fin n story past run (story.takeover a).epoch m (end_of g) = to (λ e. Fin n story past run e m (end_of g)) same_epoch fin in
-            let one : x.a ≡ a = owner_same n story past run (story.takeover a).epoch (Seal m (end_of g)) (Clean min) x cleans (not_first n story past run (story.takeover a).epoch (Seal m (end_of g)) x (λ q. cc)) later in
-            let less : w.committed < end_of g = clean_below_seal n (story.takeover a) s x.s w x.w min (end_of g) sent.at (to (λ z. seen_at n (story.takeover z) x.s ≡ Some x.w) one x.sent.at) is (x.is ∙ ap (λ z. Seal z (end_of g)) (sym at_m)) in
+            let one : x.a ≡ a = owner_same n story past run (story.takeover a).epoch (Finalizing m (end_of g)) (Clean min) x cleans
+            (not_first n story past run (story.takeover a).epoch (Finalizing m (end_of g)) x (λ q. cc)) later in
+            let less : w.committed < end_of g = clean_below_seal n (story.takeover a) s x.s w x.w min (end_of g) sent.at
+            (to (λ z. seen_at n (story.takeover z) x.s ≡ Some x.w) one x.sent.at) is (x.is ∙ ap (λ z. Finalizing z (end_of g)) (sym at_m)) in
             omega (arith, low, less))
         | inr other ↦ (let body = get_there g.bodies 0 (omega (arith, start, ends.1, ends.0)) in
-            let wrote : Wrote n story past g.epoch m m body.0 = held_wrote n story past run i g.epoch m m body.0 (record { old = old; within = p; segment = g; found = found; header = refl; has = (0, omega (arith, start), body.1) }) in
-            let one : wrote.a ≡ a = one_owner n story past wrote.a a wrote.s s wrote.w w run wrote.sent sent (later_round n story past wrote.a wrote.s wrote.w m m wrote.sent wrote.covers) later (wrote.epoch ∙ same_epoch) in
-            let less : w.committed < m = clean_below_start n (story.takeover a) s wrote.s w wrote.w min m m sent.at (to (λ z. seen_at n (story.takeover z) wrote.s ≡ Some wrote.w) one wrote.sent.at) is wrote.covers (omega (arith, le, other)) in
+            let wrote : Wrote n story past g.epoch m m body.0 = held_wrote n story past run i g.epoch m m body.0
+            (record { old = old; within = p; segment = g; found = found; header = refl; has = (0, omega (arith, start), body.1) }) in
+            let one : wrote.a ≡ a = one_owner n story past wrote.a a wrote.s s wrote.w w run wrote.sent sent
+            (later_round n story past wrote.a wrote.s wrote.w m m wrote.sent wrote.covers) later (wrote.epoch ∙ same_epoch) in
+            let less : w.committed < m = clean_below_start n (story.takeover a) s wrote.s w wrote.w min m m sent.at
+            (to (λ z. seen_at n (story.takeover z) wrote.s ≡ Some wrote.w) one wrote.sent.at) is wrote.covers (omega (arith, le, other)) in
             omega (arith, low, less, ends.1))
       ]
         where
@@ -122,9 +135,11 @@ module _ (n : ℕ) (story : Story) (past : List Entry) (run : Follows n story pa
   abbrev Holds : ℕ → ℕ → ℕ → Option Segment → Type 0
   Holds i m l o = ((g : Segment) × (o ≡ Some g) × (g.is_final ≡ true) × (end_of g ≡ l)) ⊎ Gone i m
 
-  held_change : (i m l : ℕ) (e0 : Entry) (old : List Entry) → Earlier (e0 ∷ old) past → e0.node ≡ i → (r : Request) → Requested (node_after i old) e0.move r → (h0 : (h : HeadView) → head_of r ≡ Some h → (node_after i old).promised ≤ h.epoch)
+  held_change : (i m l : ℕ) (e0 : Entry) (old : List Entry) → Earlier (e0 ∷ old) past → e0.node ≡ i → (r : Request)
+      → Requested (node_after i old) e0.move r → (h0 : (h : HeadView) → head_of r ≡ Some h → (node_after i old).promised ≤ h.epoch)
       → ((h : HeadView) → head_of r ≡ Some h → h.epoch ≤ (node_after i past).promised)
-      → (o new : Option Segment) → Change (node_after i old) r m o new → find_segment m (node_after i old).segments ≡ o → (g : Segment) → o ≡ Some g → g.is_final ≡ true → end_of g ≡ l → Holds i m l new
+      → (o new : Option Segment) → Change (node_after i old) r m o new → find_segment m (node_after i old).segments ≡ o → (g : Segment) → o ≡ Some g
+      → g.is_final ≡ true → end_of g ≡ l → Holds i m l new
   held_change i m l e0 old p at r q up most o new same found g is final ends = inl (g, is, final, ends)
   held_change i m l e0 old p at r q up most o new (created h k none) found g is final ends =
       absurd (true≢false (sym (final_edit i m old g (found ∙ is) final).0 ∙ to NoEdit is none))
@@ -160,9 +175,12 @@ module _ (n : ℕ) (story : Story) (past : List Entry) (run : Follows n story pa
       first : Holds i m l (find_segment m (node_after i (ok.1 ∷ ok.0)).segments)
       first = inl (held.held, ap (λ z. find_segment m z.segments) (node_here i ok.1 ok.0 ok.3 ∙ ap (λ z. after_move (node_after i ok.0) z) ok.4.1) ∙ held.found, held.final, held.ends)
 
-      step : (e : Entry) (old : List Entry) → Earlier (ok.1 ∷ ok.0) old → Earlier (e ∷ old) past → Changes i e old m → Holds i m l (find_segment m (node_after i old).segments) → Holds i m l (find_segment m (node_after i (e ∷ old)).segments)
+      step : (e : Entry) (old : List Entry) → Earlier (ok.1 ∷ ok.0) old → Earlier (e ∷ old) past → Changes i e old m
+          → Holds i m l (find_segment m (node_after i old).segments) → Holds i m l (find_segment m (node_after i (e ∷ old)).segments)
       step e old a b c (inr gone) = inr gone
       step e old a b c (inl x) = held_change i m l e old b c.node c.by.request c.by.asked (λ hd is. front_le (node_after i old) c.by.request hd is c.by.passed)
-          (λ hd is. (let one : hd.epoch ≤ (node_after i (e ∷ old)).promised = to (λ s. hd.epoch ≤ s.promised) (sym (node_here i e old c.node)) (head_promise (node_after i old) e.move c.by.request hd c.by.asked c.by.passed is) in
+          (λ hd is. (let one : hd.epoch ≤ (node_after i (e ∷ old)).promised =
+          to (λ s. hd.epoch ≤ s.promised) (sym (node_here i e old c.node))
+          (head_promise (node_after i old) e.move c.by.request hd c.by.asked c.by.passed is) in
           let rest : (node_after i (e ∷ old)).promised ≤ (node_after i past).promised = promise_earlier i b in omega (arith, one, rest)))
           _ _ c.by.change refl x.0 x.1 x.2 x.3

@@ -1,4 +1,5 @@
--- A majority held all of a finalised segment, under that epoch or a lower one that finalised it too.
+-- A majority held all of a finalised segment, under that epoch or a lower one that finalised it
+-- too.
 use Rattle.std.proofs.Common.{◌≡◌, ℕ, zero, suc, ◌+◌, ◌-◌, ◌<◌, ◌≤◌, max, ◌⊎◌, true, false, List, [], ◌∷◌, length, Some, refl, inl, inr, arith, subst, sym, ap, ◌∙◌}
 use Rattle.std.proofs.lemmas.Bool.{cases_eq}
 use Rattle.journal_core.specs.Segments.{find_segment, end_of}
@@ -10,9 +11,9 @@ use Rattle.journal_core.specs.declared.request.Request.{Request}
 use Rattle.journal_core.specs.declared.request.Request.TheVariants.{Accept}
 use Rattle.journal_core.specs.declared.segment.Segment.{Segment}
 use Rattle.run_safety.specs.Majority.{Member}
-use Rattle.node_history.specs.Entries.{Entry, node_after, after_move, Earlier}
+use Rattle.journal_history.specs.Entries.{Entry, node_after, after_move, Earlier}
 use Rattle.run_safety.specs.Run.{Story, Follows}
-use Rattle.run_safety.proofs.SeenLaws.{Round, Propose, Ask, Get, Other, Recover, Seal, Open, Write, Clean, Writer, asked, is_ok_kind}
+use Rattle.run_safety.proofs.SeenLaws.{Round, Propose, Ask, Get, Other, Recover, Finalizing, Open, Write, Clean, Writer, asked, is_ok_kind}
 use Rattle.run_safety.proofs.Places.{Earlier-trans, Follows-earlier}
 use Rattle.run_safety.proofs.Majorities.{majorities_share}
 use Rattle.journal_core.proofs.SegmentLists.{find-start}
@@ -41,7 +42,7 @@ kind_passed r (Segments l) k = tt
 kind_passed Propose (Refused x) k = let no : false ≡ true = k in cc
 kind_passed (Ask m) (Refused x) k = let no : false ≡ true = k in cc
 kind_passed (Recover b) (Refused x) k = let no : false ≡ true = k in cc
-kind_passed (Seal m l) (Refused x) k = let no : false ≡ true = k in cc
+kind_passed (Finalizing m l) (Refused x) k = let no : false ≡ true = k in cc
 kind_passed (Open m) (Refused x) k = let no : false ≡ true = k in cc
 kind_passed (Write m b) (Refused x) k = let no : false ≡ true = k in cc
 kind_passed (Clean l) (Refused x) k = let no : false ≡ true = k in cc
@@ -56,14 +57,16 @@ pub record OkAt (past : List Entry) (i : ℕ) (r : Request) : Type 0 where
   pub passed_by : Passed (node_after i old) r
   pub state : node_after i (entry ∷ old) ≡ (node_step (node_after i old) r).state
 
-abbrev pub ok_at : (n : ℕ) (story : Story) (past : List Entry) (a k : ℕ) (w : Writer) (i : ℕ) (reply : Reply) (r : Round) → w.round ≡ r → Answered n story past a k w i reply → OkAt past i (asked (story.takeover a).epoch k w.committed r)
+abbrev pub ok_at : (n : ℕ) (story : Story) (past : List Entry) (a k : ℕ) (w : Writer) (i : ℕ) (reply : Reply) (r : Round) → w.round ≡ r
+    → Answered n story past a k w i reply → OkAt past i (asked (story.takeover a).epoch k w.committed r)
 ok_at n story past a k w i reply r is x =
     let req : asked (story.takeover a).epoch k w.committed w.round ≡ asked (story.takeover a).epoch k w.committed r = ap (λ z. asked (story.takeover a).epoch k w.committed z) is in
     record {
       old = x.old;
       entry = x.entry;
       within = x.within;
-      passed_by = passed (node_after i x.old) (asked (story.takeover a).epoch k w.committed r) reply (to (λ z. (node_step (node_after i x.old) z).reply ≡ reply) req x.replied) (kind_passed w.round reply x.kind);
+      passed_by = passed (node_after i x.old) (asked (story.takeover a).epoch k w.committed r) reply
+          (to (λ z. (node_step (node_after i x.old) z).reply ≡ reply) req x.replied) (kind_passed w.round reply x.kind);
       state = node_here i x.entry x.old x.node ∙ (ap (λ z. after_move (node_after i x.old) z) x.move ∙ ap (λ z. (node_step (node_after i x.old) z).state) req);
     }
 
@@ -97,14 +100,18 @@ module _ (n : ℕ) (story : Story) (past : List Entry) (run : Follows n story pa
       record { old = q; within = p; segment = g; found = is; header = header; has = same_epoch n story past run i e m t body q g p is header w (omega arith) }
 
   pub journal_keeps : (x : ℕ) (a k : ℕ) (w : Writer) (old : List Entry) (i m l : ℕ) (b : BatchView) → Earlier old past → (story.takeover a).epoch ≡ x → l < b.first + length b.bodies →
-      OkAt old i (asked (story.takeover a).epoch k w.committed (Write m b)) → (q : List Entry) × (g : Segment) × Earlier q past × (find_segment m (node_after i q).segments ≡ Some g) × (g.epoch ≡ x) × (l < m + length g.bodies)
+      OkAt old i (asked (story.takeover a).epoch k w.committed (Write m b))
+      → (q : List Entry) × (g : Segment) × Earlier q past × (find_segment m (node_after i q).segments ≡ Some g) × (g.epoch ≡ x)
+      × (l < m + length g.bodies)
   journal_keeps x a k w old i m l b p epoch lt ok =
-      let h : JournalHeld (node_after i ok.old) (record { epoch = (story.takeover a).epoch; serial = k; committed = w.committed }) m b = journal_held (node_after i ok.old) _ m b (led_after i ok.old) ok.passed_by in
+      let h : JournalHeld (node_after i ok.old) (record { epoch = (story.takeover a).epoch; serial = k; committed = w.committed }) m b =
+      journal_held (node_after i ok.old) _ m b (led_after i ok.old) ok.passed_by in
       let found : find_segment m (node_after i (ok.entry ∷ ok.old)).segments ≡ Some h.held = ap (λ z. find_segment m z.segments) ok.state ∙ h.found in
       let start : h.held.start ≡ m = find-start m (node_after i (ok.entry ∷ ok.old)).segments h.held found in
       (ok.entry ∷ ok.old, h.held, Earlier-trans ok.within p, found, h.header ∙ epoch, omega (arith, h.ends))
 
-  accept_keeps : (e a k : ℕ) (w : Writer) (old : List Entry) (i m l : ℕ) (b : BatchView) → Earlier old past → (story.takeover a).epoch ≡ e → b.first ≡ m → l ≡ last_txid b → 1 ≤ length b.bodies → 1 ≤ b.first →
+  accept_keeps : (e a k : ℕ) (w : Writer) (old : List Entry) (i m l : ℕ) (b : BatchView) → Earlier old past → (story.takeover a).epoch ≡ e
+      → b.first ≡ m → l ≡ last_txid b → 1 ≤ length b.bodies → 1 ≤ b.first →
       OkAt old i (asked (story.takeover a).epoch k w.committed (Recover b)) → Keeps e m l i ⊎ Lower e m l
   accept_keeps e a k w old i m l b p epoch first last long least ok = go h.as_sent
     where
@@ -187,15 +194,18 @@ module _ (n : ℕ) (story : Story) (past : List Entry) (run : Follows n story pa
           let y = has_place n story past run some.0 m t j.0 j.1 j.2 j.3 le (let z : l < m + length j.1.bodies = j.5 in omega arith) in
           (y.0, to (λ z. Wrote n story past z m t y.0) j.4 y.2))
 
-      recovered : (is : v.writer.round ≡ Recover v.covers.batch) → v.covers.batch.first ≡ m → 1 ≤ length v.covers.batch.bodies → (t : ℕ) → m ≤ t → t ≤ l → (body : List ℕ) × Wrote n story past e m t body
+      recovered : (is : v.writer.round ≡ Recover v.covers.batch) → v.covers.batch.first ≡ m → 1 ≤ length v.covers.batch.bodies → (t : ℕ) → m ≤ t
+          → t ≤ l → (body : List ℕ) × Wrote n story past e m t body
       recovered is first long t le up = (let y = get_there v.covers.batch.bodies (t - m) (omega (arith, first, v.last, long)) in (
         y.0,
         to (λ z. Wrote n story past z m t y.0) x.epoch (to (λ z. Wrote n story past (story.takeover x.a).epoch m z y.0) (let z : v.covers.batch.first + (t - m) ≡ t = omega (arith, first) in z)
             (wrote_by n story past x.a v.round v.writer m v.covers.batch sent_v (inl (is, first)) (t - m) y.0 y.1)),
       ))
 
-      by : (v.writer.round ≡ Recover v.covers.batch) × (v.covers.batch.first ≡ m) ⊎ (v.writer.round ≡ Write m v.covers.batch) → ((g : ℕ) → g < e → Fin n story past run g m l → Sealed g m l) → Sealed e m l
-      by (inr is) ih = chosen (λ i z. (let j = journal_keeps e x.a v.round ans.w x.sent.old i m l v.covers.batch x.sent.within x.epoch v.covers.below (answer (Write m v.covers.batch) is i z) in keeps_same e m l i j.0 j.1 j.2 j.3 j.4 j.5)) (written is)
+      by : (v.writer.round ≡ Recover v.covers.batch) × (v.covers.batch.first ≡ m) ⊎ (v.writer.round ≡ Write m v.covers.batch)
+          → ((g : ℕ) → g < e → Fin n story past run g m l → Sealed g m l) → Sealed e m l
+      by (inr is) ih = chosen (λ i z. (let j = journal_keeps e x.a v.round ans.w x.sent.old i m l v.covers.batch x.sent.within x.epoch v.covers.below
+          (answer (Write m v.covers.batch) is i z) in keeps_same e m l i j.0 j.1 j.2 j.3 j.4 j.5)) (written is)
       by (inl is) ih = (let long : 1 ≤ length v.covers.batch.bodies = (to (λ r. Framed v.writer r) is.0 fr).2 in let least : 1 ≤ v.covers.batch.first = (to (λ r. Framed v.writer r) is.0 fr).1 in
           elim (all_or (λ i. Keeps e m l i) (Lower e m l) ans.nodes
           (λ i z. accept_keeps e x.a v.round ans.w x.sent.old i m l v.covers.batch x.sent.within x.epoch is.1 v.last long least (answer (Recover v.covers.batch) is.0 i z))) [

@@ -1,4 +1,5 @@
--- What stands in each round of a takeover, and which round comes after which: the table of rounds, inverted once. No run is named here.
+-- What stands in each round of a takeover, and which round comes after which: the table of rounds,
+-- inverted once. No run is named here.
 use Rattle.std.proofs.Common.{◌≡◌, ℕ, suc, ◌+◌, ◌-◌, ◌<◌, ◌≤◌, true, List, [], ◌++◌, length, take, Option, Some, None}
 use Rattle.std.specs.List.{list_all}
 use Rattle.journal_core.specs.Views.{BatchView, last_txid}
@@ -17,7 +18,7 @@ use Rattle.writer_core.specs.Whole.{Takeover, TaskProgress}
 use Rattle.run_safety.specs.Majority.{Member, IsMajority}
 use Rattle.run_safety.specs.Run.{may_follow}
 use Rattle.run_safety.proofs.Slots.{At, IsFresh, AllWait, told_newest, AtLeast}
-use Rattle.run_safety.proofs.SeenLaws.{Round, Propose, Ask, Get, Recover, Seal, Open, Write, Clean, Other, Writer, seen, is_ok_kind}
+use Rattle.run_safety.proofs.SeenLaws.{Round, Propose, Ask, Get, Recover, Finalizing, Open, Write, Clean, Other, Writer, seen, is_ok_kind}
 
 -- ## What was heard in a round
 pub record OkHeard (n : ℕ) (w : Writer) (heard : ℕ → Option Reply) (i : ℕ) (reply : Reply) : Type 0 where
@@ -56,7 +57,7 @@ Framed w Propose = w.committed ≡ 0
 Framed w (Ask m) = (w.committed ≡ 0) × (1 ≤ m)
 Framed w (Get node m end bodies) = (w.committed ≡ 0) × (1 ≤ m) × (m ≤ end)
 Framed w (Recover b) = (w.committed ≡ 0) × (1 ≤ b.first) × (1 ≤ length b.bodies)
-Framed w (Seal m l) = (w.committed ≡ l) × (1 ≤ m) × (m ≤ l)
+Framed w (Finalizing m l) = (w.committed ≡ l) × (1 ≤ m) × (m ≤ l)
 Framed w (Open m) = (w.committed + 1 ≡ m) × (w.start ≡ m) × (w.next ≡ m)
 Framed w (Write m b) = (w.committed + 1 ≡ b.first) × (w.start ≡ m) × (1 ≤ m) × (m ≤ b.first) × (w.next ≡ b.first + length b.bodies) × (1 ≤ length b.bodies)
 Framed w (Clean l) = (w.committed + 1 ≡ w.next) × (1 ≤ w.start) × (w.start < w.next)
@@ -71,7 +72,7 @@ low_of w Propose = 0
 low_of w (Ask m) = 0
 low_of w (Get node m end bodies) = 0
 low_of w (Recover b) = b.first
-low_of w (Seal m l) = l + 1
+low_of w (Finalizing m l) = l + 1
 low_of w (Open m) = m
 low_of w (Write m b) = b.first
 low_of w (Clean l) = w.next
@@ -82,7 +83,7 @@ end_below w Propose = 0
 end_below w (Ask m) = 0
 end_below w (Get node m end bodies) = 0
 end_below w (Recover b) = b.first + length b.bodies
-end_below w (Seal m l) = l + 1
+end_below w (Finalizing m l) = l + 1
 end_below w (Open m) = m
 end_below w (Write m b) = b.first + length b.bodies
 end_below w (Clean l) = w.next
@@ -123,10 +124,10 @@ pub data StepOf (n : ℕ) (t : Takeover) (s : ℕ) (w next : Writer) : Type 0 wh
       next.round ≡ Get node m end (more_pieces m end bodies batch) → StepOf n t s w next
   recovers : (m node end : ℕ) (bodies : List (List ℕ)) (batch : BatchView) (slots : List Slot) → w.round ≡ Get node m end bodies → t.heard s node ≡ Some (Edits batch) → Getting n t m node end slots →
       end < m + length (more_pieces m end bodies batch) → next.round ≡ Recover (batch_from m (more_pieces m end bodies batch)) → StepOf n t s w next
-  seals_recovered : (b : BatchView) → w.round ≡ Recover b → next.round ≡ Seal b.first (last_txid b) → StepOf n t s w next
-  opens_next : (m l : ℕ) → w.round ≡ Seal m l → next.round ≡ Open (l + 1) → StepOf n t s w next
+  seals_recovered : (b : BatchView) → w.round ≡ Recover b → next.round ≡ Finalizing b.first (last_txid b) → StepOf n t s w next
+  opens_next : (m l : ℕ) → w.round ≡ Finalizing m l → next.round ≡ Open (l + 1) → StepOf n t s w next
   writes_first : (m : ℕ) → w.round ≡ Open m → next.round ≡ Write m (batch_from m start_record) → next.start ≡ m → next.committed ≡ w.committed → StepOf n t s w next
-  seals_written : (m : ℕ) (b : BatchView) → w.round ≡ Write m b → next.round ≡ Seal w.start (last_txid b) → StepOf n t s w next
+  seals_written : (m : ℕ) (b : BatchView) → w.round ≡ Write m b → next.round ≡ Finalizing w.start (last_txid b) → StepOf n t s w next
   goes_on : IsWriting w.round → IsWriting next.round → next.start ≡ w.start → next.committed ≡ committed_after w w.round → StepOf n t s w next
 
 -- ## What holds of a writer in a round

@@ -15,9 +15,9 @@ use Rattle.run_safety.specs.Parts.{IsFinalised}
 use Rattle.run_safety.specs.Safe.{SaidOk}
 use Rattle.writer_core.specs.Best.{Best, best_of}
 use Rattle.run_safety.specs.Majority.{Member}
-use Rattle.node_history.specs.Entries.{Entry, Heard, Answer, node_after, Earlier, now, before}
+use Rattle.journal_history.specs.Entries.{Entry, Heard, Answer, node_after, Earlier, now, before}
 use Rattle.run_safety.specs.Run.{Story, Follows}
-use Rattle.run_safety.proofs.SeenLaws.{Propose, Recover, Seal, Open, Write, Writer, seen_at, seen_first, asked, is_ok_kind}
+use Rattle.run_safety.proofs.SeenLaws.{Propose, Recover, Finalizing, Open, Write, Writer, seen_at, seen_first, asked, is_ok_kind}
 use Rattle.run_safety.proofs.Slots.{some_same, true≢false, AtLeast, told_newest, IsTop}
 use Rattle.run_safety.proofs.Places.{Earlier-trans, Earlier-tail, Follows-earlier}
 use Rattle.run_safety.proofs.Majorities.{majorities_share}
@@ -52,7 +52,8 @@ module _ (n : ℕ) (story : Story) (past : List Entry) (run : Follows n story pa
   -- ## What the answers to a proposal told
   voted_least : (f a s : ℕ) (w : Writer) (o : Option ℕ) → (p : Sent n story past a s w) → 0 < s → (story.takeover a).epoch ≡ f → Newest n ((story.takeover a).heard 0) o →
       (g c u : ℕ) (body : List ℕ) → g < f → Maj n past g c u body → AtLeast c o
-  voted_least f a s w o p late epoch newest_is g c u body lt j = weaken rise.0 o (omega (arith, top.2, rise.2)) (newest_is.least i rise.0 y.0 y.2.from_one y.2.up_to_n y.2.was_heard fits (ap told_newest reply_is))
+  voted_least f a s w o p late epoch newest_is g c u body lt j = weaken rise.0 o (omega (arith, top.2, rise.2))
+      (newest_is.least i rise.0 y.0 y.2.from_one y.2.up_to_n y.2.was_heard fits (ap told_newest reply_is))
     where
       votes : Answers n story p.old a 0
       votes = answers_of n story past a s 0 w run p late (λ v at. to (λ r. IsGet r → ⊥) (sym (seen_first n (story.takeover a) v at).0) (λ z. z))
@@ -77,7 +78,8 @@ module _ (n : ℕ) (story : Story) (past : List Entry) (run : Follows n story pa
 
       q : (q : List Entry) × (h : Segment) × Earlier q y.1.old × (find_segment c (node_after i q).segments ≡ Some h) × (h.epoch ≡ g) × HasAt h u body
       q = held_before i g c u body y.1.entry y.1.old past (j.each i share.1) (Earlier-trans y.1.within p.within) (omega (arith, lt, v.after, epoch))
-          (asking_entry i c y.1.entry y.1.old y.1.caller Heard (NewEpoch (story.takeover a).epoch) y.0 (to (λ r. y.1.entry.move ≡ Answer y.1.caller Heard (asked (story.takeover a).epoch 0 votes.w.committed r) y.0) is_proposal y.1.move) tt)
+          (asking_entry i c y.1.entry y.1.old y.1.caller Heard (NewEpoch (story.takeover a).epoch) y.0
+          (to (λ r. y.1.entry.move ≡ Answer y.1.caller Heard (asked (story.takeover a).epoch 0 votes.w.committed r) y.0) is_proposal y.1.move) tt)
 
       top : (k : ℕ) × (newest (node_after i q.0).segments ≡ Some k) × (c ≤ k)
       top = newest-above c (node_after i q.0).segments q.1 q.3 (edit_of q.1 u body q.5)
@@ -93,7 +95,8 @@ module _ (n : ℕ) (story : Story) (past : List Entry) (run : Follows n story pa
       weaken k (Some z) le l = omega arith
 
   -- a start that was told to a takeover of f was written under a lower epoch
-  told_of_start : (f a s m : ℕ) (w w0 : Writer) → (p : Sent n story past a s w) → 0 < s → (story.takeover a).epoch ≡ f → seen_at n (story.takeover a) 0 ≡ Some w0 → Newest n ((story.takeover a).heard 0) (Some m) → ToldWrote n story past run f m
+  told_of_start : (f a s m : ℕ) (w w0 : Writer) → (p : Sent n story past a s w) → 0 < s → (story.takeover a).epoch ≡ f
+      → seen_at n (story.takeover a) 0 ≡ Some w0 → Newest n ((story.takeover a).heard 0) (Some m) → ToldWrote n story past run f m
   told_of_start f a s m w w0 p late epoch at newest_is =
       told_wrote n story past run f by.0 m v.old (Earlier-trans (Earlier-tail v.within) p.within) (v.taken_is.newest_is ∙ told_is) (omega (arith, v.taken_is.above, epoch))
     where
@@ -122,24 +125,30 @@ module _ (n : ℕ) (story : Story) (past : List Entry) (run : Follows n story pa
       told_of_start f x.a x.s m x.w c.writer x.sent (omega (arith, x.later)) x.epoch c.at q.1
 
   -- a takeover that went on from its answers to a prepare
-  abbrev pub asking_of : (f a s m : ℕ) (w v : Writer) (slots : List Slot) → Sent n story past a (suc s) w → (story.takeover a).epoch ≡ f → seen_at n (story.takeover a) s ≡ Some v → IsAsking m v.round → Counted n (story.takeover a) m slots → Asking n story past run f m
+  abbrev pub asking_of : (f a s m : ℕ) (w v : Writer) (slots : List Slot) → Sent n story past a (suc s) w → (story.takeover a).epoch ≡ f
+      → seen_at n (story.takeover a) s ≡ Some v → IsAsking m v.round → Counted n (story.takeover a) m slots → Asking n story past run f m
   asking_of f a s m w v slots p epoch at asking counted =
       let x = asked_at n (story.takeover a) s v m at asking in
       record { a = a; s = suc s; w = w; sent = p; later = omega (arith, x.3); epoch = epoch; asks = x.0; at = x.1; is = x.2; slots = slots; counted = counted }
 
-  -- The recovery fact: what is recovered is the whole segment that the best answer's node held when it answered the prepare.
+  -- The recovery fact: what is recovered is the whole segment that the best answer's node held when
+  -- it answered the prepare.
   pub record FromBest (f : ℕ) (b : BatchView) : Type 0 where
     pub asking : Asking n story past run f b.first
     pub best : Best
     pub is_best : best_of b.first asking.slots ≡ Some best
-    pub whole : (y : AnswerAt n story past run f b.first asking best.node) → (g : Segment) → find_segment b.first (node_after best.node y.old).segments ≡ Some g → info_of g ≡ best.info → b.bodies ≡ g.bodies
+    pub whole : (y : AnswerAt n story past run f b.first asking best.node) → (g : Segment)
+        → find_segment b.first (node_after best.node y.old).segments ≡ Some g → info_of g ≡ best.info → b.bodies ≡ g.bodies
 
-  from_asking : (f : ℕ) (b : BatchView) (a s : ℕ) (w v : Writer) → (p : Sent n story past a (suc s) w) → (epoch : (story.takeover a).epoch ≡ f) → (at : seen_at n (story.takeover a) s ≡ Some v) → (r : RecoveredBy n (story.takeover a) s v b) → (q : IsAsking b.first v.round) → FromBest f b
+  from_asking : (f : ℕ) (b : BatchView) (a s : ℕ) (w v : Writer) → (p : Sent n story past a (suc s) w) → (epoch : (story.takeover a).epoch ≡ f)
+      → (at : seen_at n (story.takeover a) s ≡ Some v) → (r : RecoveredBy n (story.takeover a) s v b) → (q : IsAsking b.first v.round) → FromBest f b
   from_asking f b a s w v p epoch at r q = let x : Asking n story past run f b.first = asking_of f a s b.first w v r.slots p epoch at q r.getting.counted in record {
     asking = x;
     best = record { node = r.node; info = r.getting.info };
     is_best = r.getting.best;
-    whole = λ y g found info. (let piece_is : r.batch.bodies ≡ take most_edits (drop (length r.pieces) g.bodies) = piece n story past run f b.first x r.node y s r.end v r.pieces r.batch at r.round r.heard (fetch_late n story past run f b.first x s v r.node r.end r.pieces at r.round) (omega arith) g found in
+    whole = λ y g found info. (let piece_is : r.batch.bodies ≡ take most_edits (drop (length r.pieces) g.bodies) =
+        piece n story past run f b.first x r.node y s r.end v r.pieces r.batch at r.round r.heard
+        (fetch_late n story past run f b.first x s v r.node r.end r.pieces at r.round) (omega arith) g found in
         let begins : IsPrefix r.pieces g.bodies = pieces_begin n story past run f b.first x s v r.node r.end r.pieces (omega arith) at r.round y g found in
         let all : IsPrefix b.bodies g.bodies = to (λ z. IsPrefix z g.bodies) (sym r.bodies) (to (λ z. IsPrefix (r.pieces ++ take (r.end + 1 - (b.first + length r.pieces)) z) g.bodies) (sym piece_is)
         (more_of r.pieces g.bodies (r.end + 1 - (b.first + length r.pieces)) most_edits begins)) in
@@ -148,7 +157,8 @@ module _ (n : ℕ) (story : Story) (past : List Entry) (run : Follows n story pa
         all_of b.bodies g.bodies all (omega (arith, r.reached)));
   }
 
-  from_parts : (f : ℕ) (b : BatchView) (a s : ℕ) (w v : Writer) → Sent n story past a (suc s) w → (story.takeover a).epoch ≡ f → seen_at n (story.takeover a) s ≡ Some v → RecoveredBy n (story.takeover a) s v b → FromBest f b
+  from_parts : (f : ℕ) (b : BatchView) (a s : ℕ) (w v : Writer) → Sent n story past a (suc s) w → (story.takeover a).epoch ≡ f
+      → seen_at n (story.takeover a) s ≡ Some v → RecoveredBy n (story.takeover a) s v b → FromBest f b
   from_parts f b a s w v p epoch at r = from_asking f b a s w v p epoch at r (to (λ z. IsAsking b.first z) (sym r.round) refl)
 
   pub from_best : (f : ℕ) (b : BatchView) → Rec n story past run f b → FromBest f b
@@ -185,11 +195,13 @@ module _ (n : ℕ) (story : Story) (past : List Entry) (run : Follows n story pa
         le = no_later n story past run f b.first fb.asking e m t body lt j
 
     -- the best answer isn't longer than what was finalised
-    best_end : (m : ℕ) (x : Asking n story past run f m) (b : Best) (g l : ℕ) (body : List ℕ) (below : g < f) (j : Maj n past g m l body) → Fin n story past run g m l → (h : BestHas n story past run f m x good g l body below j b) → end_of h.segment ≡ l
+    best_end : (m : ℕ) (x : Asking n story past run f m) (b : Best) (g l : ℕ) (body : List ℕ) (below : g < f) (j : Maj n past g m l body)
+        → Fin n story past run g m l → (h : BestHas n story past run f m x good g l body below j b) → end_of h.segment ≡ l
     best_end m x b g l body below j fin h = elim (cases_Bool h.segment.is_final) [
       | inl t ↦ fin_once n story past run f h.segment.epoch g m (end_of h.segment) l good h.below_f below (final_fin n story past run b.node m h.answer.old h.segment inside h.found t) fin
       | inr open_yet ↦ elim (cases_order g h.segment.epoch) [
-        | inl same_one ↦ (let y = has_place n story past run b.node m (end_of h.segment) h.answer.old h.segment inside h.found (omega (arith, start, le, long, h.has.1)) (omega (arith, start, long, le)) in
+        | inl same_one ↦ (let y = has_place n story past run b.node m (end_of h.segment) h.answer.old h.segment inside h.found
+            (omega (arith, start, le, long, h.has.1)) (omega (arith, start, long, le)) in
             let up : end_of h.segment ≤ l = fin_covers n story past run g m l (end_of h.segment) y.0 fin (to (λ z. Wrote n story past z m (end_of h.segment) y.0) (sym same_one) y.2) in
             omega (arith, h.has.1, long))
         | inr other ↦ elim other [
@@ -246,10 +258,12 @@ module _ (n : ℕ) (story : Story) (past : List Entry) (run : Follows n story pa
         y = s.all l (fin_le n story past run g m l fin).1 (omega arith)
 
     -- ## An opening, by the serial
-    opened_fuel : (fuel s a k : ℕ) (w : Writer) → s < fuel → Sent n story past a s w → (story.takeover a).epoch ≡ f → w.round ≡ Open k → (e m t : ℕ) (body : List ℕ) → e < f → Maj n past e m t body → t < k
+    opened_fuel : (fuel s a k : ℕ) (w : Writer) → s < fuel → Sent n story past a s w → (story.takeover a).epoch ≡ f → w.round ≡ Open k
+        → (e m t : ℕ) (body : List ℕ) → e < f → Maj n past e m t body → t < k
     opened_fuel zero s a k w lt p epoch is e m t body below j = absurd (omega arith)
     opened_fuel (suc fuel) zero a k w lt p epoch is e m t body below j = let no : Propose ≡ Open k = sym (seen_first n (story.takeover a) w p.at).0 ∙ is in cc
-    opened_fuel (suc fuel) (suc s) a k w lt p epoch is e m t body below j = go (λ r w2 k2 lt2 p2 q. opened_fuel fuel r a k2 w2 lt2 p2 epoch q e m t body below j) (open_before n (story.takeover a) s w k c is)
+    opened_fuel (suc fuel) (suc s) a k w lt p epoch is e m t body below j =
+        go (λ r w2 k2 lt2 p2 q. opened_fuel fuel r a k2 w2 lt2 p2 epoch q e m t body below j) (open_before n (story.takeover a) s w k c is)
       where
         c : Comes n (story.takeover a) s w
         c = comes n (story.takeover a) s w p.at
@@ -265,7 +279,7 @@ module _ (n : ℕ) (story : Story) (past : List Entry) (run : Follows n story pa
               (best_top n story past run f k x good e t body below j2))
         ]
 
-        sealed_before : ((r : ℕ) (w2 : Writer) (k2 : ℕ) → r < fuel → Sent n story past a r w2 → w2.round ≡ Open k2 → t < k2) → (k2 l : ℕ) → c.writer.round ≡ Seal k2 l → k ≡ l + 1 → t < k
+        sealed_before : ((r : ℕ) (w2 : Writer) (k2 : ℕ) → r < fuel → Sent n story past a r w2 → w2.round ≡ Open k2 → t < k2) → (k2 l : ℕ) → c.writer.round ≡ Finalizing k2 l → k ≡ l + 1 → t < k
         sealed_before again k2 l q next = cover v.covers.is
           where
             v : SealCovers n (story.takeover a) s k2 l
@@ -285,7 +299,8 @@ module _ (n : ℕ) (story : Story) (past : List Entry) (run : Follows n story pa
             cover (inr z) = (let o : OpenedAt n (story.takeover a) v.round v.writer.start = opened_at n (story.takeover a) v.round v.writer v.at (write_is v.writer k2 v.covers.batch z) in
                 let start : v.writer.start ≡ k2 = write_start v.writer k2 v.covers.batch (frame n (story.takeover a) v.round v.writer v.at) z in
                 let order : o.round < v.round = o.before in
-                let h : t < v.writer.start = again o.round o.writer v.writer.start (omega (arith, v.right_before)) (Sent-round n story past a v.round o.round v.writer o.writer sent_v (omega arith) o.at) o.opens in
+                let h : t < v.writer.start = again o.round o.writer v.writer.start (omega (arith, v.right_before))
+                (Sent-round n story past a v.round o.round v.writer o.writer sent_v (omega arith) o.at) o.opens in
                 omega (arith, fr.2))
 
         go : ((r : ℕ) (w2 : Writer) (k2 : ℕ) → r < fuel → Sent n story past a r w2 → w2.round ≡ Open k2 → t < k2) → OpenedBy n (story.takeover a) s c.writer k → t < k
@@ -310,19 +325,21 @@ module _ (n : ℕ) (story : Story) (past : List Entry) (run : Follows n story pa
     ]
 
     -- a finalise round with one after it was done
-    pub seal_done : (s a m l : ℕ) (w v : Writer) → (p : Sent n story past a (suc s) w) → (story.takeover a).epoch ≡ f → seen_at n (story.takeover a) s ≡ Some v → v.round ≡ Seal m l → IsFinalised n past f m l
+    pub seal_done : (s a m l : ℕ) (w v : Writer) → (p : Sent n story past a (suc s) w) → (story.takeover a).epoch ≡ f
+        → seen_at n (story.takeover a) s ≡ Some v → v.round ≡ Finalizing m l → IsFinalised n past f m l
     seal_done s a m l w v p epoch at is = (record { epoch = (story.takeover a).epoch; serial = s; committed = ans.w.committed }, epoch, (ans.nodes, ans.majority, each))
       where
         ans : Answers n story p.old a s
         ans = answers_of n story past a (suc s) s w run p (omega arith) (no_fetch n (story.takeover a) s v at (to (λ r. IsGet r → ⊥) (sym is) (λ z. z)))
 
-        round : ans.w.round ≡ Seal m l
+        round : ans.w.round ≡ Finalizing m l
         round = ap (λ z. z.round) (some_same (sym ans.at ∙ at)) ∙ is
 
         each : (i : ℕ) → Member i ans.nodes → SaidOk past i (Finalize (record { epoch = (story.takeover a).epoch; serial = s; committed = ans.w.committed }) m l)
         each i mem = by (ans.each i mem)
           where
-            by : (reply : Reply) × Answered n story p.old a s ans.w i reply × OkHeard n ans.w ((story.takeover a).heard s) i reply → SaidOk past i (Finalize (record { epoch = (story.takeover a).epoch; serial = s; committed = ans.w.committed }) m l)
+            by : (reply : Reply) × Answered n story p.old a s ans.w i reply × OkHeard n ans.w ((story.takeover a).heard s) i reply
+                → SaidOk past i (Finalize (record { epoch = (story.takeover a).epoch; serial = s; committed = ans.w.committed }) m l)
             by r = (
               r.1.old,
               r.1.entry,
@@ -331,7 +348,11 @@ module _ (n : ℕ) (story : Story) (past : List Entry) (run : Follows n story pa
               (
                 r.1.caller,
                 r.1.move ∙ (ap (λ z. Answer r.1.caller Heard (asked (story.takeover a).epoch s ans.w.committed z) r.0) round
-                    ∙ ap (λ z. Answer r.1.caller Heard (Finalize (record { epoch = (story.takeover a).epoch; serial = s; committed = ans.w.committed }) m l) z) (said_ok r.0 (to (λ z. is_ok_kind z r.0 ≡ true) round r.1.kind))),
+                    ∙ ap (λ z. Answer r.1.caller Heard (Finalize (record {
+                      epoch = (story.takeover a).epoch;
+                      serial = s;
+                      committed = ans.w.committed;
+                    }) m l) z) (said_ok r.0 (to (λ z. is_ok_kind z r.0 ≡ true) round r.1.kind))),
               ),
             )
 

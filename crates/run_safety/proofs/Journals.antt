@@ -1,9 +1,10 @@
--- The journal request that put an entry of the line there: all of its batch up to that entry stands on the line.
+-- The journal request that put an entry of the line there: all of its batch up to that entry stands
+-- on the line.
 use Rattle.std.proofs.Common.{◌≡◌, ℕ, ◌+◌, ◌<◌, ◌≤◌, List, ◌∷◌, length, Some, refl, inr, arith, subst, sym, ap, ◌∙◌}
 use Rattle.std.specs.Prelude.{slice_get}
 use Rattle.journal_core.specs.Views.{HeadView, BatchView}
 use Rattle.journal_core.specs.declared.request.Request.TheVariants.{Journal}
-use Rattle.node_history.specs.Entries.{Entry, Earlier}
+use Rattle.journal_history.specs.Entries.{Entry, Earlier}
 use Rattle.run_safety.specs.Run.{Story, Follows}
 use Rattle.run_safety.specs.Safe.{IsOnLine, IsOf, IsStart}
 use Rattle.run_safety.specs.Parts.{IsJournaled, IsAuthor, IsPutByJournal}
@@ -51,7 +52,8 @@ module _ (n : ℕ) (story : Story) (past : List Entry) (run : Follows n story pa
     pub entry : (old : List Entry) × (x : Entry) × Earlier (x ∷ old) past × IsStart x head.epoch start
     pub below : start ≤ batch.first
 
-  started : (old : List Entry) (e : Entry) (head : HeadView) (start : ℕ) (batch : BatchView) (body : List ℕ) (k : ℕ) → Earlier (e ∷ old) past → IsOf e (Journal head start batch) → slice_get batch.bodies k ≡ Some body → Started head start batch
+  started : (old : List Entry) (e : Entry) (head : HeadView) (start : ℕ) (batch : BatchView) (body : List ℕ) (k : ℕ) → Earlier (e ∷ old) past
+      → IsOf e (Journal head start batch) → slice_get batch.bodies k ≡ Some body → Started head start batch
   started old e head start batch body k p q has = record {
     entry = to (λ ep. (old : List Entry) × (x : Entry) × Earlier (x ∷ old) past × IsStart x ep start) (sym x.epoch)
         (start_entry n story past run x.z.a x.z.s start x.z.w o.writer o.round x.z.sent o.before o.at (o.opens ∙ ap (λ z. Open z) same));

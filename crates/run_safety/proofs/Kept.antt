@@ -15,7 +15,7 @@ use Rattle.journal_core.specs.declared.reply.Reply.TheVariants.{Ok, State as Sta
 use Rattle.journal_core.specs.declared.heard.Heard.TheVariants.{Answer as AnswerHeard}
 use Rattle.writer_core.specs.declared.slot.Slot.TheVariants.{Told}
 use Rattle.writer_core.specs.Best.{Best, best_of, segment_told}
-use Rattle.node_history.specs.Entries.{Way, Heard, Entry, Answer, node_after, Earlier}
+use Rattle.journal_history.specs.Entries.{Way, Heard, Entry, Answer, node_after, Earlier}
 use Rattle.run_safety.specs.Run.{Story, Follows, IsNext, takeover_at}
 use Rattle.run_safety.specs.Safe.{IsHeld, IsChosen, IsOf, IsStart}
 use Rattle.run_safety.specs.Parts.{KeepsPromise, IsRefused, IsAfterFinalised, ToldPrepare, IsNotAbove, IsWhole}
@@ -55,7 +55,8 @@ not_refused (Segments l) r = tt
 not_refused (Refused x) r = absurd (r tt)
 
 module _ (n : ℕ) (story : Story) (past : List Entry) (run : Follows n story past) where
-  pub answer_promised : (old : List Entry) (e : Entry) (c : ℕ) (w : Way) (r : Request) (y : Reply) (h : HeadView) → Earlier (e ∷ old) past → e.move ≡ Answer c w r y → (IsRefused y → ⊥) → head_of r ≡ Some h → h.epoch ≤ (node_after e.node (e ∷ old)).promised
+  pub answer_promised : (old : List Entry) (e : Entry) (c : ℕ) (w : Way) (r : Request) (y : Reply) (h : HeadView) → Earlier (e ∷ old) past
+      → e.move ≡ Answer c w r y → (IsRefused y → ⊥) → head_of r ≡ Some h → h.epoch ≤ (node_after e.node (e ∷ old)).promised
   answer_promised old e c w r y h p is fine at =
       let said = to (λ m. IsNext n story old e.node (node_after e.node old) m) is (next_of n story p run).is_next in
       let ok : Passed (node_after e.node old) r = passed (node_after e.node old) r y said.1 (not_refused y fine) in
@@ -84,7 +85,8 @@ module _ (n : ℕ) (story : Story) (past : List Entry) (run : Follows n story pa
           none≢some h (ap (λ q. head_of (asked (takeover_at story old).epoch (story.round (length old)) x.w.committed q)) (sym first) ∙ (sym (ap head_of x.is) ∙ at)))
       positive (suc s) is = omega arith
 
-  pub one_owner_an_epoch : (xs ys : List Entry) (x y : Entry) (p q : Request) (h k : HeadView) → Earlier (x ∷ xs) past → Earlier (y ∷ ys) past → IsOf x p → IsOf y q → head_of p ≡ Some h → head_of q ≡ Some k → h.epoch ≡ k.epoch → story.whose (length xs) ≡ story.whose (length ys)
+  pub one_owner_an_epoch : (xs ys : List Entry) (x y : Entry) (p q : Request) (h k : HeadView) → Earlier (x ∷ xs) past → Earlier (y ∷ ys) past
+      → IsOf x p → IsOf y q → head_of p ≡ Some h → head_of q ≡ Some k → h.epoch ≡ k.epoch → story.whose (length xs) ≡ story.whose (length ys)
   one_owner_an_epoch xs ys x y p q h k at also is_p is_q head other same =
       let a : Mine xs p = mine xs x p at is_p in
       let b : Mine ys q = mine ys y q also is_q in
@@ -98,7 +100,8 @@ module _ (n : ℕ) (story : Story) (past : List Entry) (run : Follows n story pa
 
   pub written_once : (i j : ℕ) (g h : Segment) (t : ℕ) (x y : List ℕ) → IsHeld past i g → IsHeld past j h → g.epoch ≡ h.epoch → HasAt g t x → HasAt h t y → (g.start ≡ h.start) × (x ≡ y)
   written_once i j g h t x y p q same has also = wrote_once n story past h.epoch g.start h.start t x y run
-      (to (λ e. Wrote n story past e g.start t x) same (held_wrote n story past run i g.epoch g.start t x (held_at i g t x p has))) (held_wrote n story past run j h.epoch h.start t y (held_at j h t y q also))
+      (to (λ e. Wrote n story past e g.start t x) same (held_wrote n story past run i g.epoch g.start t x (held_at i g t x p has)))
+      (held_wrote n story past run j h.epoch h.start t y (held_at j h t y q also))
 
   behind : (e k : ℕ) → After n story past run e k → IsAfterFinalised n past e k
   behind e k (inl one) = inl one
@@ -133,7 +136,8 @@ module _ (n : ℕ) (story : Story) (past : List Entry) (run : Follows n story pa
   pub starts_above : (old : List Entry) (e : Entry) (f g t k : ℕ) (x : List ℕ) → IsChosen n past f t x → Earlier (e ∷ old) past → IsStart e g k → f < g → t < k
   starts_above old e f g t k x c p is lt = (let j = chosen_maj n story past run f t x c in (good n story past run g).opened k (opening old e g k p is) f j.0 t x lt j.1)
 
-  pub finalised_chosen : (old : List Entry) (e : Entry) (h : HeadView) (m l : ℕ) → Earlier (e ∷ old) past → IsOf e (Finalize h m l) → (g : ℕ) × (g ≤ h.epoch) × ((t : ℕ) → m ≤ t → t ≤ l → (body : List ℕ) × IsChosen n past g t body)
+  pub finalised_chosen : (old : List Entry) (e : Entry) (h : HeadView) (m l : ℕ) → Earlier (e ∷ old) past → IsOf e (Finalize h m l)
+      → (g : ℕ) × (g ≤ h.epoch) × ((t : ℕ) → m ≤ t → t ≤ l → (body : List ℕ) × IsChosen n past g t body)
   finalised_chosen old e h m l p is =
       let z : OfRound n story past (Finalize h m l) = round_within n story past old e (Finalize h m l) run p is in
       let r = finalize_round (story.takeover z.a).epoch z.s z.w.committed z.w.round h m l z.is in
@@ -188,8 +192,12 @@ module _ (n : ℕ) (story : Story) (past : List Entry) (run : Follows n story pa
             bodies = fb.whole a.answer a.segment a.found a.info;
             nodes = (answers n story past run h.epoch b.first fb.asking).nodes;
             majority = (answers n story past run h.epoch b.first fb.asking).majority;
-            is_best = λ i mem. (let y : AnswerAt n story past run h.epoch b.first fb.asking i = answer_at n story past run h.epoch b.first fb.asking i mem in
-                (y.answered.old, y.segment, told_at h.epoch b.first fb.asking i y, to (λ q. IsNotAbove y.segment q) (sym a.info) (not_higher h.epoch b.first fb.asking i y fb.best fb.is_best y.segment refl)));
+            is_best = λ i mem. (let y : AnswerAt n story past run h.epoch b.first fb.asking i = answer_at n story past run h.epoch b.first fb.asking i mem in (
+              y.answered.old,
+              y.segment,
+              told_at h.epoch b.first fb.asking i y,
+              to (λ q. IsNotAbove y.segment q) (sym a.info) (not_higher h.epoch b.first fb.asking i y fb.best fb.is_best y.segment refl),
+            ));
           }
 
   -- ## A segment is opened or accepted
@@ -212,8 +220,10 @@ module _ (n : ℕ) (story : Story) (past : List Entry) (run : Follows n story pa
       first_opened : StageLater (stage o.w.round) 3 → ⊥
       first_opened x = elim (to (λ q. StageLater (stage q) 3) o.is x) [ inl lt ↦ omega (arith, lt) | inr y ↦ omega (arith, y.0) ]
 
-  pub opened_or_accepted : (xs ys : List Entry) (x y : Entry) (e : ℕ) (h : HeadView) (b : BatchView) → Earlier (x ∷ xs) past → Earlier (y ∷ ys) past → IsStart x e b.first → IsOf y (Accept h b) → h.epoch ≡ e → ⊥
+  pub opened_or_accepted : (xs ys : List Entry) (x y : Entry) (e : ℕ) (h : HeadView) (b : BatchView) → Earlier (x ∷ xs) past → Earlier (y ∷ ys) past
+      → IsStart x e b.first → IsOf y (Accept h b) → h.epoch ≡ e → ⊥
   opened_or_accepted xs ys x y e h b p q is of same =
       let o : Opn n story past run e b.first = opening xs x e b.first p is in
       let r : Rec n story past run e b = to (λ z. Rec n story past run z b) same (accepting ys y h b q of) in
-      rounds_apart e b o r (owner_same n story past run e (Open b.first) (Recover b) o r (not_first n story past run e (Open b.first) o (λ z. cc z)) (not_first n story past run e (Recover b) r (λ z. cc z)))
+      rounds_apart e b o r (owner_same n story past run e (Open b.first) (Recover b) o r (not_first n story past run e (Open b.first) o (λ z. cc z))
+      (not_first n story past run e (Recover b) r (λ z. cc z)))

@@ -1,5 +1,6 @@
 -- What a node holds after it answered Ok, and that its newest start never falls.
-use Rattle.std.proofs.Common.{◌≡◌, ℕ, suc, ◌+◌, ◌≤◌, ◌⊎◌, ◌==◌, ◌&&◌, Bool, true, false, not, List, [], ◌∷◌, ◌++◌, length, length-append, Option, Some, None, refl, inl, inr, arith, subst, sym, ap, ◌∙◌, if◌then◌else◌}
+use Rattle.std.proofs.Common.{◌≡◌, ℕ, suc, ◌+◌, ◌≤◌, ◌⊎◌, ◌==◌, ◌&&◌, Bool, true, false, not, List, [], ◌∷◌, ◌++◌, length, length-append, Option}
+use Rattle.std.proofs.Common.{Some, None, refl, inl, inr, arith, subst, sym, ap, ◌∙◌, if◌then◌else◌}
 use Rattle.std.specs.Prelude.{slice_get}
 use Rattle.std.proofs.lemmas.Bool.{cond_both, cases_Bool, cond-true, eqb-true}
 use Rattle.journal_core.specs.Laws.{OpenIsLed}
@@ -16,7 +17,7 @@ use Rattle.journal_core.specs.declared.request.Request.{Request}
 use Rattle.journal_core.specs.declared.request.Request.TheVariants.{Journal, Finalize, Prepare, Accept}
 use Rattle.journal_core.specs.declared.segment.Segment.{Segment}
 use Rattle.journal_core.specs.declared.segment_info.SegmentInfo.{SegmentInfo}
-use Rattle.node_history.specs.Entries.{Entry, node_after, Earlier, now, before}
+use Rattle.journal_history.specs.Entries.{Entry, node_after, Earlier, now, before}
 use Rattle.run_safety.specs.Run.{Story, Follows}
 use Rattle.run_safety.proofs.Places.{Earlier-tail}
 use Rattle.journal_core.proofs.SegmentLists.{find-start, find-put_same, newest-above, newest-found}
@@ -95,7 +96,9 @@ pub record AcceptHeld (s : NodeState) (h : HeadView) (b : BatchView) : Type 0 wh
 accept_case : (s : NodeState) (h : HeadView) (b : BatchView) → Passed s (Accept h b) → (o : Option Segment) → find_segment b.first s.segments ≡ o → accept_refused b o ≡ None → AcceptHeld s h b
 accept_case s h b p None is e = record {
   held = record { start = b.first; epoch = h.epoch; bodies = b.bodies; is_final = false; accepted = true };
-  found = ap (λ z. find_segment b.first z) (passed_segments s (Accept h b) p) ∙ (ap (λ o. find_segment b.first (segments_all s.segments (if is_final_one o then [] else Replace h.epoch b ∷ []))) is ∙ find-put_same _ s.segments);
+  found = ap (λ z. find_segment b.first z) (passed_segments s (Accept h b) p)
+      ∙ (ap (λ o. find_segment b.first (segments_all s.segments (if is_final_one o then [] else Replace h.epoch b ∷ []))) is
+      ∙ find-put_same _ s.segments);
   as_sent = inl (refl, refl);
 }
 accept_case s h b p (Some g) is e = elim (cases_Bool g.is_final) [
@@ -130,7 +133,8 @@ pub record FinalizeHeld (s : NodeState) (h : HeadView) (m l : ℕ) : Type 0 wher
   pub ends : end_of held ≡ l
   pub edit : has_edit held ≡ true
 
-finalize_segments : (s : NodeState) (h : HeadView) (m l : ℕ) → Passed s (Finalize h m l) → (node_step s (Finalize h m l)).state.segments ≡ segments_all s.segments (if is_final_one (find_segment m s.segments) then [] else SealIt m ∷ [])
+finalize_segments : (s : NodeState) (h : HeadView) (m l : ℕ) → Passed s (Finalize h m l)
+    → (node_step s (Finalize h m l)).state.segments ≡ segments_all s.segments (if is_final_one (find_segment m s.segments) then [] else SealIt m ∷ [])
 finalize_segments s h m l p = passed_segments s (Finalize h m l) p ∙ drop_quiet (if is_final_one (find_segment m s.segments) then [] else SealIt m ∷ []) _ s.segments (commits_quiet _ _)
   where
     commits_quiet : (b : Bool) (c : ℕ) → AllQuiet (if b then Commit c ∷ [] else [])
@@ -158,7 +162,9 @@ finalize_case s h m l p (Some g) is e =
         held = record g { is_final = true; accepted = false };
         found = ap (λ z. find_segment m z) (finalize_segments s h m l p) ∙ (ap (λ o. find_segment m (segments_all s.segments (if is_final_one o then [] else SealIt m ∷ []))) is
             ∙ (ap (λ z. find_segment m (segments_all s.segments (if z then [] else SealIt m ∷ []))) f
-            ∙ (ap (λ o. find_segment m (finalized o s.segments)) is ∙ (ap (λ j. find_segment j (put_segment (record g { is_final = true; accepted = false }) s.segments)) (sym start) ∙ find-put_same _ s.segments))));
+            ∙ (ap (λ o. find_segment m (finalized o s.segments)) is ∙
+            (ap (λ j. find_segment j (put_segment (record g { is_final = true; accepted = false }) s.segments)) (sym start)
+            ∙ find-put_same _ s.segments))));
         final = refl;
         ends = q.end_is;
         edit = q.edit;
@@ -210,7 +216,8 @@ newest_step n story past f i k e old p is =
     ]
 
 -- from one place of a run to a later one
-pub newest_rises : (n : ℕ) (story : Story) (past : List Entry) → Follows n story past → (i k : ℕ) {old new : List Entry} → Earlier old new → Earlier new past → newest (node_after i old).segments ≡ Some k →
+pub newest_rises : (n : ℕ) (story : Story) (past : List Entry) → Follows n story past → (i k : ℕ) {old new : List Entry} → Earlier old new
+    → Earlier new past → newest (node_after i old).segments ≡ Some k →
     (j : ℕ) × (newest (node_after i new).segments ≡ Some j) × (k ≤ j)
 newest_rises n story past f i k now q is = (k, is, omega arith)
 newest_rises n story past f i k (before {past = rest} {e = e} p) q is =

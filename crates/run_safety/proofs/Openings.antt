@@ -1,4 +1,5 @@
--- Why a segment is opened: no newest start was told, nothing of the segment was told, or the same epoch finalised the segment before it.
+-- Why a segment is opened: no newest start was told, nothing of the segment was told, or the same
+-- epoch finalised the segment before it.
 use Rattle.std.proofs.Common.{◌≡◌, ℕ, zero, suc, ◌+◌, ◌<◌, ◌⊎◌, true, List, ◌∷◌, Option, Some, None, refl, inl, inr, arith, sym, ap, ◌∙◌}
 use Rattle.journal_core.specs.declared.request.Request.TheVariants.{NewEpoch}
 use Rattle.journal_core.specs.declared.reply.Reply.{Reply}
@@ -8,7 +9,7 @@ use Rattle.journal_core.specs.declared.heard.Heard.TheVariants.{Answer as Answer
 use Rattle.writer_core.specs.declared.slot.Slot.TheVariants.{Told}
 use Rattle.writer_core.specs.Answers.{fits_propose}
 use Rattle.writer_core.specs.Best.{best_of, segment_told}
-use Rattle.node_history.specs.Entries.{Heard, Entry, Answer, Earlier}
+use Rattle.journal_history.specs.Entries.{Heard, Entry, Answer, Earlier}
 use Rattle.run_safety.specs.Run.{Story, Follows}
 use Rattle.run_safety.specs.Safe.{IsStart}
 use Rattle.run_safety.specs.Parts.{IsFinalised, ToldNewest, ToldPrepare, NoneToldNewest, NoneToldPrepare}
@@ -88,7 +89,8 @@ module _ (n : ℕ) (story : Story) (past : List Entry) (run : Follows n story pa
           c : Comes n (story.takeover o.a) s w
           c = comes n (story.takeover o.a) s w p.at
 
-          by : OpenedBy n (story.takeover o.a) s c.writer k → ((k ≡ 1) × NoneToldNewest n past f) ⊎ (NoneToldPrepare n past f k ⊎ ((first : ℕ) × (last : ℕ) × (last + 1 ≡ k) × IsFinalised n past f first last))
+          by : OpenedBy n (story.takeover o.a) s c.writer k → ((k ≡ 1) × NoneToldNewest n past f)
+              ⊎ (NoneToldPrepare n past f k ⊎ ((first : ℕ) × (last : ℕ) × (last + 1 ≡ k) × IsFinalised n past f first last))
           by (at_one q none one) =
               (let first : s ≡ 0 = proposal_first n (story.takeover o.a) s c.writer c.at q in
               inl (one, none_told o.a (suc s) f w p (omega arith) o.epoch (to (λ z. Newest n ((story.takeover o.a).heard z) None) first none)))

@@ -1,5 +1,5 @@
--- What is recovered is whole: the pieces that were fetched from the best answer's node are those of the segment that it told, since nothing
--- but fetches came between.
+-- What is recovered is whole: the pieces that were fetched from the best answer's node are those of
+-- the segment that it told, since nothing but fetches came between.
 use Rattle.std.proofs.Common.{◌≡◌, ℕ, zero, suc, ◌+◌, ◌-◌, ◌<◌, ◌≤◌, ◌⊎◌, true, List, [], ◌∷◌, ◌++◌, length, length-append, take, drop, Option, Some, refl, inl, inr, arith, sym, ap, ◌∙◌, append_assoc}
 use Rattle.std.proofs.lemmas.Bool.{cases_order}
 use Rattle.std.proofs.lemmas.List.{take-append-drop}
@@ -14,7 +14,7 @@ use Rattle.journal_core.specs.declared.request.Request.{Request}
 use Rattle.journal_core.specs.declared.request.Request.TheVariants.{Prepare, Fetch}
 use Rattle.journal_core.specs.declared.reply.Reply.TheVariants.{Prepared, Edits}
 use Rattle.journal_core.specs.declared.segment.Segment.{Segment}
-use Rattle.node_history.specs.Entries.{Entry, Answer, Heard, node_after, Earlier}
+use Rattle.journal_history.specs.Entries.{Entry, Answer, Heard, node_after, Earlier}
 use Rattle.run_safety.specs.Run.{Story, Follows, IsNext, IsMade, WasHeard}
 use Rattle.run_safety.proofs.Places.{Earlier-trans, Earlier-tail, Follows-earlier, next_of}
 use Rattle.journal_core.proofs.SegmentLists.{find-start}
@@ -42,7 +42,8 @@ more_of xs zs c d p =
     to (λ ys. IsPrefix (xs ++ take c (take d ys)) zs) (sym behind) (
       drop c (take d p.0) ++ drop d p.0,
       append_assoc xs (take c (take d p.0)) (drop c (take d p.0) ++ drop d p.0)
-          ∙ (ap (λ ys. xs ++ ys) (sym (append_assoc (take c (take d p.0)) (drop c (take d p.0)) (drop d p.0)) ∙ (ap (λ ys. ys ++ drop d p.0) (take-append-drop c (take d p.0)) ∙ take-append-drop d p.0)) ∙ p.1),
+          ∙ (ap (λ ys. xs ++ ys) (sym (append_assoc (take c (take d p.0)) (drop c (take d p.0)) (drop d p.0))
+          ∙ (ap (λ ys. ys ++ drop d p.0) (take-append-drop c (take d p.0)) ∙ take-append-drop d p.0)) ∙ p.1),
     )
 
 pub all_of : (xs zs : List (List ℕ)) → IsPrefix xs zs → length zs ≤ length xs → xs ≡ zs
@@ -50,7 +51,8 @@ all_of xs zs (rest, is) le = go rest is
   where
     go : (rest : List (List ℕ)) → xs ++ rest ≡ zs → xs ≡ zs
     go [] e = sym (append_nil xs) ∙ e
-    go (y ∷ rest) e = (let len : length (xs ++ y ∷ rest) ≡ length zs = ap length e in let sum : length (xs ++ y ∷ rest) ≡ length xs + length (y ∷ rest) = length-append xs (y ∷ rest) in absurd (omega arith))
+    go (y ∷ rest) e = (let len : length (xs ++ y ∷ rest) ≡ length zs =
+        ap length e in let sum : length (xs ++ y ∷ rest) ≡ length xs + length (y ∷ rest) = length-append xs (y ∷ rest) in absurd (omega arith))
 
 -- ## What may change a segment is a request of a round after the recovery's fetches
 record WorkOf (n : ℕ) (story : Story) (past : List Entry) (r : Request) (z : OfRound n story past r) : Type 0 where
@@ -59,7 +61,8 @@ record WorkOf (n : ℕ) (story : Story) (past : List Entry) (r : Request) (z : O
   epoch : head.epoch ≡ (story.takeover z.a).epoch
   late : 3 ≤ stage z.w.round
 
-work_of : (n : ℕ) (story : Story) (past : List Entry) (s : NodeState) (r : Request) (m : ℕ) (o new : Option Segment) → Change s r m o new → (z : OfRound n story past r) → (new ≡ o) ⊎ WorkOf n story past r z
+work_of : (n : ℕ) (story : Story) (past : List Entry) (s : NodeState) (r : Request) (m : ℕ) (o new : Option Segment) → Change s r m o new
+    → (z : OfRound n story past r) → (new ≡ o) ⊎ WorkOf n story past r z
 work_of n story past s r m o new same z = inl refl
 work_of n story past s r m o new (created h q none) z =
     let p = start_round (story.takeover z.a).epoch z.s z.w.committed z.w.round h m (sym q ∙ z.is) in
@@ -79,14 +82,16 @@ work_of n story past s r m (Some g) new (removed h l q newer low shut) z =
 
 module _ (n : ℕ) (story : Story) (past : List Entry) (run : Follows n story past) (f m : ℕ) (x : Asking n story past run f m) where
   -- ## From the answer to a prepare to the answer to a fetch the node's segments stay
-  module _ (i : ℕ) (y : AnswerAt n story past run f m x i) (k end : ℕ) (v : Writer) (pieces : List (List ℕ)) (batch : BatchView) (at : seen_at n (story.takeover x.a) k ≡ Some v) (is : v.round ≡ Get i m end pieces)
+  module _ (i : ℕ) (y : AnswerAt n story past run f m x i) (k end : ℕ) (v : Writer) (pieces : List (List ℕ)) (batch : BatchView)
+      (at : seen_at n (story.takeover x.a) k ≡ Some v) (is : v.round ≡ Get i m end pieces)
       (heard : (story.takeover x.a).heard k i ≡ Some (Edits batch)) (late : 1 < k) (sent : k < x.s) where
     abbrev pub head : HeadView
     head = record { epoch = (story.takeover x.a).epoch; serial = k; committed = v.committed }
 
     -- the answer to the fetch
     abbrev pub z : Answered n story x.sent.old x.a k v i (Edits batch)
-    z = answered_of n story x.sent.old x.a k v i (Edits batch) (Follows-earlier n story x.sent.within run) at (to (λ r. is_ok_kind r (Edits batch) ≡ true) (sym is) refl) (x.sent.heard_before k i (Edits batch) sent heard)
+    z = answered_of n story x.sent.old x.a k v i (Edits batch) (Follows-earlier n story x.sent.within run) at
+        (to (λ r. is_ok_kind r (Edits batch) ≡ true) (sym is) refl) (x.sent.heard_before k i (Edits batch) sent heard)
 
     inside : Earlier (z.entry ∷ z.old) past
     inside = Earlier-trans z.within x.sent.within
@@ -106,16 +111,19 @@ module _ (n : ℕ) (story : Story) (past : List Entry) (run : Follows n story pa
 
     first_heard : WasHeard story z.old x.a 1 i (Prepared y.writer y.known y.segment)
     first_heard = to (λ a. WasHeard story z.old a 1 i (Prepared y.writer y.known y.segment)) z.whose
-        (made.heard_before 1 i (Prepared y.writer y.known y.segment) (omega (arith, z.which, late)) (to (λ a. (story.takeover a).heard 1 i ≡ Some (Prepared y.writer y.known y.segment)) (sym z.whose) y.heard))
+        (made.heard_before 1 i (Prepared y.writer y.known y.segment) (omega (arith, z.which, late))
+        (to (λ a. (story.takeover a).heard 1 i ≡ Some (Prepared y.writer y.known y.segment)) (sym z.whose) y.heard))
 
     before_fetch : Earlier z.old past
     before_fetch = Earlier-tail inside
 
     q : Answered n story z.old x.a 1 x.asks i (Prepared y.writer y.known y.segment)
-    q = answered_of n story z.old x.a 1 x.asks i (Prepared y.writer y.known y.segment) (Follows-earlier n story before_fetch run) x.at (asks_kind n story past run f m x (Prepared y.writer y.known y.segment) y.fits) first_heard
+    q = answered_of n story z.old x.a 1 x.asks i (Prepared y.writer y.known y.segment) (Follows-earlier n story before_fetch run) x.at
+        (asks_kind n story past run f m x (Prepared y.writer y.known y.segment) y.fits) first_heard
 
     same_place : q.old ≡ y.old
-    same_place = answered_once n story past run x.a 1 x.asks x.asks i (Prepared y.writer y.known y.segment) (Prepared y.writer y.known y.segment) z.old x.sent.old before_fetch x.sent.within q y.answered ∙ y.is_old
+    same_place = answered_once n story past run x.a 1 x.asks x.asks i (Prepared y.writer y.known y.segment) (Prepared y.writer y.known y.segment)
+        z.old x.sent.old before_fetch x.sent.within q y.answered ∙ y.is_old
 
     abbrev ask_head : HeadView
     ask_head = record { epoch = (story.takeover x.a).epoch; serial = 1; committed = x.asks.committed }
@@ -129,9 +137,11 @@ module _ (n : ℕ) (story : Story) (past : List Entry) (run : Follows n story pa
 
     bottom : f ≤ (node_after i (q.entry ∷ q.old)).promised
     bottom = (let up : (story.takeover x.a).epoch ≤ (node_after i (q.entry ∷ q.old)).promised = to (λ u. (story.takeover x.a).epoch ≤ u.promised) (sym (node_here i q.entry q.old q.node))
-        (head_promise (node_after i q.old) q.entry.move (Prepare ask_head m) ask_head (inl (q.caller, Heard, Prepared y.writer y.known y.segment, ask_move)) ask_passed.at_once refl) in omega (arith, x.epoch))
+        (head_promise (node_after i q.old) q.entry.move (Prepare ask_head m) ask_head
+        (inl (q.caller, Heard, Prepared y.writer y.known y.segment, ask_move)) ask_passed.at_once refl) in omega (arith, x.epoch))
 
-    -- a request between the two that may change a segment would be of a later round of this takeover, which comes after the fetch's answer
+    -- a request between the two that may change a segment would be of a later round of this
+    -- takeover, which comes after the fetch's answer
     none_between : (e : Entry) (old : List Entry) → Earlier (q.entry ∷ q.old) old → Earlier (e ∷ old) z.old → (r : Request) → (u : OfRound n story z.old r) → (g : WorkOf n story z.old r u) →
         (node_after i old).promised ≤ g.head.epoch → g.head.epoch ≤ (node_after i (e ∷ old)).promised → ⊥
     none_between e old a b r u g low high = not_again n story past run x.a k v i (Edits batch) (Edits batch) x.sent.old x.sent.within z again
@@ -193,14 +203,16 @@ module _ (n : ℕ) (story : Story) (past : List Entry) (run : Follows n story pa
         ∙ ap (λ w. find_segment j (node_after i w).segments) same_place
       where
         round_here : (e : Entry) (old : List Entry) → Earlier (e ∷ old) z.old → (c : Changes i e old j) → OfRound n story z.old c.by.request
-        round_here e old b c = round_within n story z.old old e c.by.request (Follows-earlier n story before_fetch run) b (to (λ w. Requested (node_after w old) e.move c.by.request) (sym c.node) c.by.asked)
+        round_here e old b c = round_within n story z.old old e c.by.request (Follows-earlier n story before_fetch run) b
+            (to (λ w. Requested (node_after w old) e.move c.by.request) (sym c.node) c.by.asked)
 
     -- so the piece is one of the segment that was told
     pub piece : (g : Segment) → find_segment m (node_after i y.old).segments ≡ Some g → batch.bodies ≡ take most_edits (drop (length pieces) g.bodies)
     piece g found =
         let there : find_segment m (node_after i z.old).segments ≡ Some g = still m ∙ found in
         let start : g.start ≡ m = find-start m (node_after i y.old).segments g found in
-        let told : Edits (record { first = m + length pieces; bodies = piece_of (find_segment m (node_after i z.old).segments) (m + length pieces) }) ≡ Edits batch = sym fetch_passed.reply ∙ replied in
+        let told : Edits (record { first = m + length pieces; bodies = piece_of (find_segment m (node_after i z.old).segments) (m + length pieces) })
+        ≡ Edits batch = sym fetch_passed.reply ∙ replied in
         let one : record { first = m + length pieces; bodies = piece_of (find_segment m (node_after i z.old).segments) (m + length pieces) } ≡ batch = cc in
         let index : m + length pieces - g.start ≡ length pieces = omega arith in
         sym (ap (λ b. b.bodies) one) ∙ (ap (λ o. piece_of o (m + length pieces)) there ∙ ap (λ c. take most_edits (drop c g.bodies)) index)
@@ -212,9 +224,12 @@ module _ (n : ℕ) (story : Story) (past : List Entry) (run : Follows n story pa
   fetch_late (suc (suc s)) v i end pieces at is = omega arith
 
   -- ## The pieces so far begin the told segment
-  pub pieces_begin : (s : ℕ) (v : Writer) (i end : ℕ) (pieces : List (List ℕ)) → s < x.s → seen_at n (story.takeover x.a) s ≡ Some v → v.round ≡ Get i m end pieces → (y : AnswerAt n story past run f m x i) → (g : Segment) → find_segment m (node_after i y.old).segments ≡ Some g → IsPrefix pieces g.bodies
+  pub pieces_begin : (s : ℕ) (v : Writer) (i end : ℕ) (pieces : List (List ℕ)) → s < x.s → seen_at n (story.takeover x.a) s ≡ Some v
+      → v.round ≡ Get i m end pieces → (y : AnswerAt n story past run f m x i) → (g : Segment) → find_segment m (node_after i y.old).segments ≡ Some g
+      → IsPrefix pieces g.bodies
   pieces_begin zero v i end pieces lt at is y g found = let no : Get i m end pieces ≡ Propose = sym is ∙ (seen_first n (story.takeover x.a) v at).0 in cc
-  pieces_begin (suc s) v i end pieces lt at is y g found = by (got_before n (story.takeover x.a) s v i m end pieces c is) (λ earlier before. pieces_begin s c.writer i end earlier (omega arith) c.at before y g found)
+  pieces_begin (suc s) v i end pieces lt at is y g found = by (got_before n (story.takeover x.a) s v i m end pieces c is)
+      (λ earlier before. pieces_begin s c.writer i end earlier (omega arith) c.at before y g found)
     where
       c : Comes n (story.takeover x.a) s v
       c = comes n (story.takeover x.a) s v at
@@ -222,5 +237,6 @@ module _ (n : ℕ) (story : Story) (past : List Entry) (run : Follows n story pa
       by : GotBy n (story.takeover x.a) s c.writer i m end pieces → ((earlier : List (List ℕ)) → c.writer.round ≡ Get i m end earlier → IsPrefix earlier g.bodies) → IsPrefix pieces g.bodies
       by (nothing_yet asking none) again = to (λ z. IsPrefix z g.bodies) (sym none) (g.bodies, refl)
       by (one_more earlier batch before heard more) again = to (λ z. IsPrefix z g.bodies) (sym more)
-          (to (λ z. IsPrefix (earlier ++ take (end + 1 - (m + length earlier)) z) g.bodies) (sym (piece i y s end c.writer earlier batch c.at before heard (fetch_late s c.writer i end earlier c.at before) (omega arith) g found))
+          (to (λ z. IsPrefix (earlier ++ take (end + 1 - (m + length earlier)) z) g.bodies)
+          (sym (piece i y s end c.writer earlier batch c.at before heard (fetch_late s c.writer i end earlier c.at before) (omega arith) g found))
           (more_of earlier g.bodies (end + 1 - (m + length earlier)) most_edits (again earlier before)))

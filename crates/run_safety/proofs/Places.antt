@@ -1,6 +1,6 @@
 -- Places of a run: what stood before a place of a run is a run.
 use Rattle.std.proofs.Common.{ℕ, List, [], ◌∷◌, ◌++◌}
-use Rattle.node_history.specs.Entries.{Entry, Earlier, now, before}
+use Rattle.journal_history.specs.Entries.{Entry, Earlier, now, before}
 use Rattle.run_safety.specs.Run.{Story, Follows, IsNextEntry}
 
 pub Earlier-trans : {xs ys zs : List Entry} → Earlier xs ys → Earlier ys zs → Earlier xs zs

@@ -1,4 +1,5 @@
--- A takeover that asked for the segment at m: no later start has a chosen edit below it, and before a node's answer nothing of its own later rounds came there.
+-- A takeover that asked for the segment at m: no later start has a chosen edit below it, and before
+-- a node's answer nothing of its own later rounds came there.
 use Rattle.std.proofs.Common.{◌≡◌, ℕ, ◌<◌, ◌≤◌, ◌⊎◌, true, List, ◌∷◌, length, Option, Some, refl, inl, inr, arith, sym, ap, ◌∙◌}
 use Rattle.journal_core.specs.Reads.{told_of}
 use Rattle.journal_core.specs.Segments.{find_segment, newest, HasAt}
@@ -17,7 +18,7 @@ use Rattle.writer_core.specs.declared.slot.Slot.TheVariants.{Told}
 use Rattle.writer_core.specs.Answers.{fits_propose, fits_prepare}
 use Rattle.writer_core.specs.Whole.{Takeover}
 use Rattle.run_safety.specs.Majority.{Member}
-use Rattle.node_history.specs.Entries.{Late, Entry, Answer, Heard, node_after, Earlier, now, before}
+use Rattle.journal_history.specs.Entries.{Late, Entry, Answer, Heard, node_after, Earlier, now, before}
 use Rattle.run_safety.specs.Run.{Story, Follows, IsNextEntry, IsNext, IsCall, IsInTurn, WasHeard}
 use Rattle.run_safety.proofs.SeenLaws.{seen_first, Propose, Ask, Writer, seen_at, asked, is_ok_kind}
 use Rattle.run_safety.proofs.Slots.{some_same, true≢false, At, At-range, AtLeast, told_newest, ok_from, in_ok, ok_slot, ok_majority}
@@ -52,7 +53,8 @@ module _ (n : ℕ) (story : Story) (past : List Entry) (run : Follows n story pa
   -- ## One answer for each round and node
   -- a call of a takeover stands after all that it heard in that round at that node or above
   pub not_again : (a k : ℕ) (w : Writer) (i : ℕ) (reply other : Reply) (old : List Entry) → Earlier old past → (x : Answered n story old a k w i reply) → WasHeard story x.old a k i other → ⊥
-  not_again a k w i reply other old p x h = clash (call.in_order (heard_in_turn x.caller (asked (story.takeover a).epoch k w.committed w.round) reply) h.0 h.1 h.2 (h.3.0 ∙ sym x.whose) (to (λ z. IsInTurn z) (sym h.3.3.2) (heard_in_turn h.3.3.0 h.3.3.1 other)))
+  not_again a k w i reply other old p x h = clash (call.in_order (heard_in_turn x.caller (asked (story.takeover a).epoch k w.committed w.round) reply)
+      h.0 h.1 h.2 (h.3.0 ∙ sym x.whose) (to (λ z. IsInTurn z) (sym h.3.3.2) (heard_in_turn h.3.3.0 h.3.3.1 other)))
     where
       next : IsNextEntry n story x.old x.entry
       next = next_of n story x.within (Follows-earlier n story p run)
@@ -67,7 +69,8 @@ module _ (n : ℕ) (story : Story) (past : List Entry) (run : Follows n story pa
   as_heard : (a k : ℕ) (w : Writer) (i : ℕ) (reply : Reply) {old more : List Entry} → (x : Answered n story old a k w i reply) → Earlier (x.entry ∷ x.old) more → WasHeard story more a k i reply
   as_heard a k w i reply x p = (x.old, x.entry, p, (x.whose, x.which, x.node, (x.caller, _, x.move)))
 
-  pub answered_once : (a k : ℕ) (w v : Writer) (i : ℕ) (reply other : Reply) (old more : List Entry) → Earlier old past → Earlier more past → (x : Answered n story old a k w i reply) → (y : Answered n story more a k v i other) → x.old ≡ y.old
+  pub answered_once : (a k : ℕ) (w v : Writer) (i : ℕ) (reply other : Reply) (old more : List Entry) → Earlier old past → Earlier more past
+      → (x : Answered n story old a k w i reply) → (y : Answered n story more a k v i other) → x.old ≡ y.old
   answered_once a k w v i reply other old more p q x y = go (order_of (Earlier-trans x.within p) (Earlier-trans y.within q))
     where
       go : Order x.entry y.entry x.old y.old → x.old ≡ y.old
@@ -125,7 +128,8 @@ module _ (n : ℕ) (story : Story) (past : List Entry) (run : Follows n story pa
 
         q : (q : List Entry) × (h : Segment) × Earlier q y.1.old × (find_segment c (node_after i q).segments ≡ Some h) × (h.epoch ≡ g) × HasAt h u body
         q = held_before i g c u body y.1.entry y.1.old past (j.each i share.1) (Earlier-trans y.1.within x.sent.within) (omega (arith, lt, v.after, x.epoch))
-            (asking_entry i c y.1.entry y.1.old y.1.caller Heard (NewEpoch t.epoch) y.0 (to (λ r. y.1.entry.move ≡ Answer y.1.caller Heard (asked t.epoch 0 votes.w.committed r) y.0) is_proposal y.1.move) tt)
+            (asking_entry i c y.1.entry y.1.old y.1.caller Heard (NewEpoch t.epoch) y.0
+            (to (λ r. y.1.entry.move ≡ Answer y.1.caller Heard (asked t.epoch 0 votes.w.committed r) y.0) is_proposal y.1.move) tt)
 
         top : (k : ℕ) × (newest (node_after i q.0).segments ≡ Some k) × (c ≤ k)
         top = newest-above c (node_after i q.0).segments q.1 q.3 (edit_of q.1 u body q.5)
@@ -152,7 +156,8 @@ module _ (n : ℕ) (story : Story) (past : List Entry) (run : Follows n story pa
     asks_kind reply k = to (λ r. is_ok_kind r reply ≡ true) (sym x.is) k
 
     pub answered_slot : (i : ℕ) (reply : Reply) → Slot1 i reply → Answered n story x.sent.old x.a 1 x.asks i reply
-    answered_slot i reply y = answered_of n story x.sent.old x.a 1 x.asks i reply (Follows-earlier n story x.sent.within run) x.at (asks_kind reply y.1) (x.sent.heard_before 1 i reply x.later (x.counted.heard i reply y.0 y.1))
+    answered_slot i reply y = answered_of n story x.sent.old x.a 1 x.asks i reply (Follows-earlier n story x.sent.within run) x.at
+        (asks_kind reply y.1) (x.sent.heard_before 1 i reply x.later (x.counted.heard i reply y.0 y.1))
 
     pub counted_slot : (i : ℕ) → Member i (ok_from (table.Prepare m) 1 x.slots) → (reply : Reply) × Slot1 i reply
     counted_slot i mem =
@@ -247,7 +252,8 @@ module _ (n : ℕ) (story : Story) (past : List Entry) (run : Follows n story pa
 
     -- a node gave one answer
     pub answer_once : (i : ℕ) (y z : AnswerAt i) → y.old ≡ z.old
-    answer_once i y z = sym y.is_old ∙ (answered_once x.a 1 x.asks x.asks i (Prepared y.writer y.known y.segment) (Prepared z.writer z.known z.segment) x.sent.old x.sent.old x.sent.within x.sent.within y.answered z.answered ∙ z.is_old)
+    answer_once i y z = sym y.is_old ∙ (answered_once x.a 1 x.asks x.asks i (Prepared y.writer y.known y.segment)
+        (Prepared z.writer z.known z.segment) x.sent.old x.sent.old x.sent.within x.sent.within y.answered z.answered ∙ z.is_old)
 
     -- nothing of this takeover's later rounds came to the node before its answer
     pub no_own : (i : ℕ) (y : AnswerAt i) (b k : ℕ) (u : Writer) → Sent n story y.old b k u → (story.takeover b).epoch ≡ f → 1 < k → ⊥

@@ -1,4 +1,5 @@
--- What a proposal is told where a lower epoch has a chosen body; and how a segment goes from a node.
+-- What a proposal is told where a lower epoch has a chosen body; and how a segment goes from a
+-- node.
 use Rattle.std.proofs.Common.{◌≡◌, ℕ, ◌<◌, ◌≤◌, true, List, ◌∷◌, Option, None, Some, refl, inl, inr, arith, sym, ap, ◌∙◌}
 use Rattle.journal_core.specs.Segments.{find_segment, newest, has_edit, HasAt}
 use Rattle.journal_core.specs.Step.{last_or_start}
@@ -11,7 +12,7 @@ use Rattle.journal_core.specs.declared.segment.Segment.{Segment}
 use Rattle.journal_core.proofs.SegmentLists.{newest-above}
 use Rattle.journal_core.proofs.Changes.{Change, same, created, grown, made_final, replaced, removed}
 use Rattle.run_safety.specs.Majority.{Member, IsMajority}
-use Rattle.node_history.specs.Entries.{Heard, Answer, Entry, Earlier, after_move, node_after}
+use Rattle.journal_history.specs.Entries.{Heard, Answer, Entry, Earlier, after_move, node_after}
 use Rattle.run_safety.specs.Run.{Story, Follows, IsNext}
 use Rattle.run_safety.specs.Safe.{IsHeld, IsChosen, IsOf}
 use Rattle.run_safety.specs.Parts.{ToldNewest}

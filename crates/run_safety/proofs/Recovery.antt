@@ -1,4 +1,5 @@
--- Before its answer to a prepare a node keeps what was chosen, unless the owner of that epoch had finalised the segment and gone on.
+-- Before its answer to a prepare a node keeps what was chosen, unless the owner of that epoch had
+-- finalised the segment and gone on.
 use Rattle.std.proofs.Common.{◌≡◌, ℕ, zero, suc, ◌+◌, ◌<◌, ◌≤◌, ◌⊎◌, true, List, ◌∷◌, length, Option, Some, refl, inl, inr, arith, subst, sym, ap, ◌∙◌}
 use Rattle.std.specs.Prelude.{slice_get}
 use Rattle.std.proofs.lemmas.Bool.{cases_order, cases_eq, cond-true}
@@ -10,9 +11,9 @@ use Rattle.journal_core.specs.declared.request.Request.{Request}
 use Rattle.journal_core.specs.declared.request.Request.TheVariants.{Purge}
 use Rattle.journal_core.specs.declared.segment.Segment.{Segment}
 use Rattle.run_safety.specs.Majority.{Member}
-use Rattle.node_history.specs.Entries.{Entry, node_after, Earlier}
+use Rattle.journal_history.specs.Entries.{Entry, node_after, Earlier}
 use Rattle.run_safety.specs.Run.{Story, Follows}
-use Rattle.run_safety.proofs.SeenLaws.{Round, Propose, Ask, Get, Recover, Seal, Open, Write, Clean, Writer, seen_at, asked, seen_first}
+use Rattle.run_safety.proofs.SeenLaws.{Round, Propose, Ask, Get, Recover, Finalizing, Open, Write, Clean, Writer, seen_at, asked, seen_first}
 use Rattle.run_safety.proofs.Places.{Earlier-trans, Earlier-tail, Follows-earlier}
 use Rattle.journal_core.proofs.SegmentLists.{newest-above}
 use Rattle.journal_core.proofs.Steps.{front_le}
@@ -59,7 +60,8 @@ module _ (n : ℕ) (story : Story) (past : List Entry) (run : Follows n story pa
       writer : ans.w ≡ fw.writer
       writer = some_same (sym ans.at ∙ fw.at)
 
-      fr : (fw.writer.committed + 1 ≡ fw.batch.first) × (fw.writer.start ≡ w.start) × (1 ≤ w.start) × (w.start ≤ fw.batch.first) × (fw.writer.next ≡ fw.batch.first + length fw.batch.bodies) × (1 ≤ length fw.batch.bodies)
+      fr : (fw.writer.committed + 1 ≡ fw.batch.first) × (fw.writer.start ≡ w.start) × (1 ≤ w.start) × (w.start ≤ fw.batch.first)
+          × (fw.writer.next ≡ fw.batch.first + length fw.batch.bodies) × (1 ≤ length fw.batch.bodies)
       fr = to (λ r. Framed fw.writer r) fw.is (frame n (story.takeover a) fw.round fw.writer fw.at)
 
       y : (body : List ℕ) × (slice_get fw.batch.bodies 0 ≡ Some body)
@@ -74,7 +76,8 @@ module _ (n : ℕ) (story : Story) (past : List Entry) (run : Follows n story pa
 
       each : (i : ℕ) → Member i ans.nodes → HeldAt past i (story.takeover a).epoch w.start w.start y.0
       each i mem = (let r = ans.each i mem in
-          let ok : OkAt p.old i (asked (story.takeover a).epoch fw.round ans.w.committed (Write w.start fw.batch)) = ok_at n story p.old a fw.round ans.w i r.0 (Write w.start fw.batch) (ap (λ z. z.round) writer ∙ fw.is) r.1 in
+          let ok : OkAt p.old i (asked (story.takeover a).epoch fw.round ans.w.committed (Write w.start fw.batch)) =
+          ok_at n story p.old a fw.round ans.w i r.0 (Write w.start fw.batch) (ap (λ z. z.round) writer ∙ fw.is) r.1 in
           let j = journal_keeps n story past run (story.takeover a).epoch a fw.round ans.w p.old i w.start w.start fw.batch p.within refl (omega (arith, fr.5, fw.first)) ok in
           keeps_same n story past run (story.takeover a).epoch w.start w.start i j.0 j.1 j.2 j.3 j.4 j.5 w.start y.0 (omega arith) (omega arith) wrote_first)
 
@@ -90,7 +93,7 @@ module _ (n : ℕ) (story : Story) (past : List Entry) (run : Follows n story pa
     pub writer : Writer
     pub at : seen_at n (story.takeover a) round ≡ Some writer
     pub end : ℕ
-    pub is : writer.round ≡ Seal m end
+    pub is : writer.round ≡ Finalizing m end
 
   module _ (f m : ℕ) (x : Asking n story past run f m) (good : AllGood n story past run f) (e u : ℕ) (body : List ℕ) (below : e < f) (j : Maj n past e m u body) where
     pub wrote : Wrote n story past e m u body
@@ -100,7 +103,8 @@ module _ (n : ℕ) (story : Story) (past : List Entry) (run : Follows n story pa
     above = wrote_above n story past run e m u body wrote
 
     -- the request of a change before the answer has a lower epoch
-    pub cause_below : (i : ℕ) (y : AnswerAt n story past run f m x i) (e0 : Entry) (old : List Entry) → Earlier (e0 ∷ old) y.old → (c : Changes i e0 old m) → (z : OfRound n story y.old c.by.request) → (h : HeadView) → head_of c.by.request ≡ Some h →
+    pub cause_below : (i : ℕ) (y : AnswerAt n story past run f m x i) (e0 : Entry) (old : List Entry) → Earlier (e0 ∷ old) y.old
+        → (c : Changes i e0 old m) → (z : OfRound n story y.old c.by.request) → (h : HeadView) → head_of c.by.request ≡ Some h →
         IsWork z.w.round → (story.takeover z.a).epoch ≡ h.epoch → h.epoch < f
     cause_below i y e0 old p c z h is work same_epoch = elim (cases_eq h.epoch f) [
       | inr other ↦ omega (arith, up, later, y.promise)
@@ -118,7 +122,8 @@ module _ (n : ℕ) (story : Story) (past : List Entry) (run : Follows n story pa
 
         late : (story.takeover z.a).epoch ≡ f → (k : ℕ) → z.s ≡ k → 1 < z.s
         late q zero r = absurd (to IsWork (seen_first n (story.takeover z.a) z.w (ap (λ k2. seen_at n (story.takeover z.a) k2) (sym r) ∙ z.sent.at)).0 work)
-        late q (suc zero) r = (let one : z.a ≡ x.a = one_owner n story past z.a x.a z.s x.s z.w x.w run (Sent-later n story z.a z.s z.w inside z.sent) x.sent (omega (arith, r)) (omega (arith, x.later)) (q ∙ sym x.epoch) in
+        late q (suc zero) r = (let one : z.a ≡ x.a = one_owner n story past z.a x.a z.s x.s z.w x.w run (Sent-later n story z.a z.s z.w inside z.sent)
+            x.sent (omega (arith, r)) (omega (arith, x.later)) (q ∙ sym x.epoch) in
             let asks : z.w ≡ x.asks = some_same (sym z.sent.at ∙ (ap (λ k2. seen_at n (story.takeover z.a) k2) r ∙ (ap (λ b. seen_at n (story.takeover b) 1) one ∙ x.at))) in
             absurd (to IsWork (ap (λ v. v.round) asks ∙ x.is) work))
         late q (suc (suc k)) r = omega (arith, r)
@@ -128,7 +133,9 @@ module _ (n : ℕ) (story : Story) (past : List Entry) (run : Follows n story pa
         (subst (λ z. Requested (node_after z old) e0.move c.by.request) (sym c.node) c.by.asked)
 
     -- a purge that removes a segment which has it
-    removed_case : (i : ℕ) (y : AnswerAt n story past run f m x i) (old : List Entry) → Earlier old y.old → (r : Request) (h : HeadView) (l : ℕ) → r ≡ Purge h l → (z : OfRound n story y.old r) → (g : Segment) → find_segment m (node_after i old).segments ≡ Some g → e ≤ g.epoch → HasAt g u body →
+    removed_case : (i : ℕ) (y : AnswerAt n story past run f m x i) (old : List Entry) → Earlier old y.old → (r : Request) (h : HeadView) (l : ℕ)
+        → r ≡ Purge h l → (z : OfRound n story y.old r) → (g : Segment) → find_segment m (node_after i old).segments ≡ Some g → e ≤ g.epoch
+        → HasAt g u body →
         (node_after i old).promised ≤ h.epoch → h.epoch < f → (has_edit g ≡ true → newest (node_after i old).segments ≡ Some m → ⊥) → last_or_start g ≤ h.committed → SealDone e m
     removed_case i y old p r h l q z g is le has up lt newer low = elim (cases_order e h.epoch) [
       | inl same_epoch ↦ own same_epoch (cases_order z.w.start m)
@@ -170,10 +177,14 @@ module _ (n : ℕ) (story : Story) (past : List Entry) (run : Follows n story pa
 
         chain : (v : ℕ) → v < e → e ≡ h.epoch → z.w.start ≡ m → m < top.0 → After n story past run v top.0 → ⊥
         chain v lt2 same_epoch start gt (inl one) = omega (arith, above.0)
-        chain v lt2 same_epoch start gt (inr c) = (let o : c.2 < m = (good e below).opened_end m (to (λ k. Opn n story past run e k) start (to (λ k. Opn n story past run k z.w.start) (sym same_epoch) opens)) c.0 c.1 c.2 (omega (arith, c.3)) c.4 in omega (arith, c.5))
+        chain v lt2 same_epoch start gt (inr c) = (let o : c.2 < m =
+            (good e below).opened_end m (to (λ k. Opn n story past run e k) start (to (λ k. Opn n story past run k z.w.start) (sym same_epoch) opens))
+            c.0 c.1 c.2 (omega (arith, c.3)) c.4 in omega (arith, c.5))
 
         sealed_later : e ≡ h.epoch → z.w.start ≡ m → m < top.0 → (v : List ℕ) → Wrote n story past e top.0 top.0 v → SealDone e m
-        sealed_later same_epoch start gt v v2 = (let one : z.a ≡ v2.a = one_owner n story past z.a v2.a z.s v2.s z.w v2.w run sent_z v2.sent zs (later_round n story past v2.a v2.s v2.w top.0 top.0 v2.sent v2.covers) (sym pr.1 ∙ (sym same_epoch ∙ sym v2.epoch)) in
+        sealed_later same_epoch start gt v v2 = (let one : z.a ≡ v2.a =
+            one_owner n story past z.a v2.a z.s v2.s z.w v2.w run sent_z v2.sent zs
+            (later_round n story past v2.a v2.s v2.w top.0 top.0 v2.sent v2.covers) (sym pr.1 ∙ (sym same_epoch ∙ sym v2.epoch)) in
             let b = sealed_between n (story.takeover v2.a) z.s v2.s z.w v2.w l m top.0 (to (λ k. seen_at n (story.takeover k) z.s ≡ Some z.w) one sent_z.at) pr.0 start v2.sent.at v2.covers gt in
             record { a = v2.a; s = v2.s; w = v2.w; sent = v2.sent; epoch = v2.epoch; round = b.0.round; earlier = b.1; writer = b.0.writer; at = b.0.at; end = b.0.end; is = b.0.is })
 
@@ -187,8 +198,10 @@ module _ (n : ℕ) (story : Story) (past : List Entry) (run : Follows n story pa
         own : e ≡ h.epoch → (z.w.start ≡ m) ⊎ ((z.w.start < m) ⊎ (m < z.w.start)) → SealDone e m
         own same_epoch (inr (inr gt)) = absurd (omega (arith, start_le))
         own same_epoch (inr (inl lower)) = absurd
-            (let one : z.a ≡ wrote.a = one_owner n story past z.a wrote.a z.s wrote.s z.w wrote.w run sent_z wrote.sent zs (later_round n story past wrote.a wrote.s wrote.w m u wrote.sent wrote.covers) (sym pr.1 ∙ (sym same_epoch ∙ sym wrote.epoch)) in
-            let c : z.w.committed < m = clean_below_start n (story.takeover wrote.a) z.s wrote.s z.w wrote.w l m u (to (λ k. seen_at n (story.takeover k) z.s ≡ Some z.w) one sent_z.at) wrote.sent.at pr.0 wrote.covers lower in
+            (let one : z.a ≡ wrote.a = one_owner n story past z.a wrote.a z.s wrote.s z.w wrote.w run sent_z wrote.sent zs
+            (later_round n story past wrote.a wrote.s wrote.w m u wrote.sent wrote.covers) (sym pr.1 ∙ (sym same_epoch ∙ sym wrote.epoch)) in
+            let c : z.w.committed < m = clean_below_start n (story.takeover wrote.a) z.s wrote.s z.w wrote.w l m u
+            (to (λ k. seen_at n (story.takeover k) z.s ≡ Some z.w) one sent_z.at) wrote.sent.at pr.0 wrote.covers lower in
             omega (arith, ends.0, ends.1, low, pr.2, above.1))
         own same_epoch (inl start) = elim (cases_eq top.0 m) [
           | inl is_top ↦ absurd (newer (edit_of g u body has) (top.1 ∙ ap (λ k. Some k) is_top))
@@ -200,7 +213,8 @@ module _ (n : ℕ) (story : Story) (past : List Entry) (run : Follows n story pa
     Kept o = ((g : Segment) × (o ≡ Some g) × (e ≤ g.epoch) × HasAt g u body) ⊎ SealDone e m
 
     -- over one change
-    kept_change : (i : ℕ) (y : AnswerAt n story past run f m x i) (old : List Entry) → Earlier old y.old → (o new : Option Segment) (r : Request) → Change (node_after i old) r m o new → (z : OfRound n story y.old r) →
+    kept_change : (i : ℕ) (y : AnswerAt n story past run f m x i) (old : List Entry) → Earlier old y.old → (o new : Option Segment) (r : Request)
+        → Change (node_after i old) r m o new → (z : OfRound n story y.old r) →
         ((h : HeadView) → head_of r ≡ Some h → IsWork z.w.round → (story.takeover z.a).epoch ≡ h.epoch → h.epoch < f) → ((h : HeadView) → head_of r ≡ Some h → (node_after i old).promised ≤ h.epoch) →
         find_segment m (node_after i old).segments ≡ o → (g : Segment) → o ≡ Some g → e ≤ g.epoch → HasAt g u body → Kept new
     kept_change i y old p o new r same z lt up is g at le has = inl (g, at, le, has)
@@ -240,10 +254,12 @@ module _ (n : ℕ) (story : Story) (past : List Entry) (run : Follows n story pa
     kept_change i y old p (Some k) new r (removed h l q newer low shut) z lt up is g at le has =
         let one : g ≡ k = sym (some_same at) in
         let pr = purge_round (story.takeover z.a).epoch z.s z.w.committed z.w.round h l (sym q ∙ z.is) in
-        inr (removed_case i y old p r h l q z k is (to (λ v. e ≤ v.epoch) one le) (to (λ v. HasAt v u body) one has) (up h (ap head_of q)) (lt h (ap head_of q) (to IsWork (sym pr.0) tt) (sym pr.1)) newer low)
+        inr (removed_case i y old p r h l q z k is (to (λ v. e ≤ v.epoch) one le) (to (λ v. HasAt v u body) one has) (up h (ap head_of q))
+        (lt h (ap head_of q) (to IsWork (sym pr.0) tt) (sym pr.1)) newer low)
 
     -- from a place where it was held to the answer
-    pub kept_along : (i : ℕ) (y : AnswerAt n story past run f m x i) (q : List Entry) → Earlier q y.old → Kept (find_segment m (node_after i q).segments) → Kept (find_segment m (node_after i y.old).segments)
+    pub kept_along : (i : ℕ) (y : AnswerAt n story past run f m x i) (q : List Entry) → Earlier q y.old
+        → Kept (find_segment m (node_after i q).segments) → Kept (find_segment m (node_after i y.old).segments)
     kept_along i y q p k = along i m Kept p k
         (λ e0 old a b c v. elim v [
           | inr done_already ↦ inr done_already

@@ -21,9 +21,9 @@ use Rattle.writer_core.proofs.PlainRounds.{IsWhole, alike_phase}
 use Rattle.writer_core.proofs.Filling.{fills_waits}
 use Rattle.writer_core.proofs.WholeLaws.{Reaches, reaches_heard, reaches_now}
 use Rattle.writer_core.proofs.WholeRounds.{IsFirst, whole_first, waits_calls, IsCalling, request_alike, unslotted_alike}
-use Rattle.node_history.specs.Entries.{Heard, Move, Answer, Entry, Earlier, now, before}
+use Rattle.journal_history.specs.Entries.{Heard, Move, Answer, Entry, Earlier, now, before}
 use Rattle.run_safety.specs.Run.{WasHeard, may_follow, IsInTurn, IsInOrder}
-use Rattle.node_history.specs.Moving.{epoch_of}
+use Rattle.journal_history.specs.Moving.{epoch_of}
 use Rattle.run_safety.proofs.Tales.{Tale, IsLabelled, IsMadeAt, Grows, Tells, place_below, made_still}
 use Rattle.run_safety.proofs.Fair.{IsFairEntry, IsTold, told_more}
 use Rattle.run_safety.proofs.TaleSteps.{put_here, put_there, Continues, grows_not, hears, hears_here, hears_there, hears_cases, grows_heard, labelled, labelled_continues, heard_later, continues_not}
@@ -218,7 +218,10 @@ left_entry n a past c v node d h move t silent g told next = (
     goes = labelled_continues c a past (entry node move) h.k (a.top h.k) t g.grows (inl h.by) (λ turn. g.by)
 
     label : IsLabelled (its_tale a past h.k t) past
-    label = record { known = let e : (its_tale a past h.k t).story.whose (length past) ≡ h.k = whose_is in omega (arith, e, h.known); within = subst (λ (k : ℕ). (its_tale a past h.k t).story.round (length past) ≤ a.top k) (sym whose_is) (omega (arith, round_at)) }
+    label = record {
+      known = let e : (its_tale a past h.k t).story.whose (length past) ≡ h.k = whose_is in omega (arith, e, h.known);
+      within = subst (λ (k : ℕ). (its_tale a past h.k t).story.round (length past) ≤ a.top k) (sym whose_is) (omega (arith, round_at));
+    }
 
     heard : (x i : ℕ) (reply : Reply)
         → ((a.story.takeover h.k).heard x i ≡ Some reply) ⊎ ((x ≡ a.top h.k) × (i ≡ node) × ((caller : ℕ) × (request : Request) × (move ≡ Answer caller Heard request reply)))
@@ -227,7 +230,9 @@ left_entry n a past c v node d h move t silent g told next = (
     heard x i reply (inr e) = (past, entry node move, now, (whose_is, round_at ∙ sym e.0, sym e.1, e.2))
 
     placed : (old : List Entry) (e : Entry) → Earlier (e ∷ old) (entry node move ∷ past) → (its_tale a past h.k t).story.whose (length old) ≡ h.k → IsInTurn e.move
-        → ((its_tale a past h.k t).story.round (length old) < (its_tale a past h.k t).top h.k) ⊎ (((its_tale a past h.k t).story.round (length old) ≡ (its_tale a past h.k t).top h.k) × (IsBefore v.phase v.slots e.node ⊎ (e.node ≡ node)))
+        → ((its_tale a past h.k t).story.round (length old) < (its_tale a past h.k t).top h.k)
+        ⊎ (((its_tale a past h.k t).story.round (length old) ≡ (its_tale a past h.k t).top h.k)
+        × (IsBefore v.phase v.slots e.node ⊎ (e.node ≡ node)))
     placed old e now is turn = inr (round_at, inr refl)
     placed old e (before p) is turn =
         let lt : length old < length past = place_below e p in

@@ -22,7 +22,7 @@ use Rattle.writer_core.proofs.PlainRounds.{IsWhole, IsUnderEpoch, IsAlike, alike
 use Rattle.writer_core.proofs.Filling.{Fills, fills_first, fills_more, fills_whole}
 use Rattle.writer_core.proofs.WholeLaws.{Reaches, reaches_next}
 use Rattle.writer_core.proofs.WholeRounds.{unslotted, IsFirst, whole_first, whole_judged, whole_heard, calls_waits, waits_calls, set_waits, IsCalling, unslotted_alike}
-use Rattle.node_history.specs.Entries.{Entry}
+use Rattle.journal_history.specs.Entries.{Entry}
 use Rattle.run_safety.specs.Run.{WasHeard, may_follow}
 use Rattle.run_safety.proofs.Tales.{Tale}
 use Rattle.run_safety.proofs.Fair.{IsTold, told_still}
@@ -229,7 +229,8 @@ hears_called n a past c v node d r told call h = by h.stands
         one : phase.InRound call.round ≡ phase.InRound q → call.round ≡ q
         one x = cc
 
-    in_round : (q : Round) → v.phase ≡ phase.InRound q → Gives n c a past past (λ b. Status n b past c (heard_in q v node d).writer) → Gives n c a past past (λ b. Status n b past c (heard_at v.phase v node d).writer)
+    in_round : (q : Round) → v.phase ≡ phase.InRound q → Gives n c a past past (λ b. Status n b past c (heard_in q v node d).writer)
+        → Gives n c a past past (λ b. Status n b past c (heard_at v.phase v node d).writer)
     in_round q is g = subst (λ (p : Phase). Gives n c a past past (λ b. Status n b past c (heard_at p v node d).writer)) (sym is) g
 
     by : Stands v h.writer h.heard_by → Gives n c a past past (λ b. Status n b past c (heard_at v.phase v node d).writer)

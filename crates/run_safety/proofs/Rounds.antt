@@ -1,4 +1,5 @@
--- The rounds of one takeover in order: the round before each, and what all earlier ones wrote. No run is named here.
+-- The rounds of one takeover in order: the round before each, and what all earlier ones wrote. No
+-- run is named here.
 use Rattle.std.proofs.Common.{◌≡◌, ℕ, zero, suc, ◌<◌, ◌≤◌, List, Some, inl, inr, arith, subst, sym, ap, ◌∙◌}
 use Rattle.std.proofs.lemmas.Bool.{cases_lt}
 use Rattle.writer_core.specs.declared.round.Round.{Round as TableRound}
@@ -7,7 +8,7 @@ use Rattle.writer_core.specs.declared.slot.Slot.{Slot}
 use Rattle.writer_core.specs.Views.{WriterView}
 use Rattle.writer_core.specs.Whole.{Takeover}
 use Rattle.run_safety.proofs.Slots.{some_same}
-use Rattle.run_safety.proofs.SeenLaws.{Round, Propose, Ask, Get, Recover, Seal, Open, Write, Clean, Other, Writer, seen_round, seen, seen_at, SeenAt, seen_of, seen_here}
+use Rattle.run_safety.proofs.SeenLaws.{Round, Propose, Ask, Get, Recover, Finalizing, Open, Write, Clean, Other, Writer, seen_round, seen, seen_at, SeenAt, seen_of, seen_here}
 use Rattle.run_safety.proofs.Frames.{Done, Getting, Frame, low_of, end_below, IsGet, StepOf, Stands}
 use Rattle.run_safety.proofs.Table.{Comes as ComesAt, comes_at, sound_at}
 
@@ -37,7 +38,8 @@ frame n t s w e =
     subst (λ z. Frame z) x.is (sound_at n t s x.underway x.tasks x.at).frame
 
 -- a fetch goes to the node of the best answer that counts
-get_stands : (n : ℕ) (t : Takeover) (s : ℕ) (w : WriterView) (r : TableRound) (node m end : ℕ) (bodies : List (List ℕ)) → Stands n t s w.slots r → seen_round w r ≡ Get node m end bodies → Getting n t m node end w.slots
+get_stands : (n : ℕ) (t : Takeover) (s : ℕ) (w : WriterView) (r : TableRound) (node m end : ℕ) (bodies : List (List ℕ)) → Stands n t s w.slots r
+    → seen_round w r ≡ Get node m end bodies → Getting n t m node end w.slots
 get_stands n t s w table.State node m end bodies h e = let no : Other ≡ Get node m end bodies = e in cc
 get_stands n t s w table.Propose node m end bodies h e = let no : Propose ≡ Get node m end bodies = e in cc
 get_stands n t s w (table.Prepare k) node m end bodies h e = let no : Ask k ≡ Get node m end bodies = e in cc
@@ -48,13 +50,14 @@ get_stands n t s w (table.Fetch node2 m2 end2 bodies2) node m end bodies h e =
     let c : end2 ≡ end = cc in
     subst (λ z. Getting n t m node z w.slots) c (subst (λ z. Getting n t m z end2 w.slots) a (subst (λ z. Getting n t z node2 end2 w.slots) b h))
 get_stands n t s w (table.Accept b) node m end bodies h e = let no : Recover b ≡ Get node m end bodies = e in cc
-get_stands n t s w (table.Finalize k l) node m end bodies h e = let no : Seal k l ≡ Get node m end bodies = e in cc
+get_stands n t s w (table.Finalize k l) node m end bodies h e = let no : Finalizing k l ≡ Get node m end bodies = e in cc
 get_stands n t s w table.Start node m end bodies h e = let no : Open w.start ≡ Get node m end bodies = e in cc
 get_stands n t s w table.Open node m end bodies h e = let no : Write w.start _ ≡ Get node m end bodies = e in cc
 get_stands n t s w (table.Write b) node m end bodies h e = let no : Write w.start _ ≡ Get node m end bodies = e in cc
 get_stands n t s w (table.Purge min) node m end bodies h e = let no : Clean min ≡ Get node m end bodies = e in cc
 
-pub getting : (n : ℕ) (t : Takeover) (s : ℕ) (w : Writer) (node m end : ℕ) (bodies : List (List ℕ)) → seen_at n t s ≡ Some w → w.round ≡ Get node m end bodies → (slots : List Slot) × Getting n t m node end slots
+pub getting : (n : ℕ) (t : Takeover) (s : ℕ) (w : Writer) (node m end : ℕ) (bodies : List (List ℕ)) → seen_at n t s ≡ Some w
+    → w.round ≡ Get node m end bodies → (slots : List Slot) × Getting n t m node end slots
 getting n t s w node m end bodies e is =
     let x : SeenAt n t s w = seen_of n t s w e in
     (x.underway.writer.slots, get_stands n t s x.underway.writer x.underway.round node m end bodies (sound_at n t s x.underway x.tasks x.at).stands (ap (λ z. z.round) x.is ∙ is))
@@ -65,7 +68,7 @@ low_le w Propose = omega arith
 low_le w (Ask m) = omega arith
 low_le w (Get node m end bodies) = omega arith
 low_le w (Recover b) = omega arith
-low_le w (Seal m l) = omega arith
+low_le w (Finalizing m l) = omega arith
 low_le w (Open m) = omega arith
 low_le w (Write m b) = omega arith
 low_le w (Clean l) = omega arith

@@ -9,7 +9,7 @@ use Rattle.journal_core.specs.declared.request.Request.{Request}
 use Rattle.journal_core.specs.declared.request.Request.TheVariants.{Start, Journal}
 use Rattle.journal_core.specs.declared.segment.Segment.{Segment}
 use Rattle.run_safety.specs.Majority.{Member}
-use Rattle.node_history.specs.Entries.{Entry, after_move, node_after, Earlier}
+use Rattle.journal_history.specs.Entries.{Entry, after_move, node_after, Earlier}
 use Rattle.run_safety.specs.Run.{Story, Follows, IsNextEntry, IsNext, IsRun}
 use Rattle.run_safety.specs.Safe.{IsHeld, IsChosen, IsOnLine, IsAcknowledged, Reaches, there, segment, AcknowledgedSurvive, FinalisedAgree, IsSafe}
 use Rattle.run_safety.proofs.Places.{Earlier-trans, Earlier-tail, next_of}
@@ -137,7 +137,8 @@ module _ (n : ℕ) (story : Story) (past : List Entry) (run : Follows n story pa
       above : (1 ≤ m) × (m ≤ t)
       above = wrote_above n story past run e m t x w
 
-      chain : u < m → After n story past run e m → ((g k l : ℕ) (y : List ℕ) → l < fuel → Maj n past g k l y → u ≤ l → (f : ℕ) × (b : List ℕ) × IsChosen n past f u b) → (f : ℕ) × (b : List ℕ) × IsChosen n past f u b
+      chain : u < m → After n story past run e m → ((g k l : ℕ) (y : List ℕ) → l < fuel → Maj n past g k l y → u ≤ l
+          → (f : ℕ) × (b : List ℕ) × IsChosen n past f u b) → (f : ℕ) × (b : List ℕ) × IsChosen n past f u b
       chain under (inl first) again = absurd (omega arith)
       chain under (inr c) again =
           (let s : Sealed n story past run c.0 c.1 c.2 = sealed n story past run c.0 c.1 c.2 c.4 in
@@ -175,7 +176,8 @@ module _ (n : ℕ) (story : Story) (past : List Entry) (run : Follows n story pa
           })
 
   -- a final segment that covers a chosen txid has the chosen body
-  final_has : (i e m t : ℕ) (x : List ℕ) (q : List Entry) (g : Segment) → Earlier q past → find_segment g.start (node_after i q).segments ≡ Some g → g.is_final ≡ true → g.start ≤ t → t < g.start + length g.bodies → Maj n past e m t x → HasAt g t x
+  final_has : (i e m t : ℕ) (x : List ℕ) (q : List Entry) (g : Segment) → Earlier q past → find_segment g.start (node_after i q).segments ≡ Some g
+      → g.is_final ≡ true → g.start ≤ t → t < g.start + length g.bodies → Maj n past e m t x → HasAt g t x
   final_has i e m t x q g p is final le lt j =
       let fin : Fin n story past run g.epoch g.start (end_of g) = final_fin n story past run i g.start q g p is final in
       let s : Sealed n story past run g.epoch g.start (end_of g) = sealed n story past run g.epoch g.start (end_of g) fin in
@@ -183,7 +185,8 @@ module _ (n : ℕ) (story : Story) (past : List Entry) (run : Follows n story pa
       let has : HasAt g t y.0 = has_chosen n story past run (suc g.epoch) i s.epoch g.start t y.0 q g (all_good (suc g.epoch)) (omega (arith, s.le)) (omega arith) p is (inl final) y.1 in
       to (λ z. HasAt g t z) (chosen_once s.epoch e g.start m t y.0 x y.1 j).1 has
 
-  recovered_log : (old : List Entry) → Earlier old past → (e m t : ℕ) (x : List ℕ) → Maj n past e m t x → {kept first : ℕ} {log : List (List ℕ)} → Reaches n old kept first log → kept ≤ t → t < first → (k : ℕ) × (t ≡ kept + k) × (slice_get log k ≡ Some x)
+  recovered_log : (old : List Entry) → Earlier old past → (e m t : ℕ) (x : List ℕ) → Maj n past e m t x → {kept first : ℕ} {log : List (List ℕ)}
+      → Reaches n old kept first log → kept ≤ t → t < first → (k : ℕ) × (t ≡ kept + k) × (slice_get log k ≡ Some x)
   recovered_log old p e m t x j there le lt = absurd (omega arith)
   recovered_log old p e m t x j (segment {bodies = bodies} g lowest rest) le lt = elim (cases_lt t (g.start + length g.bodies)) [
     | inl here ↦ (let h = final_has lowest.0 e m t x old g p lowest.1.2 lowest.1.3 le here j in (h.0, h.1, get_append_left g.bodies bodies h.0 x h.2))
@@ -219,8 +222,10 @@ module _ (n : ℕ) (story : Story) (past : List Entry) (run : Follows n story pa
       both : (d e : ℕ) → e ≤ g.epoch → (y : (body : List ℕ) × Maj n past e g.start (g.start + d) body) → (body : List ℕ) × (slice_get g.bodies d ≡ Some body) × (slice_get h.bodies d ≡ Some body)
       both d e le y = (
         y.0,
-        body_at g g.start d y.0 refl (has_chosen n story past run (suc (max g.epoch h.epoch)) i e g.start (g.start + d) y.0 hg.0 g (all_good (suc (max g.epoch h.epoch))) (omega arith) (omega arith) hg.1 hg.2 (inl fg) y.1),
-        body_at h g.start d y.0 (sym start) (has_chosen n story past run (suc (max g.epoch h.epoch)) k e g.start (g.start + d) y.0 hh.0 h (all_good (suc (max g.epoch h.epoch))) (omega arith) (omega arith) hh.1
+        body_at g g.start d y.0 refl (has_chosen n story past run (suc (max g.epoch h.epoch)) i e g.start (g.start + d) y.0 hg.0 g
+            (all_good (suc (max g.epoch h.epoch))) (omega arith) (omega arith) hg.1 hg.2 (inl fg) y.1),
+        body_at h g.start d y.0 (sym start) (has_chosen n story past run (suc (max g.epoch h.epoch)) k e g.start (g.start + d) y.0 hh.0 h
+            (all_good (suc (max g.epoch h.epoch))) (omega arith) (omega arith) hh.1
             (ap (λ z. find_segment z (node_after k hh.0).segments) start ∙ hh.2) (inl fh) y.1),
       )
 

@@ -1,4 +1,5 @@
--- The rounds of a takeover as the proofs see them: each with the numbers that it asks for or writes.
+-- The rounds of a takeover as the proofs see them: each with the numbers that it asks for or
+-- writes.
 use Rattle.std.proofs.Common.{◌≡◌, ℕ, ◌+◌, Bool, true, false, List, length, Option, Some, None, refl, sym, ap, ◌∙◌, if◌then◌else◌}
 use Rattle.std.specs.Prelude.{option_map}
 use Rattle.std.specs.List.{list_all}
@@ -22,7 +23,7 @@ pub data Round : Type 0 where
   Ask : (start : ℕ) → Round
   Get : (node start end : ℕ) (bodies : List (List ℕ)) → Round
   Recover : (batch : BatchView) → Round
-  Seal : (start end : ℕ) → Round
+  Finalizing : (start end : ℕ) → Round
   Open : (start : ℕ) → Round
   Write : (start : ℕ) (batch : BatchView) → Round
   Clean : (min : ℕ) → Round
@@ -41,7 +42,7 @@ seen_round w table.Propose = Propose
 seen_round w (table.Prepare start) = Ask start
 seen_round w (table.Fetch node start end bodies) = Get node start end bodies
 seen_round w (table.Accept batch) = Recover batch
-seen_round w (table.Finalize start end) = Seal start end
+seen_round w (table.Finalize start end) = Finalizing start end
 seen_round w table.Start = Open w.start
 seen_round w table.Open = Write w.start (batch_from w.start start_record)
 seen_round w (table.Write bodies) = Write w.start (batch_from w.next bodies)
@@ -62,7 +63,7 @@ asked e s c Propose = NewEpoch e
 asked e s c (Ask m) = Prepare (record { epoch = e; serial = s; committed = c }) m
 asked e s c (Get node m end bodies) = Fetch (record { epoch = e; serial = s; committed = c }) m (m + length bodies)
 asked e s c (Recover b) = Accept (record { epoch = e; serial = s; committed = c }) b
-asked e s c (Seal m l) = Finalize (record { epoch = e; serial = s; committed = c }) m l
+asked e s c (Finalizing m l) = Finalize (record { epoch = e; serial = s; committed = c }) m l
 asked e s c (Open m) = Start (record { epoch = e; serial = s; committed = c }) m
 asked e s c (Write m b) = Journal (record { epoch = e; serial = s; committed = c }) m b
 asked e s c (Clean l) = Purge (record { epoch = e; serial = s; committed = c }) l
@@ -81,7 +82,8 @@ asked_in w (table.Write bodies) = refl
 asked_in w (table.Purge min) = refl
 
 pub asked_seen : (u : TaskProgress) (e s : ℕ) → u.writer.epoch ≡ e → u.writer.serial ≡ s → asked_underway u ≡ asked e s (seen u).committed (seen u).round
-asked_seen u e s p q = asked_in u.writer u.round ∙ (ap (λ k. asked k u.writer.serial u.writer.committed (seen_round u.writer u.round)) p ∙ ap (λ k. asked e k u.writer.committed (seen_round u.writer u.round)) q)
+asked_seen u e s p q = asked_in u.writer u.round ∙ (ap (λ k. asked k u.writer.serial u.writer.committed (seen_round u.writer u.round)) p
+    ∙ ap (λ k. asked e k u.writer.committed (seen_round u.writer u.round)) q)
 
 -- ## The answers of the Ok kind
 abbrev pub is_edits : Reply → Bool
@@ -93,7 +95,7 @@ is_ok_kind Propose answer = fits_propose answer
 is_ok_kind (Ask m) answer = fits_prepare m answer
 is_ok_kind (Get node m end bodies) answer = is_edits answer
 is_ok_kind (Recover b) answer = is_done_reply answer
-is_ok_kind (Seal m l) answer = is_done_reply answer
+is_ok_kind (Finalizing m l) answer = is_done_reply answer
 is_ok_kind (Open m) answer = is_done_reply answer
 is_ok_kind (Write m b) answer = is_done_reply answer
 is_ok_kind (Clean l) answer = is_done_reply answer

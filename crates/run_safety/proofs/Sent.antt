@@ -1,4 +1,5 @@
--- What a run says of the rounds that its requests belong to: the answers that stand before them, and that an epoch has one owner.
+-- What a run says of the rounds that its requests belong to: the answers that stand before them,
+-- and that an epoch has one owner.
 use Rattle.std.proofs.Common.{◌≡◌, ℕ, ◌<◌, ◌≤◌, true, false, List, ◌∷◌, length, Option, Some, None, refl, inl, inr, arith, subst, sym, ap, ◌∙◌, nat_le}
 use Rattle.std.proofs.lemmas.Bool.{cases_Bool, cond-true, leb-false}
 use Rattle.journal_core.specs.Effects.{after_effects}
@@ -11,7 +12,7 @@ use Rattle.journal_core.specs.declared.reply.Reply.TheVariants.{Ok, State as Sta
 use Rattle.journal_core.specs.declared.request.Request.{Request}
 use Rattle.journal_core.specs.declared.request.Request.TheVariants.{NewEpoch}
 use Rattle.run_safety.specs.Majority.{Member, IsMajority}
-use Rattle.node_history.specs.Entries.{Entry, Answer, Heard, after_move, node_after, Earlier, now, before}
+use Rattle.journal_history.specs.Entries.{Entry, Answer, Heard, after_move, node_after, Earlier, now, before}
 use Rattle.run_safety.specs.Run.{Story, Follows, IsNextEntry, IsNext, IsMade, IsAnswer, WasHeard, takeover_at}
 use Rattle.writer_core.specs.Whole.{Takeover}
 use Rattle.run_safety.proofs.SeenLaws.{Propose, Writer, is_ok_kind, seen, seen_at, seen_here, asked, asked_seen, seen_first}
@@ -29,15 +30,18 @@ pub to : {A : Type 0} (P : A → Type 0) {x y : A} → x ≡ y → P x → P y
 to P e p = subst P e p
 
 -- a request that had an effect or an answer was made by its takeover
-pub made_of : (n : ℕ) (story : Story) (old : List Entry) (e : Entry) (r : Request) → IsNextEntry n story old e → Requested (node_after e.node old) e.move r → (caller : ℕ) × IsMade n story old caller e.node r
+pub made_of : (n : ℕ) (story : Story) (old : List Entry) (e : Entry) (r : Request) → IsNextEntry n story old e
+    → Requested (node_after e.node old) e.move r → (caller : ℕ) × IsMade n story old caller e.node r
 made_of n story old e r next (inl x) = (x.0, (to (λ m. IsNext n story old e.node (node_after e.node old) m) x.3 next.is_next).0.made)
 made_of n story old e r next (inr x) = (x.0, ((to (λ m. IsNext n story old e.node (node_after e.node old) m) x.3 next.is_next).2 x.4).made)
 
 -- the round that a request was made in, and the request
-pub made_at : (n : ℕ) (story : Story) (old : List Entry) (caller node : ℕ) (r : Request) → (m : IsMade n story old caller node r) → seen_at n (takeover_at story old) (story.round (length old)) ≡ Some (seen m.underway)
+pub made_at : (n : ℕ) (story : Story) (old : List Entry) (caller node : ℕ) (r : Request) → (m : IsMade n story old caller node r)
+    → seen_at n (takeover_at story old) (story.round (length old)) ≡ Some (seen m.underway)
 made_at n story old caller node r m = seen_here n (takeover_at story old) (story.round (length old)) m.underway m.tasks_follow m.is_there
 
-pub made_asks : (n : ℕ) (story : Story) (old : List Entry) (caller node : ℕ) (r : Request) → (m : IsMade n story old caller node r) → r ≡ asked (takeover_at story old).epoch (story.round (length old)) (seen m.underway).committed (seen m.underway).round
+pub made_asks : (n : ℕ) (story : Story) (old : List Entry) (caller node : ℕ) (r : Request) → (m : IsMade n story old caller node r)
+    → r ≡ asked (takeover_at story old).epoch (story.round (length old)) (seen m.underway).committed (seen m.underway).round
 made_asks n story old caller node r m =
     let so : Sound n (takeover_at story old) (story.round (length old)) m.underway = sound_at n (takeover_at story old) (story.round (length old)) m.underway m.tasks_follow m.is_there in
     m.is_asked ∙ asked_seen m.underway (takeover_at story old).epoch (story.round (length old)) so.epoch so.serial
@@ -76,7 +80,8 @@ round_of n story old e r next q =
     }
 
 -- the request of an entry of a run, whenever it came
-pub round_within : (n : ℕ) (story : Story) (past old : List Entry) (e : Entry) (r : Request) → Follows n story past → Earlier (e ∷ old) past → Requested (node_after e.node old) e.move r → OfRound n story past r
+pub round_within : (n : ℕ) (story : Story) (past old : List Entry) (e : Entry) (r : Request) → Follows n story past → Earlier (e ∷ old) past
+    → Requested (node_after e.node old) e.move r → OfRound n story past r
 round_within n story past old e r f p q =
     let x : OfRound n story old r = round_of n story old e r (next_of n story p f) q in
     record { a = x.a; s = x.s; w = x.w; sent = Sent-later n story x.a x.s x.w (Earlier-tail p) x.sent; is = x.is }
@@ -131,7 +136,8 @@ pub record Answers (n : ℕ) (story : Story) (old : List Entry) (a k : ℕ) : Ty
   pub majority : IsMajority n nodes
   pub each : (i : ℕ) → Member i nodes → (reply : Reply) × Answered n story old a k w i reply × OkHeard n w ((story.takeover a).heard k) i reply
 
-pub answers_of : (n : ℕ) (story : Story) (past : List Entry) (a s k : ℕ) (w : Writer) → Follows n story past → (p : Sent n story past a s w) → k < s → ((x : Writer) → seen_at n (story.takeover a) k ≡ Some x → IsGet x.round → ⊥) → Answers n story p.old a k
+pub answers_of : (n : ℕ) (story : Story) (past : List Entry) (a s k : ℕ) (w : Writer) → Follows n story past → (p : Sent n story past a s w) → k < s
+    → ((x : Writer) → seen_at n (story.takeover a) k ≡ Some x → IsGet x.round → ⊥) → Answers n story p.old a k
 answers_of n story past a s k w f p lt no_fetch =
     let x : RoundBefore n (story.takeover a) k = earlier_round n (story.takeover a) k s w lt p.at in
     let d : Done n x.writer ((story.takeover a).heard k) = x.done (no_fetch x.writer x.at) in
@@ -201,11 +207,14 @@ pub record Vote (n : ℕ) (story : Story) (past : List Entry) (a i : ℕ) : Type
   pub after : (node_after i (entry ∷ old)).promised ≡ (story.takeover a).epoch
   pub heard : (story.takeover a).heard 0 i ≡ Some (EpochTaken told)
 
-abbrev pub vote_of : (n : ℕ) (story : Story) (past : List Entry) (a i : ℕ) (w : Writer) (reply : Reply) → w.round ≡ Propose → Answered n story past a 0 w i reply → (story.takeover a).heard 0 i ≡ Some reply → Vote n story past a i
+abbrev pub vote_of : (n : ℕ) (story : Story) (past : List Entry) (a i : ℕ) (w : Writer) (reply : Reply) → w.round ≡ Propose
+    → Answered n story past a 0 w i reply → (story.takeover a).heard 0 i ≡ Some reply → Vote n story past a i
 vote_of n story past a i w reply is x h =
     let k = proposal_kind reply (to (λ r. is_ok_kind r reply ≡ true) is x.kind) in
     let request : asked (story.takeover a).epoch 0 w.committed w.round ≡ NewEpoch (story.takeover a).epoch = ap (λ r. asked (story.takeover a).epoch 0 w.committed r) is in
-    let t : Taken (node_after i x.old) (story.takeover a).epoch k.0 = taken (node_after i x.old) (story.takeover a).epoch k.0 (ap (λ z. (node_step (node_after i x.old) z).reply) (sym request) ∙ (x.replied ∙ k.1)) in
+    let t : Taken (node_after i x.old) (story.takeover a).epoch k.0 =
+    taken (node_after i x.old) (story.takeover a).epoch k.0 (ap (λ z. (node_step (node_after i x.old) z).reply) (sym request) ∙ (x.replied ∙ k.1))
+    in
     record {
       told = k.0;
       old = x.old;
@@ -214,7 +223,8 @@ vote_of n story past a i w reply is x h =
       node = x.node;
       whose = x.whose;
       taken_is = t;
-      after = ap (λ z. z.promised) (node_here i x.entry x.old x.node ∙ ap (λ z. after_move (node_after i x.old) z) x.move) ∙ (ap (λ z. (node_step (node_after i x.old) z).state.promised) request ∙ t.promise);
+      after = ap (λ z. z.promised) (node_here i x.entry x.old x.node ∙ ap (λ z. after_move (node_after i x.old) z) x.move)
+          ∙ (ap (λ z. (node_step (node_after i x.old) z).state.promised) request ∙ t.promise);
       heard = h ∙ ap (λ z. Some z) k.1;
     }
 
@@ -231,7 +241,17 @@ votes_of n story past a s w f p lt =
     record { nodes = x.nodes; majority = x.majority; each = λ i m. (let r = x.each i m in vote_of n story p.old a i x.w r.0 is r.1 r.2.was_heard) }
 
 pub Vote-later : (n : ℕ) (story : Story) {past more : List Entry} (a i : ℕ) → Earlier past more → Vote n story past a i → Vote n story more a i
-Vote-later n story a i p v = record { told = v.told; old = v.old; entry = v.entry; within = Earlier-trans v.within p; node = v.node; whose = v.whose; taken_is = v.taken_is; after = v.after; heard = v.heard }
+Vote-later n story a i p v = record {
+  told = v.told;
+  old = v.old;
+  entry = v.entry;
+  within = Earlier-trans v.within p;
+  node = v.node;
+  whose = v.whose;
+  taken_is = v.taken_is;
+  after = v.after;
+  heard = v.heard;
+}
 
 -- two places of one run: one is the other, or stands before it
 pub data Order (x y : Entry) (xs ys : List Entry) : Type 0 where
@@ -251,7 +271,8 @@ order_of {x} {y} {xs} {ys} now q = order_with q (x ∷ xs) refl refl
 order_of (before p) now = first_before p
 order_of (before p) (before q) = order_of p q
 
-pub one_vote : (n : ℕ) (story : Story) (past : List Entry) (a b i : ℕ) → (story.takeover a).epoch ≡ (story.takeover b).epoch → (v : Vote n story past a i) → (u : Vote n story past b i) → Order v.entry u.entry v.old u.old → a ≡ b
+pub one_vote : (n : ℕ) (story : Story) (past : List Entry) (a b i : ℕ) → (story.takeover a).epoch ≡ (story.takeover b).epoch
+    → (v : Vote n story past a i) → (u : Vote n story past b i) → Order v.entry u.entry v.old u.old → a ≡ b
 one_vote n story past a b i same v u (the_same e) = sym v.whose ∙ (ap (λ z. story.whose (length z)) e ∙ u.whose)
 one_vote n story past a b i same v u (first_before p) =
     let h : (node_after i (v.entry ∷ v.old)).promised ≤ (node_after i u.old).promised = promise_earlier i p in

@@ -1,5 +1,6 @@
 -- What a node knows to be committed is chosen, so each edit that it serves is on the line.
-use Rattle.std.proofs.Common.{◌≡◌, ℕ, zero, suc, ◌+◌, ◌-◌, ◌<◌, ◌≤◌, max, ◌⊎◌, ◌==◌, true, List, [], ◌∷◌, ◌++◌, length, take, map, Option, Some, None, refl, inl, inr, arith, sym, ap, ◌∙◌, nat_lt, if◌then◌else◌}
+use Rattle.std.proofs.Common.{◌≡◌, ℕ, zero, suc, ◌+◌, ◌-◌, ◌<◌, ◌≤◌, max, ◌⊎◌, ◌==◌, true, List, [], ◌∷◌, ◌++◌, length, take, map, Option, Some, None}
+use Rattle.std.proofs.Common.{refl, inl, inr, arith, sym, ap, ◌∙◌, nat_lt, if◌then◌else◌}
 use Rattle.std.specs.Prelude.{slice_get}
 use Rattle.std.proofs.lemmas.Bool.{cond_both, cases_lt, cases_Bool, cases_eq, eqb-true, cond-true, cond-false}
 use Rattle.journal_core.specs.Effects.{Effect, Promise, WriterEpoch, Commit, NewSegment, Append, Replace, MakeFinal as SealIt, Remove, after_effect, after_effects}
@@ -14,10 +15,10 @@ use Rattle.journal_core.specs.declared.request.Request.TheVariants.{State, NewEp
 use Rattle.journal_core.specs.declared.segment.Segment.{Segment}
 use Rattle.std.specs.List.{filter}
 use Rattle.std.proofs.lemmas.List.{take_all}
-use Rattle.node_history.specs.Entries.{Entry, Move, Answer, Stop, Kill, Restart, after_move, node_after, Earlier, now, before}
+use Rattle.journal_history.specs.Entries.{Entry, Move, Answer, Stop, Kill, Restart, after_move, node_after, Earlier, now, before}
 use Rattle.run_safety.specs.Run.{Story, Follows}
 use Rattle.run_safety.specs.Safe.{IsChosen, IsOnLine, IsOf}
-use Rattle.run_safety.proofs.SeenLaws.{Round, Propose, Ask, Get, Other, Recover, Seal, Open, Write, Clean, asked}
+use Rattle.run_safety.proofs.SeenLaws.{Round, Propose, Ask, Get, Other, Recover, Finalizing, Open, Write, Clean, asked}
 use Rattle.run_safety.proofs.Places.{Earlier-trans}
 use Rattle.journal_core.proofs.Steps.{Acted, at_once, by_row, done, acted, none≢some}
 use Rattle.run_safety.proofs.SoundNodes.{promise_moved, led_after}
@@ -82,7 +83,8 @@ commits_map P (g ∷ gs) = commits_map P gs
 commits_rows : (P : ℕ → Type 0) (s : NodeState) (r : Request) → P s.known → CommitsOnly P (row_effects s r)
 commits_rows P s State p = tt
 commits_rows P s (NewEpoch e) p = tt
-commits_rows P s (Start h m) p = commits_append P (if s.writer == h.epoch then [] else WriterEpoch h.epoch ∷ []) (NewSegment m h.epoch ∷ []) (cond_both (s.writer == h.epoch) [] (WriterEpoch h.epoch ∷ []) (λ es. CommitsOnly P es) (λ e. tt) (λ e. tt)) tt
+commits_rows P s (Start h m) p = commits_append P (if s.writer == h.epoch then [] else WriterEpoch h.epoch ∷ []) (NewSegment m h.epoch ∷ [])
+    (cond_both (s.writer == h.epoch) [] (WriterEpoch h.epoch ∷ []) (λ es. CommitsOnly P es) (λ e. tt) (λ e. tt)) tt
 commits_rows P s (Journal h m b) p = tt
 commits_rows P s (Finalize h m l) p = commits_append P (if is_final_one (find_segment m s.segments) then [] else SealIt m ∷ []) (if nat_lt s.committed s.known then Commit s.known ∷ [] else [])
     (cond_both (is_final_one (find_segment m s.segments)) [] (SealIt m ∷ []) (λ es. CommitsOnly P es) (λ e. tt) (λ e. tt))
@@ -105,7 +107,7 @@ head_round e s c (Ask m) q h is at = let one = some_same (sym at ∙ ap head_of 
 head_round e s c (Get i m l bodies) q h is at = let one = some_same (sym at ∙ ap head_of is) in (ap (λ z. z.epoch) one, ap (λ z. z.committed) one)
 head_round e s c Other q h is at = none≢some h (sym (ap head_of is) ∙ at)
 head_round e s c (Recover b) q h is at = let one = some_same (sym at ∙ ap head_of is) in (ap (λ z. z.epoch) one, ap (λ z. z.committed) one)
-head_round e s c (Seal m l) q h is at = let one = some_same (sym at ∙ ap head_of is) in (ap (λ z. z.epoch) one, ap (λ z. z.committed) one)
+head_round e s c (Finalizing m l) q h is at = let one = some_same (sym at ∙ ap head_of is) in (ap (λ z. z.epoch) one, ap (λ z. z.committed) one)
 head_round e s c (Open m) q h is at = let one = some_same (sym at ∙ ap head_of is) in (ap (λ z. z.epoch) one, ap (λ z. z.committed) one)
 head_round e s c (Write m b) q h is at = let one = some_same (sym at ∙ ap head_of is) in (ap (λ z. z.epoch) one, ap (λ z. z.committed) one)
 head_round e s c (Clean l) q h is at = let one = some_same (sym at ∙ ap head_of is) in (ap (λ z. z.epoch) one, ap (λ z. z.committed) one)
@@ -125,7 +127,9 @@ module _ (n : ℕ) (story : Story) (past : List Entry) (run : Follows n story pa
   front_up s p r None is each k = to (λ z. Up p (front_known s.known z)) (sym is) k
   front_up s p r (Some h) is each k = to (λ z. Up p (front_known s.known z)) (sym is) (up_max p s.known h.committed k (each h is))
 
-  answer_up : (s : NodeState) (r : Request) → Knows s → s.promised ≤ (node_step s r).state.promised → ((h : HeadView) → head_of r ≡ Some h → refused_at_once s r ≡ None → Up (node_step s r).state.promised h.committed) → Acted s r → Knows (node_step s r).state
+  answer_up : (s : NodeState) (r : Request) → Knows s → s.promised ≤ (node_step s r).state.promised
+      → ((h : HeadView) → head_of r ≡ Some h → refused_at_once s r ≡ None → Up (node_step s r).state.promised h.committed) → Acted s r
+      → Knows (node_step s r).state
   answer_up s r k le each (at_once x a e f) = rw e k
   answer_up s r k le each (by_row x a b e f) =
       let p : ℕ = (node_step s r).state.promised in
@@ -135,12 +139,16 @@ module _ (n : ℕ) (story : Story) (past : List Entry) (run : Follows n story pa
       let p : ℕ = (node_step s r).state.promised in
       let v : Up p (fronted s r).known = front_up s p r (head_of r) refl (λ h is. each h is a) (UpTo-more n story past run s.promised p s.known le k.0) in
       let rows = row_effects (fronted s r) r in
-      let c : Up p (after_effects (fronted s r) (take (length rows) rows)).committed = commits_kept (λ z. Up p z) (length rows) (fronted s r) rows (UpTo-more n story past run s.promised p s.committed le k.1) (commits_rows (λ z. Up p z) (fronted s r) r v) in (
+      let c : Up p (after_effects (fronted s r) (take (length rows) rows)).committed =
+      commits_kept (λ z. Up p z) (length rows) (fronted s r) rows (UpTo-more n story past run s.promised p s.committed le k.1)
+      (commits_rows (λ z. Up p z) (fronted s r) r v) in (
         to (λ z. Up p z) (sym (ap (λ z. z.state.known) e ∙ known_after (fronted s r) rows)) v,
         to (λ z. Up p z) (ap (λ es. (after_effects (fronted s r) es).committed) (take_all (length rows) rows (omega arith)) ∙ sym (ap (λ z. z.state.committed) e)) c,
       )
 
-  stop_up : (s : NodeState) (r : Request) (k p : ℕ) → Up p s.known → Up p s.committed → ((h : HeadView) → head_of r ≡ Some h → refused_at_once s r ≡ None → Up p h.committed) → Acted s r → Up p (after_effects s (take k (effects_of s r))).committed
+  stop_up : (s : NodeState) (r : Request) (k p : ℕ) → Up p s.known → Up p s.committed
+      → ((h : HeadView) → head_of r ≡ Some h → refused_at_once s r ≡ None → Up p h.committed) → Acted s r
+      → Up p (after_effects s (take k (effects_of s r))).committed
   stop_up s r k p a b each (at_once x c e f) = rw f (commits_kept (λ z. Up p z) k s [] b tt)
   stop_up s r k p a b each (by_row x c d e f) = rw f (commits_kept (λ z. Up p z) k s (front_effects s (head_of r)) b (commits_front (λ z. Up p z) s (head_of r)))
   stop_up s r k p a b each (done c d e f) = rw f (commits_kept (λ z. Up p z) k s (front_effects s (head_of r) ++ row_effects (fronted s r) r) b
@@ -148,7 +156,8 @@ module _ (n : ℕ) (story : Story) (past : List Entry) (run : Follows n story pa
       (commits_rows (λ z. Up p z) (fronted s r) r (front_up s p r (head_of r) refl (λ h is. each h is c) a))))
 
   -- the head of a request of the run, at a promise that it reached
-  head_up : (e : Entry) (old : List Entry) → Earlier (e ∷ old) past → (r : Request) → Requested (node_after e.node old) e.move r → (h : HeadView) → head_of r ≡ Some h → refused_at_once (node_after e.node old) r ≡ None →
+  head_up : (e : Entry) (old : List Entry) → Earlier (e ∷ old) past → (r : Request) → Requested (node_after e.node old) e.move r → (h : HeadView)
+      → head_of r ≡ Some h → refused_at_once (node_after e.node old) r ≡ None →
       Up (after_move (node_after e.node old) e.move).promised h.committed
   head_up e old p r q h is a =
       let z : OfRound n story past r = round_within n story past old e r run p q in
@@ -207,11 +216,14 @@ module _ (n : ℕ) (story : Story) (past : List Entry) (run : Follows n story pa
   get_taken (suc c) zero (y ∷ ys) x e = (omega arith, e)
   get_taken (suc c) (suc k) (y ∷ ys) x e = let r = get_taken c k ys x e in (omega (arith, r.0), r.1)
 
-  open_served : (i : ℕ) (g : Segment) (k : ℕ) (x : List ℕ) → find_segment g.start (node_after i past).segments ≡ Some g → (node_after i past).opened ≡ Some g.start → g.start + k ≤ (node_after i past).known → slice_get g.bodies k ≡ Some x → IsOnLine n past (g.start + k) x
+  open_served : (i : ℕ) (g : Segment) (k : ℕ) (x : List ℕ) → find_segment g.start (node_after i past).segments ≡ Some g
+      → (node_after i past).opened ≡ Some g.start → g.start + k ≤ (node_after i past).known → slice_get g.bodies k ≡ Some x
+      → IsOnLine n past (g.start + k) x
   open_served i g k x is opened le has = elim (cases_lt c.0 g.epoch) [
     | inl less ↦ lower less (shaped n story past run i g.start g is).shape
     | inr ge ↦ (let eq : c.0 ≡ g.epoch = omega (arith, c.3, header) in
-        let once = wrote_once n story past g.epoch c.1 g.start (g.start + k) c.2 x run (to (λ z. Wrote n story past z c.1 (g.start + k) c.2) eq (maj_wrote n story past run c.0 c.1 (g.start + k) c.2 c.4)) own in
+        let once = wrote_once n story past g.epoch c.1 g.start (g.start + k) c.2 x run
+        (to (λ z. Wrote n story past z c.1 (g.start + k) c.2) eq (maj_wrote n story past run c.0 c.1 (g.start + k) c.2 c.4)) own in
         to (λ z. IsOnLine n past (g.start + k) z) once.1 (on_line n story past run c.0 c.1 (g.start + k) c.2 c.4))
   ]
     where
@@ -237,19 +249,22 @@ module _ (n : ℕ) (story : Story) (past : List Entry) (run : Follows n story pa
             to (λ z. IsOnLine n past (g.start + k) z) same_body (on_line n story past run c.0 c.1 (g.start + k) c.2 c.4))
       ]
 
-  final_served : (i : ℕ) (g : Segment) (k : ℕ) (x : List ℕ) → find_segment g.start (node_after i past).segments ≡ Some g → g.is_final ≡ true → slice_get g.bodies k ≡ Some x → IsOnLine n past (g.start + k) x
+  final_served : (i : ℕ) (g : Segment) (k : ℕ) (x : List ℕ) → find_segment g.start (node_after i past).segments ≡ Some g → g.is_final ≡ true
+      → slice_get g.bodies k ≡ Some x → IsOnLine n past (g.start + k) x
   final_served i g k x is final has =
       let fin : Fin n story past run g.epoch g.start (end_of g) = final_fin n story past run i g.start past g now is final in
       let s : Sealed n story past run g.epoch g.start (end_of g) = sealed n story past run g.epoch g.start (end_of g) fin in
       let lt : k < length g.bodies = get_within g.bodies k x has in
       let y = s.all (g.start + k) (omega arith) (omega arith) in
-      let h : HasAt g (g.start + k) y.0 = has_chosen n story past run (suc g.epoch) i s.epoch g.start (g.start + k) y.0 past g (λ f b. good n story past run f) (omega (arith, s.le)) (omega arith) now is (inl final) y.1 in
+      let h : HasAt g (g.start + k) y.0 = has_chosen n story past run (suc g.epoch) i s.epoch g.start (g.start + k) y.0 past g
+      (λ f b. good n story past run f) (omega (arith, s.le)) (omega arith) now is (inl final) y.1 in
       let index : h.0 ≡ k = omega (arith, h.1) in
       let same_body : y.0 ≡ x = some_same (sym h.2 ∙ (ap (λ z. slice_get g.bodies z) index ∙ has)) in
       to (λ z. IsOnLine n past (g.start + k) z) same_body (on_line n story past run s.epoch g.start (g.start + k) y.0 y.1)
 
   -- each edit that a node serves is on the line
-  pub served_on_line : (i : ℕ) (g : Segment) (k : ℕ) (x : List ℕ) → find_segment g.start (node_after i past).segments ≡ Some g → slice_get (served (node_after i past) g) k ≡ Some x → IsOnLine n past (g.start + k) x
+  pub served_on_line : (i : ℕ) (g : Segment) (k : ℕ) (x : List ℕ) → find_segment g.start (node_after i past).segments ≡ Some g
+      → slice_get (served (node_after i past) g) k ≡ Some x → IsOnLine n past (g.start + k) x
   served_on_line i g k x is has = elim (cases_Bool g.is_final) [
     | inl t ↦ final_served i g k x is t (to (λ z. slice_get z k ≡ Some x) (cond-true g.is_final g.bodies (served_open (node_after i past) g (node_after i past).opened) t) has)
     | inr f ↦ by_open (node_after i past).opened refl (to (λ z. slice_get z k ≡ Some x) (cond-false g.is_final g.bodies (served_open (node_after i past) g (node_after i past).opened) f) has)
@@ -269,7 +284,8 @@ module _ (n : ℕ) (story : Story) (past : List Entry) (run : Follows n story pa
   pub known_on_line : (i t : ℕ) → 1 ≤ t → t ≤ (node_after i past).known → (body : List ℕ) × IsOnLine n past t body
   known_on_line i t one le = up_line (node_after i past).promised (node_after i past).known t (knows i past now).0 one le
 
-  pub carried_on_line : (old : List Entry) (e : Entry) (r : Request) (h : HeadView) (t : ℕ) → Earlier (e ∷ old) past → IsOf e r → head_of r ≡ Some h → 1 ≤ t → t ≤ h.committed → (body : List ℕ) × IsOnLine n past t body
+  pub carried_on_line : (old : List Entry) (e : Entry) (r : Request) (h : HeadView) (t : ℕ) → Earlier (e ∷ old) past → IsOf e r → head_of r ≡ Some h
+      → 1 ≤ t → t ≤ h.committed → (body : List ℕ) × IsOnLine n past t body
   carried_on_line old e r h t p q is one le =
       let z : OfRound n story past r = round_within n story past old e r run p q in
       let k = head_round (story.takeover z.a).epoch z.s z.w.committed z.w.round r h z.is is in
@@ -282,7 +298,8 @@ module _ (n : ℕ) (story : Story) (past : List Entry) (run : Follows n story pa
   pub known_chosen : (i t : ℕ) → 1 ≤ t → t ≤ (node_after i past).known → (f : ℕ) × (body : List ℕ) × (f ≤ (node_after i past).promised) × IsChosen n past f t body
   known_chosen i t one le = up_chosen (node_after i past).promised (node_after i past).known t (knows i past now).0 one le
 
-  pub carried_chosen : (old : List Entry) (e : Entry) (r : Request) (h : HeadView) (t : ℕ) → Earlier (e ∷ old) past → IsOf e r → head_of r ≡ Some h → 1 ≤ t → t ≤ h.committed → (f : ℕ) × (body : List ℕ) × (f ≤ h.epoch) × IsChosen n past f t body
+  pub carried_chosen : (old : List Entry) (e : Entry) (r : Request) (h : HeadView) (t : ℕ) → Earlier (e ∷ old) past → IsOf e r → head_of r ≡ Some h
+      → 1 ≤ t → t ≤ h.committed → (f : ℕ) × (body : List ℕ) × (f ≤ h.epoch) × IsChosen n past f t body
   carried_chosen old e r h t p q is one le =
       let z : OfRound n story past r = round_within n story past old e r run p q in
       let k = head_round (story.takeover z.a).epoch z.s z.w.committed z.w.round r h z.is is in

@@ -1,4 +1,5 @@
--- How a segment that a node holds came under its header epoch: whole by a recovery, or by an opening of its owner. What is final was finalised by that owner.
+-- How a segment that a node holds came under its header epoch: whole by a recovery, or by an
+-- opening of its owner. What is final was finalised by that owner.
 use Rattle.std.proofs.Common.{◌≡◌, ℕ, ◌<◌, true, List, [], ◌∷◌, Option, Some, None, refl, inl, inr, arith, subst, sym, ap, ◌∙◌}
 use Rattle.journal_core.specs.Segments.{find_segment, end_of, HasAt}
 use Rattle.journal_core.specs.Views.{BatchView}
@@ -6,9 +7,9 @@ use Rattle.journal_core.specs.declared.node_state.NodeState.{NodeState}
 use Rattle.journal_core.specs.declared.request.Request.{Request}
 use Rattle.journal_core.specs.declared.segment.Segment.{Segment}
 use Rattle.run_safety.specs.Majority.{Member, IsMajority}
-use Rattle.node_history.specs.Entries.{Entry, node_after, Earlier, now, before}
+use Rattle.journal_history.specs.Entries.{Entry, node_after, Earlier, now, before}
 use Rattle.run_safety.specs.Run.{Story, Follows}
-use Rattle.run_safety.proofs.SeenLaws.{Round, Recover, Seal, Open, Writer}
+use Rattle.run_safety.proofs.SeenLaws.{Round, Recover, Finalizing, Open, Writer}
 use Rattle.journal_core.proofs.Changes.{Change, same, created, grown, made_final, replaced, removed}
 use Rattle.run_safety.proofs.Along.{Requested, entry_change}
 use Rattle.run_safety.proofs.Slots.{true≢false}
@@ -32,7 +33,8 @@ pub InRound-later : (n : ℕ) (story : Story) {past more : List Entry} (e : ℕ)
 InRound-later n story e r p x = record { a = x.a; s = x.s; w = x.w; sent = Sent-later n story x.a x.s x.w p x.sent; epoch = x.epoch; is = x.is }
 
 -- where a round that writes the segment at m was sent, so was its opening
-pub write_opens : (n : ℕ) (story : Story) (past : List Entry) (a s : ℕ) (w : Writer) (m : ℕ) → Sent n story past a s w → IsWriting w.round → w.start ≡ m → InRound n story past (story.takeover a).epoch (Open m)
+pub write_opens : (n : ℕ) (story : Story) (past : List Entry) (a s : ℕ) (w : Writer) (m : ℕ) → Sent n story past a s w → IsWriting w.round
+    → w.start ≡ m → InRound n story past (story.takeover a).epoch (Open m)
 write_opens n story past a s w m p writing is =
     let o : OpenedAt n (story.takeover a) s w.start = opened_at n (story.takeover a) s w p.at writing in
     let lt : o.round < s = o.before in
@@ -44,7 +46,7 @@ pub data Shape (n : ℕ) (story : Story) (past : List Entry) (m e : ℕ) (bodies
 
 pub record Shaped (n : ℕ) (story : Story) (past : List Entry) (m : ℕ) (g : Segment) : Type 0 where
   pub shape : Shape n story past m g.epoch g.bodies
-  pub final : g.is_final ≡ true → InRound n story past g.epoch (Seal m (end_of g))
+  pub final : g.is_final ≡ true → InRound n story past g.epoch (Finalizing m (end_of g))
 
 abbrev pub ShapedOr : (n : ℕ) (story : Story) (past : List Entry) → ℕ → Option Segment → Type 0
 ShapedOr n story past m None = Unit {0}
@@ -56,12 +58,14 @@ Shape-later n story m e bodies p (by_opening r) = by_opening (InRound-later n st
 
 ShapedOr-later : (n : ℕ) (story : Story) {past more : List Entry} (m : ℕ) (o : Option Segment) → Earlier past more → ShapedOr n story past m o → ShapedOr n story more m o
 ShapedOr-later n story m None p x = tt
-ShapedOr-later n story m (Some g) p x = record { shape = Shape-later n story m g.epoch g.bodies p x.shape; final = λ f. InRound-later n story g.epoch (Seal m (end_of g)) p (x.final f) }
+ShapedOr-later n story m (Some g) p x = record { shape = Shape-later n story m g.epoch g.bodies p x.shape; final = λ f. InRound-later n story g.epoch (Finalizing m (end_of g)) p (x.final f) }
 
-round_in : (n : ℕ) (story : Story) (past : List Entry) (r : Request) (x : OfRound n story past r) (round : Round) (e : ℕ) → x.w.round ≡ round → (story.takeover x.a).epoch ≡ e → InRound n story past e round
+round_in : (n : ℕ) (story : Story) (past : List Entry) (r : Request) (x : OfRound n story past r) (round : Round) (e : ℕ) → x.w.round ≡ round
+    → (story.takeover x.a).epoch ≡ e → InRound n story past e round
 round_in n story past r x round e is epoch = record { a = x.a; s = x.s; w = x.w; sent = x.sent; epoch = epoch; is = is }
 
-shaped_change : (n : ℕ) (story : Story) (past : List Entry) (s : NodeState) (r : Request) (m : ℕ) (o new : Option Segment) → Change s r m o new → OfRound n story past r → ShapedOr n story past m o → ShapedOr n story past m new
+shaped_change : (n : ℕ) (story : Story) (past : List Entry) (s : NodeState) (r : Request) (m : ℕ) (o new : Option Segment) → Change s r m o new
+    → OfRound n story past r → ShapedOr n story past m o → ShapedOr n story past m new
 shaped_change n story past s r m o new same x v = v
 shaped_change n story past s r m o new (created h q none) x v =
     let p = start_round (story.takeover x.a).epoch x.s x.w.committed x.w.round h m (sym q ∙ x.is) in
@@ -73,7 +77,7 @@ shaped_change n story past s r m (Some g) new (grown h b q header f first) x v =
     record { shape = by_opening (to (λ e. InRound n story past e (Open m)) (sym p.1 ∙ sym header) opening); final = λ t. true≢false (sym t ∙ f) }
 shaped_change n story past s r m (Some g) new (made_final h l q edit f header ends) x v =
     let p = finalize_round (story.takeover x.a).epoch x.s x.w.committed x.w.round h m l (sym q ∙ x.is) in
-    record { shape = v.shape; final = λ t. to (λ z. InRound n story past g.epoch (Seal m z)) (sym ends) (round_in n story past r x (Seal m l) g.epoch p.0 (sym p.1 ∙ sym header)) }
+    record { shape = v.shape; final = λ t. to (λ z. InRound n story past g.epoch (Finalizing m z)) (sym ends) (round_in n story past r x (Finalizing m l) g.epoch p.0 (sym p.1 ∙ sym header)) }
 shaped_change n story past s r m o new (replaced h b q first f) x v =
     let p = accept_round (story.takeover x.a).epoch x.s x.w.committed x.w.round h b (sym q ∙ x.is) in
     record { shape = by_recovery b first (round_in n story past r x (Recover b) h.epoch p.0 (sym p.1)) refl; final = λ t. true≢false (sym t) }
@@ -83,7 +87,8 @@ shaped_or : (n : ℕ) (story : Story) (past : List Entry) → Follows n story pa
 unfolding node_after find_segment
 shaped_or n story [] f i m = tt
 shaped_or n story (e ∷ old) f i m =
-    let earlier : ShapedOr n story (e ∷ old) m (find_segment m (node_after i old).segments) = ShapedOr-later n story m (find_segment m (node_after i old).segments) (before now) (shaped_or n story old f.1 i m) in
+    let earlier : ShapedOr n story (e ∷ old) m (find_segment m (node_after i old).segments) =
+    ShapedOr-later n story m (find_segment m (node_after i old).segments) (before now) (shaped_or n story old f.1 i m) in
     elim (entry_change i e old m) [
       | inl same_one ↦ subst (λ o. ShapedOr n story (e ∷ old) m o) (sym same_one) earlier
       | inr c ↦

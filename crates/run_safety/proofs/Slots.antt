@@ -1,5 +1,7 @@
--- The nodes' parts in a round: what was heard from whom, who answered with the Ok kind, and what the best and the newest told are.
-use Rattle.std.proofs.Common.{◌≡◌, ℕ, zero, suc, ◌+◌, ◌-◌, ◌*◌, ◌<◌, ◌≤◌, max, ◌⊎◌, ◌==◌, ◌&&◌, ◌||◌, Bool, true, false, not, List, [], ◌∷◌, length, Option, Some, None, refl, inl, inr, arith, subst, sym, ap, ◌∙◌, cond, nat_lt}
+-- The nodes' parts in a round: what was heard from whom, who answered with the Ok kind, and what
+-- the best and the newest told are.
+use Rattle.std.proofs.Common.{◌≡◌, ℕ, zero, suc, ◌+◌, ◌-◌, ◌*◌, ◌<◌, ◌≤◌, max, ◌⊎◌, ◌==◌, ◌&&◌, ◌||◌, Bool, true, false, not, List, [], ◌∷◌, length}
+use Rattle.std.proofs.Common.{Option, Some, None, refl, inl, inr, arith, subst, sym, ap, ◌∙◌, cond, nat_lt}
 use Rattle.std.specs.Prelude.{get_or, replicate, slice_set}
 use Rattle.std.specs.List.{filter, count_by}
 use Rattle.std.proofs.lemmas.Bool.{cond_both, cases_Bool, cases_lt, cases_eq, cond-true, cond-false, eqb-true, eqb-false, ltb-true, ltb-false, and_parts, or_parts, or_cases, and_cases}
@@ -93,7 +95,8 @@ told_answer None reply e = let h : Silent ≡ Answer reply = cc in cc
 told_answer (Some x) reply e = let h : Answer x ≡ Answer reply = cc in cc
 
 -- an answer in a round that was heard is what was heard
-pub filled_heard : (first : ℕ) (heard : ℕ → Option Reply) (xs : List Slot) → IsFresh xs → (node : ℕ) (reply : Reply) → At first (fill_slots first heard xs) node (Told (Answer reply)) → heard node ≡ Some reply
+pub filled_heard : (first : ℕ) (heard : ℕ → Option Reply) (xs : List Slot) → IsFresh xs → (node : ℕ) (reply : Reply)
+    → At first (fill_slots first heard xs) node (Told (Answer reply)) → heard node ≡ Some reply
 unfolding fill_slots
 filled_heard first heard [] f node reply a = absurd a
 filled_heard first heard (Waiting ∷ xs) f node reply (inl a) = ap heard (sym a.0) ∙ told_answer (heard first) reply a.1
@@ -103,7 +106,8 @@ filled_heard first heard (LeftOut ∷ xs) f node reply (inr a) = filled_heard (f
 filled_heard first heard (Told h ∷ xs) f node reply a = absurd f
 
 -- what was heard in a round to all stands in it
-pub filled_all : (first : ℕ) (heard : ℕ → Option Reply) (xs : List Slot) → AllWait xs → (node : ℕ) (reply : Reply) → first ≤ node → node < first + length xs → heard node ≡ Some reply → At first (fill_slots first heard xs) node (Told (Answer reply))
+pub filled_all : (first : ℕ) (heard : ℕ → Option Reply) (xs : List Slot) → AllWait xs → (node : ℕ) (reply : Reply) → first ≤ node
+    → node < first + length xs → heard node ≡ Some reply → At first (fill_slots first heard xs) node (Told (Answer reply))
 unfolding fill_slots
 filled_all first heard [] f node reply le lt h = absurd (omega arith)
 filled_all first heard (Waiting ∷ xs) f node reply le lt h = elim (cases_eq first node) [
@@ -248,7 +252,8 @@ not_above a b r = by (outranks a b) refl
         numbers : b.is_final ≡ a.is_final → (nat_lt b.epoch a.epoch || ((b.epoch == a.epoch) && nat_lt b.end a.end)) ≡ true → ⊥
         numbers same e = elim (or_cases (nat_lt b.epoch a.epoch) ((b.epoch == a.epoch) && nat_lt b.end a.end) e) [
           | inl t ↦ (let lt : b.epoch < a.epoch = ltb-true b.epoch a.epoch t in omega (arith, r.header same))
-          | inr t ↦ (let two = and_parts (b.epoch == a.epoch) (nat_lt b.end a.end) t in let eq : b.epoch ≡ a.epoch = eqb-true b.epoch a.epoch two.0 in let lt : b.end < a.end = ltb-true b.end a.end two.1 in omega (arith, r.ends same (sym eq)))
+          | inr t ↦ (let two = and_parts (b.epoch == a.epoch) (nat_lt b.end a.end) t in let eq : b.epoch ≡ a.epoch =
+              eqb-true b.epoch a.epoch two.0 in let lt : b.end < a.end = ltb-true b.end a.end two.1 in omega (arith, r.ends same (sym eq)))
         ]
     clash true false p q e = (let bt : b.is_final ≡ true = r.final (sym p) in true≢false (sym bt ∙ sym q))
     clash false true p q e = true≢false (sym e)
@@ -257,7 +262,8 @@ not_above a b r = by (outranks a b) refl
         numbers : b.is_final ≡ a.is_final → (nat_lt b.epoch a.epoch || ((b.epoch == a.epoch) && nat_lt b.end a.end)) ≡ true → ⊥
         numbers same e = elim (or_cases (nat_lt b.epoch a.epoch) ((b.epoch == a.epoch) && nat_lt b.end a.end) e) [
           | inl t ↦ (let lt : b.epoch < a.epoch = ltb-true b.epoch a.epoch t in omega (arith, r.header same))
-          | inr t ↦ (let two = and_parts (b.epoch == a.epoch) (nat_lt b.end a.end) t in let eq : b.epoch ≡ a.epoch = eqb-true b.epoch a.epoch two.0 in let lt : b.end < a.end = ltb-true b.end a.end two.1 in omega (arith, r.ends same (sym eq)))
+          | inr t ↦ (let two = and_parts (b.epoch == a.epoch) (nat_lt b.end a.end) t in let eq : b.epoch ≡ a.epoch =
+              eqb-true b.epoch a.epoch two.0 in let lt : b.end < a.end = ltb-true b.end a.end two.1 in omega (arith, r.ends same (sym eq)))
         ]
 
     by : (z : Bool) → outranks a b ≡ z → outranks a b ≡ false
@@ -279,7 +285,8 @@ segment_first start first x xs b (Some info) is e =
 segment_later : (start first : ℕ) (x : Slot) (xs : List Slot) (b : Best) → TellsSegment start (first + 1) xs b → TellsSegment start first (x ∷ xs) b
 segment_later start first x xs b t = record { slot = t.slot; at = inr t.at; tells = t.tells }
 
-best_one : (start first : ℕ) (x : Slot) (xs : List Slot) (b : Best) → (y z : Option Best) → told_by first (segment_in start x) ≡ y → (z ≡ Some b → TellsSegment start (first + 1) xs b) → better y z ≡ Some b → TellsSegment start first (x ∷ xs) b
+best_one : (start first : ℕ) (x : Slot) (xs : List Slot) (b : Best) → (y z : Option Best) → told_by first (segment_in start x) ≡ y
+    → (z ≡ Some b → TellsSegment start (first + 1) xs b) → better y z ≡ Some b → TellsSegment start first (x ∷ xs) b
 best_one start first x xs b None z p ih f = segment_later start first x xs b (ih f)
 best_one start first x xs b (Some a) None p ih f = segment_first start first x xs b (segment_in start x) refl (p ∙ f)
 best_one start first x xs b (Some a) (Some c) p ih f =

@@ -1,10 +1,11 @@
--- Each node of a run is sound: what every event of a node keeps, every move of a run keeps. Its promise never falls.
+-- Each node of a run is sound: what every event of a node keeps, every move of a run keeps. Its
+-- promise never falls.
 use Rattle.std.proofs.Common.{ℕ, ◌≡◌, ◌≤◌, ◌==◌, List, [], ◌∷◌, refl, arith, subst}
 use Rattle.std.proofs.lemmas.Bool.{cond_both}
 use Rattle.journal_core.specs.declared.node_state.NodeState.{NodeState}
 use Rattle.journal_core.specs.Laws.{Event, Asked, Stopped, Killed, Restarted, after_event, IsStored, OpenIsLed, IsSound}
 use Rattle.journal_core.proofs.SegmentLaws.{sound_event, sound_fresh, promise_never_falls}
-use Rattle.node_history.specs.Entries.{Move, Answer, Stop, Kill, Restart, after_move, Entry, Earlier, now, before, node_after}
+use Rattle.journal_history.specs.Entries.{Move, Answer, Stop, Kill, Restart, after_move, Entry, Earlier, now, before, node_after}
 
 -- a move as an event of its node
 abbrev event_of : Move → Event

@@ -4,10 +4,11 @@ use Rattle.std.proofs.lemmas.Bool.{cases_order}
 use Rattle.journal_core.specs.Views.{BatchView, last_txid}
 use Rattle.writer_core.specs.Whole.{Takeover}
 use Rattle.writer_core.specs.Rounds.{start_record, batch_from}
-use Rattle.run_safety.proofs.SeenLaws.{seen_first, Propose, Get, Recover, Seal, Open, Write, Clean, Writer, seen_at}
+use Rattle.run_safety.proofs.SeenLaws.{seen_first, Propose, Get, Recover, Finalizing, Open, Write, Clean, Writer, seen_at}
 use Rattle.run_safety.proofs.Slots.{some_same}
 use Rattle.run_safety.proofs.Rounds.{Comes, comes, frame, below_later, RoundBefore, earlier_round}
-use Rattle.run_safety.proofs.Frames.{Frame, Framed, low_of, end_below, IsWriting, StepOf, asks_for, opens_at_one, opens_found_none, recovers, seals_recovered, opens_next, writes_first, seals_written, goes_on, gets, gets_more, IsAsking, IsGet}
+use Rattle.run_safety.proofs.Frames.{Frame, Framed, low_of, end_below, IsWriting, StepOf, asks_for, opens_at_one, opens_found_none, recovers}
+use Rattle.run_safety.proofs.Frames.{seals_recovered, opens_next, writes_first, seals_written, goes_on, gets, gets_more, IsAsking, IsGet}
 use Rattle.run_safety.proofs.Before.{SealedBy, a_recovery, a_write, seal_before, OpenedAt, opened_at}
 
 -- a write or a recovery of this segment, which has this txid
@@ -101,7 +102,8 @@ covers_in w m start txid f c writing is = go c.is
     go (inr a) = sym (write_start w start c.batch f a) ∙ is
 
 -- of two covered txids the earlier is in the same segment, or below the later's
-pub covers_order : (n : ℕ) (t : Takeover) (s k : ℕ) (w x : Writer) (m l txid other : ℕ) → s < k → seen_at n t s ≡ Some w → seen_at n t k ≡ Some x → Covers w m txid → Covers x l other → (m ≡ l) ⊎ (txid < l)
+pub covers_order : (n : ℕ) (t : Takeover) (s k : ℕ) (w x : Writer) (m l txid other : ℕ) → s < k → seen_at n t s ≡ Some w → seen_at n t k ≡ Some x
+    → Covers w m txid → Covers x l other → (m ≡ l) ⊎ (txid < l)
 covers_order n t s k w x m l txid other lt a b c d = go d.is
   where
     past_end : txid < end_below w w.round
@@ -118,7 +120,7 @@ covers_order n t s k w x m l txid other lt a b c d = go d.is
     go (inr e) = place (against n t s k w x (omega arith) a b (write_is x l d.batch e)) (write_start x l d.batch (frame n t k x b) e)
 
 -- a finalise has the last txid of its segment
-pub sealed_last : (n : ℕ) (t : Takeover) (s k : ℕ) (w x : Writer) (m l txid : ℕ) → seen_at n t s ≡ Some w → seen_at n t k ≡ Some x → Covers w m txid → x.round ≡ Seal m l → txid ≤ l
+pub sealed_last : (n : ℕ) (t : Takeover) (s k : ℕ) (w x : Writer) (m l txid : ℕ) → seen_at n t s ≡ Some w → seen_at n t k ≡ Some x → Covers w m txid → x.round ≡ Finalizing m l → txid ≤ l
 sealed_last n t s k w x m l txid a b c e =
     let past_end : txid < end_below w w.round = covers_end w m txid c in
     let f = subst (λ r. Framed x r) e (frame n t k x b) in
@@ -132,13 +134,13 @@ sealed_last n t s k w x m l txid a b c e =
       ]
     ]
   where
-    no_cover : (w.round ≡ Recover c.batch) × (c.batch.first ≡ m) ⊎ (w.round ≡ Write m c.batch) → w.round ≡ Seal m l → ⊥
-    no_cover (inl p) q = let no : Recover c.batch ≡ Seal m l = sym p.0 ∙ q in cc
-    no_cover (inr p) q = let no : Write m c.batch ≡ Seal m l = sym p ∙ q in cc
+    no_cover : (w.round ≡ Recover c.batch) × (c.batch.first ≡ m) ⊎ (w.round ≡ Write m c.batch) → w.round ≡ Finalizing m l → ⊥
+    no_cover (inl p) q = let no : Recover c.batch ≡ Finalizing m l = sym p.0 ∙ q in cc
+    no_cover (inr p) q = let no : Write m c.batch ≡ Finalizing m l = sym p ∙ q in cc
 
     place : m ≤ l → w.start ≡ m → Against n t k x w.start → ⊥
     place le start (below_it h) = let h2 : l + 1 ≤ w.start = subst (λ r. end_below x r ≤ w.start) e h in omega arith
-    place le start (opens_it q) = let no : Seal m l ≡ Open w.start = sym e ∙ q in cc
+    place le start (opens_it q) = let no : Finalizing m l ≡ Open w.start = sym e ∙ q in cc
     place le start (in_it writing q) = subst (λ r. IsWriting r) e writing
 
     later : k < s → m ≤ l → (w.round ≡ Recover c.batch) × (c.batch.first ≡ m) ⊎ (w.round ≡ Write m c.batch) → ⊥
@@ -156,8 +158,8 @@ pub record SealCovers (n : ℕ) (t : Takeover) (k m l : ℕ) : Type 0 where
   pub covers : Covers writer m l
   pub last : l ≡ last_txid covers.batch
 
-pub seal_covers : (n : ℕ) (t : Takeover) (k : ℕ) (x : Writer) (m l : ℕ) → seen_at n t k ≡ Some x → x.round ≡ Seal m l → SealCovers n t k m l
-seal_covers n t zero x m l b e = let no : Propose ≡ Seal m l = sym (seen_first n t x b).0 ∙ e in cc
+pub seal_covers : (n : ℕ) (t : Takeover) (k : ℕ) (x : Writer) (m l : ℕ) → seen_at n t k ≡ Some x → x.round ≡ Finalizing m l → SealCovers n t k m l
+seal_covers n t zero x m l b e = let no : Propose ≡ Finalizing m l = sym (seen_first n t x b).0 ∙ e in cc
 seal_covers n t (suc k) x m l b e = go (seal_before n t k x m l c e)
   where
     c : Comes n t k x
@@ -184,7 +186,7 @@ seal_covers n t (suc k) x m l b e = go (seal_before n t k x m l c e)
         })
 
 -- a takeover finalises a segment with one end
-pub sealed_once : (n : ℕ) (t : Takeover) (s k : ℕ) (w x : Writer) (m l e : ℕ) → seen_at n t s ≡ Some w → seen_at n t k ≡ Some x → w.round ≡ Seal m l → x.round ≡ Seal m e → l ≡ e
+pub sealed_once : (n : ℕ) (t : Takeover) (s k : ℕ) (w x : Writer) (m l e : ℕ) → seen_at n t s ≡ Some w → seen_at n t k ≡ Some x → w.round ≡ Finalizing m l → x.round ≡ Finalizing m e → l ≡ e
 sealed_once n t s k w x m l e a b p q =
     let c : SealCovers n t s m l = seal_covers n t s w m l a p in
     let d : SealCovers n t k m e = seal_covers n t k x m e b q in
@@ -226,7 +228,7 @@ first_write n t s w min a e = elim (cases_order (suc o.round) s) [
     wrote x c q (gets_more m node end bodies batch slots is h g f) = let no : Open w.start ≡ Get node m end bodies = sym q ∙ is in cc
     wrote x c q (recovers m node end bodies batch slots is h g lt f) = let no : Open w.start ≡ Get node m end bodies = sym q ∙ is in cc
     wrote x c q (seals_recovered b is g) = let no : Open w.start ≡ Recover b = sym q ∙ is in cc
-    wrote x c q (opens_next m l is g) = let no : Open w.start ≡ Seal m l = sym q ∙ is in cc
+    wrote x c q (opens_next m l is g) = let no : Open w.start ≡ Finalizing m l = sym q ∙ is in cc
     wrote x c q (writes_first m is g st co) =
         (let same : Open m ≡ Open w.start = sym is ∙ q in let start : m ≡ w.start = cc in
         (batch_from w.start start_record, g ∙ ap (λ z. Write z (batch_from z start_record)) start, refl))
@@ -246,7 +248,8 @@ first_write n t s w min a e = elim (cases_order (suc o.round) s) [
         with_batch b = record { round = suc o.round; before = lt; writer = r.writer; at = r.at; batch = b.0; is = b.1; first = b.2 }
 
 -- a purge from a segment carries a committed txid below the segment's end
-pub clean_below_seal : (n : ℕ) (t : Takeover) (s k : ℕ) (w x : Writer) (min l : ℕ) → seen_at n t s ≡ Some w → seen_at n t k ≡ Some x → w.round ≡ Clean min → x.round ≡ Seal w.start l → w.committed < l
+pub clean_below_seal : (n : ℕ) (t : Takeover) (s k : ℕ) (w x : Writer) (min l : ℕ) → seen_at n t s ≡ Some w → seen_at n t k ≡ Some x
+    → w.round ≡ Clean min → x.round ≡ Finalizing w.start l → w.committed < l
 clean_below_seal n t s k w x min l a b p q = elim (cases_order v.round s) [
   | inl same ↦ (let one : v.writer ≡ w = some_same (sym v.at ∙ (ap (λ z. seen_at n t z) same ∙ a)) in absurd (no_cover v.covers.is (ap (λ z. z.round) one ∙ p)))
   | inr other ↦ elim other [
@@ -273,11 +276,12 @@ clean_below_seal n t s k w x min l a b p q = elim (cases_order v.round s) [
 
     place : Against n t k x w.start → ⊥
     place (below_it h) = (let h2 : l + 1 ≤ w.start = subst (λ r. end_below x r ≤ w.start) q h in omega (arith, g.2))
-    place (opens_it c) = let no : Seal w.start l ≡ Open w.start = sym q ∙ c in cc
+    place (opens_it c) = let no : Finalizing w.start l ≡ Open w.start = sym q ∙ c in cc
     place (in_it c d) = subst (λ r. IsWriting r) q c
 
 -- and below the start of every later segment
-pub clean_below_start : (n : ℕ) (t : Takeover) (s k : ℕ) (w x : Writer) (min m txid : ℕ) → seen_at n t s ≡ Some w → seen_at n t k ≡ Some x → w.round ≡ Clean min → Covers x m txid → w.start < m → w.committed < m
+pub clean_below_start : (n : ℕ) (t : Takeover) (s k : ℕ) (w x : Writer) (min m txid : ℕ) → seen_at n t s ≡ Some w → seen_at n t k ≡ Some x
+    → w.round ≡ Clean min → Covers x m txid → w.start < m → w.committed < m
 clean_below_start n t s k w x min m txid a b p c above = elim (cases_order s k) [
   | inl same ↦ (let one : w ≡ x = some_same (sym a ∙ (ap (λ z. seen_at n t z) same ∙ b)) in absurd (no_cover c.is (ap (λ z. z.round) (sym one) ∙ p)))
   | inr other ↦ elim other [

@@ -20,17 +20,23 @@ use Rattle.writer_core.specs.declared.task.Task.{Task}
 use Rattle.writer_core.specs.Views.{WriterView}
 use Rattle.writer_core.specs.Answers.{fits_prepare, fits_edits, has_majority}
 use Rattle.writer_core.specs.Best.{best_of, greatest_newest}
-use Rattle.writer_core.specs.Rounds.{batch_from, to_all, left_out_after, asks_all, asks_others, begin_start, numbers_fit, next_serial, with_causes, judgment_by, keep_going, after_propose, after_finalize, after_open, after_write, failure_of, keep_piece, after_edits, after_fetch}
+use Rattle.writer_core.specs.Rounds.{batch_from, to_all, left_out_after, asks_all, asks_others, begin_start, numbers_fit, next_serial, with_causes}
+use Rattle.writer_core.specs.Rounds.{judgment_by, keep_going, after_propose, after_finalize, after_open, after_write, failure_of, keep_piece}
+use Rattle.writer_core.specs.Rounds.{after_edits, after_fetch}
 use Rattle.writer_core.specs.Whole.{Takeover, TaskProgress, heard_of, fill_slots, round_heard, next_round, writer_at}
 use Rattle.run_safety.specs.Run.{may_follow}
 use Rattle.run_safety.proofs.Slots.{none≢some, some_same, true≢false, At, At-replaced, all_fresh, to_all_wait, to_others_fresh, filled_length, filled_heard}
-use Rattle.run_safety.proofs.SeenLaws.{Seal, seen}
+use Rattle.run_safety.proofs.SeenLaws.{Finalizing, seen}
 use Rattle.run_safety.proofs.Frames.{Done, Newest, more_pieces, asks_for, opens_at_one, gets_more, recovers, seals_recovered, opens_next, writes_first, seals_written, Sound, Next}
 use Rattle.run_safety.proofs.Answers.{After, judged_by_passed, judged_passed, heard_done, newest_heard, newest_one, under, recovering_next, Wrote, wrote_next}
 
 -- ## Each round
-propose_next : (n : ℕ) (t : Takeover) (s : ℕ) (w : WriterView) (tasks : List Task) (next : TaskProgress) (slots : List Slot) → Sound n t s (under w table.Propose tasks) → length slots ≡ n → Newest n (t.heard s) (greatest_newest slots) → Done n (seen (under w table.Propose tasks)) (t.heard s) →
-    (o : Option ℕ) → greatest_newest slots ≡ o → After (keep_going (after_propose o (next_serial (with_causes table.Propose (record w { slots = slots }))))) tasks next → Next n t s (under w table.Propose tasks) next
+propose_next : (n : ℕ) (t : Takeover) (s : ℕ) (w : WriterView) (tasks : List Task) (next : TaskProgress) (slots : List Slot)
+    → Sound n t s (under w table.Propose tasks) → length slots ≡ n → Newest n (t.heard s) (greatest_newest slots)
+    → Done n (seen (under w table.Propose tasks)) (t.heard s) →
+    (o : Option ℕ) → greatest_newest slots ≡ o
+    → After (keep_going (after_propose o (next_serial (with_causes table.Propose (record w { slots = slots }))))) tasks next
+    → Next n t s (under w table.Propose tasks) next
 propose_next n t s w tasks next slots so len newest done None is e = subst (λ z. Next n t s (under w table.Propose tasks) z) (some_same e) (record {
   sound = record {
     epoch = so.epoch;
@@ -73,7 +79,9 @@ failed_out m (Answer (Prepared a b c)) reply e f = let no : Answer reply ≡ Sil
 failed_out m (Answer (Edits b)) reply e f = let no : Answer reply ≡ Silent = cc in cc
 failed_out m (Answer (Segments l)) reply e f = let no : Answer reply ≡ Silent = cc in cc
 
-taken_out_next : (n : ℕ) (t : Takeover) (s node m end : ℕ) (bodies : List (List ℕ)) (w : WriterView) (tasks : List Task) (next : TaskProgress) → Sound n t s (under w (table.Fetch node m end bodies) tasks) → (heard : Heard) → (slots : List Slot) → slots ≡ slice_set w.slots (node - 1) (Told (failure_of heard)) →
+taken_out_next : (n : ℕ) (t : Takeover) (s node m end : ℕ) (bodies : List (List ℕ)) (w : WriterView) (tasks : List Task) (next : TaskProgress)
+    → Sound n t s (under w (table.Fetch node m end bodies) tasks) → (heard : Heard) → (slots : List Slot)
+    → slots ≡ slice_set w.slots (node - 1) (Told (failure_of heard)) →
     After (judgment_by (has_majority (table.Prepare m) slots) (table.Prepare m) (record w { slots = slots })) tasks next → Next n t s (under w (table.Fetch node m end bodies) tasks) next
 taken_out_next n t s node m end bodies w tasks next so heard slots is e =
     let p = judged_by_passed (has_majority (table.Prepare m) slots) (table.Prepare m) (record w { slots = slots }) tasks next e in
@@ -98,7 +106,8 @@ taken_out_next n t s node m end bodies w tasks next so heard slots is e =
       low = refl;
     }) (best_of m slots) refl p.1
 
-pieced_next : (n : ℕ) (t : Takeover) (s node m end : ℕ) (bodies : List (List ℕ)) (batch : BatchView) (w : WriterView) (tasks : List Task) (next : TaskProgress) → Sound n t s (under w (table.Fetch node m end bodies) tasks) → t.heard s node ≡ Some (Edits batch) →
+pieced_next : (n : ℕ) (t : Takeover) (s node m end : ℕ) (bodies : List (List ℕ)) (batch : BatchView) (w : WriterView) (tasks : List Task)
+    (next : TaskProgress) → Sound n t s (under w (table.Fetch node m end bodies) tasks) → t.heard s node ≡ Some (Edits batch) →
     After (keep_going (keep_piece node m end (more_pieces m end bodies batch) (next_serial w))) tasks next → Next n t s (under w (table.Fetch node m end bodies) tasks) next
 pieced_next n t s node m end bodies batch w tasks next so heard e =
     cond_both (nat_lt end (m + length (more_pieces m end bodies batch))) (asks_all (table.Accept (batch_from m (more_pieces m end bodies batch))) (next_serial w))
@@ -134,16 +143,20 @@ pieced_next n t s node m end bodies batch w tasks next so heard e =
       low = omega arith;
     })) e
 
-edits_next : (n : ℕ) (t : Takeover) (s node m end : ℕ) (bodies : List (List ℕ)) (batch : BatchView) (w : WriterView) (tasks : List Task) (next : TaskProgress) → Sound n t s (under w (table.Fetch node m end bodies) tasks) → t.heard s node ≡ Some (Edits batch) →
+edits_next : (n : ℕ) (t : Takeover) (s node m end : ℕ) (bodies : List (List ℕ)) (batch : BatchView) (w : WriterView) (tasks : List Task)
+    (next : TaskProgress) → Sound n t s (under w (table.Fetch node m end bodies) tasks) → t.heard s node ≡ Some (Edits batch) →
     (b : Bool) → After (after_edits b node m end bodies batch w) tasks next → Next n t s (under w (table.Fetch node m end bodies) tasks) next
 edits_next n t s node m end bodies batch w tasks next so heard true e = pieced_next n t s node m end bodies batch w tasks next so heard e
 edits_next n t s node m end bodies batch w tasks next so heard false e = taken_out_next n t s node m end bodies w tasks next so Silent _ refl e
 
-fetch_next : (n : ℕ) (t : Takeover) (s node m end : ℕ) (bodies : List (List ℕ)) (w : WriterView) (tasks : List Task) (next : TaskProgress) → Sound n t s (under w (table.Fetch node m end bodies) tasks) →
+fetch_next : (n : ℕ) (t : Takeover) (s node m end : ℕ) (bodies : List (List ℕ)) (w : WriterView) (tasks : List Task) (next : TaskProgress)
+    → Sound n t s (under w (table.Fetch node m end bodies) tasks) →
     (o : Option Reply) → t.heard s node ≡ o → After (after_fetch node m end bodies (heard_of o) w) tasks next → Next n t s (under w (table.Fetch node m end bodies) tasks) next
 unfolding after_fetch
 fetch_next n t s node m end bodies w tasks next so None is e = taken_out_next n t s node m end bodies w tasks next so Silent _ refl e
-fetch_next n t s node m end bodies w tasks next so (Some (Edits batch)) is e = edits_next n t s node m end bodies batch w tasks next so is (numbers_fit w (table.Fetch node m end bodies) && fits_edits (m + length bodies) batch) e
+fetch_next n t s node m end bodies w tasks next so (Some (Edits batch)) is e =
+    edits_next n t s node m end bodies batch w tasks next so is (numbers_fit w (table.Fetch node m end bodies) && fits_edits (m + length bodies)
+    batch) e
 fetch_next n t s node m end bodies w tasks next so (Some Ok) is e = taken_out_next n t s node m end bodies w tasks next so (Answer Ok) _ refl e
 fetch_next n t s node m end bodies w tasks next so (Some (StateTold p)) is e = taken_out_next n t s node m end bodies w tasks next so (Answer (StateTold p)) _ refl e
 fetch_next n t s node m end bodies w tasks next so (Some (EpochTaken p)) is e = taken_out_next n t s node m end bodies w tasks next so (Answer (EpochTaken p)) _ refl e
@@ -151,8 +164,10 @@ fetch_next n t s node m end bodies w tasks next so (Some (Prepared a b c)) is e 
 fetch_next n t s node m end bodies w tasks next so (Some (Segments l)) is e = taken_out_next n t s node m end bodies w tasks next so (Answer (Segments l)) _ refl e
 fetch_next n t s node m end bodies w tasks next so (Some (Refused x)) is e = taken_out_next n t s node m end bodies w tasks next so (Answer (Refused x)) _ refl e
 
-finalize_next : (n : ℕ) (t : Takeover) (s m l : ℕ) (w : WriterView) (tasks : List Task) (next : TaskProgress) (x : WriterView) → Sound n t s (under w (table.Finalize m l) tasks) → Done n (seen (under w (table.Finalize m l) tasks)) (t.heard s) →
-    x.epoch ≡ w.epoch → x.serial ≡ w.serial → x.left ≡ w.left → x.committed ≡ w.committed → (a : Aim) → After (after_finalize a l (next_serial x)) tasks next → Next n t s (under w (table.Finalize m l) tasks) next
+finalize_next : (n : ℕ) (t : Takeover) (s m l : ℕ) (w : WriterView) (tasks : List Task) (next : TaskProgress) (x : WriterView)
+    → Sound n t s (under w (table.Finalize m l) tasks) → Done n (seen (under w (table.Finalize m l) tasks)) (t.heard s) →
+    x.epoch ≡ w.epoch → x.serial ≡ w.serial → x.left ≡ w.left → x.committed ≡ w.committed → (a : Aim)
+    → After (after_finalize a l (next_serial x)) tasks next → Next n t s (under w (table.Finalize m l) tasks) next
 finalize_next n t s m l w tasks next x so done ep se le co a e = by a e
   where
     goes : ◌≡◌ {A = Option TaskProgress} (Some (under (begin_start (l + 1) (next_serial x)) table.Start tasks)) (Some next) → Next n t s (under w (table.Finalize m l) tasks) next
@@ -178,18 +193,21 @@ finalize_next n t s m l w tasks next x so done ep se le co a e = by a e
     by aim.Roll f = goes f
     by aim.Purge f = goes f
 
-open_next : (n : ℕ) (t : Takeover) (s : ℕ) (w : WriterView) (tasks : List Task) (next : TaskProgress) (x : WriterView) → Wrote n t s (under w table.Open tasks) x → (a : Aim) → After (after_open a x) tasks next → Next n t s (under w table.Open tasks) next
+open_next : (n : ℕ) (t : Takeover) (s : ℕ) (w : WriterView) (tasks : List Task) (next : TaskProgress) (x : WriterView)
+    → Wrote n t s (under w table.Open tasks) x → (a : Aim) → After (after_open a x) tasks next → Next n t s (under w table.Open tasks) next
 open_next n t s w tasks next x a aim.Roll e = wrote_next n t s (under w table.Open tasks) x next a e
 open_next n t s w tasks next x a aim.Takeover e = wrote_next n t s (under w table.Open tasks) x next a e
 open_next n t s w tasks next x a aim.Log e = wrote_next n t s (under w table.Open tasks) x next a e
 open_next n t s w tasks next x a aim.Close e = wrote_next n t s (under w table.Open tasks) x next a e
 open_next n t s w tasks next x a aim.Purge e = wrote_next n t s (under w table.Open tasks) x next a e
 
-write_next : (n : ℕ) (t : Takeover) (s : ℕ) (bodies : List (List ℕ)) (w : WriterView) (tasks : List Task) (next : TaskProgress) (x : WriterView) → Wrote n t s (under w (table.Write bodies) tasks) x → x.committed ≡ w.next + length bodies - 1 → 1 ≤ length bodies →
+write_next : (n : ℕ) (t : Takeover) (s : ℕ) (bodies : List (List ℕ)) (w : WriterView) (tasks : List Task) (next : TaskProgress) (x : WriterView)
+    → Wrote n t s (under w (table.Write bodies) tasks) x → x.committed ≡ w.next + length bodies - 1 → 1 ≤ length bodies →
     (a : Aim) → After (after_write a w.next (w.next + length bodies - 1) x) tasks next → Next n t s (under w (table.Write bodies) tasks) next
 write_next n t s bodies w tasks next x a last long a2 e = by a2 e
   where
-    ends : ◌≡◌ {A = Option TaskProgress} (Some (under (asks_others (table.Finalize x.start (w.next + length bodies - 1)) x) (table.Finalize x.start (w.next + length bodies - 1)) tasks)) (Some next) → Next n t s (under w (table.Write bodies) tasks) next
+    ends : ◌≡◌ {A = Option TaskProgress} (Some (under (asks_others (table.Finalize x.start (w.next + length bodies - 1)) x)
+        (table.Finalize x.start (w.next + length bodies - 1)) tasks)) (Some next) → Next n t s (under w (table.Write bodies) tasks) next
     ends f = subst (λ z. Next n t s (under w (table.Write bodies) tasks) z) (some_same f) (record {
       sound = record {
         epoch = a.epoch;
@@ -200,7 +218,7 @@ write_next n t s bodies w tasks next x a last long a2 e = by a2 e
         frame = (last, a.start_one, omega (arith, a.start_below, a.next_is, last));
         stands = to_others_fresh x.left;
       };
-      step = seals_written w.start (batch_from w.next bodies) refl (ap (λ z. Seal z (w.next + length bodies - 1)) a.start);
+      step = seals_written w.start (batch_from w.next bodies) refl (ap (λ z. Finalizing z (w.next + length bodies - 1)) a.start);
       done = λ no. a.done;
       low = omega (arith, long);
     })
@@ -212,12 +230,14 @@ write_next n t s bodies w tasks next x a last long a2 e = by a2 e
     by aim.Log f = wrote_next n t s (under w (table.Write bodies) tasks) x next a f
     by aim.Purge f = wrote_next n t s (under w (table.Write bodies) tasks) x next a f
 
-table_next : (n : ℕ) (t : Takeover) (s : ℕ) (w : WriterView) (r : TableRound) (tasks : List Task) (next : TaskProgress) → Sound n t s (under w r tasks) → After (round_heard r (t.heard s) w) tasks next → Next n t s (under w r tasks) next
+table_next : (n : ℕ) (t : Takeover) (s : ℕ) (w : WriterView) (r : TableRound) (tasks : List Task) (next : TaskProgress)
+    → Sound n t s (under w r tasks) → After (round_heard r (t.heard s) w) tasks next → Next n t s (under w r tasks) next
 table_next n t s w table.State tasks next so e = absurd so.stands
 table_next n t s w table.Propose tasks next so e =
     let p = judged_passed table.Propose (record w { slots = fill_slots 1 (t.heard s) w.slots }) tasks next e in
     propose_next n t s w tasks next (fill_slots 1 (t.heard s) w.slots) so (filled_length 1 (t.heard s) w.slots ∙ so.slots) (newest_heard n (t.heard s) w.slots so.stands.0 so.slots)
-    (heard_done n table.Propose w (t.heard s) (seen (under w table.Propose tasks)) (all_fresh w.slots so.stands.0) so.slots p.0 (λ reply k. k)) (greatest_newest (fill_slots 1 (t.heard s) w.slots)) refl p.1
+    (heard_done n table.Propose w (t.heard s) (seen (under w table.Propose tasks)) (all_fresh w.slots so.stands.0) so.slots p.0 (λ reply k. k))
+    (greatest_newest (fill_slots 1 (t.heard s) w.slots)) refl p.1
 table_next n t s w (table.Prepare m) tasks next so e =
     let p = judged_passed (table.Prepare m) (record w { slots = fill_slots 1 (t.heard s) w.slots }) tasks next e in
     recovering_next n t s m (under w (table.Prepare m) tasks) (with_causes (table.Prepare m) (record w { slots = fill_slots 1 (t.heard s) w.slots })) next
@@ -279,7 +299,11 @@ table_next n t s w table.Open tasks next so e =
     let p = judged_passed table.Open (record w { slots = fill_slots 1 (t.heard s) w.slots }) tasks next e in
     let whole : length (fill_slots 1 (t.heard s) w.slots) ≡ n = filled_length 1 (t.heard s) w.slots ∙ so.slots in
     open_next n t s w tasks next
-    (record (next_serial (with_causes table.Open (record w { slots = fill_slots 1 (t.heard s) w.slots }))) { committed = w.start; next = w.start + 1; left = left_out_after table.Open (fill_slots 1 (t.heard s) w.slots) })
+    (record (next_serial (with_causes table.Open (record w { slots = fill_slots 1 (t.heard s) w.slots }))) {
+      committed = w.start;
+      next = w.start + 1;
+      left = left_out_after table.Open (fill_slots 1 (t.heard s) w.slots);
+    })
     (record {
       epoch = so.epoch;
       serial = omega (arith, so.serial);
@@ -298,7 +322,12 @@ table_next n t s w (table.Write bodies) tasks next so e =
     let p = judged_passed (table.Write bodies) (record w { slots = fill_slots 1 (t.heard s) w.slots }) tasks next e in
     let whole : length (fill_slots 1 (t.heard s) w.slots) ≡ n = filled_length 1 (t.heard s) w.slots ∙ so.slots in
     write_next n t s bodies w tasks next
-    (record (next_serial (with_causes (table.Write bodies) (record w { slots = fill_slots 1 (t.heard s) w.slots }))) { committed = w.next + length bodies - 1; next = w.next + length bodies - 1 + 1; left = left_out_after (table.Write bodies) (fill_slots 1 (t.heard s) w.slots) })
+    (record (next_serial (with_causes (table.Write bodies) (record w { slots = fill_slots 1 (t.heard s) w.slots }))) {
+      committed =
+          w.next + length bodies - 1;
+      next = w.next + length bodies - 1 + 1;
+      left = left_out_after (table.Write bodies) (fill_slots 1 (t.heard s) w.slots);
+    })
     (record {
       epoch = so.epoch;
       serial = omega (arith, so.serial);
@@ -349,7 +378,8 @@ first_sound n t u ok e = subst (λ z. Sound n t 0 z) (some_same e) (record {
   stands = (to_all_wait (replicate n false), refl);
 })
 
-comes_from : (n : ℕ) (t : Takeover) (s : ℕ) (next : TaskProgress) → ((u : TaskProgress) → writer_at n t s ≡ Some u → Sound n t s u) → (o : Option TaskProgress) → writer_at n t s ≡ o → next_round (t.heard s) o ≡ Some next → Comes n t s next
+comes_from : (n : ℕ) (t : Takeover) (s : ℕ) (next : TaskProgress) → ((u : TaskProgress) → writer_at n t s ≡ Some u → Sound n t s u)
+    → (o : Option TaskProgress) → writer_at n t s ≡ o → next_round (t.heard s) o ≡ Some next → Comes n t s next
 comes_from n t s next sound None is e = none≢some next e
 comes_from n t s next sound (Some u) is e = record { writer = u; at = is; next_is = table_next n t s u.writer u.round u.tasks next (sound u is) e }
 

@@ -7,7 +7,7 @@ use Rattle.journal_core.specs.declared.reply.Reply.{Reply}
 use Rattle.writer_core.specs.declared.task.Task.{Task}
 use Rattle.writer_core.specs.Whole.{Takeover}
 use Rattle.writer_core.proofs.WholeLaws.{with_tasks, with_heard}
-use Rattle.node_history.specs.Entries.{Entry, Earlier, now, before}
+use Rattle.journal_history.specs.Entries.{Entry, Earlier, now, before}
 use Rattle.run_safety.specs.Run.{WasHeard, may_follow, IsInTurn}
 use Rattle.run_safety.proofs.Tales.{Tale, earlier_length, place_below, Grows, Tells, IsMadeAt, made_still, made_on, heard_still, heard_on}
 
@@ -57,8 +57,15 @@ pub hears_cases : (t : Takeover) (s node : ℕ) (reply : Reply) (x i : ℕ) (oth
 hears_cases t s node reply x i other e = elim (cases_eq x s) [
   | inr off ↦ inl (ap (λ (f : ℕ → Option Reply). f i) (sym (hears_there t s node reply x off)) ∙ e)
   | inl same ↦ elim (cases_eq i node) [
-    | inr off ↦ inl (ap (λ (y : ℕ). t.heard y i) same ∙ sym (put_there (t.heard s) node (Some reply) i off) ∙ sym (ap (λ (f : ℕ → Option Reply). f i) (hears_here t s node reply)) ∙ sym (ap (λ (y : ℕ). (hears t s node reply).heard y i) same) ∙ e)
-    | inl here ↦ inr (same, here, some_same (sym (put_here (t.heard s) node (Some reply)) ∙ sym (ap (λ (f : ℕ → Option Reply). f node) (hears_here t s node reply)) ∙ sym (ap (λ (y : ℕ). (hears t s node reply).heard y node) same) ∙ sym (ap (λ (j : ℕ). (hears t s node reply).heard x j) here) ∙ e))
+    | inr off ↦ inl (ap (λ (y : ℕ). t.heard y i) same ∙ sym (put_there (t.heard s) node (Some reply) i off)
+        ∙ sym (ap (λ (f : ℕ → Option Reply). f i) (hears_here t s node reply)) ∙ sym (ap (λ (y : ℕ). (hears t s node reply).heard y i) same) ∙ e)
+    | inl here ↦ inr (
+      same,
+      here,
+      some_same (sym (put_here (t.heard s) node (Some reply))
+          ∙ sym (ap (λ (f : ℕ → Option Reply). f node) (hears_here t s node reply)) ∙ sym (ap (λ (y : ℕ). (hears t s node reply).heard y node) same)
+          ∙ sym (ap (λ (j : ℕ). (hears t s node reply).heard x j) here) ∙ e),
+    )
   ]
 ]
   where
@@ -80,7 +87,8 @@ grows_heard t s node reply none = record {
       | inr off ↦ ap (λ (f : ℕ → Option Reply). f i) (hears_there t s node reply x off) ∙ e
       | inl same ↦ elim (cases_eq i node) [
         | inl here ↦ (let no : t.heard x i ≡ None = ap (λ (y : ℕ). t.heard y i) same ∙ ap (t.heard s) here ∙ none in absurd (cc (e, no)))
-        | inr off ↦ ap (λ (y : ℕ). (hears t s node reply).heard y i) same ∙ ap (λ (f : ℕ → Option Reply). f i) (hears_here t s node reply) ∙ put_there (t.heard s) node (Some reply) i off ∙ ap (λ (y : ℕ). t.heard y i) (sym same) ∙ e
+        | inr off ↦ ap (λ (y : ℕ). (hears t s node reply).heard y i) same ∙ ap (λ (f : ℕ → Option Reply). f i) (hears_here t s node reply)
+            ∙ put_there (t.heard s) node (Some reply) i off ∙ ap (λ (y : ℕ). t.heard y i) (sym same) ∙ e
       ]
     ]
 
@@ -114,7 +122,8 @@ place_cases now p = inl p
 place_cases (before q) now = inr (earlier_length q)
 place_cases (before q) (before p) = place_cases q p
 
-pub made_later : (n c : ℕ) (a b : Tale) (past next : List Entry) (k s caller node : ℕ) (r : Request) → Continues c a past b next → IsMadeAt n a past k s caller node r → IsMadeAt n b next k s caller node r
+pub made_later : (n c : ℕ) (a b : Tale) (past next : List Entry) (k s caller node : ℕ) (r : Request) → Continues c a past b next
+    → IsMadeAt n a past k s caller node r → IsMadeAt n b next k s caller node r
 made_later n c a b past next k s caller node r g h = made_on n b k s caller node r g.longer (made_still n a b (length past) past k s caller node r g.tells (omega arith) h)
 
 pub heard_later : (c : ℕ) (a b : Tale) (past next : List Entry) (k s i : ℕ) (reply : Reply) → Continues c a past b next → WasHeard a.story past k s i reply → WasHeard b.story next k s i reply
@@ -145,12 +154,15 @@ labelled_continues c a past e k s t g mine turn = record {
 
     grown : (i : ℕ) → i ≤ a.count → Grows (a.top i) (a.story.takeover i) (put a.story.takeover k t i)
     grown i l = elim (cases_eq i k) [
-      | inl same ↦ subst (λ (j : ℕ). Grows (a.top j) (a.story.takeover j) (put a.story.takeover k t j)) (sym same) (subst (λ (u : Takeover). Grows (a.top k) (a.story.takeover k) u) (sym (put_here a.story.takeover k t)) g)
+      | inl same ↦ subst (λ (j : ℕ). Grows (a.top j) (a.story.takeover j) (put a.story.takeover k t j)) (sym same)
+          (subst (λ (u : Takeover). Grows (a.top k) (a.story.takeover k) u) (sym (put_here a.story.takeover k t)) g)
       | inr off ↦ subst (λ (u : Takeover). Grows (a.top i) (a.story.takeover i) u) (sym (put_there a.story.takeover k t i off)) (grows_not (a.top i) (a.story.takeover i))
     ]
 
-    fresh : (old : List Entry) (x : Entry) → Earlier (x ∷ old) (e ∷ past) → length past ≤ length old → IsInTurn x.move → (put a.story.takeover k t (put a.story.whose (length past) k (length old))).caller ≡ c
-    fresh old x now l in_turn = ap (λ (j : ℕ). (put a.story.takeover k t j).caller) (put_here a.story.whose (length past) k) ∙ ap (λ (u : Takeover). u.caller) (put_here a.story.takeover k t) ∙ turn in_turn
+    fresh : (old : List Entry) (x : Entry) → Earlier (x ∷ old) (e ∷ past) → length past ≤ length old → IsInTurn x.move
+        → (put a.story.takeover k t (put a.story.whose (length past) k (length old))).caller ≡ c
+    fresh old x now l in_turn = ap (λ (j : ℕ). (put a.story.takeover k t j).caller) (put_here a.story.whose (length past) k)
+        ∙ ap (λ (u : Takeover). u.caller) (put_here a.story.takeover k t) ∙ turn in_turn
     fresh old x (before p) l in_turn = absurd (omega (arith, place_below x p, l))
 
 -- ## No change
@@ -183,7 +195,8 @@ gone_continues c a past k top t g mine up = record {
 
     grown : (i : ℕ) → i ≤ a.count → Grows (a.top i) (a.story.takeover i) (put a.story.takeover k t i)
     grown i l = elim (cases_eq i k) [
-      | inl same ↦ subst (λ (j : ℕ). Grows (a.top j) (a.story.takeover j) (put a.story.takeover k t j)) (sym same) (subst (λ (u : Takeover). Grows (a.top k) (a.story.takeover k) u) (sym (put_here a.story.takeover k t)) g)
+      | inl same ↦ subst (λ (j : ℕ). Grows (a.top j) (a.story.takeover j) (put a.story.takeover k t j)) (sym same)
+          (subst (λ (u : Takeover). Grows (a.top k) (a.story.takeover k) u) (sym (put_here a.story.takeover k t)) g)
       | inr off ↦ subst (λ (u : Takeover). Grows (a.top i) (a.story.takeover i) u) (sym (put_there a.story.takeover k t i off)) (grows_not (a.top i) (a.story.takeover i))
     ]
 

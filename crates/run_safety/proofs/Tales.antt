@@ -1,4 +1,5 @@
--- Stories that grow with the list: more is heard, more tasks are given, more takeovers propose. What held of the list so far still holds.
+-- Stories that grow with the list: more is heard, more tasks are given, more takeovers propose.
+-- What held of the list so far still holds.
 use Rattle.std.proofs.Common.{◌≡◌, ℕ, ◌<◌, ◌≤◌, inl, inr, List, ◌∷◌, ◌++◌, true, length, sym, ap, ◌∙◌, subst, arith, Option, Some}
 use Rattle.std.specs.List.{list_all}
 use Rattle.journal_core.specs.declared.request.Request.{Request}
@@ -6,7 +7,7 @@ use Rattle.journal_core.specs.declared.reply.Reply.{Reply}
 use Rattle.writer_core.specs.declared.task.Task.{Task}
 use Rattle.writer_core.specs.Whole.{Takeover, TaskProgress, writer_at, request_of_round, calls}
 use Rattle.writer_core.proofs.WholeLaws.{with_tasks, with_heard, going_on, heard_below, tasks_more}
-use Rattle.node_history.specs.Entries.{Way, Heard, Muted, Late, Move, Entry, Earlier, now, before}
+use Rattle.journal_history.specs.Entries.{Way, Heard, Muted, Late, Move, Entry, Earlier, now, before}
 use Rattle.run_safety.specs.Run.{Story, WasHeard, may_follow, IsMade, IsInOrder, IsHeardAs, IsCall}
 use Rattle.run_safety.proofs.Places.{Earlier-trans}
 

@@ -1,4 +1,5 @@
--- A task that a writer is given: it begins under the writer's takeover, or leaves the writer as it was.
+-- A task that a writer is given: it begins under the writer's takeover, or leaves the writer as it
+-- was.
 use Rattle.std.proofs.Common.{◌≡◌, ℕ, ◌<◌, ◌⊎◌, inl, inr, List, [], ◌∷◌, Bool, true, false, length, refl, sym, ap, ◌∙◌, subst, arith, map, replicate}
 use Rattle.std.specs.List.{list_all}
 use Rattle.writer_core.specs.declared.round.Round.{Round}
@@ -18,7 +19,7 @@ use Rattle.writer_core.proofs.PlainTasks.{IsUnder, BeginsAlike, goes, stays, beg
 use Rattle.writer_core.proofs.Filling.{fills_first}
 use Rattle.writer_core.proofs.WholeLaws.{with_tasks, Reaches, reaches_task}
 use Rattle.writer_core.proofs.WholeRounds.{unslotted_alike}
-use Rattle.node_history.specs.Entries.{Entry}
+use Rattle.journal_history.specs.Entries.{Entry}
 use Rattle.run_safety.specs.Run.{may_follow}
 use Rattle.run_safety.proofs.Tales.{Tale}
 use Rattle.run_safety.proofs.Fair.{IsTold, told_still}
@@ -111,7 +112,9 @@ task_goes n a past c v t told h is may same silent r whole going in_round alike 
         (fills_first 1 ((a.story.takeover h.k).heard (a.top h.k)) (writer_begun v t).writer.slots (writer_begun h.writer t).writer.slots silent (ap (λ (x : WriterView). x.slots) alike))
 
     placed : (old : List Entry) (e : Entry) → (a.story.round (length old) < a.top h.k) ⊎ ((a.story.round (length old) ≡ a.top h.k) × IsBefore v.phase v.slots e.node)
-        → (a.story.round (length old) < (task_tale a h.k t).top h.k) ⊎ ((a.story.round (length old) ≡ (task_tale a h.k t).top h.k) × IsBefore (writer_begun v t).writer.phase (writer_begun v t).writer.slots e.node)
+        → (a.story.round (length old) < (task_tale a h.k t).top h.k)
+        ⊎ ((a.story.round (length old) ≡ (task_tale a h.k t).top h.k)
+        × IsBefore (writer_begun v t).writer.phase (writer_begun v t).writer.slots e.node)
     placed old e (inl l) = inl (omega (arith, l, top))
     placed old e (inr l) = absurd (subst (λ (p : Phase). IsBefore p v.slots e.node) is l.1)
 

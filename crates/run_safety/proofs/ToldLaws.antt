@@ -1,13 +1,14 @@
--- Where all lower epochs are good: finalises agree, a segment that is final or of a high enough epoch has what was chosen, and a start that a node tells comes after it.
+-- Where all lower epochs are good: finalises agree, a segment that is final or of a high enough
+-- epoch has what was chosen, and a start that a node tells comes after it.
 use Rattle.std.proofs.Common.{◌≡◌, ℕ, ◌+◌, ◌<◌, ◌≤◌, ◌⊎◌, true, false, List, [], ◌∷◌, length, Some, refl, inl, inr, arith, sym, ap, ◌∙◌}
 use Rattle.std.specs.Prelude.{slice_get}
 use Rattle.std.proofs.lemmas.Bool.{cases_lt, cases_order}
 use Rattle.journal_core.specs.Segments.{find_segment, newest, any_body, end_of, HasAt}
 use Rattle.journal_core.specs.Views.{BatchView, last_txid}
 use Rattle.journal_core.specs.declared.segment.Segment.{Segment}
-use Rattle.node_history.specs.Entries.{Entry, node_after, Earlier}
+use Rattle.journal_history.specs.Entries.{Entry, node_after, Earlier}
 use Rattle.run_safety.specs.Run.{Story, Follows}
-use Rattle.run_safety.proofs.SeenLaws.{Recover, Seal, Open, Write, seen_at}
+use Rattle.run_safety.proofs.SeenLaws.{Recover, Finalizing, Open, Write, seen_at}
 use Rattle.run_safety.proofs.Places.{Follows-earlier}
 use Rattle.journal_core.proofs.SegmentLists.{find-start, newest-found}
 use Rattle.run_safety.proofs.SoundNodes.{stored_after}
@@ -18,7 +19,8 @@ use Rattle.run_safety.proofs.Spans.{covers_order, sealed_last, sealed_once, seal
 use Rattle.run_safety.proofs.Sent.{Sent, Sent-round, one_owner, to}
 use Rattle.run_safety.proofs.Values.{Wrote, later_round, get_within}
 use Rattle.run_safety.proofs.Shapes.{InRound, write_opens, shaped, Shaped-later, Maj}
-use Rattle.run_safety.proofs.Epochs.{Fin, Rec, Opn, After, Good, AllGood, WroteBy, in_recovery, in_opened, wrote_by_round, same_epoch, higher_epoch, maj_wrote, held_wrote, wrote_above, owner_same, not_first}
+use Rattle.run_safety.proofs.Epochs.{Fin, Rec, Opn, After, Good, AllGood, WroteBy, in_recovery, in_opened, wrote_by_round, same_epoch, higher_epoch}
+use Rattle.run_safety.proofs.Epochs.{maj_wrote, held_wrote, wrote_above, owner_same, not_first}
 use Rattle.run_safety.proofs.Finals.{Sealed, sealed}
 
 module _ (n : ℕ) (story : Story) (past : List Entry) (run : Follows n story past) where
@@ -39,7 +41,8 @@ module _ (n : ℕ) (story : Story) (past : List Entry) (run : Follows n story pa
       go : (v.writer.round ≡ Recover v.covers.batch) × (v.covers.batch.first ≡ m) ⊎ (v.writer.round ≡ Write m v.covers.batch) → FinBy e m l
       go (inl c) = a_recovery v.covers.batch (record { a = x.a; s = v.round; w = v.writer; sent = sent_v; epoch = x.epoch; is = c.0 }) c.1 v.last
       go (inr c) = an_opening (to (λ z. InRound n story past z (Open m)) x.epoch
-          (write_opens n story past x.a v.round v.writer m sent_v (write_is v.writer m v.covers.batch c) (write_start v.writer m v.covers.batch (frame n (story.takeover x.a) v.round v.writer v.at) c)))
+          (write_opens n story past x.a v.round v.writer m sent_v (write_is v.writer m v.covers.batch c)
+          (write_start v.writer m v.covers.batch (frame n (story.takeover x.a) v.round v.writer v.at) c)))
 
   pub fin_le : (e m l : ℕ) → Fin n story past run e m l → (1 ≤ m) × (m ≤ l)
   fin_le e m l x = let f = to (λ r. Framed x.w r) x.is (frame n (story.takeover x.a) x.s x.w x.sent.at) in (f.1, f.2)
@@ -65,14 +68,16 @@ module _ (n : ℕ) (story : Story) (past : List Entry) (run : Follows n story pa
       | inr gt ↦ sym (fin_up e g m k l gt (good g lg) y x)
     ]
     | inl is ↦ (let x2 : Fin n story past run e m l = to (λ z. Fin n story past run z m l) is x in
-        let one : x2.a ≡ y.a = owner_same n story past run e (Seal m l) (Seal m k) x2 y (not_first n story past run e (Seal m l) x2 (λ q. cc)) (not_first n story past run e (Seal m k) y (λ q. cc)) in
+        let one : x2.a ≡ y.a = owner_same n story past run e (Finalizing m l) (Finalizing m k) x2 y
+        (not_first n story past run e (Finalizing m l) x2 (λ q. cc)) (not_first n story past run e (Finalizing m k) y (λ q. cc)) in
         sealed_once n (story.takeover y.a) x2.s y.s x2.w y.w m l k (to (λ z. seen_at n (story.takeover z) x2.s ≡ Some x2.w) one x2.sent.at) y.sent.at x2.is y.is)
   ]
 
   -- what its owner wrote in a segment lies within its finalise
   pub fin_covers : (e m l t : ℕ) (body : List ℕ) → Fin n story past run e m l → Wrote n story past e m t body → t ≤ l
   fin_covers e m l t body x w =
-      let one : w.a ≡ x.a = one_owner n story past w.a x.a w.s x.s w.w x.w run w.sent x.sent (later_round n story past w.a w.s w.w m t w.sent w.covers) (not_first n story past run e (Seal m l) x (λ q. cc)) (w.epoch ∙ sym x.epoch) in
+      let one : w.a ≡ x.a = one_owner n story past w.a x.a w.s x.s w.w x.w run w.sent x.sent
+      (later_round n story past w.a w.s w.w m t w.sent w.covers) (not_first n story past run e (Finalizing m l) x (λ q. cc)) (w.epoch ∙ sym x.epoch) in
       sealed_last n (story.takeover x.a) w.s x.s w.w x.w m l t (to (λ z. seen_at n (story.takeover z) w.s ≡ Some w.w) one w.sent.at) x.sent.at w.covers x.is
 
   -- ## What a segment has of what was chosen
@@ -80,7 +85,8 @@ module _ (n : ℕ) (story : Story) (past : List Entry) (run : Follows n story pa
   final_fin i m q g p is f = (Shaped-later n story m g p (shaped n story q (Follows-earlier n story p run) i m g is)).final f
 
   -- final under a lower epoch
-  lower_final : (f i e m t : ℕ) (body : List ℕ) (q : List Entry) (g : Segment) → AllGood n story past run f → e < f → Earlier q past → find_segment m (node_after i q).segments ≡ Some g → g.is_final ≡ true → g.epoch < e →
+  lower_final : (f i e m t : ℕ) (body : List ℕ) (q : List Entry) (g : Segment) → AllGood n story past run f → e < f → Earlier q past
+      → find_segment m (node_after i q).segments ≡ Some g → g.is_final ≡ true → g.epoch < e →
       Maj n past e m t body → HasAt g t body
   lower_final f i e m t body q g good lt p is final below j = by_writing (wrote_by_round n story past run e m t body w)
     where
@@ -128,7 +134,8 @@ module _ (n : ℕ) (story : Story) (past : List Entry) (run : Follows n story pa
   abbrev pub HighEnough : ℕ → ℕ → ℕ → Segment → Type 0
   HighEnough e m t g = (g.is_final ≡ true) ⊎ ((e ≤ g.epoch) × (g.epoch ≡ e → t < m + length g.bodies))
 
-  pub has_chosen : (f i e m t : ℕ) (body : List ℕ) (q : List Entry) (g : Segment) → AllGood n story past run f → e < f → g.epoch < f → Earlier q past → find_segment m (node_after i q).segments ≡ Some g → HighEnough e m t g →
+  pub has_chosen : (f i e m t : ℕ) (body : List ℕ) (q : List Entry) (g : Segment) → AllGood n story past run f → e < f → g.epoch < f → Earlier q past
+      → find_segment m (node_after i q).segments ≡ Some g → HighEnough e m t g →
       Maj n past e m t body → HasAt g t body
   has_chosen f i e m t body q g good lt lg p is high j = elim (cases_order e g.epoch) [
     | inl same_one ↦ elim high [
@@ -186,7 +193,8 @@ module _ (n : ℕ) (story : Story) (past : List Entry) (run : Follows n story pa
       go (in_opened o) = good.opened_chain k o
       go (in_recovery b first r has) = to (λ z. After n story past run e z) first (good.recovered_chain b r)
 
-  -- an end of a finalise of a lower epoch lies below what its owner writes in another segment, and is the end of what it recovers of the same
+  -- an end of a finalise of a lower epoch lies below what its owner writes in another segment, and
+  -- is the end of what it recovers of the same
   pub chosen_below : (e g m t p l : ℕ) (body : List ℕ) → Good n story past run e → g < e → Wrote n story past e m t body → Fin n story past run g p l → (l < m) ⊎ (t ≤ l)
   chosen_below e g m t p l body good lt w x = go (wrote_by_round n story past run e m t body w)
     where
@@ -227,22 +235,28 @@ module _ (n : ℕ) (story : Story) (past : List Entry) (run : Follows n story pa
       ])
 
       one_epoch : Wrote n story past e k k x.body → t < k
-      one_epoch y = (let one : y.a ≡ w.a = one_owner n story past y.a w.a y.s w.s y.w w.w run y.sent w.sent (later_round n story past y.a y.s y.w k k y.sent y.covers) (later_round n story past w.a w.s w.w m t w.sent w.covers) (y.epoch ∙ sym w.epoch) in
+      one_epoch y = (let one : y.a ≡ w.a = one_owner n story past y.a w.a y.s w.s y.w w.w run y.sent w.sent
+          (later_round n story past y.a y.s y.w k k y.sent y.covers) (later_round n story past w.a w.s w.w m t w.sent w.covers)
+          (y.epoch ∙ sym w.epoch) in
           let at : seen_at n (story.takeover w.a) y.s ≡ Some y.w = to (λ z. seen_at n (story.takeover z) y.s ≡ Some y.w) one y.sent.at in
           elim (cases_order w.s y.s) [
             | inl rounds ↦ (let writer : w.w ≡ y.w = some_same (sym w.sent.at ∙ (ap (λ z. seen_at n (story.takeover w.a) z) rounds ∙ at)) in
                 absurd (one_round y writer))
             | inr other ↦ elim other [
               | inl before_it ↦ elim (covers_order n (story.takeover w.a) w.s y.s w.w y.w m k t k before_it w.sent.at at w.covers y.covers) [ inl same_start ↦ absurd (omega arith) | inr h ↦ h ]
-              | inr after_it ↦ elim (covers_order n (story.takeover w.a) y.s w.s y.w w.w k m k t after_it at w.sent.at y.covers w.covers) [ inl same_start ↦ absurd (omega arith) | inr h ↦ absurd (omega arith) ]
+              | inr after_it ↦ elim (covers_order n (story.takeover w.a) y.s w.s y.w w.w k m k t after_it at w.sent.at y.covers w.covers)
+                  [ inl same_start ↦ absurd (omega arith) | inr h ↦ absurd (omega arith) ]
             ]
           ])
         where
           one_round : (y : Wrote n story past e k k x.body) → w.w ≡ y.w → ⊥
           one_round z writer = starts w.covers.is (to (λ u. (u.round ≡ Recover z.covers.batch) × (z.covers.batch.first ≡ k) ⊎ (u.round ≡ Write k z.covers.batch)) (sym writer) z.covers.is)
             where
-              starts : (w.w.round ≡ Recover w.covers.batch) × (w.covers.batch.first ≡ m) ⊎ (w.w.round ≡ Write m w.covers.batch) → (w.w.round ≡ Recover z.covers.batch) × (z.covers.batch.first ≡ k) ⊎ (w.w.round ≡ Write k z.covers.batch) → ⊥
-              starts (inl u) (inl v) = (let both : Recover w.covers.batch ≡ Recover z.covers.batch = sym u.0 ∙ v.0 in let b : w.covers.batch ≡ z.covers.batch = cc in let first : w.covers.batch.first ≡ z.covers.batch.first = ap (λ q. q.first) b in omega (arith, u.1, v.1))
+              starts : (w.w.round ≡ Recover w.covers.batch) × (w.covers.batch.first ≡ m) ⊎ (w.w.round ≡ Write m w.covers.batch)
+                  → (w.w.round ≡ Recover z.covers.batch) × (z.covers.batch.first ≡ k) ⊎ (w.w.round ≡ Write k z.covers.batch) → ⊥
+              starts (inl u) (inl v) = (let both : Recover w.covers.batch ≡ Recover z.covers.batch = sym u.0
+                  ∙ v.0 in let b : w.covers.batch ≡ z.covers.batch = cc in let first : w.covers.batch.first ≡ z.covers.batch.first =
+                  ap (λ q. q.first) b in omega (arith, u.1, v.1))
               starts (inl u) (inr v) = (let no : Recover w.covers.batch ≡ Write k z.covers.batch = sym u.0 ∙ v in cc)
               starts (inr u) (inl v) = (let no : Write m w.covers.batch ≡ Recover z.covers.batch = sym u ∙ v.0 in cc)
               starts (inr u) (inr v) = (let both : Write m w.covers.batch ≡ Write k z.covers.batch = sym u ∙ v in let same_start : m ≡ k = cc in omega arith)

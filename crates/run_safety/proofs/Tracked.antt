@@ -15,7 +15,7 @@ use Rattle.writer_core.proofs.PlainRounds.{IsWhole}
 use Rattle.writer_core.proofs.Filling.{Fills}
 use Rattle.writer_core.proofs.WholeLaws.{Reaches}
 use Rattle.writer_core.proofs.WholeRounds.{unslotted}
-use Rattle.node_history.specs.Entries.{Entry, Earlier, now, before}
+use Rattle.journal_history.specs.Entries.{Entry, Earlier, now, before}
 use Rattle.run_safety.specs.Run.{WasHeard, may_follow, IsInTurn}
 use Rattle.run_safety.proofs.Tales.{Tale, place_below, IsLabelled}
 use Rattle.run_safety.proofs.Fair.{IsFairEntry, IsTold, told_more}
@@ -24,7 +24,8 @@ use Rattle.run_safety.proofs.TaleSteps.{Continues, place_cases, heard_later, put
 abbrev pub IsSilent : (ℕ → Option Reply) → Type 0
 IsSilent heard = (i : ℕ) → heard i ≡ None
 
--- The writer, against the writer of the table as the round began, or as it waits for its next task, and what the table has heard in this round.
+-- The writer, against the writer of the table as the round began, or as it waits for its next task,
+-- and what the table has heard in this round.
 pub data Stands (v u : WriterView) (heard : ℕ → Option Reply) : Type 0 where
   calling : (r : Round) → IsWhole r → v.phase ≡ phase.InRound r → plain (unslotted v) ≡ plain (unslotted u) → Fills 1 heard v.slots u.slots → Stands v u heard
   fetching : (node start end : ℕ) (bodies : List (List ℕ)) → v.phase ≡ phase.InRound (round.Fetch node start end bodies) → plain v ≡ plain u → IsSilent heard → Stands v u heard
@@ -138,4 +139,6 @@ quiet_entry n c a past e k s known within off told next = (aside a past k s, tol
     stays d v (free f) = free f
     stays d v (asking f g l) = asking f g l
     stays d v (tracked h) =
-        tracked (kept_on n c d a (aside a past k s) past (e ∷ past) v h goes (put_same a.story.takeover k (a.story.takeover k) h.k (λ same. ap a.story.takeover (sym same))) refl (λ old x p l turn is. fresh old x p l turn))
+        tracked (kept_on n c d a (aside a past k s) past (e ∷ past) v h goes
+        (put_same a.story.takeover k (a.story.takeover k) h.k (λ same. ap a.story.takeover (sym same))) refl
+        (λ old x p l turn is. fresh old x p l turn))

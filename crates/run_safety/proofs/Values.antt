@@ -7,9 +7,9 @@ use Rattle.journal_core.specs.declared.node_state.NodeState.{NodeState}
 use Rattle.journal_core.specs.declared.request.Request.{Request}
 use Rattle.journal_core.specs.declared.request.Request.TheVariants.{Start, Journal, Finalize, Accept, Purge}
 use Rattle.journal_core.specs.declared.segment.Segment.{Segment}
-use Rattle.node_history.specs.Entries.{Entry, node_after, Earlier, now, before}
+use Rattle.journal_history.specs.Entries.{Entry, node_after, Earlier, now, before}
 use Rattle.run_safety.specs.Run.{Story, Follows}
-use Rattle.run_safety.proofs.SeenLaws.{seen_first, Round, Propose, Ask, Get, Other, Recover, Seal, Open, Write, Clean, Writer, seen_at, asked}
+use Rattle.run_safety.proofs.SeenLaws.{seen_first, Round, Propose, Ask, Get, Other, Recover, Finalizing, Open, Write, Clean, Writer, seen_at, asked}
 use Rattle.journal_core.proofs.Changes.{Change, same, created, grown, made_final, replaced, removed}
 use Rattle.run_safety.proofs.Along.{Requested, entry_change}
 use Rattle.run_safety.proofs.Slots.{none≢some, some_same}
@@ -51,7 +51,7 @@ start_round e s c (Ask k) h m q = cc
 start_round e s c (Get i k l bodies) h m q = cc
 start_round e s c Other h m q = cc
 start_round e s c (Recover b) h m q = cc
-start_round e s c (Seal k l) h m q = cc
+start_round e s c (Finalizing k l) h m q = cc
 start_round e s c (Open k) h m q = let head : h ≡ record { epoch = e; serial = s; committed = c } = cc in (cc, ap (λ z. z.epoch) head)
 start_round e s c (Write k b) h m q = cc
 start_round e s c (Clean l) h m q = cc
@@ -62,7 +62,7 @@ journal_round e s c (Ask k) h m b q = cc
 journal_round e s c (Get i k l bodies) h m b q = cc
 journal_round e s c Other h m b q = cc
 journal_round e s c (Recover x) h m b q = cc
-journal_round e s c (Seal k l) h m b q = cc
+journal_round e s c (Finalizing k l) h m b q = cc
 journal_round e s c (Open k) h m b q = cc
 journal_round e s c (Write k x) h m b q = let head : h ≡ record { epoch = e; serial = s; committed = c } = cc in (cc, ap (λ z. z.epoch) head)
 journal_round e s c (Clean l) h m b q = cc
@@ -73,18 +73,18 @@ accept_round e s c (Ask k) h b q = cc
 accept_round e s c (Get i k l bodies) h b q = cc
 accept_round e s c Other h b q = cc
 accept_round e s c (Recover x) h b q = let head : h ≡ record { epoch = e; serial = s; committed = c } = cc in (cc, ap (λ z. z.epoch) head)
-accept_round e s c (Seal k l) h b q = cc
+accept_round e s c (Finalizing k l) h b q = cc
 accept_round e s c (Open k) h b q = cc
 accept_round e s c (Write k x) h b q = cc
 accept_round e s c (Clean l) h b q = cc
 
-pub finalize_round : (e s c : ℕ) (r : Round) (h : HeadView) (m l : ℕ) → Finalize h m l ≡ asked e s c r → (r ≡ Seal m l) × (h.epoch ≡ e)
+pub finalize_round : (e s c : ℕ) (r : Round) (h : HeadView) (m l : ℕ) → Finalize h m l ≡ asked e s c r → (r ≡ Finalizing m l) × (h.epoch ≡ e)
 finalize_round e s c Propose h m l q = cc
 finalize_round e s c (Ask k) h m l q = cc
 finalize_round e s c (Get i k j bodies) h m l q = cc
 finalize_round e s c Other h m l q = cc
 finalize_round e s c (Recover x) h m l q = cc
-finalize_round e s c (Seal k j) h m l q = let head : h ≡ record { epoch = e; serial = s; committed = c } = cc in (cc, ap (λ z. z.epoch) head)
+finalize_round e s c (Finalizing k j) h m l q = let head : h ≡ record { epoch = e; serial = s; committed = c } = cc in (cc, ap (λ z. z.epoch) head)
 finalize_round e s c (Open k) h m l q = cc
 finalize_round e s c (Write k x) h m l q = cc
 finalize_round e s c (Clean j) h m l q = cc
@@ -95,7 +95,7 @@ purge_round e s c (Ask k) h l q = cc
 purge_round e s c (Get i k j bodies) h l q = cc
 purge_round e s c Other h l q = cc
 purge_round e s c (Recover x) h l q = cc
-purge_round e s c (Seal k j) h l q = cc
+purge_round e s c (Finalizing k j) h l q = cc
 purge_round e s c (Open k) h l q = cc
 purge_round e s c (Write k x) h l q = cc
 purge_round e s c (Clean j) h l q = let head : h ≡ record { epoch = e; serial = s; committed = c } = cc in (cc, ap (λ z. z.epoch) head, ap (λ z. z.committed) head)
@@ -146,7 +146,8 @@ wrote_by n story past a s w m b p is k body h =
     record { a = a; s = s; w = w; sent = p; epoch = refl; covers = record { batch = b; is = is; from = omega arith; below = omega arith }; k = k; place = refl; has = h }
 
 -- the batch of a covering round is one
-same_batch : (w : Writer) (b c : BatchView) (m l : ℕ) → (w.round ≡ Recover b) × (b.first ≡ m) ⊎ (w.round ≡ Write m b) → (w.round ≡ Recover c) × (c.first ≡ l) ⊎ (w.round ≡ Write l c) → (b ≡ c) × (m ≡ l)
+same_batch : (w : Writer) (b c : BatchView) (m l : ℕ) → (w.round ≡ Recover b) × (b.first ≡ m) ⊎ (w.round ≡ Write m b)
+    → (w.round ≡ Recover c) × (c.first ≡ l) ⊎ (w.round ≡ Write l c) → (b ≡ c) × (m ≡ l)
 same_batch w b c m l (inl x) (inl y) =
     let rounds : Recover b ≡ Recover c = sym x.0 ∙ y.0 in let one : b ≡ c = cc in (one, sym x.1 ∙ (ap (λ z. z.first) one ∙ y.1))
 same_batch w b c m l (inl x) (inr y) = let no : Recover b ≡ Write l c = sym x.0 ∙ y in cc
@@ -154,14 +155,17 @@ same_batch w b c m l (inr x) (inl y) = let no : Write m b ≡ Recover c = sym x 
 same_batch w b c m l (inr x) (inr y) = let rounds : Write m b ≡ Write l c = sym x ∙ y in (cc, cc)
 
 -- under one epoch a txid was written once
-pub wrote_once : (n : ℕ) (story : Story) (past : List Entry) (e m l txid : ℕ) (body other : List ℕ) → Follows n story past → Wrote n story past e m txid body → Wrote n story past e l txid other → (m ≡ l) × (body ≡ other)
+pub wrote_once : (n : ℕ) (story : Story) (past : List Entry) (e m l txid : ℕ) (body other : List ℕ) → Follows n story past
+    → Wrote n story past e m txid body → Wrote n story past e l txid other → (m ≡ l) × (body ≡ other)
 wrote_once n story past e m l txid body other f p q =
-    let one : p.a ≡ q.a = one_owner n story past p.a q.a p.s q.s p.w q.w f p.sent q.sent (later_round n story past p.a p.s p.w m txid p.sent p.covers) (later_round n story past q.a q.s q.w l txid q.sent q.covers) (p.epoch ∙ sym q.epoch) in
+    let one : p.a ≡ q.a = one_owner n story past p.a q.a p.s q.s p.w q.w f p.sent q.sent (later_round n story past p.a p.s p.w m txid p.sent p.covers)
+    (later_round n story past q.a q.s q.w l txid q.sent q.covers) (p.epoch ∙ sym q.epoch) in
     let at : seen_at n (story.takeover p.a) q.s ≡ Some q.w = ap (λ z. seen_at n (story.takeover z) q.s) one ∙ q.sent.at in
     let round : p.s ≡ q.s = covers_once n (story.takeover p.a) p.s q.s p.w q.w m l txid p.sent.at at p.covers q.covers in
     let writer : p.w ≡ q.w = some_same (sym p.sent.at ∙ (ap (λ z. seen_at n (story.takeover p.a) z) round ∙ at)) in
     let batches : (p.covers.batch ≡ q.covers.batch) × (m ≡ l) =
-    same_batch p.w p.covers.batch q.covers.batch m l p.covers.is (subst (λ z. (z.round ≡ Recover q.covers.batch) × (q.covers.batch.first ≡ l) ⊎ (z.round ≡ Write l q.covers.batch)) (sym writer) q.covers.is) in
+    same_batch p.w p.covers.batch q.covers.batch m l p.covers.is (subst
+    (λ z. (z.round ≡ Recover q.covers.batch) × (q.covers.batch.first ≡ l) ⊎ (z.round ≡ Write l q.covers.batch)) (sym writer) q.covers.is) in
     let first : p.covers.batch.first ≡ q.covers.batch.first = ap (λ z. z.first) batches.0 in
     let index : p.k ≡ q.k = omega (arith, p.place, q.place) in
     (batches.1, some_same (sym p.has ∙ (ap (λ z. slice_get z.bodies p.k) batches.0 ∙ (ap (λ z. slice_get q.covers.batch.bodies z) index ∙ q.has))))
@@ -174,7 +178,8 @@ ValuesWritten n story past m (Some g) = (k : ℕ) (body : List ℕ) → slice_ge
 pub Wrote-same : (n : ℕ) (story : Story) (past : List Entry) (e d m t u : ℕ) (body : List ℕ) → e ≡ d → t ≡ u → Wrote n story past e m t body → Wrote n story past d m u body
 Wrote-same n story past e d m t u body p q x = subst (λ z. Wrote n story past d m z body) q (subst (λ z. Wrote n story past z m t body) p x)
 
-values_change : (n : ℕ) (story : Story) (past : List Entry) (s : NodeState) (r : Request) (m : ℕ) (o new : Option Segment) → Change s r m o new → OfRound n story past r → ValuesWritten n story past m o → ValuesWritten n story past m new
+values_change : (n : ℕ) (story : Story) (past : List Entry) (s : NodeState) (r : Request) (m : ℕ) (o new : Option Segment) → Change s r m o new
+    → OfRound n story past r → ValuesWritten n story past m o → ValuesWritten n story past m new
 values_change n story past s r m o new same x v = v
 values_change n story past s r m o new (created h q none) x v = λ k body e. none≢some body e
 values_change n story past s r m (Some g) new (grown h b q header f first) x v = λ k body e.
@@ -199,7 +204,8 @@ pub values_written : (n : ℕ) (story : Story) (past : List Entry) → Follows n
 unfolding node_after find_segment
 values_written n story [] f i m = tt
 values_written n story (e ∷ old) f i m =
-    let earlier : ValuesWritten n story (e ∷ old) m (find_segment m (node_after i old).segments) = values_later n story m (find_segment m (node_after i old).segments) (before now) (values_written n story old f.1 i m) in
+    let earlier : ValuesWritten n story (e ∷ old) m (find_segment m (node_after i old).segments) =
+    values_later n story m (find_segment m (node_after i old).segments) (before now) (values_written n story old f.1 i m) in
     elim (entry_change i e old m) [
       | inl same_one ↦ subst (λ o. ValuesWritten n story (e ∷ old) m o) (sym same_one) earlier
       | inr c ↦
@@ -208,7 +214,8 @@ values_written n story (e ∷ old) f i m =
     ]
 
 -- a body that a node holds was written by the owner of the segment's epoch
-pub held_written : (n : ℕ) (story : Story) (past : List Entry) → Follows n story past → (i : ℕ) (g : Segment) (txid : ℕ) (body : List ℕ) → find_segment g.start (node_after i past).segments ≡ Some g → HasAt g txid body →
+pub held_written : (n : ℕ) (story : Story) (past : List Entry) → Follows n story past → (i : ℕ) (g : Segment) (txid : ℕ) (body : List ℕ)
+    → find_segment g.start (node_after i past).segments ≡ Some g → HasAt g txid body →
     Wrote n story past g.epoch g.start txid body
 held_written n story past f i g txid body is h =
     Wrote-same n story past g.epoch g.epoch g.start (g.start + h.0) txid body refl (sym h.1)

@@ -14,7 +14,7 @@ use Rattle.writer_core.specs.Rounds.{judgment, after_fetch}
 use Rattle.writer_core.specs.Writer.{log_limit, writer_begun}
 use Rattle.writer_core.specs.Whole.{fill_slots, next_task, writer_at}
 use Rattle.run_safety.specs.Majority.{Member, IsMajority}
-use Rattle.node_history.specs.Entries.{Heard, Entry, Earlier, now, before, node_after}
+use Rattle.journal_history.specs.Entries.{Heard, Entry, Earlier, now, before, node_after}
 use Rattle.run_safety.specs.Safe.{HasBody, IsChosen, IsOnLine, IsAcknowledged, SaidOk, HoldsFinal, IsLowestFinal, Reaches, there, segment, IsRecovered, IsSafe}
 use Rattle.run_safety.specs.Parts.{IsAfterFinalised}
 use Rattle.run_safety.specs.Run.{IsRun}
@@ -27,7 +27,8 @@ use Rattle.run_safety.proofs.Kept.{segments_chained}
 use Rattle.run_safety.proofs.Checker.{passes, follows, said, said_is, no_start, none_starts}
 
 it_passes : passes 3 tables (reverse recovered_edit) ≡ true
-unfolding find_segment put_segment remove_segment newest limit_of after_effects node_step effects_of best_from greatest_newest judgment after_fetch log_limit writer_begun fill_slots next_task writer_at node_after
+unfolding find_segment put_segment remove_segment newest limit_of after_effects node_step effects_of best_from greatest_newest judgment after_fetch
+    log_limit writer_begun fill_slots next_task writer_at node_after
 it_passes = refl
 
 pub is_run : IsRun 3 recovered_edit
@@ -78,7 +79,8 @@ unfolding second_segment
 chosen_second txid body has = (1 ∷ 2 ∷ 3 ∷ [], all_nodes, λ i m. (second_segment, (reverse recovered_edit, now, found_second i m), refl, has))
 
 -- ## Acknowledged edits
-said_all : (r : Request) → said (reverse recovered_edit) 1 r ≡ true → said (reverse recovered_edit) 2 r ≡ true → said (reverse recovered_edit) 3 r ≡ true → (i : ℕ) → Member i (1 ∷ 2 ∷ 3 ∷ []) → SaidOk (reverse recovered_edit) i r
+said_all : (r : Request) → said (reverse recovered_edit) 1 r ≡ true → said (reverse recovered_edit) 2 r ≡ true
+    → said (reverse recovered_edit) 3 r ≡ true → (i : ℕ) → Member i (1 ∷ 2 ∷ 3 ∷ []) → SaidOk (reverse recovered_edit) i r
 said_all r a b c i m = said_is (reverse recovered_edit) i r (each (λ k. said (reverse recovered_edit) k r ≡ true) a b c i m)
 
 pub record_acknowledged : IsAcknowledged 3 (reverse recovered_edit) 1 1 begin

@@ -10,14 +10,14 @@ use Rattle.writer_core.specs.Writer.{next_call, writer_heard, writer_stopped, Ha
 use Rattle.writer_core.specs.Whole.{Takeover}
 use Rattle.writer_core.proofs.WholeLaws.{with_tasks, with_heard}
 use Rattle.writer_core.proofs.WholeRounds.{IsCalling, calling_in}
-use Rattle.node_history.specs.Entries.{Entry, Move, Earlier}
+use Rattle.journal_history.specs.Entries.{Entry, Move, Earlier}
 use Rattle.run_safety.specs.Run.{may_follow, IsInTurn}
-use Rattle.node_history.specs.Moving.{epoch_of}
+use Rattle.journal_history.specs.Moving.{epoch_of}
 use Rattle.run_safety.specs.Actings.{CallMade, Acting, fresh_acting, was_made}
-use Rattle.node_history.specs.Same.{same_request}
+use Rattle.journal_history.specs.Same.{same_request}
 use Rattle.run_safety.proofs.Places.{Earlier-trans}
 use Rattle.run_safety.proofs.Slots.{true≢false}
-use Rattle.node_history.proofs.SameLaws.{request_same}
+use Rattle.journal_history.proofs.SameLaws.{request_same}
 use Rattle.run_safety.proofs.Fair.{IsTold}
 use Rattle.run_safety.proofs.Tales.{Tale, Tells, Grows, AreLabelled, IsMadeAt, made_still, earlier_length, place_below}
 use Rattle.run_safety.proofs.TaleSteps.{Continues, continues_not, place_cases, made_later, put, put_here, put_there, labelled_continues, grows_not}
@@ -53,7 +53,8 @@ continues_trans c x y z past mid next labels g h = record {
     whose = λ m l. h.tells.whose m (omega (arith, l, earlier_length g.longer)) ∙ g.tells.whose m l;
     round = λ m l. h.tells.round m (omega (arith, l, earlier_length g.longer)) ∙ g.tells.round m l;
     count = omega (arith, g.tells.count, h.tells.count);
-    grown = λ k l. grows_trans (x.top k) (y.top k) (x.story.takeover k) (y.story.takeover k) (z.story.takeover k) (g.tells.tops k l) (g.tells.grown k l) (h.tells.grown k (omega (arith, l, g.tells.count)));
+    grown = λ k l. grows_trans (x.top k) (y.top k) (x.story.takeover k) (y.story.takeover k) (z.story.takeover k) (g.tells.tops k l)
+        (g.tells.grown k l) (h.tells.grown k (omega (arith, l, g.tells.count)));
     tops = λ k l. let a : x.top k ≤ y.top k = g.tells.tops k l in let b : y.top k ≤ z.top k = h.tells.tops k (omega (arith, l, g.tells.count)) in omega (arith, a, b);
   };
   others = λ k l off.
@@ -159,7 +160,8 @@ call_own n a past c v node r call (asking p e f) some = absurd (asks_no_epoch v 
 call_own n a past c v node r call (tracked h) some = (h.k, a.top h.k, (making_by n a past c v node r h call h.stands).made)
 
 -- the writer hears what came of it
-pub heard_status : (n : ℕ) (a : Tale) (past next : List Entry) (c : ℕ) (v : WriterView) (node : ℕ) (r : Request) (d : HeardOf) → IsCalling v node r → IsTold n a past → CallLeft n past c node r d next → Status n a past c v
+pub heard_status : (n : ℕ) (a : Tale) (past next : List Entry) (c : ℕ) (v : WriterView) (node : ℕ) (r : Request) (d : HeardOf) → IsCalling v node r
+    → IsTold n a past → CallLeft n past c node r d next → Status n a past c v
     → Gives n c a past next (λ b. Status n b next c (writer_heard v node d).writer)
 heard_status n a past next c v node r d call told left (free f) = absurd (true≢false (sym f ∙ ap is_free call.phase))
 heard_status n a past next c v node r d call told left (asking p e f) =
@@ -171,13 +173,16 @@ heard_status n a past next c v node r d call told left (tracked h) =
     let m : Gives n c g.0 next next (λ b. Status n b next c (writer_heard v node d).writer) = hears_called n g.0 next c v node d r g.1 call g.3 in
     (m.0, m.1, continues_trans c a g.0 m.0 past next next g.1.labels g.2 m.2, m.3)
 
-pub call_all : (n : ℕ) (a : Tale) (past next : List Entry) (c : ℕ) (acts : ℕ → Acting) (node : ℕ) (r : Request) (d : HeardOf) → next_call (acts c).writer ≡ Some (node, r) → CallLeft n past c node r d next → IsTold n a past
+pub call_all : (n : ℕ) (a : Tale) (past next : List Entry) (c : ℕ) (acts : ℕ → Acting) (node : ℕ) (r : Request) (d : HeardOf)
+    → next_call (acts c).writer ≡ Some (node, r) → CallLeft n past c node r d next → IsTold n a past
     → All n past acts a
     → Gives n c a past next (All n next (put acts c (record { writer = (writer_heard (acts c).writer node d).writer; calls = (acts c).calls ++ record { node = node; request = r } ∷ [] })))
 call_all n a past next c acts node r d e left told h =
     let x : Acting = acts c in
     let call : IsCalling x.writer node r = calling_in x.writer node r e in
-    let own : AreOwn n a past c (x.calls ++ record { node = node; request = r } ∷ []) = own_more n a past c x.calls (record { node = node; request = r }) (h c).calls (λ some. call_own n a past c x.writer node r call (h c).status some) in
+    let own : AreOwn n a past c (x.calls ++ record { node = node; request = r } ∷ []) =
+    own_more n a past c x.calls (record { node = node; request = r }) (h c).calls
+    (λ some. call_own n a past c x.writer node r call (h c).status some) in
     let g : Gives n c a past next (λ b. Status n b next c (writer_heard x.writer node d).writer) = heard_status n a past next c x.writer node r d call told left (h c).status in (
       g.0,
       g.1,
@@ -219,7 +224,8 @@ entry_stays n a past c node r move k s known within told made off enters =
 not_both : (b : Bool) → b ≡ true → b ≡ false → ⊥
 not_both b e f = true≢false (sym e ∙ f)
 
-pub copy_stays : (n : ℕ) (a : Tale) (past next : List Entry) (c node : ℕ) (r : Request) → IsTold n a past → (HasEpoch r → IsMadeBy n a past c node r) → CopyLeft n past c node r next → Stays n c a past next
+pub copy_stays : (n : ℕ) (a : Tale) (past next : List Entry) (c node : ℕ) (r : Request) → IsTold n a past → (HasEpoch r → IsMadeBy n a past c node r)
+    → CopyLeft n past c node r next → Stays n c a past next
 copy_stays n a past next c node r told own (no_entry same) = stays_same n c a past next same told
 copy_stays n a past next c node r told own (an_entry move same off enters) = subst (λ (l : List Entry). Stays n c a past l) (sym same) (by (is_some (epoch_of r)) refl)
   where
@@ -240,7 +246,8 @@ operation_stays n c a past next node told (a_change move same off enters) =
     subst (λ (l : List Entry). Stays n c a past l) (sym same) (quiet_entry n c a past (entry node move) 0 0 (omega arith) (omega arith) off told (enters (aside a past 0 0).story))
 
 -- and the reader has one call more
-pub read_all : (n : ℕ) (a : Tale) (past next : List Entry) (c : ℕ) (acts : ℕ → Acting) (node : ℕ) (r : Request) (d : HeardOf) → (HasEpoch r → ⊥) → IsTold n a past → CallLeft n past c node r d next → All n past acts a
+pub read_all : (n : ℕ) (a : Tale) (past next : List Entry) (c : ℕ) (acts : ℕ → Acting) (node : ℕ) (r : Request) (d : HeardOf) → (HasEpoch r → ⊥)
+    → IsTold n a past → CallLeft n past c node r d next → All n past acts a
     → Gives n c a past next (All n next (put acts c (record (acts c) { calls = (acts c).calls ++ record { node = node; request = r } ∷ [] })))
 read_all n a past next c acts node r d off told left h =
     let s : Stays n c a past next = read_stays n a past next c node r d off told left in

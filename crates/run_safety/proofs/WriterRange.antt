@@ -25,8 +25,12 @@ use Rattle.writer_core.specs.declared.task.Task.TheVariants as task
 use Rattle.writer_core.specs.Views.{WriterView}
 use Rattle.writer_core.specs.Answers.{is_waiting, has_majority, fits_edits}
 use Rattle.writer_core.specs.Best.{Best, best_of, best_from, better, told_by, segment_in, outranks, greatest_promise, greatest_newest}
-use Rattle.writer_core.specs.Rounds.{request_in, numbers_fit, keep_going, after_round, with_causes, judgment_by, judgment, without_answer_of, after_fetch, after_propose, begin_recovery, after_finalize, after_open, after_write, after_edits, after_no_edits, next_serial, left_out_after, none_left_out, to_all, to_others, begin_propose, stops_with, asks_all, batch_from, end_record}
-use Rattle.writer_core.specs.Writer.{new_writer, Began, writer_begun, log_begins, log_limit, is_writing, if_writing, next_call, call_in, node_in, with_answer, judgment_when, heard_in, heard_at, writer_heard}
+use Rattle.writer_core.specs.Rounds.{request_in, numbers_fit, keep_going, after_round, with_causes, judgment_by, judgment, without_answer_of}
+use Rattle.writer_core.specs.Rounds.{after_fetch, after_propose, begin_recovery, after_finalize, after_open, after_write, after_edits, after_no_edits}
+use Rattle.writer_core.specs.Rounds.{next_serial, left_out_after, none_left_out, to_all, to_others, begin_propose, stops_with, asks_all, batch_from}
+use Rattle.writer_core.specs.Rounds.{end_record}
+use Rattle.writer_core.specs.Writer.{new_writer, Began, writer_begun, log_begins, log_limit, is_writing, if_writing, next_call, call_in, node_in}
+use Rattle.writer_core.specs.Writer.{with_answer, judgment_when, heard_in, heard_at, writer_heard}
 pub use Rattle.run_safety.specs.Sized.{FetchesWithin, Sized}
 use Rattle.writer_core.proofs.LiveLaws.{of_call}
 
@@ -105,15 +109,22 @@ missed_sized n r w h = length-map w.slots _ ∙ h.slots
 done_sized : (n : ℕ) (r : Round) (w : WriterView) → Sized n w → Sized n (after_round r w).writer
 done_sized n round.State w h = state_by n (nat_lt (greatest_promise w.slots) max_number) (greatest_promise w.slots) w h
 done_sized n round.Propose w h = propose_sized n (greatest_newest w.slots) (next_serial w) (record { left = h.left; slots = h.slots; fetch = h.fetch })
-done_sized n (round.Prepare start) w h = recovering_sized n start (best_of start w.slots) (next_serial w) (best_fits n start w.slots h.slots) (record { left = h.left; slots = h.slots; fetch = h.fetch })
-done_sized n (round.Fetch node start end bodies) w h = recovering_sized n start (best_of start w.slots) (next_serial w) (best_fits n start w.slots h.slots) (record { left = h.left; slots = h.slots; fetch = h.fetch })
+done_sized n (round.Prepare start) w h = recovering_sized n start (best_of start w.slots) (next_serial w) (best_fits n start w.slots h.slots)
+    (record { left = h.left; slots = h.slots; fetch = h.fetch })
+done_sized n (round.Fetch node start end bodies) w h = recovering_sized n start (best_of start w.slots) (next_serial w)
+    (best_fits n start w.slots h.slots) (record { left = h.left; slots = h.slots; fetch = h.fetch })
 done_sized n (round.Accept batch) w h = others_sized n (round.Finalize batch.first (last_txid batch)) (record (next_serial w) { committed = last_txid batch }) h.left tt
 done_sized n (round.Finalize start end) w h = finalize_sized n w.aim end (next_serial w) (record { left = h.left; slots = h.slots; fetch = h.fetch })
 done_sized n round.Start w h = others_sized n round.Open (record (next_serial w) { left = left_out_after round.Start w.slots }) (missed_sized n round.Start w h) tt
-done_sized n round.Open w h = open_sized n w.aim (record (next_serial w) { committed = w.start; next = w.start + 1; left = left_out_after round.Open w.slots }) (record { left = missed_sized n round.Open w h; slots = h.slots; fetch = h.fetch })
+done_sized n round.Open w h = open_sized n w.aim (record (next_serial w) {
+  committed = w.start;
+  next = w.start + 1;
+  left = left_out_after round.Open w.slots;
+}) (record { left = missed_sized n round.Open w h; slots = h.slots; fetch = h.fetch })
 done_sized n (round.Write bodies) w h =
     let last : ℕ = w.next + length bodies - 1 in
-    write_sized n w.aim w.next last (record (next_serial w) { committed = last; next = last + 1; left = left_out_after (round.Write bodies) w.slots }) (record { left = missed_sized n (round.Write bodies) w h; slots = h.slots; fetch = h.fetch })
+    write_sized n w.aim w.next last (record (next_serial w) { committed = last; next = last + 1; left = left_out_after (round.Write bodies) w.slots })
+    (record { left = missed_sized n (round.Write bodies) w h; slots = h.slots; fetch = h.fetch })
 done_sized n (round.Purge min) w h = record { left = h.left; slots = h.slots; fetch = tt }
 
 judged_sized : (n : ℕ) (b : Bool) (r : Round) (w : WriterView) → Sized n w → Sized n (judgment_by b r w).writer
@@ -137,7 +148,9 @@ pieced_by n false node start end bodies w f h = record { left = h.left; slots = 
 edits_sized : (n : ℕ) (b : Bool) (node start end : ℕ) (bodies : List (List ℕ)) (batch : BatchView) (w : WriterView) → (1 ≤ node) × (node ≤ n) → Sized n w
     → Sized n (after_edits b node start end bodies batch w).writer
 edits_sized n true node start end bodies batch w f h =
-    pieced_by n (nat_lt end (start + length (bodies ++ take (end + 1 - (start + length bodies)) batch.bodies))) node start end (bodies ++ take (end + 1 - (start + length bodies)) batch.bodies) (next_serial w) f (record { left = h.left; slots = h.slots; fetch = h.fetch })
+    pieced_by n (nat_lt end (start + length (bodies ++ take (end + 1 - (start + length bodies)) batch.bodies))) node start end
+    (bodies ++ take (end + 1 - (start + length bodies)) batch.bodies) (next_serial w) f
+    (record { left = h.left; slots = h.slots; fetch = h.fetch })
 edits_sized n false node start end bodies batch w f h =
     judged_sized n (has_majority (round.Prepare start) (without_answer_of node Silent w).slots) (round.Prepare start) (without_answer_of node Silent w) (out_sized n node Silent w h)
 
@@ -167,7 +180,8 @@ in_sized n round.State w node heard f h = round_sized n (list_any is_waiting (wi
 in_sized n round.Propose w node heard f h = round_sized n (list_any is_waiting (with_answer w node heard).slots) round.Propose (with_answer w node heard) (with_sized n node heard w h)
 in_sized n (round.Prepare start) w node heard f h = round_sized n (list_any is_waiting (with_answer w node heard).slots) (round.Prepare start) (with_answer w node heard) (with_sized n node heard w h)
 in_sized n (round.Accept batch) w node heard f h = round_sized n (list_any is_waiting (with_answer w node heard).slots) (round.Accept batch) (with_answer w node heard) (with_sized n node heard w h)
-in_sized n (round.Finalize start end) w node heard f h = round_sized n (list_any is_waiting (with_answer w node heard).slots) (round.Finalize start end) (with_answer w node heard) (with_sized n node heard w h)
+in_sized n (round.Finalize start end) w node heard f h = round_sized n (list_any is_waiting (with_answer w node heard).slots)
+    (round.Finalize start end) (with_answer w node heard) (with_sized n node heard w h)
 in_sized n round.Start w node heard f h = round_sized n (list_any is_waiting (with_answer w node heard).slots) round.Start (with_answer w node heard) (with_sized n node heard w h)
 in_sized n round.Open w node heard f h = round_sized n (list_any is_waiting (with_answer w node heard).slots) round.Open (with_answer w node heard) (with_sized n node heard w h)
 in_sized n (round.Write bodies) w node heard f h = round_sized n (list_any is_waiting (with_answer w node heard).slots) (round.Write bodies) (with_answer w node heard) (with_sized n node heard w h)

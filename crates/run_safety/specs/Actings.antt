@@ -4,7 +4,7 @@ use Rattle.std.specs.List.{list_any}
 use Rattle.journal_core.specs.declared.request.Request.{Request}
 use Rattle.writer_core.specs.Views.{WriterView}
 use Rattle.writer_core.specs.Writer.{new_writer}
-use Rattle.node_history.specs.Same.{same_request}
+use Rattle.journal_history.specs.Same.{same_request}
 
 -- a call that an actor made, whatever became of it
 pub record CallMade : Type 0 where

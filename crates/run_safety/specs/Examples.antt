@@ -1,5 +1,6 @@
--- A run of three nodes and two writers: an acknowledged edit, and one that a single node holds, are recovered by a takeover, past a kill, a restart,
--- a late copy and a stop inside a prepare; the new writer goes on.
+-- A run of three nodes and two writers: an acknowledged edit, and one that a single node holds, are
+-- recovered by a takeover, past a kill, a restart, a late copy and a stop inside a prepare; the new
+-- writer goes on.
 use Rattle.std.specs.Prelude.{ℕ, ◌++◌, false, List, [], ◌∷◌, map, None, Some}
 use Rattle.journal_core.specs.Views.{HeadView, BatchView}
 use Rattle.journal_core.specs.declared.request.Request.{Request}
@@ -8,7 +9,7 @@ use Rattle.journal_core.specs.declared.refusal.Refusal.TheVariants.{SegmentHasEd
 use Rattle.journal_core.specs.declared.reply.Reply.{Reply}
 use Rattle.journal_core.specs.declared.reply.Reply.TheVariants as reply
 use Rattle.writer_core.specs.declared.task.Task.TheVariants.{Log}
-use Rattle.node_history.specs.Entries.{Heard, Muted, Late, Answer, Stop, Kill, Restart, Entry}
+use Rattle.journal_history.specs.Entries.{Heard, Muted, Late, Answer, Stop, Kill, Restart, Entry}
 use Rattle.run_safety.specs.Tables.{Told, TakeoverTable, Call, Tables}
 
 abbrev pub head : ℕ → ℕ → ℕ → HeadView
@@ -36,7 +37,8 @@ heard_at caller request answer node = record { node = node; move = Answer caller
 abbrev pub at_all : ℕ → Request → Reply → List Entry
 at_all caller request answer = map (heard_at caller request answer) (1 ∷ 2 ∷ 3 ∷ [])
 
--- Writer 0 takes epoch 1, begins segment 1 at all nodes and logs an edit. Its log of the next one reaches node 1 alone, and nobody hears.
+-- Writer 0 takes epoch 1, begins segment 1 at all nodes and logs an edit. Its log of the next one
+-- reaches node 1 alone, and nobody hears.
 abbrev pub first_writer : List Entry
 first_writer =
     at_all 0 (NewEpoch 1) (reply.NewEpoch None)
@@ -60,8 +62,8 @@ tells known end = reply.Prepared 1 known (Some (record { start = 1; end = end; e
 abbrev pub recovered : BatchView
 recovered = record { first = 1; bodies = begin ∷ edit ∷ unheard ∷ [] }
 
--- Writer 1 takes epoch 2 by nodes 1 and 2; node 3 is stopped inside its prepare and comes up again. It recovers all three edits, begins
--- segment 4 and logs an edit.
+-- Writer 1 takes epoch 2 by nodes 1 and 2; node 3 is stopped inside its prepare and comes up again.
+-- It recovers all three edits, begins segment 4 and logs an edit.
 abbrev pub second_writer : List Entry
 second_writer =
     heard_at 1 (NewEpoch 2) (reply.NewEpoch (Some 1)) 1

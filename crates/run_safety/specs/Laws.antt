@@ -8,7 +8,7 @@ use Rattle.journal_core.specs.declared.segment.Segment.{Segment}
 use Rattle.journal_core.specs.declared.node_state.NodeState.{NodeState}
 use Rattle.journal_core.specs.declared.request.Request.{Request}
 use Rattle.run_safety.specs.Majority.{Member, IsMajority}
-use Rattle.node_history.specs.Entries.{Entry, Earlier, after_move, node_after}
+use Rattle.journal_history.specs.Entries.{Entry, Earlier, after_move, node_after}
 use Rattle.run_safety.specs.Run.{IsRun}
 use Rattle.run_safety.specs.Safe.{IsChosen, IsOnLine, IsOf, IsSafe}
 
@@ -70,14 +70,16 @@ CarriedCommittedIsOnLine =
     → Earlier (e ∷ old) (reverse entries) → IsOf e request → head_of request ≡ Some head
     → 1 ≤ txid → txid ≤ head.committed → (body : List ℕ) × IsOnLine n (reverse entries) txid body
 
--- each txid up to the one that a node knows to be committed is chosen, under an epoch that its promise isn't below
+-- each txid up to the one that a node knows to be committed is chosen, under an epoch that its
+-- promise isn't below
 abbrev pub KnownCommittedIsChosen : Type 0
 KnownCommittedIsChosen =
     (n : ℕ) (entries : List Entry) (node txid : ℕ) → IsRun n entries
     → 1 ≤ txid → txid ≤ (node_at node entries).known
     → (epoch : ℕ) × (body : List ℕ) × (epoch ≤ (node_at node entries).promised) × IsChosen n (reverse entries) epoch txid body
 
--- each txid up to the one that a request of the run carries is chosen, under an epoch that isn't above the request's
+-- each txid up to the one that a request of the run carries is chosen, under an epoch that isn't
+-- above the request's
 abbrev pub CarriedCommittedIsChosen : Type 0
 CarriedCommittedIsChosen =
     (n : ℕ) (entries old : List Entry) (e : Entry) (request : Request) (head : HeadView) (txid : ℕ) → IsRun n entries

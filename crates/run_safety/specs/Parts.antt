@@ -1,5 +1,6 @@
--- What every run keeps, part by part: promises, owners, values, the chain of starts, survival, finalised segments, the newest start, and what a
--- recovery takes over. Lists of entries stand newest first, but in the laws.
+-- What every run keeps, part by part: promises, owners, values, the chain of starts, survival,
+-- finalised segments, the newest start, and what a recovery takes over. Lists of entries stand
+-- newest first, but in the laws.
 use Rattle.std.specs.Prelude.{ℕ, ◌+◌, ◌<◌, ◌≤◌, ◌≡◌, ◌⊎◌, true, false, List, ◌∷◌, ◌++◌, length, reverse, Option, None, Some, slice_get}
 use Rattle.journal_core.specs.Views.{HeadView, BatchView}
 use Rattle.journal_core.specs.Limits.{head_of}
@@ -14,12 +15,13 @@ use Rattle.journal_core.specs.declared.reply.Reply.{Reply}
 use Rattle.journal_core.specs.declared.reply.Reply.TheVariants.{NewEpoch as EpochTaken, Prepared, Refused}
 use Rattle.writer_core.specs.Best.{outranks}
 use Rattle.run_safety.specs.Majority.{Member, IsMajority}
-use Rattle.node_history.specs.Entries.{Way, Heard, Entry, Answer, Earlier, node_after}
+use Rattle.journal_history.specs.Entries.{Way, Heard, Entry, Answer, Earlier, node_after}
 use Rattle.run_safety.specs.Run.{Story, Follows, IsRun}
 use Rattle.run_safety.specs.Safe.{HasBody, IsHeld, IsChosen, IsOnLine, IsOf, IsStart, SaidOk}
 
 -- ## Promises
--- The promise bounds the writer and each header. The open segment is in progress, and its header has the promise.
+-- The promise bounds the writer and each header. The open segment is in progress, and its header
+-- has the promise.
 pub record KeepsPromise (s : NodeState) : Type 0 where
   pub writer : s.writer ≤ s.promised
   pub headers : (start : ℕ) (g : Segment) → find_segment start s.segments ≡ Some g → g.epoch ≤ s.promised
@@ -65,7 +67,8 @@ IsFinalised n past epoch start end =
     (head : HeadView) × (head.epoch ≡ epoch)
     × ((nodes : List ℕ) × IsMajority n nodes × ((node : ℕ) → Member node nodes → SaidOk past node (Finalize head start end)))
 
--- a start is 1, or comes right after the end of a finalise that was done, under this epoch or a lower one
+-- a start is 1, or comes right after the end of a finalise that was done, under this epoch or a
+-- lower one
 abbrev pub IsAfterFinalised : ℕ → List Entry → ℕ → ℕ → Type 0
 IsAfterFinalised n past epoch start =
     (start ≡ 1)
@@ -83,7 +86,8 @@ SegmentsAreChained =
     (n : ℕ) (entries : List Entry) (node : ℕ) (g : Segment) (txid : ℕ) (body : List ℕ) → IsRun n entries
     → IsHeld (reverse entries) node g → HasAt g txid body → IsAfterFinalised n (reverse entries) g.epoch g.start
 
--- Each start comes right after the end of the start before it: between a segment for which a finalise was done and its end no other segment begins.
+-- Each start comes right after the end of the start before it: between a segment for which a
+-- finalise was done and its end no other segment begins.
 abbrev pub StartsAreNext : Type 0
 StartsAreNext =
     (n : ℕ) (entries : List Entry) (epoch first last node : ℕ) (g : Segment) (txid : ℕ) (body : List ℕ) → IsRun n entries
@@ -134,8 +138,8 @@ IsAcknowledgedIn n past epoch start =
     (head : HeadView) × (batch : BatchView) × (head.epoch ≡ epoch) × (1 ≤ length batch.bodies)
     × ((nodes : List ℕ) × IsMajority n nodes × ((node : ℕ) → Member node nodes → SaidOk past node (Journal head start batch)))
 
--- A node that answered a finalise with Ok holds the segment, final and to that end, unless a later start has an acknowledged edit under an epoch that
--- isn't above the node's promise.
+-- A node that answered a finalise with Ok holds the segment, final and to that end, unless a later
+-- start has an acknowledged edit under an epoch that isn't above the node's promise.
 abbrev pub FinalisedStays : Type 0
 FinalisedStays =
     (n : ℕ) (entries : List Entry) (node : ℕ) (head : HeadView) (start end : ℕ) → IsRun n entries
@@ -163,8 +167,8 @@ abbrev pub IsNotAbove : Option SegmentInfo → SegmentInfo → Type 0
 IsNotAbove None best = Unit {0}
 IsNotAbove (Some info) best = outranks info best ≡ false
 
--- A node answered a prepare of the segment, and the bodies are all that it held when it did. A majority answered a prepare too, and told no
--- segment that ranks above that one.
+-- A node answered a prepare of the segment, and the bodies are all that it held when it did. A
+-- majority answered a prepare too, and told no segment that ranks above that one.
 pub record IsWhole (n : ℕ) (past : List Entry) (epoch : ℕ) (batch : BatchView) : Type 0 where
   pub best : ℕ
   pub at_place : List Entry
@@ -191,7 +195,8 @@ IsJournaled past epoch txid body =
     × ((head : HeadView) × (start : ℕ) × (batch : BatchView) × (head.epoch ≡ epoch) × IsOf e (Journal head start batch)
     × HasBody batch.first batch.bodies txid body)
 
--- An epoch is the author of the line up to a txid: its owner journaled all from its first start to there, as it stands on the line.
+-- An epoch is the author of the line up to a txid: its owner journaled all from its first start to
+-- there, as it stands on the line.
 pub record IsAuthor (n : ℕ) (past : List Entry) (epoch first txid : ℕ) : Type 0 where
   pub started : (old : List Entry) × (e : Entry) × Earlier (e ∷ old) past × IsStart e epoch first
   pub is_first : (old : List Entry) (e : Entry) (start : ℕ) → Earlier (e ∷ old) past → IsStart e epoch start → first ≤ start
@@ -204,7 +209,8 @@ LineHasAuthors =
     → (epoch : ℕ) × (first : ℕ) × IsAuthor n (reverse entries) epoch first txid
 
 -- ## What put an entry of the line there
--- a `journal` request came that has this body at this txid, and all of its batch up to there stands on the line
+-- a `journal` request came that has this body at this txid, and all of its batch up to there stands
+-- on the line
 pub record IsPutByJournal (n : ℕ) (past : List Entry) (txid : ℕ) (body : List ℕ) : Type 0 where
   pub old : List Entry
   pub entry : Entry
@@ -238,7 +244,8 @@ ToldNewest past node epoch told =
     (old : List Entry) × (e : Entry) × Earlier (e ∷ old) past × (e.node ≡ node)
     × ((caller : ℕ) × (e.move ≡ Answer caller Heard (NewEpoch epoch) (EpochTaken told)))
 
--- Where a body is chosen, one of any majority that answered a proposal of a higher epoch held it, and told a start that isn't below its segment's.
+-- Where a body is chosen, one of any majority that answered a proposal of a higher epoch held it,
+-- and told a start that isn't below its segment's.
 abbrev pub ProposalsAreTold : Type 0
 ProposalsAreTold =
     (n : ℕ) (entries : List Entry) (epoch higher txid : ℕ) (body nodes : List ℕ) → IsRun n entries
@@ -248,7 +255,8 @@ ProposalsAreTold =
     × (g.start ≤ start) × ToldNewest (reverse entries) node higher (Some start)
 
 -- ## What a purge may remove
--- A segment goes from a node by a purge alone, whose committed txid it doesn't pass; neither the open segment goes nor the newest with an edit.
+-- A segment goes from a node by a purge alone, whose committed txid it doesn't pass; neither the
+-- open segment goes nor the newest with an edit.
 abbrev pub OnlyPurgesRemove : Type 0
 OnlyPurgesRemove =
     (n : ℕ) (entries old : List Entry) (e : Entry) (node start : ℕ) (g : Segment) → IsRun n entries
@@ -267,8 +275,9 @@ abbrev pub NoneToldPrepare : ℕ → List Entry → ℕ → ℕ → Type 0
 NoneToldPrepare n past epoch start =
     (nodes : List ℕ) × IsMajority n nodes × ((node : ℕ) → Member node nodes → (old : List Entry) × ToldPrepare past old node epoch start None)
 
--- A segment that is opened is the first one, where no start was told; or one of which nothing was told; or it comes right after the end of a finalise
--- that was done under the same epoch. So a takeover leaves its recovery out only where a majority told that there is nothing to recover.
+-- A segment that is opened is the first one, where no start was told; or one of which nothing was
+-- told; or it comes right after the end of a finalise that was done under the same epoch. So a
+-- takeover leaves its recovery out only where a majority told that there is nothing to recover.
 abbrev pub OpeningsHaveACause : Type 0
 OpeningsHaveACause =
     (n : ℕ) (entries old : List Entry) (e : Entry) (epoch start : ℕ) → IsRun n entries

@@ -1,4 +1,5 @@
--- Runs of the journal world: lists of moving entries, each of which may come after the ones before it.
+-- Runs of the journal world: lists of moving entries, each of which may come after the ones before
+-- it.
 use Rattle.std.specs.Prelude.{ℕ, ◌<◌, ◌≤◌, ◌≡◌, ◌≢◌, ◌⊎◌, Bool, true, false, List, [], ◌∷◌, length, reverse, Some}
 use Rattle.std.specs.List.{list_all}
 use Rattle.journal_core.specs.declared.node_state.NodeState.{NodeState}
@@ -9,16 +10,17 @@ use Rattle.journal_core.specs.Step.{node_step, effects_of}
 use Rattle.writer_core.specs.declared.task.Task.{Task}
 use Rattle.writer_core.specs.declared.task.Task.TheVariants as task
 use Rattle.writer_core.specs.Whole.{Takeover, TaskProgress, writer_at, request_of_round, calls}
-use Rattle.node_history.specs.Entries.{Way, Heard, Muted, Late, Move, Answer, Stop, Kill, Restart, Entry, after_move, node_after, Earlier}
+use Rattle.journal_history.specs.Entries.{Way, Heard, Muted, Late, Move, Answer, Stop, Kill, Restart, Entry, after_move, node_after, Earlier}
 
--- What a list of entries doesn't tell: the takeovers, by number, and which takeover and which round of it each call belongs to. A place of
--- the list is named by the number of entries before it.
+-- What a list of entries doesn't tell: the takeovers, by number, and which takeover and which round
+-- of it each call belongs to. A place of the list is named by the number of entries before it.
 pub record Story : Type 0 where
   pub takeover : ℕ → Takeover
   pub whose : ℕ → ℕ
   pub round : ℕ → ℕ
 
--- Lists of entries stand newest first from here on, up to IsRun. `past` is what stands before a place.
+-- Lists of entries stand newest first from here on, up to IsRun. `past` is what stands before a
+-- place.
 abbrev pub takeover_at : Story → List Entry → Takeover
 takeover_at story past = story.takeover (story.whose (length past))
 
@@ -43,8 +45,8 @@ may_follow task.Roll = true
 may_follow task.Close = true
 may_follow (task.Purge min) = true
 
--- The request is one that the takeover makes to this node, in this round, from what it heard before; and all that it heard in earlier
--- rounds stands before this place.
+-- The request is one that the takeover makes to this node, in this round, from what it heard
+-- before; and all that it heard in earlier rounds stands before this place.
 pub record IsMade (n : ℕ) (story : Story) (past : List Entry) (caller node : ℕ) (request : Request) : Type 0 where
   pub by : (takeover_at story past).caller ≡ caller
   pub tasks_follow : list_all may_follow (takeover_at story past).tasks ≡ true
@@ -63,7 +65,8 @@ IsInTurn (Stop caller late request keep) = (late ≡ false) × (0 < keep)
 IsInTurn Kill = ⊥
 IsInTurn Restart = ⊥
 
--- The calls of one takeover that stand before are of earlier rounds, or of this round at lower nodes.
+-- The calls of one takeover that stand before are of earlier rounds, or of this round at lower
+-- nodes.
 abbrev pub IsInOrder : Story → List Entry → ℕ → Type 0
 IsInOrder story past node =
     (old : List Entry) (e : Entry) → Earlier (e ∷ old) past → story.whose (length old) ≡ story.whose (length past) → IsInTurn e.move
@@ -79,7 +82,8 @@ pub record IsCall (n : ℕ) (story : Story) (past : List Entry) (caller node : �
   pub made : IsMade n story past caller node request
   pub in_order : IsInTurn move → IsInOrder story past node
 
--- What may come next at a node in this state. A stop after no effect counts as a kill, whatever was asked.
+-- What may come next at a node in this state. A stop after no effect counts as a kill, whatever was
+-- asked.
 abbrev pub IsNext : ℕ → Story → List Entry → ℕ → NodeState → Move → Type 0
 IsNext n story past node s (Answer caller way request reply) =
     IsCall n story past caller node request (Answer caller way request reply)

@@ -1,4 +1,5 @@
--- What a run keeps: acknowledged edits, recovered logs, the line of chosen edits. Lists of entries stand newest first, but in IsSafe.
+-- What a run keeps: acknowledged edits, recovered logs, the line of chosen edits. Lists of entries
+-- stand newest first, but in IsSafe.
 use Rattle.std.specs.Prelude.{ℕ, ◌+◌, ◌<◌, ◌≤◌, ◌≡◌, ◌⊎◌, Bool, true, List, [], ◌∷◌, ◌++◌, length, reverse, Some, slice_get}
 use Rattle.journal_core.specs.Views.{HeadView, BatchView}
 use Rattle.journal_core.specs.declared.segment.Segment.{Segment}
@@ -8,7 +9,7 @@ use Rattle.journal_core.specs.declared.reply.Reply.{Reply}
 use Rattle.journal_core.specs.declared.reply.Reply.TheVariants.{Ok}
 use Rattle.journal_core.specs.Segments.{find_segment, HasAt}
 use Rattle.run_safety.specs.Majority.{Member, IsMajority}
-use Rattle.node_history.specs.Entries.{Way, Heard, Answer, Stop, Entry, Earlier, node_after}
+use Rattle.journal_history.specs.Entries.{Way, Heard, Answer, Stop, Entry, Earlier, node_after}
 
 -- the k-th body of a list that begins at a txid
 abbrev pub HasBody : ℕ → List (List ℕ) → ℕ → List ℕ → Type 0
@@ -19,13 +20,15 @@ HasBody first bodies txid body = (k : ℕ) × (txid ≡ first + k) × (slice_get
 abbrev pub IsHeld : List Entry → ℕ → Segment → Type 0
 IsHeld past node g = (old : List Entry) × Earlier old past × (find_segment g.start (node_after node old).segments ≡ Some g)
 
--- a majority of nodes each held, at some place, a segment with this header epoch that has this body at this txid
+-- a majority of nodes each held, at some place, a segment with this header epoch that has this body
+-- at this txid
 abbrev pub IsChosen : ℕ → List Entry → ℕ → ℕ → List ℕ → Type 0
 IsChosen n past epoch txid body =
     (nodes : List ℕ) × IsMajority n nodes
     × ((node : ℕ) → Member node nodes → (g : Segment) × IsHeld past node g × (g.epoch ≡ epoch) × HasAt g txid body)
 
--- The line has this body at this txid: each txid up to it has a chosen body, and this one is chosen under the least epoch there.
+-- The line has this body at this txid: each txid up to it has a chosen body, and this one is chosen
+-- under the least epoch there.
 pub record IsOnLine (n : ℕ) (past : List Entry) (txid : ℕ) (body : List ℕ) : Type 0 where
   pub from_one : 1 ≤ txid
   pub below : (t : ℕ) → 1 ≤ t → t < txid → (e : ℕ) × (b : List ℕ) × IsChosen n past e t b
@@ -73,13 +76,15 @@ IsLowestFinal n old g =
     (node : ℕ) × HoldsFinal n old node g
     × ((lower : ℕ) (other : Segment) → lower < node → other.start ≡ g.start → HoldsFinal n old lower other → ⊥)
 
--- final segments that nodes hold now reach from the one txid to right below the other, without a gap, with these bodies
+-- final segments that nodes hold now reach from the one txid to right below the other, without a
+-- gap, with these bodies
 pub data Reaches (n : ℕ) (old : List Entry) : ℕ → ℕ → List (List ℕ) → Type 0 where
   there : {first : ℕ} → Reaches n old first first []
   segment : {first : ℕ} {bodies : List (List ℕ)} (g : Segment) → IsLowestFinal n old g
       → Reaches n old (g.start + length g.bodies) first bodies → Reaches n old g.start first (g.bodies ++ bodies)
 
--- The log that an epoch recovered: just before its first `start`, the final segments that reach to it from the least txid.
+-- The log that an epoch recovered: just before its first `start`, the final segments that reach to
+-- it from the least txid.
 pub record IsRecovered (n : ℕ) (past : List Entry) (epoch first kept : ℕ) (log : List (List ℕ)) : Type 0 where
   pub at_place : List Entry
   pub is_first : IsFirstStart past epoch first at_place
@@ -87,8 +92,8 @@ pub record IsRecovered (n : ℕ) (past : List Entry) (epoch first kept : ℕ) (l
   pub least : (k : ℕ) (other : List (List ℕ)) → Reaches n at_place k first other → kept ≤ k
 
 -- ## Safety
--- Each acknowledged edit is on the line. And for each higher epoch that began a segment, it stands below the first one's start, and in the
--- recovered log where that reaches back to it.
+-- Each acknowledged edit is on the line. And for each higher epoch that began a segment, it stands
+-- below the first one's start, and in the recovered log where that reaches back to it.
 abbrev pub AcknowledgedSurvive : ℕ → List Entry → Type 0
 AcknowledgedSurvive n past =
     (epoch txid : ℕ) (body : List ℕ) → IsAcknowledged n past epoch txid body

@@ -1,6 +1,6 @@
-// What can happen in the journal world.
+//! What can happen in the journal world.
 use journal_core::SharedRequest;
-use node_history::Stop;
+use journal_history::Stop;
 use writer_core::Task;
 
 /// What becomes of a call.

@@ -1,4 +1,5 @@
-// What holds of every run of the journal world. Each law is the contract of a function that does nothing.
+//! What holds of every run of the journal world. Each law is the contract of a function that does
+//! nothing.
 ghost use Rattle.run_safety.specs.Laws.{PrefixIsRun, MajoritiesShareANode, PromiseNeverFalls, UnmovedLeavesStates, EveryRunIsSafe, ChosenOnce, ChosenIsOnLine, LineGoesOn, ServedIsOnLine, KnownCommittedIsOnLine, CarriedCommittedIsOnLine, KnownCommittedIsChosen, CarriedCommittedIsChosen};
 ghost use Rattle.run_safety.specs.Parts.{PromisesHold, AnswersArePromised, OneOwnerAnEpoch, WrittenOnce, StartsAreChained, SegmentsAreChained, StartsAreNext, ChosenSurvives, StartsAreAbove, FinalisedIsChosen, NewestNeverFalls, RecoveryIsWhole, LineHasAuthors, LineIsPutByJournals, OpenedOrAccepted, ProposalsAreTold, OnlyPurgesRemove, FinalCopiesHaveAll, FinalCopiesAreKept, OpeningsHaveACause, FinalisedStays};
 
@@ -22,8 +23,9 @@ pub fn unmoved_leaves_states()
     ensures { UnmovedLeavesStates }
 {}
 
-/// Every run is safe: each acknowledged edit is on the line, below each higher epoch's first start, and in each higher epoch's
-/// recovered log that reaches back to it; final segments with one start are equal.
+/// Every run is safe: each acknowledged edit is on the line, below each higher epoch's first start,
+/// and in each higher epoch's recovered log that reaches back to it; final segments with one start
+/// are equal.
 pub fn every_run_is_safe()
     ensures { EveryRunIsSafe }
 {}
@@ -58,18 +60,20 @@ pub fn carried_committed_is_on_line()
     ensures { CarriedCommittedIsOnLine }
 {}
 
-/// Each txid up to the one that a node knows to be committed is chosen, under an epoch that its promise isn't below.
+/// Each txid up to the one that a node knows to be committed is chosen, under an epoch that its
+/// promise isn't below.
 pub fn known_committed_is_chosen()
     ensures { KnownCommittedIsChosen }
 {}
 
-/// Each txid up to the one that a request carries as committed is chosen, under an epoch that isn't above the request's.
+/// Each txid up to the one that a request carries as committed is chosen, under an epoch that isn't
+/// above the request's.
 pub fn carried_committed_is_chosen()
     ensures { CarriedCommittedIsChosen }
 {}
 
-/// After whatever came, a node's promise bounds its writer epoch and each header that it holds, and its open segment
-/// has the promise.
+/// After whatever came, a node's promise bounds its writer epoch and each header that it holds, and
+/// its open segment has the promise.
 pub fn promises_hold()
     ensures { PromisesHold }
 {}
@@ -89,8 +93,8 @@ pub fn written_once()
     ensures { WrittenOnce }
 {}
 
-/// Each segment that is begun starts at 1 or right after the end of a finalise that was done under its epoch or a
-/// lower one.
+/// Each segment that is begun starts at 1 or right after the end of a finalise that was done under
+/// its epoch or a lower one.
 pub fn starts_are_chained()
     ensures { StartsAreChained }
 {}
@@ -100,8 +104,8 @@ pub fn segments_are_chained()
     ensures { SegmentsAreChained }
 {}
 
-/// Between the start of a segment for which a finalise was done and its end no other segment begins: so each start comes right after
-/// the end of the start before it.
+/// Between the start of a segment for which a finalise was done and its end no other segment
+/// begins: so each start comes right after the end of the start before it.
 pub fn starts_are_next()
     ensures { StartsAreNext }
 {}
@@ -126,18 +130,20 @@ pub fn newest_never_falls()
     ensures { NewestNeverFalls }
 {}
 
-/// What is accepted is the whole segment that the node of the best prepare answer held when it answered.
+/// What is accepted is the whole segment that the node of the best prepare answer held when it
+/// answered.
 pub fn recovery_is_whole()
     ensures { RecoveryIsWhole }
 {}
 
-/// What is on the line has an author: an epoch whose owner journaled all from its first start to there, as it stands on the
-/// line.
+/// What is on the line has an author: an epoch whose owner journaled all from its first start to
+/// there, as it stands on the line.
 pub fn line_has_authors()
     ensures { LineHasAuthors }
 {}
 
-/// What is on the line was put there by a `journal` request whose whole batch up to it stands on the line.
+/// What is on the line was put there by a `journal` request whose whole batch up to it stands on
+/// the line.
 pub fn line_is_put_by_journals()
     ensures { LineIsPutByJournals }
 {}
@@ -147,12 +153,14 @@ pub fn segments_are_opened_or_accepted()
     ensures { OpenedOrAccepted }
 {}
 
-/// Where a body is chosen, each majority that answered a proposal of a higher epoch tells a start that isn't below its segment's.
+/// Where a body is chosen, each majority that answered a proposal of a higher epoch tells a start
+/// that isn't below its segment's.
 pub fn proposals_are_told()
     ensures { ProposalsAreTold }
 {}
 
-/// A segment goes from a node by a purge alone, whose committed txid it doesn't pass; the newest with an edit stays.
+/// A segment goes from a node by a purge alone, whose committed txid it doesn't pass; the newest
+/// with an edit stays.
 pub fn only_purges_remove()
     ensures { OnlyPurgesRemove }
 {}
@@ -167,14 +175,14 @@ pub fn final_copies_are_kept()
     ensures { FinalCopiesAreKept }
 {}
 
-/// A takeover leaves its recovery out only where a majority told that there is nothing to recover; each later segment comes right after
-/// a finalise that was done under the same epoch.
+/// A takeover leaves its recovery out only where a majority told that there is nothing to recover;
+/// each later segment comes right after a finalise that was done under the same epoch.
 pub fn openings_have_a_cause()
     ensures { OpeningsHaveACause }
 {}
 
-/// A node that answered a finalise with Ok holds the segment, final and to that end, unless a later start has an acknowledged edit under
-/// an epoch that isn't above the node's promise.
+/// A node that answered a finalise with Ok holds the segment, final and to that end, unless a later
+/// start has an acknowledged edit under an epoch that isn't above the node's promise.
 pub fn finalised_stays()
     ensures { FinalisedStays }
 {}

@@ -1,5 +1,5 @@
-//! Runs of the journal world: what can happen in it, what a run is, why every run is safe and what else it keeps, and how callers that
-//! go on by the writer's rounds make one.
+//! Runs of the journal world: what can happen in it, what a run is, why every run is safe and what
+//! else it keeps, and how callers that go on by the writer's rounds make one.
 #![tactic(auto)]
 
 mod event;

@@ -1,4 +1,5 @@
--- The parts of the nodes while a round is heard, against the parts that it began with and the table of what was heard.
+-- The parts of the nodes while a round is heard, against the parts that it began with and the table
+-- of what was heard.
 use Rattle.std.proofs.Common.{◌≡◌, ◌≢◌, ℕ, zero, suc, ◌+◌, ◌≤◌, List, [], ◌∷◌, false, refl, sym, ap, ◌∙◌, subst, arith, map, set, slice_get, Option, Some, None}
 use Rattle.std.specs.List.{list_any}
 use Rattle.journal_core.specs.declared.reply.Reply.{Reply}
@@ -14,7 +15,8 @@ fill o Waiting = Told (heard_of o)
 fill o LeftOut = LeftOut
 fill o (Told h) = Told h
 
--- A part that waits did so from the beginning, and the table has no answer of that node yet; any other is what the table makes of it.
+-- A part that waits did so from the beginning, and the table has no answer of that node yet; any
+-- other is what the table makes of it.
 abbrev pub FillsOne : Slot → Option Reply → Slot → Type 0
 FillsOne Waiting o y = (y ≡ Waiting) × (o ≡ None)
 FillsOne LeftOut o y = plain_slot (fill o y) ≡ LeftOut
@@ -118,5 +120,6 @@ fills_whole node heard [] (y ∷ ys) none f = absurd f
 fills_whole node heard (x ∷ xs) [] none f = absurd f
 fills_whole node heard (x ∷ xs) (y ∷ ys) none f =
     let w : (is_waiting x ≡ false) × (list_any is_waiting xs ≡ false) = none_waits x xs none in
-    cons_same (plain_slot x) (plain_slot (fill (heard node) y)) (map plain_slot xs) (map plain_slot (fill_slots (node + 1) heard ys)) (whole_one x (heard node) y w.0 f.0) (fills_whole (node + 1) heard xs ys w.1 f.1)
+    cons_same (plain_slot x) (plain_slot (fill (heard node) y)) (map plain_slot xs) (map plain_slot (fill_slots (node + 1) heard ys))
+    (whole_one x (heard node) y w.0 f.0) (fills_whole (node + 1) heard xs ys w.1 f.1)
     ∙ ap (λ (l : List Slot). map plain_slot l) (sym (filled_cons node heard y ys))

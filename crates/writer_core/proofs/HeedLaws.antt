@@ -20,7 +20,9 @@ use Rattle.writer_core.specs.declared.turn.Turn.TheVariants as turn
 use Rattle.writer_core.specs.Views.{WriterView}
 use Rattle.writer_core.specs.Answers.{fits_edits, fits_round, fits_state, fits_propose, fits_prepare, is_ok, has_majority}
 use Rattle.writer_core.specs.Best.{Best, better, told_by, promise_in, promise_told, greatest_promise, greater, newest_in, newest_told, greatest_newest, segment_in, segment_told, best_from, best_of}
-use Rattle.writer_core.specs.Rounds.{numbers_fit, left_out_after, judgment, judgment_by, after_round, with_causes, keep_going, stops_with, next_serial, begin_propose, after_propose, begin_recovery, after_finalize, after_open, after_write, failure_of, after_no_edits, keep_piece, after_edits, after_fetch}
+use Rattle.writer_core.specs.Rounds.{numbers_fit, left_out_after, judgment, judgment_by, after_round, with_causes, keep_going, stops_with}
+use Rattle.writer_core.specs.Rounds.{next_serial, begin_propose, after_propose, begin_recovery, after_finalize, after_open, after_write, failure_of}
+use Rattle.writer_core.specs.Rounds.{after_no_edits, keep_piece, after_edits, after_fetch}
 use Rattle.writer_core.specs.Whole.{heard_of, fill_slots, round_heard}
 use Rattle.writer_core.specs.Current.{is_fetch}
 use Rattle.writer_core.specs.Heed.{is_counted_reply, answer_if, counted_reply, slot_if, counted_slot, counted_slots, bare, bare_judgment}
@@ -120,8 +122,11 @@ done_bare : (r : Round) (w : WriterView) (slots : List Slot) → is_fetch r ≡ 
     ≡ bare_judgment (after_round r (with_causes r (record w { slots = map (counted_slot r) slots; causes = [] })))
 done_bare round.State w slots f = rw (promise_heeded slots) (state (greatest_promise slots) (nat_lt (greatest_promise slots) max_number))
   where
-    state : (told : ℕ) (b : Bool) → bare_judgment (cond b (keep_going (begin_propose told (with_causes round.State (record w { slots = slots })))) (stops_with (turn.EpochLimit told) (with_causes round.State (record w { slots = slots }))))
-        ≡ bare_judgment (cond b (keep_going (begin_propose told (with_causes round.State (record w { slots = map (counted_slot round.State) slots; causes = [] })))) (stops_with (turn.EpochLimit told) (with_causes round.State (record w { slots = map (counted_slot round.State) slots; causes = [] }))))
+    state : (told : ℕ) (b : Bool) → bare_judgment (cond b (keep_going (begin_propose told (with_causes round.State (record w { slots = slots }))))
+        (stops_with (turn.EpochLimit told) (with_causes round.State (record w { slots = slots }))))
+        ≡ bare_judgment (cond b (keep_going (begin_propose told (with_causes round.State
+        (record w { slots = map (counted_slot round.State) slots; causes = [] }))))
+        (stops_with (turn.EpochLimit told) (with_causes round.State (record w { slots = map (counted_slot round.State) slots; causes = [] }))))
     state told true = refl
     state told false = refl
 done_bare round.Propose w slots f = rw (newest_heeded slots) (proposed (greatest_newest slots))
@@ -152,18 +157,25 @@ done_bare round.Open w slots f = opened w.aim (left_out_after round.Open slots) 
   where
     opened : (a : Aim) (x y : List Bool) → y ≡ x
         → bare_judgment (after_open a (record (next_serial (with_causes round.Open (record w { slots = slots }))) { committed = w.start; next = w.start + 1; left = x }))
-        ≡ bare_judgment (after_open a (record (next_serial (with_causes round.Open (record w { slots = map (counted_slot round.Open) slots; causes = [] }))) { committed = w.start; next = w.start + 1; left = y }))
+        ≡ bare_judgment (after_open a (record (next_serial (with_causes round.Open
+        (record w { slots = map (counted_slot round.Open) slots; causes = [] }))) { committed = w.start; next = w.start + 1; left = y }))
     opened aim.Roll x y e = rw e refl
     opened aim.Takeover x y e = rw e refl
     opened aim.Log x y e = rw e refl
     opened aim.Close x y e = rw e refl
     opened aim.Purge x y e = rw e refl
 done_bare (round.Write bodies) w slots f =
-    written (w.next + length bodies - 1) w.aim (left_out_after (round.Write bodies) slots) (left_out_after (round.Write bodies) (map (counted_slot (round.Write bodies)) slots)) (missed_heeded (round.Write bodies) slots)
+    written (w.next + length bodies - 1) w.aim (left_out_after (round.Write bodies) slots)
+    (left_out_after (round.Write bodies) (map (counted_slot (round.Write bodies)) slots)) (missed_heeded (round.Write bodies) slots)
   where
     written : (last : ℕ) (a : Aim) (x y : List Bool) → y ≡ x
         → bare_judgment (after_write a w.next last (record (next_serial (with_causes (round.Write bodies) (record w { slots = slots }))) { committed = last; next = last + 1; left = x }))
-        ≡ bare_judgment (after_write a w.next last (record (next_serial (with_causes (round.Write bodies) (record w { slots = map (counted_slot (round.Write bodies)) slots; causes = [] }))) { committed = last; next = last + 1; left = y }))
+        ≡ bare_judgment (after_write a w.next last (record (next_serial
+        (with_causes (round.Write bodies) (record w { slots = map (counted_slot (round.Write bodies)) slots; causes = [] }))) {
+          committed = last;
+          next = last + 1;
+          left = y;
+        }))
     written last aim.Roll x y e = rw e refl
     written last aim.Close x y e = rw e refl
     written last aim.Takeover x y e = rw e refl
@@ -215,7 +227,8 @@ heard_heeded : (r : Round) (w : WriterView) (o : Option Reply) → is_fetch r �
 heard_heeded r w None f = refl
 heard_heeded r w (Some answer) f = rw (heeds_round r w answer f) (told_or r answer (fits_round r answer))
 
-told_stays : (r : Round) (node : ℕ) (table : ℕ → Option Reply) (answer : Reply) (b : Bool) (slots : List Slot) → fill_slots node table (slot_if b answer ∷ slots) ≡ slot_if b answer ∷ fill_slots (node + 1) table slots
+told_stays : (r : Round) (node : ℕ) (table : ℕ → Option Reply) (answer : Reply) (b : Bool) (slots : List Slot)
+    → fill_slots node table (slot_if b answer ∷ slots) ≡ slot_if b answer ∷ fill_slots (node + 1) table slots
 unfolding fill_slots
 told_stays r node table answer true slots = refl
 told_stays r node table answer false slots = refl
@@ -275,13 +288,15 @@ edits_bare : (b : Bool) (node start end : ℕ) (bodies : List (List ℕ)) (batch
 unfolding after_fetch
 edits_bare true node start end bodies batch w e =
     let more : List (List ℕ) = bodies ++ take (end + 1 - (start + length bodies)) batch.bodies in
-    let n : (numbers_fit (record w { slots = map (counted_slot (round.Prepare start)) w.slots; causes = [] }) (round.Fetch node start end bodies) && fits_edits (start + length bodies) batch) ≡ true = e in
+    let n : (numbers_fit (record w { slots = map (counted_slot (round.Prepare start)) w.slots; causes = [] }) (round.Fetch node start end bodies) &&
+    fits_edits (start + length bodies) batch) ≡ true = e in
     rw n (ap (λ (v : WriterView). record { writer = v; turn = turn.Going }) (pieced_bare (nat_lt end (start + length more)) node start end more (next_serial w) refl))
 edits_bare false node start end bodies batch w e = lost_bare node start Silent w
 
 fetched_bare : (node start end : ℕ) (bodies : List (List ℕ)) (o : Option Reply) (w : WriterView)
     → bare_judgment (after_fetch node start end bodies (heard_of o) w)
-    ≡ bare_judgment (after_fetch node start end bodies (heard_of (counted_reply w (round.Fetch node start end bodies) o)) (record w { slots = map (counted_slot (round.Prepare start)) w.slots; causes = [] }))
+    ≡ bare_judgment (after_fetch node start end bodies (heard_of (counted_reply w (round.Fetch node start end bodies) o))
+    (record w { slots = map (counted_slot (round.Prepare start)) w.slots; causes = [] }))
 unfolding after_fetch
 fetched_bare node start end bodies None w = lost_bare node start Silent w
 fetched_bare node start end bodies (Some (reply.Edits batch)) w =
@@ -293,7 +308,8 @@ round_bare : (r : Round) (heard : ℕ → Option Reply) (w : WriterView) → w.p
     → bare_judgment (round_heard r heard w) ≡ bare_judgment (round_heard r (λ n. counted_reply w r (heard n)) (bare w))
 round_bare (round.Fetch node start end bodies) heard w p =
     fetched_bare node start end bodies (heard node) w
-    ∙ ap (λ (v : WriterView). bare_judgment (after_fetch node start end bodies (heard_of (counted_reply w (round.Fetch node start end bodies) (heard node))) v)) (sym (parts_alike node start end bodies w p))
+    ∙ ap (λ (v : WriterView). bare_judgment (after_fetch node start end bodies
+    (heard_of (counted_reply w (round.Fetch node start end bodies) (heard node))) v)) (sym (parts_alike node start end bodies w p))
 round_bare round.State heard w p = several_bare round.State heard w refl p
 round_bare round.Propose heard w p = several_bare round.Propose heard w refl p
 round_bare (round.Prepare start) heard w p = several_bare (round.Prepare start) heard w refl p

@@ -1,5 +1,6 @@
 -- What a round's judgement rests on.
-use Rattle.std.proofs.Common.{ℕ, ◌≡◌, ◌<◌, ◌≤◌, ◌+◌, ◌-◌, ◌*◌, ◌&&◌, List, [], length, Bool, true, false, cond, Option, Some, None, Ok, Err, refl, sym, ap, arith, ◌∙◌, position, set, slice_get, count_by, sum_by, get_or, nat_lt}
+use Rattle.std.proofs.Common.{ℕ, ◌≡◌, ◌<◌, ◌≤◌, ◌+◌, ◌-◌, ◌*◌, ◌&&◌, List, [], length, Bool, true, false, cond, Option, Some, None, Ok, Err, refl}
+use Rattle.std.proofs.Common.{sym, ap, arith, ◌∙◌, position, set, slice_get, count_by, sum_by, get_or, nat_lt}
 use Rattle.std.proofs.lemmas.List.Sums.{sum_by-set}
 use Rattle.std.proofs.lemmas.Option.{slice_get_within, get_or_from_slice_get}
 use Rattle.std.proofs.lemmas.Bool.Decides.{nat_tests}
@@ -22,7 +23,8 @@ use Rattle.writer_core.specs.declared.turn.Turn.TheVariants as turn
 use Rattle.writer_core.specs.Views.{WriterView}
 use Rattle.writer_core.specs.Answers.{is_ok, cause_of, has_majority}
 use Rattle.writer_core.specs.Best.{Best, best_of}
-use Rattle.writer_core.specs.Rounds.{numbers_fit, with_causes, Judgment, judgment, judgment_by, keep_going, stops_with, next_serial, begin_recovery, failure_of, without_answer_of, after_no_edits, after_fetch}
+use Rattle.writer_core.specs.Rounds.{numbers_fit, with_causes, Judgment, judgment, judgment_by, keep_going, stops_with, next_serial, begin_recovery}
+use Rattle.writer_core.specs.Rounds.{failure_of, without_answer_of, after_no_edits, after_fetch}
 use Rattle.writer_core.specs.Sound.{IsOkAt}
 use Rattle.writer_core.specs.Stages.{round_of}
 use Rattle.writer_core.specs.Current.{round_in, piece_fits, fetched_in, edits_heard}

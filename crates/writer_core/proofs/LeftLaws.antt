@@ -1,5 +1,6 @@
 -- Each answer leaves fewer calls to make, and while a round is under way one is to be made.
-use Rattle.std.proofs.Common.{ℕ, ◌≡◌, ◌<◌, ◌≤◌, ◌+◌, ◌-◌, ◌*◌, ◌&&◌, ◌++◌, List, [], ◌∷◌, length, Option, Some, None, Bool, true, false, cond, refl, sym, ap, arith, suc, zero, ◌∙◌, set, take, slice_get, ◌==◌, position, option_map, count_by, nat_lt, length-append}
+use Rattle.std.proofs.Common.{ℕ, ◌≡◌, ◌<◌, ◌≤◌, ◌+◌, ◌-◌, ◌*◌, ◌&&◌, ◌++◌, List, [], ◌∷◌, length, Option, Some, None, Bool, true, false, cond, refl}
+use Rattle.std.proofs.Common.{sym, ap, arith, suc, zero, ◌∙◌, set, take, slice_get, ◌==◌, position, option_map, count_by, nat_lt, length-append}
 use Rattle.std.specs.List.{list_any, position_or_len}
 use Rattle.std.proofs.lemmas.Bool.Decides.{nat_tests}
 use Rattle.std.proofs.lemmas.List.{length-map, length-set}
@@ -25,7 +26,9 @@ use Rattle.writer_core.specs.declared.turn.Turn.TheVariants as turn
 use Rattle.writer_core.specs.Views.{WriterView}
 use Rattle.writer_core.specs.Answers.{fits, fits_edits, is_ok, is_waiting, has_majority}
 use Rattle.writer_core.specs.Best.{Best, best_of, greatest_promise, greatest_newest}
-use Rattle.writer_core.specs.Rounds.{to_all, to_others, left_out_after, numbers_fit, judgment, judgment_by, after_round, keep_going, stops_with, with_causes, next_serial, begin_propose, after_propose, begin_recovery, after_finalize, after_open, after_write, failure_of, without_answer_of, after_no_edits, keep_piece, after_edits, after_fetch}
+use Rattle.writer_core.specs.Rounds.{to_all, to_others, left_out_after, numbers_fit, judgment, judgment_by, after_round, keep_going, stops_with}
+use Rattle.writer_core.specs.Rounds.{with_causes, next_serial, begin_propose, after_propose, begin_recovery, after_finalize, after_open, after_write}
+use Rattle.writer_core.specs.Rounds.{failure_of, without_answer_of, after_no_edits, keep_piece, after_edits, after_fetch}
 use Rattle.writer_core.specs.Writer.{is_under_way, next_call, call_in, writer_heard, heard_at, heard_in, judgment_when, with_answer}
 use Rattle.writer_core.specs.Current.{is_fetch}
 use Rattle.writer_core.specs.Sound.{IsOkAt, IsSound, PhaseIsSound}
@@ -51,7 +54,9 @@ left_missed r slots = simp length-map
 done_left : (r : Round) (w : WriterView) → is_fetch r ≡ false → length w.left ≡ length w.slots
     → calls_left (after_round r w).writer ≤ calls_after r (length w.left)
 done_left round.State w f e =
-    elim (nat_lt (greatest_promise w.slots) max_number) as (λ b. calls_left (cond b (keep_going (begin_propose (greatest_promise w.slots) w)) (stops_with (turn.EpochLimit (greatest_promise w.slots)) w)).writer ≤ (most_pieces + 6) * length w.left)
+    elim (nat_lt (greatest_promise w.slots) max_number) as (λ b. calls_left
+    (cond b (keep_going (begin_propose (greatest_promise w.slots) w)) (stops_with (turn.EpochLimit (greatest_promise w.slots)) w)).writer ≤
+    (most_pieces + 6) * length w.left)
     [ true ↦ omega (arith, all_wait w.left) | false ↦ omega arith ]
 done_left round.Propose w f e = proposed (greatest_newest w.slots)
   where
@@ -87,7 +92,12 @@ done_left (round.Write bodies) w f e = written w.aim
     last : ℕ
     last = w.next + length bodies - 1
 
-    written : (a : Aim) → calls_left (after_write a w.next (w.next + length bodies - 1) (record (next_serial w) { committed = w.next + length bodies - 1; next = w.next + length bodies - 1 + 1; left = left_out_after (round.Write bodies) w.slots })).writer ≤ 3 * length w.left
+    written : (a : Aim) → calls_left (after_write a w.next (w.next + length bodies - 1)
+        (record (next_serial w) {
+          committed = w.next + length bodies - 1;
+          next = w.next + length bodies - 1 + 1;
+          left = left_out_after (round.Write bodies) w.slots;
+        })).writer ≤ 3 * length w.left
     written aim.Roll = omega (arith, others_wait (left_out_after (round.Write bodies) w.slots), left_missed (round.Write bodies) w.slots, e)
     written aim.Close = omega (arith, others_wait (left_out_after (round.Write bodies) w.slots), left_missed (round.Write bodies) w.slots, e)
     written aim.Takeover = omega arith

@@ -1,5 +1,7 @@
 -- While a round is under way some node is to be called.
-use Rattle.std.proofs.Common.{ℕ, ◌≡◌, ◌<◌, ◌≤◌, ◌+◌, ◌-◌, ◌*◌, ◌&&◌, ◌||◌, ◌++◌, List, [], ◌∷◌, length, Option, Some, None, IfSome, Bool, true, false, cond, not, refl, sym, arith, suc, zero, ◌∙◌, set, map, take, position, count_by, nat_lt, is_some, replicate, option_map, ap}
+use Rattle.std.proofs.Common.{ℕ, ◌≡◌, ◌<◌, ◌≤◌, ◌+◌, ◌-◌, ◌*◌, ◌&&◌, ◌||◌, ◌++◌, List, [], ◌∷◌, length, Option, Some, None, IfSome, Bool, true, false}
+use Rattle.std.proofs.Common.{cond, not, refl, sym, arith, suc, zero, ◌∙◌, set, map, take, position, count_by, nat_lt, is_some, replicate, option_map}
+use Rattle.std.proofs.Common.{ap}
 use Rattle.std.specs.List.{list_any}
 use Rattle.std.proofs.lemmas.Bool.Decides.{nat_tests}
 use Rattle.std.proofs.lemmas.List.{length-map, length-set}
@@ -24,8 +26,12 @@ use Rattle.writer_core.specs.declared.turn.Turn.TheVariants as turn
 use Rattle.writer_core.specs.Views.{WriterView}
 use Rattle.writer_core.specs.Answers.{fits_edits, is_ok, is_waiting, has_majority}
 use Rattle.writer_core.specs.Best.{Best, best_of, greatest_promise, greatest_newest}
-use Rattle.writer_core.specs.Rounds.{asks_all, asks_others, end_record, to_all, to_others, none_left_out, left_out_after, numbers_fit, judgment, judgment_by, after_round, keep_going, stops_with, with_causes, next_serial, begin_propose, after_propose, begin_recovery, after_finalize, after_open, after_write, failure_of, without_answer_of, after_no_edits, keep_piece, after_edits, after_fetch}
-use Rattle.writer_core.specs.Writer.{new_writer, Began, writer_begun, log_begins, log_limit, is_writing, if_writing, writer_stopped, is_under_way, next_call, call_in, writer_heard, heard_at, heard_in, judgment_when, with_answer}
+use Rattle.writer_core.specs.Rounds.{asks_all, asks_others, end_record, to_all, to_others, none_left_out, left_out_after, numbers_fit, judgment}
+use Rattle.writer_core.specs.Rounds.{judgment_by, after_round, keep_going, stops_with, with_causes, next_serial, begin_propose, after_propose}
+use Rattle.writer_core.specs.Rounds.{begin_recovery, after_finalize, after_open, after_write, failure_of, without_answer_of, after_no_edits}
+use Rattle.writer_core.specs.Rounds.{keep_piece, after_edits, after_fetch}
+use Rattle.writer_core.specs.Writer.{new_writer, Began, writer_begun, log_begins, log_limit, is_writing, if_writing, writer_stopped, is_under_way}
+use Rattle.writer_core.specs.Writer.{next_call, call_in, writer_heard, heard_at, heard_in, judgment_when, with_answer}
 use Rattle.writer_core.specs.Current.{is_fetch}
 use Rattle.writer_core.specs.Sound.{IsOkAt, IsCounted}
 use Rattle.writer_core.specs.Left.{FetchGoesOn, HasCall, HasCallIn, IsLive, IsReached}
@@ -100,7 +106,8 @@ live_others r w f s = record { same = len_others w.left; some = s; call = call_i
 live_done : (r : Round) (w : WriterView) → is_fetch r ≡ false → length w.left ≡ length w.slots → list_any not w.left ≡ true → has_majority r w.slots ≡ true
     → IsLive (after_round r w).writer
 live_done round.State w f e s m =
-    elim (nat_lt (greatest_promise w.slots) max_number) as (λ b. IsLive (cond b (keep_going (begin_propose (greatest_promise w.slots) w)) (stops_with (turn.EpochLimit (greatest_promise w.slots)) w)).writer)
+    elim (nat_lt (greatest_promise w.slots) max_number) as (λ b. IsLive
+    (cond b (keep_going (begin_propose (greatest_promise w.slots) w)) (stops_with (turn.EpochLimit (greatest_promise w.slots)) w)).writer)
     [ true ↦ record { same = len_all w.left; some = s; call = any_all w.left s } | false ↦ record { same = e; some = s; call = tt } ]
 live_done round.Propose w f e s m = proposed (greatest_newest w.slots)
   where
@@ -139,7 +146,12 @@ live_done (round.Write bodies) w f e s m = written w.aim
     o : list_any not (left_out_after (round.Write bodies) w.slots) ≡ true
     o = any_missed (round.Write bodies) w.slots m
 
-    written : (a : Aim) → IsLive (after_write a w.next (w.next + length bodies - 1) (record (next_serial w) { committed = w.next + length bodies - 1; next = w.next + length bodies - 1 + 1; left = left_out_after (round.Write bodies) w.slots })).writer
+    written : (a : Aim) → IsLive (after_write a w.next (w.next + length bodies - 1)
+        (record (next_serial w) {
+          committed = w.next + length bodies - 1;
+          next = w.next + length bodies - 1 + 1;
+          left = left_out_after (round.Write bodies) w.slots;
+        })).writer
     written aim.Roll = record { same = len_others (left_out_after (round.Write bodies) w.slots); some = o; call = any_others (left_out_after (round.Write bodies) w.slots) o }
     written aim.Close = record { same = len_others (left_out_after (round.Write bodies) w.slots); some = o; call = any_others (left_out_after (round.Write bodies) w.slots) o }
     written aim.Takeover = record { same = left_missed (round.Write bodies) w.slots; some = o; call = tt }

@@ -21,7 +21,9 @@ use Rattle.writer_core.specs.declared.turn.Turn.TheVariants as turn
 use Rattle.writer_core.specs.Views.{WriterView}
 use Rattle.writer_core.specs.Answers.{is_waiting, is_ok, has_majority, fits_edits, fits_round, cause_of, cause_unless_ok}
 use Rattle.writer_core.specs.Best.{greatest_promise}
-use Rattle.writer_core.specs.Rounds.{Judgment, keep_going, stops_with, numbers_fit, begin_propose, after_finalize, after_open, after_write, after_round, with_causes, judgment_by, judgment, without_answer_of, after_edits, after_no_edits, after_fetch, next_serial, left_out_after}
+use Rattle.writer_core.specs.Rounds.{Judgment, keep_going, stops_with, numbers_fit, begin_propose, after_finalize, after_open, after_write}
+use Rattle.writer_core.specs.Rounds.{after_round, with_causes, judgment_by, judgment, without_answer_of, after_edits, after_no_edits, after_fetch}
+use Rattle.writer_core.specs.Rounds.{next_serial, left_out_after}
 use Rattle.writer_core.specs.Writer.{with_answer, judgment_when, heard_in, writer_heard}
 use Rattle.writer_core.specs.Minorities.{is_ok_cause, IsMinority, AbortsAreMinorities, MinoritiesAbort}
 use Rattle.writer_core.proofs.RoundLaws.{count_cons}

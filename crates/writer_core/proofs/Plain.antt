@@ -1,4 +1,5 @@
--- A writer without what no round asks about: why an answer doesn't count, the causes, and numbers that are set anew before they are used.
+-- A writer without what no round asks about: why an answer doesn't count, the causes, and numbers
+-- that are set anew before they are used.
 use Rattle.std.proofs.Common.{◌≡◌, ℕ, ◌+◌, ◌*◌, List, [], ◌∷◌, Bool, false, cond, not, refl, sym, ap, ◌∙◌, length, map, nat_lt, Option}
 use Rattle.std.specs.List.{count_by, fold}
 use Rattle.std.proofs.lemmas.List.{length-map}

@@ -17,7 +17,9 @@ use Rattle.writer_core.specs.declared.cause.Cause.{Cause}
 use Rattle.writer_core.specs.Views.{WriterView}
 use Rattle.writer_core.specs.Answers.{has_majority, fits_edits, cause_of}
 use Rattle.writer_core.specs.Best.{Best, best_of, greatest_newest}
-use Rattle.writer_core.specs.Rounds.{numbers_fit, left_out_after, Judgment, next_serial, with_causes, judgment_by, judgment, failure_of, without_answer_of, after_edits, after_no_edits, after_fetch, after_propose, begin_recovery, after_finalize, after_open, after_write}
+use Rattle.writer_core.specs.Rounds.{numbers_fit, left_out_after, Judgment, next_serial, with_causes, judgment_by, judgment, failure_of}
+use Rattle.writer_core.specs.Rounds.{without_answer_of, after_edits, after_no_edits, after_fetch, after_propose, begin_recovery, after_finalize}
+use Rattle.writer_core.specs.Rounds.{after_open, after_write}
 use Rattle.writer_core.proofs.Plain.{plain_heard, plain_slot, plain_start, plain_next, plain, slots_twice, majority_plain, missed_plain, best_plain, newest_plain}
 
 -- a round that is heard slot by slot, under an epoch
@@ -46,15 +48,20 @@ parted w start next causes = record w { slots = map plain_slot w.slots; start = 
 kept : (w : WriterView) (xs ys : List Slot) → xs ≡ ys → record w { slots = xs } ≡ record w { slots = ys }
 kept w xs ys e = ap (λ (l : List Slot). record w { slots = l }) e
 
-proposed : (o : Option ℕ) (w : WriterView) (start next : ℕ) (causes : List Cause) → IsAlike (after_propose o (next_serial (with_causes round.Propose (parted w start next causes)))) (after_propose o (next_serial (with_causes round.Propose w)))
+proposed : (o : Option ℕ) (w : WriterView) (start next : ℕ) (causes : List Cause)
+    → IsAlike (after_propose o (next_serial (with_causes round.Propose (parted w start next causes))))
+    (after_propose o (next_serial (with_causes round.Propose w)))
 proposed None w start next causes = (refl, tt)
 proposed (Some at) w start next causes = (refl, tt)
 
-recovered : (o : Option Best) (at : ℕ) (w : WriterView) (start next : ℕ) (causes : List Cause) → IsAlike (begin_recovery at o (next_serial (with_causes (round.Prepare at) (parted w start next causes)))) (begin_recovery at o (next_serial (with_causes (round.Prepare at) w)))
+recovered : (o : Option Best) (at : ℕ) (w : WriterView) (start next : ℕ) (causes : List Cause)
+    → IsAlike (begin_recovery at o (next_serial (with_causes (round.Prepare at) (parted w start next causes))))
+    (begin_recovery at o (next_serial (with_causes (round.Prepare at) w)))
 recovered None at w start next causes = (refl, tt)
 recovered (Some b) at w start next causes = (kept (plain (begin_recovery at (Some b) (next_serial (with_causes (round.Prepare at) w)))) _ _ (slots_twice w.slots), tt)
 
-finalized : (a : Aim) (end : ℕ) (w : WriterView) (start next : ℕ) (causes : List Cause) → IsAlike (after_finalize a end (next_serial (parted w start next causes))).writer (after_finalize a end (next_serial w)).writer
+finalized : (a : Aim) (end : ℕ) (w : WriterView) (start next : ℕ) (causes : List Cause)
+    → IsAlike (after_finalize a end (next_serial (parted w start next causes))).writer (after_finalize a end (next_serial w)).writer
 finalized aim.Close end w start next causes = (kept (plain (after_finalize aim.Close end (next_serial w)).writer) _ _ (slots_twice w.slots), tt)
 finalized aim.Takeover end w start next causes = (refl, tt)
 finalized aim.Log end w start next causes = (refl, tt)
@@ -64,7 +71,8 @@ finalized aim.Purge end w start next causes = (refl, tt)
 abbrev opened_with : WriterView → List Bool → WriterView
 opened_with w left = record (next_serial w) { committed = w.start; next = w.start + 1; left = left }
 
-opened : (a : Aim) (w : WriterView) (left : List Bool) (next : ℕ) (causes : List Cause) → IsAlike (after_open a (opened_with (parted w w.start next causes) left)).writer (after_open a (opened_with w left)).writer
+opened : (a : Aim) (w : WriterView) (left : List Bool) (next : ℕ) (causes : List Cause)
+    → IsAlike (after_open a (opened_with (parted w w.start next causes) left)).writer (after_open a (opened_with w left)).writer
 opened aim.Close w left next causes = (kept (plain (after_open aim.Close (opened_with w left)).writer) _ _ (slots_twice w.slots), tt)
 opened aim.Takeover w left next causes = (kept (plain (after_open aim.Takeover (opened_with w left)).writer) _ _ (slots_twice w.slots), tt)
 opened aim.Log w left next causes = (kept (plain (after_open aim.Log (opened_with w left)).writer) _ _ (slots_twice w.slots), tt)
@@ -74,7 +82,9 @@ opened aim.Purge w left next causes = (kept (plain (after_open aim.Purge (opened
 abbrev written_with : WriterView → ℕ → List Bool → WriterView
 written_with w last left = record (next_serial w) { committed = last; next = last + 1; left = left }
 
-written : (a : Aim) (first last : ℕ) (w : WriterView) (left : List Bool) (causes : List Cause) → IsAlike (after_write a first last (written_with (parted w w.start w.next causes) last left)).writer (after_write a first last (written_with w last left)).writer
+written : (a : Aim) (first last : ℕ) (w : WriterView) (left : List Bool) (causes : List Cause)
+    → IsAlike (after_write a first last (written_with (parted w w.start w.next causes) last left)).writer
+    (after_write a first last (written_with w last left)).writer
 written aim.Roll first last w left causes = (refl, tt)
 written aim.Close first last w left causes = (refl, tt)
 written aim.Takeover first last w left causes = (kept (plain (after_write aim.Takeover first last (written_with w last left)).writer) _ _ (slots_twice w.slots), tt)
@@ -91,28 +101,40 @@ round_by false r w i = (kept (plain (judgment_by false r (at_phase (phase.InRoun
 round_by true round.State w i = absurd i
 round_by true (round.Fetch node start end bodies) w i = absurd i
 round_by true round.Propose w i =
-    swap (λ (o : Option ℕ). after_propose o (next_serial (with_causes round.Propose (plain (at_phase (phase.InRound round.Propose) w))))) (after_propose (greatest_newest w.slots) (next_serial (with_causes round.Propose (at_phase (phase.InRound round.Propose) w)))) _ _ (newest_plain w.slots)
+    swap (λ (o : Option ℕ). after_propose o (next_serial (with_causes round.Propose (plain (at_phase (phase.InRound round.Propose) w)))))
+    (after_propose (greatest_newest w.slots) (next_serial (with_causes round.Propose (at_phase (phase.InRound round.Propose) w)))) _ _
+    (newest_plain w.slots)
     (proposed (greatest_newest w.slots) (at_phase (phase.InRound round.Propose) w) 0 0 [])
 round_by true (round.Prepare start) w i =
-    swap (λ (o : Option Best). begin_recovery start o (next_serial (with_causes (round.Prepare start) (plain (at_phase (phase.InRound (round.Prepare start)) w))))) (begin_recovery start (best_of start w.slots) (next_serial (with_causes (round.Prepare start) (at_phase (phase.InRound (round.Prepare start)) w)))) _ _ (best_plain start 1 w.slots)
+    swap (λ (o : Option Best). begin_recovery start o (next_serial (with_causes (round.Prepare start)
+    (plain (at_phase (phase.InRound (round.Prepare start)) w)))))
+    (begin_recovery start (best_of start w.slots) (next_serial (with_causes (round.Prepare start)
+    (at_phase (phase.InRound (round.Prepare start)) w)))) _ _ (best_plain start 1 w.slots)
     (recovered (best_of start w.slots) start (at_phase (phase.InRound (round.Prepare start)) w) 0 0 [])
 round_by true (round.Accept batch) w i = (refl, tt)
 round_by true (round.Finalize start end) w i =
     let r : Round = round.Finalize start end in
     finalized w.aim end (with_causes r (at_phase (phase.InRound r) w)) 0 0 (map (cause_of r) (map plain_slot w.slots))
-round_by true round.Start w i =
-    (ap (λ (left : List Bool). plain (record (judgment_by true round.Start (at_phase (phase.InRound round.Start) w)).writer { left = left; slots = map (λ l. cond l LeftOut Waiting) left })) (missed_plain round.Start w.slots), tt)
+round_by true round.Start w i = (
+  ap (λ (left : List Bool). plain (record (judgment_by true round.Start (at_phase (phase.InRound round.Start) w)).writer {
+    left = left;
+    slots = map (λ l. cond l LeftOut Waiting) left;
+  })) (missed_plain round.Start w.slots),
+  tt,
+)
 round_by true round.Open w i =
     let v : WriterView = with_causes round.Open (at_phase (phase.InRound round.Open) w) in
     let causes : List Cause = map (cause_of round.Open) (map plain_slot w.slots) in
-    swap (λ (left : List Bool). (after_open w.aim (opened_with (parted v w.start 0 causes) left)).writer) (after_open w.aim (opened_with v (left_out_after round.Open w.slots))).writer _ _ (missed_plain round.Open w.slots)
+    swap (λ (left : List Bool). (after_open w.aim (opened_with (parted v w.start 0 causes) left)).writer)
+    (after_open w.aim (opened_with v (left_out_after round.Open w.slots))).writer _ _ (missed_plain round.Open w.slots)
     (opened w.aim v (left_out_after round.Open w.slots) 0 causes)
 round_by true (round.Write bodies) w i =
     let r : Round = round.Write bodies in
     let v : WriterView = with_causes r (at_phase (phase.InRound r) w) in
     let causes : List Cause = map (cause_of r) (map plain_slot w.slots) in
     let last : ℕ = w.next + length bodies - 1 in
-    swap (λ (left : List Bool). (after_write w.aim w.next last (written_with (parted v w.start w.next causes) last left)).writer) (after_write w.aim w.next last (written_with v last (left_out_after r w.slots))).writer _ _ (missed_plain r w.slots)
+    swap (λ (left : List Bool). (after_write w.aim w.next last (written_with (parted v w.start w.next causes) last left)).writer)
+    (after_write w.aim w.next last (written_with v last (left_out_after r w.slots))).writer _ _ (missed_plain r w.slots)
     (written w.aim w.next last v (left_out_after r w.slots) causes)
 round_by true (round.Purge min) w i = (kept (plain (judgment_by true (round.Purge min) (at_phase (phase.InRound (round.Purge min)) w)).writer) _ _ (slots_twice w.slots), tt)
 
@@ -124,7 +146,8 @@ test_alike (round.Fetch node start end bodies) w i = absurd i
 test_alike round.Propose w i = ap (λ (b : Bool). numbers_fit (at_phase (phase.InRound round.Propose) w) round.Propose && b) (majority_plain round.Propose w.slots)
 test_alike (round.Prepare start) w i = ap (λ (b : Bool). numbers_fit (at_phase (phase.InRound (round.Prepare start)) w) (round.Prepare start) && b) (majority_plain (round.Prepare start) w.slots)
 test_alike (round.Accept batch) w i = ap (λ (b : Bool). numbers_fit (at_phase (phase.InRound (round.Accept batch)) w) (round.Accept batch) && b) (majority_plain (round.Accept batch) w.slots)
-test_alike (round.Finalize start end) w i = ap (λ (b : Bool). numbers_fit (at_phase (phase.InRound (round.Finalize start end)) w) (round.Finalize start end) && b) (majority_plain (round.Finalize start end) w.slots)
+test_alike (round.Finalize start end) w i = ap (λ (b : Bool). numbers_fit (at_phase (phase.InRound (round.Finalize start end)) w)
+    (round.Finalize start end) && b) (majority_plain (round.Finalize start end) w.slots)
 test_alike round.Start w i = ap (λ (b : Bool). numbers_fit (at_phase (phase.InRound round.Start) w) round.Start && b) (majority_plain round.Start w.slots)
 test_alike round.Open w i = ap (λ (b : Bool). numbers_fit (at_phase (phase.InRound round.Open) w) round.Open && b) (majority_plain round.Open w.slots)
 test_alike (round.Write bodies) w i = ap (λ (b : Bool). numbers_fit (at_phase (phase.InRound (round.Write bodies)) w) (round.Write bodies) && b) (majority_plain (round.Write bodies) w.slots)
@@ -133,7 +156,9 @@ test_alike (round.Purge min) w i = ap (λ (b : Bool). numbers_fit (at_phase (pha
 judged_plain : (r : Round) (w : WriterView) → IsWhole r → IsAlike (judgment r (plain (at_phase (phase.InRound r) w))).writer (judgment r (at_phase (phase.InRound r) w)).writer
 unfolding judgment
 judged_plain r w i =
-    swap (λ (b : Bool). (judgment_by b r (plain (at_phase (phase.InRound r) w))).writer) (judgment_by (numbers_fit (at_phase (phase.InRound r) w) r && has_majority r w.slots) r (at_phase (phase.InRound r) w)).writer _ _ (test_alike r w i)
+    swap (λ (b : Bool). (judgment_by b r (plain (at_phase (phase.InRound r) w))).writer)
+    (judgment_by (numbers_fit (at_phase (phase.InRound r) w) r && has_majority r w.slots) r (at_phase (phase.InRound r) w)).writer _ _
+    (test_alike r w i)
     (round_by (numbers_fit (at_phase (phase.InRound r) w) r && has_majority r w.slots) r w i)
 
 -- ## For two writers that are alike
@@ -171,11 +196,13 @@ lost_plain (Answer _) = refl
 abbrev prepared : ℕ → WriterView → Judgment
 prepared start w = judgment_by (has_majority (round.Prepare start) w.slots) (round.Prepare start) w
 
-prepared_by : (b : Bool) (start : ℕ) (p : Phase) (w : WriterView) → IsAlike (judgment_by b (round.Prepare start) (plain (at_phase p w))).writer (judgment_by b (round.Prepare start) (at_phase p w)).writer
+prepared_by : (b : Bool) (start : ℕ) (p : Phase) (w : WriterView) → IsAlike (judgment_by b (round.Prepare start) (plain (at_phase p w))).writer
+    (judgment_by b (round.Prepare start) (at_phase p w)).writer
 prepared_by false start p w = (kept (plain (judgment_by false (round.Prepare start) (at_phase p w)).writer) _ _ (slots_twice w.slots), tt)
 prepared_by true start p w =
     let r : Round = round.Prepare start in
-    swap (λ (o : Option Best). begin_recovery start o (next_serial (with_causes r (plain (at_phase p w))))) (begin_recovery start (best_of start w.slots) (next_serial (with_causes r (at_phase p w)))) _ _ (best_plain start 1 w.slots)
+    swap (λ (o : Option Best). begin_recovery start o (next_serial (with_causes r (plain (at_phase p w)))))
+    (begin_recovery start (best_of start w.slots) (next_serial (with_causes r (at_phase p w)))) _ _ (best_plain start 1 w.slots)
     (recovered (best_of start w.slots) start (at_phase p w) (plain_start p w.start) (plain_next p w.next) [])
 
 prepared_plain : (start : ℕ) (p : Phase) (w : WriterView) → IsAlike (prepared start (plain (at_phase p w))).writer (prepared start (at_phase p w)).writer
@@ -202,18 +229,23 @@ abbrev get : ℕ → ℕ → ℕ → List (List ℕ) → Phase
 get node start end bodies = phase.InRound (round.Fetch node start end bodies)
 
 pieced_plain : (b : Bool) (node start end : ℕ) (bodies : List (List ℕ)) (p : Phase) (w : WriterView)
-    → IsAlike (cond b (record (plain (at_phase p w)) { phase = phase.InRound (round.Accept (record { first = start; bodies = bodies })); slots = map (λ l. Waiting) w.left }) (at_phase (get node start end bodies) (plain (at_phase p w))))
+    → IsAlike (cond b (record (plain (at_phase p w)) {
+      phase = phase.InRound (round.Accept (record { first = start; bodies = bodies }));
+      slots = map (λ l. Waiting) w.left;
+    }) (at_phase (get node start end bodies) (plain (at_phase p w))))
     (cond b (record (at_phase p w) { phase = phase.InRound (round.Accept (record { first = start; bodies = bodies })); slots = map (λ l. Waiting) w.left }) (at_phase (get node start end bodies) w))
 pieced_plain true node start end bodies p w = (refl, tt)
 pieced_plain false node start end bodies p w = (kept (plain (at_phase (get node start end bodies) w)) _ _ (slots_twice w.slots), tt)
 
 edits_plain : (b : Bool) (node start end : ℕ) (bodies : List (List ℕ)) (batch : BatchView) (w : WriterView)
-    → IsAlike (after_edits b node start end bodies batch (plain (at_phase (get node start end bodies) w))).writer (after_edits b node start end bodies batch (at_phase (get node start end bodies) w)).writer
+    → IsAlike (after_edits b node start end bodies batch (plain (at_phase (get node start end bodies) w))).writer
+    (after_edits b node start end bodies batch (at_phase (get node start end bodies) w)).writer
 edits_plain true node start end bodies batch w =
     let more : List (List ℕ) = bodies ++ take (end + 1 - (start + length bodies)) batch.bodies in
     pieced_plain (nat_lt end (start + length more)) node start end more (get node start end bodies) (next_serial w)
 edits_plain false node start end bodies batch w =
-    lost_alike node start Silent Silent (plain (at_phase (get node start end bodies) w)) (at_phase (get node start end bodies) w) (kept (plain (at_phase (get node start end bodies) w)) _ _ (slots_twice w.slots))
+    lost_alike node start Silent Silent (plain (at_phase (get node start end bodies) w)) (at_phase (get node start end bodies) w)
+    (kept (plain (at_phase (get node start end bodies) w)) _ _ (slots_twice w.slots))
 
 edits_alike : (node start end : ℕ) (bodies : List (List ℕ)) (batch : BatchView) (v u : WriterView) → v.phase ≡ get node start end bodies → plain v ≡ plain u
     → IsAlike (after_fetch node start end bodies (Answer (reply.Edits batch)) v).writer (after_fetch node start end bodies (Answer (reply.Edits batch)) u).writer

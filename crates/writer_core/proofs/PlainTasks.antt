@@ -33,14 +33,16 @@ log_by (Some n) bodies w x e is f g =
     let off : begun.TooLong n ≢ begun.Going = λ (h : begun.TooLong n ≡ begun.Going). absurd (cc h) in
     stays (subst (λ (o : Option ℕ). (log_begins o bodies (writes w)).begun ≢ begun.Going) (sym f) off)
     (ap (λ (o : Option ℕ). (log_begins o bodies (writes w)).writer) f)
-    (subst (λ (p : Phase). (if_writing (is_writing p) (log_begins (log_limit x bodies) bodies x) x).begun ≢ begun.Going) (sym (ap (λ (y : WriterView). y.phase) is)) (subst (λ (o : Option ℕ). (log_begins o bodies x).begun ≢ begun.Going) (sym g) off))
+    (subst (λ (p : Phase). (if_writing (is_writing p) (log_begins (log_limit x bodies) bodies x) x).begun ≢ begun.Going)
+    (sym (ap (λ (y : WriterView). y.phase) is)) (subst (λ (o : Option ℕ). (log_begins o bodies x).begun ≢ begun.Going) (sym g) off))
 log_by None bodies w x e is f g =
     goes (round.Write bodies) tt (ap (λ (o : Option ℕ). (log_begins o bodies (writes w)).begun) f)
     (ap (λ (p : Phase). (if_writing (is_writing p) (log_begins (log_limit x bodies) bodies x) x).begun) (ap (λ (y : WriterView). y.phase) is) ∙ ap (λ (o : Option ℕ). (log_begins o bodies x).begun) g)
     (ap (λ (o : Option ℕ). (log_begins o bodies (writes w)).writer.phase) f)
     (ap (λ (o : Option ℕ). plain (log_begins o bodies (writes w)).writer) f
     ∙ ap (λ (y : WriterView). plain (log_begins None bodies y).writer) (sym is)
-    ∙ sym (ap (λ (p : Phase). plain (if_writing (is_writing p) (log_begins (log_limit x bodies) bodies x) x).writer) (ap (λ (y : WriterView). y.phase) is) ∙ ap (λ (o : Option ℕ). plain (log_begins o bodies x).writer) g))
+    ∙ sym (ap (λ (p : Phase). plain (if_writing (is_writing p) (log_begins (log_limit x bodies) bodies x) x).writer)
+    (ap (λ (y : WriterView). y.phase) is) ∙ ap (λ (o : Option ℕ). plain (log_begins o bodies x).writer) g))
 
 plain_begins : (w : WriterView) (t : Task) → IsUnder t → BeginsAlike (writes w) (plain (writes w)) t
 unfolding writer_begun log_limit

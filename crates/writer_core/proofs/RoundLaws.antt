@@ -1,5 +1,6 @@
 -- A round, call by call.
-use Rattle.std.proofs.Common.{ℕ, ◌≡◌, ◌<◌, ◌+◌, ◌-◌, ◌*◌, List, [], ◌∷◌, length, Option, Some, Bool, true, false, cond, refl, sym, ap, arith, suc, zero, ◌∙◌, set, slice_get, position, count_by, nat_lt}
+use Rattle.std.proofs.Common.{ℕ, ◌≡◌, ◌<◌, ◌+◌, ◌-◌, ◌*◌, List, [], ◌∷◌, length, Option, Some, Bool, true, false, cond, refl, sym, ap, arith, suc}
+use Rattle.std.proofs.Common.{zero, ◌∙◌, set, slice_get, position, count_by, nat_lt}
 use Rattle.std.specs.List.{list_any, position_or_len}
 use Rattle.std.proofs.lemmas.Bool.Decides.{nat_tests}
 use Rattle.std.proofs.lemmas.List.Sums.{sum_by-cons}

@@ -18,7 +18,9 @@ use Rattle.writer_core.specs.declared.task.Task.TheVariants as task
 use Rattle.writer_core.specs.Views.{WriterView}
 use Rattle.writer_core.specs.Answers.{fits_edits, has_majority}
 use Rattle.writer_core.specs.Best.{Best, best_of, greatest_newest}
-use Rattle.writer_core.specs.Rounds.{numbers_fit, judgment, judgment_by, after_round, with_causes, next_serial, after_propose, begin_recovery, after_finalize, after_open, after_write, left_out_after, without_answer_of, after_no_edits, keep_piece, after_edits, after_fetch}
+use Rattle.writer_core.specs.Rounds.{numbers_fit, judgment, judgment_by, after_round, with_causes, next_serial, after_propose, begin_recovery}
+use Rattle.writer_core.specs.Rounds.{after_finalize, after_open, after_write, left_out_after, without_answer_of, after_no_edits, keep_piece}
+use Rattle.writer_core.specs.Rounds.{after_edits, after_fetch}
 use Rattle.writer_core.specs.Writer.{Began, writer_begun, is_writing, if_writing, log_begins, log_limit}
 use Rattle.writer_core.specs.Whole.{Takeover, TaskProgress, heard_of, fill_slots, round_heard, progress_from, has_begun, next_begun, next_task, round_after, next_round, proposer, writer_at}
 use Rattle.writer_core.specs.Serials.{is_takeover}
@@ -27,7 +29,8 @@ is_state : Round → Bool
 is_state round.State = true
 is_state _ = false
 
--- what holds of a writer that a round left, by where it stands: this serial, and no round that asks for a promise
+-- what holds of a writer that a round left, by where it stands: this serial, and no round that asks
+-- for a promise
 Follows : Phase → ℕ → ℕ → Type 0
 Follows (phase.InRound r) serial number = (serial ≡ number) × (is_state r ≡ false)
 Follows phase.Writing serial number = serial ≡ number

@@ -1,4 +1,5 @@
--- A writer in the course of a task: each answer leads to a round of the same task, or to an end of its own.
+-- A writer in the course of a task: each answer leads to a round of the same task, or to an end of
+-- its own.
 use Rattle.std.proofs.Common.{◌≡◌, ℕ, ◌+◌, ◌-◌, List, [], ◌∷◌, ◌++◌, Bool, true, false, cond, refl, sym, ◌∙◌, subst, length, take, ◌&&◌, nat_lt, Option, Some, None}
 use Rattle.std.specs.Prelude.{◌≢◌}
 use Rattle.std.specs.List.{list_any}
@@ -23,7 +24,10 @@ use Rattle.writer_core.specs.declared.turn.Outcome.TheVariants as outcome
 use Rattle.writer_core.specs.Views.{WriterView}
 use Rattle.writer_core.specs.Answers.{is_waiting, has_majority, fits_edits}
 use Rattle.writer_core.specs.Best.{Best, best_of, greatest_promise, greatest_newest}
-use Rattle.writer_core.specs.Rounds.{numbers_fit, Judgment, keep_going, ends_with, stops_with, after_round, with_causes, judgment_by, judgment, without_answer_of, after_fetch, after_state, begin_propose, after_propose, begin_recovery, after_finalize, after_open, after_write, after_edits, after_no_edits, next_serial, left_out_after, none_left_out, asks_all, asks_others, batch_from, end_record, failure_of}
+use Rattle.writer_core.specs.Rounds.{numbers_fit, Judgment, keep_going, ends_with, stops_with, after_round, with_causes, judgment_by, judgment}
+use Rattle.writer_core.specs.Rounds.{without_answer_of, after_fetch, after_state, begin_propose, after_propose, begin_recovery, after_finalize}
+use Rattle.writer_core.specs.Rounds.{after_open, after_write, after_edits, after_no_edits, next_serial, left_out_after, none_left_out, asks_all}
+use Rattle.writer_core.specs.Rounds.{asks_others, batch_from, end_record, failure_of}
 use Rattle.writer_core.specs.Writer.{Began, writer_begun, log_begins, log_limit, is_writing, if_writing, with_answer, judgment_when, heard_in, heard_at, writer_heard}
 use Rattle.writer_core.specs.Turns.{aim_of, Suits, SuitsIn, IsOf, IsInRound, phase_after, IsTurnOf, IsApt}
 
@@ -181,7 +185,8 @@ pieced_turn n false node start end bodies w e l = record { aim = e; left = l; su
 
 missing_turn : (n node start : ℕ) (heard : Heard) (w : WriterView) → w.aim ≡ aim.Takeover → length w.left ≡ n → length w.slots ≡ n → Turned aim.Takeover n (after_no_edits node start heard w)
 missing_turn n node start heard w e l z =
-    judged_turn aim.Takeover n (has_majority (round.Prepare start) (without_answer_of node heard w).slots) (round.Prepare start) (without_answer_of node heard w) e l (length-set w.slots (node - 1) _ ∙ z) tt
+    judged_turn aim.Takeover n (has_majority (round.Prepare start) (without_answer_of node heard w).slots) (round.Prepare start)
+    (without_answer_of node heard w) e l (length-set w.slots (node - 1) _ ∙ z) tt
 
 edits_turn : (n : ℕ) (b : Bool) (node start end : ℕ) (bodies : List (List ℕ)) (batch : BatchView) (w : WriterView) → w.aim ≡ aim.Takeover → length w.left ≡ n → length w.slots ≡ n
     → Turned aim.Takeover n (after_edits b node start end bodies batch w)
@@ -193,24 +198,35 @@ edits_turn n false node start end bodies batch w e l z = missing_turn n node sta
 fetched_turn : (n node start end : ℕ) (bodies : List (List ℕ)) (heard : Heard) (w : WriterView) → w.aim ≡ aim.Takeover → length w.left ≡ n → length w.slots ≡ n
     → Turned aim.Takeover n (after_fetch node start end bodies heard w)
 unfolding after_fetch
-fetched_turn n node start end bodies (Answer (reply.Edits batch)) w e l z = edits_turn n (numbers_fit w (round.Fetch node start end bodies) && fits_edits (start + length bodies) batch) node start end bodies batch w e l z
+fetched_turn n node start end bodies (Answer (reply.Edits batch)) w e l z =
+    edits_turn n (numbers_fit w (round.Fetch node start end bodies) && fits_edits (start + length bodies) batch) node start end bodies batch w e l z
 fetched_turn n node start end bodies Silent w e l z = missing_turn n node start Silent w e l z
 fetched_turn n node start end bodies (Answer answer) w e l z = missing_turn n node start (Answer answer) w e l z
 
 -- ## An answer
-in_turn : (a : Aim) (n : ℕ) (r : Round) (w : WriterView) (node : ℕ) (heard : Heard) → w.aim ≡ a → length w.left ≡ n → length w.slots ≡ n → Suits a r → w.phase ≡ phase.InRound r → Turned a n (heard_in r w node heard)
+in_turn : (a : Aim) (n : ℕ) (r : Round) (w : WriterView) (node : ℕ) (heard : Heard) → w.aim ≡ a → length w.left ≡ n → length w.slots ≡ n → Suits a r
+    → w.phase ≡ phase.InRound r → Turned a n (heard_in r w node heard)
 in_turn a n (round.Fetch from start end bodies) w node heard e l z s p =
     let t : a ≡ aim.Takeover = fetches a from start end bodies s in
     takes a n (after_fetch from start end bodies heard w) t (fetched_turn n from start end bodies heard w (e ∙ t) l z)
-in_turn a n round.State w node heard e l z s p = round_turn a n (list_any is_waiting (with_answer w node heard).slots) round.State (with_answer w node heard) e l (length-set w.slots (node - 1) _ ∙ z) s p
-in_turn a n round.Propose w node heard e l z s p = round_turn a n (list_any is_waiting (with_answer w node heard).slots) round.Propose (with_answer w node heard) e l (length-set w.slots (node - 1) _ ∙ z) s p
-in_turn a n (round.Prepare start) w node heard e l z s p = round_turn a n (list_any is_waiting (with_answer w node heard).slots) (round.Prepare start) (with_answer w node heard) e l (length-set w.slots (node - 1) _ ∙ z) s p
-in_turn a n (round.Accept batch) w node heard e l z s p = round_turn a n (list_any is_waiting (with_answer w node heard).slots) (round.Accept batch) (with_answer w node heard) e l (length-set w.slots (node - 1) _ ∙ z) s p
-in_turn a n (round.Finalize start end) w node heard e l z s p = round_turn a n (list_any is_waiting (with_answer w node heard).slots) (round.Finalize start end) (with_answer w node heard) e l (length-set w.slots (node - 1) _ ∙ z) s p
-in_turn a n round.Start w node heard e l z s p = round_turn a n (list_any is_waiting (with_answer w node heard).slots) round.Start (with_answer w node heard) e l (length-set w.slots (node - 1) _ ∙ z) s p
-in_turn a n round.Open w node heard e l z s p = round_turn a n (list_any is_waiting (with_answer w node heard).slots) round.Open (with_answer w node heard) e l (length-set w.slots (node - 1) _ ∙ z) s p
-in_turn a n (round.Write bodies) w node heard e l z s p = round_turn a n (list_any is_waiting (with_answer w node heard).slots) (round.Write bodies) (with_answer w node heard) e l (length-set w.slots (node - 1) _ ∙ z) s p
-in_turn a n (round.Purge min) w node heard e l z s p = round_turn a n (list_any is_waiting (with_answer w node heard).slots) (round.Purge min) (with_answer w node heard) e l (length-set w.slots (node - 1) _ ∙ z) s p
+in_turn a n round.State w node heard e l z s p = round_turn a n (list_any is_waiting (with_answer w node heard).slots) round.State
+    (with_answer w node heard) e l (length-set w.slots (node - 1) _ ∙ z) s p
+in_turn a n round.Propose w node heard e l z s p = round_turn a n (list_any is_waiting (with_answer w node heard).slots) round.Propose
+    (with_answer w node heard) e l (length-set w.slots (node - 1) _ ∙ z) s p
+in_turn a n (round.Prepare start) w node heard e l z s p = round_turn a n (list_any is_waiting (with_answer w node heard).slots) (round.Prepare start)
+    (with_answer w node heard) e l (length-set w.slots (node - 1) _ ∙ z) s p
+in_turn a n (round.Accept batch) w node heard e l z s p = round_turn a n (list_any is_waiting (with_answer w node heard).slots) (round.Accept batch)
+    (with_answer w node heard) e l (length-set w.slots (node - 1) _ ∙ z) s p
+in_turn a n (round.Finalize start end) w node heard e l z s p = round_turn a n (list_any is_waiting (with_answer w node heard).slots)
+    (round.Finalize start end) (with_answer w node heard) e l (length-set w.slots (node - 1) _ ∙ z) s p
+in_turn a n round.Start w node heard e l z s p = round_turn a n (list_any is_waiting (with_answer w node heard).slots) round.Start
+    (with_answer w node heard) e l (length-set w.slots (node - 1) _ ∙ z) s p
+in_turn a n round.Open w node heard e l z s p = round_turn a n (list_any is_waiting (with_answer w node heard).slots) round.Open
+    (with_answer w node heard) e l (length-set w.slots (node - 1) _ ∙ z) s p
+in_turn a n (round.Write bodies) w node heard e l z s p = round_turn a n (list_any is_waiting (with_answer w node heard).slots) (round.Write bodies)
+    (with_answer w node heard) e l (length-set w.slots (node - 1) _ ∙ z) s p
+in_turn a n (round.Purge min) w node heard e l z s p = round_turn a n (list_any is_waiting (with_answer w node heard).slots) (round.Purge min)
+    (with_answer w node heard) e l (length-set w.slots (node - 1) _ ∙ z) s p
 
 at_turn : (a : Aim) (n : ℕ) (p : Phase) (w : WriterView) (node : ℕ) (heard : Heard) → w.phase ≡ p → w.aim ≡ a → length w.left ≡ n → length w.slots ≡ n → SuitsIn a p → IsInRound p
     → Turned a n (heard_at p w node heard)

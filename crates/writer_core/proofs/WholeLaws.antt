@@ -34,7 +34,8 @@ under_more phase.Idle w ts more u e = absurd (cc e)
 under_more phase.Writing w ts more u e = absurd (cc e)
 under_more phase.Stopped w ts more u e = absurd (cc e)
 
-or_more : (b : Bool) (x y : Option TaskProgress) (z v : Option TaskProgress) (u w : TaskProgress) → (x ≡ Some u → z ≡ Some w) → (y ≡ Some u → v ≡ Some w) → next_begun b x y ≡ Some u → next_begun b z v ≡ Some w
+or_more : (b : Bool) (x y : Option TaskProgress) (z v : Option TaskProgress) (u w : TaskProgress) → (x ≡ Some u → z ≡ Some w)
+    → (y ≡ Some u → v ≡ Some w) → next_begun b x y ≡ Some u → next_begun b z v ≡ Some w
 or_more true x y z v u w f g e = f e
 or_more false x y z v u w f g e = g e
 

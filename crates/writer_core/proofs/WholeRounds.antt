@@ -1,5 +1,7 @@
--- Rounds that are heard slot by slot: whom they call next, what they ask, and what the last answer does.
-use Rattle.std.proofs.Common.{◌≡◌, ◌≢◌, ℕ, zero, suc, ◌+◌, ◌-◌, ◌<◌, ◌≤◌, ◌&&◌, List, [], ◌∷◌, Bool, true, false, refl, sym, ap, ◌∙◌, arith, length, set, slice_get, get_or, position, option_map, nat_lt, Option, Some, None}
+-- Rounds that are heard slot by slot: whom they call next, what they ask, and what the last answer
+-- does.
+use Rattle.std.proofs.Common.{◌≡◌, ◌≢◌, ℕ, zero, suc, ◌+◌, ◌-◌, ◌<◌, ◌≤◌, ◌&&◌, List, [], ◌∷◌, Bool, true, false, refl, sym, ap, ◌∙◌, arith, length}
+use Rattle.std.proofs.Common.{set, slice_get, get_or, position, option_map, nat_lt, Option, Some, None}
 use Rattle.std.specs.List.{list_any}
 use Rattle.std.proofs.lemmas.Bool.Decides.{nat_tests}
 use Rattle.std.proofs.lemmas.List.Quantifiers.{position-Some}
@@ -103,7 +105,8 @@ first_at slots (Some i) node is e =
     first j w below = by (nat_lt j i) refl
       where
         by : (b : Bool) → nat_lt j i ≡ b → i ≤ j
-        by true t = let lt : j < i = grind (arith, nat_tests) in let yes : is_waiting (get_or slots j LeftOut) ≡ true = here_waits slots j w in let no : is_waiting (get_or slots j LeftOut) ≡ false = below j lt in absurd (cc (yes, no))
+        by true t = let lt : j < i = grind (arith, nat_tests) in let yes : is_waiting (get_or slots j LeftOut) ≡ true =
+            here_waits slots j w in let no : is_waiting (get_or slots j LeftOut) ≡ false = below j lt in absurd (cc (yes, no))
         by false t = grind (arith, nat_tests)
 
 pub whole_first : (r : Round) (slots : List Slot) (node : ℕ) → IsWhole r → node_in r slots ≡ Some node → IsFirst slots node

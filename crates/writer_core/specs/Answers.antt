@@ -47,7 +47,8 @@ abbrev pub fits_propose : Reply → Bool
 fits_propose (reply.NewEpoch newest) = fits_newest newest
 fits_propose _ = false
 
--- The answer fits the round, isn't refused and tells no number out of range. While pieces are fetched, the prepare answers count.
+-- The answer fits the round, isn't refused and tells no number out of range. While pieces are
+-- fetched, the prepare answers count.
 abbrev pub fits_round : Round → Reply → Bool
 fits_round round.State answer = fits_state answer
 fits_round round.Propose answer = fits_propose answer
@@ -79,7 +80,8 @@ is_majority count slots = nat_lt (length slots) (2 * count)
 abbrev pub has_majority : Round → List Slot → Bool
 has_majority r slots = is_majority (count_by (is_ok r) slots) slots
 
--- what came of a node's part: an answer that doesn't fit and isn't a refusal counts as hearing nothing
+-- what came of a node's part: an answer that doesn't fit and isn't a refusal counts as hearing
+-- nothing
 abbrev pub cause_unless_ok : Bool → Reply → Cause
 cause_unless_ok true answer = cause.Ok
 cause_unless_ok false (reply.Refused refusal) = cause.Refused refusal

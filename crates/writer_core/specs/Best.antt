@@ -1,5 +1,6 @@
--- The rank of prepare answers, and the best one: with a segment before without one; a final one before one in progress; then the
--- greater header epoch; then the greater end; of equal ones the lowest node's.
+-- The rank of prepare answers, and the best one: with a segment before without one; a final one
+-- before one in progress; then the greater header epoch; then the greater end; of equal ones the
+-- lowest node's.
 use Rattle.std.specs.Prelude.{ℕ, ◌+◌, ◌==◌, ◌&&◌, ◌||◌, not, max, Bool, true, false, List, [], ◌∷◌, Option, Some, None, nat_lt, if◌then◌else◌}
 use Rattle.journal_core.specs.declared.segment_info.SegmentInfo.{SegmentInfo}
 use Rattle.journal_core.specs.declared.reply.Reply.{Reply}

@@ -55,8 +55,8 @@ bare w = record w { slots = counted_slots w.phase w.slots; causes = [] }
 abbrev pub bare_judgment : Judgment → Judgment
 bare_judgment j = record { writer = bare j.writer; turn = j.turn }
 
--- Answers that aren't of the Ok kind enter nowhere: where two tables of answers agree on those of the Ok kind, the rounds end alike, but for
--- the causes and what isn't heeded.
+-- Answers that aren't of the Ok kind enter nowhere: where two tables of answers agree on those of
+-- the Ok kind, the rounds end alike, but for the causes and what isn't heeded.
 abbrev pub OkAnswersDecide : Type 0
 OkAnswersDecide =
     (w v : WriterView) (r : Round) (heard other : ℕ → Option Reply) → w.phase ≡ phase.InRound r → bare w ≡ bare v
@@ -64,21 +64,23 @@ OkAnswersDecide =
     → bare_judgment (round_heard r heard w) ≡ bare_judgment (round_heard r other v)
 
 -- ## Whole epochs
--- the same request to the same nodes, or no round at all
+-- two rounds ask one request of the same nodes, or neither of the two is there
 abbrev pub AskAlike : Option TaskProgress → Option TaskProgress → Type 0
 AskAlike None None = Unit {0}
 AskAlike (Some u) (Some v) = (request_of_round u ≡ request_of_round v) × ((node : ℕ) → calls u node ≡ calls v node)
 AskAlike None (Some v) = ⊥
 AskAlike (Some u) None = ⊥
 
--- two takeovers that propose the same epoch for the same tasks, and heard the same answers of the Ok kind
+-- two takeovers that propose the same epoch for the same tasks, and heard the same answers of the
+-- Ok kind
 pub record HeardAlike (nodes : ℕ) (t other : Takeover) : Type 0 where
   pub epoch : t.epoch ≡ other.epoch
   pub tasks : t.tasks ≡ other.tasks
   pub heard : (number node : ℕ) (u v : TaskProgress) → writer_at nodes t number ≡ Some u → writer_at nodes other number ≡ Some v
       → counted_reply u.writer u.round (t.heard number node) ≡ counted_reply v.writer v.round (other.heard number node)
 
--- The requests of an epoch, and the nodes that are called, depend on the answers of the Ok kind alone.
+-- The requests of an epoch, and the nodes that are called, depend on the answers of the Ok kind
+-- alone.
 abbrev pub OkAnswersLead : Type 0
 OkAnswersLead =
     (nodes : ℕ) (t other : Takeover) → HeardAlike nodes t other → (number : ℕ)

@@ -1,4 +1,5 @@
--- How many calls a writer still makes at most, and that it has one to make while a round is under way.
+-- How many calls a writer still makes at most, and that it has one to make while a round is under
+-- way.
 use Rattle.std.specs.Prelude.{ℕ, ◌+◌, ◌-◌, ◌*◌, ◌≡◌, ◌<◌, ◌≤◌, List, Some, true, not, length, count_by}
 use Rattle.std.specs.List.{list_any}
 use Rattle.journal_core.specs.Limits.{max_number}
@@ -20,7 +21,8 @@ use Rattle.writer_core.specs.Sound.{IsOkAt}
 abbrev pub most_pieces : ℕ
 most_pieces = 4611686018427387905
 
--- the calls of this round. Of a fetch: each prepare answer that counts may be fetched in as many pieces.
+-- the calls of this round. Of a fetch: each prepare answer that counts may be fetched in as many
+-- pieces.
 abbrev pub calls_now : Round → List Slot → ℕ
 calls_now (round.Fetch node start end bodies) slots = most_pieces * count_by (is_ok (round.Prepare start)) slots - length bodies
 calls_now r slots = count_by is_waiting slots

@@ -23,8 +23,8 @@ is_ok_cause (cause.Refused refusal) = false
 abbrev pub IsMinority : List Cause → Type 0
 IsMinority causes = 2 * count_by is_ok_cause causes ≤ length causes
 
--- Where an answer aborts a round whose numbers are in range, the causes tell of a minority that answered with the Ok kind. A node whose fetch
--- failed counts no more.
+-- Where an answer aborts a round whose numbers are in range, the causes tell of a minority that
+-- answered with the Ok kind. A node whose fetch failed counts no more.
 abbrev pub AbortsAreMinorities : Type 0
 AbortsAreMinorities =
     (w : WriterView) (r : Round) (node : ℕ) (h : Heard) → w.phase ≡ phase.InRound r → numbers_fit w r ≡ true → (writer_heard w node h).turn ≡ turn.Aborted

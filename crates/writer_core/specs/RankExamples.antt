@@ -23,8 +23,9 @@ tells o = Told (Answer (Prepared 1 0 o))
 abbrev pub best_node : List Slot → Option ℕ
 best_node slots = option_map (λ b. b.node) (best_of 101 slots)
 
--- A final segment stands above a later epoch, and a later epoch above a longer segment. Of one epoch the longer one is better, and of equal
--- ones the lowest node's. An answer without the segment, with another one or with none heard doesn't count.
+-- A final segment stands above a later epoch, and a later epoch above a longer segment. Of one
+-- epoch the longer one is better, and of equal ones the lowest node's. An answer without the
+-- segment, with another one or with none heard doesn't count.
 abbrev pub BestAnswers : Type 0
 BestAnswers =
     (best_node (tells (Some (in_progress 3 106)) ∷ tells (Some (in_progress 5 102)) ∷ tells (Some (final 3 101)) ∷ []) ≡ Some 3)

@@ -5,7 +5,8 @@ use Rattle.journal_core.specs.Limits.{max_body, max_batch}
 use Rattle.writer_core.specs.Views.{WriterView}
 use Rattle.writer_core.specs.Writer.{is_writing, log_limit}
 
--- The bodies that still fit: a segment has at most 16,384 edits, and the last is the record that ends it. None where no segment is open.
+-- The bodies that still fit: a segment has at most 16,384 edits, and the last is the record that
+-- ends it. None where no segment is open.
 abbrev pub room_of : WriterView → ℕ
 room_of w = if is_writing w.phase then w.start + 16383 - w.next else 0
 

@@ -35,7 +35,8 @@ calls_in _ w = None
 abbrev pub round_calls : WriterView → Option CallsView
 round_calls w = calls_in w.phase w
 
--- what `next` names of these calls: the first of them, and once it was heard, whatever was heard, the others with the same request
+-- what `next` names of these calls: the first of them, and once it was heard, whatever was heard,
+-- the others with the same request
 pub record NamesInOrder (w : WriterView) (r : Round) (node : ℕ) (others : List ℕ) : Type 0 where
   pub first : next_call w ≡ Some (node, request_in w r)
   pub then : (h : Heard) (second : ℕ) (more : List ℕ) → others ≡ second ∷ more

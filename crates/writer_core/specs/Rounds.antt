@@ -109,7 +109,8 @@ abbrev pub after_propose : Option ℕ → WriterView → WriterView
 after_propose None w = begin_start 1 w
 after_propose (Some start) w = asks_all (round.Prepare start) w
 
--- the best of the prepare answers: its edits are fetched; where none has the segment, the writer starts there
+-- the best of the prepare answers: its edits are fetched; where none has the segment, the writer
+-- starts there
 abbrev pub begin_recovery : ℕ → Option Best → WriterView → WriterView
 begin_recovery start None w = begin_start start (record w { committed = start - 1 })
 begin_recovery start (Some best) w = begin_fetch start best [] w
@@ -171,7 +172,8 @@ keep_piece node start end bodies w =
     if nat_lt end (start + length bodies) then asks_all (round.Accept (batch_from start bodies)) w
     else record w { phase = phase.InRound (round.Fetch node start end bodies) }
 
--- Edits that fit go after the pieces, but for those past the told end. Anything else takes the node out of the count, and its pieces are dropped.
+-- Edits that fit go after the pieces, but for those past the told end. Anything else takes the node
+-- out of the count, and its pieces are dropped.
 abbrev pub after_edits : Bool → ℕ → ℕ → ℕ → List (List ℕ) → BatchView → WriterView → Judgment
 after_edits true node start end bodies batch w =
     keep_going (keep_piece node start end (bodies ++ take (end + 1 - (start + length bodies)) batch.bodies) (next_serial w))

@@ -27,7 +27,8 @@ pub record IsCounted (start : ℕ) (best : Best) (slots : List Slot) : Type 0 wh
   pub end_fits : best.info.end ≤ 4611686018427387904
   pub counted : IsOkAt (round.Prepare start) best.node slots
 
--- Edits are missing up to the told end. Each fetch that fails draws a serial and takes a node out of the count.
+-- Edits are missing up to the told end. Each fetch that fails draws a serial and takes a node out
+-- of the count.
 pub record IsFetching (node start end : ℕ) (bodies : List (List ℕ)) (w : WriterView) : Type 0 where
   pub head : HasHead w
   pub missing : start + length bodies ≤ end

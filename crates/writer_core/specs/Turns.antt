@@ -71,7 +71,8 @@ phase_after (outcome.Log first last) = phase.Writing
 phase_after (outcome.Roll start) = phase.Writing
 phase_after outcome.Purge = phase.Writing
 
--- What an answer leads to, and where the writer then stands. Only a takeover meets the greatest epoch.
+-- What an answer leads to, and where the writer then stands. Only a takeover meets the greatest
+-- epoch.
 abbrev pub IsTurnOf : Aim → Phase → Turn → Type 0
 IsTurnOf a p turn.Going = IsInRound p
 IsTurnOf a p (turn.Done o) = IsOf a o × (p ≡ phase_after o)

@@ -1,4 +1,5 @@
--- A takeover and what follows it, in whole rounds, by the table of rounds: each round is judged by what its nodes were heard to answer.
+-- A takeover and what follows it, in whole rounds, by the table of rounds: each round is judged by
+-- what its nodes were heard to answer.
 use Rattle.std.specs.Prelude.{ℕ, zero, suc, ◌+◌, List, [], ◌∷◌, Option, Some, None, Bool, true, false, ◌-◌, ◌==◌, ◌&&◌, nat_lt, slice_get}
 use Rattle.journal_core.specs.declared.request.Request.{Request}
 use Rattle.journal_core.specs.declared.reply.Reply.{Reply}
@@ -17,8 +18,8 @@ use Rattle.writer_core.specs.Views.{WriterView}
 use Rattle.writer_core.specs.Rounds.{request_in, asks_all, Judgment, judgment, after_fetch}
 use Rattle.writer_core.specs.Writer.{new_writer, writer_begun}
 
--- Who proposes which epoch, what it does then, and what it heard from which node in which round. Round 0 is the proposal, and each
--- later round is named by its serial.
+-- Who proposes which epoch, what it does then, and what it heard from which node in which round.
+-- Round 0 is the proposal, and each later round is named by its serial.
 pub record Takeover : Type 0 where
   pub caller : ℕ
   pub epoch : ℕ
@@ -61,7 +62,8 @@ abbrev pub has_begun : Begun → Bool
 has_begun begun.Going = true
 has_begun _ = false
 
--- The task that the writer takes next; those that it refuses are passed over. No takeover is among them.
+-- The task that the writer takes next; those that it refuses are passed over. No takeover is among
+-- them.
 abbrev pub next_begun : Bool → Option TaskProgress → Option TaskProgress → Option TaskProgress
 next_begun true first rest = first
 next_begun false first rest = rest

@@ -1,4 +1,4 @@
-// Why a round was aborted, node by node.
+//! Why a round was aborted, node by node.
 use journal_core::Refusal;
 
 /// What came of a node's part in a round.

@@ -1,4 +1,4 @@
-// What came of each node.
+//! What came of each node.
 ghost use Rattle.std.specs.Prelude.{◌≡◌, ◌++◌, [], ◌∷◌, OnOk, OnErr, IfOk};
 
 use crate::cause::Cause;

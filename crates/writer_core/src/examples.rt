@@ -1,4 +1,4 @@
-// Worked examples of the definitions, computed by the check.
+//! Worked examples of the definitions, computed by the check.
 ghost use Rattle.writer_core.specs.Examples.{FirstTakeover, ThreeLogs, LostMajority, Recovery, SecondBest, NoFetch, FourOfNine, ProposedTwice, RollPurgeClose, EpochLimit, TooLong, FullSegment};
 ghost use Rattle.writer_core.specs.RankExamples.{BestAnswers};
 

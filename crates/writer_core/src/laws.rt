@@ -1,4 +1,4 @@
-// Laws of the writer's rounds.
+//! Laws of the writer's rounds.
 ghost use Rattle.writer_core.specs.Calls.{RoundsAreJudged, MajoritiesMeet};
 ghost use Rattle.writer_core.specs.RoundCalls.{CallsAreNamed};
 ghost use Rattle.writer_core.specs.Serials.{SerialsAreRounds};
@@ -58,7 +58,8 @@ pub fn room_is_exact()
     ensures { RoomIsExact }
 {}
 
-/// An aborted round whose own numbers are at most 2^62 was answered with the Ok kind by no majority.
+/// An aborted round whose own numbers are at most 2^62 was answered with the Ok kind by no
+/// majority.
 pub fn aborts_are_minorities()
     ensures { AbortsAreMinorities }
 {}

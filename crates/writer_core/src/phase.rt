@@ -1,4 +1,4 @@
-// Where a writer stands.
+//! Where a writer stands.
 use crate::round::Round;
 
 /// Where a writer stands: between tasks, or in a round.

@@ -1,4 +1,4 @@
-// Bodies that come in pieces.
+//! Bodies that come in pieces.
 ghost use Rattle.std.specs.Prelude.{◌≡◌, ◌++◌, ◌+◌, ◌<◌, ◌^◌, [], true, length, IfOk, OnOk, take};
 
 use journal_core::{BodyList, OutOfMemory};

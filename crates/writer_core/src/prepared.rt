@@ -1,4 +1,4 @@
-// Prepared answers: their rank, and the best one.
+//! Prepared answers: their rank, and the best one.
 ghost use Rattle.std.specs.Prelude.{◌≡◌, IfSome, MatchOption};
 ghost use Rattle.writer_core.specs.Best.{outranks, better, told_by, best_of, segment_in};
 ghost use Rattle.writer_core.specs.Rank.{segment_of, rank_of, best_place, NoneTold, IsFirstBest};

@@ -1,4 +1,4 @@
-// The rounds of a writer.
+//! The rounds of a writer.
 use journal_core::{Batch, BodyList};
 
 /// What a round asks of the nodes.

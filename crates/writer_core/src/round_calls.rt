@@ -1,4 +1,4 @@
-// The calls that a round still makes.
+//! The calls that a round still makes.
 ghost use Rattle.std.specs.Prelude.{◌≡◌};
 
 use journal_core::SharedRequest;

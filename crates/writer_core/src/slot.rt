@@ -1,4 +1,4 @@
-// A node's part in a round.
+//! A node's part in a round.
 ghost use Rattle.std.specs.Prelude.{◌≡◌, IfOk};
 
 use journal_core::{Heard, OutOfMemory};
@@ -25,7 +25,7 @@ impl Drop for Slot {
 }
 
 impl Slot {
-    /// The same once more; edits are shared.
+    /// A copy of this slot; edits are shared.
     pub(crate) fn share(&self, alloc: Global) -> Result<Slot, OutOfMemory>
         ensures { IfOk result (λ slot. slot ≡ self.now) }
     {

@@ -1,4 +1,4 @@
-// The answers of a round, node by node.
+//! The answers of a round, node by node.
 ghost use Rattle.std.specs.Prelude.{ℕ, ◌≡◌, ◌≤◌, IfOk, IfSome, [], false, length, map, count_by, position};
 ghost use Rattle.std.specs.List.{position_or_len};
 ghost use Rattle.journal_core.specs.Limits.{max_number};
@@ -52,7 +52,7 @@ pub(crate) fn waiting_nodes(alloc: Global, slots: &[Slot]) -> Result<Vec<usize>,
     Ok(nodes)
 }
 
-/// The same slots once more; edits are shared.
+/// A copy of these slots; edits are shared.
 pub(crate) fn share_slots(alloc: Global, slots: &[Slot]) -> Result<Vec<Slot>, OutOfMemory>
     ensures { IfOk result (λ shared. shared.items ≡ slots.now) }
 {

@@ -1,4 +1,4 @@
-// Where a writer stands, without the lists of its round.
+//! Where a writer stands, without the lists of its round.
 
 /// Where a writer stands. The bodies that its round carries are kept apart, so that it moves on
 /// without memory.

@@ -1,4 +1,4 @@
-// What a writer is given to do.
+//! What a writer is given to do.
 use journal_core::BodyList;
 
 /// A task of a writer.

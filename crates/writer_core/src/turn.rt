@@ -1,4 +1,4 @@
-// What comes of an answer.
+//! What comes of an answer.
 
 /// What a task that is done gave.
 #[derive(Clone, Copy, Debug, PartialEq, Eq)]

@@ -1,4 +1,4 @@
-// The writer.
+//! The writer.
 ghost use Rattle.std.specs.Prelude.{◌≡◌, ◌<◌, Some, true, IfOk, option_map, is_some};
 ghost use Rattle.writer_core.specs.Current.{round_in, is_fetch};
 ghost use Rattle.writer_core.specs.Writer.{new_writer, writer_begun, HasBody, next_call, writer_heard, writer_stopped};
@@ -151,8 +151,8 @@ impl Writer {
     }
 
     /// The nodes that the round under way still calls, and its request: `next` names them in this
-    /// order, whatever is heard. `None` exactly where no task is under way. `OutOfMemory` leaves the
-    /// writer as it was.
+    /// order, whatever is heard. `None` exactly where no task is under way. `OutOfMemory` leaves
+    /// the writer as it was.
     pub fn round(&mut self, alloc: Global) -> Result<Option<RoundCalls>, OutOfMemory>
         ensures calls { IfOk result (λ calls. calls ≡ round_calls self.new.view) }
         ensures unchanged { self.new.view ≡ self.old.view }

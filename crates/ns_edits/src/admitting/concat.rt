@@ -4,18 +4,18 @@ ghost use Rattle.std.specs.List.{list_any};
 ghost use Rattle.std.specs.Result.{result_err};
 ghost use Rattle.ns_path.specs.Path.{same_text};
 ghost use Rattle.ns_tree.specs.Space.{find};
-ghost use Rattle.ns_rules.specs.Admit.{first, refused_if, refused_open, blocks_of, blocks_at, bad_paths, admit_part, admit_sources, admit_concat};
+ghost use Rattle.ns_edits.specs.Admit.{first, refused_if, refused_open, blocks_of, blocks_at, bad_paths, admit_part, admit_sources, admit_concat};
 
 use crate::admitting::walks::{check_file, found};
 use crate::admitting::words::{check_path, refuse_if};
-use ns_rules::AdmitRefusal;
+use crate::refusal::AdmitRefusal;
+use base_words::Name;
 use ns_tree::{Inode, Namespace};
-use qj_num::Name;
 
 const MOST_BLOCKS: usize = 65535;
 
-/// Each source is looked up in the namespace and compared with those before it: of n sources at most n²
-/// comparisons of two paths, and an edit's record holds all of them.
+/// Each source is looked up in the namespace and compared with those before it: of n sources at
+/// most n² comparisons of two paths, and an edit's record holds all of them.
 pub(crate) fn check_concat(
     namespace: &Namespace,
     target: &[u8],

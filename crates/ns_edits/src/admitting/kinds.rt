@@ -1,15 +1,15 @@
 //! The conditions of each kind of edit at one path, in the order of its table.
 ghost use Rattle.std.specs.Prelude.{◌≡◌, Some};
 ghost use Rattle.std.specs.Result.{result_err};
-ghost use Rattle.ns_rules.specs.Admit.{are_within, bad_blocks, admit_add, admit_mkdir, admit_close, admit_delete, admit_set_replication, admit_set_permissions, admit_set_owner, admit_times, admit_set_quota};
+ghost use Rattle.ns_edits.specs.Admit.{are_within, bad_blocks, admit_add, admit_mkdir, admit_close, admit_delete, admit_set_replication, admit_set_permissions, admit_set_owner, admit_times, admit_set_quota};
 
 use crate::admitting::walks::{check_absent, check_directory, check_file, check_parent, found};
 use crate::admitting::words::{
     check_block_size, check_new_owner, check_owner, check_path, check_permission,
     check_replication, refuse_if,
 };
+use crate::refusal::AdmitRefusal;
 use ns_path::is_root_path;
-use ns_rules::AdmitRefusal;
 use ns_tree::{Inode, Namespace};
 
 pub(crate) fn check_add(

@@ -1,22 +1,21 @@
 //! The edit that joins files.
 ghost use Rattle.std.specs.Prelude.{◌≡◌, ◌≤◌, ◌^◌, None, OnOk, OnErr, IfOk, ◌∷◌};
 ghost use Rattle.std.specs.List.{AllByRecursion};
-ghost use Rattle.edit_fields.specs.Fields.{IsGood};
+ghost use Rattle.edit_ops.specs.Fields.{IsGood};
 ghost use Rattle.edit_ops.specs.Records.{fields_of};
 ghost use Rattle.ns_tree.specs.Space.{find};
-ghost use Rattle.ns_rules.specs.Admit.{admit_concat, blocks_of, blocks_at};
-ghost use Rattle.ns_rules.specs.Apply.{with_all_blocks, AreSources, concat_of, without_sources};
+ghost use Rattle.ns_edits.specs.Admit.{admit_concat, blocks_of, blocks_at};
+ghost use Rattle.ns_edits.specs.Apply.{with_all_blocks, AreSources, concat_of, without_sources};
 
 use crate::applying::inodes::put_all_blocks;
-use edit_ops::Op;
-use edit_values::{NameList, NumberList};
+use base_words::{Name, OutOfMemory};
+use edit_ops::{NameList, NumberList, Op};
 use ns_path::parent;
 use ns_tree::{Inode, Namespace};
-use qj_num::{Name, OutOfMemory};
 use std::alloc::Global;
 
-/// Puts the blocks of the sources after those of the target, in order, and takes the sources away. The
-/// target's mtime is set, and the mtime of each parent is raised.
+/// Puts the blocks of the sources after those of the target, in order, and takes the sources away.
+/// The target's mtime is set, and the mtime of each parent is raised.
 pub(crate) fn join(
     alloc: Global,
     ns: &mut Namespace,

@@ -1,10 +1,10 @@
 //! What is set of an inode.
 ghost use Rattle.std.specs.Prelude.{◌≡◌};
-ghost use Rattle.ns_rules.specs.Apply.{or_old, with_blocks, with_replication, with_permission, with_owner, with_times, with_quota, with_all_blocks};
+ghost use Rattle.ns_edits.specs.Apply.{or_old, with_blocks, with_replication, with_permission, with_owner, with_times, with_quota, with_all_blocks};
 
-use edit_values::NumberList;
+use base_words::Name;
+use edit_ops::NumberList;
 use ns_tree::Inode;
-use qj_num::Name;
 
 /// Closes a file with these blocks.
 pub(crate) fn put_blocks(inode: &mut Inode, new_mtime: u64, new_atime: u64, blocks: NumberList)

@@ -1,16 +1,15 @@
 //! The edits that make an inode, or take one away.
 ghost use Rattle.std.specs.Prelude.{◌≡◌, None, OnOk, OnErr};
 ghost use Rattle.std.specs.List.{AllByRecursion};
-ghost use Rattle.edit_fields.specs.Fields.{IsGood};
+ghost use Rattle.edit_ops.specs.Fields.{IsGood};
 ghost use Rattle.edit_ops.specs.Records.{fields_of};
-ghost use Rattle.ns_rules.specs.Admit.{admit_add, admit_mkdir, admit_delete};
-ghost use Rattle.ns_rules.specs.Apply.{add_of, mkdir_of, delete_of};
+ghost use Rattle.ns_edits.specs.Admit.{admit_add, admit_mkdir, admit_delete};
+ghost use Rattle.ns_edits.specs.Apply.{add_of, mkdir_of, delete_of};
 
-use edit_ops::Op;
-use edit_values::NumberList;
+use base_words::{Name, OutOfMemory};
+use edit_ops::{NumberList, Op};
 use ns_path::parent;
 use ns_tree::{Inode, Namespace};
-use qj_num::{Name, OutOfMemory};
 use std::alloc::Global;
 
 /// Makes an empty file, under construction, and raises the mtime of its parent.

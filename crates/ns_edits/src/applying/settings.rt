@@ -1,19 +1,19 @@
-//! The edits that set something of what is there: each changes the inode where it stands, and takes no memory.
+//! The edits that set something of what is there: each changes the inode where it stands, and takes
+//! no memory.
 ghost use Rattle.std.specs.Prelude.{◌≡◌, None};
 ghost use Rattle.std.specs.List.{AllByRecursion};
-ghost use Rattle.edit_fields.specs.Fields.{IsGood};
+ghost use Rattle.edit_ops.specs.Fields.{IsGood};
 ghost use Rattle.edit_ops.specs.Records.{fields_of};
 ghost use Rattle.ns_tree.specs.Space.{change_at};
-ghost use Rattle.ns_rules.specs.Admit.{admit_close, admit_set_replication, admit_set_permissions, admit_set_owner, admit_times, admit_set_quota};
-ghost use Rattle.ns_rules.specs.Apply.{with_blocks, with_replication, with_permission, with_owner, with_times, with_quota};
+ghost use Rattle.ns_edits.specs.Admit.{admit_close, admit_set_replication, admit_set_permissions, admit_set_owner, admit_times, admit_set_quota};
+ghost use Rattle.ns_edits.specs.Apply.{with_blocks, with_replication, with_permission, with_owner, with_times, with_quota};
 
 use crate::applying::inodes::{
     put_blocks, put_owner, put_permission, put_quota, put_replication, put_times,
 };
-use edit_ops::Op;
-use edit_values::NumberList;
+use base_words::Name;
+use edit_ops::{NumberList, Op};
 use ns_tree::{Inode, Namespace};
-use qj_num::Name;
 
 /// Closes a file with its blocks.
 pub(crate) fn close(ns: &mut Namespace, path: &[u8], mtime: u64, atime: u64, lengths: NumberList)

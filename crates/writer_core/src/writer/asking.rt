@@ -1,4 +1,4 @@
-// What a writer asks: the tasks that begin, and the request of each round.
+//! What a writer asks: the tasks that begin, and the request of each round.
 ghost use Rattle.std.specs.Prelude.{◌≡◌, ◌≢◌, ◌≤◌, true, IfOk, IfNone, length, option_map, [], ◌∷◌};
 ghost use Rattle.std.specs.List.{list_all};
 ghost use Rattle.journal_core.specs.Limits.{head_numbers};

@@ -1,4 +1,4 @@
-// Recovery by pieces: fetches from the best of the prepared answers.
+//! Recovery by pieces: fetches from the best of the prepared answers.
 ghost use Rattle.std.specs.Prelude.{◌≡◌, ◌≤◌, ◌+◌, true, length, count_by};
 ghost use Rattle.journal_core.specs.Limits.{max_number};
 ghost use Rattle.writer_core.specs.declared.round.Round.TheVariants as round;

@@ -1,4 +1,4 @@
-// What follows a round that was heard whole.
+//! What follows a round that was heard whole.
 ghost use Rattle.std.specs.Prelude.{◌≡◌, ◌≤◌, ◌<◌, ◌+◌, ◌-◌, ◌&&◌, Some, true, false, position, []};
 ghost use Rattle.std.specs.List.{list_any};
 ghost use Rattle.journal_core.specs.Limits.{max_number};

@@ -1,4 +1,4 @@
-// A writer once more, and two writers beside each other.
+//! A writer once more, and two writers beside each other.
 ghost use Rattle.std.specs.Prelude.{◌≡◌, Decides, IfOk, length};
 ghost use Rattle.writer_core.specs.declared.phase.Phase.TheVariants as phase;
 ghost use Rattle.writer_core.specs.Alike.{SameNumbers, AreStoppedAlike};
@@ -11,21 +11,21 @@ use crate::stage::Stage;
 use journal_core::{OutOfMemory, Refusal};
 use std::alloc::Global;
 
-/// The same nodes are left out.
+/// Whether the same nodes are left out.
 fn same_left(a: &[bool], b: &[bool]) -> bool
     ensures { Decides result (a.now ≡ b.now) }
 {
     a == b
 }
 
-/// It is the same refusal.
+/// Whether it is the same refusal.
 fn same_refusal(a: Refusal, b: Refusal) -> bool
     ensures { Decides result (a ≡ b) }
 {
     a == b
 }
 
-/// The same came of a node's part.
+/// Whether the same came of a node's part.
 fn same_cause(a: Cause, b: Cause) -> bool
     ensures { Decides result (a ≡ b) }
 {
@@ -38,7 +38,7 @@ fn same_cause(a: Cause, b: Cause) -> bool
     }
 }
 
-/// The same came of each node's part.
+/// Whether the same came of each node's part.
 #[tactic(auto, using(std::proofs::lemmas::List::same_lists))]
 fn same_causes(a: &[Cause], b: &[Cause]) -> bool
     ensures { Decides result (a.now ≡ b.now) }
@@ -55,7 +55,7 @@ fn same_causes(a: &[Cause], b: &[Cause]) -> bool
 }
 
 impl Writer {
-    /// The same writer once more; what it heard and carries is shared. `OutOfMemory` where there is no
+    /// A copy of this writer; what it heard and carries is shared. `OutOfMemory` where there is no
     /// room for its lists.
     pub fn share(&self, alloc: Global) -> Result<Writer, OutOfMemory>
         ensures { IfOk result (λ writer. writer.view ≡ self.now.view) }

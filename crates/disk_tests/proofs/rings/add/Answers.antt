@@ -1,5 +1,5 @@
 use Rattle.std.proofs.Common.{sym, ◌∙◌}
-use Rattle.edit_cache.proofs.Kept.{follows_last, follows_none}
+use Rattle.disk_recent.proofs.Kept.{follows_last, follows_none}
 use Rattle.disk_tests.proofs.rings.add.Goals as goal
 
 pub push-requires-clause-follows : goal.push-requires-clause-follows

@@ -10,7 +10,8 @@ loop-index-init c = ap (λ (l : List Ranked). l ++ ranked_in (blocks_from c.args
 
 pub loop-index-preserved : goal.loop-index-preserved
 loop-index-preserved c =
-    histories_more c.args.mesh.now c.loop-index.index c.loop-index.ranked.items c.rank_history.new.ranked.items (ranked_in (blocks_from c.args.mesh.now 1 c.args.mesh.now.histories)) c.loop-index.invariant
+    histories_more c.args.mesh.now c.loop-index.index c.loop-index.ranked.items c.rank_history.new.ranked.items
+    (ranked_in (blocks_from c.args.mesh.now 1 c.args.mesh.now.histories)) c.loop-index.invariant
     (omega (arith, c.loop-index-test.true, c.requires.histories)) c.in_ok-rank_history.ensures
 
 pub returns : goal.returns

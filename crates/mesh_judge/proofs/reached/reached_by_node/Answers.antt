@@ -8,7 +8,8 @@ pub loop-index-init : goal.loop-index-init
 loop-index-init c = split_none c.args.nodes c.in_ok-lists.lists.items c.in_ok-lists.ensures.0 c.in_ok-lists.ensures.1
 
 pub overflow_sub-node : goal.overflow_sub-node
-overflow_sub-node c = (node_within c.args.nodes c.in-Some.node c.loop-index.index c.args.lines.now c.index-lines-index.result c.requires c.loop-index-test.true c.index-lines-index.is (sym c.in-Some.ensures)).0
+overflow_sub-node c = (node_within c.args.nodes c.in-Some.node c.loop-index.index c.args.lines.now c.index-lines-index.result c.requires
+    c.loop-index-test.true c.index-lines-index.is (sym c.in-Some.ensures)).0
 
 pub index_mut-requires : goal.index_mut-requires
 index_mut-requires c =
@@ -17,7 +18,8 @@ index_mut-requires c =
 
 pub loop-index-preserved-in_default : goal.loop-index-preserved-in_default
 loop-index-preserved-in_default c =
-    split_skips c.args.nodes c.loop-index.index c.args.lines.now c.index-lines-index.result c.loop-index.lists.items c.loop-index-test.true c.index-lines-index.is (sym c.node_reached.ensures ∙ c.in_default.is) c.loop-index.invariant
+    split_skips c.args.nodes c.loop-index.index c.args.lines.now c.index-lines-index.result c.loop-index.lists.items c.loop-index-test.true
+    c.index-lines-index.is (sym c.node_reached.ensures ∙ c.in_default.is) c.loop-index.invariant
 
 pub loop-index-preserved : goal.loop-index-preserved
 loop-index-preserved c =

@@ -1,6 +1,6 @@
 use Rattle.std.proofs.Common.{◌∙◌, refl, sym}
 use Rattle.edit_ops.proofs.EditLaws.{op_is_good}
-use Rattle.ns_rules.specs.Apply.{apply_of}
+use Rattle.ns_edits.specs.Apply.{apply_of}
 use Rattle.ns_edits.proofs.Admitted.{op_admitted, call_is_new}
 use Rattle.ns_edits.proofs.applying.apply.Goals as goal
 

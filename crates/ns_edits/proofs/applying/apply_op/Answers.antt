@@ -1,4 +1,4 @@
-use Rattle.ns_rules.specs.Apply.{apply_op}
+use Rattle.ns_edits.specs.Apply.{apply_op}
 use Rattle.ns_edits.proofs.applying.apply_op.Goals as goal
 
 pub returns-in-Rename-clause-ok : goal.returns-in-Rename-clause-ok

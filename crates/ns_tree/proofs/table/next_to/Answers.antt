@@ -15,7 +15,8 @@ returns-then-next-rows c =
 pub returns-in-Equal : goal.returns-in-Equal
 returns-in-Equal c =
     let within : c.args.at + 1 < length c.args.rows.now = grind (arith, nat_tests, c.requires.in_range, c.if-next-rows.false) in
-    let equal : walk_cmp c.index-rows-next.result.value.path c.args.path.now ≡ Equal = subst (λ (x : Row). walk_cmp x.path c.args.path.now ≡ Equal) c.deref.ensures (sym c.order_of.ensures ∙ c.in-Equal.is) in
+    let equal : walk_cmp c.index-rows-next.result.value.path c.args.path.now ≡ Equal =
+    subst (λ (x : Row). walk_cmp x.path c.args.path.now ≡ Equal) c.deref.ensures (sym c.order_of.ensures ∙ c.in-Equal.is) in
     found_at (map (λ b. b.value) c.args.rows.now) c.requires.order c.args.path.now (c.args.at + 1) (rw (length-boxes (λ b. b.value) c.args.rows.now) within)
     (λ d. subst (λ (x : Row). walk_cmp x.path c.args.path.now ≡ Equal) (sym (in_box (λ b. b.value) c.args.rows.now (c.args.at + 1) c.index-rows-next.result d within c.index-rows-next.is)) equal)
 
@@ -23,6 +24,7 @@ pub returns-in-Greater : goal.returns-in-Greater
 returns-in-Greater c =
     let here : c.args.at < length (map (λ b. b.value) c.args.rows.now) = rw (length-boxes (λ b. b.value) c.args.rows.now) c.requires.in_range in
     let within : c.args.at + 1 < length c.args.rows.now = grind (arith, nat_tests, c.requires.in_range, c.if-next-rows.false) in
-    let greater : walk_cmp c.index-rows-next.result.value.path c.args.path.now ≡ Greater = subst (λ (x : Row). walk_cmp x.path c.args.path.now ≡ Greater) c.deref.ensures (sym c.order_of.ensures ∙ c.in-Greater.is) in
+    let greater : walk_cmp c.index-rows-next.result.value.path c.args.path.now ≡ Greater =
+    subst (λ (x : Row). walk_cmp x.path c.args.path.now ≡ Greater) c.deref.ensures (sym c.order_of.ensures ∙ c.in-Greater.is) in
     gap_next (map (λ b. b.value) c.args.rows.now) c.requires.order c.args.path.now c.args.at here c.requires.after
     (λ d l. subst (λ (x : Row). walk_cmp x.path c.args.path.now ≡ Greater) (sym (in_box (λ b. b.value) c.args.rows.now (c.args.at + 1) c.index-rows-next.result d within c.index-rows-next.is)) greater)

@@ -1,4 +1,4 @@
-use Rattle.exit_lines.proofs.ToldLaws.{told_of}
+use Rattle.cli_commands.proofs.ToldLaws.{told_of}
 use Rattle.qj_cli.proofs.generating.play_generated.Goals as goal
 
 pub returns : goal.returns

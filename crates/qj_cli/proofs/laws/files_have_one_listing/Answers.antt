@@ -1,4 +1,4 @@
-use Rattle.file_commands.proofs.OneListing.{one_listing_of_file, one_fault_of_file, not_both}
+use Rattle.cli_commands.proofs.OneListing.{one_listing_of_file, one_fault_of_file, not_both}
 use Rattle.qj_cli.proofs.laws.files_have_one_listing.Goals as goal
 
 pub returns : goal.returns

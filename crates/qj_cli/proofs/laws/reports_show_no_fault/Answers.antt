@@ -1,6 +1,6 @@
 use Rattle.std.proofs.Common.{subst, sym}
-use Rattle.script_plays.specs.Faultless.{ShowsNoFault}
-use Rattle.script_plays.specs.Plays.{mesh_of}
+use Rattle.play_model.specs.Faultless.{ShowsNoFault}
+use Rattle.play_model.specs.Plays.{mesh_of}
 use Rattle.qj_cli.proofs.laws.reports_show_no_fault.Goals as goal
 
 pub returns-clause-in_order : goal.returns-clause-in_order

@@ -1,7 +1,7 @@
 use Rattle.std.proofs.Common.{refl, subst}
-use Rattle.command_words.specs.Commands.{asked_in, IsAllowed}
-use Rattle.command_words.specs.declared.command.Command.TheVariants as command
-use Rattle.exit_lines.specs.Uses.{read_from, written_to, done_to}
+use Rattle.cli_commands.specs.Commands.{asked_in, IsAllowed}
+use Rattle.cli_commands.specs.declared.command.Command.TheVariants as command
+use Rattle.cli_commands.specs.Uses.{read_from, written_to, done_to}
 use Rattle.qj_cli.proofs.CompleteLaws.{does_as}
 use Rattle.qj_cli.proofs.top.do_command.Goals as goal
 
@@ -9,13 +9,15 @@ pub returns-in-Play-clause-done : goal.returns-in-Play-clause-done
 returns-in-Play-clause-done g c =
     does_as c.args.command command.Play (read_from g.S.Source.left g.S.Source.faults c.args.source.now c.play_script.new.source)
     (written_to g.K.Sink.taken g.K.Sink.faults c.args.sink.now c.play_script.new.sink)
-    (done_to g.D.DiskModel.tells g.D.DiskModel.view g.D.DiskModel.faults g.D.DiskModel.steady g.D.DiskModel.left c.args.disk c.args.disk) c.play_script.result c.in-Play.is (c.play_script.ensures, refl)
+    (done_to g.D.DiskModel.tells g.D.DiskModel.view g.D.DiskModel.faults g.D.DiskModel.steady g.D.DiskModel.left c.args.disk c.args.disk)
+    c.play_script.result c.in-Play.is (c.play_script.ensures, refl)
 
 pub returns-in-Gen-clause-done : goal.returns-in-Gen-clause-done
 returns-in-Gen-clause-done g c =
     does_as c.args.command (command.Gen c.in-Gen.number c.in-Gen.edits c.in-Gen.nodes) (read_from g.S.Source.left g.S.Source.faults c.args.source.now c.args.source.now)
     (written_to g.K.Sink.taken g.K.Sink.faults c.args.sink.now c.play_generated.new.sink)
-    (done_to g.D.DiskModel.tells g.D.DiskModel.view g.D.DiskModel.faults g.D.DiskModel.steady g.D.DiskModel.left c.args.disk c.args.disk) c.play_generated.result c.in-Gen.is (c.play_generated.ensures, refl)
+    (done_to g.D.DiskModel.tells g.D.DiskModel.view g.D.DiskModel.faults g.D.DiskModel.steady g.D.DiskModel.left c.args.disk c.args.disk)
+    c.play_generated.result c.in-Gen.is (c.play_generated.ensures, refl)
 
 pub play_generated-requires : goal.play_generated-requires
 play_generated-requires g c = subst (λ x. IsAllowed (asked_in x)) c.in-Gen.is c.requires

@@ -1,12 +1,12 @@
 use Rattle.std.proofs.Common.{subst, sym}
-use Rattle.script_text.proofs.ScriptLaws.{breaks_no_rule}
-use Rattle.command_words.specs.Commands.{run}
+use Rattle.play_script.proofs.ScriptLaws.{breaks_no_rule}
+use Rattle.cli_commands.specs.Commands.{run}
 use Rattle.qj_cli.specs.Sound.{AreSound}
 use Rattle.qj_cli.specs.Plays.{Plays}
-use Rattle.command_words.specs.Usage.{bytes_of}
-use Rattle.exit_lines.specs.Uses.{read_from, written_to, done_to}
+use Rattle.cli_commands.specs.Usage.{bytes_of}
+use Rattle.cli_commands.specs.Uses.{read_from, written_to, done_to}
 use Rattle.qj_cli.specs.Does.{ReadsNone}
-use Rattle.command_words.proofs.WordLaws.{one_command, right_words}
+use Rattle.cli_commands.proofs.WordLaws.{one_command, right_words}
 use Rattle.qj_cli.proofs.CompleteLaws.{completes, does_for}
 use Rattle.qj_cli.proofs.top.qjm.Goals as goal
 
@@ -23,7 +23,9 @@ returns-in-Err-clause-done g c =
     let disk = done_to g.D.DiskModel.tells g.D.DiskModel.view g.D.DiskModel.faults g.D.DiskModel.steady g.D.DiskModel.left c.args.disk c.in-Err.disk in
     let plays : Plays AreSound source sink c.run_script.result =
     subst (λ k. Plays AreSound source (written_to g.K.Sink.taken g.K.Sink.faults k c.run_script.new.sink) c.run_script.result) c.in-Err.ensures.threads.3
-    (subst (λ s. Plays AreSound (read_from g.S.Source.left g.S.Source.faults s c.run_script.new.source) (written_to g.K.Sink.taken g.K.Sink.faults c.qjm_alone.new.sink c.run_script.new.sink) c.run_script.result) c.in-Err.ensures.threads.2 c.run_script.ensures) in
+    (subst (λ s. Plays AreSound (read_from g.S.Source.left g.S.Source.faults s c.run_script.new.source)
+    (written_to g.K.Sink.taken g.K.Sink.faults c.qjm_alone.new.sink c.run_script.new.sink) c.run_script.result) c.in-Err.ensures.threads.2
+    c.run_script.ensures) in
     λ asked e. does_for (bytes_of c.args.words.now) run asked source sink disk c.run_script.result c.in-Err.ensures.threads.0 e (plays, c.in-Err.ensures.threads.1)
 
 pub returns-in-Err-clause-unread : goal.returns-in-Err-clause-unread
@@ -37,4 +39,5 @@ returns-in-Err-clause-complete g c =
     λ asked e. completes asked source sink disk c.run_script.result breaks_no_rule (returns-in-Err-clause-done g c asked e)
 
 pub returns-in-Err-clause-tells : goal.returns-in-Err-clause-tells
-returns-in-Err-clause-tells g c = subst (λ d. (g.D.DiskModel.tells c.args.disk → g.D.DiskModel.tells d) × (g.D.DiskModel.tells d → g.D.DiskModel.tells c.args.disk)) (sym c.in-Err.ensures.threads.1) ((λ t. t), (λ t. t))
+returns-in-Err-clause-tells g c = subst (λ d. (g.D.DiskModel.tells c.args.disk → g.D.DiskModel.tells d)
+    × (g.D.DiskModel.tells d → g.D.DiskModel.tells c.args.disk)) (sym c.in-Err.ensures.threads.1) ((λ t. t), (λ t. t))

@@ -1,11 +1,11 @@
 use Rattle.std.proofs.Common.{refl, sym, subst, ◌∙◌}
 use Rattle.std.proofs.lemmas.Result.{IfOk-weaker, IfErr-weaker}
-use Rattle.script_text.proofs.ScriptLaws.{breaks_no_rule}
-use Rattle.command_words.specs.Commands.{asked_in, run, AskFor}
-use Rattle.command_words.specs.Usage.{bytes_of}
-use Rattle.exit_lines.specs.Uses.{read_from, written_to, done_to}
+use Rattle.play_script.proofs.ScriptLaws.{breaks_no_rule}
+use Rattle.cli_commands.specs.Commands.{asked_in, run, AskFor}
+use Rattle.cli_commands.specs.Usage.{bytes_of}
+use Rattle.cli_commands.specs.Uses.{read_from, written_to, done_to}
 use Rattle.qj_cli.specs.Does.{ReadsNone, NeedsThreads}
-use Rattle.command_words.proofs.WordLaws.{one_command, right_words}
+use Rattle.cli_commands.proofs.WordLaws.{one_command, right_words}
 use Rattle.qj_cli.proofs.CompleteLaws.{completes, does_for, refused, needs_run, no_exit}
 use Rattle.qj_cli.proofs.top.qjm_alone.Goals as goal
 
@@ -53,7 +53,8 @@ pub returns-in-Ok-clause-alone : goal.returns-in-Ok-clause-alone
 returns-in-Ok-clause-alone g c =
     λ asks.
     no_exit c.do_command.result
-    (IfOk-weaker c.do_command.result _ _ (λ exit no. no (subst NeedsThreads (one_command (bytes_of c.args.words.now) run (asked_in c.in-Ok.command) asks c.in-Ok.ensures) tt)) c.do_command.ensures.alone)
+    (IfOk-weaker c.do_command.result _ _ (λ exit no. no (subst NeedsThreads
+    (one_command (bytes_of c.args.words.now) run (asked_in c.in-Ok.command) asks c.in-Ok.ensures) tt)) c.do_command.ensures.alone)
 
 pub returns-in-Err-clause-refused : goal.returns-in-Err-clause-refused
 returns-in-Err-clause-refused g c =

@@ -1,6 +1,6 @@
 use Rattle.std.proofs.Common.{reverse}
 use Rattle.std.proofs.lemmas.List.{reverse-append}
-use Rattle.node_history.specs.Entries.{now}
+use Rattle.journal_history.specs.Entries.{now}
 use Rattle.run_safety.proofs.Places.{Earlier-append}
 use Rattle.run_safety.proofs.Oks.{newest_rises}
 use Rattle.run_safety.proofs.laws.newest_never_falls.Goals as goal

@@ -9,5 +9,7 @@ pub returns-in_ok-close-in_default-get : goal.returns-in_ok-close-in_default-get
 returns-in_ok-close-in_default-get c = record {
   count = omega (arith, c.in_ok-close-in_default-get.ensures.none);
   won = λ epoch rest.
-      broken_off c.args.nodes epoch c.in-Call.node c.args.self.now c.close.new.self c.args.line.now c.in-Call.request c.in-Call.told rest c.in-Call.is (λ x e. c.in_default-get.not-NewEpoch x (c.get.ensures ∙ e)) c.in_ok-close-in_default-get.ensures.won c.in_ok-close-in_default-get.ensures.none;
+      broken_off c.args.nodes epoch c.in-Call.node c.args.self.now c.close.new.self c.args.line.now c.in-Call.request c.in-Call.told rest c.in-Call.is
+      (λ x e. c.in_default-get.not-NewEpoch x (c.get.ensures ∙ e)) c.in_ok-close-in_default-get.ensures.won
+      c.in_ok-close-in_default-get.ensures.none;
 }

@@ -1,5 +1,5 @@
 use Rattle.std.proofs.Common.{◌≡◌, ◌+◌, ◌∷◌, length, take}
-use Rattle.ns_rules.specs.Admit.{blocks_at}
+use Rattle.ns_edits.specs.Admit.{blocks_at}
 use Rattle.ns_edits.proofs.admitting.concat.check_count.Given as goal
 
 abbrev pub invariant-loop-source : goal.invariant-loop-source

@@ -1,5 +1,5 @@
 use Rattle.std.proofs.Common.{◌≡◌, drop}
-use Rattle.ns_rules.specs.Admit.{bad_paths}
+use Rattle.ns_edits.specs.Admit.{bad_paths}
 use Rattle.ns_edits.proofs.admitting.concat.check_paths.Given as goal
 
 abbrev pub invariant-loop-path : goal.invariant-loop-path

@@ -1,5 +1,5 @@
 use Rattle.std.proofs.Common.{◌≡◌, [], ◌∷◌, drop, take}
-use Rattle.ns_rules.specs.Admit.{admit_sources}
+use Rattle.ns_edits.specs.Admit.{admit_sources}
 use Rattle.ns_edits.proofs.Sources.{listed}
 use Rattle.ns_edits.proofs.admitting.concat.check_sources.Given as goal
 

@@ -1,5 +1,5 @@
 use Rattle.std.proofs.Common.{◌≡◌, drop}
-use Rattle.ns_rules.specs.Admit.{are_within}
+use Rattle.ns_edits.specs.Admit.{are_within}
 use Rattle.ns_edits.proofs.admitting.kinds.are_all_within.Given as goal
 
 abbrev pub invariant-loop-length : goal.invariant-loop-length

@@ -1,5 +1,5 @@
 use Rattle.std.proofs.Common.{◌≡◌, [], drop, take}
-use Rattle.ns_rules.specs.Admit.{ancestors}
+use Rattle.ns_edits.specs.Admit.{ancestors}
 use Rattle.ns_edits.proofs.admitting.walks.walk_above.Given as goal
 
 abbrev pub invariant-loop-i : goal.invariant-loop-i

@@ -1,5 +1,5 @@
 use Rattle.std.proofs.Common.{◌≡◌, ◌∷◌, take}
-use Rattle.ns_rules.specs.Admit.{blocks_at}
+use Rattle.ns_edits.specs.Admit.{blocks_at}
 use Rattle.ns_edits.proofs.applying.concat.all_blocks.Given as goal
 
 abbrev pub invariant-loop-source : goal.invariant-loop-source

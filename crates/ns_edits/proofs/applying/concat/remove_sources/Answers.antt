@@ -2,7 +2,7 @@ use Rattle.std.proofs.Common.{◌≡◌, ◌∷◌, ◌+◌, ◌∙◌, ap, sym,
 use Rattle.ns_tree.specs.declared.inode.Row.{Row}
 use Rattle.ns_path.specs.Path.{parent_of}
 use Rattle.ns_tree.specs.Space.{without, raise}
-use Rattle.ns_rules.specs.Apply.{AreSources, without_sources}
+use Rattle.ns_edits.specs.Apply.{AreSources, without_sources}
 use Rattle.ns_edits.proofs.Joins.{next_source, sources_left}
 use Rattle.ns_edits.proofs.applying.concat.remove_sources.Goals as goal
 

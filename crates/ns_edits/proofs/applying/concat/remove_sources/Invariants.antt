@@ -1,5 +1,5 @@
 use Rattle.std.proofs.Common.{◌≡◌, drop}
-use Rattle.ns_rules.specs.Apply.{AreSources, without_sources}
+use Rattle.ns_edits.specs.Apply.{AreSources, without_sources}
 use Rattle.ns_edits.proofs.applying.concat.remove_sources.Given as goal
 
 abbrev pub invariant-loop-source : goal.invariant-loop-source

@@ -1,5 +1,5 @@
 use Rattle.std.proofs.Common.{ap, sym, ◌∙◌, subst}
-use Rattle.ns_rules.specs.Apply.{with_blocks}
+use Rattle.ns_edits.specs.Apply.{with_blocks}
 use Rattle.ns_tree.specs.Space.{IsInode}
 use Rattle.ns_edits.proofs.Inodes.{closed_good}
 use Rattle.ns_edits.proofs.Changes.{changed_by}
@@ -13,4 +13,5 @@ change-requires-clause-inode c i j found good set =
 pub returns : goal.returns
 returns c =
     let set = c.change.ensures in
-    set.4 ∙ changed_by c.args.path.now (with_blocks c.args.mtime c.args.atime c.args.lengths) set.0 set.1 c.args.ns.now c.show_invariant.ensures set.2 (sym set.3.leaves ∙ set.3.met ∙ ap (with_blocks c.args.mtime c.args.atime c.args.lengths) set.3.shows)
+    set.4 ∙ changed_by c.args.path.now (with_blocks c.args.mtime c.args.atime c.args.lengths) set.0 set.1 c.args.ns.now c.show_invariant.ensures set.2
+    (sym set.3.leaves ∙ set.3.met ∙ ap (with_blocks c.args.mtime c.args.atime c.args.lengths) set.3.shows)

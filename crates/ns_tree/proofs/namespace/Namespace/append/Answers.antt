@@ -13,5 +13,6 @@ invariant_of-self-2 c =
     c.in_ok-insert.ensures.ok ∙ ap (λ (n : ℕ). insert c.self.inside.rows n c.args.row) c.len-end.ensures.count in
     record {
       sound = subst (λ (xs : List Row). IsTree (record { pairs = xs; calls = c.self.inside.calls })) (sym rows)
-          (sound_append (record { pairs = c.self.inside.rows; calls = c.self.inside.calls }) c.args.row c.self.invariant.sound c.requires.path c.requires.short c.requires.inode (rw pairs c.requires.last) (rw pairs c.requires.parent));
+          (sound_append (record { pairs = c.self.inside.rows; calls = c.self.inside.calls }) c.args.row c.self.invariant.sound c.requires.path
+          c.requires.short c.requires.inode (rw pairs c.requires.last) (rw pairs c.requires.parent));
     }

@@ -28,7 +28,8 @@ invariant_of-self g c =
     let good : IsInode i = (each_at (IsPair c.self.inside.rows) c.self.inside.rows c.self.invariant.sound.pairs c.in-Ok.at root_pair at.in_range).inode in
     record {
       sound = subst (λ (xs : List Row). IsTree (record { pairs = xs; calls = c.self.inside.calls })) (sym rows)
-          (sound_set (record { pairs = c.self.inside.rows; calls = c.self.inside.calls }) c.args.path.now j i c.self.invariant.sound (c.requires.inode i j there good gave) found (c.requires.kind i j there gave));
+          (sound_set (record { pairs = c.self.inside.rows; calls = c.self.inside.calls }) c.args.path.now j i c.self.invariant.sound
+          (c.requires.inode i j there good gave) found (c.requires.kind i j there gave));
     }
 
 pub returns : goal.returns

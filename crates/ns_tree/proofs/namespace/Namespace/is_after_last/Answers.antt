@@ -12,5 +12,7 @@ returns c =
     let pairs : c.self.inside.rows ≡ c.args.self.now.pairs = ap (λ (s : Space). s.pairs) c.self.view_is in
     let x = c.row-last.result.now in
     let last : x.path ≡ last_path c.self.inside.rows =
-    ap (λ (y : Row). y.path) c.row-last.ensures ∙ (ap (λ (n : ℕ). (get_or c.self.inside.rows (n - 1) x).path) c.len.ensures.count ∙ sym (last_at c.self.inside.rows x (some_rows _ c.self.invariant.sound))) in
-    c.is_lt.ensures ∙ ap is_lt c.walk_order.ensures ∙ ap (λ (p : List ℕ). is_lt (walk_cmp p c.args.path.now)) (c.as_slice.ensures ∙ last) ∙ ap (λ (xs : List Row). is_after_last c.args.path.now xs) pairs
+    ap (λ (y : Row). y.path) c.row-last.ensures ∙ (ap (λ (n : ℕ). (get_or c.self.inside.rows (n - 1) x).path) c.len.ensures.count
+    ∙ sym (last_at c.self.inside.rows x (some_rows _ c.self.invariant.sound))) in
+    c.is_lt.ensures ∙ ap is_lt c.walk_order.ensures ∙ ap (λ (p : List ℕ). is_lt (walk_cmp p c.args.path.now)) (c.as_slice.ensures ∙ last)
+    ∙ ap (λ (xs : List Row). is_after_last c.args.path.now xs) pairs

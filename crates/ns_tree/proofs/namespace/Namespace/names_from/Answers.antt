@@ -23,32 +23,42 @@ loop-i-init c =
 pub part_from-below-requires : goal.part_from-below-requires
 part_from-below-requires c =
     let pairs : c.self.inside.rows ≡ c.args.self.now.pairs = ap (λ (s : Space). s.pairs) c.self.view_is in
-    let part : IsSubtreeEnd c.args.self.now.pairs c.args.path.now c.args.at c.subtree_end-end.result = subst (λ (xs : List Row). IsSubtreeEnd xs c.args.path.now c.args.at c.subtree_end-end.result) pairs c.subtree_end-end.ensures in
+    let part : IsSubtreeEnd c.args.self.now.pairs c.args.path.now c.args.at c.subtree_end-end.result =
+    subst (λ (xs : List Row). IsSubtreeEnd xs c.args.path.now c.args.at c.subtree_end-end.result) pairs c.subtree_end-end.ensures in
     let row : c.row.result.now ≡ get_or c.args.self.now.pairs c.loop-i.i c.row.result.now = subst (λ xs. c.row.result.now ≡ get_or xs c.loop-i.i c.row.result.now) pairs c.row.ensures in
-    let under : is_under c.args.path.now c.row.result.now.path ≡ true = subst (λ (x : Row). is_under c.args.path.now x.path ≡ true) (sym row) (part.under c.loop-i.i c.row.result.now (omega arith) (omega arith)) in
+    let under : is_under c.args.path.now c.row.result.now.path ≡ true =
+    subst (λ (x : Row). is_under c.args.path.now x.path ≡ true) (sym row) (part.under c.loop-i.i c.row.result.now (omega arith) (omega arith)) in
     rw (c.stem_of.ensures, c.as_slice-full.ensures) (under_long c.args.path.now c.row.result.now.path under)
 
 pub loop-i-preserved : goal.loop-i-preserved
 loop-i-preserved c =
     let pairs : c.self.inside.rows ≡ c.args.self.now.pairs = ap (λ (s : Space). s.pairs) c.self.view_is in
-    let part : IsSubtreeEnd c.args.self.now.pairs c.args.path.now c.args.at c.subtree_end-end.result = subst (λ (xs : List Row). IsSubtreeEnd xs c.args.path.now c.args.at c.subtree_end-end.result) pairs c.subtree_end-end.ensures in
+    let part : IsSubtreeEnd c.args.self.now.pairs c.args.path.now c.args.at c.subtree_end-end.result =
+    subst (λ (xs : List Row). IsSubtreeEnd xs c.args.path.now c.args.at c.subtree_end-end.result) pairs c.subtree_end-end.ensures in
     let row : c.row.result.now ≡ get_or c.args.self.now.pairs c.loop-i.i c.row.result.now = subst (λ xs. c.row.result.now ≡ get_or xs c.loop-i.i c.row.result.now) pairs c.row.ensures in
-    let under : is_under c.args.path.now c.row.result.now.path ≡ true = subst (λ (x : Row). is_under c.args.path.now x.path ≡ true) (sym row) (part.under c.loop-i.i c.row.result.now (omega arith) (omega arith)) in
+    let under : is_under c.args.path.now c.row.result.now.path ≡ true =
+    subst (λ (x : Row). is_under c.args.path.now x.path ≡ true) (sym row) (part.under c.loop-i.i c.row.result.now (omega arith) (omega arith)) in
     let within : c.loop-i.i < length c.args.self.now.pairs = omega (arith, part.in_range) in
     let part : c.part_from-below.result.now ≡ part_under c.args.path.now c.row.result.now.path = rw (c.part_from-below.ensures, c.stem_of.ensures, c.as_slice-full.ensures) refl in
     elim c.if-not-contains_slash.branch [
       | then-not-contains_slash+in_ok-from_slice+in_ok-push w ↦
-          let plain : has_slash (part_under c.args.path.now c.row.result.now.path) ≡ false = rw (← part) (sym c.contains_slash.ensures ∙ (let no : c.contains_slash.result ≡ false = grind (arith, nat_tests, w.if-not-contains_slash.true) in no)) in
-          rw (w.names-is, w.in_ok-push.ensures.items, w.in_ok-from_slice.ensures, part, c.loop-i.invariant) (sym (names_step_yes c.args.path.now c.args.self.now.pairs c.loop-i.i c.row.result.now row within under plain))
+          let plain : has_slash (part_under c.args.path.now c.row.result.now.path) ≡ false =
+          rw (← part) (sym c.contains_slash.ensures ∙ (let no : c.contains_slash.result ≡ false =
+          grind (arith, nat_tests, w.if-not-contains_slash.true) in no)) in
+          rw (w.names-is, w.in_ok-push.ensures.items, w.in_ok-from_slice.ensures, part, c.loop-i.invariant)
+          (sym (names_step_yes c.args.path.now c.args.self.now.pairs c.loop-i.i c.row.result.now row within under plain))
       | else-not-contains_slash w ↦
-          let deep : has_slash (part_under c.args.path.now c.row.result.now.path) ≡ true = rw (← part) (sym c.contains_slash.ensures ∙ (let yes : c.contains_slash.result ≡ true = grind (arith, nat_tests, w.if-not-contains_slash.false) in yes)) in
+          let deep : has_slash (part_under c.args.path.now c.row.result.now.path) ≡ true =
+          rw (← part) (sym c.contains_slash.ensures ∙ (let yes : c.contains_slash.result ≡ true =
+          grind (arith, nat_tests, w.if-not-contains_slash.false) in yes)) in
           rw (w.names-is, c.loop-i.invariant) (sym (names_step_no c.args.path.now c.args.self.now.pairs c.loop-i.i c.row.result.now row within under deep))
     ]
 
 pub returns : goal.returns
 returns c =
     let pairs : c.self.inside.rows ≡ c.args.self.now.pairs = ap (λ (s : Space). s.pairs) c.self.view_is in
-    let part : IsSubtreeEnd c.args.self.now.pairs c.args.path.now c.args.at c.subtree_end-end.result = subst (λ (xs : List Row). IsSubtreeEnd xs c.args.path.now c.args.at c.subtree_end-end.result) pairs c.subtree_end-end.ensures in
+    let part : IsSubtreeEnd c.args.self.now.pairs c.args.path.now c.args.at c.subtree_end-end.result =
+    subst (λ (xs : List Row). IsSubtreeEnd xs c.args.path.now c.args.at c.subtree_end-end.result) pairs c.subtree_end-end.ensures in
     let at : IsAt c.args.self.now.pairs c.args.path.now c.args.at = c.requires in
     let sound : IsTree c.args.self.now = subst IsTree c.self.view_is c.self.invariant.sound in
     let long : 0 < length c.args.path.now = at_long c.args.self.now c.args.path.now c.args.at sound at in

@@ -10,7 +10,8 @@ invariant_of-self c =
     let calls : c.self.inside.calls ≡ c.args.self.now.calls = ap (λ (s : Space). s.calls) c.self.view_is in
     record {
       sound = subst (λ (ns : List Noted). IsTree (record { pairs = c.self.inside.rows; calls = ns })) (sym c.note.ensures)
-          (sound_noted (record { pairs = c.self.inside.rows; calls = c.self.inside.calls }) c.args.call c.args.txid c.self.invariant.sound (rw calls c.requires.new) c.requires.positive (omega (arith, c.ranges.txid.fits)) (rw calls c.requires.later));
+          (sound_noted (record { pairs = c.self.inside.rows; calls = c.self.inside.calls }) c.args.call c.args.txid c.self.invariant.sound
+          (rw calls c.requires.new) c.requires.positive (omega (arith, c.ranges.txid.fits)) (rw calls c.requires.later));
     }
 
 pub returns : goal.returns

@@ -22,7 +22,8 @@ invariant_of-self-in-Err c =
     c.in_ok-insert-in-Err.ensures.ok ∙ sym (put_gap c.self.inside.rows c.args.row.path c.in-Err.at c.args.row.inode gap) in
     record {
       sound = subst (λ (xs : List Row). IsTree (record { pairs = xs; calls = c.self.inside.calls })) (sym rows)
-          (sound_put (record { pairs = c.self.inside.rows; calls = c.self.inside.calls }) c.args.row.path c.args.row.inode c.self.invariant.sound c.requires.path c.requires.short c.requires.inode (rw pairs c.requires.absent) (rw pairs c.requires.parent));
+          (sound_put (record { pairs = c.self.inside.rows; calls = c.self.inside.calls }) c.args.row.path c.args.row.inode c.self.invariant.sound
+          c.requires.path c.requires.short c.requires.inode (rw pairs c.requires.absent) (rw pairs c.requires.parent));
     }
 
 pub returns-clause-ok : goal.returns-clause-ok

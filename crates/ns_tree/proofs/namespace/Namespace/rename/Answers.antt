@@ -10,7 +10,7 @@ use Rattle.ns_tree.proofs.Run.{subtree_between}
 use Rattle.ns_tree.proofs.Turning.{named_map}
 use Rattle.ns_tree.proofs.Sound.{at_long, at_path}
 use Rattle.ns_tree.proofs.Ancestors.{emptied}
-use Rattle.ns_tree.proofs.Renames.{sound_renamed}
+use Rattle.ns_tree.proofs.RenameKeeps.{sound_renamed}
 use Rattle.ns_tree.proofs.namespace.Namespace.rename.Goals as goal
 
 pub unreachable-requires : goal.unreachable-requires
@@ -26,7 +26,9 @@ move_run-requires-clause-order c =
     order_cut c.self.inside.rows c.args.src.now c.in-Ok.at c.subtree_end-end.result long c.self.invariant.sound.ordered at c.subtree_end-end.ensures
 
 -- what the moves of the table make
-renamed_by : (xs new : List Row) (src dst : List ℕ) (run left : List Row) (paths : List (List ℕ)) → new ≡ put_at dst (named paths run) left → paths ≡ map (λ x. dst ++ drop (length src) x.path) run → renamed src dst xs ≡ put_at dst (map (λ x. pair (moved_path src dst x.path) x.inode) run) left → new ≡ renamed src dst xs
+renamed_by : (xs new : List Row) (src dst : List ℕ) (run left : List Row) (paths : List (List ℕ)) → new ≡ put_at dst (named paths run) left
+    → paths ≡ map (λ x. dst ++ drop (length src) x.path) run → renamed src dst xs ≡ put_at dst
+    (map (λ x. pair (moved_path src dst x.path) x.inode) run) left → new ≡ renamed src dst xs
 renamed_by xs new src dst run left paths is made whole =
     is ∙ ap (λ (ps : List (List ℕ)). put_at dst (named ps run) left) made ∙ ap (λ (zs : List Row). put_at dst zs left) (named_map (λ x. dst ++ drop (length src) x.path) run) ∙ sym whole
 
@@ -40,12 +42,14 @@ invariant_of-self c =
     let rows : c.move_run.new.self ≡ renamed c.args.src.now c.args.dst.now c.self.inside.rows =
     renamed_by c.self.inside.rows c.move_run.new.self c.args.src.now c.args.dst.now _ _ c.in_ok-paths-in-Ok.paths.items c.move_run.ensures c.in_ok-paths-in-Ok.ensures
     (λ i. put_at c.args.dst.now (map (λ x. pair (moved_path c.args.src.now c.args.dst.now x.path) x.inode) (run i)) (left i)) in
-    let source : Below c.args.src.now = below_root c.args.src.now (at_path (record { pairs = c.self.inside.rows; calls = c.self.inside.calls }) c.args.src.now c.in-Ok.at c.self.invariant.sound at) c.requires.src_below in
+    let source : Below c.args.src.now = below_root c.args.src.now (at_path (record { pairs = c.self.inside.rows; calls = c.self.inside.calls })
+    c.args.src.now c.in-Ok.at c.self.invariant.sound at) c.requires.src_below in
     let target : Below c.args.dst.now = below_root c.args.dst.now c.requires.path c.requires.dst_below in
     record {
       sound = subst (λ (xs : List Row). IsTree (record { pairs = xs; calls = c.self.inside.calls })) (sym rows)
           (sound_renamed (record { pairs = c.self.inside.rows; calls = c.self.inside.calls }) c.args.src.now c.args.dst.now c.self.invariant.sound source target c.requires.path c.requires.apart
-          (rw pairs c.requires.parent) (emptied (record { pairs = c.self.inside.rows; calls = c.self.inside.calls }) c.args.dst.now c.self.invariant.sound target (rw pairs c.requires.empty)) (rw pairs c.requires.short));
+          (rw pairs c.requires.parent) (emptied (record { pairs = c.self.inside.rows; calls = c.self.inside.calls }) c.args.dst.now
+          c.self.invariant.sound target (rw pairs c.requires.empty)) (rw pairs c.requires.short));
     }
 
 pub returns-clause-ok : goal.returns-clause-ok

@@ -12,5 +12,6 @@ returns c later =
     let rising : AreRising 0 (2 ^ 64 - 1) c.args.self.now = subst (AreRising 0 (2 ^ 64 - 1)) c.self.view_is c.self.invariant.rising in
     let here : mark_of c.args.call.now < length c.self.inside.marks.items = rw (← c.mark_of.ensures.mark, c.self.invariant.marks) c.mark_of.ensures.bound in
     let first : Noted = record { call = record { client = []; number = 0 }; txid = 0 } in
-    let before : nat_le (get_or c.args.self.now 0 first).txid c.index.result.now ≡ false = subst (λ (ns : List Noted). nat_le (get_or ns 0 first).txid c.index.result.now ≡ false) c.as_slice-calls.ensures later in
+    let before : nat_le (get_or c.args.self.now 0 first).txid c.index.result.now ≡ false =
+    subst (λ (ns : List Noted). nat_le (get_or ns 0 first).txid c.index.result.now ≡ false) c.as_slice-calls.ensures later in
     none_marked c.args.call.now c.self.inside.marks.items c.index.result.now (2 ^ 64 - 1) c.args.self.now first marked rising here (rw (← c.mark_of.ensures.mark) c.index.ensures) before

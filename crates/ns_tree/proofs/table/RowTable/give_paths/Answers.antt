@@ -20,7 +20,8 @@ loop-path-preserved c =
       room = omega (arith, kept, c.loop-path.invariant.room);
       same = c.loop-path.invariant.same
           ∙ (ap (λ (ps : List (List ℕ)). given c.args.from ps c.loop-path.self) c.in-Some.ensures.items
-          ∙ given_last c.args.from c.pop.new.self.items c.in-Some.path c.loop-path.self root_pair (c.loop-path.at - 1) (omega (arith, one, size, c.loop-path.invariant.at)) (omega (arith, one, c.loop-path.invariant.at, c.loop-path.invariant.room))
+          ∙ given_last c.args.from c.pop.new.self.items c.in-Some.path c.loop-path.self root_pair (c.loop-path.at - 1)
+          (omega (arith, one, size, c.loop-path.invariant.at)) (omega (arith, one, c.loop-path.invariant.at, c.loop-path.invariant.room))
           ∙ ap (given c.args.from c.pop.new.self.items) (sym set_is));
     }
 

@@ -16,5 +16,6 @@ pub returns : goal.returns
 returns c =
     let boxes = c.self.inside.boxes in
     let b = c.into_iter-row-iterator.ensures.into_iter_gives in
-    let e = YieldsList-end (YieldsList-from_vec {s = c.into_iter-row-iterator.result} boxes.items b.0 (b.1 ∙ boxes.ok.0)) c.loop-row.yielded c.loop-row.row-iterator c.loop-row.yielded_by c.next.result c.next.new.self c.in-None.is c.next.ensures.steps in
+    let e = YieldsList-end (YieldsList-from_vec {s = c.into_iter-row-iterator.result} boxes.items b.0 (b.1 ∙ boxes.ok.0)) c.loop-row.yielded
+    c.loop-row.row-iterator c.loop-row.yielded_by c.next.result c.next.new.self c.in-None.is c.next.ensures.steps in
     c.loop-row.invariant ∙ ap (λ l. map (λ b. b.value) l) (sym (map-id c.loop-row.yielded) ∙ e.0) ∙ c.self.view_is

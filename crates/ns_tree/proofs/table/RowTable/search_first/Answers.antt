@@ -6,7 +6,8 @@ use Rattle.ns_tree.proofs.Boxes.{map-take}
 use Rattle.ns_tree.proofs.table.RowTable.search_first.Goals as goal
 
 pub search_hinted-requires : goal.search_hinted-requires
-search_hinted-requires c = rw (c.deref.ensures.value) (subst IsInWalkOrder (ap (take c.args.count) (sym c.self.view_is) ∙ sym (map-take (λ b. b.value) c.args.count c.self.inside.boxes.items)) c.requires.order)
+search_hinted-requires c = rw (c.deref.ensures.value) (subst IsInWalkOrder
+    (ap (take c.args.count) (sym c.self.view_is) ∙ sym (map-take (λ b. b.value) c.args.count c.self.inside.boxes.items)) c.requires.order)
 
 pub returns : goal.returns
 returns c =

@@ -1,3 +1,0 @@
-pub mod ActiveLaws
-pub mod EntryLaws
-pub mod RoundLaws

@@ -1,4 +1,0 @@
-pub mod Actives
-pub mod Entering
-pub mod Acting
-pub mod EntryAnswers

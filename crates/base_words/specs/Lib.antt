@@ -1,0 +1,7 @@
+pub mod Fields
+pub mod Padded
+pub mod Numbers
+pub mod Words
+pub mod Hex
+pub mod WordNumbers
+pub mod Appends

@@ -1,7 +1,0 @@
-use Rattle.std.proofs.Common.{◌+◌, ◌-◌}
-use Rattle.caller_seats.proofs.IndexLaws.{drop_index}
-use Rattle.caller_seats.proofs.calls_to.CallsTo.drop_next.Goals as goal
-
-pub returns-clause-index : goal.returns-clause-index
-returns-clause-index c node past marks h =
-    drop_index node (c.next_number.result + (c.args.call - 1)) past marks c.args.self.now c.insert.new.self c.in_ok-insert.ensures.updates h

@@ -1,0 +1,11 @@
+pub mod ToldLaws
+pub mod GenLaws
+pub mod WordLaws
+pub mod ListLaws
+pub mod OneListing
+pub mod CheckLaws
+pub mod AnswerLaws
+pub mod CrashLaws
+pub mod EndedLaws
+pub mod NodeLaws
+pub mod ServingLaws

@@ -1,0 +1,444 @@
+-- The words of commands, and where others stop being some.
+use Rattle.std.proofs.Common.{◌≡◌, ◌≢◌, ◌≤◌, ℕ, length, decimal, Bool, true, false, List, [], ◌∷◌, ◌||◌, Some, refl, sym, ap, subst, ◌∙◌, arith, inl, inr, ◌⊎◌, ⊎_elim}
+use Rattle.std.specs.Prelude.{codes, Option, None, MatchOption, if◌then◌else◌}
+use Rattle.std.specs.Str.{bytes_eq}
+use Rattle.std.specs.Str.Parse.{digits_value}
+use Rattle.std.proofs.lemmas.Slice.Eq.{bytes_eq-Decides}
+use Rattle.std.proofs.lemmas.Bool.{or_cases}
+use Rattle.base_words.specs.WordNumbers.{is_number}
+use Rattle.base_words.proofs.NumberLaws.{told_number}
+use Rattle.play_script.specs.Words.{greatest}
+use Rattle.play_script.proofs.NumberLaws.{number_is, number_again}
+use Rattle.play_maker.specs.Generated.{IsWithin}
+use Rattle.cli_commands.specs.declared.tool.SegmentTool.{SegmentTool}
+use Rattle.cli_commands.specs.declared.tool.SegmentTool.TheVariants as segment
+use Rattle.cli_commands.specs.declared.tool.ImageTool.{ImageTool}
+use Rattle.cli_commands.specs.declared.tool.ImageTool.TheVariants as image
+use Rattle.cli_commands.specs.declared.tool.Tool.{Tool}
+use Rattle.cli_commands.specs.declared.tool.Tool.TheVariants as tool
+use Rattle.cli_commands.specs.Commands.{Asked, play, run, node, fsck, gen, list, segment_word, image_word, words_of, IsAllowed, AskFor, IsCommand}
+use Rattle.cli_commands.specs.Usage.{is_alone, is_oev, is_oiv, after_one, after_tool, after_program, after_number, behind_edits, after_nodes, after_gen, usage_of}
+use Rattle.cli_commands.specs.Words.{StopAt, UsageIsOfFirstWrongWord}
+
+-- ## Words and their tests
+bytes_other : (a b : List ℕ) → bytes_eq a b ≡ false → a ≡ b → ⊥
+bytes_other a b n e = let y : bytes_eq a b ≡ true = (bytes_eq-Decides a b).1 e in absurd (cc (n, y))
+
+both_not : (a : Bool) → a ≡ false → a ≡ true → ⊥
+both_not a n y = cc (n, y)
+
+-- one of three
+one_of_three : (word a b c : List ℕ) → (bytes_eq word a || (bytes_eq word b || bytes_eq word c)) ≡ true → (word ≡ a) ⊎ ((word ≡ b) ⊎ (word ≡ c))
+one_of_three word a b c t = ⊎_elim (λ y. inl ((bytes_eq-Decides word a).0 y))
+    (λ r. inr (⊎_elim (λ y. inl ((bytes_eq-Decides word b).0 y)) (λ y. inr ((bytes_eq-Decides word c).0 y))
+    (or_cases (bytes_eq word b) (bytes_eq word c) r)))
+    (or_cases (bytes_eq word a) (bytes_eq word b || bytes_eq word c) t)
+
+alone_word : (word : List ℕ) → is_alone word ≡ true → IsCommand (word ∷ [])
+alone_word word t = of (or_cases (bytes_eq word (codes "play")) (bytes_eq word (codes "run") || (bytes_eq word (codes "node") || bytes_eq word (codes "fsck"))) t)
+  where
+    by : (word ≡ codes "run") ⊎ ((word ≡ codes "node") ⊎ (word ≡ codes "fsck")) → IsCommand (word ∷ [])
+    by (inl e) = (run, record { words_are = ap (λ (w : List ℕ). w ∷ []) e; allowed = tt })
+    by (inr (inl e)) = (node, record { words_are = ap (λ (w : List ℕ). w ∷ []) e; allowed = tt })
+    by (inr (inr e)) = (fsck, record { words_are = ap (λ (w : List ℕ). w ∷ []) e; allowed = tt })
+
+    of : (bytes_eq word (codes "play") ≡ true) ⊎ ((bytes_eq word (codes "run") || (bytes_eq word (codes "node") || bytes_eq word (codes "fsck"))) ≡ true) → IsCommand (word ∷ [])
+    of (inl y) = (play, record { words_are = ap (λ (w : List ℕ). w ∷ []) ((bytes_eq-Decides word (codes "play")).0 y); allowed = tt })
+    of (inr y) = by (one_of_three word (codes "run") (codes "node") (codes "fsck") y)
+
+oev_word : (word : List ℕ) → is_oev word ≡ true → (of : SegmentTool) × (word ≡ segment_word of)
+oev_word word t = by (one_of_three word (codes "list") (codes "stats") (codes "json") t)
+  where
+    by : (word ≡ codes "list") ⊎ ((word ≡ codes "stats") ⊎ (word ≡ codes "json")) → (of : SegmentTool) × (word ≡ segment_word of)
+    by (inl e) = (segment.List, e)
+    by (inr (inl e)) = (segment.Stats, e)
+    by (inr (inr e)) = (segment.Json, e)
+
+oiv_word : (word : List ℕ) → is_oiv word ≡ true → (of : ImageTool) × (word ≡ image_word of)
+oiv_word word t = by (one_of_three word (codes "delimited") (codes "sizes") (codes "json") t)
+  where
+    by : (word ≡ codes "delimited") ⊎ ((word ≡ codes "sizes") ⊎ (word ≡ codes "json")) → (of : ImageTool) × (word ≡ image_word of)
+    by (inl e) = (image.Delimited, e)
+    by (inr (inl e)) = (image.Sizes, e)
+    by (inr (inr e)) = (image.Json, e)
+
+is_segment_tool : (of : SegmentTool) → is_oev (segment_word of) ≡ true
+is_segment_tool segment.List = refl
+is_segment_tool segment.Stats = refl
+is_segment_tool segment.Json = refl
+
+is_image_tool : (of : ImageTool) → is_oiv (image_word of) ≡ true
+is_image_tool image.Delimited = refl
+is_image_tool image.Sizes = refl
+is_image_tool image.Json = refl
+
+-- ## What stands after the first word of a command
+heads : (a b : List ℕ) (xs ys : List (List ℕ)) → a ∷ xs ≡ b ∷ ys → a ≡ b
+heads a b xs ys e = cc e
+
+tails : (a b : List ℕ) (xs ys : List (List ℕ)) → a ∷ xs ≡ b ∷ ys → xs ≡ ys
+tails a b xs ys e = cc e
+
+no_words : (asked : Asked) → [] ≡ words_of asked → ⊥
+no_words play e = cc e
+no_words run e = cc e
+no_words node e = cc e
+no_words fsck e = cc e
+no_words (gen number edits nodes) e = cc e
+no_words (list of name) e = cc e
+
+-- a command begins with a word that is alone, with that of a program, or with `gen`
+first_word : (word : List ℕ) (words : List (List ℕ)) (asked : Asked) → word ∷ words ≡ words_of asked → (is_alone word ≡ true) ⊎ ((word ≡ codes "oev") ⊎ ((word ≡ codes "oiv") ⊎ (word ≡ codes "gen")))
+first_word word words play e = inl (ap is_alone (heads word (codes "play") words [] e))
+first_word word words run e = inl (ap is_alone (heads word (codes "run") words [] e))
+first_word word words node e = inl (ap is_alone (heads word (codes "node") words [] e))
+first_word word words fsck e = inl (ap is_alone (heads word (codes "fsck") words [] e))
+first_word word words (gen number edits nodes) e = inr (inr (inr (heads word (codes "gen") words (decimal number ∷ decimal edits ∷ decimal nodes ∷ []) e)))
+first_word word words (list (tool.Oev of) name) e = inr (inl (heads word (codes "oev") words (segment_word of ∷ name ∷ []) e))
+first_word word words (list (tool.Oiv of) name) e = inr (inr (inl (heads word (codes "oiv") words (image_word of ∷ name ∷ []) e)))
+
+-- a program isn't a command alone
+apart : (word program : List ℕ) → is_alone program ≡ false → is_alone word ≡ true → word ≡ program → ⊥
+apart word program n y e = both_not (is_alone program) n (sym (ap is_alone e) ∙ y)
+
+after_alone : (word : List ℕ) (words : List (List ℕ)) (asked : Asked) → is_alone word ≡ true → word ∷ words ≡ words_of asked → words ≡ []
+after_alone word words play y e = tails word (codes "play") words [] e
+after_alone word words run y e = tails word (codes "run") words [] e
+after_alone word words node y e = tails word (codes "node") words [] e
+after_alone word words fsck y e = tails word (codes "fsck") words [] e
+after_alone word words (gen number edits nodes) y e = absurd (apart word (codes "gen") refl y (heads word (codes "gen") words (decimal number ∷ decimal edits ∷ decimal nodes ∷ []) e))
+after_alone word words (list (tool.Oev of) name) y e = absurd (apart word (codes "oev") refl y (heads word (codes "oev") words (segment_word of ∷ name ∷ []) e))
+after_alone word words (list (tool.Oiv of) name) y e = absurd (apart word (codes "oiv") refl y (heads word (codes "oiv") words (image_word of ∷ name ∷ []) e))
+
+after_oev_is : (words : List (List ℕ)) → IsCommand (codes "oev" ∷ words) → (of : SegmentTool) × (name : List ℕ) × (words ≡ segment_word of ∷ name ∷ [])
+after_oev_is words (play, e) = absurd (bytes_other (codes "oev") (codes "play") refl (heads (codes "oev") (codes "play") words [] e.words_are))
+after_oev_is words (run, e) = absurd (bytes_other (codes "oev") (codes "run") refl (heads (codes "oev") (codes "run") words [] e.words_are))
+after_oev_is words (node, e) = absurd (bytes_other (codes "oev") (codes "node") refl (heads (codes "oev") (codes "node") words [] e.words_are))
+after_oev_is words (fsck, e) = absurd (bytes_other (codes "oev") (codes "fsck") refl (heads (codes "oev") (codes "fsck") words [] e.words_are))
+after_oev_is words (gen number edits nodes, e) = absurd (bytes_other (codes "oev") (codes "gen") refl
+    (heads (codes "oev") (codes "gen") words (decimal number ∷ decimal edits ∷ decimal nodes ∷ []) e.words_are))
+after_oev_is words (list (tool.Oev of) name, e) = (of, name, tails (codes "oev") (codes "oev") words (segment_word of ∷ name ∷ []) e.words_are)
+after_oev_is words (list (tool.Oiv of) name, e) = absurd (bytes_other (codes "oev") (codes "oiv") refl (heads (codes "oev") (codes "oiv") words (image_word of ∷ name ∷ []) e.words_are))
+
+after_oiv_is : (words : List (List ℕ)) → IsCommand (codes "oiv" ∷ words) → (of : ImageTool) × (name : List ℕ) × (words ≡ image_word of ∷ name ∷ [])
+after_oiv_is words (play, e) = absurd (bytes_other (codes "oiv") (codes "play") refl (heads (codes "oiv") (codes "play") words [] e.words_are))
+after_oiv_is words (run, e) = absurd (bytes_other (codes "oiv") (codes "run") refl (heads (codes "oiv") (codes "run") words [] e.words_are))
+after_oiv_is words (node, e) = absurd (bytes_other (codes "oiv") (codes "node") refl (heads (codes "oiv") (codes "node") words [] e.words_are))
+after_oiv_is words (fsck, e) = absurd (bytes_other (codes "oiv") (codes "fsck") refl (heads (codes "oiv") (codes "fsck") words [] e.words_are))
+after_oiv_is words (gen number edits nodes, e) = absurd (bytes_other (codes "oiv") (codes "gen") refl
+    (heads (codes "oiv") (codes "gen") words (decimal number ∷ decimal edits ∷ decimal nodes ∷ []) e.words_are))
+after_oiv_is words (list (tool.Oev of) name, e) = absurd (bytes_other (codes "oiv") (codes "oev") refl (heads (codes "oiv") (codes "oev") words (segment_word of ∷ name ∷ []) e.words_are))
+after_oiv_is words (list (tool.Oiv of) name, e) = (of, name, tails (codes "oiv") (codes "oiv") words (image_word of ∷ name ∷ []) e.words_are)
+
+-- ## Where words stop being a command
+some_play : IsCommand (codes "play" ∷ [])
+some_play = (play, record { words_are = refl; allowed = tt })
+
+wrong_first : (word : List ℕ) (words : List (List ℕ)) → is_alone word ≡ false → (word ≡ codes "oev" → ⊥) → (word ≡ codes "oiv" → ⊥) → (word ≡ codes "gen" → ⊥) → StopAt (word ∷ words) 0
+wrong_first word words a o p q = record {
+  none = λ c. none words c.0 c.1.words_are;
+  within = omega arith;
+  before = (codes "play" ∷ [], some_play);
+  further = λ l b. none b.0 b.1.0 b.1.1.words_are;
+}
+  where
+    none : (others : List (List ℕ)) (asked : Asked) → word ∷ others ≡ words_of asked → ⊥
+    none others asked e = ⊎_elim (both_not (is_alone word) a) (⊎_elim o (⊎_elim p q)) (first_word word others asked e)
+
+-- a command of one word, and others after it
+alone_first : (word : List ℕ) (words : List (List ℕ)) → is_alone word ≡ true → IsCommand (word ∷ []) → MatchOption (after_one words) (IsCommand (word ∷ words)) (StopAt (word ∷ words))
+alone_first word [] y c = c
+alone_first word (other ∷ words) y c = record {
+  none = λ k. absurd (cc (after_alone word (other ∷ words) k.0 y k.1.words_are));
+  within = omega arith;
+  before = ([], c);
+  further = λ l b. absurd (cc (after_alone word (other ∷ b.0) b.1.0 y b.1.1.words_are));
+}
+
+-- ## After a program
+-- its tools with their words, of which there is one, and the test of a word
+module _ {W : Type 0} (program : List ℕ) (word_for : W → List ℕ) (test : List ℕ → Bool) (some : W)
+    (behind_is : (words : List (List ℕ)) → IsCommand (program ∷ words) → (of : W) × (name : List ℕ) × (words ≡ word_for of ∷ name ∷ []))
+    (is_one : (of : W) (name : List ℕ) → IsCommand (program ∷ word_for of ∷ name ∷ []))
+    (named : (word : List ℕ) → test word ≡ true → (of : W) × (word ≡ word_for of)) (passes : (of : W) → test (word_for of) ≡ true) where
+  tool_first : (of : W) (words : List (List ℕ)) → MatchOption (after_tool words) (IsCommand (program ∷ word_for of ∷ words)) (StopAt (program ∷ word_for of ∷ words))
+  tool_first of [] = record {
+    none = λ c. let h = behind_is (word_for of ∷ []) c in absurd (cc h.2);
+    within = omega arith;
+    before = ([] ∷ [], is_one of []);
+    further = λ l b. absurd (omega (arith, l));
+  }
+  tool_first of (name ∷ []) = is_one of name
+  tool_first of (name ∷ word ∷ words) = record {
+    none = λ c. let h = behind_is (word_for of ∷ name ∷ word ∷ words) c in absurd (cc h.2);
+    within = omega arith;
+    before = ([], is_one of name);
+    further = λ l b. let h = behind_is (word_for of ∷ name ∷ word ∷ b.0) b.1 in absurd (cc h.2);
+  }
+
+  no_tool : (word : List ℕ) (words : List (List ℕ)) → test word ≡ false → IsCommand (program ∷ word ∷ words) → ⊥
+  no_tool word words n c =
+      let h = behind_is (word ∷ words) c in
+      let is : word ≡ word_for h.0 = heads word (word_for h.0) words (h.1 ∷ []) h.2 in
+      both_not (test word) n (ap test is ∙ passes h.0)
+
+  wrong_tool : (word : List ℕ) (words : List (List ℕ)) → test word ≡ false → StopAt (program ∷ word ∷ words) 1
+  wrong_tool word words n = record {
+    none = no_tool word words n;
+    within = omega arith;
+    before = (word_for some ∷ [] ∷ [], is_one some []);
+    further = λ l b. no_tool word b.0 n b.1;
+  }
+
+  tool_missing : StopAt (program ∷ []) 1
+  tool_missing = record {
+    none = λ c. let h = behind_is [] c in absurd (cc h.2);
+    within = omega arith;
+    before = (word_for some ∷ [] ∷ [], is_one some []);
+    further = λ l b. absurd (omega (arith, l));
+  }
+
+  program_by : (word : List ℕ) (words : List (List ℕ)) (t : Bool) → test word ≡ t
+      → MatchOption (after_program test (word ∷ words)) (IsCommand (program ∷ word ∷ words)) (StopAt (program ∷ word ∷ words))
+  unfolding after_program
+  program_by word words true e =
+      let is = named word e in
+      rw e (subst (λ w. MatchOption (after_tool words) (IsCommand (program ∷ w ∷ words)) (StopAt (program ∷ w ∷ words))) (sym is.1) (tool_first is.0 words))
+  program_by word words false e = rw e (wrong_tool word words e)
+
+  program_first : (words : List (List ℕ)) → MatchOption (after_program test words) (IsCommand (program ∷ words)) (StopAt (program ∷ words))
+  unfolding after_program
+  program_first [] = tool_missing
+  program_first (word ∷ words) = program_by word words (test word) refl
+
+oev_first : (words : List (List ℕ)) → MatchOption (after_program is_oev words) (IsCommand (codes "oev" ∷ words)) (StopAt (codes "oev" ∷ words))
+oev_first = program_first (codes "oev") segment_word is_oev segment.List after_oev_is (λ of name. (list (tool.Oev of) name, record { words_are = refl; allowed = tt })) oev_word is_segment_tool
+
+oiv_first : (words : List (List ℕ)) → MatchOption (after_program is_oiv words) (IsCommand (codes "oiv" ∷ words)) (StopAt (codes "oiv" ∷ words))
+oiv_first = program_first (codes "oiv") image_word is_oiv image.Delimited after_oiv_is (λ of name. (list (tool.Oiv of) name, record { words_are = refl; allowed = tt })) oiv_word is_image_tool
+
+-- ## After `gen`
+-- what stands there in a command
+record IsGen (words : List (List ℕ)) : Type 0 where
+  pub number : ℕ
+  pub edits : ℕ
+  pub nodes : ℕ
+  pub within : IsWithin number edits nodes
+  pub words_are : words ≡ decimal number ∷ decimal edits ∷ decimal nodes ∷ []
+
+after_gen_is : (words : List (List ℕ)) → IsCommand (codes "gen" ∷ words) → IsGen words
+after_gen_is words (play, e) = absurd (bytes_other (codes "gen") (codes "play") refl (heads (codes "gen") (codes "play") words [] e.words_are))
+after_gen_is words (run, e) = absurd (bytes_other (codes "gen") (codes "run") refl (heads (codes "gen") (codes "run") words [] e.words_are))
+after_gen_is words (node, e) = absurd (bytes_other (codes "gen") (codes "node") refl (heads (codes "gen") (codes "node") words [] e.words_are))
+after_gen_is words (fsck, e) = absurd (bytes_other (codes "gen") (codes "fsck") refl (heads (codes "gen") (codes "fsck") words [] e.words_are))
+after_gen_is words (gen number edits nodes, e) = record {
+  number = number;
+  edits = edits;
+  nodes = nodes;
+  within = e.allowed;
+  words_are = tails (codes "gen") (codes "gen") words (decimal number ∷ decimal edits ∷ decimal nodes ∷ []) e.words_are;
+}
+after_gen_is words (list (tool.Oev of) name, e) = absurd (bytes_other (codes "gen") (codes "oev") refl (heads (codes "gen") (codes "oev") words (segment_word of ∷ name ∷ []) e.words_are))
+after_gen_is words (list (tool.Oiv of) name, e) = absurd (bytes_other (codes "gen") (codes "oiv") refl (heads (codes "gen") (codes "oiv") words (image_word of ∷ name ∷ []) e.words_are))
+
+-- three words that are numbers in their ranges
+gen_of : (number edits nodes : List ℕ) → is_number 0 greatest number ≡ true → is_number 0 10000 edits ≡ true → is_number 1 15 nodes ≡ true → IsCommand (codes "gen" ∷ number ∷ edits ∷ nodes ∷ [])
+gen_of number edits nodes a b c =
+    let n = told_number 0 greatest number a in
+    let e = told_number 0 10000 edits b in
+    let k = told_number 1 15 nodes c in (
+      gen (digits_value 10 number) (digits_value 10 edits) (digits_value 10 nodes),
+      record {
+        words_are = (λ i. codes "gen" ∷ sym n.1 i ∷ sym e.1 i ∷ sym k.1 i ∷ []);
+        allowed = record { number_fits = n.3; few_edits = e.3; some_nodes = k.2; few_nodes = k.3 };
+      },
+    )
+
+-- numbers to go on with
+some_number : is_number 0 greatest (decimal 0) ≡ true
+some_number = number_is 0 greatest 0 (omega arith) (omega arith) (omega arith)
+
+some_edits : is_number 0 10000 (decimal 0) ≡ true
+some_edits = number_is 0 10000 0 (omega arith) (omega arith) (omega arith)
+
+some_nodes : is_number 1 15 (decimal 1) ≡ true
+some_nodes = number_is 1 15 1 (omega arith) (omega arith) (omega arith)
+
+-- words of which one is no number of its range
+bad_number : (number : List ℕ) (words : List (List ℕ)) → is_number 0 greatest number ≡ false → IsCommand (codes "gen" ∷ number ∷ words) → ⊥
+bad_number number words n c =
+    let h = after_gen_is (number ∷ words) c in
+    let is : number ≡ decimal h.number = heads number (decimal h.number) words (decimal h.edits ∷ decimal h.nodes ∷ []) h.words_are in
+    both_not (is_number 0 greatest number) n (ap (is_number 0 greatest) is ∙ number_is 0 greatest h.number (omega arith) (omega arith) h.within.number_fits)
+
+bad_edits : (number edits : List ℕ) (words : List (List ℕ)) → is_number 0 10000 edits ≡ false → IsCommand (codes "gen" ∷ number ∷ edits ∷ words) → ⊥
+bad_edits number edits words n c =
+    let h = after_gen_is (number ∷ edits ∷ words) c in
+    let rest = tails number (decimal h.number) (edits ∷ words) (decimal h.edits ∷ decimal h.nodes ∷ []) h.words_are in
+    let is : edits ≡ decimal h.edits = heads edits (decimal h.edits) words (decimal h.nodes ∷ []) rest in
+    both_not (is_number 0 10000 edits) n (ap (is_number 0 10000) is ∙ number_is 0 10000 h.edits (omega arith) (omega arith) h.within.few_edits)
+
+bad_nodes : (number edits nodes : List ℕ) (words : List (List ℕ)) → is_number 1 15 nodes ≡ false → IsCommand (codes "gen" ∷ number ∷ edits ∷ nodes ∷ words) → ⊥
+bad_nodes number edits nodes words n c =
+    let h = after_gen_is (number ∷ edits ∷ nodes ∷ words) c in
+    let rest = tails number (decimal h.number) (edits ∷ nodes ∷ words) (decimal h.edits ∷ decimal h.nodes ∷ []) h.words_are in
+    let more = tails edits (decimal h.edits) (nodes ∷ words) (decimal h.nodes ∷ []) rest in
+    let is : nodes ≡ decimal h.nodes = heads nodes (decimal h.nodes) words [] more in
+    both_not (is_number 1 15 nodes) n (ap (is_number 1 15) is ∙ number_is 1 15 h.nodes (omega arith) h.within.some_nodes h.within.few_nodes)
+
+-- too few of them, and too many
+not_three : (words : List (List ℕ)) → length words ≢ 3 → IsCommand (codes "gen" ∷ words) → ⊥
+not_three words n c = let h = after_gen_is words c in n (ap length h.words_are)
+
+nodes_first : (number edits nodes : List ℕ) (words : List (List ℕ)) → is_number 0 greatest number ≡ true → is_number 0 10000 edits ≡ true → is_number 1 15 nodes ≡ true
+    → MatchOption (after_nodes words) (IsCommand (codes "gen" ∷ number ∷ edits ∷ nodes ∷ words)) (StopAt (codes "gen" ∷ number ∷ edits ∷ nodes ∷ words))
+nodes_first number edits nodes [] a b c = gen_of number edits nodes a b c
+nodes_first number edits nodes (word ∷ words) a b c = record {
+  none = not_three (number ∷ edits ∷ nodes ∷ word ∷ words) (λ e. absurd (omega (arith, e)));
+  within = omega arith;
+  before = ([], gen_of number edits nodes a b c);
+  further = λ l x. not_three (number ∷ edits ∷ nodes ∷ word ∷ x.0) (λ e. absurd (omega (arith, e))) x.1;
+}
+
+edits_first : (number edits : List ℕ) (words : List (List ℕ)) → is_number 0 greatest number ≡ true → is_number 0 10000 edits ≡ true
+    → MatchOption (behind_edits words) (IsCommand (codes "gen" ∷ number ∷ edits ∷ words)) (StopAt (codes "gen" ∷ number ∷ edits ∷ words))
+edits_first number edits [] a b = record {
+  none = not_three (number ∷ edits ∷ []) (λ e. absurd (omega (arith, e)));
+  within = omega arith;
+  before = (decimal 1 ∷ [], gen_of number edits (decimal 1) a b some_nodes);
+  further = λ l x. absurd (omega (arith, l));
+}
+edits_first number edits (nodes ∷ words) a b = by (is_number 1 15 nodes) refl
+  where
+    by : (t : Bool) → is_number 1 15 nodes ≡ t → MatchOption (behind_edits (nodes ∷ words)) (IsCommand (codes "gen" ∷ number ∷ edits ∷ nodes ∷ words))
+        (StopAt (codes "gen" ∷ number ∷ edits ∷ nodes ∷ words))
+    by true c = rw c (nodes_first number edits nodes words a b c)
+    by false c = rw c (let stop : StopAt (codes "gen" ∷ number ∷ edits ∷ nodes ∷ words) 3 = record {
+      none = bad_nodes number edits nodes words c;
+      within = omega arith;
+      before = (decimal 1 ∷ [], gen_of number edits (decimal 1) a b some_nodes);
+      further = λ l x. bad_nodes number edits nodes x.0 c x.1;
+    } in stop)
+
+number_first : (number : List ℕ) (words : List (List ℕ)) → is_number 0 greatest number ≡ true
+    → MatchOption (after_number words) (IsCommand (codes "gen" ∷ number ∷ words)) (StopAt (codes "gen" ∷ number ∷ words))
+number_first number [] a = record {
+  none = not_three (number ∷ []) (λ e. absurd (omega (arith, e)));
+  within = omega arith;
+  before = (decimal 0 ∷ decimal 1 ∷ [], gen_of number (decimal 0) (decimal 1) a some_edits some_nodes);
+  further = λ l x. absurd (omega (arith, l));
+}
+number_first number (edits ∷ words) a = by (is_number 0 10000 edits) refl
+  where
+    by : (t : Bool) → is_number 0 10000 edits ≡ t → MatchOption (after_number (edits ∷ words)) (IsCommand (codes "gen" ∷ number ∷ edits ∷ words)) (StopAt (codes "gen" ∷ number ∷ edits ∷ words))
+    by true b = rw b (edits_first number edits words a b)
+    by false b = rw b (let stop : StopAt (codes "gen" ∷ number ∷ edits ∷ words) 2 = record {
+      none = bad_edits number edits words b;
+      within = omega arith;
+      before = (decimal 0 ∷ decimal 1 ∷ [], gen_of number (decimal 0) (decimal 1) a some_edits some_nodes);
+      further = λ l x. bad_edits number edits x.0 b x.1;
+    } in stop)
+
+gen_first : (words : List (List ℕ)) → MatchOption (after_gen words) (IsCommand (codes "gen" ∷ words)) (StopAt (codes "gen" ∷ words))
+unfolding after_gen
+gen_first [] = record {
+  none = not_three [] (λ e. absurd (omega (arith, e)));
+  within = omega arith;
+  before = (decimal 0 ∷ decimal 0 ∷ decimal 1 ∷ [], gen_of (decimal 0) (decimal 0) (decimal 1) some_number some_edits some_nodes);
+  further = λ l x. absurd (omega (arith, l));
+}
+gen_first (number ∷ words) = by (is_number 0 greatest number) refl
+  where
+    by : (t : Bool) → is_number 0 greatest number ≡ t → MatchOption (after_gen (number ∷ words)) (IsCommand (codes "gen" ∷ number ∷ words)) (StopAt (codes "gen" ∷ number ∷ words))
+    by true a = rw a (number_first number words a)
+    by false a = rw a (let stop : StopAt (codes "gen" ∷ number ∷ words) 1 = record {
+      none = bad_number number words a;
+      within = omega arith;
+      before = (decimal 0 ∷ decimal 0 ∷ decimal 1 ∷ [], gen_of (decimal 0) (decimal 0) (decimal 1) some_number some_edits some_nodes);
+      further = λ l x. bad_number number x.0 a x.1;
+    } in stop)
+
+-- ## All words
+first_by : (word : List ℕ) (words : List (List ℕ)) (a o p q : Bool) → is_alone word ≡ a → bytes_eq word (codes "oev") ≡ o → bytes_eq word (codes "oiv") ≡ p → bytes_eq word (codes "gen") ≡ q
+    → MatchOption (usage_of (word ∷ words)) (IsCommand (word ∷ words)) (StopAt (word ∷ words))
+unfolding usage_of
+first_by word words true o p q e h k g = rw e (alone_first word words e (alone_word word e))
+first_by word words false true p q e h k g =
+    rw (e, h) (subst (λ w. MatchOption (after_program is_oev words) (IsCommand (w ∷ words)) (StopAt (w ∷ words))) (sym ((bytes_eq-Decides word (codes "oev")).0 h)) (oev_first words))
+first_by word words false false true q e h k g =
+    rw (e, h, k) (subst (λ w. MatchOption (after_program is_oiv words) (IsCommand (w ∷ words)) (StopAt (w ∷ words))) (sym ((bytes_eq-Decides word (codes "oiv")).0 k)) (oiv_first words))
+first_by word words false false false true e h k g =
+    rw (e, h, k, g) (subst (λ w. MatchOption (after_gen words) (IsCommand (w ∷ words)) (StopAt (w ∷ words))) (sym ((bytes_eq-Decides word (codes "gen")).0 g)) (gen_first words))
+first_by word words false false false false e h k g =
+    rw (e, h, k, g) (wrong_first word words e (bytes_other word (codes "oev") h) (bytes_other word (codes "oiv") k) (bytes_other word (codes "gen") g))
+
+no_word : StopAt [] 0
+no_word = record {
+  none = λ c. no_words c.0 c.1.words_are;
+  within = omega arith;
+  before = (codes "play" ∷ [], some_play);
+  further = λ l b. absurd (omega (arith, l));
+}
+
+pub first_wrong_word : UsageIsOfFirstWrongWord
+unfolding usage_of
+first_wrong_word [] = no_word
+first_wrong_word (word ∷ words) = first_by word words (is_alone word) (bytes_eq word (codes "oev")) (bytes_eq word (codes "oiv")) (bytes_eq word (codes "gen")) refl refl refl refl
+
+-- ## A command's words are no others'
+-- words that are a command's have no wrong one
+pub right_words : (words : List (List ℕ)) (asked : Asked) (place : ℕ) → AskFor words asked → usage_of words ≡ Some place → ⊥
+right_words words asked place is wrong = (subst (λ o. MatchOption o (IsCommand words) (StopAt words)) wrong (first_wrong_word words)).none (asked, is)
+
+-- the words of a command have no wrong one
+pub no_wrong_word : (words : List (List ℕ)) (asked : Asked) → AskFor words asked → usage_of words ≡ None
+no_wrong_word words asked is = by (usage_of words) refl
+  where
+    by : (o : Option ℕ) → usage_of words ≡ o → o ≡ None
+    by None e = refl
+    by (Some place) e = absurd (right_words words asked place is e)
+
+-- the command of these words, which are one's
+unfoldable alone_at : List ℕ → Asked
+alone_at word = if bytes_eq word (codes "play") then play else (if bytes_eq word (codes "run") then run else (if bytes_eq word (codes "node") then node else fsck))
+
+unfoldable segment_at : List ℕ → SegmentTool
+segment_at word = if bytes_eq word (codes "list") then segment.List else (if bytes_eq word (codes "stats") then segment.Stats else segment.Json)
+
+unfoldable image_at : List ℕ → ImageTool
+image_at word = if bytes_eq word (codes "delimited") then image.Delimited else (if bytes_eq word (codes "sizes") then image.Sizes else image.Json)
+
+unfoldable tool_at : List ℕ → List ℕ → Tool
+tool_at program word = if bytes_eq program (codes "oev") then tool.Oev (segment_at word) else tool.Oiv (image_at word)
+
+unfoldable asked_at : List (List ℕ) → Asked
+asked_at [] = play
+asked_at (word ∷ []) = alone_at word
+asked_at (program ∷ word ∷ []) = play
+asked_at (program ∷ word ∷ name ∷ []) = list (tool_at program word) name
+asked_at (word ∷ number ∷ edits ∷ nodes ∷ words) = gen (digits_value 10 number) (digits_value 10 edits) (digits_value 10 nodes)
+
+asked_back : (asked : Asked) → IsAllowed asked → asked_at (words_of asked) ≡ asked
+unfolding asked_at tool_at image_at segment_at alone_at
+asked_back play h = refl
+asked_back run h = refl
+asked_back node h = refl
+asked_back fsck h = refl
+asked_back (gen number edits nodes) h =
+    let a : number ≤ 4611686018427387904 = h.number_fits in
+    let b : edits ≤ 10000 = h.few_edits in
+    let c : nodes ≤ 15 = h.few_nodes in
+    let n = number_again number (omega (arith, a)) in
+    let e = number_again edits (omega (arith, b)) in
+    let k = number_again nodes (omega (arith, c)) in
+    (λ i. gen (n i) (e i) (k i))
+asked_back (list (tool.Oev segment.List) name) h = refl
+asked_back (list (tool.Oev segment.Stats) name) h = refl
+asked_back (list (tool.Oev segment.Json) name) h = refl
+asked_back (list (tool.Oiv image.Delimited) name) h = refl
+asked_back (list (tool.Oiv image.Sizes) name) h = refl
+asked_back (list (tool.Oiv image.Json) name) h = refl
+
+-- words are of one command
+pub one_command : (words : List (List ℕ)) (a b : Asked) → AskFor words a → AskFor words b → a ≡ b
+one_command words a b p q = sym (asked_back a p.allowed) ∙ (ap asked_at (sym p.words_are ∙ q.words_are) ∙ asked_back b q.allowed)

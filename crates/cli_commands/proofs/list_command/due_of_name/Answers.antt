@@ -1,0 +1,13 @@
+use Rattle.cli_commands.specs.Uses.{done_to}
+use Rattle.cli_commands.proofs.ListLaws.{found_ok, found_err, found_no_fault}
+use Rattle.cli_commands.proofs.list_command.due_of_name.Goals as goal
+
+pub returns-in-Ok-clause-text : goal.returns-in-Ok-clause-text
+returns-in-Ok-clause-text g c =
+    found_ok c.args.name.now (done_to g.D.DiskModel.tells g.D.DiskModel.view g.D.DiskModel.faults g.D.DiskModel.steady g.D.DiskModel.left c.args.disk.now c.find.new.disk)
+    (λ z. found_no_fault c.in-Ok.found (c.in-Ok.ensures.stopped z)) c.args.tool (λ text. text.items) c.in-Ok.found c.due_of_found.result c.in-Ok.ensures.found c.due_of_found.ensures.text
+
+pub returns-in-Ok-clause-fault : goal.returns-in-Ok-clause-fault
+returns-in-Ok-clause-fault g c =
+    found_err c.args.name.now (done_to g.D.DiskModel.tells g.D.DiskModel.view g.D.DiskModel.faults g.D.DiskModel.steady g.D.DiskModel.left c.args.disk.now c.find.new.disk)
+    (λ z. found_no_fault c.in-Ok.found (c.in-Ok.ensures.stopped z)) c.args.tool c.in-Ok.found c.due_of_found.result c.in-Ok.ensures.found c.due_of_found.ensures.fault

@@ -1,0 +1,72 @@
+-- The commands, and the words that ask for them.
+use Rattle.std.specs.Prelude.{ℕ, ◌≡◌, List, [], ◌∷◌, codes, decimal}
+use Rattle.play_maker.specs.Generated.{IsWithin}
+use Rattle.cli_commands.specs.declared.tool.SegmentTool.{SegmentTool}
+use Rattle.cli_commands.specs.declared.tool.SegmentTool.TheVariants as segment
+use Rattle.cli_commands.specs.declared.tool.ImageTool.{ImageTool}
+use Rattle.cli_commands.specs.declared.tool.ImageTool.TheVariants as image
+use Rattle.cli_commands.specs.declared.tool.Tool.{Tool}
+use Rattle.cli_commands.specs.declared.tool.Tool.TheVariants as tool
+use Rattle.cli_commands.specs.declared.command.Command.{Command}
+use Rattle.cli_commands.specs.declared.command.Command.TheVariants as command
+
+-- What can be asked for: a script is played, in order or by threads, a node is served, the disk's
+-- files are checked, the script that a number gives is played, with so many edits over so many
+-- nodes, or the file of this name is listed by this tool.
+pub data Asked : Type 0 where
+  play : Asked
+  run : Asked
+  node : Asked
+  fsck : Asked
+  gen : (number edits nodes : ℕ) → Asked
+  list : Tool → List ℕ → Asked
+
+-- what a command of the program asks for
+abbrev pub asked_in : Command → Asked
+asked_in command.Play = play
+asked_in command.Run = run
+asked_in command.Node = node
+asked_in command.Fsck = fsck
+asked_in (command.Gen number edits nodes) = gen number edits nodes
+asked_in (command.Listing of name) = list of name.now
+
+-- ## The words of a tool
+abbrev pub program_of : Tool → List ℕ
+program_of (tool.Oev of) = codes "oev"
+program_of (tool.Oiv of) = codes "oiv"
+
+abbrev pub segment_word : SegmentTool → List ℕ
+segment_word segment.List = codes "list"
+segment_word segment.Stats = codes "stats"
+segment_word segment.Json = codes "json"
+
+abbrev pub image_word : ImageTool → List ℕ
+image_word image.Delimited = codes "delimited"
+image_word image.Sizes = codes "sizes"
+image_word image.Json = codes "json"
+
+abbrev pub word_of : Tool → List ℕ
+word_of (tool.Oev of) = segment_word of
+word_of (tool.Oiv of) = image_word of
+
+-- ## The words of a command
+abbrev pub words_of : Asked → List (List ℕ)
+words_of play = codes "play" ∷ []
+words_of run = codes "run" ∷ []
+words_of node = codes "node" ∷ []
+words_of fsck = codes "fsck" ∷ []
+words_of (gen number edits nodes) = codes "gen" ∷ decimal number ∷ decimal edits ∷ decimal nodes ∷ []
+words_of (list of name) = program_of of ∷ word_of of ∷ name ∷ []
+
+-- the numbers of a generated script are within their limits
+abbrev pub IsAllowed : Asked → Type 0
+IsAllowed (gen number edits nodes) = IsWithin number edits nodes
+IsAllowed _ = Unit {0}
+
+-- the words ask for it
+pub record AskFor (words : List (List ℕ)) (asked : Asked) : Type 0 where
+  pub words_are : words ≡ words_of asked
+  pub allowed : IsAllowed asked
+
+abbrev pub IsCommand : List (List ℕ) → Type 0
+IsCommand words = (asked : Asked) × AskFor words asked

@@ -1,0 +1,13 @@
+pub mod Faults
+pub mod Told
+pub mod Uses
+pub mod Commands
+pub mod Usage
+pub mod Words
+pub mod Starting
+pub mod Listing
+pub mod Found
+pub mod Checks
+pub mod Serving
+pub mod NodeEnds
+pub mod Crashes

@@ -1,0 +1,175 @@
+//! The commands, read from the words.
+ghost use Rattle.std.specs.Prelude.{◌≡◌, [], ◌∷◌, false, Some, codes, MatchOption, MatchResult};
+ghost use Rattle.cli_commands.specs.Commands.{asked_in, AskFor};
+ghost use Rattle.cli_commands.specs.Usage.{bytes_of, is_alone, is_oev, is_oiv, after_one, after_tool, after_program, after_gen, usage_of};
+
+use crate::tool::Tool;
+use crate::tool_words::{image_tool_of, segment_tool_of};
+use base_words::number_of;
+
+/// The greatest number of a command.
+const GREATEST: u64 = 4_611_686_018_427_387_904;
+
+/// The most edits of a generated script.
+const MOST_EDITS: u64 = 10_000;
+
+/// The most nodes.
+const MOST_NODES: u64 = 15;
+
+/// What the program is asked to do.
+#[derive(Clone, Copy)]
+pub enum Command<'a> {
+    /// To play the script that the source gives, all lines in order.
+    Play,
+    /// To play it by threads.
+    Run,
+    /// To serve a node, whose files are on the disk.
+    Node,
+    /// To check the disk's files.
+    Fsck,
+    /// To play the script that a number gives, with so many edits over so many nodes.
+    Gen { number: u64, edits: u64, nodes: u64 },
+    /// To list a file of the disk.
+    Listing { tool: Tool, name: &'a str },
+}
+
+/// The command that has this word alone.
+fn command_of<'a>(word: &str) -> Option<Command<'a>>
+    ensures { MatchOption result (is_alone word.now ≡ false) (λ c. AskFor (word.now ∷ []) (asked_in c)) }
+{
+    if word == "play" {
+        Some(Command::Play)
+    } else if word == "run" {
+        Some(Command::Run)
+    } else if word == "node" {
+        Some(Command::Node)
+    } else if word == "fsck" {
+        Some(Command::Fsck)
+    } else {
+        None
+    }
+}
+
+/// That no word stands here; or the place of the first, which is 1.
+fn no_word(words: &[String]) -> Result<(), u64>
+    ensures { MatchResult result (λ _. bytes_of words.now ≡ []) (λ place. after_one (bytes_of words.now) ≡ Some place) }
+{
+    if words.is_empty() { Ok(()) } else { Err(1) }
+}
+
+/// The one word that stands here, which may be any; or the place at which it is missing, or another
+/// one stands.
+fn one_name(words: &[String]) -> Result<&str, u64>
+    ensures { MatchResult result (λ name. bytes_of words.now ≡ name.now ∷ []) (λ place. after_tool (bytes_of words.now) ≡ Some place) }
+{
+    let Some((name, others)) = words.split_first() else {
+        return Err(2);
+    };
+    if others.is_empty() {
+        Ok(name.as_str())
+    } else {
+        Err(3)
+    }
+}
+
+/// The listing of a segment's file that the words after `oev` ask for; or the place of the first
+/// wrong word.
+#[tactic(auto, unfolding(crate::specs::Usage::after_program))]
+fn read_oev(words: &[String]) -> Result<Command<'_>, u64>
+    ensures { MatchResult result (λ c. AskFor (codes "oev" ∷ bytes_of words.now) (asked_in c)) (λ place. after_program is_oev (bytes_of words.now) ≡ Some place) }
+{
+    let Some((word, names)) = words.split_first() else {
+        return Err(1);
+    };
+    let Some(of) = segment_tool_of(word.as_str()) else {
+        return Err(1);
+    };
+    match one_name(names) {
+        Ok(name) => Ok(Command::Listing {
+            tool: Tool::Oev(of),
+            name,
+        }),
+        Err(place) => Err(place),
+    }
+}
+
+/// The listing of an image that the words after `oiv` ask for; or the place of the first wrong
+/// word.
+#[tactic(auto, unfolding(crate::specs::Usage::after_program))]
+fn read_oiv(words: &[String]) -> Result<Command<'_>, u64>
+    ensures { MatchResult result (λ c. AskFor (codes "oiv" ∷ bytes_of words.now) (asked_in c)) (λ place. after_program is_oiv (bytes_of words.now) ≡ Some place) }
+{
+    let Some((word, names)) = words.split_first() else {
+        return Err(1);
+    };
+    let Some(of) = image_tool_of(word.as_str()) else {
+        return Err(1);
+    };
+    match one_name(names) {
+        Ok(name) => Ok(Command::Listing {
+            tool: Tool::Oiv(of),
+            name,
+        }),
+        Err(place) => Err(place),
+    }
+}
+
+/// The play of a generated script that the words after `gen` ask for; or the place of the first
+/// wrong word.
+#[tactic(auto, using(crate::proofs::GenLaws::asks), unfolding(crate::specs::Usage::after_gen))]
+fn read_gen(words: &[String]) -> Result<Command<'_>, u64>
+    ensures { MatchResult result (λ c. AskFor (codes "gen" ∷ bytes_of words.now) (asked_in c)) (λ place. after_gen (bytes_of words.now) ≡ Some place) }
+{
+    let Some((first, others)) = words.split_first() else {
+        return Err(1);
+    };
+    let Some(number) = number_of(first.as_bytes(), 0, GREATEST) else {
+        return Err(1);
+    };
+    let Some((second, others)) = others.split_first() else {
+        return Err(2);
+    };
+    let Some(edits) = number_of(second.as_bytes(), 0, MOST_EDITS) else {
+        return Err(2);
+    };
+    let Some((third, others)) = others.split_first() else {
+        return Err(3);
+    };
+    let Some(nodes) = number_of(third.as_bytes(), 1, MOST_NODES) else {
+        return Err(3);
+    };
+    if !others.is_empty() {
+        return Err(4);
+    }
+    Ok(Command::Gen {
+        number,
+        edits,
+        nodes,
+    })
+}
+
+/// The command that the words ask for; or the place, from 0, of the first that is missing or wrong.
+#[tactic(auto, unfolding(crate::specs::Usage::usage_of))]
+pub fn read_command(words: &[String]) -> Result<Command<'_>, u64>
+    ensures { MatchResult result (λ c. AskFor (bytes_of words.now) (asked_in c)) (λ place. usage_of (bytes_of words.now) ≡ Some place) }
+{
+    let Some((first, others)) = words.split_first() else {
+        return Err(0);
+    };
+    if first.as_str() == "oev" {
+        return read_oev(others);
+    }
+    if first.as_str() == "oiv" {
+        return read_oiv(others);
+    }
+    if first.as_str() == "gen" {
+        return read_gen(others);
+    }
+    let Some(command) = command_of(first.as_str()) else {
+        return Err(0);
+    };
+    match no_word(others) {
+        Ok(()) => Ok(command),
+        Err(place) => Err(place),
+    }
+}

@@ -1,0 +1,130 @@
+//! What is due of a listing, before any of it is written.
+ghost use Rattle.std.specs.Prelude.{◌↔◌, ◌≤◌, ℕ, List, Some, IfOk, IfErr, length};
+ghost use Rattle.edit_ops.specs.Records.{EditView};
+ghost use Rattle.list_oev.specs.Segment.{IsSegment};
+ghost use Rattle.list_oev.specs.Listed.{IsListed, GivesText};
+ghost use Rattle.list_oiv.specs.Listed.{IsListed as IsImageListed};
+ghost use Rattle.base_disk.specs.Calls.{Rests};
+ghost use Rattle.base_disk.specs.DiskCalls.{IfTold, IsDiskRun};
+ghost use Rattle.cli_commands.specs.Uses.{written_to, done_to};
+ghost use Rattle.cli_commands.specs.Listing.{longest_file, told_by, rows_told_by, IsListing, GivesListing, IsListFault, Lists};
+ghost use Rattle.cli_commands.specs.Found.{IsShort, IsReadFault, GivesFound, IsFoundFault, answer_of};
+
+use crate::command_fault::CommandFault;
+use crate::found::{Found, LONGEST_FILE, find};
+use crate::status::Status;
+use crate::tool::{ImageTool, SegmentTool, Tool};
+use crate::writing::write_due;
+use base_disk::{Disk, DiskFail};
+use base_outside::Sink;
+use list_oev::{SegmentListing, json as segment_json, list, stats};
+use list_oiv::{ImageListing, json as image_json, list_delimited, sizes};
+use std::alloc::Global;
+
+/// What is told of the bytes of a segment's file.
+fn segment_told(alloc: Global, of: SegmentTool, bytes: &[u8]) -> SegmentListing
+    ensures right { IsListed (told_by of) bytes.now result }
+    ensures text { (start : ℕ) (edits : List EditView) → IsSegment bytes.now start edits → GivesText (told_by of start edits) result }
+{
+    match of {
+        SegmentTool::List => list(alloc, bytes),
+        SegmentTool::Stats => stats(alloc, bytes),
+        SegmentTool::Json => segment_json(alloc, bytes),
+    }
+}
+
+/// What is told of the bytes of an image.
+fn image_told(alloc: Global, of: ImageTool, bytes: &[u8]) -> ImageListing
+    ensures { IsImageListed (rows_told_by of) bytes.now result }
+{
+    match of {
+        ImageTool::Delimited => list_delimited(alloc, bytes),
+        ImageTool::Sizes => sizes(alloc, bytes),
+        ImageTool::Json => image_json(alloc, bytes),
+    }
+}
+
+/// What is due of the bytes of a segment's file.
+fn due_of_segment(alloc: Global, of: SegmentTool, bytes: &[u8]) -> Result<Vec<u8>, CommandFault>
+    requires { length bytes.now ≤ longest_file }
+    ensures text { IfOk result (λ text. IsListing (Tool.Oev of) (Some bytes.now) text.items) }
+    ensures fault { IfErr result (IsReadFault (Tool.Oev of) bytes.now) }
+{
+    match segment_told(alloc, of, bytes) {
+        SegmentListing::Text(text) => Ok(text),
+        SegmentListing::BadBytes { place, cause } => Err(CommandFault::BadBytes { place, cause }),
+        SegmentListing::OutOfMemory => Err(CommandFault::OutOfMemory),
+    }
+}
+
+/// What is due of the bytes of an image.
+fn due_of_image(alloc: Global, of: ImageTool, bytes: &[u8]) -> Result<Vec<u8>, CommandFault>
+    requires { length bytes.now ≤ longest_file }
+    ensures text { IfOk result (λ text. IsListing (Tool.Oiv of) (Some bytes.now) text.items) }
+    ensures fault { IfErr result (IsReadFault (Tool.Oiv of) bytes.now) }
+{
+    match image_told(alloc, of, bytes) {
+        ImageListing::Text(text) => Ok(text),
+        ImageListing::BadBytes { place, cause } => Err(CommandFault::BadImage { place, cause }),
+        ImageListing::OutOfMemory => Err(CommandFault::OutOfMemory),
+    }
+}
+
+/// What is due of a file's bytes.
+fn due_of_bytes(alloc: Global, tool: Tool, bytes: &[u8]) -> Result<Vec<u8>, CommandFault>
+    requires { length bytes.now ≤ longest_file }
+    ensures text { IfOk result (λ text. IsListing tool (Some bytes.now) text.items) }
+    ensures fault { IfErr result (IsReadFault tool bytes.now) }
+{
+    match tool {
+        Tool::Oev(of) => due_of_segment(alloc, of, bytes),
+        Tool::Oiv(of) => due_of_image(alloc, of, bytes),
+    }
+}
+
+/// What is due of what was found under the name.
+fn due_of_found(alloc: Global, tool: Tool, found: &Found) -> Result<Vec<u8>, CommandFault>
+    requires { IsShort found.now }
+    ensures text { IfOk result (λ text. GivesFound tool found.now text.items) }
+    ensures fault { IfErr result (IsFoundFault tool found.now) }
+{
+    match found {
+        Found::Absent => Err(CommandFault::NoFile),
+        Found::TooLong => Err(CommandFault::Limit(LONGEST_FILE)),
+        Found::Bytes(bytes) => due_of_bytes(alloc, tool, bytes),
+    }
+}
+
+/// Reads the file that has this name and tells what is due of it.
+fn due_of_name<D: Disk>(
+    alloc: Global,
+    tool: Tool,
+    name: &str,
+    disk: &mut D,
+) -> Result<Vec<u8>, CommandFault>
+    ensures text { IfOk result (λ text. GivesListing tool name.now (done_to D.tells D.view D.faults D.steady D.left disk.old disk.new) Status.Ok text.items) }
+    ensures fault { IfErr result (IsListFault tool name.now (done_to D.tells D.view D.faults D.steady D.left disk.old disk.new)) }
+    ensures call { IsDiskRun D.DiskModel disk.old disk.new (answer_of result) }
+    ensures rests { IfTold D.DiskModel disk.old disk.new Rests }
+{
+    match find(alloc, disk, name) {
+        Ok(found) => due_of_found(alloc, tool, &found),
+        Err(DiskFail::Failed) => Err(CommandFault::DiskFault),
+        Err(DiskFail::OutOfMemory) => Err(CommandFault::OutOfMemory),
+    }
+}
+
+/// Lists the file that has this name, and writes what is due.
+pub fn list_file<K: Sink, D: Disk>(
+    alloc: Global,
+    tool: Tool,
+    name: &str,
+    sink: &mut K,
+    disk: &mut D,
+) -> Status
+    ensures lists { Lists tool name.now (done_to D.tells D.view D.faults D.steady D.left disk.old disk.new) (written_to K.taken K.faults sink.old sink.new) result }
+    ensures tells { D.tells disk.old ↔ D.tells disk.new }
+{
+    let due = due_of_name(alloc, tool, name, disk);
+    write_due(alloc, sink, &due)
+}

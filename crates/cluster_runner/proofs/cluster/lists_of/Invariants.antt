@@ -1,7 +1,0 @@
-use Rattle.std.proofs.Common.{◌≡◌, map}
-use Rattle.cluster_runner.specs.Kept.{end_of}
-use Rattle.cluster_runner.specs.Shown.{keeps}
-use Rattle.cluster_runner.proofs.cluster.lists_of.Given as goal
-
-abbrev pub invariant-loop-player : goal.invariant-loop-player
-invariant-loop-player g l = (l.ends ≡ map (λ p. end_of (keeps g.A.Actor.seen p)) l.yielded) × (l.records.items ≡ map (λ p. p.log.past) l.yielded) × (l.plan ≡ map (λ p. p.log.marks) l.yielded)

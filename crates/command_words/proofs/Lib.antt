@@ -1,2 +1,0 @@
-pub mod GenLaws
-pub mod WordLaws

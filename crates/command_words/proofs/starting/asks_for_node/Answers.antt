@@ -1,7 +1,0 @@
-use Rattle.command_words.specs.Commands.{node}
-use Rattle.command_words.specs.Usage.{bytes_of}
-use Rattle.command_words.proofs.WordLaws.{right_words}
-use Rattle.command_words.proofs.starting.asks_for_node.Goals as goal
-
-pub returns-in-Err : goal.returns-in-Err
-returns-in-Err c = λ is. right_words (bytes_of c.args.words.now) node c.in-Err.field-0 (record { words_are = is; allowed = tt }) c.in-Err.ensures

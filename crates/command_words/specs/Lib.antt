@@ -1,4 +1,0 @@
-pub mod Commands
-pub mod Usage
-pub mod Words
-pub mod Starting

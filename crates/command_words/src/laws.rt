@@ -1,7 +1,0 @@
-// What holds of all words.
-ghost use Rattle.command_words.specs.Words.{UsageIsOfFirstWrongWord};
-
-/// The place that is told of wrong words is the first at which they stop being those that a command begins with.
-pub fn usage_is_of_first_wrong_word()
-    ensures { UsageIsOfFirstWrongWord }
-{}

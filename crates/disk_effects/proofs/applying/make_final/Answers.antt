@@ -1,0 +1,9 @@
+use Rattle.std.proofs.Common.{sym}
+use Rattle.disk_effects.proofs.ApplyLaws.{found_there}
+use Rattle.disk_effects.proofs.applying.make_final.Goals as goal
+
+pub returns-clause-fits : goal.returns-clause-fits
+returns-clause-fits c = c.put.ensures.there (found_there c.args.start c.in-Some.row.now c.args.table.now (sym c.in-Some.ensures.found))
+
+pub returns-clause-long : goal.returns-clause-long
+returns-clause-long c = c.put.ensures.long (found_there c.args.start c.in-Some.row.now c.args.table.now (sym c.in-Some.ensures.found))

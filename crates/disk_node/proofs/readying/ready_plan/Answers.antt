@@ -1,0 +1,10 @@
+use Rattle.std.proofs.Common.{List, length, ap, subst, ◌∙◌}
+use Rattle.disk_effects.specs.Told.{state_with}
+use Rattle.journal_step.specs.declared.durable_effect.DurableEffect.{DurableEffect}
+use Rattle.disk_node.specs.Done.{effects_by, HasRoom}
+use Rattle.disk_node.proofs.readying.ready_plan.Goals as goal
+
+pub returns-clause-room : goal.returns-clause-room
+returns-clause-room c = λ gs told.
+    subst (λ (ds : List DurableEffect). HasRoom ds (length c.args.table.now) c.in_ok-ready.ready.room) c.as_slice.ensures
+    (c.in_ok-ready.ensures.room (state_with c.args.memory.now gs) (ap (λ (ds : List DurableEffect). effects_by c.args.request.now ds) c.as_slice.ensures ∙ c.in_ok-plan.ensures.effects gs told))

@@ -1,0 +1,393 @@
+//! An effect is done at a node's disk.
+ghost use Rattle.std.specs.Prelude.{◌≡◌, ◌⊎◌, ◌≤◌, ◌<◌, ℕ, None, List, Option, length, true, false, IsErrOf, OnOk, OnErr};
+ghost use Rattle.base_disk.specs.View.{AllLeave};
+ghost use Rattle.base_disk.specs.DiskCalls.{IsDiskCall};
+ghost use Rattle.journal_core.specs.declared.cut.Cut.{Cut};
+ghost use Rattle.journal_core.specs.declared.segment.Segment.{Segment};
+ghost use Rattle.journal_core.specs.declared.node_state.NodeState.{NodeState as AnyState};
+ghost use Rattle.journal_core.specs.Limits.{limit_of};
+ghost use Rattle.journal_core.specs.Effects.{segments_after, after_effect};
+ghost use Rattle.journal_core.specs.Cuts.{cost_of};
+ghost use Rattle.disk_segment.specs.Effects.{IsCounted};
+ghost use Rattle.disk_files.specs.EffectCalls.{Does, IsCutAt};
+ghost use Rattle.disk_effects.specs.Told.{Tells};
+ghost use Rattle.disk_effects.specs.Due.{batch_of, effect_of, puts_row, IsDue, IsInRange};
+ghost use Rattle.disk_node.specs.FileState.{Covers};
+ghost use Rattle.disk_node.specs.Held.{IsHeld, OpenedAt, MayLeave, numbers_after, Opens, Spares};
+ghost use Rattle.disk_node.specs.Doing.{storing, place_after, HasFrame, CanDo, IsNoted};
+ghost use Rattle.disk_node.specs.Clauses.{HasDue, CanBeDone, FaultIsNoted, DoesAt, LeavesEither};
+
+use crate::readying::Ready;
+use base_disk::{Disk, DiskFail};
+use disk_effects::{apply, note};
+use disk_files::{
+    NodeNumber, accept_edits, append_edits, begin_segment, finalize_segment, put_number,
+    remove_segment,
+};
+use disk_segment::{RowRoom, SegmentTable};
+use journal_core::{Batch, NodeState, Request, SegmentInfo, SegmentLine};
+use journal_step::{DurableEffect, batch_in};
+
+// Notes an effect in the table.
+fn note_row(
+    table: &mut SegmentTable,
+    room: &mut RowRoom,
+    request: &Request,
+    effect: DurableEffect,
+    place: u64,
+) -> Result<(), DiskFail>
+    requires limits { limit_of request.now ≡ None }
+    requires range { IsInRange request.now effect }
+    requires place { place ≡ place_after request.now effect }
+    ensures noted { IsNoted request.now effect result table.old table.new }
+    ensures err { OnErr result (table.new ≡ table.old) }
+    ensures cause { IsErrOf result DiskFail.Failed → ⊥ }
+    ensures shortage { (puts_row effect ≡ true → length table.old < room.old) → IsErrOf result DiskFail.OutOfMemory → ⊥ }
+    ensures room { puts_row effect ≡ false → room.new ≡ room.old }
+    ensures fewer { puts_row effect ≡ false → length table.new ≤ length table.old }
+{
+    apply(table, room, request, effect, place)?;
+    Ok(())
+}
+
+fn do_number<D: Disk>(
+    disk: &mut D,
+    table: &mut SegmentTable,
+    request: &Request,
+    number: NodeNumber,
+    value: u64,
+) -> Result<(), DiskFail>
+    requires limits { limit_of request.now ≡ None }
+    requires due { HasDue table.old request.now (storing number value) }
+    requires can { CanBeDone D.DiskModel disk.old table.old request.now (storing number value) }
+
+    ensures call { IsDiskCall D.DiskModel disk.old disk.new result }
+    ensures noted { IsNoted request.now (storing number value) result table.old table.new }
+    ensures fault { FaultIsNoted request.now (storing number value) result table.old table.new }
+    ensures does { DoesAt D.DiskModel disk.old disk.new table.old request.now (storing number value) result }
+    ensures left { LeavesEither D.DiskModel disk.old disk.new table.old table.new request.now (storing number value) }
+    ensures fewer { length table.new ≤ length table.old }
+{
+    let (_, _) = (table, request);
+    put_number(disk, number, value)
+}
+
+fn do_begin<D: Disk>(
+    disk: &mut D,
+    table: &mut SegmentTable,
+    room: &mut RowRoom,
+    request: &Request,
+    start: u64,
+    epoch: u64,
+) -> Result<(), DiskFail>
+    requires limits { limit_of request.now ≡ None }
+    requires due { HasDue table.old request.now (DurableEffect.NewSegment start epoch) }
+    requires room { length table.old < room.old }
+
+    ensures call { IsDiskCall D.DiskModel disk.old disk.new result }
+    ensures noted { IsNoted request.now (DurableEffect.NewSegment start epoch) result table.old table.new }
+    ensures fault { FaultIsNoted request.now (DurableEffect.NewSegment start epoch) result table.old table.new }
+    ensures does { DoesAt D.DiskModel disk.old disk.new table.old request.now (DurableEffect.NewSegment start epoch) result }
+    ensures left { LeavesEither D.DiskModel disk.old disk.new table.old table.new request.now (DurableEffect.NewSegment start epoch) }
+{
+    note_row(
+        table,
+        room,
+        request,
+        DurableEffect::NewSegment { start, epoch },
+        0,
+    )?;
+    begin_segment(disk, start, epoch)
+}
+
+// The batch is that of the request.
+fn append_batch<D: Disk>(
+    disk: &mut D,
+    table: &mut SegmentTable,
+    ready: &mut Ready,
+    request: &Request,
+    start: u64,
+    at: u64,
+    batch: &Batch,
+) -> Result<(), DiskFail>
+    requires limits { limit_of request.now ≡ None }
+    requires batch_is { batch.now ≡ batch_of request.now }
+    requires due { HasDue table.old request.now (DurableEffect.Append start at) }
+    requires can { CanBeDone D.DiskModel disk.old table.old request.now (DurableEffect.Append start at) }
+    requires frame { HasFrame request.now ready.old.frame }
+
+    ensures call { IsDiskCall D.DiskModel disk.old disk.new result }
+    ensures frame { HasFrame request.now ready.new.frame }
+    ensures noted { IsNoted request.now (DurableEffect.Append start at) result table.old table.new }
+    ensures fault { FaultIsNoted request.now (DurableEffect.Append start at) result table.old table.new }
+    ensures does { DoesAt D.DiskModel disk.old disk.new table.old request.now (DurableEffect.Append start at) result }
+    ensures left { LeavesEither D.DiskModel disk.old disk.new table.old table.new request.now (DurableEffect.Append start at) }
+    ensures room { ready.new.room ≡ ready.old.room }
+    ensures fewer { length table.new ≤ length table.old }
+{
+    let place = append_edits(disk, start, at, batch, &ready.frame)?;
+    note_row(
+        table,
+        &mut ready.room,
+        request,
+        DurableEffect::Append { start, at },
+        place,
+    )
+}
+
+// An effect without its batch isn't due.
+fn do_append<D: Disk>(
+    disk: &mut D,
+    table: &mut SegmentTable,
+    ready: &mut Ready,
+    request: &Request,
+    start: u64,
+    at: u64,
+) -> Result<(), DiskFail>
+    requires limits { limit_of request.now ≡ None }
+    requires due { HasDue table.old request.now (DurableEffect.Append start at) }
+    requires can { CanBeDone D.DiskModel disk.old table.old request.now (DurableEffect.Append start at) }
+    requires frame { HasFrame request.now ready.old.frame }
+
+    ensures call { IsDiskCall D.DiskModel disk.old disk.new result }
+    ensures frame { HasFrame request.now ready.new.frame }
+    ensures noted { IsNoted request.now (DurableEffect.Append start at) result table.old table.new }
+    ensures fault { FaultIsNoted request.now (DurableEffect.Append start at) result table.old table.new }
+    ensures does { DoesAt D.DiskModel disk.old disk.new table.old request.now (DurableEffect.Append start at) result }
+    ensures left { LeavesEither D.DiskModel disk.old disk.new table.old table.new request.now (DurableEffect.Append start at) }
+    ensures room { ready.new.room ≡ ready.old.room }
+    ensures fewer { length table.new ≤ length table.old }
+{
+    match batch_in(request) {
+        Some(batch) => append_batch(disk, table, ready, request, start, at, batch),
+        None => Err(DiskFail::OutOfMemory),
+    }
+}
+
+// The batch is that of the request.
+fn accept_batch<D: Disk>(
+    disk: &mut D,
+    table: &mut SegmentTable,
+    ready: &mut Ready,
+    request: &Request,
+    epoch: u64,
+    batch: &Batch,
+    again: bool,
+) -> Result<(), DiskFail>
+    requires limits { limit_of request.now ≡ None }
+    requires batch_is { batch.now ≡ batch_of request.now }
+    requires due { HasDue table.old request.now (DurableEffect.Replace epoch again) }
+    requires can { CanBeDone D.DiskModel disk.old table.old request.now (DurableEffect.Replace epoch again) }
+    requires frame { HasFrame request.now ready.old.frame }
+    requires room { length table.old < ready.old.room }
+
+    ensures call { IsDiskCall D.DiskModel disk.old disk.new result }
+    ensures frame { HasFrame request.now ready.new.frame }
+    ensures noted { IsNoted request.now (DurableEffect.Replace epoch again) result table.old table.new }
+    ensures fault { FaultIsNoted request.now (DurableEffect.Replace epoch again) result table.old table.new }
+    ensures does { DoesAt D.DiskModel disk.old disk.new table.old request.now (DurableEffect.Replace epoch again) result }
+    ensures left { LeavesEither D.DiskModel disk.old disk.new table.old table.new request.now (DurableEffect.Replace epoch again) }
+{
+    note_row(
+        table,
+        &mut ready.room,
+        request,
+        DurableEffect::Replace { epoch, again },
+        0,
+    )?;
+    accept_edits(disk, epoch, batch, again, &mut ready.frame)
+}
+
+// An effect without its batch isn't due.
+fn do_accept<D: Disk>(
+    disk: &mut D,
+    table: &mut SegmentTable,
+    ready: &mut Ready,
+    request: &Request,
+    epoch: u64,
+    again: bool,
+) -> Result<(), DiskFail>
+    requires limits { limit_of request.now ≡ None }
+    requires due { HasDue table.old request.now (DurableEffect.Replace epoch again) }
+    requires can { CanBeDone D.DiskModel disk.old table.old request.now (DurableEffect.Replace epoch again) }
+    requires frame { HasFrame request.now ready.old.frame }
+    requires room { length table.old < ready.old.room }
+
+    ensures call { IsDiskCall D.DiskModel disk.old disk.new result }
+    ensures frame { HasFrame request.now ready.new.frame }
+    ensures noted { IsNoted request.now (DurableEffect.Replace epoch again) result table.old table.new }
+    ensures fault { FaultIsNoted request.now (DurableEffect.Replace epoch again) result table.old table.new }
+    ensures does { DoesAt D.DiskModel disk.old disk.new table.old request.now (DurableEffect.Replace epoch again) result }
+    ensures left { LeavesEither D.DiskModel disk.old disk.new table.old table.new request.now (DurableEffect.Replace epoch again) }
+{
+    match batch_in(request) {
+        Some(batch) => accept_batch(disk, table, ready, request, epoch, batch, again),
+        None => Err(DiskFail::OutOfMemory),
+    }
+}
+
+fn do_finalize<D: Disk>(
+    disk: &mut D,
+    table: &mut SegmentTable,
+    room: &mut RowRoom,
+    request: &Request,
+    start: u64,
+    end: u64,
+    accepted: bool,
+) -> Result<(), DiskFail>
+    requires limits { limit_of request.now ≡ None }
+    requires due { HasDue table.old request.now (DurableEffect.MakeFinal start end accepted) }
+    requires can { CanBeDone D.DiskModel disk.old table.old request.now (DurableEffect.MakeFinal start end accepted) }
+
+    ensures call { IsDiskCall D.DiskModel disk.old disk.new result }
+    ensures noted { IsNoted request.now (DurableEffect.MakeFinal start end accepted) result table.old table.new }
+    ensures fault { FaultIsNoted request.now (DurableEffect.MakeFinal start end accepted) result table.old table.new }
+    ensures does { DoesAt D.DiskModel disk.old disk.new table.old request.now (DurableEffect.MakeFinal start end accepted) result }
+    ensures left { LeavesEither D.DiskModel disk.old disk.new table.old table.new request.now (DurableEffect.MakeFinal start end accepted) }
+    ensures room { room.new ≡ room.old }
+    ensures fewer { length table.new ≤ length table.old }
+{
+    let effect = DurableEffect::MakeFinal {
+        start,
+        end,
+        accepted,
+    };
+    finalize_segment(disk, start, end, accepted)?;
+    note_row(table, room, request, effect, 0)
+}
+
+fn do_remove<D: Disk>(
+    disk: &mut D,
+    table: &mut SegmentTable,
+    room: &mut RowRoom,
+    request: &Request,
+    info: SegmentInfo,
+) -> Result<(), DiskFail>
+    requires limits { limit_of request.now ≡ None }
+    requires due { HasDue table.old request.now (DurableEffect.Remove info) }
+    requires can { CanBeDone D.DiskModel disk.old table.old request.now (DurableEffect.Remove info) }
+
+    ensures call { IsDiskCall D.DiskModel disk.old disk.new result }
+    ensures noted { IsNoted request.now (DurableEffect.Remove info) result table.old table.new }
+    ensures fault { FaultIsNoted request.now (DurableEffect.Remove info) result table.old table.new }
+    ensures does { DoesAt D.DiskModel disk.old disk.new table.old request.now (DurableEffect.Remove info) result }
+    ensures left { LeavesEither D.DiskModel disk.old disk.new table.old table.new request.now (DurableEffect.Remove info) }
+    ensures room { room.new ≡ room.old }
+    ensures fewer { length table.new ≤ length table.old }
+{
+    let _rows = table.as_slice();
+    let line = SegmentLine {
+        start: info.start,
+        end: info.end,
+        is_final: info.is_final,
+        epoch: info.epoch,
+    };
+    remove_segment(disk, &line, info.accepted)?;
+    note_row(table, room, request, DurableEffect::Remove { info }, 0)
+}
+
+// The calls of an effect, which is noted in the table.
+fn do_calls<D: Disk>(
+    disk: &mut D,
+    table: &mut SegmentTable,
+    ready: &mut Ready,
+    request: &Request,
+    effect: DurableEffect,
+) -> Result<(), DiskFail>
+    requires limits { limit_of request.now ≡ None }
+    requires due { HasDue table.old request.now effect }
+    requires can { CanBeDone D.DiskModel disk.old table.old request.now effect }
+    requires frame { HasFrame request.now ready.old.frame }
+    requires room { puts_row effect ≡ true → length table.old < ready.old.room }
+
+    ensures call { IsDiskCall D.DiskModel disk.old disk.new result }
+    ensures frame { HasFrame request.now ready.new.frame }
+    ensures noted { IsNoted request.now effect result table.old table.new }
+    ensures fault { FaultIsNoted request.now effect result table.old table.new }
+    ensures does { DoesAt D.DiskModel disk.old disk.new table.old request.now effect result }
+    ensures left { LeavesEither D.DiskModel disk.old disk.new table.old table.new request.now effect }
+    ensures room { puts_row effect ≡ false → ready.new.room ≡ ready.old.room }
+    ensures fewer { puts_row effect ≡ false → length table.new ≤ length table.old }
+{
+    match effect {
+        DurableEffect::Promise { epoch } => {
+            do_number(disk, table, request, NodeNumber::Promised, epoch)
+        }
+        DurableEffect::WriterEpoch { epoch } => {
+            do_number(disk, table, request, NodeNumber::Writer, epoch)
+        }
+        DurableEffect::Commit { txid } => {
+            do_number(disk, table, request, NodeNumber::Committed, txid)
+        }
+        DurableEffect::NewSegment { start, epoch } => do_begin(
+            disk,
+            table,
+            &mut ready.room,
+            request,
+            start,
+            epoch,
+        ),
+        DurableEffect::Append { start, at } => do_append(disk, table, ready, request, start, at),
+        DurableEffect::Replace { epoch, again } => do_accept(
+            disk, table, ready, request, epoch, again,
+        ),
+        DurableEffect::MakeFinal {
+            start,
+            end,
+            accepted,
+        } => do_finalize(disk, table, &mut ready.room, request, start, end, accepted),
+        DurableEffect::Remove { info } => do_remove(disk, table, &mut ready.room, request, info),
+    }
+}
+
+/// Does an effect of a request at the disk, and notes it in the table and in memory. It is due over
+/// the segments that the table tells, and the request passes no limit. On a disk that tells its
+/// bytes, its files, memory and the table hold a state. A crash at any moment leaves files that
+/// stand for the state without the effect or with it, and once this answered Ok only with it, which
+/// memory and the table then tell too. An `Err` leaves memory as it was, and a table that has a row
+/// of each segment, whichever of the two the files stand for. `Failed` comes where the disk failed,
+/// `OutOfMemory` where the disk wanted memory: what the effect itself wants was taken before, and
+/// an effect that may put a row has room for it.
+pub fn do_effect<D: Disk>(
+    disk: &mut D,
+    memory: &mut NodeState,
+    table: &mut SegmentTable,
+    ready: &mut Ready,
+    request: &Request,
+    effect: DurableEffect,
+) -> Result<(), DiskFail>
+    requires limits { limit_of request.now ≡ None }
+    requires due { HasDue table.old request.now effect }
+    requires held { D.tells disk.old → (s : AnyState) × CanDo (D.view disk.old) memory.old table.old s request.now effect }
+    requires frame { HasFrame request.now ready.old.frame }
+    requires room { puts_row effect ≡ true → length table.old < ready.old.room }
+
+    ensures call { IsDiskCall D.DiskModel disk.old disk.new result }
+    ensures frame { HasFrame request.now ready.new.frame }
+    ensures noted { IsNoted request.now effect result table.old table.new }
+    ensures rows { (gs : List Segment) → Tells gs table.old → IsDue gs table.old request.now effect → OnOk result (Tells (segments_after gs (effect_of request.now effect)) table.new) }
+    ensures told { (gs : List Segment) → Tells gs table.old → IsDue gs table.old request.now effect → Tells gs table.new ⊎ Tells (segments_after gs (effect_of request.now effect)) table.new }
+    ensures memory { OnOk result (memory.new ≡ numbers_after memory.old (effect_of request.now effect)) }
+    ensures same { OnErr result (memory.new ≡ memory.old) }
+    ensures effect { D.tells disk.old → (s : AnyState) → CanDo (D.view disk.old) memory.old table.old s request.now effect
+        → Does s (after_effect s (effect_of request.now effect)) result (D.view disk.old) (D.view disk.new) }
+    ensures held { D.tells disk.old → (s : AnyState) → CanDo (D.view disk.old) memory.old table.old s request.now effect
+        → OnOk result (IsHeld (D.view disk.new) memory.new table.new (after_effect s (effect_of request.now effect))) }
+    ensures left { D.tells disk.old → (s : AnyState) → CanDo (D.view disk.old) memory.old table.old s request.now effect
+        → AllLeave (D.view disk.new) (MayLeave table.new s (after_effect s (effect_of request.now effect))) }
+    ensures covers { (gs : List Segment) → Tells gs table.old → IsDue gs table.old request.now effect → IsErrOf result DiskFail.Failed
+        → Covers table.new gs × Covers table.new (segments_after gs (effect_of request.now effect)) }
+    ensures opened { D.tells disk.old → (s : AnyState) (o : Option ℕ) → CanDo (D.view disk.old) memory.old table.old s request.now effect
+        → Opens o effect ⊎ (Spares o effect × OpenedAt (D.view disk.old) s.segments table.old o)
+        → OnOk result (OpenedAt (D.view disk.new) (segments_after s.segments (effect_of request.now effect)) table.new o) }
+    ensures counts { D.tells disk.old → (s : AnyState) → CanDo (D.view disk.old) memory.old table.old s request.now effect
+        → (cut : Cut) → IsCounted (cost_of cut s.segments (effect_of request.now effect)).calls (D.left disk.old) (D.left disk.new) result }
+    ensures cut { D.tells disk.old → (s : AnyState) → CanDo (D.view disk.old) memory.old table.old s request.now effect
+        → IsCutAt (λ cut. cost_of cut s.segments (effect_of request.now effect)) s (after_effect s (effect_of request.now effect)) (D.left disk.old) result (D.view disk.new) }
+    ensures room { puts_row effect ≡ false → ready.new.room ≡ ready.old.room }
+    ensures fewer { puts_row effect ≡ false → length table.new ≤ length table.old }
+{
+    do_calls(disk, table, ready, request, effect)?;
+    note(memory, effect);
+    Ok(())
+}

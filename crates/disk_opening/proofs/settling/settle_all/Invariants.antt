@@ -1,0 +1,10 @@
+use Rattle.std.proofs.Common.{take}
+use Rattle.std.specs.Prelude.{string_bytes, map}
+use Rattle.disk_opening.specs.Completing.{IsWay, IsProgress}
+use Rattle.disk_opening.proofs.ClearLemmas.{IsClearing}
+use Rattle.disk_opening.proofs.settling.settle_all.Given as goal
+
+abbrev pub invariant-loop-name : goal.invariant-loop-name
+invariant-loop-name g l = IsClearing IsWay IsProgress (g.D.DiskModel.tells l.fn.disk) (g.D.DiskModel.tells l.disk) (g.D.DiskModel.view l.fn.disk)
+    (g.D.DiskModel.view l.disk) (map string_bytes l.name-items) (map string_bytes (take l.name-index l.name-items))
+    (g.D.DiskModel.faults l.fn.disk) (g.D.DiskModel.faults l.disk) (g.D.DiskModel.steady l.fn.disk) (g.D.DiskModel.steady l.disk)

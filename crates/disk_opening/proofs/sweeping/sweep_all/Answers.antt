@@ -1,0 +1,105 @@
+use Rattle.std.proofs.Common.{sym, ap, subst, take, List, ℕ, rules}
+use Rattle.std.specs.Prelude.{map, string_bytes, IsSome}
+use Rattle.disk_opening.specs.Completing.{IsLeftOver, NoName, Clears}
+use Rattle.disk_segment.proofs.SealLemmas.{carried}
+use Rattle.disk_opening.proofs.SyncLemmas.{next_done, all_done, listed_as}
+use Rattle.disk_opening.proofs.TurnLemmas.{turn}
+use Rattle.disk_opening.proofs.ClearLemmas.{begun, one_more, next_there, finals_so_far, given_up_mends, given_up_cause, going_cause, all_cleared, none_apart, final_not_left}
+use Rattle.disk_opening.proofs.sweeping.sweep_all.Goals as goal
+
+pub loop-name-init : goal.loop-name-init
+loop-name-init g c =
+    begun (IsLeftOver c.args.finals.now) NoName (none_apart c.args.finals.now) (g.D.DiskModel.tells c.args.disk.now)
+    (g.D.DiskModel.view c.args.disk.now) (λ t. g.met.D.Disk.sound _ t) (map string_bytes c.deref-name-items.result.now)
+    (g.D.DiskModel.faults c.args.disk.now) (g.D.DiskModel.steady c.args.disk.now)
+    (g.D.DiskModel.tells c.list.new.self) (g.D.DiskModel.view c.list.new.self) (g.D.DiskModel.faults c.list.new.self)
+    (g.D.DiskModel.steady c.list.new.self) c.list.result c.list.ensures.call.tells (λ t. c.list.ensures.disk t)
+    (λ t. listed_as _ _ _ (ap (map string_bytes) c.deref-name-items.ensures.value) (c.in_ok-names.ensures.names t)) c.list.ensures.call.cause
+
+pub loop-name-preserved : goal.loop-name-preserved
+loop-name-preserved g c =
+    one_more (IsLeftOver c.args.finals.now) NoName (none_apart c.args.finals.now) (g.D.DiskModel.tells c.args.disk.now)
+    (g.D.DiskModel.view c.args.disk.now) (λ t. g.met.D.Disk.sound _ t) (map string_bytes c.deref-name-items.result.now)
+    (g.D.DiskModel.faults c.args.disk.now) (g.D.DiskModel.steady c.args.disk.now)
+    (g.D.DiskModel.tells c.loop-name.disk) (g.D.DiskModel.view c.loop-name.disk)
+    (map string_bytes (take c.loop-name.name-index c.deref-name-items.result.now)) (g.D.DiskModel.faults c.loop-name.disk)
+    (g.D.DiskModel.steady c.loop-name.disk) c.loop-name.invariant
+    (g.D.DiskModel.tells c.sweep_one.new.disk) (g.D.DiskModel.view c.sweep_one.new.disk) (g.D.DiskModel.faults c.sweep_one.new.disk)
+    (g.D.DiskModel.steady c.sweep_one.new.disk) c.sweep_one.result c.sweep_one.ensures.call.tells (λ t. c.sweep_one.ensures.mends t)
+    c.sweep_one.ensures.call.cause
+    (string_bytes c.name-item.result) _ (next_done string_bytes c.deref-name-items.result.now c.loop-name.name-index c.name-item.result c.loop-name-test.true c.name-item.is)
+    (λ t. subst (λ (n : List ℕ). Clears (IsLeftOver c.args.finals.now) NoName n (g.D.DiskModel.view c.loop-name.disk).seen
+    (g.D.DiskModel.view c.sweep_one.new.disk).seen) c.as_str.ensures.value (c.in_ok-sweep_one.ensures.clears t))
+
+pub sweep_one-requires-clause-finals : goal.sweep_one-requires-clause-finals
+sweep_one-requires-clause-finals g c = λ t.
+    finals_so_far (IsLeftOver c.args.finals.now) NoName (none_apart c.args.finals.now) (g.D.DiskModel.tells c.args.disk.now)
+    (g.D.DiskModel.view c.args.disk.now) (λ t. g.met.D.Disk.sound _ t) (map string_bytes c.deref-name-items.result.now)
+    (g.D.DiskModel.faults c.args.disk.now) (g.D.DiskModel.steady c.args.disk.now)
+    (g.D.DiskModel.tells c.loop-name.disk) (g.D.DiskModel.view c.loop-name.disk)
+    (map string_bytes (take c.loop-name.name-index c.deref-name-items.result.now)) (g.D.DiskModel.faults c.loop-name.disk)
+    (g.D.DiskModel.steady c.loop-name.disk) c.loop-name.invariant
+    c.args.finals.now t (final_not_left c.args.finals.now) (λ name start final none. none) c.requires
+
+pub sweep_one-requires-clause-there : goal.sweep_one-requires-clause-there
+sweep_one-requires-clause-there g c = λ t.
+    subst (λ (n : List ℕ). IsSome ((g.D.DiskModel.view c.loop-name.disk).seen n)) (sym c.as_str.ensures.value)
+    (next_there (IsLeftOver c.args.finals.now) NoName (none_apart c.args.finals.now) (g.D.DiskModel.tells c.args.disk.now)
+    (g.D.DiskModel.view c.args.disk.now) (λ t. g.met.D.Disk.sound _ t) (map string_bytes c.deref-name-items.result.now)
+    (g.D.DiskModel.faults c.args.disk.now) (g.D.DiskModel.steady c.args.disk.now)
+    (g.D.DiskModel.tells c.loop-name.disk) (g.D.DiskModel.view c.loop-name.disk)
+    (map string_bytes (take c.loop-name.name-index c.deref-name-items.result.now)) (g.D.DiskModel.faults c.loop-name.disk)
+    (g.D.DiskModel.steady c.loop-name.disk) c.loop-name.invariant
+    (string_bytes c.name-item.result) t (turn string_bytes c.deref-name-items.result.now c.loop-name.name-index c.name-item.result c.loop-name-test.true c.name-item.is)
+    (λ none. none))
+
+pub returns-in_err-sweep_one-clause-call : goal.returns-in_err-sweep_one-clause-call
+returns-in_err-sweep_one-clause-call g c = record {
+  tells = search rules;
+  cause =
+      given_up_cause (IsLeftOver c.args.finals.now) NoName (none_apart c.args.finals.now) (g.D.DiskModel.tells c.args.disk.now)
+      (g.D.DiskModel.view c.args.disk.now) (λ t. g.met.D.Disk.sound _ t) (map string_bytes c.deref-name-items.result.now)
+      (g.D.DiskModel.faults c.args.disk.now) (g.D.DiskModel.steady c.args.disk.now)
+      (g.D.DiskModel.tells c.loop-name.disk) (g.D.DiskModel.view c.loop-name.disk)
+      (map string_bytes (take c.loop-name.name-index c.deref-name-items.result.now)) (g.D.DiskModel.faults c.loop-name.disk)
+      (g.D.DiskModel.steady c.loop-name.disk) c.loop-name.invariant
+      (g.D.DiskModel.tells c.sweep_one.new.disk) (g.D.DiskModel.view c.sweep_one.new.disk) (g.D.DiskModel.faults c.sweep_one.new.disk)
+      (g.D.DiskModel.steady c.sweep_one.new.disk) c.sweep_one.result c.sweep_one.ensures.call.tells (λ t. c.sweep_one.ensures.mends t)
+      c.sweep_one.ensures.call.cause
+      c.from_residual-in_err-sweep_one.result (carried c.sweep_one.result c.from_residual-in_err-sweep_one.result c.in_err-sweep_one.field-0.0
+      c.in_err-sweep_one.was c.from_residual-in_err-sweep_one.ensures.1);
+}
+
+pub returns-in_err-sweep_one-clause-mends : goal.returns-in_err-sweep_one-clause-mends
+returns-in_err-sweep_one-clause-mends g c =
+    given_up_mends (IsLeftOver c.args.finals.now) NoName (none_apart c.args.finals.now) (g.D.DiskModel.tells c.args.disk.now)
+    (g.D.DiskModel.view c.args.disk.now) (λ t. g.met.D.Disk.sound _ t) (map string_bytes c.deref-name-items.result.now)
+    (g.D.DiskModel.faults c.args.disk.now) (g.D.DiskModel.steady c.args.disk.now)
+    (g.D.DiskModel.tells c.loop-name.disk) (g.D.DiskModel.view c.loop-name.disk)
+    (map string_bytes (take c.loop-name.name-index c.deref-name-items.result.now)) (g.D.DiskModel.faults c.loop-name.disk)
+    (g.D.DiskModel.steady c.loop-name.disk) c.loop-name.invariant
+    (g.D.DiskModel.tells c.sweep_one.new.disk) (g.D.DiskModel.view c.sweep_one.new.disk) (g.D.DiskModel.faults c.sweep_one.new.disk)
+    (g.D.DiskModel.steady c.sweep_one.new.disk) c.sweep_one.result c.sweep_one.ensures.call.tells (λ t. c.sweep_one.ensures.mends t)
+    c.sweep_one.ensures.call.cause
+
+pub returns-clause-clears : goal.returns-clause-clears
+returns-clause-clears g c = λ t.
+    all_cleared (IsLeftOver c.args.finals.now) NoName (none_apart c.args.finals.now) (g.D.DiskModel.tells c.args.disk.now)
+    (g.D.DiskModel.view c.args.disk.now) (λ t. g.met.D.Disk.sound _ t) (map string_bytes c.deref-name-items.result.now)
+    (g.D.DiskModel.faults c.args.disk.now) (g.D.DiskModel.steady c.args.disk.now)
+    (g.D.DiskModel.tells c.loop-name.disk) (g.D.DiskModel.view c.loop-name.disk)
+    (map string_bytes (take c.loop-name.name-index c.deref-name-items.result.now)) (g.D.DiskModel.faults c.loop-name.disk)
+    (g.D.DiskModel.steady c.loop-name.disk) c.loop-name.invariant
+    (all_done string_bytes c.deref-name-items.result.now c.loop-name.name-index c.loop-name-test.false) t
+
+pub returns-clause-call : goal.returns-clause-call
+returns-clause-call g c = record {
+  tells = search rules;
+  cause =
+      going_cause (IsLeftOver c.args.finals.now) NoName (none_apart c.args.finals.now) (g.D.DiskModel.tells c.args.disk.now)
+      (g.D.DiskModel.view c.args.disk.now) (λ t. g.met.D.Disk.sound _ t) (map string_bytes c.deref-name-items.result.now)
+      (g.D.DiskModel.faults c.args.disk.now) (g.D.DiskModel.steady c.args.disk.now)
+      (g.D.DiskModel.tells c.loop-name.disk) (g.D.DiskModel.view c.loop-name.disk)
+      (map string_bytes (take c.loop-name.name-index c.deref-name-items.result.now)) (g.D.DiskModel.faults c.loop-name.disk)
+      (g.D.DiskModel.steady c.loop-name.disk) c.loop-name.invariant _ (λ failed. absurd (cc));
+}

@@ -1,0 +1,13 @@
+pub mod Blocks
+pub mod Crosses
+pub mod Heads
+pub mod Kept
+pub mod Memory
+pub mod Numbered
+pub mod Rings
+pub mod Sharing
+pub mod Windows
+pub mod Pushing
+pub mod Pieces
+pub mod Following
+pub mod Reading

@@ -1,0 +1,6 @@
+use Rattle.std.proofs.Common.{refl}
+use Rattle.base_files.proofs.PutsLemmas.{one_cut}
+use Rattle.disk_segment.proofs.accepting.settle.Goals as goal
+
+pub returns-clause-cut : goal.returns-clause-cut
+returns-clause-cut g c = one_cut _ _ _ _ (g.D.DiskModel.view c.args.disk.now) (g.D.DiskModel.view c.rename.new.self) c.rename.result refl c.rename.ensures.budget

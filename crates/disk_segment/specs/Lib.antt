@@ -1,0 +1,11 @@
+pub mod Seal
+pub mod Names
+pub mod Stands
+pub mod Places
+pub mod Effects
+pub mod Calls
+pub mod Scans
+pub mod Reads
+pub mod Rows
+pub mod RowsTell
+pub mod Clauses

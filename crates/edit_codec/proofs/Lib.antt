@@ -1,0 +1,13 @@
+pub mod Goods
+pub mod ReadItems
+pub mod OpReads
+pub mod Writes
+pub mod DecodeLaws
+pub mod SayNumbers
+pub mod SayItems
+pub mod SayWords
+pub mod SayLaws
+pub mod SayEdits
+pub mod SayOps
+pub mod TestLaws
+pub mod TextWords

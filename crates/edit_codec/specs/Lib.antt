@@ -1,0 +1,9 @@
+pub mod Spaced
+pub mod Forms
+pub mod Shown
+pub mod OpRead
+pub mod Decoding
+pub mod Saying
+pub mod EditTexts
+pub mod ReadTexts
+pub mod SaidTexts

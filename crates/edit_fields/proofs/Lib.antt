@@ -1,4 +1,0 @@
-pub mod SourceLaws
-pub mod ReadFields
-pub mod FieldLaws
-pub mod WalkLaws

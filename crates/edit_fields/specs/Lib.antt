@@ -1,4 +1,0 @@
-pub mod Fields
-pub mod Sources
-pub mod Reading
-pub mod Rules

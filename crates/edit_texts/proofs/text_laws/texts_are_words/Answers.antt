@@ -1,5 +1,0 @@
-use Rattle.edit_texts.proofs.TextWords.{worded}
-use Rattle.edit_texts.proofs.text_laws.texts_are_words.Goals as goal
-
-pub returns : goal.returns
-returns c = worded

@@ -1,5 +1,0 @@
-use Rattle.edit_texts.proofs.SayEdits.{one_edit}
-use Rattle.edit_texts.proofs.text_laws.texts_tell_edits.Goals as goal
-
-pub returns : goal.returns
-returns c = one_edit

@@ -1,4 +1,0 @@
-pub mod Saying
-pub mod Texts
-pub mod ReadTexts
-pub mod SaidTexts

@@ -1,8 +1,0 @@
-use Rattle.std.proofs.Common.{◌≡◌, ◌++◌, take, map}
-use Rattle.std.specs.List.{flat_map}
-use Rattle.field_forms.specs.Forms.{written}
-use Rattle.edit_fields.specs.Fields.{path, Text_}
-use Rattle.field_forms.proofs.field.put_paths.Given as goal
-
-abbrev pub invariant-loop-path : goal.invariant-loop-path
-invariant-loop-path l = l.out.items ≡ l.fn.out.items ++ flat_map (written l.form) (map (Text_ path) (take l.path-index l.paths))

@@ -1,4 +1,0 @@
-pub mod ListLaws
-pub mod OneListing
-pub mod CheckLaws
-pub mod AnswerLaws

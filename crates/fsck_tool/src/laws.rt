@@ -1,7 +1,0 @@
-//! Laws of checks.
-ghost use Rattle.fsck_tool.specs.Reports.{FoldersHaveOneReport};
-
-/// A folder has one report.
-pub fn folders_have_one_report()
-    ensures { FoldersHaveOneReport }
-{}

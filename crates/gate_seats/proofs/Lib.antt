@@ -1,4 +1,0 @@
-pub mod NodeLaws
-pub mod SeatLaws
-pub mod GateLaws
-pub mod CloseLaws

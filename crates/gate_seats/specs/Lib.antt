@@ -1,4 +1,0 @@
-pub mod Entries
-pub mod Seated
-pub mod LaterLaws
-pub mod Gates

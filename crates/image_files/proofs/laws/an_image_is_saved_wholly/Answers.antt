@@ -1,8 +1,0 @@
-use Rattle.image_files.proofs.CountLaws.{before_it, after_it}
-use Rattle.image_files.proofs.laws.an_image_is_saved_wholly.Goals as goal
-
-pub returns-clause-before : goal.returns-clause-before
-returns-clause-before c = before_it
-
-pub returns-clause-after : goal.returns-clause-after
-returns-clause-after c = after_it

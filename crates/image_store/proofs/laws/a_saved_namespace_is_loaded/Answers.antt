@@ -1,5 +1,0 @@
-use Rattle.image_store.proofs.AnswerLaws.{loads_as}
-use Rattle.image_store.proofs.laws.a_saved_namespace_is_loaded.Goals as goal
-
-pub returns : goal.returns
-returns c = loads_as

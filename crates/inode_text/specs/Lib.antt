@@ -1,4 +1,0 @@
-pub mod Permissions
-pub mod Columns
-pub mod Texts
-pub mod Examples

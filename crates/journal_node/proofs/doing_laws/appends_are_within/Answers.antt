@@ -1,5 +1,0 @@
-use Rattle.journal_node.proofs.DoneAppends.{appends_within}
-use Rattle.journal_node.proofs.doing_laws.appends_are_within.Goals as goal
-
-pub returns : goal.returns
-returns c = appends_within

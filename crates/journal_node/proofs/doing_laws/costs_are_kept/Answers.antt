@@ -1,5 +1,0 @@
-use Rattle.journal_node.proofs.DoneCosts.{costs_kept}
-use Rattle.journal_node.proofs.doing_laws.costs_are_kept.Goals as goal
-
-pub returns : goal.returns
-returns c = costs_kept

@@ -1,7 +1,0 @@
-use Rattle.std.proofs.Common.{refl}
-use Rattle.journal_node.specs.FileState.{segments_at, state_of}
-use Rattle.journal_node.proofs.state_examples.no_files_are_a_fresh_node.Goals as goal
-
-pub returns : goal.returns
-unfolding state_of segments_at
-returns c = refl

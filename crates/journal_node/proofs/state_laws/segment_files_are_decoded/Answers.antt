@@ -1,5 +1,0 @@
-use Rattle.journal_node.proofs.Decodes.{segment_file_decoded}
-use Rattle.journal_node.proofs.state_laws.segment_files_are_decoded.Goals as goal
-
-pub returns : goal.returns
-returns c = segment_file_decoded

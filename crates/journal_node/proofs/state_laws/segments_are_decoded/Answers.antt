@@ -1,5 +1,0 @@
-use Rattle.journal_node.proofs.SegmentAt.{segment_decoded}
-use Rattle.journal_node.proofs.state_laws.segments_are_decoded.Goals as goal
-
-pub returns : goal.returns
-returns c = segment_decoded

@@ -1,0 +1,5 @@
+pub mod PrintLaws
+pub mod WordLaws
+pub mod ReadLaws
+pub mod BodyLaws
+pub mod LineLaws

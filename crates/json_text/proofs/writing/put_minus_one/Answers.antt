@@ -1,7 +1,0 @@
-use Rattle.std.proofs.Common.{refl}
-use Rattle.json.proofs.OnLiterals.{json_on_literals}
-use Rattle.json_text.proofs.writing.put_minus_one.Goals as goal
-
-pub number-requires : goal.number-requires
-unfolding json_on_literals
-number-requires c = refl

@@ -1,5 +1,0 @@
-pub mod AppendLaws
-pub mod WordLaws
-pub mod NumberLaws
-pub mod HexLaws
-pub mod EndLaws

@@ -1,4 +1,0 @@
-pub mod Words
-pub mod Hex
-pub mod Numbers
-pub mod Appends

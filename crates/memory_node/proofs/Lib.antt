@@ -1,4 +1,0 @@
-pub mod FetchLaws
-pub mod ApplyLaws
-pub mod AnswerLaws
-pub mod CutLaws

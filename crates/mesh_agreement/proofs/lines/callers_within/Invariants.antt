@@ -1,6 +1,0 @@
-use Rattle.mesh.specs.Matches.{CallersWithin}
-use Rattle.mesh_agreement.proofs.Deciding.{From}
-use Rattle.mesh_agreement.proofs.lines.callers_within.Given as goal
-
-abbrev pub invariant-loop-line : goal.invariant-loop-line
-invariant-loop-line l = From (CallersWithin l.callers) l.line-index l.lines

@@ -1,5 +1,0 @@
-use Rattle.mesh_agreement.proofs.LineLaws.{LocalFrom}
-use Rattle.mesh_agreement.proofs.local.is_local_run.Given as goal
-
-abbrev pub invariant-loop-line : goal.invariant-loop-line
-invariant-loop-line l = LocalFrom l.cell.cell l.line-index l.lines

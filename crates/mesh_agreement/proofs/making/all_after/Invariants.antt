@@ -1,6 +1,0 @@
-use Rattle.std.proofs.Common.{◌≡◌}
-use Rattle.mesh_agreement.specs.Leading.{stands_of, all_go_on}
-use Rattle.mesh_agreement.proofs.making.all_after.Given as goal
-
-abbrev pub invariant-loop-candidate : goal.invariant-loop-candidate
-invariant-loop-candidate l = stands_of l.after.items ≡ all_go_on (stands_of l.yielded) l.node l.request l.told

@@ -1,5 +1,0 @@
-use Rattle.std.proofs.Common.{◌≡◌, ◌++◌, suc, map, take}
-use Rattle.mesh_agreement.proofs.request_key.push_body.Given as goal
-
-abbrev pub invariant-loop-byte : goal.invariant-loop-byte
-invariant-loop-byte l = l.key.items ≡ l.fn.key.items ++ map suc (take l.byte-index l.body)

@@ -1,0 +1,17 @@
+use Rattle.std.proofs.Common.{◌≡◌, length, sym, subst, Decides}
+use Rattle.std.specs.BTreeSet.{contains}
+use Rattle.std.specs.Ordering.{nat_cmp}
+use Rattle.mesh.specs.Matches.{IsWithin}
+use Rattle.mesh_judge.specs.Marking.{as_marked, LineIsMarked}
+use Rattle.mesh_judge.proofs.MarkLaws.{call_marked}
+use Rattle.mesh_judge.proofs.marking.is_line_marked.Goals as goal
+
+pub returns-in-Call : goal.returns-in-Call
+returns-in-Call c plan before marked known =
+    let low = subst (IsWithin (length c.args.calls.now.next.items)) c.in-Call.is c.requires.within in
+    let told : c.as_marked.result ≡ as_marked c.in-Call.told (contains nat_cmp c.index-in-Call.result.now.set c.index.result.now)
+    (contains nat_cmp c.index-in-Call-2.result.now.set c.index.result.now) = cc in
+    subst (λ line. Decides c.as_marked.result (LineIsMarked plan before line)) (sym c.in-Call.is)
+    (call_marked (length c.args.calls.now.next.items) c.in-Call.node c.index.result.now plan before c.args.calls.now c.args.marks.now
+    c.in-Call.request c.in-Call.told c.index-in-Call.result.now c.index-in-Call-2.result.now
+    c.as_marked.result low c.index-in-Call.ensures c.index-in-Call-2.ensures c.index.ensures told marked known)

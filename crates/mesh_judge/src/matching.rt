@@ -1,0 +1,194 @@
+//! Whether of each node and each caller both list the same.
+ghost use Rattle.std.specs.Prelude.{◌≡◌, ◌<◌, ◌≤◌, ◌+◌, ℕ, [], Decides, IfOk, length, slice_index_or, replicate};
+ghost use Rattle.journal_history.specs.declared.node_ask.NodeAsk.TheVariants.{Act};
+ghost use Rattle.mesh.specs.Agree.{operator_of, history_at};
+ghost use Rattle.mesh.specs.Matches.{StandsFor, done_or_idle, IsSame, reached, CallersWithin};
+ghost use Rattle.mesh_judge.specs.Matching.{IsNext, KnowsPlaces, KnowsAllPlaces, AreSameAt};
+ghost use Rattle.mesh_judge.specs.Parts.{IsSized, RecordsWithin, HistoriesWithin, AllSame};
+
+use crate::equality::{same_reply, same_request};
+use crate::reached::{ReachList, reached_by_node};
+use journal_core::{OutOfMemory, Request};
+use journal_history::{HistoryLine, NodeAnswer, NodeAsk, Record, Told};
+use mesh::Mesh;
+use std::alloc::Global;
+
+/// The lines of a record that reached each node.
+#[derive(Drop)]
+pub(crate) struct ReachTable {
+    by_node: Vec<ReachList>,
+}
+
+/// It is this request, or a late copy of it.
+fn is_request(ask: &NodeAsk, is_late: bool, request: &Request) -> bool
+    ensures { Decides result (ask.now ≡ Act is_late request.now) }
+{
+    match ask {
+        NodeAsk::Act {
+            late,
+            request: other,
+        } => *late == is_late && same_request(other.get(), request),
+        NodeAsk::Kill | NodeAsk::Restart | NodeAsk::Arm { .. } => false,
+    }
+}
+
+/// Both ask for the same.
+fn same_ask(a: &NodeAsk, b: &NodeAsk) -> bool
+    ensures { Decides result (a.now ≡ b.now) }
+{
+    match (a, b) {
+        (a, NodeAsk::Act { late, request }) => is_request(a, *late, request.get()),
+        (NodeAsk::Kill, NodeAsk::Kill) => true,
+        (NodeAsk::Restart, NodeAsk::Restart) => true,
+        (NodeAsk::Arm { calls: a, stop: s }, NodeAsk::Arm { calls: b, stop: t }) => {
+            a == b && s.get() == t.get()
+        }
+        _ => false,
+    }
+}
+
+/// What a caller was told is what the node answered, as far as it was told.
+fn stands_for(told: &Told, answer: &NodeAnswer) -> bool
+    ensures { Decides result (StandsFor told.now answer.now) }
+{
+    match (told, answer) {
+        (Told::Reply(told), NodeAnswer::Replied(reply)) => same_reply(reply, told),
+        (Told::Muted, _) => true,
+        (Told::Silent, NodeAnswer::Stopped { .. }) => true,
+        _ => false,
+    }
+}
+
+/// It took place, or it was idle.
+fn is_done_or_idle(answer: &NodeAnswer, done: bool) -> bool
+    ensures { Decides result (answer.now ≡ done_or_idle done) }
+{
+    match answer {
+        NodeAnswer::Done => done,
+        NodeAnswer::Idle => !done,
+        NodeAnswer::Replied(_) | NodeAnswer::Stopped { .. } | NodeAnswer::NotOpened(_) => false,
+    }
+}
+
+/// The caller's line and the node's are of one event.
+#[tactic(auto, unfolding(mesh::specs::Matches::IsSame))]
+fn is_same(line: &Record, at_node: &HistoryLine) -> bool
+    ensures { Decides result (IsSame line.now at_node.now) }
+{
+    match line {
+        Record::Call { request, told, .. } => {
+            is_request(&at_node.ask, false, request.get()) && stands_for(told, &at_node.answer)
+        }
+        Record::Late { request, .. } => is_request(&at_node.ask, true, request.get()),
+        Record::Operator { ask, done, .. } => {
+            same_ask(&at_node.ask, ask) && is_done_or_idle(&at_node.answer, *done)
+        }
+        Record::Outcome { .. } => false,
+    }
+}
+
+/// The line of the record that reached the node with this index, from 0, after so many others is
+/// the node's line.
+fn is_next(
+    lines: &[Record],
+    table: &ReachTable,
+    index: usize,
+    number: usize,
+    at_node: &HistoryLine,
+) -> bool
+    requires known { KnowsPlaces lines.now table.now }
+    requires node { index < length table.now.by_node.items }
+    ensures { Decides result (IsNext (reached (index + 1) lines.now) number at_node.now) }
+{
+    match table.by_node[index].as_slice().get(number) {
+        Some(reach) => is_same(&lines[reach.place - 1], at_node),
+        None => false,
+    }
+}
+
+/// No line that reached the node is left.
+fn are_all_taken(tables: &[ReachTable], index: usize, taken: &[usize]) -> bool
+    requires count { length taken.now ≡ length tables.now }
+    requires nodes { (c : ℕ) (d : ReachTable) → c < length tables.now → index < length (slice_index_or tables.now c d).by_node.items }
+    ensures { Decides result ((c : ℕ) (d : ReachTable) → c < length tables.now → length (slice_index_or (slice_index_or tables.now c d).by_node.items index []) ≤ slice_index_or taken.now c 0) }
+{
+    for (caller, table) in tables.iter().enumerate() {
+        if taken[caller] < table.by_node[index].as_slice().len() {
+            return false;
+        }
+    }
+    true
+}
+
+/// No line of any caller is taken yet.
+fn none_taken(alloc: Global, callers: usize) -> Result<Vec<usize>, OutOfMemory>
+    ensures { IfOk result (λ taken. taken.items ≡ replicate callers 0) }
+{
+    let taken = vec![in alloc; 0usize; callers]?;
+    Ok(taken)
+}
+
+/// The node with this index, from 0, and each caller list the same of each other, each line once
+/// and in order.
+fn are_same_at(
+    alloc: Global,
+    mesh: &Mesh,
+    tables: &[ReachTable],
+    index: usize,
+) -> Result<bool, OutOfMemory>
+    requires known { KnowsAllPlaces mesh.now tables.now }
+    requires sized { IsSized mesh.now }
+    requires node { index < mesh.now.nodes }
+    requires callers { CallersWithin (operator_of mesh.now) (history_at mesh.now index) }
+    ensures { IfOk result (λ are_same. Decides are_same (AreSameAt mesh.now index)) }
+{
+    let records = mesh.records.as_slice();
+    let mut taken = none_taken(alloc, tables.len())?;
+    for line in mesh.histories.as_slice()[index].as_slice() {
+        let caller = line.caller as usize;
+        let number = taken[caller];
+        if !is_next(
+            records[caller].as_slice(),
+            &tables[caller],
+            index,
+            number,
+            line,
+        ) {
+            return Ok(false);
+        }
+        taken[caller] = number + 1;
+    }
+    Ok(are_all_taken(tables, index, &taken))
+}
+
+/// Record by record, the lines that reached each node.
+fn tables_of(alloc: Global, mesh: &Mesh) -> Result<Vec<ReachTable>, OutOfMemory>
+    requires sized { IsSized mesh.now }
+    requires within { RecordsWithin mesh.now }
+    ensures { IfOk result (λ tables. KnowsAllPlaces mesh.now tables.items) }
+{
+    let mut tables = Vec::with_capacity(alloc, mesh.records.as_slice().len())?;
+    for record in mesh.records.as_slice() {
+        tables.push(ReachTable {
+            by_node: reached_by_node(alloc, mesh.nodes, record.as_slice())?,
+        })?;
+    }
+    Ok(tables)
+}
+
+/// Each node and each caller list the same of each other, each line once and in order.
+pub(crate) fn are_all_same(alloc: Global, mesh: &Mesh) -> Result<bool, OutOfMemory>
+    requires sized { IsSized mesh.now }
+    requires within { RecordsWithin mesh.now }
+    requires callers { HistoriesWithin mesh.now }
+    ensures { IfOk result (λ are_same. Decides are_same (AllSame mesh.now)) }
+{
+    let tables = tables_of(alloc, mesh)?;
+    for index in 0..mesh.nodes {
+        let are_same = are_same_at(alloc, mesh, &tables, index)?;
+        if !are_same {
+            return Ok(false);
+        }
+    }
+    Ok(true)
+}

@@ -1,2 +1,0 @@
-pub mod TailLaws
-pub mod SavedLaws

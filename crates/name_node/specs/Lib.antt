@@ -1,4 +1,0 @@
-pub mod Submissions
-pub mod Holding
-pub mod Tails
-pub mod Examples

@@ -1,6 +1,0 @@
-use Rattle.names_safety.proofs.Safeties.{epoch_order_linear}
-use Rattle.names_safety.proofs.NamedPlays.{play_linear}
-use Rattle.names_safety.proofs.laws.orders_are_linear.Goals as goal
-
-pub returns : goal.returns
-returns c = record { epochs = epoch_order_linear; play = play_linear }

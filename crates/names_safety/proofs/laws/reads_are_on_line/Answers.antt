@@ -1,5 +1,0 @@
-use Rattle.names_safety.proofs.ReadLaws.{reads_on_line}
-use Rattle.names_safety.proofs.laws.reads_are_on_line.Goals as goal
-
-pub returns : goal.returns
-returns c = reads_on_line

@@ -1,3 +1,0 @@
-pub mod Linear
-pub mod Laws
-pub mod Examples

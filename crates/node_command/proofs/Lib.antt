@@ -1,4 +1,0 @@
-pub mod CrashLaws
-pub mod EndedLaws
-pub mod NodeLaws
-pub mod ServingLaws

@@ -1,5 +1,0 @@
-use Rattle.node_effects.proofs.StepLaws.{step_in_parts}
-use Rattle.node_effects.proofs.laws.step_is_in_parts.Goals as goal
-
-pub returns : goal.returns
-returns c = step_in_parts

@@ -1,7 +1,0 @@
-use Rattle.std.proofs.Common.{◌≡◌, drop}
-use Rattle.node_history.specs.Same.{same_bodies}
-use Rattle.node_history.proofs.equality.same_bodies.Given as goal
-
--- so far the lists are the same
-abbrev pub invariant-loop-i : goal.invariant-loop-i
-invariant-loop-i l = same_bodies l.a l.b ≡ same_bodies (drop l.i l.a) (drop l.i l.b)

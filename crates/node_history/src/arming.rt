@@ -1,9 +1,0 @@
-// An arming of a node.
-use crate::stop::Stop;
-
-/// Which of the next requests that reach a node while it is up is stopped, counted from 1, and where.
-#[derive(Clone, Copy, Debug, PartialEq, Eq)]
-pub struct Arming {
-    pub calls: u64,
-    pub stop: Stop,
-}

@@ -1,5 +1,0 @@
-use Rattle.node_world.proofs.WorldWorked.{begun, served, taken}
-use Rattle.node_world.proofs.examples.served_takeover_is_taken.Goals as goal
-
-pub returns : goal.returns
-returns c = record { begun = begun; served = served; taken = taken }

@@ -1,5 +1,0 @@
-use Rattle.node_world.proofs.WorldWorked.{call_next, copy_next}
-use Rattle.node_world.proofs.examples.what_is_not_next.Goals as goal
-
-pub returns : goal.returns
-returns c = record { call = call_next; copy = copy_next }

@@ -1,5 +1,0 @@
-use Rattle.node_world.proofs.WorldSeen.{unchanged}
-use Rattle.node_world.proofs.laws.not_next_changes_nothing.Goals as goal
-
-pub returns : goal.returns
-returns c = unchanged

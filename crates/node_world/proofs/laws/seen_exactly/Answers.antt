@@ -1,5 +1,0 @@
-use Rattle.node_world.proofs.WorldSeen.{exactly}
-use Rattle.node_world.proofs.laws.seen_exactly.Goals as goal
-
-pub returns : goal.returns
-returns c = exactly

@@ -1,6 +1,0 @@
-use Rattle.std.proofs.Common.{◌≡◌, replicate}
-use Rattle.node_history.specs.NodeCells.{new_cell}
-use Rattle.node_world.proofs.world.fresh_cells.Given as goal
-
-abbrev pub invariant-loop : goal.invariant-loop
-invariant-loop l = l.cells.items ≡ replicate l.counter new_cell

@@ -1,0 +1,12 @@
+use Rattle.std.proofs.Common.{refl}
+use Rattle.edit_ops.specs.Reading.{field_at}
+use Rattle.ns_edits.specs.Decoded.{op_from, edit_from, opcode_of, decoded}
+use Rattle.ns_edits.specs.Admit.{admit_op, admit_of}
+use Rattle.ns_edits.specs.Apply.{apply_op, apply_of}
+use Rattle.ns_edits.specs.Replay.{entered, replay_from, replay}
+use Rattle.ns_edits.specs.Examples.{every_edit, every_rows}
+use Rattle.ns_edits.proofs.examples.every_kind_replays.Goals as goal
+
+pub returns : goal.returns
+unfolding field_at op_from edit_from opcode_of decoded admit_op admit_of apply_op apply_of entered replay_from replay every_edit every_rows
+returns c = refl

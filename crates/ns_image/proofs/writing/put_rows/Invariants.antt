@@ -1,0 +1,7 @@
+use Rattle.std.proofs.Common.{◌≡◌, ◌++◌, take}
+use Rattle.std.specs.List.{flat_map}
+use Rattle.ns_image.specs.Layouts.{row_bytes}
+use Rattle.ns_image.proofs.writing.put_rows.Given as goal
+
+abbrev pub invariant-loop-i : goal.invariant-loop-i
+invariant-loop-i l = l.out.items ≡ l.fn.out.items ++ flat_map row_bytes (take l.i l.namespace.pairs)

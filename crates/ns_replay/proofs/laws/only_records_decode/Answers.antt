@@ -1,5 +1,0 @@
-use Rattle.ns_replay.proofs.Decodes.{only_record_decodes}
-use Rattle.ns_replay.proofs.laws.only_records_decode.Goals as goal
-
-pub returns : goal.returns
-returns c = only_record_decodes

@@ -1,9 +1,0 @@
-use Rattle.std.proofs.Common.{refl}
-use Rattle.std.specs.List.{flat_map}
-use Rattle.json_text.specs.Values.{member_tokens}
-use Rattle.json_text.proofs.Trees.{adds_same}
-use Rattle.oev_tool.specs.Entries.{early}
-use Rattle.oev_tool.proofs.entries.put_early.Goals as goal
-
-pub returns-in-Add : goal.returns-in-Add
-returns-in-Add c = adds_same c.put_members.result c.args.writer.now c.put_members.new.writer (flat_map member_tokens (early c.args.op.now)) c.put_members.ensures (rw c.in-Add.is refl)

@@ -1,9 +1,0 @@
-use Rattle.std.proofs.Common.{◌+◌, ◌-◌, ◌^◌}
-use Rattle.oev_tool.specs.Steps.{IsCountedSoFar}
-use Rattle.oev_tool.proofs.tools.statistics_of.Given as goal
-
-abbrev pub invariant-loop : goal.invariant-loop
-invariant-loop l = IsCountedSoFar l.fn.edits.bytes l.edits l.counts l.total
-
-abbrev pub decreases-loop : goal.decreases-loop
-decreases-loop l = 2 ^ 62 + 1 - l.edits.ahead.txid

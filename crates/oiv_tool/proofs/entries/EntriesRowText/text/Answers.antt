@@ -1,4 +1,0 @@
-use Rattle.oiv_tool.proofs.entries.EntriesRowText.text.Goals as goal
-
-pub array_text-requires : goal.array_text-requires
-array_text-requires c = c.requires.1.before

@@ -1,9 +1,0 @@
-use Rattle.inode_text.specs.Columns.{shown}
-use Rattle.oiv_tool.proofs.Fitting.{row_fits}
-use Rattle.oiv_tool.proofs.entries.put_row.Goals as goal
-
-pub put_columns-requires : goal.put_columns-requires
-put_columns-requires c = row_fits c.args.row.now c.requires.path c.requires.inode (shown c.columns_of-columns.result) c.columns_of-columns.ensures
-
-pub returns : goal.returns
-returns c = c.put_columns.ensures c.args.row.now c.columns_of-columns.ensures

@@ -1,8 +1,0 @@
-use Rattle.std.proofs.Common.{◌≡◌, ◌++◌, take, map}
-use Rattle.std.specs.List.{flat_map}
-use Rattle.oiv_tool.specs.Sizes.{line}
-use Rattle.oiv_tool.proofs.tally.put_lines.Given as goal
-
--- the lines so far are appended
-abbrev pub invariant-loop-line : goal.invariant-loop-line
-invariant-loop-line l = l.out.items ≡ l.fn.out.items ++ flat_map line (map (λ p. (p.0.now, p.1)) (take l.line-index l.lines))

@@ -1,9 +1,0 @@
-use Rattle.oiv_tool.specs.Entries.{rows_json}
-use Rattle.oiv_tool.proofs.OneAnswer.{gives_text, gives_fault}
-use Rattle.oiv_tool.proofs.tools.json.Goals as goal
-
-pub returns-clause-text : goal.returns-clause-text
-returns-clause-text c = gives_text rows_json c.args.bytes.now c.answer.result c.answer.ensures
-
-pub returns-clause-fault : goal.returns-clause-fault
-returns-clause-fault c = gives_fault rows_json c.args.bytes.now c.answer.result c.answer.ensures

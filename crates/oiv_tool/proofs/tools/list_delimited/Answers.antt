@@ -1,9 +1,0 @@
-use Rattle.oiv_tool.specs.Delimited.{delimited}
-use Rattle.oiv_tool.proofs.OneAnswer.{gives_text, gives_fault}
-use Rattle.oiv_tool.proofs.tools.list_delimited.Goals as goal
-
-pub returns-clause-text : goal.returns-clause-text
-returns-clause-text c = gives_text delimited c.args.bytes.now c.answer.result c.answer.ensures
-
-pub returns-clause-fault : goal.returns-clause-fault
-returns-clause-fault c = gives_fault delimited c.args.bytes.now c.answer.result c.answer.ensures

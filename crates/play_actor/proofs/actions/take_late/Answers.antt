@@ -1,0 +1,28 @@
+use Rattle.std.proofs.lemmas.Result.{on_ok_weaker}
+use Rattle.std.proofs.Common.{subst}
+use Rattle.play_calls.specs.Logs.{earlier_call, IsCopied}
+use Rattle.play_actor.proofs.Stretches.{late_made, late_none_made}
+use Rattle.play_actor.proofs.actions.take_late.Goals as goal
+
+pub returns-then-branch-clause-takes : goal.returns-then-branch-clause-takes
+returns-then-branch-clause-takes g c w o idle free =
+    let old = (g.S.Seats.log c.args.seats.now) in
+    let k = c.args.node in
+    let n = c.args.call in
+    late_made old.nodes w o old (g.S.Seats.log c.late.new.self) k n idle free
+    (subst (λ b. IsCopied (earlier_call old k n) old k n b (g.S.Seats.log c.late.new.self)) c.if-branch.true c.in_ok-late.ensures.copied)
+
+pub returns-clause-takes : goal.returns-clause-takes
+returns-clause-takes g c =
+    let old = (g.S.Seats.log c.args.seats.now) in
+    let mid = (g.S.Seats.log c.late.new.self) in
+    let new = (g.S.Seats.log c.say_all.new.seats) in
+    let k = c.args.node in
+    let n = c.args.call in
+    on_ok_weaker c.say_all.result
+    (λ said w o idle free. late_none_made old.nodes w o old mid new c.in_ok-texts.texts.items k n idle free
+    (subst (λ b. IsCopied (earlier_call old k n) old k n b mid) c.if-branch.false c.in_ok-late.ensures.copied) c.in_ok-texts.ensures said)
+    c.say_all.ensures.leads
+
+pub returns-clause-later : goal.returns-clause-later
+returns-clause-later g c = on_ok_weaker c.say_all.result (λ h. g.met.S.Seats.later_on _ _ _ c.in_ok-late.ensures.later h) c.say_all.ensures.later

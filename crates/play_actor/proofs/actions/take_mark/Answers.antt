@@ -1,0 +1,8 @@
+use Rattle.std.proofs.lemmas.Result.{on_ok_weaker}
+use Rattle.play_actor.proofs.Stretches.{takes_mark}
+use Rattle.play_actor.proofs.actions.take_mark.Goals as goal
+
+pub returns-clause-takes : goal.returns-clause-takes
+returns-clause-takes g c =
+    let old = g.S.Seats.log c.args.seats.now in
+    on_ok_weaker c.mark.result (λ e w o idle free. takes_mark old.nodes w o old (g.S.Seats.log c.mark.new.self) c.args.node c.args.call c.args.mute idle free e) c.mark.ensures.marked

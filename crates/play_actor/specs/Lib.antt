@@ -1,0 +1,4 @@
+pub mod Holdings
+pub mod Named
+pub mod Submitting
+pub mod Held

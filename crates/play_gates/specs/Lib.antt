@@ -1,0 +1,5 @@
+pub mod Board
+pub mod Entries
+pub mod Seated
+pub mod LaterLaws
+pub mod Gates

@@ -1,0 +1,17 @@
+pub mod BrokenLaws
+pub mod ReadLaws
+pub mod WriterPlaces
+pub mod Held
+pub mod Stages
+pub mod Actions
+pub mod Keeps
+pub mod Oks
+pub mod SaidOks
+pub mod Walks
+pub mod Replays
+pub mod Askers
+pub mod LineLaws
+pub mod Unbroken
+pub mod Safeties
+pub mod NamedPlays
+pub mod Worked

@@ -1,0 +1,58 @@
+//! What holds of every mesh that follows a script with names, in any linear order of its moving
+//! entries.
+ghost use Rattle.play_laws.specs.Linear.{ReadsAreOnLine, ActorsHoldReplays, LogsAreAdmitted, LineReplays, NoneBreaks, LineCallsApart};
+ghost use Rattle.play_laws.specs.Laws.{EpochOrderIsLinear, PlayIsLinear, NamesAreSafe, EpochOrderIsSafe, PlaysAreSafe};
+
+/// The epoch order of every mesh that agrees is linear, and so is the order in which the entries of
+/// a play came.
+pub fn orders_are_linear()
+    ensures epochs { EpochOrderIsLinear }
+    ensures play { PlayIsLinear }
+{}
+
+/// Acknowledged edits survive, finalised segments agree, and each actor ends with the replay of the
+/// first entries of the line.
+pub fn names_are_safe()
+    ensures { NamesAreSafe }
+{}
+
+/// So it is in the epoch order of every mesh that agrees.
+pub fn epoch_order_is_safe()
+    ensures { EpochOrderIsSafe }
+{}
+
+/// What a read gave stands on the line.
+pub fn reads_are_on_line()
+    ensures { ReadsAreOnLine }
+{}
+
+/// At every moment an actor and its images hold replays of the first entries of the line.
+pub fn actors_hold_replays()
+    ensures { ActorsHoldReplays }
+{}
+
+/// What an actor logs is admitted after the replay of all that stands on the line before it.
+pub fn logs_are_admitted()
+    ensures { LogsAreAdmitted }
+{}
+
+/// The line replays, up to each of its txids.
+pub fn line_replays()
+    ensures { LineReplays }
+{}
+
+/// No actor meets a bad entry.
+pub fn none_breaks()
+    ensures { NoneBreaks }
+{}
+
+/// Two entries of the line with one call have at least 1,024 entries with a call between them.
+pub fn line_calls_apart()
+    ensures { LineCallsApart }
+{}
+
+/// Each play of a script with names is safe, in the order in which its entries came and in the
+/// order of the epochs.
+pub fn plays_are_safe()
+    ensures { PlaysAreSafe }
+{}

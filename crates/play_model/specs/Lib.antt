@@ -1,0 +1,14 @@
+pub mod Lines
+pub mod Actor
+pub mod KeptActor
+pub mod Ready
+pub mod Went
+pub mod Actions
+pub mod Plays
+pub mod Follows
+pub mod Safe
+pub mod Told
+pub mod EditResults
+pub mod Laws
+pub mod Faultless
+pub mod Scripts

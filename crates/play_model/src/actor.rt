@@ -1,0 +1,40 @@
+//! Who does the lines of a script.
+ghost use Rattle.std.specs.Prelude.{◌≡◌, OnOk, IfOk};
+ghost use Rattle.play_model.specs.Lines.{line_of};
+ghost use Rattle.play_model.specs.Actor.{last_of};
+ghost use Rattle.play_model.specs.Actions.{ActorView, new_actor_view, has_names, kept_by, action_of, IsIdleActor, MayCome, TakesIf};
+
+use journal_core::OutOfMemory;
+use ns_tree::LastSpace;
+use play_calls::Seats;
+use play_script::ScriptLine;
+use std::alloc::Global;
+
+/// An actor of a script: it does its lines one after the other, over the seats through which it
+/// calls. Whoever plays a script knows no more of its actors.
+pub trait Actor: Drop {
+    /// What contracts see of it: its writer, and what it holds in a script with names.
+    ghost seen: { Self → ActorView };
+
+    /// An actor before its first line, with names or without, of that many nodes.
+    fn new(alloc: Global, named: bool, nodes: usize) -> Result<Self, OutOfMemory>
+        ensures { IfOk result (λ actor. seen actor ≡ new_actor_view named nodes) };
+
+    /// The action of a line, if it is an actor's: its calls, and its results. An actor that met a
+    /// bad entry does nothing more. Lack of memory leaves the actor with no namespace.
+    fn take_line<S: Seats>(
+        &mut self,
+        alloc: Global,
+        seats: &mut S,
+        line: &ScriptLine,
+    ) -> Result<(), OutOfMemory>
+        requires idle { IsIdleActor (S.log seats.old).nodes (kept_by (seen self.old) (S.log seats.old)) }
+        requires may { MayCome (has_names (seen self.old)) (S.log seats.old).nodes line.now }
+        ensures takes { OnOk result (TakesIf (S.log seats.old).nodes (action_of (line_of line.now)) (kept_by (seen self.old) (S.log seats.old)) (kept_by (seen self.new) (S.log seats.new))) }
+        ensures named { OnOk result (has_names (seen self.new) ≡ has_names (seen self.old)) }
+        ensures later { OnOk result (S.later seats.old seats.new) };
+
+    /// What it holds at last, if it holds a namespace.
+    fn into_last(self, alloc: Global) -> Result<Option<LastSpace>, OutOfMemory>
+        ensures { IfOk result (λ last. last ≡ last_of (seen self).holds) };
+}

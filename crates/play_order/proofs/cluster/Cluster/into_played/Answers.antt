@@ -1,0 +1,23 @@
+use Rattle.std.proofs.Common.{rules, arith, ◌≡◌, ◌++◌, ◌∷◌, [], ◌∙◌, ap, length}
+use Rattle.std.proofs.lemmas.Grind.{common_steps}
+use Rattle.play_order.specs.Kept.{mesh_kept, ends_kept, states_kept}
+use Rattle.play_order.specs.Shown.{kept}
+use Rattle.play_order.proofs.ClusterLaws.{mesh_is, ends_are}
+use Rattle.play_order.proofs.cluster.Cluster.into_played.Goals as goal
+
+pub returns-clause-mesh : goal.returns-clause-mesh
+returns-clause-mesh g c =
+    let n : c.len-count.result ≡ length c.self.inside.cells.items = first_of (search rules, grind (arith, common_steps)) in
+    ◌∙◌ {b = mesh_kept (kept g.A.Actor.seen c.self.inside.named c.self.inside.cells.items c.self.inside.players.items c.self.inside.operator c.self.inside.operated)}
+    (mesh_is g.A.Actor.seen c.self.inside.named c.self.inside.cells.items c.self.inside.players.items c.self.inside.operator c.self.inside.operated
+    c.len-count.result c.in_ok-left.left.histories c.of.result c.in_ok-lists.lists.plan n
+    c.in_ok-left.ensures.histories (c.of.ensures ∙ c.in_ok-push.ensures.items ∙ ap (λ xs. xs ++ c.self.inside.operated ∷ []) c.in_ok-lists.ensures.records) c.in_ok-lists.ensures.plan)
+    (ap mesh_kept c.self.view_is)
+
+pub returns-clause-ends : goal.returns-clause-ends
+returns-clause-ends g c =
+    c.in_ok-lists.ensures.ends ∙ ends_are g.A.Actor.seen c.self.inside.named c.self.inside.cells.items c.self.inside.players.items
+    c.self.inside.operator c.self.inside.operated ∙ ap ends_kept c.self.view_is
+
+pub returns-clause-states : goal.returns-clause-states
+returns-clause-states g c = c.in_ok-left.ensures.states ∙ ap states_kept c.self.view_is

@@ -1,0 +1,6 @@
+use Rattle.std.proofs.Common.{◌≡◌, ◌++◌, take}
+use Rattle.play_report.specs.Text.{history_text}
+use Rattle.play_report.proofs.entries.put_history.Given as goal
+
+abbrev pub invariant-loop-line : goal.invariant-loop-line
+invariant-loop-line l = l.out.items ≡ l.fn.out.items ++ history_text l.ends (take l.line-index l.lines)

@@ -1,0 +1,4 @@
+pub mod Text
+pub mod Examples
+pub mod Limit
+pub mod Summary

@@ -1,0 +1,12 @@
+//! What a line may do to one call of an actor.
+
+/// The first word of such a line.
+#[derive(Clone, Copy, Debug, PartialEq, Eq)]
+pub enum CallWord {
+    /// `drop`
+    Drop,
+    /// `mute`
+    Mute,
+    /// `late`
+    Late,
+}

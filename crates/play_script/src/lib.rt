@@ -1,0 +1,34 @@
+//! Scripts: what each line is, and their text, read with the first broken rule, and printed.
+#![tactic(auto)]
+
+mod answer;
+mod call_word;
+mod edits;
+mod examples;
+mod kind;
+mod laws;
+mod line_read;
+mod line_reading;
+mod lines;
+mod node_word;
+mod print;
+mod reader;
+mod reading;
+mod rules;
+mod said;
+mod script;
+mod script_line;
+mod standby_word;
+mod task_word;
+mod words;
+
+pub use answer::ReadScript;
+pub use examples::{
+    actors_are_told, comments_say_nothing, every_kind_is_spelled, first_lines_are_told,
+    names_are_told, namespaces_are_spelled, numbers_are_told, one_writer_logs, words_are_told,
+};
+pub use laws::{script_has_its_text, scripts_break_no_rule, text_is_of_one_script};
+pub use print::print_script;
+pub use reader::read_script;
+pub use script::Script;
+pub use script_line::ScriptLine;

@@ -1,0 +1,10 @@
+//! What a line may do to a node.
+
+/// The first word of such a line.
+#[derive(Clone, Copy, Debug, PartialEq, Eq)]
+pub enum NodeWord {
+    /// `kill`
+    Kill,
+    /// `restart`
+    Restart,
+}

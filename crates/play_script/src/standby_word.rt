@@ -1,0 +1,12 @@
+//! What a line of two words asks of a standby.
+
+/// The first word of such a line.
+#[derive(Clone, Copy, Debug, PartialEq, Eq)]
+pub enum StandbyWord {
+    /// `tail`
+    Tail,
+    /// `checkpoint`
+    Checkpoint,
+    /// `reload`
+    Reload,
+}

@@ -1,0 +1,12 @@
+//! Tasks that a line of two words hands over.
+
+/// The first word of such a line.
+#[derive(Clone, Copy, Debug, PartialEq, Eq)]
+pub enum TaskWord {
+    /// `takeover`
+    Takeover,
+    /// `roll`
+    Roll,
+    /// `close`
+    Close,
+}

@@ -1,0 +1,12 @@
+pub mod PassLaws
+pub mod TakeLaws
+pub mod LedLaws
+pub mod StepLaws
+pub mod PendLaws
+pub mod ImageLists
+pub mod DiskLaws
+pub mod OpenLaws
+pub mod SaveLaws
+pub mod ActiveLaws
+pub mod EntryLaws
+pub mod RoundLaws

@@ -1,0 +1,10 @@
+pub mod Standbys
+pub mod Reads
+pub mod Tailing
+pub mod Pendings
+pub mod Disks
+pub mod Saves
+pub mod Actives
+pub mod Entering
+pub mod Acting
+pub mod EntryAnswers

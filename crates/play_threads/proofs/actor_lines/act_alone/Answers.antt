@@ -1,0 +1,18 @@
+use Rattle.std.proofs.Common.{map, ap, subst, ◌≡◌, ◌∙◌}
+use Rattle.std.proofs.lemmas.Result.{IfOk-weaker}
+use Rattle.play_model.specs.Lines.{actions_of, line_of}
+use Rattle.play_model.specs.Actions.{has_names, kept_by}
+use Rattle.play_threads.specs.Threads.{HasDone}
+use Rattle.play_threads.proofs.ActorLaws.{done_follows, new_named}
+use Rattle.play_threads.proofs.actor_lines.act_alone.Goals as goal
+
+pub returns-clause-follows : goal.returns-clause-follows
+returns-clause-follows g c =
+    let nodes = (g.S.Seats.log c.args.seats.now).nodes in
+    let actions = actions_of c.args.actor (map line_of c.args.lines.now) in
+    let by = g.A.Actor.seen c.in_ok-by.by in
+    let log = g.S.Seats.log c.act.new.seats in
+    let named : has_names by ≡ c.args.named = ap has_names c.in_ok-by.ensures ∙ new_named c.args.named c.nodes.result in
+    let done : HasDone c.args.named nodes actions (kept_by (g.A.Actor.seen c.act.new.by) log) =
+    subst (λ b. HasDone b nodes actions (kept_by (g.A.Actor.seen c.act.new.by) log)) named c.in_ok-act.ensures.done in
+    IfOk-weaker c.into_last.result _ _ (λ last is. done_follows c.args.named nodes actions (g.A.Actor.seen c.act.new.by) log last done is) c.into_last.ensures

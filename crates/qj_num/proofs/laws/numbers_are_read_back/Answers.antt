@@ -1,5 +1,0 @@
-use Rattle.std.proofs.lemmas.Fmt.{decimal_injective}
-use Rattle.qj_num.proofs.laws.numbers_are_read_back.Goals as goal
-
-pub returns : goal.returns
-returns c = decimal_injective

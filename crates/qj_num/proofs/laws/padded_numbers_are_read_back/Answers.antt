@@ -1,5 +1,0 @@
-use Rattle.qj_num.proofs.PaddedLaws.{padded_injective}
-use Rattle.qj_num.proofs.laws.padded_numbers_are_read_back.Goals as goal
-
-pub returns : goal.returns
-returns c = padded_injective

@@ -1,4 +1,0 @@
-pub mod Pushing
-pub mod Pieces
-pub mod Following
-pub mod Reading

@@ -1,4 +1,0 @@
-pub mod PartLaws
-pub mod NodeLaws
-pub mod LimitLaws
-pub mod CountedLaws

@@ -1,6 +1,0 @@
-use Rattle.std.proofs.Common.{refl}
-use Rattle.request_text.proofs.CountLaws.{counted_five}
-use Rattle.report_text.proofs.counting.count_operation.Goals as goal
-
-pub returns : goal.returns
-returns c = counted_five _ _ _ _ _ _ _ _ _ _ _ _ c.count_number-node_end.ensures c.count_spaced_ask-ask_end.ensures c.count_bytes-arrow_end.ensures c.count_done-done_end.ensures c.count_bytes.ensures refl

@@ -1,7 +1,0 @@
-use Rattle.std.proofs.Common.{◌≡◌, ◌++◌, drop}
-use Rattle.report_text.specs.Text.{actors_text}
-use Rattle.report_text.proofs.report.put_actors.Given as goal
-
--- the actors so far, and those to come
-abbrev pub invariant-loop-end : goal.invariant-loop-end
-invariant-loop-end l = l.out.items ++ actors_text (drop l.end-index l.ends) l.rest ≡ l.fn.out.items ++ actors_text l.ends l.records

@@ -1,4 +1,0 @@
-pub mod IndexLaws
-pub mod LimitLaws
-pub mod DecisionLaws
-pub mod BudgetLaws

@@ -1,4 +1,0 @@
-pub mod Index
-pub mod Durable
-pub mod Budgets
-pub mod Decisions

@@ -1,6 +1,0 @@
-pub mod PrintLaws
-pub mod WordLaws
-pub mod ReadLaws
-pub mod BodyLaws
-pub mod LineLaws
-pub mod CountLaws

@@ -1,5 +1,0 @@
-use Rattle.request_text.proofs.LineLaws.{text_read}
-use Rattle.request_text.proofs.laws.texts_are_read.Goals as goal
-
-pub returns : goal.returns
-returns c = text_read

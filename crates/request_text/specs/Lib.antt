@@ -1,6 +1,0 @@
-pub mod Texts
-pub mod Reading
-pub mod Words
-pub mod Lines
-pub mod ExampleTexts
-pub mod Counts

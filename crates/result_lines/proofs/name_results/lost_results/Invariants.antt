@@ -1,5 +1,0 @@
-use Rattle.result_lines.proofs.DueLaws.{AreLost}
-use Rattle.result_lines.proofs.name_results.lost_results.Given as goal
-
-abbrev pub invariant-loop-due : goal.invariant-loop-due
-invariant-loop-due l = AreLost l.texts.items l.text l.dues l.due-index

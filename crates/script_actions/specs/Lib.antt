@@ -1,6 +1,0 @@
-pub mod Lines
-pub mod Actor
-pub mod KeptActor
-pub mod Ready
-pub mod Went
-pub mod Actions

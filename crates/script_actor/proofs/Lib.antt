@@ -1,4 +1,0 @@
-pub mod NamedLaws
-pub mod StandbyLaws
-pub mod TrimLaws
-pub mod SubmitLaws

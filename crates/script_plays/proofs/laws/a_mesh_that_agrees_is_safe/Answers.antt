@@ -1,7 +1,0 @@
-use Rattle.std.proofs.Common.{sym, ◌∙◌}
-use Rattle.run_safety.proofs.Slots.{none≢some}
-use Rattle.mesh.proofs.OrderRuns.{order_safe}
-use Rattle.script_plays.proofs.laws.a_mesh_that_agrees_is_safe.Goals as goal
-
-pub returns : goal.returns
-returns c = λ m ends a nothing. record { run = order_safe m a; ends_replay = λ i e last at has. none≢some last (sym (nothing i e at) ∙ has) }

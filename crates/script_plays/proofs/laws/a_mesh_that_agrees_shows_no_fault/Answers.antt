@@ -1,5 +1,0 @@
-use Rattle.script_plays.proofs.FaultlessLaws.{shows_no_fault}
-use Rattle.script_plays.proofs.laws.a_mesh_that_agrees_shows_no_fault.Goals as goal
-
-pub returns : goal.returns
-returns c = λ m agrees. shows_no_fault m agrees

@@ -1,7 +1,0 @@
-use Rattle.script_plays.proofs.Final.{play_follows}
-use Rattle.script_plays.proofs.Sound.{has_nodes}
-use Rattle.script_actions.specs.Lines.{lines_of}
-use Rattle.script_plays.proofs.laws.a_play_follows.Goals as goal
-
-pub returns : goal.returns
-returns c = record { lines = λ b n lines p some can h. play_follows b n lines p some can h; script = λ s p can h. play_follows s.named s.nodes (lines_of s) p (has_nodes s.named s.nodes can.nodes) can.lines h }

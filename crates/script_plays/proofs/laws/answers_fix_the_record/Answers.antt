@@ -1,5 +1,0 @@
-use Rattle.script_plays.proofs.Unique.{one_record}
-use Rattle.script_plays.proofs.laws.answers_fix_the_record.Goals as goal
-
-pub returns : goal.returns
-returns c = λ a rs xs h g e f t. one_record a rs xs h g e f t

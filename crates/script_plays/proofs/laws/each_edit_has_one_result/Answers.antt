@@ -1,6 +1,0 @@
-use Rattle.script_plays.proofs.EachResult.{each_result}
-use Rattle.script_plays.proofs.NamedResults.{each_named_result}
-use Rattle.script_plays.proofs.laws.each_edit_has_one_result.Goals as goal
-
-pub returns : goal.returns
-returns c = record { raw = λ n ds rs plan e h raw f. each_result n ds rs h raw f.led f.ended; named = λ n ds rs plan e h d f whole. each_named_result n ds rs h d f.led whole f.ended }

@@ -1,6 +1,0 @@
-use Rattle.script_plays.proofs.Unique.{one_play}
-use Rattle.script_actions.specs.Lines.{lines_of}
-use Rattle.script_plays.proofs.laws.one_script_has_one_play.Goals as goal
-
-pub returns : goal.returns
-returns c = λ s p q h g. one_play s.named s.nodes (lines_of s) p q h g

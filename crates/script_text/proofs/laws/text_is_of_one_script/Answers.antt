@@ -1,5 +1,0 @@
-use Rattle.script_text.proofs.ScriptLaws.{one_script}
-use Rattle.script_text.proofs.laws.text_is_of_one_script.Goals as goal
-
-pub returns : goal.returns
-returns c = one_script

@@ -1,6 +1,0 @@
-use Rattle.std.proofs.Common.{sym, ◌∙◌}
-use Rattle.script_text.proofs.MeansLaws.{no_name}
-use Rattle.script_text.proofs.line_reading.read_declaration.Goals as goal
-
-pub returns-in-None-clause-read : goal.returns-in-None-clause-read
-returns-in-None-clause-read c = absurd (no_name c.args.name.now (rw c.in-None.is at c.in_ok-name.ensures) (sym c.is_name.ensures ∙ c.if-not-is_name.false))

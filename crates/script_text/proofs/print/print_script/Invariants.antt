@@ -1,7 +1,0 @@
-use Rattle.std.proofs.Common.{drop}
-use Rattle.script_text.specs.Grammar.{script_text}
-use Rattle.script_text.proofs.PrintLaws.{IsWritten}
-use Rattle.script_text.proofs.print.print_script.Given as goal
-
-abbrev pub invariant-loop-line : goal.invariant-loop-line
-invariant-loop-line l = IsWritten l.out.items l.said (drop l.line-index l.line-items) (script_text l.script)

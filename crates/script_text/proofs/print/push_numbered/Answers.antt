@@ -1,7 +1,0 @@
-use Rattle.std.proofs.Common.{◌∷◌, [], decimal}
-use Rattle.script_text.proofs.PushLaws.{word_more}
-use Rattle.script_text.proofs.print.push_numbered.Goals as goal
-
-pub returns : goal.returns
-returns c =
-    rw (word_more c.args.out.now.items c.push_named.new.out.items c.args.keyword.now (c.args.name.now ∷ []) (decimal c.args.number) c.in_ok-push_named.ensures) at c.push_number.ensures

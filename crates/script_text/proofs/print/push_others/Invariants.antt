@@ -1,6 +1,0 @@
-use Rattle.std.proofs.Common.{◌≡◌, ◌++◌, take}
-use Rattle.script_text.specs.Edits.{others_text}
-use Rattle.script_text.proofs.print.push_others.Given as goal
-
-abbrev pub invariant-loop-edit : goal.invariant-loop-edit
-invariant-loop-edit l = l.out.items ≡ l.fn.out.items ++ others_text (take l.edit-index l.edits)

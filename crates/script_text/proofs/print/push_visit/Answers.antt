@@ -1,7 +1,0 @@
-use Rattle.std.proofs.Common.{[], decimal}
-use Rattle.script_text.proofs.PushLaws.{word_more}
-use Rattle.script_text.proofs.print.push_visit.Goals as goal
-
-pub returns : goal.returns
-returns c =
-    rw (word_more c.args.out.now.items c.extend_from_slice.new.self.items c.args.keyword.now [] (decimal c.args.node) c.in_ok-extend_from_slice.ensures.items) at c.push_number.ensures

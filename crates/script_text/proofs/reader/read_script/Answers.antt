@@ -1,5 +1,0 @@
-use Rattle.script_text.proofs.OnlyLaws.{reads_only}
-use Rattle.script_text.proofs.reader.read_script.Goals as goal
-
-pub returns-in-Ok-clause-only : goal.returns-in-Ok-clause-only
-returns-in-Ok-clause-only c = λ s h. reads_only c.args.bytes.now _ s c.in-Ok.ensures.script c.in-Ok.ensures.fault h

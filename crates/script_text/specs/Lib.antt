@@ -1,9 +1,0 @@
-pub mod Views
-pub mod Lines
-pub mod Words
-pub mod Edits
-pub mod Grammar
-pub mod Rules
-pub mod Reading
-pub mod Laws
-pub mod Examples

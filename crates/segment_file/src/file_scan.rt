@@ -1,9 +1,0 @@
-//! What the scan of a segment's file finds.
-use batch_frame::Scan;
-
-/// The epoch of the file's header, and its frames.
-#[derive(Drop)]
-pub struct FileScan {
-    pub epoch: u64,
-    pub scan: Scan,
-}

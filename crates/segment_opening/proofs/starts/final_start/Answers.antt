@@ -1,5 +1,0 @@
-use Rattle.segment_opening.proofs.ToldLemmas.{no_final_file}
-use Rattle.segment_opening.proofs.starts.final_start.Goals as goal
-
-pub returns-in_default : goal.returns-in_default
-returns-in_default c = no_final_file c.args.name.now c.in-Some.start c.in-Some.kind c.in-Some.ensures c.in_default.not-Final

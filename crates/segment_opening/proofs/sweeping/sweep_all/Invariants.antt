@@ -1,9 +1,0 @@
-use Rattle.std.proofs.Common.{take}
-use Rattle.std.specs.Prelude.{string_bytes, map}
-use Rattle.segment_opening.specs.Completing.{IsLeftOver, NoName}
-use Rattle.segment_opening.proofs.ClearLemmas.{IsClearing}
-use Rattle.segment_opening.proofs.sweeping.sweep_all.Given as goal
-
-abbrev pub invariant-loop-name : goal.invariant-loop-name
-invariant-loop-name g l = IsClearing (IsLeftOver l.fn.finals) NoName (g.D.DiskModel.tells l.fn.disk) (g.D.DiskModel.tells l.disk) (g.D.DiskModel.view l.fn.disk) (g.D.DiskModel.view l.disk) (map string_bytes l.name-items) (map string_bytes (take l.name-index l.name-items))
-    (g.D.DiskModel.faults l.fn.disk) (g.D.DiskModel.faults l.disk) (g.D.DiskModel.steady l.fn.disk) (g.D.DiskModel.steady l.disk)

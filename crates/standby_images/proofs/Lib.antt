@@ -1,4 +1,0 @@
-pub mod ImageLists
-pub mod DiskLaws
-pub mod OpenLaws
-pub mod SaveLaws

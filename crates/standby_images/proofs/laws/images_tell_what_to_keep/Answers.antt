@@ -1,5 +1,0 @@
-use Rattle.standby_images.proofs.DiskLaws.{min_of}
-use Rattle.standby_images.proofs.laws.images_tell_what_to_keep.Goals as goal
-
-pub returns : goal.returns
-returns c = min_of

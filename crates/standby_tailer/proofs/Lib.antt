@@ -1,4 +1,0 @@
-pub mod PassLaws
-pub mod TakeLaws
-pub mod LedLaws
-pub mod StepLaws

@@ -1,3 +1,0 @@
-pub mod Standbys
-pub mod Reads
-pub mod Tailing
