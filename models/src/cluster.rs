@@ -1,0 +1,218 @@
+//! The nodes of a play, each over a disk in memory, and what each lists of its calls. FORMATS.md, "Scripts" and "The report".
+
+use crate::disk::{Choice, MemoryDisk};
+use crate::node::Node;
+use crate::opening;
+use crate::reply::{Reason, Refusal, Reply};
+use crate::request::Request;
+use crate::script::Order;
+use crate::text::{Line, Lines, Span, Texts};
+use crate::words::{push_next_number, push_number};
+use std::collections::BTreeMap;
+
+/// Where a node is stopped inside a call. FORMATS.md, "Scripts", `stop` and `cut`.
+#[derive(Clone, Copy)]
+enum Inside {
+    Effects(u64),
+    Calls(u64, Choice),
+}
+
+/// A node that is up, or the disk of one that is down.
+enum State {
+    Up(Node<MemoryDisk>),
+    Down(MemoryDisk),
+}
+
+/// One node: how it is, the stop that it holds (the calls until then, and where inside), and its history.
+struct Seat {
+    state: State,
+    arming: Option<(u64, Inside)>,
+    history: Lines,
+}
+
+impl Seat {
+    fn new() -> Seat {
+        let node = Node::new(MemoryDisk::default(), [0; 3], BTreeMap::new());
+        Seat { state: State::Up(node), arming: None, history: Lines::default() }
+    }
+
+    /// The node goes down; its disk stays.
+    fn go_down(&mut self) {
+        let down = State::Down(MemoryDisk::default());
+        self.state = match std::mem::replace(&mut self.state, down) {
+            State::Up(node) => State::Down(node.disk),
+            down => down,
+        };
+        self.arming = None;
+    }
+
+    /// The node comes up with what it stored.
+    fn come_up(&mut self) {
+        let down = State::Down(MemoryDisk::default());
+        self.state = match std::mem::replace(&mut self.state, down) {
+            State::Down(disk) => match opening::open(disk) {
+                Ok(node) => State::Up(node),
+                Err((disk, _)) => State::Down(disk),
+            },
+            up => up,
+        };
+    }
+
+    /// The request at the node: its reply, or how many effects stand where the node was stopped inside.
+    fn answer(&mut self, request: &Request) -> Result<Reply, u64> {
+        let State::Up(node) = &mut self.state else {
+            return Ok(Reply::Refused(Refusal::bare(Reason::Down)));
+        };
+        if let Some((left, inside)) = &mut self.arming {
+            *left -= 1;
+            if *left == 0 {
+                let stand = match *inside {
+                    Inside::Effects(effects) => node.stop(request, effects),
+                    Inside::Calls(calls, choice) => node.cut(request, calls, choice),
+                };
+                self.go_down();
+                return Err(stand);
+            }
+        }
+        node.answer(request).map_err(|_| 0)
+    }
+
+    /// Does what the operator wants; whether the node wasn't already so.
+    fn operate(&mut self, order: Order) -> bool {
+        let is_up = matches!(self.state, State::Up(_));
+        match order {
+            Order::Kill => self.go_down(),
+            Order::Restart => self.come_up(),
+            Order::Stop(calls, effects) if is_up => self.arming = Some((calls, Inside::Effects(effects))),
+            Order::Cut(calls, inside, choice) if is_up => self.arming = Some((calls, Inside::Calls(inside, choice))),
+            Order::Stop(..) | Order::Cut(..) => {}
+        }
+        is_up != matches!(order, Order::Restart)
+    }
+}
+
+/// All nodes of a play, and the texts of all lists.
+pub struct Cluster {
+    seats: Vec<Seat>,
+    /// Whether histories and records are kept; else nothing is written at all.
+    pub keeps: bool,
+    pub texts: Texts,
+    /// Replies that come often.
+    pub ok: Span,
+    pub silent: Span,
+    /// What stands before a line of a history: nothing, then two texts for each caller, of its calls and of its late copies.
+    pub callers: Vec<Vec<u8>>,
+    scratch: Vec<u8>,
+    /// How many bytes the histories have.
+    pub length: usize,
+}
+
+impl Cluster {
+    /// So many fresh nodes.
+    pub fn new(count: usize, keeps: bool) -> Cluster {
+        let mut texts = Texts::default();
+        let (ok, silent) = (texts.push(b"ok"), texts.push(b"silent"));
+        let seats = (0..count).map(|_| Seat::new()).collect();
+        Cluster { seats, keeps, texts, ok, silent, callers: vec![b"ops ".to_vec()], scratch: Vec::new(), length: 0 }
+    }
+
+    /// A caller is declared; the number of what stands before its calls. Before its late copies stands the next one.
+    pub fn declare(&mut self, name: &[u8]) -> u16 {
+        self.callers.push([name, b" "].concat());
+        self.callers.push([name, b" late "].concat());
+        self.callers.len() as u16 - 2
+    }
+
+    /// How many nodes there are.
+    pub fn count(&self) -> usize {
+        self.seats.len()
+    }
+
+    /// How many nodes are a majority. MODEL.md, "The parts".
+    pub fn majority(&self) -> usize {
+        self.seats.len() / 2 + 1
+    }
+
+    /// Keeps the text of a request, where lists are kept.
+    pub fn keep_request(&mut self, request: &Request) -> Span {
+        if !self.keeps {
+            return self.ok;
+        }
+        self.scratch.clear();
+        request.push_text(&mut self.scratch);
+        self.texts.push(&self.scratch)
+    }
+
+    /// Keeps what a node answered, or that it was stopped.
+    fn keep_answer(&mut self, answer: &Result<Reply, u64>) -> Span {
+        self.scratch.clear();
+        match answer {
+            Ok(Reply::Ok) => return self.ok,
+            Ok(reply) => reply.push_text(&mut self.scratch),
+            Err(stand) => {
+                self.scratch.extend_from_slice(b"stopped ");
+                push_number(&mut self.scratch, *stand);
+            }
+        }
+        self.texts.push(&self.scratch)
+    }
+
+    /// A call reaches a node: `before` is the number of what stands before its line. The reply with its text; no reply where the node
+    /// was stopped inside the call.
+    pub fn call(&mut self, node: usize, before: u16, request: &Request, asked: Span) -> (Option<Reply>, Span) {
+        let answer = self.seats[node].answer(request);
+        let mut told = self.ok;
+        if self.keeps {
+            told = self.keep_answer(&answer);
+            let length = self.callers[usize::from(before)].len();
+            self.push(node, Line { before, asked, told }, length);
+        }
+        (answer.ok(), told)
+    }
+
+    fn push(&mut self, node: usize, line: Line, before: usize) {
+        let history = &mut self.seats[node].history;
+        let length = history.length();
+        history.push(line, before, &self.texts);
+        self.length += history.length() - length;
+    }
+
+    /// The operator does something with a node; the texts of its line.
+    pub fn operate(&mut self, node: usize, order: Order) -> (Span, Span) {
+        let is_done = self.seats[node].operate(order);
+        let asked = self.texts.push(&order_text(order));
+        let told = self.texts.push(if is_done { b"done" } else { b"idle" });
+        self.push(node, Line { before: 0, asked, told }, b"ops ".len());
+        (asked, told)
+    }
+
+    /// The histories in the order of the nodes, what stands before their lines, and all texts.
+    pub fn into_parts(self) -> (Vec<Lines>, Vec<Vec<u8>>, Texts) {
+        (self.seats.into_iter().map(|seat| seat.history).collect(), self.callers, self.texts)
+    }
+}
+
+/// The text of what the operator wants.
+fn order_text(order: Order) -> Vec<u8> {
+    let mut text = Vec::new();
+    match order {
+        Order::Kill => text.extend_from_slice(b"kill"),
+        Order::Restart => text.extend_from_slice(b"restart"),
+        Order::Stop(calls, effects) => {
+            text.extend_from_slice(b"stop");
+            push_next_number(&mut text, calls);
+            push_next_number(&mut text, effects);
+        }
+        Order::Cut(calls, inside, choice) => {
+            text.extend_from_slice(b"cut");
+            push_next_number(&mut text, calls);
+            push_next_number(&mut text, inside);
+            text.extend_from_slice(match choice {
+                Choice::Old => b" old",
+                Choice::New => b" new",
+                Choice::A5 => b" a5",
+            });
+        }
+    }
+    text
+}

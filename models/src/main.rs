@@ -1,0 +1,175 @@
+//! A model of qjm, written from its documents alone: docs/FORMATS.md, FILES.md, MODEL.md and GLOSSARY.md. It answers each command with
+//! the same bytes, statuses and files. Nothing of it is proved: it is there to be compared with the proved program, and to be measured
+//! beside it. Each rule names the page that it was taken from.
+
+mod batch;
+mod caller;
+mod cluster;
+mod disk;
+mod edit;
+mod ends;
+mod folder;
+mod fsck;
+mod generated;
+mod image;
+mod json;
+mod md5;
+mod names;
+mod node;
+mod oev;
+mod oiv;
+mod opening;
+mod play;
+mod recent;
+mod reply;
+mod report;
+mod request;
+mod rows;
+mod script;
+mod segment;
+mod serve;
+mod space;
+mod standby;
+mod table;
+mod text;
+mod tree;
+mod words;
+mod writer;
+
+use ends::Ending;
+use segment::Damage;
+use std::ffi::{OsStr, OsString};
+use std::fs::{self, File};
+use std::io::Read;
+use std::process::ExitCode;
+
+/// The most bytes of a script, and of a file that is listed. FORMATS.md, "Limits".
+const LONGEST_SCRIPT: usize = 1_048_576;
+const LONGEST_FILE: u64 = 134_217_728;
+
+/// The limits of the words of `gen`. FORMATS.md, "The program".
+const MOST_GENERATED: u64 = 10_000;
+const MOST_NODES: u64 = 15;
+
+fn main() -> ExitCode {
+    let words: Vec<OsString> = std::env::args_os().skip(1).collect();
+    let plain: Vec<&str> = words.iter().map_while(|word| word.to_str()).collect();
+    let ending = if plain.len() < words.len() { usage_before_bad_text(&plain) } else { run(&plain) };
+    ending.finish()
+}
+
+/// A word that isn't UTF-8 is no command's: it may stand nowhere. FORMATS.md, "The program", status 1.
+fn usage_before_bad_text(plain: &[&str]) -> Ending {
+    match shape(plain) {
+        Err(place) if place < plain.len() => Ending::Usage(place),
+        _ => Ending::Usage(plain.len()),
+    }
+}
+
+/// The words of a command, or the place of the first word at which they stop being a prefix of one.
+fn shape(words: &[&str]) -> Result<(), usize> {
+    let second: &[&str] = match words.first().copied() {
+        Some("play" | "run" | "node" | "fsck") => return exact(words, 1),
+        Some("gen") => return generated_shape(words),
+        Some("oev") => &["list", "stats", "json"],
+        Some("oiv") => &["delimited", "sizes", "json"],
+        _ => return Err(0),
+    };
+    match words.get(1) {
+        Some(word) if second.contains(word) => exact(words, 3),
+        _ => Err(1),
+    }
+}
+
+/// So many words, each of them good.
+fn exact(words: &[&str], count: usize) -> Result<(), usize> {
+    match words.len() {
+        length if length == count => Ok(()),
+        length => Err(length.min(count)),
+    }
+}
+
+/// NUMBER, EDITS and NODES in their ranges.
+fn generated_shape(words: &[&str]) -> Result<(), usize> {
+    let ranges = [0..=words::LARGEST, 0..=MOST_GENERATED, 1..=MOST_NODES];
+    for (place, range) in ranges.iter().enumerate() {
+        let number = words.get(place + 1).and_then(|word| words::read_number(word.as_bytes()));
+        if !number.is_some_and(|number| range.contains(&number)) {
+            return Err(place + 1);
+        }
+    }
+    exact(words, 4)
+}
+
+/// Does what the words say.
+fn run(words: &[&str]) -> Ending {
+    if let Err(place) = shape(words) {
+        return Ending::Usage(place);
+    }
+    match words {
+        // `run` is played too: what it prints where one actor's lines don't fall among another's.
+        ["play" | "run"] => play(),
+        ["node"] => serve::serve(),
+        ["fsck"] => match fsck::check() {
+            Ok((text, 0)) => Ending::Ok(text),
+            Ok((text, _)) => Ending::Unsound(text),
+            Err(_) => Ending::DiskFault,
+        },
+        ["oev", "list", name] => list_file(name, oev::list),
+        ["oev", "stats", name] => list_file(name, oev::stats),
+        ["oev", "json", name] => list_file(name, oev::json),
+        ["oiv", "delimited", name] => list_file(name, oiv::delimited),
+        ["oiv", "sizes", name] => list_file(name, oiv::sizes),
+        ["oiv", "json", name] => list_file(name, oiv::json),
+        ["gen", number, edits, nodes] => {
+            let read = |word: &str| words::read_number(word.as_bytes()).unwrap_or(0);
+            Ending::Ok(generated::summary(read(number), read(edits), read(nodes) as usize))
+        }
+        _ => Ending::Usage(words.len()),
+    }
+}
+
+/// Reads a script from the standard input, and plays it.
+fn play() -> Ending {
+    let Ok(script) = ends::read_all(LONGEST_SCRIPT) else { return Ending::ReadFault };
+    if script.len() > LONGEST_SCRIPT {
+        return Ending::Limit(LONGEST_SCRIPT as u64);
+    }
+    match play::play_script(&script) {
+        Ok(Some(report)) => Ending::Report(report),
+        Ok(None) => Ending::Limit(play::LONGEST_REPORT as u64),
+        Err(bad) => Ending::BadScript { line: bad.line, rule: bad.rule },
+    }
+}
+
+/// Lists a file of the current folder.
+fn list_file(name: &str, list: fn(&[u8]) -> Result<Vec<u8>, Damage>) -> Ending {
+    match read_file(OsStr::new(name)) {
+        Ok(bytes) => match list(&bytes) {
+            Ok(text) => Ending::Ok(text),
+            Err(Damage { place, cause }) => Ending::BadBytes { place, cause },
+        },
+        Err(ending) => ending,
+    }
+}
+
+/// The bytes of a file: NoFile for an absent one, an empty name, a folder or a device. FORMATS.md, "The program", statuses 3 and 4.
+fn read_file(name: &OsStr) -> Result<Vec<u8>, Ending> {
+    let absent = || Ending::BadBytes { place: 0, cause: "NoFile" };
+    let metadata = match fs::metadata(name) {
+        Err(error) if folder::is_absence(&error) => return Err(absent()),
+        Err(_) => return Err(Ending::DiskFault),
+        Ok(metadata) => metadata,
+    };
+    if !metadata.is_file() {
+        return Err(absent());
+    }
+    if metadata.len() > LONGEST_FILE {
+        return Err(Ending::Limit(LONGEST_FILE));
+    }
+    let mut bytes = Vec::with_capacity(metadata.len() as usize + 1);
+    match File::open(name).and_then(|mut file| file.read_to_end(&mut bytes)) {
+        Ok(_) => Ok(bytes),
+        Err(_) => Err(Ending::DiskFault),
+    }
+}

@@ -1,0 +1,166 @@
+//! The replies of a node and their texts. FORMATS.md, "Replies".
+
+use crate::batch::Bodies;
+use crate::request::push_bodies;
+use crate::words::{push_next_number, push_number};
+
+/// What a refusal is for; its number is its place in the table of FORMATS.md, "Replies".
+#[derive(Clone, Copy, PartialEq, Eq)]
+pub enum Reason {
+    Down = 1,
+    Limit,
+    EpochRefused,
+    OldSerial,
+    NotWriter,
+    NoOpenSegment,
+    WrongSegment,
+    WrongTxid,
+    SegmentFinal,
+    SegmentHasEdits,
+    NoSegment,
+    OtherEpoch,
+    LengthDiffers,
+    Purged,
+    NotHere,
+    BadFile = 18,
+}
+
+/// A refusal: its reason and its field, where there is one.
+#[derive(Clone, Copy, PartialEq, Eq)]
+pub struct Refusal {
+    pub reason: Reason,
+    pub field: Option<u64>,
+}
+
+impl Refusal {
+    /// A refusal without a field.
+    pub fn bare(reason: Reason) -> Refusal {
+        Refusal { reason, field: None }
+    }
+
+    /// A refusal with its field.
+    pub fn with(reason: Reason, field: u64) -> Refusal {
+        Refusal { reason, field: Some(field) }
+    }
+
+    /// The name of its reason.
+    pub fn name(&self) -> &'static str {
+        match self.reason {
+            Reason::Down => "Down",
+            Reason::Limit => "Limit",
+            Reason::EpochRefused => "EpochRefused",
+            Reason::OldSerial => "OldSerial",
+            Reason::NotWriter => "NotWriter",
+            Reason::NoOpenSegment => "NoOpenSegment",
+            Reason::WrongSegment => "WrongSegment",
+            Reason::WrongTxid => "WrongTxid",
+            Reason::SegmentFinal => "SegmentFinal",
+            Reason::SegmentHasEdits => "SegmentHasEdits",
+            Reason::NoSegment => "NoSegment",
+            Reason::OtherEpoch => "OtherEpoch",
+            Reason::LengthDiffers => "LengthDiffers",
+            Reason::Purged => "Purged",
+            Reason::NotHere => "NotHere",
+            Reason::BadFile => "BadFile",
+        }
+    }
+}
+
+/// What a node tells of one segment that holds an edit.
+#[derive(Clone, Copy)]
+pub struct SegmentState {
+    pub start: u64,
+    pub end: u64,
+    pub epoch: u64,
+    pub is_final: bool,
+    pub is_accepted: bool,
+}
+
+/// Edits that a read or a fetch gives: entries of frames, from a txid on.
+pub struct Edits {
+    pub first: u64,
+    pub count: u64,
+    pub entries: Vec<u8>,
+}
+
+/// A reply. FORMATS.md, "Replies".
+pub enum Reply {
+    Ok,
+    State(u64),
+    NewEpoch(Option<u64>),
+    Prepared { writer: u64, committed: u64, segment: Option<SegmentState> },
+    Edits(Edits),
+    Segments(Vec<SegmentState>),
+    Refused(Refusal),
+}
+
+impl Reply {
+    /// Appends the reply's text.
+    pub fn push_text(&self, text: &mut Vec<u8>) {
+        match self {
+            Reply::Ok => text.extend_from_slice(b"ok"),
+            Reply::State(promise) => {
+                text.extend_from_slice(b"state ");
+                push_number(text, *promise);
+            }
+            Reply::NewEpoch(None) => text.extend_from_slice(b"new none"),
+            Reply::NewEpoch(Some(start)) => {
+                text.extend_from_slice(b"new ");
+                push_number(text, *start);
+            }
+            Reply::Prepared { writer, committed, segment } => push_prepared(text, *writer, *committed, *segment),
+            Reply::Edits(edits) => {
+                text.extend_from_slice(b"edits ");
+                push_number(text, edits.first);
+                push_bodies(text, Bodies { entries: &edits.entries });
+            }
+            Reply::Segments(segments) => push_segments(text, segments),
+            Reply::Refused(refusal) => push_refused(text, refusal),
+        }
+    }
+}
+
+/// `prepared W C none`, or `prepared W C M KIND E A END`.
+fn push_prepared(text: &mut Vec<u8>, writer: u64, committed: u64, segment: Option<SegmentState>) {
+    text.extend_from_slice(b"prepared");
+    push_next_number(text, writer);
+    push_next_number(text, committed);
+    let Some(segment) = segment else {
+        return text.extend_from_slice(b" none");
+    };
+    push_next_number(text, segment.start);
+    text.extend_from_slice(kind(&segment));
+    push_next_number(text, segment.epoch);
+    text.extend_from_slice(if segment.is_accepted { b" yes" } else { b" no" });
+    push_next_number(text, segment.end);
+}
+
+/// `segments`, and for each one ` START END KIND E`.
+fn push_segments(text: &mut Vec<u8>, segments: &[SegmentState]) {
+    text.extend_from_slice(b"segments");
+    for segment in segments {
+        push_next_number(text, segment.start);
+        push_next_number(text, segment.end);
+        text.extend_from_slice(kind(segment));
+        push_next_number(text, segment.epoch);
+    }
+}
+
+fn kind(segment: &SegmentState) -> &'static [u8] {
+    if segment.is_final {
+        b" final"
+    } else {
+        b" inprogress"
+    }
+}
+
+/// `refused NUMBER NAME` and the field, where there is one.
+fn push_refused(text: &mut Vec<u8>, refusal: &Refusal) {
+    text.extend_from_slice(b"refused ");
+    push_number(text, refusal.reason as u64);
+    text.push(b' ');
+    text.extend_from_slice(refusal.name().as_bytes());
+    if let Some(field) = refusal.field {
+        push_next_number(text, field);
+    }
+}
