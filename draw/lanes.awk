@@ -16,9 +16,9 @@ function draw_history(i, x,    k) {
 function draw_history_line(at, i, x, top,    view) {
   split(line_view[at], view, "|")
   draw("<g class='" (view[1] == "ok" ? epoch_class(view[2]) : "k" view[1]) "'>" \
-    text_at("lo", x, top + 11, escape(line_caller[at] " " shorten(request_words(line_request[at]), 22))) \
+    fitting("lo", x, top + 11, line_caller[at] " " request_words(line_request[at]), lane_width - 8) \
     "<rect class='pl' x='" (x - lane_width / 2 + 7) "' y='" (top + 14) "' width='" (lane_width - 14) "' height='18' rx='9'/>" \
-    text_at("pt", x, top + 27, escape(view[3])) "<title>" \
+    fitting("pt", x, top + 27, view[3], lane_width - 22) "<title>" \
     escape(line_caller[at] " " line_request[at] "\n" line_reply[at] "\nreport line " line_number[at]) "</title></g>")
   if (top > lowest) lowest = top
 }
@@ -30,14 +30,15 @@ function draw_record(a, x,    k) {
 
 function draw_event(at, x, top,    class, text, tip) {
   class = "l2"
-  text = event_node[at] (event_kind[at] == "l" ? " late" : "") " " request_words(event_request[at]) " → " event_heard[at]
+  text = event_node[at] (event_kind[at] == "l" ? " late" : "") " " request_words(event_request[at]) " → " \
+    (is_end_of_log(event_request[at], event_heard[at]) ? "nothing later" : event_heard[at])
   tip = event_request[at] " → " event_heard[at]
   if (event_kind[at] == "r") {
     class = event_request[at] ~ /aborted|limit/ ? "rb" : event_request[at] ~ /inactive|toolong|late/ ? "ri" : "ra"
     text = "= " event_request[at]
     tip = event_request[at]
   }
-  draw("<g>" text_at(class, x, top, escape(shorten(text, 36))) "<title>" escape(tip "\nreport line " event_number[at]) "</title></g>")
+  draw("<g>" fitting(class, x, top, text, 236) "<title>" escape(tip "\nreport line " event_number[at]) "</title></g>")
   if (top > lowest) lowest = top
 }
 
@@ -50,7 +51,7 @@ function sums(    i) {
 
 function draw_sums(i, x,    k, words, top) {
   top = 30
-  split(tally_words[i], words, " ")
+  split(tally_words[i], words, ",")
   for (k = 1; k in words; k++) {
     draw(text_at("pt", x, top, words[k] " " tally_count[i, words[k]]))
     top += 16

@@ -32,7 +32,6 @@ function draw_answer(r, i, a, e, at, rounds, is_best,    view, class, text, tip)
   is_best = is_best && view[1] == "ok" && row_request[r] ~ /^prepare/
   if (rounds > 1 && view[1] == "ok") text = "✓ … " substr(text, length("✓ ") + 1)
   if (is_best) text = "★ " text
-  text = escape(shorten(text, int((lane_width - 16) / 5.8)))
   if (row_kind[r] == "o") draw("<g class='" class "'>" pill("", i, y + 4, text) "<title>" escape(tip) "</title></g>")
   else
     draw(arrow(i, request_epoch(row_request[r])) "<g class='" class "'>" \
@@ -69,7 +68,7 @@ function arrow(i, epoch_asked,    x) {
 
 function pill(more, i, top, text) {
   return "<rect class='pl" more "' x='" (lane_center(i) - lane_width / 2 + 6) "' y='" top "' width='" (lane_width - 12) \
-    "' height='18' rx='9'/>" text_at("pt", lane_center(i), top + 13, text)
+    "' height='18' rx='9'/>" fitting("pt", lane_center(i), top + 13, text, lane_width - 22)
 }
 
 # What stands below the answer.

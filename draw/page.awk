@@ -18,6 +18,7 @@ END {
   page_title = escape(title) ": " count(nodes, "node") ", " count(drawn_writers, has_names ? "name node" : "writer")
   page_width = results_left + results_width + 30
   if (page_width < 1040) page_width = 1040
+  if (page_width < 11 * width(page_title) + 32) page_width = 11 * width(page_title) + 32
   if (format == "svg") print_svg()
   else print_html()
 }
@@ -27,6 +28,7 @@ function draw_body() {
   else if (merge()) {
     is_merged = 1
     plan()
+    fold()
     rows()
   } else {
     reason = why()
@@ -46,6 +48,9 @@ function take_notes() {
   else
     add_note("w", "No single order fits all lists: " escape(reason) ". So each list has its own lane, and heights don't " \
       "compare between lanes.")
+  if (folded_count)
+    add_note("", count(folded_count, "quiet stretch", "quiet stretches") \
+      (folded_count == 1 ? " is folded into one row" : " are folded into a row each") "; `./qjm draw --whole` draws every row.")
   if (strange_count)
     add_note("w", count(strange_count, "answer") " of nodes, first in line " strange_number ", " \
       (strange_count == 1 ? "isn't" : "aren't") " what the model gives; the segments below may be wrong.")
@@ -59,12 +64,34 @@ function add_note(class, text) {
   note[note_count] = text
 }
 
+# Breaks sentences into lines of at most so many characters, since the text of an SVG isn't wrapped.
+function break_notes(most,    k, many, w, words, line, lines_made, class_made, made) {
+  for (k = 1; k <= note_count; k++) {
+    many = split(note[k], words, " ")
+    line = words[1]
+    for (w = 2; w <= many + 1; w++) {
+      if (w <= many && width(line " " words[w]) <= most) line = line " " words[w]
+      else {
+        lines_made[++made] = line
+        class_made[made] = note_class[k]
+        line = words[w]
+      }
+    }
+  }
+  note_count = made
+  for (k = 1; k <= made; k++) {
+    note[k] = lines_made[k]
+    note_class[k] = class_made[k]
+  }
+}
+
 # What the report has, counted.
 function totals() {
   counted = count(lines, "line") ": " count(total["call"], "call")
   also("dropped", " lost on the way")
   also("muted", total["muted"] == 1 ? " reply lost" : " replies lost")
   also("refused", " refused")
+  also("read at the end", total["read at the end"] == 1 ? " read found nothing later" : " reads found nothing later")
   also("late", total["late"] == 1 ? " late copy" : " late copies")
   also("silent", " stopped inside a node")
   also("ops kill", total["ops kill"] == 1 ? " kill" : " kills")
@@ -114,6 +141,7 @@ function print_html(    k) {
 
 function print_svg(    k, top) {
   take_notes()
+  break_notes(int((page_width - 32) / 6.8))
   top = 44 + 18 * note_count
   print "<svg xmlns='http://www.w3.org/2000/svg' width='" page_width "' height='" (top + 40 + y) "'>\n<style>"
   print_style()
@@ -133,7 +161,7 @@ function print_names(    a, i) {
   if (is_merged) print text_at("l2", 16, 22, "what is asked")
   for (a = 1; is_merged && a <= actor_count; a++)
     if (actor_name[a] != "ops")
-      print text_at("an", actor_center(a), 22, shorten(actor_name[a], 5) "<title>" (has_names ? "name node " : "writer ") actor_name[a] "</title>")
+      print "<g>" fitting("an", actor_center(a), 22, actor_name[a], actor_width - 6) "<title>" (has_names ? "name node " : "writer ") actor_name[a] "</title></g>"
   for (i = 1; i <= nodes; i++)
     print "<rect class='pl' x='" (lane_center(i) - 40) "' y='6' width='80' height='22' rx='4'/>" text_at("hn", lane_center(i), 22, "node " i)
   if (is_merged) print text_at("l2", results_left + 10, 22, "what came of it")

@@ -9,6 +9,7 @@ BEGIN {
   if (maxlines == "") maxlines = 150000
   if (maxrows == "") maxrows = 3000
   if (collapse == "") collapse = 4
+  if (foldrows == "") foldrows = 100
   part = "begin"
   split("Down Limit EpochRefused OldSerial NotWriter NoOpenSegment WrongSegment WrongTxid SegmentFinal SegmentHasEdits NoSegment " \
     "OtherEpoch LengthDiffers Purged NotHere DiskFault OutOfMemory BadFile", refusal_name, " ")
@@ -75,7 +76,7 @@ function read_row(a) {
 }
 
 function fail(text) {
-  printf "draw: line %d: %s\n", (NR ? NR : 1), text | "cat 1>&2"
+  printf "qjm: draw: line %d: %s\n", (NR ? NR : 1), text | "cat 1>&2"
   close("cat 1>&2")
   is_refused = 1
   exit 1
@@ -127,7 +128,7 @@ function read_history(    is_late, view) {
     if (!is_reply(answer_words)) fail("not a reply")
     view = step(node, asked_words, answer_words)
   }
-  tally(node, answer_words)
+  tally(node, asked_words, answer_words)
   if (!is_big) keep_line(node SUBSEP line_count[node], first_word (is_late ? " late" : ""), view)
 }
 
@@ -178,7 +179,8 @@ function count_call(what,    heard) {
   if (what == "c" && heard !~ /^(dropped|muted|silent)$/ && !is_reply(heard)) fail("not what an actor hears")
   total[what == "l" ? "late" : "call"]++
   if (heard ~ /^(dropped|muted|silent)$/) total[heard]++
-  if (heard ~ /^refused/) total["refused"]++
+  if (is_end_of_log(asked_words, heard)) total["read at the end"]++
+  else if (heard ~ /^refused/) total["refused"]++
 }
 
 function keep_event(at, what, at_node, request, heard) {
@@ -189,11 +191,14 @@ function keep_event(at, what, at_node, request, heard) {
   event_number[at] = NR
 }
 
+# A read that finds nothing later at a node is no refusal to a reader: so each tail ends.
+function is_end_of_log(request, answer) { return request ~ /^read / && answer ~ /^refused 15 / }
+
 # How often node i answered what: tally_words[i] has the words in order, tally_count how often.
-function tally(i, answer,    words, word) {
+function tally(i, request, answer,    words, word) {
   if (answer ~ /^(done|idle|not opened)$/) return
   split(answer, words, " ")
-  word = answer ~ /^refused/ ? words[3] : answer ~ /^stopped/ ? "stopped" : "answered"
-  if (!((i, word) in tally_count)) tally_words[i] = tally_words[i] " " word
+  word = is_end_of_log(request, answer) ? "nothing later" : answer ~ /^refused/ ? words[3] : answer ~ /^stopped/ ? "stopped" : "answered"
+  if (!((i, word) in tally_count)) tally_words[i] = tally_words[i] (i in tally_words ? "," : "") word
   tally_count[i, word]++
 }

@@ -13,9 +13,11 @@ function rows(    v, group) {
     }
     if (row_group[shown_row[v]] != group) {
       group = row_group[shown_row[v]]
-      begin_group(shown_row[v], group)
+      if (shown_row[v] in fold_to) end_group()
+      else begin_group(shown_row[v], group)
     }
-    draw_row(shown_row[v], run_end[shown_row[v]])
+    if (shown_row[v] in fold_to) draw_fold(shown_row[v], fold_to[shown_row[v]])
+    else draw_row(shown_row[v], run_end[shown_row[v]])
   }
   end_group()
 }
@@ -40,7 +42,7 @@ function begin_group(r, group,    q) {
   group_class = class_of_group(r)
   draw("@")
   group_mark = drawn_count
-  draw(text_at("gh", 16, y + 17, escape(shorten(group_name(r), 60))))
+  draw(fitting("gh", 16, y + 17, group_name(r), lanes_left - 20))
   if (!is_hidden) y += 22
 }
 
@@ -83,9 +85,9 @@ function draw_asked(r, last, rounds, a,    q) {
   q = row_request[r]
   if (row_kind[r] == "c") draw_round(r, last, rounds, a, q)
   else if (row_kind[r] == "l")
-    draw("<g>" text_at("l1", 16, y + 15, "late copy: " escape(shorten(request_words(q), 24))) \
-      text_at("l2", 16, y + 29, "an old call of " actor_name[a] " arrives again") "<title>" escape(q) "</title></g>")
-  else if (row_kind[r] == "o") draw(text_at("op", 16, y + 17, escape(shorten(operator_words(r), 44))))
+    draw("<g>" fitting("l1", 16, y + 15, "late copy: " request_words(q), 240) \
+      fitting("l2", 16, y + 29, "an old call of " actor_name[a] " arrives again", 240) "<title>" escape(q) "</title></g>")
+  else if (row_kind[r] == "o") draw(fitting("op", 16, y + 17, operator_words(r), lanes_left - 20))
   else draw(text_at("l2", 16, y + 15, actor_name[a]))
 }
 
@@ -105,8 +107,8 @@ function draw_round(r, last, rounds, a, q,    what, hint, tip, left) {
     tip = "first: " q "\nlast: " row_request[last] "\nreport lines " event_number[a, row_first[r] - 1] \
       " to " event_number[a, row_last[last]]
   }
-  draw("<g class='" epoch_class(request_epoch(q)) "'>" text_at("l1", left, y + 15, escape(shorten(what, 34))) \
-    text_at("l2", left, y + 29, escape(shorten(hint, 40))) "<title>" escape(tip) "</title></g>")
+  draw("<g class='" epoch_class(request_epoch(q)) "'>" fitting("l1", left, y + 15, what, 254 - left) \
+    fitting("l2", left, y + 29, hint, 254 - left) "<title>" escape(tip) "</title></g>")
 }
 
 function count_results(r, last,    found) {

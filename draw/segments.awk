@@ -7,8 +7,8 @@ function ends(    i, k, first) {
   draw(text_at("gh", 16, y + 14, "At the end") text_at("l2", 16, y + 30, "computed from the histories"))
   for (i = 1; i <= nodes; i++)
     draw(text_at("pt", lane_center(i), y + 14, "node " i ", " (up[i] ? "up" : "down")) \
-      text_at("lo", lane_center(i), y + 28, "promised " promised[i]) \
-      text_at("lo", lane_center(i), y + 41, "stored committed " committed[i]))
+      fitting("lo", lane_center(i), y + 28, "promised " promised[i], lane_width - 8) \
+      fitting("lo", lane_center(i), y + 41, "committed " committed[i], lane_width - 8))
   y += 48
   list_starts()
   first = start_count > 40 ? start_count - 39 : 1
@@ -38,7 +38,7 @@ function list_start(m,    k) {
 function draw_segment(m,    i, most) {
   most = 1
   for (i = 1; i <= nodes; i++) if ((i, m) in segment_epoch && segment_edits[i, m] > most) most = segment_edits[i, m]
-  draw(text_at("l1", 28, y + 15, "segment " m))
+  draw(fitting("l1", 28, y + 15, "segment " m, 226))
   for (i = 1; i <= nodes; i++) {
     if ((i, m) in segment_epoch) draw_bar(i, m, most)
     else draw(text_at("lo", lane_center(i), y + 15, "–"))
@@ -52,6 +52,6 @@ function draw_bar(i, m, most,    wide, class, text) {
   text = range(m, segment_end(i, m)) (is_final[i, m] ? " final" : is_accepted[i, m] ? " accepted" : " in progress")
   if (segment_edits[i, m] == 0) text = "begun, empty"
   draw("<g class='" epoch_class(segment_epoch[i, m]) "'><rect class='" class "' x='" (lane_center(i) - lane_width / 2 + 7) "' y='" (y + 2) \
-    "' width='" (wide < 3 ? 3 : wide) "' height='18' rx='2'/>" text_at("pt", lane_center(i), y + 15, text) "<title>node " i ": segment " m \
+    "' width='" (wide < 3 ? 3 : wide) "' height='18' rx='2'/>" fitting("pt", lane_center(i), y + 15, text, lane_width - 18) "<title>node " i ": segment " m \
     ", " text ", " count(segment_edits[i, m], "edit") ", header epoch " segment_epoch[i, m] "</title></g>")
 }

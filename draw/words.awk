@@ -37,7 +37,7 @@ function shorten(text, most) {
   return decode(length(text) <= most ? text : substr(text, 1, most - 1) "\005")
 }
 
-function count(number, noun) { return (number + 0) " " noun (number == 1 ? "" : "s") }
+function count(number, noun, nouns) { return (number + 0) " " (number == 1 ? noun : nouns == "" ? noun "s" : nouns) }
 
 # How many bodies a request has; -1 where it was shortened.
 function count_bodies(request,    words) {

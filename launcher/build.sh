@@ -20,26 +20,37 @@ count_jobs() {
   echo "$jobs"
 }
 
+# How long a build takes, foretold by what one took on a machine of four processors: two hours of one processor, and no less than
+# the longest chain of crates that stand on one another.
+foretell_build() {
+  jobs=$(count_jobs)
+  processors=$(getconf _NPROCESSORS_ONLN 2>/dev/null || echo 1)
+  [ "$jobs" -le "$processors" ] || jobs=$processors
+  minutes=$((120 / jobs))
+  [ "$minutes" -ge 25 ] || minutes=25
+  echo "some $minutes minutes on this machine"
+}
+
 # Says how far the build is: on a terminal in one line that is written anew, else in a line for each crate.
 show_progress() {
   minutes=$((($(date +%s) - build_began) / 60))
   text="qjm: $1, $minutes min"
   if [ -t 2 ]; then
-    printf '\r%-78s' "$text" >&2
+    printf '\r%-90s' "$text" >&2
   elif [ "$text" != "$shown" ] && [ "$1" != "$shown_step" ]; then
     printf '%s\n' "$text" >&2
   fi
   shown=$text shown_step=$1
 }
 
-# Which crate the prover's log has come to: it names each one that is done.
+# How many crates are proved, and which was the last: the prover's log names each one that is done.
 tell_step() {
   awk -v all="$crate_count" '
-    /^== summary$/ { next }
-    /^== / { done++; name = $2 }
+    /^== summary$/ { is_over = 1 }
+    /^== / && !is_over { done++; name = $2 }
     END {
-      if (done) printf "crate %d of %d proved (%s)", done, all, name
-      else printf "crate 1 of %d", all
+      if (is_over) printf "%d of %d crates proved; the program is built", done, all
+      else printf "%d of %d crates proved%s, %d left", done, all, done ? " (" name " last)" : "", all - done
     }' "$build_log"
 }
 
@@ -73,9 +84,12 @@ build() {
   rm -f "$program" "$program.by-rattle" "$sources_built"
   build_began=$(date +%s) crate_count=$(list_crates | wc -l) shown='' shown_step=''
   sum=$(sum_sources)
-  say "proving $((crate_count)) crates and building the program, once; the prover's output goes to $build_log"
+  jobs=$(count_jobs)
+  say "first $((crate_count)) crates are proved, $jobs at a time, in any order but that each waits for those that it stands on"
+  say "then the program is built, in a minute or two; all in all $(foretell_build)"
+  say "what the prover says goes to $build_log; stopped and begun again, the build goes on where it was"
   : >"$build_log"
-  run_kit all check --jobs "$(count_jobs)" && run_kit run
+  run_kit all check --jobs "$jobs" && run_kit run
   [ ! -t 2 ] || printf '\n' >&2
   if [ ! -x "$program" ]; then
     tell_failure

@@ -53,7 +53,7 @@ name_from_root() {
 
 # Runs the sources without a proof on descriptor 3. Fails where that gave no answer of the program's own.
 try_sources() {
-  say "a quick run of the sources, not of the proved program (./qjm --build proves and builds that, once)"
+  say "a quick run of the sources, not of the proved program: it takes a minute or so (./qjm --build makes that, once)"
   case $#$1 in
     3oev | 3oiv) set -- "$1" "$2" "$(name_from_root "$3")" ;;
   esac
@@ -62,18 +62,16 @@ try_sources() {
   grep -q "^run=ended status=$status " "$room/notes"
 }
 
-# Answers by a quick run. What is out of its reach, as a report above 1 MiB, is answered by the proved program, which is built.
-try_or_build() {
+# Answers by a quick run. What is out of its reach, as a report above 1 MiB, wants the proved program.
+try_or_refuse() {
   require_kit
   if try_sources "$@"; then
-    cat "$room/output" || status=7
+    cat "$room/output" 2>/dev/null || status=7
     return
   fi
-  say "the quick run gave no answer, so the program is built first; it said:"
+  say "the quick run gave no answer; it said:"
   grep '^checked: ' "$room/notes" >&2 || tail -n 3 "$room/notes" >&2
-  build || exit
-  open_input_again "$1"
-  run_program "$@"
+  refuse_unbuilt "the proved program has no such limits"
 }
 
 # Opens what was kept once more, from its beginning.
@@ -81,26 +79,33 @@ open_input_again() {
   { [ "$1" != play ] && [ "$1" != run ]; } || [ ! -f "$room/input" ] || exec 3<"$room/input"
 }
 
+# Ends the launcher where a command wants the proved program and that isn't built: a build is begun by nothing but its own word.
+refuse_unbuilt() {
+  say "$1, and it isn't built yet"
+  say "\`./qjm --build\` proves and builds it, once, in $(foretell_build)"
+  exit "$NOT_BUILT"
+}
+
 # Runs the program's command, explains a status that isn't 0, and ends with the status.
 run_or_try() {
   make_room
+  case $1 in play | run) greet_terminal 'a script' ;; esac
   open_input "${1-}"
   if is_proved; then
     run_program "$@"
   else
-    try_or_build "$@"
+    try_or_refuse "$@"
   fi
   [ "$status" -eq 0 ] || explain "$@"
   exit "$status"
 }
 
-# Serves a node in the current folder, of the proved program alone.
+# Serves a node in the current folder, of the proved program alone, once the folder was checked.
 serve_node() {
-  if ! is_proved; then
-    say "a node runs of the proved program alone, and that isn't built yet"
-    build || exit
-  fi
+  is_proved || refuse_unbuilt "a node runs of the proved program alone"
   make_room
+  [ "${unchecked-}" = yes ] || check_before_serving
+  greet_terminal 'requests, a line each,'
   open_input node
   run_program node
   [ "$status" -eq 0 ] || explain node
@@ -109,13 +114,20 @@ serve_node() {
 
 # Checks the current folder, of the proved program alone: a quick run sees no folder but its own.
 check_folder() {
-  if ! is_proved; then
-    say "a folder is checked by the proved program alone, and that isn't built yet"
-    build || exit
-  fi
+  is_proved || refuse_unbuilt "a folder is checked by the proved program alone"
   make_room
-  open_input fsck
-  run_program fsck
-  [ "$status" -eq 0 ] || explain fsck
+  find_findings
+  cat "$room/shown" 2>/dev/null || status=7
+  tell_check
   exit "$status"
+}
+
+# Says the findings in words. What is no file where a node keeps one the program doesn't see: that is a finding too.
+tell_check() {
+  ! is_taken || say "a node has this folder: its files may have changed while they were checked"
+  tell_findings
+  case $status in
+    0 | 5) [ "$told" -eq 0 ] || status=5 ;;
+    *) explain fsck ;;
+  esac
 }

@@ -1,5 +1,5 @@
 # Reads a table of docs/FORMATS.md. The line `<!-- table: NAME -->` stands before it. Of the row that begins with the key the
-# other cells are written, a line each; without a key all rows are, the key in four columns.
+# other cells are written, a line each, an empty one too; without a key all rows are, the key in its own width.
 
 /^<!-- table: / { here = ($0 == "<!-- table: " table " -->"); row = 0; next }
 here && /^\|/ {
@@ -8,8 +8,8 @@ here && /^\|/ {
   gsub(/`/, "", line)
   sub(/^\| */, "", line); sub(/ *\|$/, "", line)
   count = split(line, cells, / *\| */)
-  if (key == "") { printf "%4s  %s\n", cells[1], cells[2]; next }
-  if (cells[1] == key) for (i = 2; i <= count; i++) if (cells[i] != "") print cells[i]
+  if (key == "") { printf "%" (wide ? wide : 4) "s  %s\n", cells[1], cells[2]; next }
+  if (cells[1] == key) for (i = 2; i <= count; i++) print cells[i]
   next
 }
 here && row && !/^\|/ { here = 0 }

@@ -1,0 +1,29 @@
+# Completion of ./qjm in bash: commands, the listings of oev and oiv, scripts, and the files of the current folder that a listing
+# takes. To be read by the shell (in ~/.bashrc, say):
+#
+#   . /path/to/launcher/complete.bash
+
+# The words that may stand at the cursor, behind those before it.
+_qjm_words() {
+  case $COMP_CWORD,${COMP_WORDS[1]-} in
+    1,*) echo 'play run gen node fsck oev oiv draw rules test help --build --version --help' ;;
+    2,help) echo 'play run gen node fsck oev oiv draw rules test --build' ;;
+    2,oev) echo 'list stats json' ;;
+    2,oiv) echo 'delimited sizes json' ;;
+    2,node) echo '--unchecked' ;;
+    *,draw) echo '--svg --whole' ;;
+  esac
+}
+
+_qjm() {
+  local word=${COMP_WORDS[COMP_CWORD]} pattern=
+  mapfile -t COMPREPLY < <(compgen -W "$(_qjm_words)" -- "$word")
+  case $COMP_CWORD,${COMP_WORDS[1]-} in
+    2,play | 2,run) pattern='*.qjm' ;;
+    3,oev) pattern='edits_*' ;;
+    3,oiv) pattern='fsimage_*' ;;
+  esac
+  [ -z "$pattern" ] || mapfile -t COMPREPLY < <(compgen -f -X "!$pattern" -- "$word"; compgen -d -- "$word")
+}
+
+complete -o filenames -F _qjm qjm ./qjm ../qjm

@@ -1,0 +1,106 @@
+# The words after ./qjm: which of them are a command's, and the help of each.
+
+# The program's commands, and those that the launcher answers itself.
+readonly PROGRAM_COMMANDS='play run gen node oev oiv fsck' OWN_COMMANDS='draw rules test help'
+readonly SEGMENT_LISTINGS='list stats json' IMAGE_LISTINGS='delimited sizes json'
+
+# Whether a word is one of several.
+is_among() {
+  case $1 in '' | *' '*) return 1 ;; esac
+  case " $2 " in *" $1 "*) ;; *) return 1 ;; esac
+}
+
+# Whether a word is a decimal number without a leading zero, from the first to the last.
+is_number() {
+  case $1 in '' | *[!0-9]* | 0?* | ????????????????????*) return 1 ;; esac
+  [ "$1" -ge "$2" ] 2>/dev/null && [ "$1" -le "$3" ]
+}
+
+# The place of the first wrong word of a listing's command, where these are the words that may stand behind it.
+place_in_listing() {
+  if [ $# -lt 3 ] || ! is_among "$3" "$1"; then
+    echo 1
+  elif [ $# -eq 3 ]; then
+    echo 2
+  elif [ $# -gt 4 ]; then
+    echo 3
+  fi
+}
+
+# The place of the first wrong word of `gen NUMBER EDITS NODES`.
+place_in_gen() {
+  if ! is_number "${2-}" 0 4611686018427387904; then
+    echo 1
+  elif ! is_number "${3-}" 0 10000; then
+    echo 2
+  elif ! is_number "${4-}" 1 15; then
+    echo 3
+  elif [ $# -gt 4 ]; then
+    echo 4
+  fi
+}
+
+# The place of the first wrong word of a program's command, counted from 0, or how many there are where one is missing. Nothing
+# where the words are a command. The program's own rule is the same, and waits for no quick run here.
+wrong_place() {
+  case ${1-} in
+    play | run | node | fsck) [ $# -eq 1 ] || echo 1 ;;
+    oev) place_in_listing "$SEGMENT_LISTINGS" "$@" ;;
+    oiv) place_in_listing "$IMAGE_LISTINGS" "$@" ;;
+    gen) place_in_gen "$@" ;;
+    *) echo 0 ;;
+  esac
+}
+
+# Which words may stand at this place.
+legal_words() {
+  case $1${2-} in
+    0* | 1help) echo "the commands are $PROGRAM_COMMANDS $OWN_COMMANDS" ;;
+    1node) echo 'after `node` comes nothing, or `--unchecked` alone' ;;
+    1play | 1run) echo "after \`$2\` comes nothing, or the name of one file" ;;
+    1oev) echo "after \`oev\` comes one of $SEGMENT_LISTINGS" ;;
+    1oiv) echo "after \`oiv\` comes one of $IMAGE_LISTINGS" ;;
+    2oev | 2oiv) echo "the name of a file comes last" ;;
+    1gen) echo "NUMBER is from 0 to 4611686018427387904, without a leading zero" ;;
+    2gen) echo "EDITS is from 0 to 10000, without a leading zero" ;;
+    3gen) echo "NODES is from 1 to 15" ;;
+    *) echo "no further word is wanted" ;;
+  esac
+}
+
+# Tells the first wrong word as the program does, with the words that may stand there, and ends.
+refuse_words() {
+  place=$1
+  shift
+  command=${1-}
+  legal=$(legal_words "$place" "$@")
+  if [ $# -eq 0 ]; then
+    say "a command is wanted: $legal"
+  elif [ "$place" -ge $# ]; then
+    say "a word is missing after \`$*\`: $legal"
+  else
+    shift "$place"
+    say "\`$1\` $([ "$place" -eq 0 ] && echo 'is no command' || echo "may not stand here"): $legal"
+  fi
+  show_way "$command"
+  echo "error Usage $place"
+  exit 1
+}
+
+# Where the help of a command is.
+show_way() {
+  if [ "$1" != help ] && is_among "$1" "$PROGRAM_COMMANDS $OWN_COMMANDS"; then
+    say "\`./qjm help $1\` has an example"
+  else
+    say "\`./qjm help\` says what each does"
+  fi
+}
+
+# Shows the text of a command, or the whole one.
+show_help() {
+  case ${1-} in
+    '' | help) cat "$top/launcher/help/qjm.txt" ;;
+    --build | build) cat "$top/launcher/help/build.txt" ;;
+    *) is_among "$1" "$PROGRAM_COMMANDS $OWN_COMMANDS" || refuse_words 1 help "$1"; cat "$top/launcher/help/$1.txt" ;;
+  esac
+}
