@@ -83,23 +83,23 @@ module _ (L : ℕ → List ℕ → Type 0) where
       record { idle = r.0; free = r.1; rests = r.2 }
 
   -- ## Tasks begin
-  writing_next : (p : ℕ) (x : Phase) (w : WriterView) → is_writing x ≡ true → RestsAt L p x w → w.next ≡ p + 1
+  pub writing_next : (p : ℕ) (x : Phase) (w : WriterView) → is_writing x ≡ true → RestsAt L p x w → w.next ≡ p + 1
   writing_next p (phase.InRound r) w e s = absurd s
   writing_next p phase.Writing w e s = s
   writing_next p phase.Idle w e s = absurd (cc e)
   writing_next p phase.Stopped w e s = absurd (cc e)
 
-  standby_at : (p : ℕ) (x : Phase) (w : WriterView) → is_writing x ≡ false → RestsAt L p x w → AtStandby L x
+  pub standby_at : (p : ℕ) (x : Phase) (w : WriterView) → is_writing x ≡ false → RestsAt L p x w → AtStandby L x
   standby_at p (phase.InRound r) w e s = s
   standby_at p phase.Writing w e s = absurd (cc e)
   standby_at p phase.Idle w e s = tt
   standby_at p phase.Stopped w e s = tt
 
-  begun_writing : (b : Bool) (x : Began) (w : WriterView) → (if_writing b x w).begun ≡ begun.Going → b ≡ true
+  pub begun_writing : (b : Bool) (x : Began) (w : WriterView) → (if_writing b x w).begun ≡ begun.Going → b ≡ true
   begun_writing true x w e = refl
   begun_writing false x w e = absurd (cc e)
 
-  begun_place : (p : ℕ) (t : Task) (w : WriterView) → IsNamesTask t → RestsAt L p w.phase w → (writer_begun w t).begun ≡ begun.Going
+  pub begun_place : (p : ℕ) (t : Task) (w : WriterView) → IsNamesTask t → RestsAt L p w.phase w → (writer_begun w t).begun ≡ begun.Going
       → PhasePlace L p (aim_of t) (writer_begun w t).writer.phase (writer_begun w t).writer
   unfolding writer_begun
   begun_place p task.Takeover w i r e = tt
@@ -116,11 +116,11 @@ module _ (L : ℕ → List ℕ → Type 0) where
   task_stage h (task.Log bodies) w i free o = absurd i
   task_stage h (task.Purge min) w i free o = absurd i
 
-  record BegunWell (t : Task) (w : WriterView) : Type 0 where
+  pub record BegunWell (t : Task) (w : WriterView) : Type 0 where
     pub course : Course (aim_of t) (writer_begun w t).writer
     pub in_round : IsInRound (writer_begun w t).writer.phase
 
-  begun_well : (t : Task) (w : WriterView) → has_other w.left ≡ true → (writer_begun w t).begun ≡ begun.Going → BegunWell t w
+  pub begun_well : (t : Task) (w : WriterView) → has_other w.left ≡ true → (writer_begun w t).begun ≡ begun.Going → BegunWell t w
   unfolding Begins
   begun_well t w o e = by (begun_turn t w o)
     where
@@ -179,7 +179,7 @@ module _ (L : ℕ → List ℕ → Type 0) where
   submitted_leads h w [] x is next l = l
   submitted_leads h w (e ∷ es) x is next l = submitted_leads h w es (submitted_one w e x) is.1 next (one_leads h w e x (is.0, tt) next l)
 
-  log_begun : (w : WriterView) (bodies : List (List ℕ)) → (writer_begun w (task.Log bodies)).begun ≡ begun.Going
+  pub log_begun : (w : WriterView) (bodies : List (List ℕ)) → (writer_begun w (task.Log bodies)).begun ≡ begun.Going
       → ((writer_begun w (task.Log bodies)).writer.phase ≡ phase.InRound (round.Write bodies)) × ((writer_begun w (task.Log bodies)).writer.next ≡ w.next)
   unfolding writer_begun
   log_begun w bodies e = by (is_writing w.phase) (log_limit w bodies) e
@@ -240,11 +240,11 @@ module _ (L : ℕ → List ℕ → Type 0) where
       by false e = g
 
   -- ## Other actions
-  purge_begun : (w : WriterView) (min : ℕ) → is_writing w.phase ≡ true → (writer_begun w (task.Purge min)).begun ≡ begun.Going
+  pub purge_begun : (w : WriterView) (min : ℕ) → is_writing w.phase ≡ true → (writer_begun w (task.Purge min)).begun ≡ begun.Going
   unfolding writer_begun
   purge_begun w min e = rw e refl
 
-  purge_place : (p : ℕ) (w : WriterView) (min : ℕ) → is_writing w.phase ≡ true → w.next ≡ p + 1
+  pub purge_place : (p : ℕ) (w : WriterView) (min : ℕ) → is_writing w.phase ≡ true → w.next ≡ p + 1
       → PhasePlace L p aim.Purge (writer_begun w (task.Purge min)).writer.phase (writer_begun w (task.Purge min)).writer
   unfolding writer_begun
   purge_place p w min e next = rw e next
@@ -275,7 +275,7 @@ module _ (L : ℕ → List ℕ → Type 0) where
       by true e = g
       by false e = pass_good L None g.holding a g.stands tt r.idle g.other (standby_at g.holding.position a.writer.phase a.writer e r.rests)
 
-  saved_same : (h : Holding) → ((save_image h).work ≡ h.work) × ((save_image h).position ≡ h.position)
+  pub saved_same : (h : Holding) → ((save_image h).work ≡ h.work) × ((save_image h).position ≡ h.position)
   unfolding save_image
   saved_same h = (refl, refl)
 
@@ -331,7 +331,7 @@ module _ (L : ℕ → List ℕ → Type 0) where
   action_good Saves a g i r = unfold take_named_action in held_good Saves a g (save_good a g r)
   action_good Reloads a g i r = unfold take_named_action in held_good Reloads a g (reload_good a g r)
 
-  or_false : (b c : Bool) → (b || c) ≡ false → (b ≡ false) × (c ≡ false)
+  pub or_false : (b c : Bool) → (b || c) ≡ false → (b ≡ false) × (c ≡ false)
   or_false true c e = absurd (cc e)
   or_false false c e = (refl, e)
 

@@ -55,7 +55,7 @@ module _ (L : ℕ → List ℕ → Type 0) where
     pub on : OnTask L h.position t w
     pub is_log : IsLogIn L (bodies_of t) (aim_of t) w.phase
 
-  no_log : (a : Aim) (x : Phase) → ((r : Round) → IsLogOf L [] a r) → IsLogIn L [] a x
+  pub no_log : (a : Aim) (x : Phase) → ((r : Round) → IsLogOf L [] a r) → IsLogIn L [] a x
   no_log a (phase.InRound r) h = h r
   no_log a phase.Idle h = tt
   no_log a phase.Writing h = tt
@@ -219,7 +219,7 @@ module _ (L : ℕ → List ℕ → Type 0) where
       placed = heard_place L g.holding.position (bodies_of t) (aim_of t) a.writer node heard u.on.course u.on.in_round u.is_log u.on.place h
 
   -- and between tasks
-  same_heard : (w : WriterView) (node : ℕ) (heard : Heard) → IsBetween w.phase → writer_heard w node heard ≡ record { writer = w; turn = turn.Going }
+  pub same_heard : (w : WriterView) (node : ℕ) (heard : Heard) → IsBetween w.phase → writer_heard w node heard ≡ record { writer = w; turn = turn.Going }
   unfolding writer_heard
   same_heard w node heard b = by w.phase b
     where
@@ -229,7 +229,7 @@ module _ (L : ℕ → List ℕ → Type 0) where
       by phase.Writing b = refl
       by phase.Stopped b = refl
 
-  rests_between : (p : ℕ) (x : Phase) (w : WriterView) → RestsAt L p x w → IsBetween x
+  pub rests_between : (p : ℕ) (x : Phase) (w : WriterView) → RestsAt L p x w → IsBetween x
   rests_between p (phase.InRound r) w s = s
   rests_between p phase.Writing w s = tt
   rests_between p phase.Idle w s = tt

@@ -8,10 +8,17 @@ pub mod Keeps
 pub mod Oks
 pub mod SaidOks
 pub mod Walks
+pub mod Acks
 pub mod Replays
 pub mod Askers
 pub mod LineLaws
 pub mod Unbroken
 pub mod Safeties
 pub mod NamedPlays
+pub mod NamesKept
+pub mod Claims
+pub mod Telling
+pub mod TellingTurns
+pub mod Said
 pub mod Worked
+pub mod AckedWorked

@@ -28,6 +28,7 @@ use Rattle.journal_history.specs.Entries.{Entry}
 use Rattle.run_safety.proofs.Values.{get_within, get_there}
 use Rattle.mesh.specs.declared.whole.Mesh.{Mesh}
 use Rattle.mesh.specs.Agree.{operator_of, record_of, plan_of, ListsAgree}
+use Rattle.mesh.proofs.Shared.{In}
 use Rattle.play_model.specs.Lines.{Line, actions_of}
 use Rattle.play_names.specs.Holding.{Holding, Work, Free, Tails, Logs, Broken}
 use Rattle.play_model.specs.Actor.{Actor, Want, WantsCall, WantsCopy, Says, Rests, call_wanted, work_read, read_first, wants, Fits, IsLed, actor_after, goes_on}
@@ -43,7 +44,7 @@ use Rattle.play_laws.proofs.Stages.{Stage, Good, RestsAt}
 use Rattle.play_laws.proofs.Keeps.{UnderTask, under_by}
 use Rattle.play_laws.proofs.Oks.{IsNext, next_is}
 use Rattle.play_laws.proofs.Walks.{read_fits, fits_call}
-use Rattle.play_laws.proofs.Replays.{Walked, walked}
+use Rattle.play_laws.proofs.Replays.{walked}
 use Rattle.run_safety.specs.Parts.{IsPutByJournal}
 use Rattle.run_safety.proofs.Journals.{line_once, line_put}
 use Rattle.play_laws.proofs.Askers.{NoOperation, Asker, asker}
@@ -72,6 +73,12 @@ led_rest a (x ∷ xs) ys led = led_rest (goes_on a x) xs ys led.1
 led_now : (a : Actor) (r : Record) (rs : List Record) → IsLed a (r ∷ rs) → Fits (wants a) r
 unfolding IsLed
 led_now a r rs led = led.0
+
+-- what an actor of a script with names wanted when it listed a line
+pub record Wanted (m : Mesh) (c : ℕ) (r : Record) : Type 0 where
+  pub actor : Actor
+  pub is_actor : IsActor m c actor
+  pub fits : Fits (wants actor) r
 
 -- ## What a batch was made of
 -- after the replay of so many entries of the line, edits that go on from there
@@ -222,31 +229,30 @@ module _ (m : Mesh) (entries : List Entry) (lines : List Line) (last : List End)
   once : (t : ℕ) (x y : List ℕ) → L t x → L t y → x ≡ y
   once t x y a b = line_once m.nodes lin.run.0 (reverse entries) lin.run.1 t x y a b
 
+  -- a line of an actor's record is what it wanted there
+  pub wanted : (c : ℕ) → c < operator_of m → (r : Record) → In r (record_of m c) → Wanted m c r
+  wanted c below r listed = record {
+    actor = actor_after (actor_with true m.nodes (actions_of c lines)) p.before;
+    is_actor = record { some = named.some; actions = actions_of c lines; are_actions = named.actions c; before = p.before; after = r ∷ p.after; record_is = p.is; led = led; is = refl };
+    fits = led_now (actor_after (actor_with true m.nodes (actions_of c lines)) p.before) r p.after (led_rest (actor_with true m.nodes (actions_of c lines)) p.before (r ∷ p.after) led);
+  }
+    where
+      p : Place r (record_of m c)
+      p = place_of r (record_of m c) listed
+
+      led : IsLed (actor_with true m.nodes (actions_of c lines)) (p.before ++ r ∷ p.after)
+      led = subst (λ (l : List Record). IsLed (actor_with true m.nodes (actions_of c lines)) l) p.is (led_of c below)
+
   -- the batch that put an entry of the line there
   maker : (t : ℕ) (x : List ℕ) → (k : IsPutByJournal m.nodes (reverse entries) t x) → Made L k.batch
-  maker t x k = made_batch L a g.going.good s.node k.head k.start k.batch s.told (led_now a r p.after (led_rest (actor_with true m.nodes (actions_of s.caller lines)) p.before (r ∷ p.after) led))
+  maker t x k = made_batch L w.actor (walked m entries lists lin s.caller s.below w.actor w.is_actor).going.good s.node k.head k.start k.batch s.told w.fits
     where
       s : Asker m (Journal k.head k.start k.batch)
       s = asker m entries lists lin (λ c below. led_none (actor_with true m.nodes (actions_of c lines)) (record_of m c) (led_of c below)) k.old
           k.entry (Journal k.head k.start k.batch) k.within k.of_request
 
-      r : Record
-      r = Call s.node (Journal k.head k.start k.batch) s.told
-
-      p : Place r (record_of m s.caller)
-      p = place_of r (record_of m s.caller) s.called
-
-      led : IsLed (actor_with true m.nodes (actions_of s.caller lines)) (p.before ++ r ∷ p.after)
-      led = subst (λ (l : List Record). IsLed (actor_with true m.nodes (actions_of s.caller lines)) l) p.is (led_of s.caller s.below)
-
-      a : Actor
-      a = actor_after (actor_with true m.nodes (actions_of s.caller lines)) p.before
-
-      is_actor : IsActor m s.caller a
-      is_actor = record { some = named.some; actions = actions_of s.caller lines; are_actions = named.actions s.caller; before = p.before; after = r ∷ p.after; record_is = p.is; led = led; is = refl }
-
-      g : Walked m entries lists lin s.caller s.below p.before a
-      g = walked m entries lists lin s.caller s.below a is_actor
+      w : Wanted m s.caller (Call s.node (Journal k.head k.start k.batch) s.told)
+      w = wanted s.caller s.below (Call s.node (Journal k.head k.start k.batch) s.told) s.called
 
   -- an entry after so many that replay
   marks : (init : List (List ℕ)) (x mark : List ℕ) (bodies : List (List ℕ)) (k : ℕ) (z : Space) → bodies ≡ mark ∷ [] → slice_get bodies k ≡ Some x

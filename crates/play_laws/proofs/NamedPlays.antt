@@ -1,11 +1,11 @@
 -- Each play of a script with names is safe, with what its actors end with.
-use Rattle.std.proofs.Common.{◌≡◌, ℕ, ◌<◌, ◌≤◌, List, true, sym, ap, ◌∙◌, subst, arith, length}
+use Rattle.std.proofs.Common.{◌≡◌, ℕ, ◌<◌, ◌≤◌, Bool, List, true, sym, ap, ◌∙◌, subst, arith, length}
 use Rattle.std.proofs.lemmas.List.{length-map}
 use Rattle.ns_tree.specs.declared.end.End.{End}
 use Rattle.journal_history.specs.Moving.{moving_of}
 use Rattle.run_safety.specs.Run.{IsRun}
 use Rattle.mesh.specs.declared.whole.Mesh.{Mesh}
-use Rattle.mesh.specs.Agree.{Agrees}
+use Rattle.mesh.specs.Agree.{Agrees, operator_of}
 use Rattle.mesh.specs.Order.{epoch_order}
 use Rattle.play_model.specs.Lines.{Line, ArePlayable}
 use Rattle.play_model.specs.Plays.{mesh_of, ends_of}
@@ -17,11 +17,15 @@ use Rattle.play_laws.specs.Linear.{IsNamed}
 use Rattle.play_laws.specs.Laws.{PlayIsLinear, PlaysAreSafe}
 use Rattle.play_laws.proofs.Safeties.{names_are_safe, epoch_order_is_safe}
 
+-- one end for each actor
+pub ends_many : (named : Bool) (nodes : ℕ) (lines : List Line) (m : Mesh) (ends : List End) → FollowsLines named nodes lines m ends → length ends ≡ operator_of m
+ends_many named nodes lines m ends f = sym (length-map ends (λ (e : End). e.name)) ∙ ap length f.names ∙ names_count lines ∙ sym f.actors_are
+
 pub is_named : (nodes : ℕ) (lines : List Line) (m : Mesh) (ends : List End) → 1 ≤ nodes → ArePlayable true nodes 0 lines → FollowsLines true nodes lines m ends → IsNamed lines m ends
 is_named nodes lines m ends some can f = record {
   some = subst (λ (n : ℕ). 1 ≤ n) (sym f.nodes_are) some;
   actions = playable_actions true nodes 0 lines can;
-  as_many = sym (length-map ends (λ e. e.name)) ∙ ap length f.names ∙ names_count lines ∙ sym f.actors_are;
+  as_many = ends_many true nodes lines m ends f;
   follows = subst (λ (n : ℕ). FollowsLines true n lines m ends) (sym f.nodes_are) f;
 }
 

@@ -1,7 +1,7 @@
 -- Whatever a read gave is the line's: the node stood as some front of the order leaves it, and what
 -- a node serves there is on the line.
 use Rattle.std.proofs.Common.{◌≡◌, ℕ, zero, suc, ◌+◌, ◌-◌, ◌<◌, ◌≤◌, List, [], ◌∷◌, ◌++◌, length, reverse, take, drop, filter, Option, Some, None}
-use Rattle.std.proofs.Common.{Bool, true, false, cond, refl, sym, ap, ◌∙◌, subst, arith, append_assoc, ◌⊎◌, inl, inr, ◌==◌}
+use Rattle.std.proofs.Common.{Bool, true, false, cond, Contains, refl, sym, ap, ◌∙◌, subst, arith, append_assoc, ◌⊎◌, inl, inr, ◌==◌}
 use Rattle.std.specs.Prelude.{slice_get, filter_map, nat_lt, nat_le, ◌&&◌}
 use Rattle.std.proofs.lemmas.Bool.Decides.{nat_tests}
 use Rattle.std.specs.List.{cons_option}
@@ -44,6 +44,7 @@ use Rattle.mesh.specs.Agree.{record_of, history_at}
 use Rattle.mesh.specs.Matches.{reaches, reached, lines_of, IsSame, IsWithin, AreWithin}
 use Rattle.mesh.specs.Order.{is_muted, line_of_caller, placed_from, placed_at, entries_at}
 use Rattle.ns_edits.proofs.Splits.{some_is, none≢some}
+use Rattle.mesh.proofs.Lists.{contains_none, contains_cases, contains_head, contains_tail}
 use Rattle.mesh.proofs.Shared.{In}
 use Rattle.mesh.proofs.OneOwner.{same_line}
 use Rattle.play_model.specs.Safe.{AllOn}
@@ -279,6 +280,22 @@ pub in_middle : {A : Type 0} (before after : List A) (x : A) → In x (before ++
 unfolding In
 in_middle [] after x = inl refl
 in_middle (y ∷ before) after x = inr (in_middle before after x)
+
+-- what a list has, in both words
+pub in_contains : {A : Type 0} (x : A) (xs : List A) → In x xs → Contains xs x
+unfolding In
+in_contains x [] i = absurd i
+in_contains x (y ∷ ys) (inl e) = contains_head y ys x e
+in_contains x (y ∷ ys) (inr i) = contains_tail y ys x (in_contains x ys i)
+
+pub contains_in : {A : Type 0} (x : A) (xs : List A) → Contains xs x → In x xs
+unfolding In
+contains_in x [] h = absurd (contains_none x h)
+contains_in {A} x (y ∷ ys) h = by (contains_cases y ys x h) (λ g. contains_in x ys g)
+  where
+    by : (y ≡ x) ⊎ Contains ys x → (Contains ys x → In x ys) → (y ≡ x) ⊎ In x ys
+    by (inl e) go = inl e
+    by (inr g) go = inr (go g)
 
 pub in_filter : {A : Type 0} (test : A → Bool) (x : A) (xs : List A) → In x xs → test x ≡ true → In x (filter test xs)
 unfolding In

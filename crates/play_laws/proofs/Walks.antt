@@ -20,12 +20,12 @@ use Rattle.journal_history.specs.declared.record.Record.TheVariants.{Call, Late,
 use Rattle.journal_history.specs.declared.record.Told.{Told}
 use Rattle.mesh.specs.Makers.{heard_of}
 use Rattle.run_safety.specs.Sized.{Sized}
-use Rattle.run_safety.proofs.WriterRange.{heard_sized, begun_sized, call_within}
+use Rattle.run_safety.proofs.WriterRange.{heard_sized, begun_sized, new_sized, call_within}
 use Rattle.play_model.specs.Lines.{Action, Does, DoDrop, DoMute, DoLate, Submits, Trims, DoTail, Saves, Reloads}
 use Rattle.play_names.specs.Holding.{Holding, Work, Free, Tails, Logs, Broken, min_to_keep, enters}
 use Rattle.play_names.specs.Tails.{TailEnd, Caught, Reached, PurgedFrom, BehindBy, TailStep, GoesOn, Ends, Breaks, pass_begun, tail_hears}
 use Rattle.play_names.specs.Submissions.{Submission, submit_edits, nothing_submitted}
-use Rattle.play_model.specs.Actor.{Actor, Want, call_wanted, work_read, read_first, copy_first, say_first, wants, is_wanting, is_broken, tail_ended}
+use Rattle.play_model.specs.Actor.{Actor, fresh_actor, Want, call_wanted, work_read, read_first, copy_first, say_first, wants, is_wanting, is_broken, tail_ended}
 use Rattle.play_model.specs.Actor.{tail_stepped, task_begun, make_copy, begin_sync, after_sync, logged_when, trim_at, unless_active, begin_save}
 use Rattle.play_model.specs.Actor.{begin_reload, take_named_action, take_action, while_wanting, settle, logs_done, task_done, held_turn, turn_with}
 use Rattle.play_model.specs.Actor.{turn_taken, after_judgment, heard_in_work, heard_by, moved_on, settle_again, goes_on, Fits}
@@ -107,7 +107,7 @@ module _ (P : WriterView → Type 0) (closed : Closed P) where
   action_writer Saves a p = held_writer Saves a.holds a p
   action_writer Reloads a p = held_writer Reloads a.holds a p
 
-  pub settled_writer : (ds : List Action) (a : Actor) → P a.writer → P (settle ds a).writer
+  settled_writer : (ds : List Action) (a : Actor) → P a.writer → P (settle ds a).writer
   unfolding settle
   settled_writer [] a p = p
   settled_writer (d ∷ ds) a p = by (is_wanting (wants a) || is_broken a) (settled_writer ds (take_action d a) (action_writer d a p))
@@ -227,3 +227,7 @@ goes_writer n rs a r b f =
     let x : Actor = record a { past = a.past ++ r ∷ [] } in
     settled_writer (Both n (rs ++ r ∷ [])) (both_closed n (rs ++ r ∷ [])) (moved_on r x).todo (moved_on r x)
     (moved_writer n rs x r b (subst (λ (w : Want). Fits w r) (sym (same_wants a (a.past ++ r ∷ []))) f))
+
+pub fresh_both : (named : Bool) (n : ℕ) (ds : List Action) → Both n [] (settle ds (fresh_actor named n)).writer
+unfolding fresh_actor
+fresh_both named n ds = unfold fresh_actor in settled_writer (Both n []) (both_closed n []) ds (fresh_actor named n) (record { oks = tt; sized = new_sized n })

@@ -1,4 +1,4 @@
--- A worked play with names: it is the script's, so it is safe.
+-- A worked play with names: it is the script's, so it is safe and keeps what is claimed of names.
 use Rattle.std.proofs.Common.{◌≡◌, [], ◌∷◌, true, refl, arith}
 use Rattle.std.specs.Fmt.{digits}
 use Rattle.edit_ops.specs.Reading.{field_at}
@@ -28,7 +28,7 @@ use Rattle.play_model.specs.Actor.{fresh_actor, call_wanted, read_first, copy_fi
 use Rattle.play_model.specs.Actor.{tail_ended, tail_stepped, task_begun, make_copy, logged_when, trim_at, take_named_action, take_action, settle}
 use Rattle.play_model.specs.Actor.{hand_action, logs_done, task_done, held_turn, turn_with, turn_taken, heard_by, moved_on, settle_again, goes_on}
 use Rattle.play_model.specs.Plays.{play_begins, actor_at, node_asked, note_record, same_kind, is_marked, delivery, told_of, call_made, copy_made}
-use Rattle.play_model.specs.Plays.{meet_want, is_done, line_taken, next_line, take_turn, play_step, play_steps, no_lines, has_ended, IsPlay, ends_of}
+use Rattle.play_model.specs.Plays.{meet_want, is_done, line_taken, next_line, take_turn, play_step, play_steps, no_lines, has_ended, IsPlay, mesh_of, ends_of}
 use Rattle.play_model.specs.Told.{results_in}
 use Rattle.play_laws.specs.PlayExamples.{results_at}
 use Rattle.play_laws.specs.NamesExamples.{played_named, last_at, left}
@@ -40,7 +40,9 @@ use Rattle.ns_edits.specs.Examples.{plain}
 use Rattle.journal_history.specs.Moving.{moving_of}
 use Rattle.play_model.specs.Safe.{IsSafeWithEnds}
 use Rattle.play_laws.specs.Examples.{tailed_lines}
+use Rattle.play_laws.specs.Keeps.{KeepsNames}
 use Rattle.play_laws.proofs.NamedPlays.{plays_are_safe}
+use Rattle.play_laws.proofs.NamesKept.{plays_keep}
 
 is_edit : IsEdit (plain (Mkdir (codes "/u") 10 493 (codes "u") (codes "g")))
 is_edit = record { fields = ((omega arith, refl), (omega arith, (omega arith, ((omega arith, refl), ((omega arith, refl), tt))))); call = tt }
@@ -75,3 +77,6 @@ end = refl
 
 pub safe : IsSafeWithEnds 1 (moving_of (played_named 40 1 tailed_lines).trace) (ends_of (played_named 40 1 tailed_lines))
 safe = (plays_are_safe 1 tailed_lines (played_named 40 1 tailed_lines) (omega arith) playable play).0
+
+pub keeps : KeepsNames (mesh_of (played_named 40 1 tailed_lines)) (moving_of (played_named 40 1 tailed_lines).trace)
+keeps = plays_keep 1 tailed_lines (played_named 40 1 tailed_lines) (omega arith) playable play

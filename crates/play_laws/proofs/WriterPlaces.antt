@@ -4,6 +4,7 @@
 use Rattle.std.proofs.Common.{◌≡◌, ℕ, ◌+◌, ◌-◌, List, [], ◌∷◌, ◌++◌, Bool, true, false, cond, refl, sym, ap, subst, arith, length, take}
 use Rattle.std.specs.Prelude.{Option, Some, None, ◌&&◌, nat_lt}
 use Rattle.std.specs.List.{list_any}
+use Rattle.std.proofs.lemmas.Bool.{and_parts}
 use Rattle.journal_core.specs.Views.{BatchView}
 use Rattle.journal_core.specs.Limits.{max_number}
 use Rattle.journal_core.specs.declared.reply.Reply.TheVariants as reply
@@ -49,8 +50,8 @@ module _ (L : ℕ → List ℕ → Type 0) where
 
   -- what an outcome leaves; a log was of these bodies
   abbrev pub OutcomePlace : ℕ → List (List ℕ) → Outcome → WriterView → Type 0
-  OutcomePlace p bodies (outcome.Takeover epoch first) w = (w.phase ≡ phase.Writing) × (w.start ≡ first) × (w.next ≡ first + 1) × L first (24 ∷ [])
-  OutcomePlace p bodies (outcome.Log first last) w = (w.phase ≡ phase.Writing) × (w.next ≡ last + 1) × (last ≡ p + length bodies) × AllOn L p bodies
+  OutcomePlace p bodies (outcome.Takeover epoch first) w = (w.phase ≡ phase.Writing) × (w.start ≡ first) × (w.next ≡ first + 1) × L first (24 ∷ []) × (w.epoch ≡ epoch)
+  OutcomePlace p bodies (outcome.Log first last) w = (w.phase ≡ phase.Writing) × (w.next ≡ last + 1) × (last ≡ p + length bodies) × AllOn L p bodies × (first ≡ p + 1)
   OutcomePlace p bodies (outcome.Roll start) w = (w.phase ≡ phase.Writing) × (w.next ≡ start + 1) × (start ≡ p + 2) × L (p + 1) (23 ∷ []) × L (p + 2) (24 ∷ [])
   OutcomePlace p bodies (outcome.Close last) w = (w.phase ≡ phase.Idle) × (last ≡ p + 1) × L (p + 1) (23 ∷ [])
   OutcomePlace p bodies outcome.Purge w = (w.phase ≡ phase.Writing) × (w.next ≡ p + 1)
@@ -82,7 +83,8 @@ module _ (L : ℕ → List ℕ → Type 0) where
   -- of the answer that ends a round
   abbrev pub HearsAt : Phase → WriterView → ℕ → Heard → Type 0
   HearsAt (phase.InRound r) w node heard =
-      list_any is_waiting (with_answer w node heard).slots ≡ false → has_majority r (with_answer w node heard).slots ≡ true → DoneOn r w
+      list_any is_waiting (with_answer w node heard).slots ≡ false → numbers_fit (with_answer w node heard) r ≡ true
+      → has_majority r (with_answer w node heard).slots ≡ true → DoneOn r w
   HearsAt _ w node heard = Unit {0}
 
   -- ## A round that was done
@@ -112,13 +114,13 @@ module _ (L : ℕ → List ℕ → Type 0) where
   done_place p bodies aim.Takeover (round.Finalize start end) w e s l pl d = by_aim p bodies aim.Takeover w (λ x. after_finalize x end (next_serial w)) e (tt, tt)
   done_place p bodies aim.Takeover round.Start w e s l pl d = (tt, tt)
   done_place p bodies aim.Takeover round.Open w e s l pl d =
-      by_aim p bodies aim.Takeover w (λ x. after_open x (record (next_serial w) { committed = w.start; next = w.start + 1; left = left_out_after round.Open w.slots })) e (refl, refl, refl, d)
+      by_aim p bodies aim.Takeover w (λ x. after_open x (record (next_serial w) { committed = w.start; next = w.start + 1; left = left_out_after round.Open w.slots })) e (refl, refl, refl, d, refl)
   done_place p bodies aim.Log (round.Write b) w e s l pl d =
       let last : ℕ = w.next + length b - 1 in
       let same : length b ≡ length bodies = ap (λ (z : List (List ℕ)). length z) l in
       let at : last ≡ p + length bodies = omega (arith, pl, same) in
       by_aim p bodies aim.Log w (λ x. after_write x w.next last (record (next_serial w) { committed = last; next = last + 1; left = left_out_after (round.Write b) w.slots })) e
-      (refl, refl, at, subst (λ (z : List (List ℕ)). AllOn L p z) l (d p pl))
+      (refl, refl, at, subst (λ (z : List (List ℕ)). AllOn L p z) l (d p pl), pl)
   done_place p bodies aim.Roll (round.Write b) w e s l pl d =
       let last : ℕ = w.next + length b - 1 in
       let one : length b ≡ 1 = ap (λ (z : List (List ℕ)). length z) pl.0 in
@@ -164,10 +166,6 @@ module _ (L : ℕ → List ℕ → Type 0) where
       causes_done _ w h = tt
   judged_place p bodies a false r w e s l pl d = refl
 
-  and_right : (b c : Bool) → (b && c) ≡ true → c ≡ true
-  and_right true c e = e
-  and_right false c e = absurd (cc e)
-
   -- an answer in a slot leaves the round where it stands
   other_slots : (p : ℕ) (a : Aim) (r : Round) (w : WriterView) (node : ℕ) (heard : Heard) → RoundPlace p a r w → RoundPlace p a r (with_answer w node heard)
   other_slots p aim.Takeover r w node heard h = tt
@@ -197,7 +195,7 @@ module _ (L : ℕ → List ℕ → Type 0) where
   round_place p bodies a false r w node heard is e same s l pl d =
       let v : WriterView = with_answer w node heard in
       judged_place p bodies a (numbers_fit v r && has_majority r v.slots) r v e s l (other_slots p a r w node heard pl)
-      (λ t. other_done r w node heard (d is (and_right (numbers_fit v r) (has_majority r v.slots) t)))
+      (λ t. let both : (numbers_fit v r ≡ true) × (has_majority r v.slots ≡ true) = and_parts (numbers_fit v r) (has_majority r v.slots) t in other_done r w node heard (d is both.0 both.1))
 
   -- ## A piece that was fetched: a takeover goes on, or is aborted
   pieced_place : (p : ℕ) (bodies : List (List ℕ)) (b : Bool) (node start end : ℕ) (more : List (List ℕ)) (w : WriterView)
@@ -262,3 +260,18 @@ module _ (L : ℕ → List ℕ → Type 0) where
       by phase.Idle same i l pl d = absurd i
       by phase.Writing same i l pl d = absurd i
       by phase.Stopped same i l pl d = absurd i
+
+-- ## Two lists of entries: what stands on the one stands on the other
+module _ (L K : ℕ → List ℕ → Type 0) (more : (t : ℕ) (x : List ℕ) → L t x → K t x) where
+  all_more : (t : ℕ) (bodies : List (List ℕ)) → AllOn L t bodies → AllOn K t bodies
+  all_more t [] a = tt
+  all_more t (x ∷ xs) a = (more (t + 1) x a.0, all_more (t + 1) xs a.1)
+
+  done_more : (r : Round) (w : WriterView) → DoneOn L r w → DoneOn K r w
+  done_more (round.Write bodies) w d = λ p at. all_more p bodies (d p at)
+  done_more round.Open w d = more w.start (24 ∷ []) d
+  done_more _ w d = tt
+
+  pub hears_more : (x : Phase) (w : WriterView) (node : ℕ) (heard : Heard) → HearsAt L x w node heard → HearsAt K x w node heard
+  hears_more (phase.InRound r) w node heard h = λ none small maj. done_more r w (h none small maj)
+  hears_more _ w node heard h = tt

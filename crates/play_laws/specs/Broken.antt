@@ -1,9 +1,11 @@
--- Meshes that do not agree: each breaks one part of the agreement.
-use Rattle.std.specs.Prelude.{List, [], ◌∷◌, None}
+-- Meshes that do not agree: each breaks one part of the agreement; and one whose results tell of no
+-- edit.
+use Rattle.std.specs.Prelude.{List, [], ◌∷◌, None, codes}
 use Rattle.journal_core.specs.declared.request.Request.TheVariants as request
 use Rattle.journal_core.specs.declared.reply.Reply.TheVariants as reply
 use Rattle.journal_history.specs.declared.mark.MarkKind.TheVariants as kind
 use Rattle.journal_history.specs.declared.record.Record.{Record}
+use Rattle.journal_history.specs.declared.record.Record.TheVariants.{Outcome}
 use Rattle.mesh.specs.declared.whole.Mesh.{Mesh}
 use Rattle.mesh.specs.Marks.{mark}
 use Rattle.play_laws.specs.FirstRun.{Exchange, exchange, asking, proposing, starting, opening, first_edit, second_edit, listed_by_node, called, first_history, first_mesh}
@@ -46,3 +48,7 @@ undropped = record (one_node (asking ∷ []) (called 1 asking ∷ [])) { plan = 
 -- The operator asks what only actors ask.
 unfoldable pub asking_operator : Mesh
 asking_operator = record { nodes = 1; histories = listed_by_node (asking ∷ []) ∷ []; records = (called 1 asking ∷ []) ∷ []; plan = [] }
+
+-- The writer says that an edit is acknowledged, and logged none.
+unfoldable pub only_said : Mesh
+only_said = one_node (asking ∷ []) (called 1 asking ∷ Outcome (codes "acked 5") ∷ [])

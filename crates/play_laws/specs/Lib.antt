@@ -4,5 +4,7 @@ pub mod FirstRun
 pub mod Broken
 pub mod Orders
 pub mod Linear
+pub mod Keeps
+pub mod Acked
 pub mod Laws
 pub mod Examples

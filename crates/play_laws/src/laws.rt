@@ -1,7 +1,7 @@
 //! What holds of every mesh that follows a script with names, in any linear order of its moving
-//! entries.
+//! entries; and of the actors of every script.
 ghost use Rattle.play_laws.specs.Linear.{ReadsAreOnLine, ActorsHoldReplays, LogsAreAdmitted, LineReplays, NoneBreaks, LineCallsApart};
-ghost use Rattle.play_laws.specs.Laws.{EpochOrderIsLinear, PlayIsLinear, NamesAreSafe, EpochOrderIsSafe, PlaysAreSafe};
+ghost use Rattle.play_laws.specs.Laws.{EpochOrderIsLinear, PlayIsLinear, NamesAreSafe, EpochOrderIsSafe, PlaysAreSafe, NamesAreKept, EditsHaveOneResult, ResultsTellAcknowledged};
 
 /// The epoch order of every mesh that agrees is linear, and so is the order in which the entries of
 /// a play came.
@@ -55,4 +55,21 @@ pub fn line_calls_apart()
 /// order of the epochs.
 pub fn plays_are_safe()
     ensures { PlaysAreSafe }
+{}
+
+/// What an actor logs is admitted, nobody meets a bad entry, images are those of the line, the line
+/// replays, and two of its entries with one call are far apart: in the epoch order of every mesh
+/// that agrees.
+pub fn names_are_kept()
+    ensures { NamesAreKept }
+{}
+
+/// Each edit of a log line has one result line, with names or without.
+pub fn edits_have_one_result()
+    ensures { EditsHaveOneResult }
+{}
+
+/// What a result line claims is acknowledged, and so stands on the line.
+pub fn results_tell_acknowledged()
+    ensures { ResultsTellAcknowledged }
 {}

@@ -1,11 +1,14 @@
 //! Worked plays, computed by the check.
-ghost use Rattle.std.specs.Prelude.{◌≡◌, ◌∷◌, [], codes, true, take};
+ghost use Rattle.std.specs.Prelude.{◌≡◌, ◌∷◌, [], List, codes, reverse, true, take};
+ghost use Rattle.journal_history.specs.Entries.{Entry};
+ghost use Rattle.run_safety.specs.Safe.{IsAcknowledged};
 ghost use Rattle.play_model.specs.Plays.{has_ended, mesh_of, ends_of};
 ghost use Rattle.play_laws.specs.FirstRun.{first_play, first_mesh, first_ends, first_entries};
 ghost use Rattle.journal_history.specs.Moving.{moving_of};
 ghost use Rattle.mesh.specs.Order.{epoch_order};
 ghost use Rattle.mesh.specs.Agree.{Agrees};
-ghost use Rattle.play_laws.specs.Broken.{lost_line, doubled_line, swapped_lines, made_up, undropped, asking_operator, wrong_epoch};
+ghost use Rattle.play_laws.specs.Broken.{lost_line, doubled_line, swapped_lines, made_up, undropped, asking_operator, wrong_epoch, only_said};
+ghost use Rattle.play_laws.specs.Acked.{TellsAcknowledged};
 ghost use Rattle.play_laws.specs.Orders.{losing_proposal, came_about, by_promise};
 ghost use Rattle.play_laws.specs.PlayExamples.{played, results_at, listed, dropped_call, killed_nodes, competing_takeovers, fenced_writer, fencing_lines, recovered_edit, recovering_lines, lost_fetch, second_fetch_lines, late_copies, late_lines, rolled_and_purged, purging_lines, stopped_in_prepare, stopping_lines, cut_in_accept, cut_lines};
 
@@ -96,6 +99,12 @@ pub fn shows_first_order()
     ensures { epoch_order first_mesh ≡ first_entries }
 {}
 
+/// The first edit of that run is acknowledged in it, as its result says.
+pub fn shows_first_acknowledged()
+    ensures says { results_at first_play 0 ≡ codes "takeover 1 1" ∷ codes "acked 2" ∷ codes "acked 3" ∷ codes "acked 4" ∷ [] }
+    ensures acknowledged { IsAcknowledged 3 (reverse first_entries) 1 2 (10 ∷ []) }
+{}
+
 /// Entries in the order in which they came about, and by promises.
 pub fn shows_epoch_order()
     ensures script { moving_of (played 3 losing_proposal).trace ≡ came_about }
@@ -111,4 +120,10 @@ pub fn refuses_broken_meshes()
     ensures undropped { Agrees undropped → ⊥ }
     ensures asking_operator { Agrees asking_operator → ⊥ }
     ensures wrong_epoch { Agrees wrong_epoch → ⊥ }
+{}
+
+/// A result that claims an edit which nobody logged: in no order of entries does it tell what is
+/// acknowledged.
+pub fn refuses_claims_alone()
+    ensures { (entries : List Entry) → TellsAcknowledged only_said entries → ⊥ }
 {}

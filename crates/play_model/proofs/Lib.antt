@@ -23,7 +23,6 @@ pub mod EachResult
 pub mod Dues
 pub mod NamedResults
 pub mod FaultlessLaws
-pub mod NeverBroken
 pub mod ScriptLaws
 pub mod PlayableActions
 pub mod LinesLeft

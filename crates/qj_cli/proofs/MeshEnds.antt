@@ -1,11 +1,10 @@
 -- What a mesh that follows a script is to the laws on safety: its actors hold nothing, or it is one
 -- of a script with names.
-use Rattle.std.proofs.Common.{◌≡◌, ℕ, ◌<◌, Bool, List, [], ◌∷◌, false, length, sym, refl, subst, ◌∙◌, ap}
-use Rattle.std.proofs.lemmas.List.{length-map}
+use Rattle.std.proofs.Common.{ℕ, ◌<◌, List, [], ◌∷◌, false, refl, subst, ◌∙◌, ap}
 use Rattle.std.proofs.lemmas.Option.{slice_get_within}
 use Rattle.journal_history.specs.declared.record.Record.{Record}
 use Rattle.mesh.specs.declared.whole.Mesh.{Mesh}
-use Rattle.mesh.specs.Agree.{operator_of, record_of}
+use Rattle.mesh.specs.Agree.{record_of}
 use Rattle.ns_tree.specs.declared.end.End.{End}
 use Rattle.play_model.specs.Lines.{Line, ArePlayable, actions_of}
 use Rattle.play_model.specs.Actor.{Actor, fresh_actor, actor_after, last_of}
@@ -13,12 +12,8 @@ use Rattle.play_model.specs.Follows.{actor_with, FollowsLines}
 use Rattle.play_model.specs.Safe.{HoldNothing}
 use Rattle.play_model.proofs.Holds.{RawActor, raw_settled, raw_goes}
 use Rattle.play_model.proofs.Sound.{actions_raw}
-use Rattle.play_model.proofs.Final.{names_count}
 use Rattle.play_model.proofs.PlayableActions.{playable_actions}
-
--- one end for each actor
-ends_many : (named : Bool) (nodes : ℕ) (lines : List Line) (m : Mesh) (ends : List End) → FollowsLines named nodes lines m ends → length ends ≡ operator_of m
-ends_many named nodes lines m ends f = sym (length-map ends (λ (e : End). e.name)) ∙ ap length f.names ∙ names_count lines ∙ sym f.actors_are
+use Rattle.play_laws.proofs.NamedPlays.{ends_many}
 
 raw_after : (rs : List Record) (a : Actor) → RawActor a → RawActor (actor_after a rs)
 unfolding actor_after

@@ -14,7 +14,7 @@ use Rattle.play_model.specs.Plays.{Play, Plays, mesh_of, ends_of, IsPlayed}
 use Rattle.play_model.specs.Laws.{PlaysAgree, PlaysFollow, MeshesAreSafe, OnePlay}
 use Rattle.play_model.specs.Safe.{IsSafeWithEnds}
 use Rattle.play_model.specs.Follows.{FollowsLines, FollowsScript}
-use Rattle.play_laws.specs.Laws.{EpochOrderIsSafe}
+use Rattle.play_laws.specs.Laws.{EpochOrderIsSafe, NamesAreKept, EditsHaveOneResult, ResultsTellAcknowledged}
 use Rattle.play_laws.proofs.NamedPlays.{is_named}
 use Rattle.play_report.specs.Text.{text_of}
 use Rattle.play_report.specs.Summary.{summary_text}
@@ -32,23 +32,36 @@ mesh_safe true nodes lines m ends some can agrees follows safe names =
 mesh_safe false nodes lines m ends some can agrees follows safe names =
     subst (λ n. IsSafeWithEnds n (epoch_order m) ends) follows.nodes_are (safe m ends agrees (meshes_hold_nothing nodes lines m ends can follows))
 
-pub sound : (s : ScriptView) (m : Mesh) (ends : List End) → IsPlayable s → Agrees m → FollowsScript s m ends → OrderIsRun → MeshesAreSafe → EpochOrderIsSafe → AreSound s m ends
-sound s m ends playable agrees follows run safe names = record {
+-- what the laws say of such lists
+pub record Laws : Type 0 where
+  pub run : OrderIsRun
+  pub safe : MeshesAreSafe
+  pub named_safe : EpochOrderIsSafe
+  pub results : EditsHaveOneResult
+  pub told : ResultsTellAcknowledged
+  pub names : NamesAreKept
+
+pub sound : (s : ScriptView) (m : Mesh) (ends : List End) → IsPlayable s → Agrees m → FollowsScript s m ends → Laws → AreSound s m ends
+sound s m ends playable agrees follows laws = record {
   agrees = agrees;
   follows = follows;
-  run = subst (λ n. IsRun n (epoch_order m)) follows.nodes_are (run m agrees);
-  safe = mesh_safe s.named s.nodes (lines_of s) m ends playable.nodes playable.lines agrees follows safe names;
+  run = subst (λ n. IsRun n (epoch_order m)) follows.nodes_are (laws.run m agrees);
+  safe = mesh_safe s.named s.nodes (lines_of s) m ends playable.nodes playable.lines agrees follows laws.safe laws.named_safe;
+  results = laws.results s m ends playable agrees follows;
+  told = laws.told s m ends playable agrees follows;
+  names = λ e. laws.names m (lines_of s) ends agrees
+      (is_named s.nodes (lines_of s) m ends playable.nodes (subst (λ (b : Bool). ArePlayable b s.nodes 0 (lines_of s)) e playable.lines)
+      (subst (λ (b : Bool). FollowsLines b s.nodes (lines_of s) m ends) e follows));
 }
 
-pub comes : (s : ScriptView) (m : Mesh) (ends : List End) → IsPlayable s → IsPlayed s.named s.nodes (lines_of s) m ends → PlaysAgree → PlaysFollow → OrderIsRun → MeshesAreSafe → EpochOrderIsSafe
-    → ComeOf s m ends
-comes s m ends playable played agree follow run safe names =
+pub comes : (s : ScriptView) (m : Mesh) (ends : List End) → IsPlayable s → IsPlayed s.named s.nodes (lines_of s) m ends → PlaysAgree → PlaysFollow → Laws → ComeOf s m ends
+comes s m ends playable played agree follow laws =
     let p : Play = played.play in
     record {
       play = p;
       sound = record {
         plays = played.plays;
-        lists = sound s (mesh_of p) (ends_of p) playable (agree s p playable played.plays) (follow s p playable played.plays) run safe names;
+        lists = sound s (mesh_of p) (ends_of p) playable (agree s p playable played.plays) (follow s p playable played.plays) laws;
       };
       mesh = played.mesh;
       ends_are = played.ends_are;

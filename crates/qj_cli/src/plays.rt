@@ -11,7 +11,9 @@ use ns_tree::LastSpace;
 use play_actor::ScriptActor;
 use play_calls::Seats;
 use play_gates::Pass;
-use play_laws::epoch_order_is_safe;
+use play_laws::{
+    edits_have_one_result, epoch_order_is_safe, names_are_kept, results_tell_acknowledged,
+};
 use play_model::{
     Played, a_mesh_that_agrees_is_safe, a_play_agrees, a_play_follows, scripts_are_playable,
 };
@@ -51,6 +53,9 @@ pub fn play_soundly(
     epoch_order_is_a_run();
     a_mesh_that_agrees_is_safe();
     epoch_order_is_safe();
+    edits_have_one_result();
+    results_tell_acknowledged();
+    names_are_kept();
     let nodes = fresh_nodes(alloc, script.nodes())?;
     let played = play_on::<ScriptActor, _>(alloc, nodes, script)?;
     Ok(played)
@@ -71,6 +76,9 @@ pub fn run_soundly<R: Threads + Wait + Sync, G: Pass + Sync>(
     epoch_order_is_a_run();
     a_mesh_that_agrees_is_safe();
     epoch_order_is_safe();
+    edits_have_one_result();
+    results_tell_acknowledged();
+    names_are_kept();
     let nodes = fresh_nodes(alloc, script.nodes())?;
     let played = run_on::<ScriptActors, _, _, _>(rt, alloc, nodes, script, pass)?;
     Ok(played)

@@ -4,4 +4,11 @@ use Rattle.qj_cli.proofs.plays.play_soundly.Goals as goal
 pub returns : goal.returns
 returns c =
     comes c.args.script.now c.in_ok-played.played.mesh c.in_ok-played.played.ends (c.scripts_are_playable.ensures.lines c.args.script.now c.requires) c.in_ok-played.ensures.played
-    c.a_play_agrees.ensures.script c.a_play_follows.ensures.script c.epoch_order_is_a_run.ensures c.a_mesh_that_agrees_is_safe.ensures c.epoch_order_is_safe.ensures
+    c.a_play_agrees.ensures.script c.a_play_follows.ensures.script (record {
+      run = c.epoch_order_is_a_run.ensures;
+      safe = c.a_mesh_that_agrees_is_safe.ensures;
+      named_safe = c.epoch_order_is_safe.ensures;
+      results = c.edits_have_one_result.ensures;
+      told = c.results_tell_acknowledged.ensures;
+      names = c.names_are_kept.ensures;
+    })

@@ -4,5 +4,11 @@ use Rattle.qj_cli.proofs.plays.run_soundly.Goals as goal
 pub returns : goal.returns
 returns g c =
     sound c.args.script.now c.in_ok-played.played.mesh c.in_ok-played.played.ends (c.scripts_are_playable.ensures.lines c.args.script.now c.requires)
-    c.in_ok-played.ensures.run.agrees c.in_ok-played.ensures.run.follows
-    c.epoch_order_is_a_run.ensures c.a_mesh_that_agrees_is_safe.ensures c.epoch_order_is_safe.ensures
+    c.in_ok-played.ensures.run.agrees c.in_ok-played.ensures.run.follows (record {
+      run = c.epoch_order_is_a_run.ensures;
+      safe = c.a_mesh_that_agrees_is_safe.ensures;
+      named_safe = c.epoch_order_is_safe.ensures;
+      results = c.edits_have_one_result.ensures;
+      told = c.results_tell_acknowledged.ensures;
+      names = c.names_are_kept.ensures;
+    })
