@@ -1,5 +1,5 @@
 -- The effects of a request, done at a node that is up.
-use Rattle.std.proofs.Common.{ℕ, ◌≡◌, ◌↔◌, ◌≤◌, ◌++◌, ◌==◌, Bool, true, false, cond, List, [], take, Option, Some, None, refl, sym, ap, subst, ◌∙◌, arith}
+use Rattle.std.proofs.Common.{ℕ, ◌≡◌, ◌↔◌, ◌≤◌, ◌++◌, ◌==◌, Bool, true, false, cond, List, [], take, length, Option, Some, None, refl, sym, ap, subst, ◌∙◌, arith}
 use Rattle.base_disk.specs.Files.{Files}
 use Rattle.base_disk.specs.View.{View, LeavesOnly}
 use Rattle.std.proofs.lemmas.Bool.Decides.{nat_tests}
@@ -18,11 +18,15 @@ use Rattle.disk_segment.specs.Rows.{RowsRise}
 use Rattle.disk_segment.specs.declared.segment_row.SegmentRow.{SegmentRow}
 use Rattle.disk_files.specs.declared.node_number.NodeNumber.TheVariants.{Promised, Writer, Committed}
 use Rattle.disk_files.specs.Durable.{HaveNumbers, HoldsState}
+use Rattle.disk_effects.specs.declared.plan.RequestPlan.{RequestPlan}
 use Rattle.disk_effects.specs.Told.{Tells, state_with}
+use Rattle.disk_effects.specs.Decided.{effects_in}
 use Rattle.disk_node.specs.FileState.{without_segments}
 use Rattle.disk_effects.specs.Due.{AreDue}
 use Rattle.disk_node.specs.Held.{IsHeld, OpenedAt, StandsStopped}
-use Rattle.disk_node.specs.Done.{effects_by, CanDoAll, EndOpen, AppendWithin, append_start, LeftStopped}
+use Rattle.disk_node.specs.declared.readying.Ready.{Ready}
+use Rattle.disk_node.specs.Done.{effects_by, CanDoAll, EndOpen, AppendWithin, append_start, LeftStopped, HasRoom}
+use Rattle.disk_node.specs.Clauses.{AreEachDue, IsPlanned}
 use Rattle.disk_files.specs.Durable.{AreFilled}
 use Rattle.disk_node.proofs.Filled.{stopped_filled}
 use Rattle.disk_node.specs.Node.{BringsEdits, IsUp, IsDown, HasState, IsNode, IsStoppedIn, settled, state_behind}
@@ -266,13 +270,21 @@ once_same false v m rows s r is down = once_down m r is ∙ sym (once_down s r (
 pub once_up : (v : View) (m : NodeState) (rows : List SegmentRow) (s : NodeState) (r : Request) → IsUp v m rows s → refused_at_once m r ≡ refused_at_once s r
 once_up v m rows s r up = ap (λ (x : NodeState). refused_at_once x r) up.held.memory ∙ once_apart s r
 
-module _ (v : View) (m : NodeState) (rows : List SegmentRow) (s : NodeState) (r : Request) (ds : List DurableEffect) (up : IsUp v m rows s) (none : refused_at_once m r ≡ None)
-    (effects : (gs : List Segment) → Tells gs rows → effects_by r ds ≡ effects_of (state_with m gs) r) (due : (gs : List Segment) → Tells gs rows → AreDue gs rows r ds) where
-  pub once_of : refused_at_once s r ≡ None
-  once_of = sym (ap (λ (x : NodeState). refused_at_once x r) up.held.memory ∙ once_apart s r) ∙ none
+-- what is planned, said of the effects as they are given
+module _ {m : NodeState} {rows : List SegmentRow} {r : Request} {plan : RequestPlan} {ready : Ready} (p : IsPlanned m rows r plan ready)
+    {ds : List DurableEffect} (given : ds ≡ effects_in plan.effects) where
+  pub due_of : AreEachDue rows r ds
+  due_of gs told = subst (λ (es : List DurableEffect). AreDue gs rows r es) (sym given) (p.due gs told)
 
-  pub are_of : effects_by r ds ≡ effects_of s r
-  are_of = effects s.segments up.held.told ∙ ap (λ (x : NodeState). effects_of (state_with x s.segments) r) up.held.memory
+  pub room_of : (gs : List Segment) → Tells gs rows → HasRoom ds (length rows) ready.room
+  room_of gs told = subst (λ (es : List DurableEffect). HasRoom es (length rows) ready.room) (sym given) (p.room gs told)
 
-  pub can_of : CanDoAll v m rows s r ds
-  can_of = can_all v m rows s r ds up (due s.segments up.held.told) are_of once_of
+  module _ {v : View} {s : NodeState} (up : IsUp v m rows s) where
+    pub once_of : refused_at_once s r ≡ None
+    once_of = sym (ap (λ (x : NodeState). refused_at_once x r) up.held.memory ∙ once_apart s r) ∙ p.at_once
+
+    pub are_of : effects_by r ds ≡ effects_of s r
+    are_of = ap (λ (es : List DurableEffect). effects_by r es) given ∙ p.effects s.segments up.held.told ∙ ap (λ (x : NodeState). effects_of (state_with x s.segments) r) up.held.memory
+
+    pub can_of : CanDoAll v m rows s r ds
+    can_of = can_all v m rows s r ds up (due_of s.segments up.held.told) are_of once_of

@@ -42,7 +42,7 @@ use Rattle.disk_node.proofs.DoingEffect.{stands_now}
 use Rattle.disk_node.proofs.DoingRows.{tells_covers}
 use Rattle.disk_node.proofs.DoneCosts.{costs_kept}
 use Rattle.disk_node.proofs.Filled.{stopped_filled}
-use Rattle.disk_node.proofs.ActingDone.{stopped_in, up_of, has_down, can_of, node_stopped}
+use Rattle.disk_node.proofs.ActingDone.{stopped_in, up_of, has_down, node_stopped}
 
 -- ## The costs of the effects are those of the segments
 cost_is : (cut : Cut) (gs : List Segment) (rows : List SegmentRow) (r : Request) (d : DurableEffect) → IsDue gs rows r d → effect_cost cut d ≡ cost_of cut gs (effect_of r d)
@@ -197,10 +197,9 @@ node_cut short v0 v2 m0 m1 m rows0 rows1 r calls cut node none is told done stop
     by (Err e) s ok err = err
 
 -- the disk that stops later holds what it held
-pub can_stopped : (a b : MemDisk) (m : NodeState) (rows : List SegmentRow) (s : NodeState) (r : Request) (ds : List DurableEffect) → IsSameBut a b
-    → IsUp (disk_view a) m rows s → refused_at_once m r ≡ None
-    → ((gs : List Segment) → Tells gs rows → effects_by r ds ≡ effects_of (state_with m gs) r) → ((gs : List Segment) → Tells gs rows → AreDue gs rows r ds) → CanDoAll (disk_view b) m rows s r ds
-can_stopped a b m rows s r ds same up none effects due = subst (λ (v : View). CanDoAll v m rows s r ds) (sym (view_same a b same)) (can_of (disk_view a) m rows s r ds up none effects due)
+pub can_stopped : {m : NodeState} {rows : List SegmentRow} {s : NodeState} {r : Request} {ds : List DurableEffect} (a b : MemDisk) → IsSameBut a b
+    → CanDoAll (disk_view a) m rows s r ds → CanDoAll (disk_view b) m rows s r ds
+can_stopped {m = m} {rows = rows} {s = s} {r = r} {ds = ds} a b same can = subst (λ (v : View). CanDoAll v m rows s r ds) (sym (view_same a b same)) can
 
 pub cut_down : (v : View) (m : NodeState) (rows : List SegmentRow) (s : NodeState) (r : Request) (calls done : ℕ) (cut : Cut) → m.up ≡ false
     → done ≡ effects_standing cut s r calls → IsDown v m rows (stopped s r (effects_standing cut s r calls))

@@ -1,11 +1,13 @@
 -- What the disk calls of each effect ask, and that they do it.
-use Rattle.std.proofs.Common.{inl, inr, ◌≡◌, ◌⊎◌, ℕ, ◌≤◌, ◌+◌, ◌^◌, ◌++◌, Bool, true, false, List, length, Option, Some, refl, sym, ap, subst, ◌∙◌, arith}
-use Rattle.std.specs.Prelude.{IsSome, Result, Ok, Err, OnOk, IsOk, IsErr, IsErrOf}
+use Rattle.std.proofs.Common.{inl, inr, ◌≡◌, ℕ, ◌≤◌, ◌+◌, ◌^◌, ◌++◌, Bool, true, false, List, length, Option, Some, refl, sym, ap, subst, ◌∙◌, arith}
+use Rattle.std.specs.Prelude.{IsSome, Result, Ok, Err, OnOk, IsErr, IsErrOf}
 use Rattle.std.proofs.lemmas.Option.{same_Some}
 use Rattle.std.proofs.lemmas.Result.{on_ok_weaker}
 use Rattle.base_disk.specs.View.{View, IsSound, IsStable}
+use Rattle.base_disk.specs.DiskCalls.{IsDiskCall}
 use Rattle.base_disk.specs.declared.disk.DiskFail.{DiskFail}
-use Rattle.base_disk.specs.declared.disk.DiskFail.TheVariants.{Failed}
+use Rattle.base_disk.specs.declared.disk.DiskFail.TheVariants.{Failed, OutOfMemory}
+use Rattle.base_disk.specs.declared.disk.DiskModel.{Ghosts}
 use Rattle.journal_core.specs.Views.{BatchView}
 use Rattle.journal_core.specs.declared.cut.Cut.{Cut}
 use Rattle.journal_core.specs.declared.cut.Cut.TheVariants as cuts
@@ -36,7 +38,7 @@ use Rattle.disk_files.proofs.HoldsLaws.{progress_there, final_there, accepted_th
 use Rattle.disk_effects.specs.Told.{Tells}
 use Rattle.disk_node.specs.FileState.{without_segments}
 use Rattle.disk_effects.specs.Due.{batch_of, effect_of, IsAppendDue, IsFinalizeDue, IsRemoveDue}
-use Rattle.disk_node.specs.Doing.{storing, CanDo, DoesEffect}
+use Rattle.disk_node.specs.Doing.{placeless, storing, CanDo, DoesEffect}
 use Rattle.journal_step.specs.declared.durable_effect.DurableEffect.{DurableEffect}
 use Rattle.journal_step.specs.declared.durable_effect.DurableEffect.TheVariants as durable
 use Rattle.disk_node.proofs.DoingRows.{row_of, row_within}
@@ -216,41 +218,65 @@ module _ {T : Type 0} (s : NodeState) (r : Request) (result : Result T DiskFail)
         cut = subst (λ (x : Bool). IsCutAt (λ _. name_cost x) s (after_effect s (Remove info.start)) l0 result v1) told cut;
       }
 
--- ## Where the table is noted
-module _ (s : NodeState) (r : Request) (d : DurableEffect) (v0 v1 : View) (l0 l1 : Option ℕ) where
-  never_ok : (x : Result (Unit {0}) DiskFail) (P : Type 0) → IsErr x → OnOk x P
-  never_ok (Ok y) P err = absurd (cc)
-  never_ok (Err e) P err = tt
+-- ## How the calls answer
+module _ {T U : Type 0} (calls : Result T DiskFail) (result : Result U DiskFail) where
+  never_ok : (P : Type 0) → IsErr result → OnOk result P
+  never_ok P err = by result err
+    where
+      by : (x : Result U DiskFail) → IsErr x → OnOk x P
+      by (Ok y) err = absurd (cc)
+      by (Err e) err = tt
 
-  -- the calls failed, and so does the effect
-  pub does_failed : {T : Type 0} (calls : Result T DiskFail) (result : Result (Unit {0}) DiskFail) → IsErr result
-      → (IsErrOf result Failed → IsErrOf calls Failed) → DoesEffect s r d calls v0 v1 l0 l1 → DoesEffect s r d result v0 v1 l0 l1
-  does_failed calls result err passes does = record {
-    effect = record { any_moment = does.effect.any_moment; done = never_ok result (HoldsState v1 (after_effect s (effect_of r d))) err };
-    others = does.others;
-    appends = never_ok result _ err;
-    counts = λ cut. record { stops = λ k is few. err; counts = λ k is. (λ failed. ((does.counts cut).counts k is).0 (passes failed), never_ok result (l1 ≡ Some k) err) };
-    cut = record { stands = λ k is failed cut c chosen. does.cut.stands k is (passes failed) cut c chosen };
-  }
+  module _ {s : NodeState} {r : Request} {d : DurableEffect} {v0 v1 : View} {l0 l1 : Option ℕ} (does : DoesEffect s r d calls v0 v1 l0 l1) where
+    -- the calls failed, and so does the effect
+    pub does_failed : IsErr result → (IsErrOf result Failed → IsErrOf calls Failed) → DoesEffect s r d result v0 v1 l0 l1
+    does_failed err passes = record {
+      effect = record { any_moment = does.effect.any_moment; done = never_ok (HoldsState v1 (after_effect s (effect_of r d))) err };
+      others = does.others;
+      appends = never_ok _ err;
+      counts = λ cut. record { stops = λ k is few. err; counts = λ k is. (λ failed. ((does.counts cut).counts k is).0 (passes failed), never_ok (l1 ≡ Some k) err) };
+      cut = record { stands = λ k is failed cut c chosen. does.cut.stands k is (passes failed) cut c chosen };
+    }
 
-  ok_or_err : {T : Type 0} (x : Result T DiskFail) → IsOk x → IsErr x → ⊥
-  ok_or_err (Ok y) ok err = absurd (cc)
-  ok_or_err (Err e) ok err = absurd (cc)
+-- what is counted of calls that are done doesn't count what they tell
+pub ok_counts : {T U : Type 0} {few : ℕ} {l0 l1 : Option ℕ} {x : T} {y : U} → IsCounted few l0 l1 (Ok x) → IsCounted few l0 l1 (Ok y)
+ok_counts was = record { stops = λ k is few. absurd (cc (was.stops k is few)); counts = λ k is. (λ failed. absurd (cc failed), (was.counts k is).1) }
 
-  on_ok_of : {T : Type 0} (x : Result T DiskFail) (P : Type 0) → IsOk x → OnOk x P → P
-  on_ok_of (Ok y) P ok is = is
-  on_ok_of (Err e) P ok is = absurd (cc)
+-- calls that tell no place
+module _ {s : NodeState} {r : Request} {d : DurableEffect} {v0 v1 : View} {l0 l1 : Option ℕ} where
+  pub does_placeless : {done : Result (Unit {0}) DiskFail} {result : Result ℕ DiskFail} → result ≡ placeless done → DoesEffect s r d done v0 v1 l0 l1 → DoesEffect s r d result v0 v1 l0 l1
+  does_placeless {done = done} is does = subst (λ (x : Result ℕ DiskFail). DoesEffect s r d x v0 v1 l0 l1) (sym is) (by done does)
+    where
+      by : (x : Result (Unit {0}) DiskFail) → DoesEffect s r d x v0 v1 l0 l1 → DoesEffect s r d (placeless x) v0 v1 l0 l1
+      by (Err e) does = does_failed (Err e) (placeless (Err e)) does refl (λ failed. let p : e ≡ Failed = cc in ap (λ (f : DiskFail). Err f) p)
+      by (Ok y) does = record {
+        effect = record { any_moment = does.effect.any_moment; done = does.effect.done };
+        others = does.others;
+        appends = does.appends;
+        counts = λ cut. ok_counts (does.counts cut);
+        cut = record { stands = λ k is failed cut c chosen. absurd (cc failed) };
+      }
 
-  -- the calls were done, and the note in the table is or isn't
-  pub noted_after : {T : Type 0} (calls : Result T DiskFail) (result : Result (Unit {0}) DiskFail) → IsOk calls → (IsErrOf result Failed → ⊥)
-      → DoesEffect s r d calls v0 v1 l0 l1 → DoesEffect s r d result v0 v1 l0 l1
-  noted_after calls result ok fine does = record {
-    effect = record { any_moment = does.effect.any_moment; done = on_ok_always result (HoldsState v1 (after_effect s (effect_of r d))) (on_ok_of calls _ ok does.effect.done) };
-    others = does.others;
-    appends = on_ok_always result _ (on_ok_of calls _ ok does.appends);
-    counts = λ cut. record {
-      stops = λ k is few. absurd (ok_or_err calls ok ((does.counts cut).stops k is few));
-      counts = λ k is. (fine, on_ok_always result (l1 ≡ Some k) (on_ok_of calls (l1 ≡ Some k) ok ((does.counts cut).counts k is).1));
-    };
-    cut = record { stands = λ k is failed cut c chosen. absurd (fine failed) };
-  }
+pub call_placeless : {D : Type 0} (disk : Ghosts D) {old new : D} {done : Result (Unit {0}) DiskFail} {result : Result ℕ DiskFail}
+    → result ≡ placeless done → IsDiskCall disk old new done → IsDiskCall disk old new result
+call_placeless disk {old = old} {new = new} {done = done} is call = subst (λ (x : Result ℕ DiskFail). IsDiskCall disk old new x) (sym is) (by done call)
+  where
+    by : (x : Result (Unit {0}) DiskFail) → IsDiskCall disk old new x → IsDiskCall disk old new (placeless x)
+    by (Ok y) call = record {
+      tells = call.tells;
+      reads = call.reads;
+      cause = record { later = call.cause.later; failed = λ e. absurd (cc e); steady = call.cause.steady; no_fault = λ was e. absurd (cc e); same = call.cause.same };
+      shortage = record { later = call.shortage.later; short = λ e. absurd (cc e) };
+    }
+    by (Err fail) call = record {
+      tells = call.tells;
+      reads = call.reads;
+      cause = record {
+        later = call.cause.later;
+        failed = λ e. let p : fail ≡ Failed = cc in call.cause.failed (ap (λ (f : DiskFail). Err f) p);
+        steady = call.cause.steady;
+        no_fault = λ was e. let p : fail ≡ Failed = cc in call.cause.no_fault was (ap (λ (f : DiskFail). Err f) p);
+        same = call.cause.same;
+      };
+      shortage = record { later = call.shortage.later; short = λ e. let p : fail ≡ OutOfMemory = cc in call.shortage.short (ap (λ (f : DiskFail). Err f) p) };
+    }

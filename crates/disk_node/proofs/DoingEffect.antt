@@ -1,7 +1,7 @@
 -- What an effect that was done leaves: at the disk, in the table and in memory.
 use Rattle.std.proofs.Common.{inl, inr, ⊎_elim, ◌≡◌, ◌≢◌, ◌⊎◌, ℕ, ◌+◌, ◌++◌, true, false, List, [], length, Option, Some, None, refl, sym, ap, subst, ◌∙◌}
-use Rattle.std.specs.Prelude.{Result, Ok, Err, OnOk, OnErr, IsOk, IsErrOf}
-use Rattle.std.proofs.lemmas.Bool.{cases_eq}
+use Rattle.std.specs.Prelude.{Result, IsOk, IsErrOf}
+use Rattle.std.proofs.lemmas.Bool.{cases_eq, cond_both, cond-true, cond-false}
 use Rattle.std.proofs.lemmas.Option.{same_Some}
 use Rattle.base_disk.specs.View.{View, IsSound, LeavesOnly, AllLeave}
 use Rattle.base_disk.specs.declared.disk.DiskFail.{DiskFail}
@@ -24,14 +24,14 @@ use Rattle.disk_files.specs.Durable.{StandsAs, HoldsState}
 use Rattle.disk_files.specs.EffectCalls.{IsCutAt}
 use Rattle.disk_effects.specs.Told.{Tells, state_with}
 use Rattle.disk_node.specs.FileState.{Covers, without_segments}
-use Rattle.disk_effects.specs.Due.{batch_of, effect_of, IsDue, IsAppendDue, begun_row, appended_row, final_row, changed, rows_after}
+use Rattle.disk_effects.specs.Due.{batch_of, effect_of, puts_row, IsDue, IsAppendDue, begun_row, appended_row, final_row, changed, rows_after}
 use Rattle.disk_node.specs.Held.{IsHeld, AppendsTo, OpenedAt, MayLeave, numbers_after, Opens, Spares}
 use Rattle.disk_node.specs.Doing.{place_after, CanDo, Passes, AppendsAfter, DoesEffect, NotedAtFault}
 use Rattle.journal_step.specs.declared.durable_effect.DurableEffect.{DurableEffect}
 use Rattle.journal_step.specs.declared.durable_effect.DurableEffect.TheVariants as durable
 use Rattle.disk_effects.proofs.ToldLaws.{start_told}
 use Rattle.disk_effects.proofs.ApplyLaws.{after_told}
-use Rattle.disk_node.proofs.DoingRows.{find_put_same, find_put_other, find_remove_other, row_of, tells_covers, IsNotedAfter, IsNotedBefore, covers_after, covers_before, sound_after}
+use Rattle.disk_node.proofs.DoingRows.{find_put_same, find_put_other, find_remove_other, row_of, tells_covers, IsNotedAfter, IsNotedBefore, no_place, covers_after, covers_before, sound_after}
 
 -- ## What a crash leaves
 pub stands_now : (v : View) (s : NodeState) → HoldsState v s → AllLeave v (λ c. StandsAs c s)
@@ -44,56 +44,34 @@ left_either rows s t v0 v1 sound1 leaves sound soundt covers coverst c now =
     ⊎_elim (λ was. inl record { stands = was; sound = sound; covers = covers }) (λ is. inr record { stands = is; sound = soundt; covers = coverst })
     (leaves.each c (sound1.counts_now v0.moment c leaves.later now))
 
-module _ (v0 : View) (rows : List SegmentRow) (s : NodeState) (r : Request) (d : DurableEffect) (can : CanDo v0 (without_segments s) rows s r d) where
+module _ {v0 : View} {rows : List SegmentRow} {s : NodeState} {r : Request} {d : DurableEffect} (can : CanDo v0 (without_segments s) rows s r d) where
   sound_then : AreSound (segments_after s.segments (effect_of r d))
   sound_then = sound_after r d s.segments rows can.held.sound can.due
 
   tells_then : (new : List SegmentRow) → new ≡ rows_after r d (place_after r d) rows → Tells (segments_after s.segments (effect_of r d)) new
   tells_then new is = subst (λ (xs : List SegmentRow). Tells (segments_after s.segments (effect_of r d)) xs) (sym is) (after_told r d (place_after r d) s.segments rows can.held.told can.due)
 
-  -- the table couldn't be noted before the calls
-  pub left_not_begun : (new : List SegmentRow) → new ≡ rows → AllLeave v0 (MayLeave new s (after_effect s (effect_of r d)))
-  left_not_begun new same c now = inl record {
-    stands = stands_now v0 s can.held.files c now;
-    sound = can.held.sound;
-    covers = subst (λ (xs : List SegmentRow). Covers xs s.segments) (sym same) (tells_covers s.segments rows can.held.told);
-  }
-
-  module _ (v1 : View) (sound1 : IsSound v1) (leaves : LeavesOnly v0 v1 (λ c. StandsAs c s ⊎ StandsAs c (after_effect s (effect_of r d)))) (new : List SegmentRow) where
-    -- the table was noted before the calls
-    pub left_before : IsNotedBefore d → new ≡ rows_after r d (place_after r d) rows → AllLeave v1 (MayLeave new s (after_effect s (effect_of r d)))
-    left_before before is = left_either new s (after_effect s (effect_of r d)) v0 v1 sound1 leaves can.held.sound sound_then
+  -- what is left, by how the calls of the effect went
+  module _ {T : Type 0} {v1 : View} (sound1 : IsSound v1) {l0 l1 : Option ℕ} {calls : Result T DiskFail} (does : DoesEffect s r d calls v0 v1 l0 l1) {new : List SegmentRow} where
+    -- the table was noted before them
+    pub done_before : IsNotedBefore d → new ≡ rows_after r d (place_after r d) rows → AllLeave v1 (MayLeave new s (after_effect s (effect_of r d)))
+    done_before before is = left_either new s (after_effect s (effect_of r d)) v0 v1 sound1 does.effect.any_moment can.held.sound sound_then
         (subst (λ (xs : List SegmentRow). Covers xs s.segments) (sym is) (covers_before r d (place_after r d) s.segments rows before can.held.told can.due))
         (tells_covers (segments_after s.segments (effect_of r d)) new (tells_then new is))
 
-    -- the calls were not done, or not noted
-    pub left_after : IsNotedAfter d → new ≡ rows → AllLeave v1 (MayLeave new s (after_effect s (effect_of r d)))
-    left_after behind same = left_either new s (after_effect s (effect_of r d)) v0 v1 sound1 leaves can.held.sound sound_then
-        (subst (λ (xs : List SegmentRow). Covers xs s.segments) (sym same) (tells_covers s.segments rows can.held.told))
-        (subst (λ (xs : List SegmentRow). Covers xs (segments_after s.segments (effect_of r d))) (sym same) (covers_after r d s.segments rows behind can.held.told can.due))
-
-    -- the calls were done, and noted or not
-    pub left_noted : HoldsState v1 (after_effect s (effect_of r d)) → (result : Result (Unit {0}) DiskFail) → IsNotedAfter d
-        → OnOk result (new ≡ rows_after r d (place_after r d) rows) → OnErr result (new ≡ rows)
-        → AllLeave v1 (MayLeave new s (after_effect s (effect_of r d)))
-    left_noted holds (Ok x) behind is same = λ c now. inr record {
-      stands = stands_now v1 (after_effect s (effect_of r d)) holds c now;
+    -- they were done, and then the table was noted
+    pub done_after : IsOk calls → new ≡ rows_after r d (place_after r d) rows → AllLeave v1 (MayLeave new s (after_effect s (effect_of r d)))
+    done_after ok is = λ c now. inr record {
+      stands = stands_now v1 (after_effect s (effect_of r d)) (on_ok calls (HoldsState v1 (after_effect s (effect_of r d))) ok does.effect.done) c now;
       sound = sound_then;
       covers = tells_covers (segments_after s.segments (effect_of r d)) new (tells_then new is);
     }
-    left_noted holds (Err e) behind is same = left_after behind same
 
-  -- what is left, by how the calls of the effect went
-  module _ {T : Type 0} (v1 : View) (sound1 : IsSound v1) (l0 l1 : Option ℕ) (calls : Result T DiskFail) (does : DoesEffect s r d calls v0 v1 l0 l1) (new : List SegmentRow) where
-    pub done_before : IsNotedBefore d → new ≡ rows_after r d (place_after r d) rows → AllLeave v1 (MayLeave new s (after_effect s (effect_of r d)))
-    done_before before is = left_before v1 sound1 does.effect.any_moment new before is
-
-    pub done_after : IsNotedAfter d → IsOk calls → (result : Result (Unit {0}) DiskFail) → OnOk result (new ≡ rows_after r d (place_after r d) rows)
-        → OnErr result (new ≡ rows) → AllLeave v1 (MayLeave new s (after_effect s (effect_of r d)))
-    done_after behind ok result is same = left_noted v1 sound1 does.effect.any_moment new (on_ok calls (HoldsState v1 (after_effect s (effect_of r d))) ok does.effect.done) result behind is same
-
+    -- they failed, and the table wasn't noted
     pub failed_after : IsNotedAfter d → new ≡ rows → AllLeave v1 (MayLeave new s (after_effect s (effect_of r d)))
-    failed_after behind same = left_after v1 sound1 does.effect.any_moment new behind same
+    failed_after behind same = left_either new s (after_effect s (effect_of r d)) v0 v1 sound1 does.effect.any_moment can.held.sound sound_then
+        (subst (λ (xs : List SegmentRow). Covers xs s.segments) (sym same) (tells_covers s.segments rows can.held.told))
+        (subst (λ (xs : List SegmentRow). Covers xs (segments_after s.segments (effect_of r d))) (sym same) (covers_after r d s.segments rows behind can.held.told can.due))
 
 -- ## The table
 pub rows_then : (r : Request) (d : DurableEffect) (gs : List Segment) (rows new : List SegmentRow) → Tells gs rows → IsDue gs rows r d
@@ -119,17 +97,20 @@ covers_noted r d gs rows new before is t due = (
   subst (λ (xs : List SegmentRow). Covers xs (segments_after gs (effect_of r d))) (sym is) (tells_covers (segments_after gs (effect_of r d)) (rows_after r d 0 rows) (after_told r d 0 gs rows t due)),
 )
 
+-- what the table tells where the disk failed
+pub fault_before : (r : Request) (d : DurableEffect) (rows new : List SegmentRow) → IsNotedBefore d → new ≡ rows_after r d (place_after r d) rows → NotedAtFault r d rows new
+fault_before r d rows new before is =
+    is ∙ ap (λ (place : ℕ). rows_after r d place rows) (sym (no_place r d before)) ∙ sym (cond-true (puts_row d) (rows_after r d 0 rows) rows before)
+
+pub fault_after : (r : Request) (d : DurableEffect) (rows : List SegmentRow) → IsNotedAfter d → NotedAtFault r d rows rows
+fault_after r d rows behind = sym (cond-false (puts_row d) (rows_after r d 0 rows) rows behind)
+
 -- where the disk failed the table covers both
 pub covers_fault : (r : Request) (d : DurableEffect) (gs : List Segment) (rows new : List SegmentRow) → NotedAtFault r d rows new → Tells gs rows
     → IsDue gs rows r d → Covers new gs × Covers new (segments_after gs (effect_of r d))
-covers_fault r (durable.Promise epoch) gs rows new same t due = covers_same r (durable.Promise epoch) gs rows new tt same t due
-covers_fault r (durable.WriterEpoch epoch) gs rows new same t due = covers_same r (durable.WriterEpoch epoch) gs rows new tt same t due
-covers_fault r (durable.Commit txid) gs rows new same t due = covers_same r (durable.Commit txid) gs rows new tt same t due
-covers_fault r (durable.NewSegment start epoch) gs rows new is t due = covers_noted r (durable.NewSegment start epoch) gs rows new tt is t due
-covers_fault r (durable.Append start at) gs rows new same t due = covers_same r (durable.Append start at) gs rows new tt same t due
-covers_fault r (durable.Replace epoch again) gs rows new is t due = covers_noted r (durable.Replace epoch again) gs rows new tt is t due
-covers_fault r (durable.MakeFinal start end accepted) gs rows new same t due = covers_same r (durable.MakeFinal start end accepted) gs rows new tt same t due
-covers_fault r (durable.Remove info) gs rows new same t due = covers_same r (durable.Remove info) gs rows new tt same t due
+covers_fault r d gs rows new is t due =
+    cond_both (puts_row d) (rows_after r d 0 rows) rows (λ xs. new ≡ xs → Covers new gs × Covers new (segments_after gs (effect_of r d)))
+    (λ before same. covers_noted r d gs rows new before same t due) (λ behind same. covers_same r d gs rows new behind same t due) is
 
 pub cut_carried : {S T : Type 0} (cost : Cut → Cost) (s t : NodeState) (left : Option ℕ) (inner : Result S DiskFail) (outer : Result T DiskFail)
     (v : View) → (IsErrOf outer Failed → IsErrOf inner Failed) → IsCutAt cost s t left inner v → IsCutAt cost s t left outer v

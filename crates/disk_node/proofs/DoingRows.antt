@@ -1,6 +1,5 @@
 -- A table that covers segments, before an effect and after it.
 use Rattle.std.proofs.Common.{inl, inr, ◌≡◌, ◌≢◌, ◌≤◌, ℕ, ◌==◌, true, false, List, [], ◌∷◌, ◌++◌, Option, Some, None, refl, sym, ap, subst, ◌∙◌, arith, cond, nat_lt, length-append}
-use Rattle.std.specs.Prelude.{Result}
 use Rattle.std.proofs.lemmas.Bool.{cases_eq, cond_both, cond-true, cond-false, eq-eqb, eqb-true, ne_eqb}
 use Rattle.std.proofs.lemmas.Option.{same_Some}
 use Rattle.journal_core.specs.declared.segment.Segment.{Segment}
@@ -15,10 +14,9 @@ use Rattle.disk_segment.specs.Rows.{find_row, put_row, remove_row, IsRowWithin, 
 use Rattle.disk_effects.specs.Told.{Tells}
 use Rattle.disk_files.specs.declared.node_number.NodeNumber.{NodeNumber}
 use Rattle.disk_files.specs.declared.node_number.NodeNumber.TheVariants.{Promised, Writer, Committed}
-use Rattle.disk_files.proofs.OneCall.{on_ok_always}
 use Rattle.disk_node.specs.FileState.{Covers}
-use Rattle.disk_node.specs.Doing.{storing, IsNoted, NotedAtFault}
-use Rattle.disk_effects.specs.Due.{batch_of, effect_of, IsDue, IsAppendDue, begun_row, accepted_row, rows_after}
+use Rattle.disk_node.specs.Doing.{storing, place_after}
+use Rattle.disk_effects.specs.Due.{batch_of, effect_of, puts_row, IsDue, IsAppendDue, begun_row, accepted_row, rows_after}
 use Rattle.journal_step.specs.declared.durable_effect.DurableEffect.{DurableEffect}
 use Rattle.journal_step.specs.declared.durable_effect.DurableEffect.TheVariants as durable
 use Rattle.disk_effects.proofs.ToldLaws.{IsTold, found, end_told}
@@ -108,48 +106,30 @@ covers_remove gone rows gs covers = record {
   ];
 }
 
--- An effect that is noted after its calls: the table as it was covers what it leaves.
+-- An effect that may put no row is noted after its calls: the table as it was covers what it leaves.
 abbrev pub IsNotedAfter : DurableEffect → Type 0
-IsNotedAfter (durable.Promise epoch) = Unit {0}
-IsNotedAfter (durable.WriterEpoch epoch) = Unit {0}
-IsNotedAfter (durable.Commit txid) = Unit {0}
-IsNotedAfter (durable.NewSegment start epoch) = ⊥
-IsNotedAfter (durable.Append start at) = Unit {0}
-IsNotedAfter (durable.Replace epoch again) = ⊥
-IsNotedAfter (durable.MakeFinal start end accepted) = Unit {0}
-IsNotedAfter (durable.Remove info) = Unit {0}
+IsNotedAfter d = puts_row d ≡ false
 
--- one that is noted before them: the table with it covers what was
+-- one that may is noted before them: the table with it covers what was
 abbrev pub IsNotedBefore : DurableEffect → Type 0
-IsNotedBefore (durable.Promise epoch) = ⊥
-IsNotedBefore (durable.WriterEpoch epoch) = ⊥
-IsNotedBefore (durable.Commit txid) = ⊥
-IsNotedBefore (durable.NewSegment start epoch) = Unit {0}
-IsNotedBefore (durable.Append start at) = ⊥
-IsNotedBefore (durable.Replace epoch again) = Unit {0}
-IsNotedBefore (durable.MakeFinal start end accepted) = ⊥
-IsNotedBefore (durable.Remove info) = ⊥
+IsNotedBefore d = puts_row d ≡ true
+
+-- where frames end doesn't count for it
+pub no_place : (r : Request) (d : DurableEffect) → IsNotedBefore d → 0 ≡ place_after r d
+no_place r (durable.Promise epoch) before = refl
+no_place r (durable.WriterEpoch epoch) before = refl
+no_place r (durable.Commit txid) before = refl
+no_place r (durable.NewSegment start epoch) before = refl
+no_place r (durable.Append start at) before = absurd (cc before)
+no_place r (durable.Replace epoch again) before = refl
+no_place r (durable.MakeFinal start end accepted) before = refl
+no_place r (durable.Remove info) before = refl
 
 -- ## A number that is stored
 pub number_fits : (number : NodeNumber) (value : ℕ) (gs : List Segment) (rows : List SegmentRow) (r : Request) → IsDue gs rows r (storing number value) → value ≤ max_number
 number_fits Promised value gs rows r due = due
 number_fits Writer value gs rows r due = due
 number_fits Committed value gs rows r due = due
-
-pub number_noted : {T E : Type 0} (number : NodeNumber) (value : ℕ) (r : Request) (result : Result T E) (rows : List SegmentRow) → IsNoted r (storing number value) result rows rows
-number_noted Promised value r result rows = record { done = on_ok_always result (rows ≡ rows) refl; failed = inl refl }
-number_noted Writer value r result rows = record { done = on_ok_always result (rows ≡ rows) refl; failed = inl refl }
-number_noted Committed value r result rows = record { done = on_ok_always result (rows ≡ rows) refl; failed = inl refl }
-
-pub number_fault : (number : NodeNumber) (value : ℕ) (r : Request) (rows : List SegmentRow) → NotedAtFault r (storing number value) rows rows
-number_fault Promised value r rows = refl
-number_fault Writer value r rows = refl
-number_fault Committed value r rows = refl
-
-pub number_after : (number : NodeNumber) (value : ℕ) → IsNotedAfter (storing number value)
-number_after Promised value = tt
-number_after Writer value = tt
-number_after Committed value = tt
 
 -- ## The segments of which the table tells
 append_covers : (start at : ℕ) (r : Request) (gs : List Segment) (rows : List SegmentRow) → Tells gs rows → IsAppendDue start at (batch_of r) gs rows
@@ -172,22 +152,22 @@ pub covers_after : (r : Request) (d : DurableEffect) (gs : List Segment) (rows :
 covers_after r (durable.Promise epoch) gs rows behind t due = tells_covers gs rows t
 covers_after r (durable.WriterEpoch epoch) gs rows behind t due = tells_covers gs rows t
 covers_after r (durable.Commit txid) gs rows behind t due = tells_covers gs rows t
-covers_after r (durable.NewSegment start epoch) gs rows behind t due = absurd behind
+covers_after r (durable.NewSegment start epoch) gs rows behind t due = absurd (cc behind)
 covers_after r (durable.Append start at) gs rows behind t due = append_covers start at r gs rows t due
-covers_after r (durable.Replace epoch again) gs rows behind t due = absurd behind
+covers_after r (durable.Replace epoch again) gs rows behind t due = absurd (cc behind)
 covers_after r (durable.MakeFinal start end accepted) gs rows behind t due = finalize_covers start end gs rows due.segment t due.known
 covers_after r (durable.Remove info) gs rows behind t due = covers_remove info.start rows gs (tells_covers gs rows t)
 
 pub covers_before : (r : Request) (d : DurableEffect) (place : ℕ) (gs : List Segment) (rows : List SegmentRow) → IsNotedBefore d → Tells gs rows
     → IsDue gs rows r d → Covers (rows_after r d place rows) gs
-covers_before r (durable.Promise epoch) place gs rows before t due = absurd before
-covers_before r (durable.WriterEpoch epoch) place gs rows before t due = absurd before
-covers_before r (durable.Commit txid) place gs rows before t due = absurd before
+covers_before r (durable.Promise epoch) place gs rows before t due = absurd (cc before)
+covers_before r (durable.WriterEpoch epoch) place gs rows before t due = absurd (cc before)
+covers_before r (durable.Commit txid) place gs rows before t due = absurd (cc before)
 covers_before r (durable.NewSegment start epoch) place gs rows before t due = covers_put_row (begun_row start epoch) rows gs (tells_covers gs rows t) due.not_final
-covers_before r (durable.Append start at) place gs rows before t due = absurd before
+covers_before r (durable.Append start at) place gs rows before t due = absurd (cc before)
 covers_before r (durable.Replace epoch again) place gs rows before t due = covers_put_row (accepted_row epoch (batch_of r)) rows gs (tells_covers gs rows t) due.not_final
-covers_before r (durable.MakeFinal start end accepted) place gs rows before t due = absurd before
-covers_before r (durable.Remove info) place gs rows before t due = absurd before
+covers_before r (durable.MakeFinal start end accepted) place gs rows before t due = absurd (cc before)
+covers_before r (durable.Remove info) place gs rows before t due = absurd (cc before)
 
 -- ## Sound lists
 pub within_of : (start : ℕ) (gs : List Segment) (g : Segment) → AreWithin gs → find_segment start gs ≡ Some g → IsWithin g

@@ -128,8 +128,8 @@ calls_snoc f r [] d = omega arith
 calls_snoc f r (x ∷ done) d = omega (arith, calls_snoc f r done d)
 
 -- ## Before the first
-module _ (told : Type 0) (v0 : View) (sound0 : told → IsSound v0) (m0 : NodeState) (rows0 : List SegmentRow) (r : Request) (ds : List DurableEffect)
-    (f0 : ℕ) (was_steady : Type 0) (left0 : Option ℕ) where
+module _ {told : Type 0} {v0 : View} {m0 : NodeState} {rows0 : List SegmentRow} {r : Request} {ds : List DurableEffect} {f0 : ℕ} {was_steady : Type 0} {left0 : Option ℕ}
+    (sound0 : told → IsSound v0) where
   pub begun : (gs : List Segment) × Tells gs rows0 × AreDue gs rows0 r ds → IsUnderWay told told v0 v0 m0 m0 rows0 rows0 r ds [] ds f0 f0 was_steady was_steady left0 left0
   unfolding after_effects
   begun noted = record {
@@ -206,19 +206,13 @@ module _ (v0 v : View) (m : NodeState) (rows0 rows : List SegmentRow) (s : NodeS
       }
 
 -- ## The effects of a run
-module _ (told : Type 0) (v0 : View) (m0 : NodeState) (rows0 : List SegmentRow) (r : Request) (ds : List DurableEffect) (f0 : ℕ) (was_steady : Type 0) (left0 : Option ℕ)
-    (tells : Type 0) (v : View) (m : NodeState) (rows : List SegmentRow) (done : List DurableEffect) (d : DurableEffect) (later : List DurableEffect) (f : ℕ) (is_steady : Type 0) (left : Option ℕ)
+module _ {told tells : Type 0} {v0 v : View} {m0 m : NodeState} {rows0 rows : List SegmentRow} {r : Request} {ds done : List DurableEffect} {d : DurableEffect} {later : List DurableEffect}
+    {f0 f : ℕ} {was_steady is_steady : Type 0} {left0 left : Option ℕ}
     (way : IsUnderWay told tells v0 v m0 m rows0 rows r ds done (d ∷ later) f0 f was_steady is_steady left0 left)
-    (tells1 : Type 0) (v1 : View) (m1 : NodeState) (rows1 : List SegmentRow) (f1 : ℕ) (steady1 : Type 0) (left1 : Option ℕ) (result : Result (Unit {0}) DiskFail) (on : tells ↔ tells1)
+    {tells1 : Type 0} {v1 : View} {m1 : NodeState} {rows1 : List SegmentRow} {f1 : ℕ} {steady1 : Type 0} {left1 : Option ℕ} {result : Result (Unit {0}) DiskFail} (on : tells ↔ tells1)
     (effect : tells → (t : NodeState) → CanDo v m rows t r d → Does t (after_effect t (effect_of r d)) result v v1)
     (counts : tells → (t : NodeState) → CanDo v m rows t r d → (cut : Cut) → IsCounted (cost_of cut t.segments (effect_of r d)).calls left left1 result)
     (cause : HasCause f f1 is_steady steady1 result) where
-  so_now : (t : told) (s : NodeState) (can : CanDoAll v0 m0 rows0 s r ds) → SoFar v0 v m rows0 rows s r ds done (d ∷ later) can.open_ left0 left
-  so_now t s can = way.so_far t s can
-
-  pub tells_then : told ↔ tells1
-  tells_then = (λ t. on.0 (way.tells_on.0 t), λ t. way.tells_on.1 (on.1 t))
-
   pub next_way : IsOk result → rows1 ≡ rows_after r d (place_after r d) rows
       → ((gs : List Segment) → Tells gs rows → IsDue gs rows r d → Tells (segments_after gs (effect_of r d)) rows1)
       → m1 ≡ numbers_after m (effect_of r d)
@@ -227,7 +221,7 @@ module _ (told : Type 0) (v0 : View) (m0 : NodeState) (rows0 : List SegmentRow) 
       → IsUnderWay told tells1 v0 v1 m0 m1 rows0 rows1 r ds (done ++ d ∷ []) later f0 f1 was_steady steady1 left0 left1
   next_way ok is rows_told numbers held opened = record {
     all = way.all ∙ sym (append_assoc done (d ∷ []) later);
-    tells_on = tells_then;
+    tells_on = (λ t. on.0 (way.tells_on.0 t), λ t. way.tells_on.1 (on.1 t));
     noted = (
       segments_after way.noted.0 (effect_of r d),
       rows_told way.noted.0 way.noted.1 way.noted.2.0,
@@ -236,7 +230,7 @@ module _ (told : Type 0) (v0 : View) (m0 : NodeState) (rows0 : List SegmentRow) 
     memory = numbers ∙ ap (λ (x : NodeState). numbers_after x (effect_of r d)) way.memory
         ∙ ap (λ (x : NodeState). state_with x m0.segments) (behind_next m0 r done d (after_effects m0 (effects_by r done)) refl);
     so_far = λ t s can.
-        let so = so_now t s can in
+        let so = way.so_far t s can in
         let now = way.tells_on.0 t in
         let able = can_now v0 v m rows0 rows s r ds done d later can.open_ left0 left way.all so in
         one_more v0 v m rows0 rows s r ds done d later can.open_ left0 left way.all so result v1 (effect now so.state able) left1 (counts now so.state able) ok m1 rows1 is
@@ -247,8 +241,8 @@ module _ (told : Type 0) (v0 : View) (m0 : NodeState) (rows0 : List SegmentRow) 
   }
 
 -- ## The place of a loop
-module _ (told tells : Type 0) (v0 v : View) (m0 m : NodeState) (rows0 rows : List SegmentRow) (r : Request) (ds : List DurableEffect) (i : ℕ)
-    (d : DurableEffect) (f0 f : ℕ) (was_steady is_steady : Type 0) (left0 left : Option ℕ) (lt : i < length ds) where
+module _ {told tells : Type 0} {v0 v : View} {m0 m : NodeState} {rows0 rows : List SegmentRow} {r : Request} {ds : List DurableEffect} {i : ℕ}
+    {f0 f : ℕ} {was_steady is_steady : Type 0} {left0 left : Option ℕ} (d : DurableEffect) (lt : i < length ds) where
   pub way_here : IsUnderWay told tells v0 v m0 m rows0 rows r ds (take i ds) (drop i ds) f0 f was_steady is_steady left0 left
       → IsUnderWay told tells v0 v m0 m rows0 rows r ds (take i ds) (get_or ds i d ∷ drop (i + 1) ds) f0 f was_steady is_steady left0 left
   way_here way = subst (λ (xs : List DurableEffect). IsUnderWay told tells v0 v m0 m rows0 rows r ds (take i ds) xs f0 f was_steady is_steady left0 left) (drop_more ds i d lt) way

@@ -136,8 +136,8 @@ either_left c rows t u true soundt soundu covers stands = record { stands = stan
 either_left c rows t u false soundt soundu covers stands = record { stands = stands; sound = soundt; covers = covers.0 }
 
 -- ## At an effect that failed
-module _ (told : Type 0) (v0 : View) (m0 : NodeState) (rows0 : List SegmentRow) (r : Request) (ds : List DurableEffect) (f0 : ℕ) (was_steady : Type 0) (left0 : Option ℕ)
-    (tells : Type 0) (v : View) (m : NodeState) (rows : List SegmentRow) (done : List DurableEffect) (d : DurableEffect) (later : List DurableEffect) (f : ℕ) (is_steady : Type 0) (left : Option ℕ)
+module _ {told tells : Type 0} {v0 v : View} {m0 m : NodeState} {rows0 rows : List SegmentRow} {r : Request} {ds done : List DurableEffect} {d : DurableEffect} {later : List DurableEffect}
+    {f0 f : ℕ} {was_steady is_steady : Type 0} {left0 left : Option ℕ}
     (way : IsUnderWay told tells v0 v m0 m rows0 rows r ds done (d ∷ later) f0 f was_steady is_steady left0 left) where
   pub failed_rows : (rows1 : List SegmentRow) → ((gs : List Segment) → Tells gs rows → IsDue gs rows r d
       → Tells gs rows1 ⊎ Tells (segments_after gs (effect_of r d)) rows1) → (gs : List Segment) × Tells gs rows1
@@ -234,8 +234,8 @@ module _ (told : Type 0) (v0 : View) (m0 : NodeState) (rows0 : List SegmentRow) 
     }
 
 -- ## After the last
-module _ (told tells : Type 0) (v0 v : View) (m0 m : NodeState) (rows0 rows : List SegmentRow) (r : Request) (ds done later : List DurableEffect)
-    (f0 f : ℕ) (was_steady is_steady : Type 0) (left0 left : Option ℕ)
+module _ {told tells : Type 0} {v0 v : View} {m0 m : NodeState} {rows0 rows : List SegmentRow} {r : Request} {ds done later : List DurableEffect}
+    {f0 f : ℕ} {was_steady is_steady : Type 0} {left0 left : Option ℕ}
     (way : IsUnderWay told tells v0 v m0 m rows0 rows r ds done later f0 f was_steady is_steady left0 left) (none : later ≡ []) where
   done_all : done ≡ ds
   done_all = sym (append-nil done) ∙ ap (λ (xs : List DurableEffect). done ++ xs) (sym none) ∙ sym way.all

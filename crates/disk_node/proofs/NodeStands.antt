@@ -138,11 +138,11 @@ both P x y false true none on back some = absurd (back tt)
 both P x y false false none on back some = none
 
 -- what holds of the states that stand holds of those that are told
-pub told_both : (P : Option NodeState → Option NodeState → Type 0) → P None None → (A B : Type 0) (a b : Bool) → A ↔ T a → B ↔ T b → A ↔ B
-    → (v0 v1 : View) (m0 m1 : NodeState) (rows0 rows1 : List SegmentRow) → (A → v0.may_leave v0.seen) → (B → v1.may_leave v1.seen) → IsNode A v0 m0 rows0 → IsNode B v1 m1 rows1
+pub told_both : {A B : Type 0} (a b : Bool) {v0 v1 : View} {m0 m1 : NodeState} {rows0 rows1 : List SegmentRow} (P : Option NodeState → Option NodeState → Type 0)
+    → P None None → A ↔ T a → B ↔ T b → A ↔ B → IsNode A v0 m0 rows0 → IsNode B v1 m1 rows1 → (A → v0.may_leave v0.seen) → (B → v1.may_leave v1.seen)
     → (A → (s : NodeState) → HasState m0.up v0 m0 rows0 s → (t : NodeState) × HasState m1.up v1 m1 rows1 t × P (Some s) (Some t))
     → P (told_state a v0.seen m0 rows0) (told_state b v1.seen m1 rows1)
-told_both P none A B a b is_a is_b same v0 v1 m0 m1 rows0 rows1 now0 now1 node0 node1 step =
+told_both a b {v0 = v0} {v1 = v1} {m0 = m0} {m1 = m1} {rows0 = rows0} {rows1 = rows1} P none is_a is_b same node0 node1 now0 now1 step =
     both P (state_of v0.seen m0 rows0) (state_of v1.seen m1 rows1) a b none (λ t. is_b.0 (same.0 (is_a.1 t))) (λ t. is_a.0 (same.1 (is_b.1 t)))
     (λ t.
     let tells = is_a.1 t in

@@ -1,6 +1,6 @@
 -- A node that is up holds the newest edits of the cached segment, and reads no file where all that
 -- is asked is held.
-use Rattle.std.proofs.Common.{ℕ, ◌≡◌, ◌≢◌, ◌≤◌, ◌<◌, ◌+◌, true, false, List, [], length, Option, Some, None, refl, sym, ap, subst, ◌∙◌, arith}
+use Rattle.std.proofs.Common.{ℕ, ◌≡◌, ◌≢◌, ◌↔◌, ◌≤◌, ◌<◌, ◌+◌, true, false, List, [], length, Option, Some, None, refl, sym, ap, subst, ◌∙◌, arith}
 use Rattle.std.proofs.lemmas.Bool.Decides.{nat_tests}
 use Rattle.base_disk.specs.View.{View}
 use Rattle.base_disk.specs.Calls.{Rests}
@@ -10,16 +10,16 @@ use Rattle.journal_core.specs.declared.request.Request.{Request}
 use Rattle.journal_core.specs.declared.request.Request.TheVariants.{State, NewEpoch, Start, Journal, Finalize, Prepare, Fetch, Accept, Purge, Read, Manifest}
 use Rattle.journal_core.specs.Segments.{find_segment}
 use Rattle.journal_core.specs.Effects.{Effect, after_effects}
-use Rattle.journal_core.specs.Step.{row_refused, fetch_refused, fronted, effects_of}
+use Rattle.journal_core.specs.Step.{refused_at_once, row_refused, fetch_refused, fronted, effects_of}
 use Rattle.journal_core.proofs.SegmentLists.{find-start}
 use Rattle.disk_segment.specs.declared.segment_row.SegmentRow.{SegmentRow}
 use Rattle.journal_step.specs.declared.durable_effect.DurableEffect.{DurableEffect}
 use Rattle.disk_recent.specs.Recent.{Recent, IsRecent, AsksRecent, FitsRing, held_from, nothing}
 use Rattle.disk_recent.proofs.Reading.{is_held}
 use Rattle.disk_node.specs.Done.{effects_by}
-use Rattle.disk_node.specs.Node.{IsUp, IsNode, Recalls, state_behind}
+use Rattle.disk_node.specs.Node.{IsUp, IsNode, IsWhole, Recalls, state_behind}
 use Rattle.disk_node.proofs.NodeStands.{state_told, rows_start, rests_up}
-use Rattle.disk_node.proofs.ActingDone.{up_of, settled_segments}
+use Rattle.disk_node.proofs.ActingDone.{is_up, up_of, has_up, settled_segments}
 
 -- ## What is held
 -- a node that is up has one state
@@ -37,6 +37,22 @@ recalls_rests A v0 v1 m rows recent node told now rests recalls s up there =
     let was = node.stands told in
     let is : IsUp v0 m rows was.0 = up_of v0 m rows was.0 up was.1 in
     recalls_of v1 m rows recent was.0 now (λ u. rests_up v0 v1 rests m rows was.0 is) (recalls was.0 up is) s up there
+
+-- what holds of a node holds where no file changed
+pub whole_rests : (A B : Type 0) (v0 v1 : View) (m : NodeState) (rows : List SegmentRow) (recent : Recent) (r : Request) → refused_at_once m r ≡ None → A ↔ B
+    → (B → v1.may_leave v1.seen) → (A → Rests v0 v1) → IsWhole A v0 m rows recent → IsWhole B v1 m rows recent
+whole_rests A B v0 v1 m rows recent r none same now rests whole = record {
+  node = record {
+    told = whole.node.told;
+    known = whole.node.known;
+    stands = λ b.
+        let a = same.1 b in
+        let is = is_up m r none in
+        let s = whole.node.stands a in
+        (s.0, has_up v1 m rows s.0 is (rests_up v0 v1 (rests a) m rows s.0 (up_of v0 m rows s.0 is s.1)));
+  };
+  recalls = λ b. let a = same.1 b in recalls_rests A v0 v1 m rows recent whole.node a (now b) (rests a) (whole.recalls a);
+}
 
 -- the segments after a request are those after its effects
 pub after_recent : (recent : Recent) (s : NodeState) (r : Request) (ds : List DurableEffect) → effects_by r ds ≡ effects_of s r

@@ -1,5 +1,5 @@
 -- What the calls at a node over a disk ask and promise, in the words of their contracts.
-use Rattle.std.specs.Prelude.{ℕ, ◌≡◌, ◌⊎◌, List, Option, Result, IsErrOf}
+use Rattle.std.specs.Prelude.{ℕ, ◌≡◌, ◌⊎◌, List, [], length, Option, None, Result, IsErrOf}
 use Rattle.base_disk.specs.View.{LeavesOnly, AllLeave}
 use Rattle.base_disk.specs.declared.disk.DiskFail.{DiskFail}
 use Rattle.base_disk.specs.declared.disk.DiskFail.TheVariants.{Failed}
@@ -12,18 +12,24 @@ use Rattle.journal_core.specs.declared.reply.Reply.{Reply}
 use Rattle.journal_core.specs.declared.reply.Reply.TheVariants.{Refused}
 use Rattle.journal_core.specs.declared.request.Request.{Request}
 use Rattle.journal_core.specs.Effects.{after_effect, after_effects}
-use Rattle.journal_core.specs.Step.{fronted, row_refused, effects_of}
+use Rattle.journal_core.specs.Limits.{limit_of}
+use Rattle.journal_core.specs.Step.{fronted, refused_at_once, row_refused, effects_of}
 use Rattle.journal_core.specs.Answers.{Rose}
+use Rattle.disk_segment.specs.Rows.{AreSoundRows}
 use Rattle.disk_segment.specs.declared.segment_row.SegmentRow.{SegmentRow}
 use Rattle.disk_files.specs.Durable.{StandsAs}
 use Rattle.journal_step.specs.declared.durable_effect.DurableEffect.{DurableEffect}
 use Rattle.journal_step.specs.Durable.{effect_of, effects_by}
+use Rattle.disk_effects.specs.declared.plan.RequestPlan.{RequestPlan}
 use Rattle.disk_effects.specs.Told.{Tells, state_with}
+use Rattle.disk_effects.specs.Decided.{effects_in}
 use Rattle.disk_effects.specs.Due.{IsDue, AreDue}
 use Rattle.disk_recent.specs.Recent.{Recent, AsksRecent, cached_then}
 use Rattle.disk_node.specs.FileState.{without_segments}
 use Rattle.disk_node.specs.Held.{MayLeave, StandsStopped}
-use Rattle.disk_node.specs.Doing.{CanDo, DoesEffect, NotedAtFault}
+use Rattle.disk_node.specs.declared.readying.Ready.{Ready}
+use Rattle.disk_node.specs.Doing.{HasFrame, CanDo, DoesEffect, NotedAtFault}
+use Rattle.disk_node.specs.Done.{HasRoom}
 use Rattle.disk_node.specs.Node.{IsUp, IsNoFault, IsCaused, IsUnchanged}
 
 -- ## One effect
@@ -35,6 +41,18 @@ HasDue rows r d = (gs : List Segment) × Tells gs rows × IsDue gs rows r d
 abbrev pub CanBeDone : {D : Type 0} → Ghosts D → D → List SegmentRow → Request → DurableEffect → Type 0
 CanBeDone disk now rows r d = disk.tells now → (s : NodeState) × CanDo (disk.view now) (without_segments s) rows s r d
 
+-- it is due over the segments of which some table tells
+pub record IsDueSomewhere (r : Request) (d : DurableEffect) : Type 0 where
+  pub rows : List SegmentRow
+  pub segments : List Segment
+  pub sound : AreSoundRows rows
+  pub told : Tells segments rows
+  pub due : IsDue segments rows r d
+
+-- it can be done over some state and some table
+abbrev pub CanBeDoneAt : {D : Type 0} → Ghosts D → D → Request → DurableEffect → Type 0
+CanBeDoneAt disk now r d = disk.tells now → (rows : List SegmentRow) × (s : NodeState) × CanDo (disk.view now) (without_segments s) rows s r d
+
 -- what the table tells where the disk failed
 abbrev pub FaultIsNoted : {T : Type 0} → Request → DurableEffect → Result T DiskFail → List SegmentRow → List SegmentRow → Type 0
 FaultIsNoted r d result old new = IsErrOf result Failed → NotedAtFault r d old new
@@ -43,6 +61,10 @@ FaultIsNoted r d result old new = IsErrOf result Failed → NotedAtFault r d old
 abbrev pub DoesAt : {D T : Type 0} → Ghosts D → D → D → List SegmentRow → Request → DurableEffect → Result T DiskFail → Type 0
 DoesAt disk old new rows r d result =
     disk.tells old → (s : NodeState) → CanDo (disk.view old) (without_segments s) rows s r d → DoesEffect s r d result (disk.view old) (disk.view new) (disk.left old) (disk.left new)
+
+-- its disk calls do it, over each state and table over which it can be done
+abbrev pub DoesCalls : {D T : Type 0} → Ghosts D → D → D → Request → DurableEffect → Result T DiskFail → Type 0
+DoesCalls disk old new r d result = (rows : List SegmentRow) → DoesAt disk old new rows r d result
 
 -- a crash now leaves the state without it or with it
 abbrev pub LeavesEither : {D : Type 0} → Ghosts D → D → D → List SegmentRow → List SegmentRow → Request → DurableEffect → Type 0
@@ -61,6 +83,17 @@ AreEachDue rows r ds = (gs : List Segment) → Tells gs rows → AreDue gs rows 
 -- why it is refused after its front, if it is
 abbrev pub IsRefusal : NodeState → List SegmentRow → Request → Option Refusal → Type 0
 IsRefusal m rows r refusal = (gs : List Segment) → Tells gs rows → refusal ≡ row_refused (state_with (fronted m r) gs) r
+
+-- what is planned of a request that passes its front, with the memory that this wants
+pub record IsPlanned (m : NodeState) (rows : List SegmentRow) (r : Request) (plan : RequestPlan) (ready : Ready) : Type 0 where
+  pub at_once : refused_at_once m r ≡ None
+  pub limits : limit_of r ≡ None
+  pub front : plan.front ≡ state_with (fronted m r) []
+  pub refused : IsRefusal m rows r plan.refusal
+  pub effects : AreEffects m rows r (effects_in plan.effects)
+  pub due : AreEachDue rows r (effects_in plan.effects)
+  pub frame : HasFrame r ready.frame
+  pub room : (gs : List Segment) → Tells gs rows → HasRoom (effects_in plan.effects) (length rows) ready.room
 
 -- ## An answer, at a node that is up
 -- a crash at any moment leaves the state after the first effects, some number of them

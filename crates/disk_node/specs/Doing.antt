@@ -1,5 +1,5 @@
 -- One effect, done at a disk and noted in the table.
-use Rattle.std.specs.Prelude.{ℕ, ◌≡◌, ◌≢◌, ◌⊎◌, ◌+◌, ◌≤◌, List, ◌++◌, length, Option, Some, Result, OnOk}
+use Rattle.std.specs.Prelude.{ℕ, ◌≡◌, ◌≢◌, ◌⊎◌, ◌+◌, ◌≤◌, List, ◌++◌, length, Option, Some, Result, Ok, Err, OnOk, if◌then◌else◌}
 use Rattle.base_disk.specs.View.{View}
 use Rattle.base_disk.specs.declared.disk.DiskFail.{DiskFail}
 use Rattle.journal_core.specs.declared.cut.Cut.{Cut}
@@ -16,7 +16,7 @@ use Rattle.disk_segment.specs.declared.segment_row.SegmentRow.{SegmentRow}
 use Rattle.disk_files.specs.declared.node_number.NodeNumber.{NodeNumber}
 use Rattle.disk_files.specs.declared.node_number.NodeNumber.TheVariants.{Promised, Writer, Committed}
 use Rattle.disk_files.specs.EffectCalls.{Does, IsCutAt}
-use Rattle.disk_effects.specs.Due.{batch_of, effect_of, IsDue, rows_after}
+use Rattle.disk_effects.specs.Due.{batch_of, effect_of, puts_row, IsDue, rows_after}
 use Rattle.disk_node.specs.Held.{IsHeld, AppendsTo}
 use Rattle.journal_step.specs.declared.durable_effect.DurableEffect.{DurableEffect}
 use Rattle.journal_step.specs.declared.durable_effect.DurableEffect.TheVariants as durable
@@ -37,6 +37,11 @@ place_after r (durable.Append start at) = at + length (frame_bytes (batch_of r))
 place_after r (durable.Replace epoch again) = 0
 place_after r (durable.MakeFinal start end accepted) = 0
 place_after r (durable.Remove info) = 0
+
+-- calls that tell no place
+abbrev pub placeless : Result (Unit {0}) DiskFail → Result ℕ DiskFail
+placeless (Ok done) = Ok 0
+placeless (Err fail) = Err fail
 
 -- these bytes are the frame of the request's batch, where it has one
 abbrev pub HasFrame : Request → List ℕ → Type 0
@@ -95,14 +100,7 @@ pub record IsNoted {T E : Type 0} (r : Request) (d : DurableEffect) (result : Re
   pub done : OnOk result (new ≡ rows_after r d (place_after r d) old)
   pub failed : (new ≡ old) ⊎ (new ≡ rows_after r d (place_after r d) old)
 
--- What the table tells where the disk failed: an effect that is noted before its calls, and else
--- what was.
+-- What the table tells where the disk failed: an effect that may put a row is noted before its
+-- calls.
 abbrev pub NotedAtFault : Request → DurableEffect → List SegmentRow → List SegmentRow → Type 0
-NotedAtFault r (durable.Promise epoch) old new = new ≡ old
-NotedAtFault r (durable.WriterEpoch epoch) old new = new ≡ old
-NotedAtFault r (durable.Commit txid) old new = new ≡ old
-NotedAtFault r (durable.NewSegment start epoch) old new = new ≡ rows_after r (durable.NewSegment start epoch) 0 old
-NotedAtFault r (durable.Append start at) old new = new ≡ old
-NotedAtFault r (durable.Replace epoch again) old new = new ≡ rows_after r (durable.Replace epoch again) 0 old
-NotedAtFault r (durable.MakeFinal start end accepted) old new = new ≡ old
-NotedAtFault r (durable.Remove info) old new = new ≡ old
+NotedAtFault r d old new = new ≡ (if puts_row d then rows_after r d 0 old else old)

@@ -15,10 +15,11 @@ ghost use Rattle.disk_effects.specs.Told.{Tells, state_with, line_of};
 ghost use Rattle.disk_recent.specs.Recent.{AsksRecent, FitsRing, IsRecent, held_from};
 ghost use Rattle.disk_node.specs.Node.{IsNoFault};
 
+use crate::node_memory::NodeMemory;
 use base_disk::{Disk, DiskFail};
 use disk_effects::{line_at, not_served, serving_row};
 use disk_recent::RecentEdits;
-use disk_segment::{Given, SegmentTable, read_from};
+use disk_segment::{Given, read_from};
 use journal_core::{
     Batch, MAX_BATCH, MAX_NUMBER, NodeState, OutOfMemory, Refusal, Reply, Request, SegmentLine,
     ToldBatch,
@@ -83,32 +84,30 @@ fn edits_of<D: Disk>(
     }
 }
 
-/// The reply to a read: the served edits from a txid on. `memory` is the node's, and the table has
-/// the rows of its segments.
+/// The reply to a read: the served edits from a txid on, by the node's numbers after the front.
 pub(crate) fn read_served<D: Disk>(
     alloc: Global,
     disk: &mut D,
-    memory: &NodeState,
-    table: &SegmentTable,
-    recent: &RecentEdits,
+    front: &NodeState,
+    memory: &NodeMemory,
     from: u64,
 ) -> Result<Reply, DiskFail>
-    requires told { (gs : List Segment) × Tells gs table.now }
+    requires told { (gs : List Segment) × Tells gs memory.now.table }
 
     ensures call { IsDiskRun D.DiskModel disk.old disk.new result }
-    ensures reply { D.tells disk.old → (gs : List Segment) → IsReady (D.view disk.old) gs → AreSound gs → Tells gs table.now → IsRecent recent.now gs → IfOk result (λ reply. reply ≡ edits_from (state_with memory.now gs) from) }
+    ensures reply { D.tells disk.old → (gs : List Segment) → IsReady (D.view disk.old) gs → AreSound gs → Tells gs memory.now.table → IsRecent memory.now.recent gs → IfOk result (λ reply. reply ≡ edits_from (state_with front.now gs) from) }
     ensures fits { IfOk result (AreEdits from) }
     ensures own { IfOk result IsNoFault }
     ensures disk { IfTold D.DiskModel disk.old disk.new Rests }
-    ensures unread { (gs : List Segment) → Tells gs table.now → IsRecent recent.now gs → AsksRecent recent.now.start (state_with memory.now gs) (Request.Read from) → D.reads disk.new ≡ D.reads disk.old }
+    ensures unread { (gs : List Segment) → Tells gs memory.now.table → IsRecent memory.now.recent gs → AsksRecent memory.now.recent.start (state_with front.now gs) (Request.Read from) → D.reads disk.new ≡ D.reads disk.old }
     ensures shortages { D.shortages disk.old ≤ D.shortages disk.new }
 {
-    match serving_row(memory, table, from) {
+    match serving_row(front, &memory.table, from) {
         Some((line, count)) => {
             let most = count - (from - line.start);
-            edits_of(alloc, disk, recent, &line, from, most as usize)
+            edits_of(alloc, disk, &memory.recent, &line, from, most as usize)
         }
-        None => Ok(Reply::Refused(not_served(memory, table, from))),
+        None => Ok(Reply::Refused(not_served(front, &memory.table, from))),
     }
 }
 
@@ -116,24 +115,23 @@ pub(crate) fn read_served<D: Disk>(
 pub(crate) fn fetch<D: Disk>(
     alloc: Global,
     disk: &mut D,
-    table: &SegmentTable,
-    recent: &RecentEdits,
+    memory: &NodeMemory,
     start: u64,
     from: u64,
 ) -> Result<Reply, DiskFail>
-    requires told { (gs : List Segment) × Tells gs table.now }
-    requires refused { (gs : List Segment) → Tells gs table.now → fetch_refused from (find_segment start gs) ≡ None }
+    requires told { (gs : List Segment) × Tells gs memory.now.table }
+    requires refused { (gs : List Segment) → Tells gs memory.now.table → fetch_refused from (find_segment start gs) ≡ None }
 
     ensures call { IsDiskRun D.DiskModel disk.old disk.new result }
-    ensures reply { D.tells disk.old → (gs : List Segment) → IsReady (D.view disk.old) gs → AreSound gs → Tells gs table.now → IsRecent recent.now gs → IfOk result (λ reply. reply ≡ Reply.Edits (record { first = from; bodies = piece_of (find_segment start gs) from })) }
+    ensures reply { D.tells disk.old → (gs : List Segment) → IsReady (D.view disk.old) gs → AreSound gs → Tells gs memory.now.table → IsRecent memory.now.recent gs → IfOk result (λ reply. reply ≡ Reply.Edits (record { first = from; bodies = piece_of (find_segment start gs) from })) }
     ensures fits { IfOk result (AreEdits from) }
     ensures own { IfOk result IsNoFault }
     ensures disk { IfTold D.DiskModel disk.old disk.new Rests }
-    ensures unread { (gs : List Segment) → Tells gs table.now → IsRecent recent.now gs → ((g : Segment) → find_segment start gs ≡ Some g → FitsRing recent.now.start g from) → D.reads disk.new ≡ D.reads disk.old }
+    ensures unread { (gs : List Segment) → Tells gs memory.now.table → IsRecent memory.now.recent gs → ((g : Segment) → find_segment start gs ≡ Some g → FitsRing memory.now.recent.start g from) → D.reads disk.new ≡ D.reads disk.old }
     ensures shortages { D.shortages disk.old ≤ D.shortages disk.new }
 {
-    match line_at(table, start) {
-        Some(line) => edits_of(alloc, disk, recent, &line, from, MAX_BATCH),
+    match line_at(&memory.table, start) {
+        Some(line) => edits_of(alloc, disk, &memory.recent, &line, from, MAX_BATCH),
         None => Ok(Reply::Refused(Refusal::NoSegment)),
     }
 }

@@ -5,22 +5,20 @@ ghost use Rattle.base_disk.specs.Files.{IsSame};
 ghost use Rattle.base_disk.specs.View.{AllLeave};
 ghost use Rattle.base_disk.specs.MemDisk.{disk_view, faults_of, CannotFail, calls_left, is_listed_at};
 ghost use Rattle.journal_core.specs.declared.node_state.NodeState.{NodeState as AnyState};
-ghost use Rattle.journal_core.specs.Limits.{limit_of};
-ghost use Rattle.journal_core.specs.Step.{refused_at_once, stopped, crashed};
+ghost use Rattle.journal_core.specs.Step.{stopped, crashed};
 ghost use Rattle.journal_core.specs.Cuts.{standing, effects_standing, Cuts};
 ghost use Rattle.disk_segment.specs.Effects.{choice_of, IsLeft};
 ghost use Rattle.disk_segment.specs.Rows.{RowsRise};
-ghost use Rattle.disk_node.specs.Doing.{HasFrame};
-ghost use Rattle.disk_node.specs.Done.{HasRoom};
 ghost use Rattle.disk_node.specs.Node.{BringsEdits, IsUp, IsDown, HasState, IsNode, IsStoppedIn};
 ghost use Rattle.journal_step.specs.Durable.{effect_cost};
 ghost use Rattle.disk_node.specs.Cutting.{state_in, IsSameNodeBut};
-ghost use Rattle.disk_node.specs.Clauses.{AreEffects, AreEachDue};
+ghost use Rattle.disk_node.specs.Clauses.{IsPlanned};
 
 use crate::acting::{go_down, look_at};
 use crate::effects_done::do_effects;
 use crate::journal_node::JournalNode;
-use crate::readying::{Ready, ready_plan};
+use crate::node_memory::NodeMemory;
+use crate::readying::{Planned, ready_plan};
 use base_disk::{Choice, DiskFail, MemDisk};
 use disk_segment::SegmentTable;
 use journal_core::{Cut, NodeState, OutOfMemory, Request};
@@ -75,81 +73,75 @@ fn cut_short(done: Result<(), DiskFail>) -> Result<(), OutOfMemory>
 // Does the effects of a request until the disk stops after so many calls, and crashes.
 fn cut_effects(
     disk: &mut MemDisk,
-    memory: &mut NodeState,
-    table: &mut SegmentTable,
-    ready: &mut Ready,
+    memory: &mut NodeMemory,
     request: &Request,
-    effects: &[DurableEffect],
+    planned: Planned,
     calls: u64,
     cut: Cut,
 ) -> Result<(), OutOfMemory>
-    requires node { IsNode (Unit {0}) (disk_view disk.old) memory.old table.old }
+    requires node { IsNode (Unit {0}) (disk_view disk.old) memory.old.numbers memory.old.table }
     requires steady { CannotFail disk.old }
-    requires at_once { refused_at_once memory.old request.now ≡ None }
-    requires limits { limit_of request.now ≡ None }
     requires brings { BringsEdits request.now }
-    requires effects { AreEffects memory.old table.old request.now effects.now }
-    requires due { AreEachDue table.old request.now effects.now }
-    requires frame { HasFrame request.now ready.old.frame }
-    requires room { HasRoom effects.now (length table.old) ready.old.room }
+    requires planned { IsPlanned memory.old.numbers memory.old.table request.now planned.plan planned.ready }
 
-    ensures node { IsNode (Unit {0}) (disk_view disk.new) memory.new table.new }
-    ensures down { memory.new.up ≡ false }
-    ensures done { (s : AnyState) → IsUp (disk_view disk.old) memory.old table.old s
-        → OnOk result (IsDown (disk_view disk.new) memory.new table.new (stopped s request.now (effects_standing cut s request.now calls))) }
-    ensures stopped { (s : AnyState) → IsUp (disk_view disk.old) memory.old table.old s → OnErr result (IsStoppedIn (disk_view disk.new) memory.new table.new s request.now) }
+    ensures node { IsNode (Unit {0}) (disk_view disk.new) memory.new.numbers memory.new.table }
+    ensures down { memory.new.numbers.up ≡ false }
+    ensures done { (s : AnyState) → IsUp (disk_view disk.old) memory.old.numbers memory.old.table s
+        → OnOk result (IsDown (disk_view disk.new) memory.new.numbers memory.new.table (stopped s request.now (effects_standing cut s request.now calls))) }
+    ensures stopped { (s : AnyState) → IsUp (disk_view disk.old) memory.old.numbers memory.old.table s → OnErr result (IsStoppedIn (disk_view disk.new) memory.new.numbers memory.new.table s request.now) }
     ensures stable { AllLeave (disk_view disk.new) (IsSame (disk_view disk.new).seen) }
     ensures later { faults_of disk.old ≤ faults_of disk.new }
     ensures steady { CannotFail disk.new }
+    ensures recent { memory.new.recent ≡ memory.old.recent }
 {
+    let Planned { plan, mut ready } = planned;
+    let effects = plan.effects.as_slice();
     disk.stop_after(calls);
-    let done = do_effects(disk, memory, table, ready, request, effects);
-    crash_down(disk, memory, table, cut);
+    let done = do_effects(
+        disk,
+        &mut memory.numbers,
+        &mut memory.table,
+        &mut ready,
+        request,
+        effects,
+    );
+    crash_down(disk, &mut memory.numbers, &memory.table, cut);
     cut_short(done)
 }
 
-// The node of that disk, of which memory and the table are given, is cut in a request and is down;
-// answers how many of the request's effects stand. Lack of memory before the first disk call
+// The node of that disk, of which what it keeps in memory is given, is cut in a request and is
+// down; answers how many of the request's effects stand. Lack of memory before the first disk call
 // changes nothing.
 fn cut_in(
     alloc: Global,
     disk: &mut MemDisk,
-    memory: &mut NodeState,
-    table: &mut SegmentTable,
+    memory: &mut NodeMemory,
     request: &Request,
     calls: u64,
     cut: Cut,
 ) -> Result<u64, OutOfMemory>
-    requires node { IsNode (Unit {0}) (disk_view disk.old) memory.old table.old }
+    requires node { IsNode (Unit {0}) (disk_view disk.old) memory.old.numbers memory.old.table }
     requires steady { CannotFail disk.old }
-    requires up { memory.old.up ≡ true }
+    requires up { memory.old.numbers.up ≡ true }
 
-    ensures node { IsNode (Unit {0}) (disk_view disk.new) memory.new table.new }
-    ensures cut { (s : AnyState) → HasState memory.old.up (disk_view disk.old) memory.old table.old s
-        → (t : AnyState) × HasState memory.new.up (disk_view disk.new) memory.new table.new t × Cuts (Some s) request.now calls cut result (Some t) }
+    ensures node { IsNode (Unit {0}) (disk_view disk.new) memory.new.numbers memory.new.table }
+    ensures cut { (s : AnyState) → HasState memory.old.numbers.up (disk_view disk.old) memory.old.numbers memory.old.table s
+        → (t : AnyState) × HasState memory.new.numbers.up (disk_view disk.new) memory.new.numbers memory.new.table t × Cuts (Some s) request.now calls cut result (Some t) }
     ensures stable { OnOk result (AllLeave (disk_view disk.new) (IsSame (disk_view disk.new).seen)) }
     ensures later { faults_of disk.old ≤ faults_of disk.new }
     ensures steady { CannotFail disk.new }
+    ensures recent { memory.new.recent ≡ memory.old.recent }
 {
     look_at(request);
-    match memory.refused_at_once(request) {
+    match memory.numbers.refused_at_once(request) {
         Some(_) => {
-            crash_down(disk, memory, table, cut);
+            crash_down(disk, &mut memory.numbers, &memory.table, cut);
             Ok(0)
         }
-        None => match ready_plan(alloc, memory, table, request) {
-            Ok((plan, mut ready)) => {
-                let standing = count_standing(plan.effects.as_slice(), cut, calls);
-                match cut_effects(
-                    disk,
-                    memory,
-                    table,
-                    &mut ready,
-                    request,
-                    plan.effects.as_slice(),
-                    calls,
-                    cut,
-                ) {
+        None => match ready_plan(alloc, &memory.numbers, &memory.table, request) {
+            Ok(planned) => {
+                let standing = count_standing(planned.plan.effects.as_slice(), cut, calls);
+                match cut_effects(disk, memory, request, planned, calls, cut) {
                     Ok(()) => Ok(standing),
                     Err(_) => Err(AllocError),
                 }
@@ -198,15 +190,7 @@ impl JournalNode<MemDisk> {
         ensures later { faults_of self.old.disk ≤ faults_of self.new.disk }
         ensures steady { CannotFail self.new.disk }
     {
-        self.recent.clear();
-        cut_in(
-            alloc,
-            &mut self.disk,
-            &mut self.memory,
-            &mut self.table,
-            request,
-            calls,
-            cut,
-        )
+        self.memory.recent.clear();
+        cut_in(alloc, &mut self.disk, &mut self.memory, request, calls, cut)
     }
 }

@@ -11,289 +11,51 @@ ghost use Rattle.journal_core.specs.Cuts.{cost_of};
 ghost use Rattle.disk_segment.specs.Effects.{IsCounted};
 ghost use Rattle.disk_files.specs.EffectCalls.{Does, IsCutAt};
 ghost use Rattle.disk_effects.specs.Told.{Tells};
-ghost use Rattle.disk_effects.specs.Due.{batch_of, effect_of, puts_row, IsDue, IsInRange};
+ghost use Rattle.disk_effects.specs.Due.{effect_of, puts_row, rows_after, IsDue, IsInRange};
 ghost use Rattle.disk_node.specs.FileState.{Covers};
 ghost use Rattle.disk_node.specs.Held.{IsHeld, OpenedAt, MayLeave, numbers_after, Opens, Spares};
-ghost use Rattle.disk_node.specs.Doing.{storing, place_after, HasFrame, CanDo, IsNoted};
+ghost use Rattle.disk_node.specs.Doing.{place_after, HasFrame, CanDo, IsNoted};
 ghost use Rattle.disk_node.specs.Clauses.{HasDue, CanBeDone, FaultIsNoted, DoesAt, LeavesEither};
 
+use crate::calling::call_disk;
 use crate::readying::Ready;
 use base_disk::{Disk, DiskFail};
 use disk_effects::{apply, note};
-use disk_files::{
-    NodeNumber, accept_edits, append_edits, begin_segment, finalize_segment, put_number,
-    remove_segment,
-};
 use disk_segment::{RowRoom, SegmentTable};
-use journal_core::{Batch, NodeState, Request, SegmentInfo, SegmentLine};
-use journal_step::{DurableEffect, batch_in};
+use journal_core::{NodeState, Request};
+use journal_step::DurableEffect;
 
-// Notes an effect in the table.
+// Notes an effect in the table, in which there is room for it.
 fn note_row(
     table: &mut SegmentTable,
     room: &mut RowRoom,
     request: &Request,
     effect: DurableEffect,
     place: u64,
-) -> Result<(), DiskFail>
+)
     requires limits { limit_of request.now ≡ None }
     requires range { IsInRange request.now effect }
     requires place { place ≡ place_after request.now effect }
-    ensures noted { IsNoted request.now effect result table.old table.new }
-    ensures err { OnErr result (table.new ≡ table.old) }
-    ensures cause { IsErrOf result DiskFail.Failed → ⊥ }
-    ensures shortage { (puts_row effect ≡ true → length table.old < room.old) → IsErrOf result DiskFail.OutOfMemory → ⊥ }
+    requires room { puts_row effect ≡ true → length table.old < room.old }
+    ensures rows { table.new ≡ rows_after request.now effect (place_after request.now effect) table.old }
     ensures room { puts_row effect ≡ false → room.new ≡ room.old }
     ensures fewer { puts_row effect ≡ false → length table.new ≤ length table.old }
 {
-    apply(table, room, request, effect, place)?;
-    Ok(())
-}
-
-fn do_number<D: Disk>(
-    disk: &mut D,
-    table: &mut SegmentTable,
-    request: &Request,
-    number: NodeNumber,
-    value: u64,
-) -> Result<(), DiskFail>
-    requires limits { limit_of request.now ≡ None }
-    requires due { HasDue table.old request.now (storing number value) }
-    requires can { CanBeDone D.DiskModel disk.old table.old request.now (storing number value) }
-
-    ensures call { IsDiskCall D.DiskModel disk.old disk.new result }
-    ensures noted { IsNoted request.now (storing number value) result table.old table.new }
-    ensures fault { FaultIsNoted request.now (storing number value) result table.old table.new }
-    ensures does { DoesAt D.DiskModel disk.old disk.new table.old request.now (storing number value) result }
-    ensures left { LeavesEither D.DiskModel disk.old disk.new table.old table.new request.now (storing number value) }
-    ensures fewer { length table.new ≤ length table.old }
-{
-    let (_, _) = (table, request);
-    put_number(disk, number, value)
-}
-
-fn do_begin<D: Disk>(
-    disk: &mut D,
-    table: &mut SegmentTable,
-    room: &mut RowRoom,
-    request: &Request,
-    start: u64,
-    epoch: u64,
-) -> Result<(), DiskFail>
-    requires limits { limit_of request.now ≡ None }
-    requires due { HasDue table.old request.now (DurableEffect.NewSegment start epoch) }
-    requires room { length table.old < room.old }
-
-    ensures call { IsDiskCall D.DiskModel disk.old disk.new result }
-    ensures noted { IsNoted request.now (DurableEffect.NewSegment start epoch) result table.old table.new }
-    ensures fault { FaultIsNoted request.now (DurableEffect.NewSegment start epoch) result table.old table.new }
-    ensures does { DoesAt D.DiskModel disk.old disk.new table.old request.now (DurableEffect.NewSegment start epoch) result }
-    ensures left { LeavesEither D.DiskModel disk.old disk.new table.old table.new request.now (DurableEffect.NewSegment start epoch) }
-{
-    note_row(
-        table,
-        room,
-        request,
-        DurableEffect::NewSegment { start, epoch },
-        0,
-    )?;
-    begin_segment(disk, start, epoch)
-}
-
-// The batch is that of the request.
-fn append_batch<D: Disk>(
-    disk: &mut D,
-    table: &mut SegmentTable,
-    ready: &mut Ready,
-    request: &Request,
-    start: u64,
-    at: u64,
-    batch: &Batch,
-) -> Result<(), DiskFail>
-    requires limits { limit_of request.now ≡ None }
-    requires batch_is { batch.now ≡ batch_of request.now }
-    requires due { HasDue table.old request.now (DurableEffect.Append start at) }
-    requires can { CanBeDone D.DiskModel disk.old table.old request.now (DurableEffect.Append start at) }
-    requires frame { HasFrame request.now ready.old.frame }
-
-    ensures call { IsDiskCall D.DiskModel disk.old disk.new result }
-    ensures frame { HasFrame request.now ready.new.frame }
-    ensures noted { IsNoted request.now (DurableEffect.Append start at) result table.old table.new }
-    ensures fault { FaultIsNoted request.now (DurableEffect.Append start at) result table.old table.new }
-    ensures does { DoesAt D.DiskModel disk.old disk.new table.old request.now (DurableEffect.Append start at) result }
-    ensures left { LeavesEither D.DiskModel disk.old disk.new table.old table.new request.now (DurableEffect.Append start at) }
-    ensures room { ready.new.room ≡ ready.old.room }
-    ensures fewer { length table.new ≤ length table.old }
-{
-    let place = append_edits(disk, start, at, batch, &ready.frame)?;
-    note_row(
-        table,
-        &mut ready.room,
-        request,
-        DurableEffect::Append { start, at },
-        place,
-    )
-}
-
-// An effect without its batch isn't due.
-fn do_append<D: Disk>(
-    disk: &mut D,
-    table: &mut SegmentTable,
-    ready: &mut Ready,
-    request: &Request,
-    start: u64,
-    at: u64,
-) -> Result<(), DiskFail>
-    requires limits { limit_of request.now ≡ None }
-    requires due { HasDue table.old request.now (DurableEffect.Append start at) }
-    requires can { CanBeDone D.DiskModel disk.old table.old request.now (DurableEffect.Append start at) }
-    requires frame { HasFrame request.now ready.old.frame }
-
-    ensures call { IsDiskCall D.DiskModel disk.old disk.new result }
-    ensures frame { HasFrame request.now ready.new.frame }
-    ensures noted { IsNoted request.now (DurableEffect.Append start at) result table.old table.new }
-    ensures fault { FaultIsNoted request.now (DurableEffect.Append start at) result table.old table.new }
-    ensures does { DoesAt D.DiskModel disk.old disk.new table.old request.now (DurableEffect.Append start at) result }
-    ensures left { LeavesEither D.DiskModel disk.old disk.new table.old table.new request.now (DurableEffect.Append start at) }
-    ensures room { ready.new.room ≡ ready.old.room }
-    ensures fewer { length table.new ≤ length table.old }
-{
-    match batch_in(request) {
-        Some(batch) => append_batch(disk, table, ready, request, start, at, batch),
-        None => Err(DiskFail::OutOfMemory),
+    match apply(table, room, request, effect, place) {
+        Ok(()) => {}
+        Err(_) => unreachable!(),
     }
 }
 
-// The batch is that of the request.
-fn accept_batch<D: Disk>(
-    disk: &mut D,
-    table: &mut SegmentTable,
-    ready: &mut Ready,
-    request: &Request,
-    epoch: u64,
-    batch: &Batch,
-    again: bool,
-) -> Result<(), DiskFail>
-    requires limits { limit_of request.now ≡ None }
-    requires batch_is { batch.now ≡ batch_of request.now }
-    requires due { HasDue table.old request.now (DurableEffect.Replace epoch again) }
-    requires can { CanBeDone D.DiskModel disk.old table.old request.now (DurableEffect.Replace epoch again) }
-    requires frame { HasFrame request.now ready.old.frame }
-    requires room { length table.old < ready.old.room }
-
-    ensures call { IsDiskCall D.DiskModel disk.old disk.new result }
-    ensures frame { HasFrame request.now ready.new.frame }
-    ensures noted { IsNoted request.now (DurableEffect.Replace epoch again) result table.old table.new }
-    ensures fault { FaultIsNoted request.now (DurableEffect.Replace epoch again) result table.old table.new }
-    ensures does { DoesAt D.DiskModel disk.old disk.new table.old request.now (DurableEffect.Replace epoch again) result }
-    ensures left { LeavesEither D.DiskModel disk.old disk.new table.old table.new request.now (DurableEffect.Replace epoch again) }
-{
-    note_row(
-        table,
-        &mut ready.room,
-        request,
-        DurableEffect::Replace { epoch, again },
-        0,
-    )?;
-    accept_edits(disk, epoch, batch, again, &mut ready.frame)
-}
-
-// An effect without its batch isn't due.
-fn do_accept<D: Disk>(
-    disk: &mut D,
-    table: &mut SegmentTable,
-    ready: &mut Ready,
-    request: &Request,
-    epoch: u64,
-    again: bool,
-) -> Result<(), DiskFail>
-    requires limits { limit_of request.now ≡ None }
-    requires due { HasDue table.old request.now (DurableEffect.Replace epoch again) }
-    requires can { CanBeDone D.DiskModel disk.old table.old request.now (DurableEffect.Replace epoch again) }
-    requires frame { HasFrame request.now ready.old.frame }
-    requires room { length table.old < ready.old.room }
-
-    ensures call { IsDiskCall D.DiskModel disk.old disk.new result }
-    ensures frame { HasFrame request.now ready.new.frame }
-    ensures noted { IsNoted request.now (DurableEffect.Replace epoch again) result table.old table.new }
-    ensures fault { FaultIsNoted request.now (DurableEffect.Replace epoch again) result table.old table.new }
-    ensures does { DoesAt D.DiskModel disk.old disk.new table.old request.now (DurableEffect.Replace epoch again) result }
-    ensures left { LeavesEither D.DiskModel disk.old disk.new table.old table.new request.now (DurableEffect.Replace epoch again) }
-{
-    match batch_in(request) {
-        Some(batch) => accept_batch(disk, table, ready, request, epoch, batch, again),
-        None => Err(DiskFail::OutOfMemory),
-    }
-}
-
-fn do_finalize<D: Disk>(
-    disk: &mut D,
-    table: &mut SegmentTable,
-    room: &mut RowRoom,
-    request: &Request,
-    start: u64,
-    end: u64,
-    accepted: bool,
-) -> Result<(), DiskFail>
-    requires limits { limit_of request.now ≡ None }
-    requires due { HasDue table.old request.now (DurableEffect.MakeFinal start end accepted) }
-    requires can { CanBeDone D.DiskModel disk.old table.old request.now (DurableEffect.MakeFinal start end accepted) }
-
-    ensures call { IsDiskCall D.DiskModel disk.old disk.new result }
-    ensures noted { IsNoted request.now (DurableEffect.MakeFinal start end accepted) result table.old table.new }
-    ensures fault { FaultIsNoted request.now (DurableEffect.MakeFinal start end accepted) result table.old table.new }
-    ensures does { DoesAt D.DiskModel disk.old disk.new table.old request.now (DurableEffect.MakeFinal start end accepted) result }
-    ensures left { LeavesEither D.DiskModel disk.old disk.new table.old table.new request.now (DurableEffect.MakeFinal start end accepted) }
-    ensures room { room.new ≡ room.old }
-    ensures fewer { length table.new ≤ length table.old }
-{
-    let effect = DurableEffect::MakeFinal {
-        start,
-        end,
-        accepted,
-    };
-    finalize_segment(disk, start, end, accepted)?;
-    note_row(table, room, request, effect, 0)
-}
-
-fn do_remove<D: Disk>(
-    disk: &mut D,
-    table: &mut SegmentTable,
-    room: &mut RowRoom,
-    request: &Request,
-    info: SegmentInfo,
-) -> Result<(), DiskFail>
-    requires limits { limit_of request.now ≡ None }
-    requires due { HasDue table.old request.now (DurableEffect.Remove info) }
-    requires can { CanBeDone D.DiskModel disk.old table.old request.now (DurableEffect.Remove info) }
-
-    ensures call { IsDiskCall D.DiskModel disk.old disk.new result }
-    ensures noted { IsNoted request.now (DurableEffect.Remove info) result table.old table.new }
-    ensures fault { FaultIsNoted request.now (DurableEffect.Remove info) result table.old table.new }
-    ensures does { DoesAt D.DiskModel disk.old disk.new table.old request.now (DurableEffect.Remove info) result }
-    ensures left { LeavesEither D.DiskModel disk.old disk.new table.old table.new request.now (DurableEffect.Remove info) }
-    ensures room { room.new ≡ room.old }
-    ensures fewer { length table.new ≤ length table.old }
-{
-    let _rows = table.as_slice();
-    let line = SegmentLine {
-        start: info.start,
-        end: info.end,
-        is_final: info.is_final,
-        epoch: info.epoch,
-    };
-    remove_segment(disk, &line, info.accepted)?;
-    note_row(table, room, request, DurableEffect::Remove { info }, 0)
-}
-
-// The calls of an effect, which is noted in the table.
+// The calls of an effect, which is noted in the table: before them if it may put a row, and after
+// them if not.
 fn do_calls<D: Disk>(
     disk: &mut D,
     table: &mut SegmentTable,
     ready: &mut Ready,
     request: &Request,
     effect: DurableEffect,
-) -> Result<(), DiskFail>
+) -> Result<u64, DiskFail>
     requires limits { limit_of request.now ≡ None }
     requires due { HasDue table.old request.now effect }
     requires can { CanBeDone D.DiskModel disk.old table.old request.now effect }
@@ -309,34 +71,14 @@ fn do_calls<D: Disk>(
     ensures room { puts_row effect ≡ false → ready.new.room ≡ ready.old.room }
     ensures fewer { puts_row effect ≡ false → length table.new ≤ length table.old }
 {
-    match effect {
-        DurableEffect::Promise { epoch } => {
-            do_number(disk, table, request, NodeNumber::Promised, epoch)
-        }
-        DurableEffect::WriterEpoch { epoch } => {
-            do_number(disk, table, request, NodeNumber::Writer, epoch)
-        }
-        DurableEffect::Commit { txid } => {
-            do_number(disk, table, request, NodeNumber::Committed, txid)
-        }
-        DurableEffect::NewSegment { start, epoch } => do_begin(
-            disk,
-            table,
-            &mut ready.room,
-            request,
-            start,
-            epoch,
-        ),
-        DurableEffect::Append { start, at } => do_append(disk, table, ready, request, start, at),
-        DurableEffect::Replace { epoch, again } => do_accept(
-            disk, table, ready, request, epoch, again,
-        ),
-        DurableEffect::MakeFinal {
-            start,
-            end,
-            accepted,
-        } => do_finalize(disk, table, &mut ready.room, request, start, end, accepted),
-        DurableEffect::Remove { info } => do_remove(disk, table, &mut ready.room, request, info),
+    let _rows = table.as_slice();
+    if effect.puts_row() {
+        note_row(table, &mut ready.room, request, effect, 0);
+        call_disk(disk, ready, request, effect)
+    } else {
+        let place = call_disk(disk, ready, request, effect)?;
+        note_row(table, &mut ready.room, request, effect, place);
+        Ok(place)
     }
 }
 

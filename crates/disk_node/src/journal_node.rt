@@ -16,11 +16,10 @@ ghost use Rattle.disk_node.specs.Clauses.{HasMoments, IsStable, IsCached, ReadsN
 
 use crate::acting::{answer, go_down};
 use crate::acting_stops::stop;
+use crate::node_memory::NodeMemory;
 use crate::node_opening::come_up;
 use base_disk::Disk;
-use disk_recent::RecentEdits;
-use disk_segment::SegmentTable;
-use journal_core::{NodeFail, NodeState, Refusal, Reply, Request};
+use journal_core::{NodeFail, Refusal, Reply, Request};
 use std::alloc::Global;
 use std::marker::Model;
 
@@ -28,24 +27,15 @@ use std::marker::Model;
 /// of its segments and the newest edits of the one that it began last, the cached segment.
 pub struct JournalNode<D: Disk> {
     pub(crate) disk: D,
-    pub(crate) memory: NodeState,
-    pub(crate) table: SegmentTable,
-    pub(crate) recent: RecentEdits,
+    pub(crate) memory: NodeMemory,
 }
 
 /// A node is let go by one call wherever it is, which keeps proofs short.
 impl<D: Disk + Drop> Drop for JournalNode<D> {
     fn drop(self) {
-        let JournalNode {
-            disk,
-            memory,
-            table,
-            recent,
-        } = self;
+        let JournalNode { disk, memory } = self;
         drop(disk);
         drop(memory);
-        drop(table);
-        drop(recent);
     }
 }
 
@@ -54,9 +44,9 @@ impl<D: Disk> Model for JournalNode<D> {
 
     ghost Value = { NodeParts D };
 
-    ghost view = { λ n. record { disk = n.disk; memory = n.memory; rows = n.table; recent = n.recent } };
+    ghost view = { λ n. record { disk = n.disk; memory = n.memory.numbers; rows = n.memory.table; recent = n.memory.recent } };
 
-    ghost invariant = { λ n. IsWhole (D.tells n.disk) (D.view n.disk) n.memory n.table n.recent };
+    ghost invariant = { λ n. IsWhole (D.tells n.disk) (D.view n.disk) n.memory.numbers n.memory.table n.memory.recent };
 }
 
 impl<D: Disk> JournalNode<D> {
@@ -67,15 +57,8 @@ impl<D: Disk> JournalNode<D> {
         ensures stands { D.tells self.disk → StandsAs (D.view self.disk).seen (state_of (D.view self.disk).seen self.memory self.rows) }
         ensures lasting { D.tells self.disk → self.memory.up ≡ true → AllLeave (D.view self.disk) (λ c. StandsAs c (state_of (D.view self.disk).seen self.memory self.rows)) }
     {
-        let JournalNode {
-            disk,
-            memory,
-            table,
-            recent,
-        } = self;
+        let JournalNode { disk, memory } = self;
         drop(memory);
-        drop(table);
-        drop(recent);
         disk
     }
 
@@ -100,14 +83,7 @@ impl<D: Disk> JournalNode<D> {
         ensures steady { D.steady self.old.disk → D.steady self.new.disk × (result ≢ Reply.Refused Refusal.DiskFault) }
         ensures spared { IsSpared D.DiskModel self.old.disk self.new.disk self.old.memory self.new.memory self.old.rows self.new.rows self.old.recent self.new.recent result }
     {
-        answer(
-            alloc,
-            &mut self.disk,
-            &mut self.memory,
-            &mut self.table,
-            &mut self.recent,
-            request,
-        )
+        answer(alloc, &mut self.disk, &mut self.memory, request)
     }
 
     /// Does the first durable effects of a request, at most `keep`, and goes down; answers how many
@@ -129,15 +105,8 @@ impl<D: Disk> JournalNode<D> {
         ensures fault { result ≡ Err NodeFail.DiskFault → Rose (D.faults self.old.disk) (D.faults self.new.disk) }
         ensures steady { D.steady self.old.disk → D.steady self.new.disk × (result ≢ Err NodeFail.DiskFault) }
     {
-        self.recent.clear();
-        stop(
-            alloc,
-            &mut self.disk,
-            &mut self.memory,
-            &mut self.table,
-            request,
-            keep,
-        )
+        self.memory.recent.clear();
+        stop(alloc, &mut self.disk, &mut self.memory, request, keep)
     }
 
     /// Goes down; false where it already was, and then nothing changes.
@@ -145,10 +114,10 @@ impl<D: Disk> JournalNode<D> {
         ensures kill { Kills (told_state (D.is_told self.old.disk) (D.view self.old.disk).seen self.old.memory self.old.rows) result (told_state (D.is_told self.new.disk) (D.view self.new.disk).seen self.new.memory self.new.rows) }
         ensures disk { self.new.disk ≡ self.old.disk }
     {
-        if !self.memory.up {
+        if !self.memory.numbers.up {
             return false;
         }
-        go_down(&mut self.memory, &self.table);
+        go_down(&mut self.memory.numbers, &self.memory.table);
         true
     }
 
@@ -167,10 +136,15 @@ impl<D: Disk> JournalNode<D> {
         ensures fault { result ≡ Err NodeFail.DiskFault → Rose (D.faults self.old.disk) (D.faults self.new.disk) }
         ensures steady { D.steady self.old.disk → D.steady self.new.disk × (result ≢ Err NodeFail.DiskFault) }
     {
-        if self.memory.up {
+        if self.memory.numbers.up {
             return Ok(false);
         }
-        self.recent.clear();
-        come_up(alloc, &mut self.disk, &mut self.memory, &mut self.table)
+        self.memory.recent.clear();
+        come_up(
+            alloc,
+            &mut self.disk,
+            &mut self.memory.numbers,
+            &mut self.memory.table,
+        )
     }
 }

@@ -6,6 +6,7 @@ mod acting_reads;
 mod acting_stops;
 mod as_cut_node;
 mod as_node;
+mod calling;
 mod cutting;
 mod doing;
 mod doing_laws;
@@ -13,6 +14,7 @@ mod effects_done;
 mod following;
 mod fresh;
 mod journal_node;
+mod node_memory;
 mod node_opening;
 mod open_fail;
 mod readying;
@@ -25,7 +27,7 @@ pub use effects_done::do_effects;
 pub use fresh::{fresh_nodes, open_empty};
 pub use journal_node::JournalNode;
 pub use open_fail::OpenFail;
-pub use readying::{Ready, ready_plan};
+pub use readying::{Planned, Ready, ready_plan};
 pub use state_examples::{
     a_number_file_is_read, no_files_are_a_fresh_node, segment_files_are_read,
 };

@@ -9,6 +9,7 @@ ghost use Rattle.disk_node.specs.Node.{HasState, IsNode};
 ghost use Rattle.disk_node.specs.Opening.{IsOpenedNode, IsRefusedOpening, Keeps, StandsAsBefore, disk_in, is_fault, IsCauseOf};
 
 use crate::journal_node::JournalNode;
+use crate::node_memory::NodeMemory;
 use crate::open_fail::OpenFail;
 use base_disk::Disk;
 use disk_files::{NodeFiles, OpenedFiles, open_files};
@@ -17,8 +18,8 @@ use disk_segment::SegmentTable;
 use journal_core::{NodeFail, NodeState, SegmentList};
 use std::alloc::Global;
 
-// What a node that comes up keeps in memory.
-fn memory_of(alloc: Global, files: &NodeFiles) -> NodeState
+// The numbers of a node that comes up.
+fn numbers_of(alloc: Global, files: &NodeFiles) -> NodeState
     ensures { result ≡ record { promised = files.now.promised; writer = files.now.writer; committed = files.now.committed; known = files.now.committed; segments = []; opened = None; serial = 0; up = true } }
 {
     NodeState {
@@ -54,7 +55,7 @@ pub(crate) fn come_up<D: Disk>(
 {
     match open_files(alloc, disk) {
         OpenedFiles::Files(files) => {
-            *memory = memory_of(alloc, &files);
+            *memory = numbers_of(alloc, &files);
             *table = files.table;
             Ok(true)
         }
@@ -89,13 +90,12 @@ impl<D: Disk> JournalNode<D> {
         };
         match open_files(alloc, &mut disk) {
             OpenedFiles::Files(files) => {
-                let memory = memory_of(alloc, &files);
-                Ok(JournalNode {
-                    disk,
-                    memory,
+                let memory = NodeMemory {
+                    numbers: numbers_of(alloc, &files),
                     table: files.table,
                     recent,
-                })
+                };
+                Ok(JournalNode { disk, memory })
             }
             OpenedFiles::BadFile { name } => Err(OpenFail::BadFile { disk, name }),
             OpenedFiles::DiskFault => Err(OpenFail::DiskFault { disk }),

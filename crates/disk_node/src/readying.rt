@@ -1,15 +1,13 @@
 //! The memory that the effects of a request want is taken before the first.
-ghost use Rattle.std.specs.Prelude.{◌≡◌, ◌≤◌, ◌<◌, [], None, List, length, true, IfOk};
+ghost use Rattle.std.specs.Prelude.{◌≡◌, ◌≤◌, ◌<◌, None, length, true, IfOk};
 ghost use Rattle.std.specs.List.{list_any};
-ghost use Rattle.journal_core.specs.declared.segment.Segment.{Segment};
 ghost use Rattle.journal_core.specs.declared.node_state.NodeState.{NodeState as AnyState};
 ghost use Rattle.journal_core.specs.Limits.{limit_of, max_number};
-ghost use Rattle.journal_core.specs.Step.{refused_at_once, row_refused, fronted, effects_of};
-ghost use Rattle.disk_effects.specs.Told.{Tells, state_with};
-ghost use Rattle.disk_effects.specs.Decided.{effects_in};
-ghost use Rattle.disk_effects.specs.Due.{AreDue, puts_row};
+ghost use Rattle.journal_core.specs.Step.{refused_at_once, effects_of};
+ghost use Rattle.disk_effects.specs.Due.{puts_row};
 ghost use Rattle.disk_node.specs.Doing.{HasFrame};
 ghost use Rattle.disk_node.specs.Done.{effects_by, HasRoom};
+ghost use Rattle.disk_node.specs.Clauses.{IsPlanned};
 
 use disk_effects::{RequestPlan, plan_request};
 use disk_segment::{ReadyFrame, RowRoom, SegmentTable};
@@ -22,6 +20,13 @@ use std::alloc::Global;
 pub struct Ready {
     pub frame: ReadyFrame,
     pub room: RowRoom,
+}
+
+/// A request that is planned: what is to be done for it, and the memory that this wants.
+#[derive(Drop)]
+pub struct Planned {
+    pub plan: RequestPlan,
+    pub ready: Ready,
 }
 
 fn frame_of(alloc: Global, request: &Request) -> Result<ReadyFrame, OutOfMemory>
@@ -77,18 +82,13 @@ pub fn ready_plan(
     memory: &NodeState,
     table: &SegmentTable,
     request: &Request,
-) -> Result<(RequestPlan, Ready), OutOfMemory>
+) -> Result<Planned, OutOfMemory>
     requires at_once { refused_at_once memory.now request.now ≡ None }
     requires limits { limit_of request.now ≡ None }
     requires known { memory.now.known ≤ max_number }
-    ensures front { IfOk result (λ found. found.0.front ≡ state_with (fronted memory.now request.now) []) }
-    ensures refusal { (gs : List Segment) → Tells gs table.now → IfOk result (λ found. found.0.refusal ≡ row_refused (state_with (fronted memory.now request.now) gs) request.now) }
-    ensures effects { (gs : List Segment) → Tells gs table.now → IfOk result (λ found. effects_by request.now (effects_in found.0.effects) ≡ effects_of (state_with memory.now gs) request.now) }
-    ensures due { (gs : List Segment) → Tells gs table.now → IfOk result (λ found. AreDue gs table.now request.now (effects_in found.0.effects)) }
-    ensures frame { IfOk result (λ found. HasFrame request.now found.1.frame) }
-    ensures room { (gs : List Segment) → Tells gs table.now → IfOk result (λ found. HasRoom (effects_in found.0.effects) (length table.now) found.1.room) }
+    ensures { IfOk result (λ planned. IsPlanned memory.now table.now request.now planned.plan planned.ready) }
 {
     let plan = plan_request(alloc, memory, table, request)?;
     let ready = make_ready(alloc, table, request, plan.effects.as_slice())?;
-    Ok((plan, ready))
+    Ok(Planned { plan, ready })
 }

@@ -6,4 +6,4 @@ use Rattle.disk_node.proofs.acting.foretell.Goals as goal
 
 pub returns-in-Fetch-clause-unread : goal.returns-in-Fetch-clause-unread
 returns-in-Fetch-clause-unread g c = λ gs tells held asks. c.fetch.ensures.unread gs tells held
-    (subst (λ (r : Request). AsksRecent c.args.recent.now.start (state_with c.args.front.now gs) r) c.in-Fetch.is asks)
+    (subst (λ (r : Request). AsksRecent c.args.memory.now.recent.start (state_with c.args.plan.now.front gs) r) c.in-Fetch.is asks)

@@ -2,6 +2,7 @@ use Rattle.disk_segment.proofs.SealLemmas.{carried}
 use Rattle.journal_core.specs.Cuts.{cost_of}
 use Rattle.journal_core.specs.Effects.{after_effect}
 use Rattle.disk_effects.specs.Due.{effect_of}
+use Rattle.disk_node.proofs.DoingCalls.{ok_counts}
 use Rattle.disk_node.proofs.DoingEffect.{rows_then, told_either, covers_fault, cut_carried, numbers_noted, held_then, can_apart, opened_then}
 use Rattle.disk_node.proofs.doing.do_effect.Goals as goal
 
@@ -42,3 +43,7 @@ returns-clause-opened g c = λ t s o can.
     let does = c.in_ok-do_calls.ensures.does t s (can_apart (g.D.DiskModel.view c.args.disk.now) c.args.memory.now c.args.table.now s c.args.request.now c.args.effect can) in
     opened_then c.args.request.now c.args.effect (g.D.DiskModel.view c.args.disk.now) (g.D.DiskModel.view c.do_calls.new.disk) s.segments
     c.args.table.now c.do_calls.new.table can.held.told can.due c.in_ok-do_calls.ensures.noted.done does.others does.appends o
+
+pub returns-clause-counts : goal.returns-clause-counts
+returns-clause-counts g c = λ t s can cut.
+    ok_counts ((c.in_ok-do_calls.ensures.does t s (can_apart (g.D.DiskModel.view c.args.disk.now) c.args.memory.now c.args.table.now s c.args.request.now c.args.effect can)).counts cut)

@@ -13,9 +13,7 @@ use Rattle.disk_node.proofs.effects_done.do_effects.Goals as goal
 
 pub loop-effect-init : goal.loop-effect-init
 loop-effect-init g c = record {
-  way = begun (g.D.DiskModel.tells c.args.disk.now) (g.D.DiskModel.view c.args.disk.now) (λ t. g.met.D.Disk.sound _ t)
-      c.args.memory.now c.args.table.now c.args.request.now c.args.effects.now (g.D.DiskModel.faults c.args.disk.now)
-      (g.D.DiskModel.steady c.args.disk.now) (g.D.DiskModel.left c.args.disk.now) c.requires.due;
+  way = begun (λ t. g.met.D.Disk.sound _ t) c.requires.due;
   frame = c.requires.frame;
   room = c.requires.room;
   shortages = omega arith;
@@ -25,164 +23,58 @@ loop-effect-init g c = record {
 pub do_effect-requires-clause-held : goal.do_effect-requires-clause-held
 do_effect-requires-clause-held g c = λ tells.
     let t = c.loop-effect.invariant.way.tells_on.1 tells in
-    let able = c.requires.held t in (
-      ((way_here (g.D.DiskModel.tells c.args.disk.now) (g.D.DiskModel.tells c.loop-effect.disk) (g.D.DiskModel.view c.args.disk.now)
-          (g.D.DiskModel.view c.loop-effect.disk) c.args.memory.now c.loop-effect.memory c.args.table.now c.loop-effect.table c.args.request.now
-          c.args.effects.now c.loop-effect.effect-index (Promise 0) (g.D.DiskModel.faults c.args.disk.now) (g.D.DiskModel.faults c.loop-effect.disk)
-          (g.D.DiskModel.steady c.args.disk.now) (g.D.DiskModel.steady c.loop-effect.disk) (g.D.DiskModel.left c.args.disk.now)
-          (g.D.DiskModel.left c.loop-effect.disk) c.loop-effect-test.true c.loop-effect.invariant.way).so_far t able.0 able.1).state,
-      can_here (g.D.DiskModel.tells c.args.disk.now) (g.D.DiskModel.view c.args.disk.now) c.args.memory.now c.args.table.now c.args.request.now
-          c.args.effects.now (g.D.DiskModel.faults c.args.disk.now) (g.D.DiskModel.steady c.args.disk.now) (g.D.DiskModel.left c.args.disk.now)
-          (g.D.DiskModel.tells c.loop-effect.disk) (g.D.DiskModel.view c.loop-effect.disk) c.loop-effect.memory c.loop-effect.table
-          (take c.loop-effect.effect-index c.args.effects.now) (get_or c.args.effects.now c.loop-effect.effect-index (Promise 0))
-          (drop (c.loop-effect.effect-index + 1) c.args.effects.now) (g.D.DiskModel.faults c.loop-effect.disk)
-          (g.D.DiskModel.steady c.loop-effect.disk) (g.D.DiskModel.left c.loop-effect.disk)
-          (way_here (g.D.DiskModel.tells c.args.disk.now) (g.D.DiskModel.tells c.loop-effect.disk) (g.D.DiskModel.view c.args.disk.now)
-          (g.D.DiskModel.view c.loop-effect.disk) c.args.memory.now c.loop-effect.memory c.args.table.now c.loop-effect.table c.args.request.now
-          c.args.effects.now c.loop-effect.effect-index (Promise 0) (g.D.DiskModel.faults c.args.disk.now)
-          (g.D.DiskModel.faults c.loop-effect.disk) (g.D.DiskModel.steady c.args.disk.now) (g.D.DiskModel.steady c.loop-effect.disk)
-          (g.D.DiskModel.left c.args.disk.now) (g.D.DiskModel.left c.loop-effect.disk) c.loop-effect-test.true c.loop-effect.invariant.way) t
-          able.0 able.1,
-    )
+    let able = c.requires.held t in
+    let way = way_here (Promise 0) c.loop-effect-test.true c.loop-effect.invariant.way in
+    ((way.so_far t able.0 able.1).state, can_here way t able.0 able.1)
 
 pub returns-in_err-do_effect-clause-rows : goal.returns-in_err-do_effect-clause-rows
-returns-in_err-do_effect-clause-rows g c = failed_rows (g.D.DiskModel.tells c.args.disk.now) (g.D.DiskModel.view c.args.disk.now) c.args.memory.now
-    c.args.table.now c.args.request.now c.args.effects.now (g.D.DiskModel.faults c.args.disk.now) (g.D.DiskModel.steady c.args.disk.now)
-    (g.D.DiskModel.left c.args.disk.now)
-    (g.D.DiskModel.tells c.loop-effect.disk) (g.D.DiskModel.view c.loop-effect.disk) c.loop-effect.memory c.loop-effect.table
-    (take c.loop-effect.effect-index c.args.effects.now) (get_or c.args.effects.now c.loop-effect.effect-index (Promise 0))
-    (drop (c.loop-effect.effect-index + 1) c.args.effects.now) (g.D.DiskModel.faults c.loop-effect.disk) (g.D.DiskModel.steady c.loop-effect.disk)
-    (g.D.DiskModel.left c.loop-effect.disk)
-    (way_here (g.D.DiskModel.tells c.args.disk.now) (g.D.DiskModel.tells c.loop-effect.disk) (g.D.DiskModel.view c.args.disk.now)
-    (g.D.DiskModel.view c.loop-effect.disk) c.args.memory.now c.loop-effect.memory c.args.table.now c.loop-effect.table c.args.request.now
-    c.args.effects.now c.loop-effect.effect-index (Promise 0) (g.D.DiskModel.faults c.args.disk.now) (g.D.DiskModel.faults c.loop-effect.disk)
-    (g.D.DiskModel.steady c.args.disk.now) (g.D.DiskModel.steady c.loop-effect.disk) (g.D.DiskModel.left c.args.disk.now)
-    (g.D.DiskModel.left c.loop-effect.disk) c.loop-effect-test.true c.loop-effect.invariant.way) c.do_effect.new.table c.do_effect.ensures.told
+returns-in_err-do_effect-clause-rows g c = failed_rows (way_here (Promise 0) c.loop-effect-test.true c.loop-effect.invariant.way) c.do_effect.new.table c.do_effect.ensures.told
 
 pub returns-in_err-do_effect-clause-rest : goal.returns-in_err-do_effect-clause-rest
-returns-in_err-do_effect-clause-rest g c = failed_rest (g.D.DiskModel.tells c.args.disk.now) (g.D.DiskModel.view c.args.disk.now) c.args.memory.now
-    c.args.table.now c.args.request.now c.args.effects.now (g.D.DiskModel.faults c.args.disk.now) (g.D.DiskModel.steady c.args.disk.now)
-    (g.D.DiskModel.left c.args.disk.now)
-    (g.D.DiskModel.tells c.loop-effect.disk) (g.D.DiskModel.view c.loop-effect.disk) c.loop-effect.memory c.loop-effect.table
-    (take c.loop-effect.effect-index c.args.effects.now) (get_or c.args.effects.now c.loop-effect.effect-index (Promise 0))
-    (drop (c.loop-effect.effect-index + 1) c.args.effects.now) (g.D.DiskModel.faults c.loop-effect.disk) (g.D.DiskModel.steady c.loop-effect.disk)
-    (g.D.DiskModel.left c.loop-effect.disk)
-    (way_here (g.D.DiskModel.tells c.args.disk.now) (g.D.DiskModel.tells c.loop-effect.disk) (g.D.DiskModel.view c.args.disk.now)
-    (g.D.DiskModel.view c.loop-effect.disk) c.args.memory.now c.loop-effect.memory c.args.table.now c.loop-effect.table c.args.request.now
-    c.args.effects.now c.loop-effect.effect-index (Promise 0) (g.D.DiskModel.faults c.args.disk.now) (g.D.DiskModel.faults c.loop-effect.disk)
-    (g.D.DiskModel.steady c.args.disk.now) (g.D.DiskModel.steady c.loop-effect.disk) (g.D.DiskModel.left c.args.disk.now)
-    (g.D.DiskModel.left c.loop-effect.disk) c.loop-effect-test.true c.loop-effect.invariant.way) c.do_effect.new.memory
-    c.in_err-do_effect.ensures.same
+returns-in_err-do_effect-clause-rest g c = failed_rest (way_here (Promise 0) c.loop-effect-test.true c.loop-effect.invariant.way) c.do_effect.new.memory c.in_err-do_effect.ensures.same
 
 pub returns-in_err-do_effect-clause-moments : goal.returns-in_err-do_effect-clause-moments
-returns-in_err-do_effect-clause-moments g c = run_moments (g.D.DiskModel.tells c.args.disk.now) (g.D.DiskModel.view c.args.disk.now) c.args.memory.now
-    c.args.table.now c.args.request.now c.args.effects.now (g.D.DiskModel.faults c.args.disk.now) (g.D.DiskModel.steady c.args.disk.now)
-    (g.D.DiskModel.left c.args.disk.now)
-    (g.D.DiskModel.tells c.loop-effect.disk) (g.D.DiskModel.view c.loop-effect.disk) c.loop-effect.memory c.loop-effect.table
-    (take c.loop-effect.effect-index c.args.effects.now) (get_or c.args.effects.now c.loop-effect.effect-index (Promise 0))
-    (drop (c.loop-effect.effect-index + 1) c.args.effects.now) (g.D.DiskModel.faults c.loop-effect.disk) (g.D.DiskModel.steady c.loop-effect.disk)
-    (g.D.DiskModel.left c.loop-effect.disk)
-    (way_here (g.D.DiskModel.tells c.args.disk.now) (g.D.DiskModel.tells c.loop-effect.disk) (g.D.DiskModel.view c.args.disk.now)
-    (g.D.DiskModel.view c.loop-effect.disk) c.args.memory.now c.loop-effect.memory c.args.table.now c.loop-effect.table c.args.request.now
-    c.args.effects.now c.loop-effect.effect-index (Promise 0) (g.D.DiskModel.faults c.args.disk.now) (g.D.DiskModel.faults c.loop-effect.disk)
-    (g.D.DiskModel.steady c.args.disk.now) (g.D.DiskModel.steady c.loop-effect.disk) (g.D.DiskModel.left c.args.disk.now)
-    (g.D.DiskModel.left c.loop-effect.disk) c.loop-effect-test.true c.loop-effect.invariant.way) (g.D.DiskModel.view c.do_effect.new.disk)
-    c.do_effect.new.table (g.D.DiskModel.left c.do_effect.new.disk) c.do_effect.result c.do_effect.ensures.effect
+returns-in_err-do_effect-clause-moments g c =
+    run_moments (way_here (Promise 0) c.loop-effect-test.true c.loop-effect.invariant.way)
+    (g.D.DiskModel.view c.do_effect.new.disk) c.do_effect.new.table (g.D.DiskModel.left c.do_effect.new.disk) c.do_effect.result c.do_effect.ensures.effect
 
 pub returns-in_err-do_effect-clause-left : goal.returns-in_err-do_effect-clause-left
 returns-in_err-do_effect-clause-left g c = λ t s can.
-    on_err_always c.from_residual.result _ (failed_leaves (g.D.DiskModel.tells c.args.disk.now) (g.D.DiskModel.view c.args.disk.now) c.args.memory.now
-    c.args.table.now c.args.request.now c.args.effects.now (g.D.DiskModel.faults c.args.disk.now) (g.D.DiskModel.steady c.args.disk.now)
-    (g.D.DiskModel.left c.args.disk.now)
-    (g.D.DiskModel.tells c.loop-effect.disk) (g.D.DiskModel.view c.loop-effect.disk) c.loop-effect.memory c.loop-effect.table
-    (take c.loop-effect.effect-index c.args.effects.now) (get_or c.args.effects.now c.loop-effect.effect-index (Promise 0))
-    (drop (c.loop-effect.effect-index + 1) c.args.effects.now) (g.D.DiskModel.faults c.loop-effect.disk) (g.D.DiskModel.steady c.loop-effect.disk)
-    (g.D.DiskModel.left c.loop-effect.disk)
-    (way_here (g.D.DiskModel.tells c.args.disk.now) (g.D.DiskModel.tells c.loop-effect.disk) (g.D.DiskModel.view c.args.disk.now)
-    (g.D.DiskModel.view c.loop-effect.disk) c.args.memory.now c.loop-effect.memory c.args.table.now c.loop-effect.table c.args.request.now
-    c.args.effects.now c.loop-effect.effect-index (Promise 0) (g.D.DiskModel.faults c.args.disk.now) (g.D.DiskModel.faults c.loop-effect.disk)
-    (g.D.DiskModel.steady c.args.disk.now) (g.D.DiskModel.steady c.loop-effect.disk) (g.D.DiskModel.left c.args.disk.now)
-    (g.D.DiskModel.left c.loop-effect.disk) c.loop-effect-test.true c.loop-effect.invariant.way) (g.D.DiskModel.view c.do_effect.new.disk)
-    c.do_effect.new.table (g.D.DiskModel.left c.do_effect.new.disk) c.do_effect.result c.do_effect.ensures.left t s can
+    on_err_always c.from_residual.result _
+    (failed_leaves (way_here (Promise 0) c.loop-effect-test.true c.loop-effect.invariant.way)
+    (g.D.DiskModel.view c.do_effect.new.disk) c.do_effect.new.table (g.D.DiskModel.left c.do_effect.new.disk) c.do_effect.result c.do_effect.ensures.left t s can
     (g.D.DiskModel.view c.do_effect.new.disk).seen (g.met.D.Disk.sound _
     (c.do_effect.ensures.call.tells.0 (c.loop-effect.invariant.way.tells_on.0 t))).seen_now)
 
 pub returns-in_err-do_effect-clause-leaves : goal.returns-in_err-do_effect-clause-leaves
 returns-in_err-do_effect-clause-leaves g c = λ t s can.
-    on_err_always c.from_residual.result _ (failed_leaves (g.D.DiskModel.tells c.args.disk.now) (g.D.DiskModel.view c.args.disk.now) c.args.memory.now
-    c.args.table.now c.args.request.now c.args.effects.now (g.D.DiskModel.faults c.args.disk.now) (g.D.DiskModel.steady c.args.disk.now)
-    (g.D.DiskModel.left c.args.disk.now)
-    (g.D.DiskModel.tells c.loop-effect.disk) (g.D.DiskModel.view c.loop-effect.disk) c.loop-effect.memory c.loop-effect.table
-    (take c.loop-effect.effect-index c.args.effects.now) (get_or c.args.effects.now c.loop-effect.effect-index (Promise 0))
-    (drop (c.loop-effect.effect-index + 1) c.args.effects.now) (g.D.DiskModel.faults c.loop-effect.disk) (g.D.DiskModel.steady c.loop-effect.disk)
-    (g.D.DiskModel.left c.loop-effect.disk)
-    (way_here (g.D.DiskModel.tells c.args.disk.now) (g.D.DiskModel.tells c.loop-effect.disk) (g.D.DiskModel.view c.args.disk.now)
-    (g.D.DiskModel.view c.loop-effect.disk) c.args.memory.now c.loop-effect.memory c.args.table.now c.loop-effect.table c.args.request.now
-    c.args.effects.now c.loop-effect.effect-index (Promise 0) (g.D.DiskModel.faults c.args.disk.now) (g.D.DiskModel.faults c.loop-effect.disk)
-    (g.D.DiskModel.steady c.args.disk.now) (g.D.DiskModel.steady c.loop-effect.disk) (g.D.DiskModel.left c.args.disk.now)
-    (g.D.DiskModel.left c.loop-effect.disk) c.loop-effect-test.true c.loop-effect.invariant.way) (g.D.DiskModel.view c.do_effect.new.disk)
-    c.do_effect.new.table (g.D.DiskModel.left c.do_effect.new.disk) c.do_effect.result c.do_effect.ensures.left t s can)
+    on_err_always c.from_residual.result _
+    (failed_leaves (way_here (Promise 0) c.loop-effect-test.true c.loop-effect.invariant.way)
+    (g.D.DiskModel.view c.do_effect.new.disk) c.do_effect.new.table (g.D.DiskModel.left c.do_effect.new.disk) c.do_effect.result c.do_effect.ensures.left t s can)
 
 pub returns-in_err-do_effect-clause-counts : goal.returns-in_err-do_effect-clause-counts
 returns-in_err-do_effect-clause-counts g c = λ t s can keep cut.
     let same : c.from_residual.result ≡ c.do_effect.result = search rules in
     let err : IsErr c.do_effect.result = search rules in
     counted_as _ (g.D.DiskModel.left c.args.disk.now) (g.D.DiskModel.left c.do_effect.new.disk) c.do_effect.result c.from_residual.result same
-    (failed_counts (g.D.DiskModel.tells c.args.disk.now) (g.D.DiskModel.view c.args.disk.now) c.args.memory.now c.args.table.now
-    c.args.request.now c.args.effects.now (g.D.DiskModel.faults c.args.disk.now) (g.D.DiskModel.steady c.args.disk.now)
-    (g.D.DiskModel.left c.args.disk.now)
-    (g.D.DiskModel.tells c.loop-effect.disk) (g.D.DiskModel.view c.loop-effect.disk) c.loop-effect.memory c.loop-effect.table
-    (take c.loop-effect.effect-index c.args.effects.now) (get_or c.args.effects.now c.loop-effect.effect-index (Promise 0))
-    (drop (c.loop-effect.effect-index + 1) c.args.effects.now) (g.D.DiskModel.faults c.loop-effect.disk) (g.D.DiskModel.steady c.loop-effect.disk)
-    (g.D.DiskModel.left c.loop-effect.disk)
-    (way_here (g.D.DiskModel.tells c.args.disk.now) (g.D.DiskModel.tells c.loop-effect.disk) (g.D.DiskModel.view c.args.disk.now)
-    (g.D.DiskModel.view c.loop-effect.disk) c.args.memory.now c.loop-effect.memory c.args.table.now c.loop-effect.table c.args.request.now
-    c.args.effects.now c.loop-effect.effect-index (Promise 0) (g.D.DiskModel.faults c.args.disk.now) (g.D.DiskModel.faults c.loop-effect.disk)
-    (g.D.DiskModel.steady c.args.disk.now) (g.D.DiskModel.steady c.loop-effect.disk) (g.D.DiskModel.left c.args.disk.now)
-    (g.D.DiskModel.left c.loop-effect.disk) c.loop-effect-test.true c.loop-effect.invariant.way) (g.D.DiskModel.view c.do_effect.new.disk)
-    c.do_effect.new.table (g.D.DiskModel.left c.do_effect.new.disk) c.do_effect.result c.do_effect.ensures.effect c.do_effect.ensures.counts t s
-    can keep cut err)
+    (failed_counts (way_here (Promise 0) c.loop-effect-test.true c.loop-effect.invariant.way)
+    (g.D.DiskModel.view c.do_effect.new.disk) c.do_effect.new.table (g.D.DiskModel.left c.do_effect.new.disk) c.do_effect.result c.do_effect.ensures.effect c.do_effect.ensures.counts t s can keep
+    cut err)
 
 pub returns-in_err-do_effect-clause-cut : goal.returns-in_err-do_effect-clause-cut
 returns-in_err-do_effect-clause-cut g c = λ t s can keep.
     among_carried s _ (g.D.DiskModel.left c.args.disk.now) c.do_effect.result c.from_residual.result (g.D.DiskModel.view c.do_effect.new.disk) c.do_effect.new.table
     (carried c.do_effect.result c.from_residual.result c.in_err-do_effect.field-0.0 c.in_err-do_effect.was c.from_residual.ensures.1)
-    (failed_cut (g.D.DiskModel.tells c.args.disk.now) (g.D.DiskModel.view c.args.disk.now) c.args.memory.now c.args.table.now c.args.request.now
-    c.args.effects.now (g.D.DiskModel.faults c.args.disk.now) (g.D.DiskModel.steady c.args.disk.now) (g.D.DiskModel.left c.args.disk.now)
-    (g.D.DiskModel.tells c.loop-effect.disk) (g.D.DiskModel.view c.loop-effect.disk) c.loop-effect.memory c.loop-effect.table
-    (take c.loop-effect.effect-index c.args.effects.now) (get_or c.args.effects.now c.loop-effect.effect-index (Promise 0))
-    (drop (c.loop-effect.effect-index + 1) c.args.effects.now) (g.D.DiskModel.faults c.loop-effect.disk) (g.D.DiskModel.steady c.loop-effect.disk)
-    (g.D.DiskModel.left c.loop-effect.disk)
-    (way_here (g.D.DiskModel.tells c.args.disk.now) (g.D.DiskModel.tells c.loop-effect.disk) (g.D.DiskModel.view c.args.disk.now)
-    (g.D.DiskModel.view c.loop-effect.disk) c.args.memory.now c.loop-effect.memory c.args.table.now c.loop-effect.table c.args.request.now
-    c.args.effects.now c.loop-effect.effect-index (Promise 0) (g.D.DiskModel.faults c.args.disk.now) (g.D.DiskModel.faults c.loop-effect.disk)
-    (g.D.DiskModel.steady c.args.disk.now) (g.D.DiskModel.steady c.loop-effect.disk) (g.D.DiskModel.left c.args.disk.now)
-    (g.D.DiskModel.left c.loop-effect.disk) c.loop-effect-test.true c.loop-effect.invariant.way) (g.D.DiskModel.view c.do_effect.new.disk)
-    c.do_effect.new.table (g.D.DiskModel.left c.do_effect.new.disk) c.do_effect.result c.do_effect.ensures.effect c.do_effect.ensures.counts
+    (failed_cut (way_here (Promise 0) c.loop-effect-test.true c.loop-effect.invariant.way)
+    (g.D.DiskModel.view c.do_effect.new.disk) c.do_effect.new.table (g.D.DiskModel.left c.do_effect.new.disk) c.do_effect.result c.do_effect.ensures.effect c.do_effect.ensures.counts
     c.do_effect.ensures.cut c.do_effect.ensures.covers t s can keep)
 
 pub loop-effect-preserved : goal.loop-effect-preserved
 loop-effect-preserved g c = record {
   way =
-      way_next (g.D.DiskModel.tells c.args.disk.now) (g.D.DiskModel.tells c.do_effect.new.disk) (g.D.DiskModel.view c.args.disk.now)
-      (g.D.DiskModel.view c.do_effect.new.disk) c.args.memory.now c.do_effect.new.memory c.args.table.now c.do_effect.new.table c.args.request.now
-      c.args.effects.now c.loop-effect.effect-index (Promise 0) (g.D.DiskModel.faults c.args.disk.now) (g.D.DiskModel.faults c.do_effect.new.disk)
-      (g.D.DiskModel.steady c.args.disk.now) (g.D.DiskModel.steady c.do_effect.new.disk) (g.D.DiskModel.left c.args.disk.now)
-      (g.D.DiskModel.left c.do_effect.new.disk) c.loop-effect-test.true
-      (next_way (g.D.DiskModel.tells c.args.disk.now) (g.D.DiskModel.view c.args.disk.now) c.args.memory.now c.args.table.now c.args.request.now
-      c.args.effects.now (g.D.DiskModel.faults c.args.disk.now) (g.D.DiskModel.steady c.args.disk.now) (g.D.DiskModel.left c.args.disk.now)
-      (g.D.DiskModel.tells c.loop-effect.disk) (g.D.DiskModel.view c.loop-effect.disk) c.loop-effect.memory c.loop-effect.table
-      (take c.loop-effect.effect-index c.args.effects.now) (get_or c.args.effects.now c.loop-effect.effect-index (Promise 0))
-      (drop (c.loop-effect.effect-index + 1) c.args.effects.now) (g.D.DiskModel.faults c.loop-effect.disk)
-      (g.D.DiskModel.steady c.loop-effect.disk) (g.D.DiskModel.left c.loop-effect.disk)
-      (way_here (g.D.DiskModel.tells c.args.disk.now) (g.D.DiskModel.tells c.loop-effect.disk) (g.D.DiskModel.view c.args.disk.now)
-      (g.D.DiskModel.view c.loop-effect.disk) c.args.memory.now c.loop-effect.memory c.args.table.now c.loop-effect.table c.args.request.now
-      c.args.effects.now c.loop-effect.effect-index (Promise 0) (g.D.DiskModel.faults c.args.disk.now) (g.D.DiskModel.faults c.loop-effect.disk)
-      (g.D.DiskModel.steady c.args.disk.now) (g.D.DiskModel.steady c.loop-effect.disk) (g.D.DiskModel.left c.args.disk.now)
-      (g.D.DiskModel.left c.loop-effect.disk) c.loop-effect-test.true c.loop-effect.invariant.way)
-      (g.D.DiskModel.tells c.do_effect.new.disk) (g.D.DiskModel.view c.do_effect.new.disk) c.do_effect.new.memory c.do_effect.new.table
-      (g.D.DiskModel.faults c.do_effect.new.disk) (g.D.DiskModel.steady c.do_effect.new.disk) (g.D.DiskModel.left c.do_effect.new.disk)
-      c.do_effect.result c.do_effect.ensures.call.tells c.do_effect.ensures.effect c.do_effect.ensures.counts c.do_effect.ensures.call.cause
+      way_next (Promise 0) c.loop-effect-test.true
+      (next_way (way_here (Promise 0) c.loop-effect-test.true c.loop-effect.invariant.way)
+      c.do_effect.ensures.call.tells c.do_effect.ensures.effect c.do_effect.ensures.counts c.do_effect.ensures.call.cause
       (search rules) c.in_ok-do_effect.ensures.noted.done c.in_ok-do_effect.ensures.rows c.in_ok-do_effect.ensures.memory c.in_ok-do_effect.ensures.held c.in_ok-do_effect.ensures.opened);
   frame = c.do_effect.ensures.frame;
   room =
@@ -220,46 +112,16 @@ returns-clause-call g c = record {
 }
 
 pub returns-clause-rest : goal.returns-clause-rest
-returns-clause-rest g c = ended_rest (g.D.DiskModel.tells c.args.disk.now) (g.D.DiskModel.tells c.loop-effect.disk)
-    (g.D.DiskModel.view c.args.disk.now) (g.D.DiskModel.view c.loop-effect.disk) c.args.memory.now c.loop-effect.memory c.args.table.now
-    c.loop-effect.table c.args.request.now c.args.effects.now (take c.loop-effect.effect-index c.args.effects.now)
-    (drop c.loop-effect.effect-index c.args.effects.now) (g.D.DiskModel.faults c.args.disk.now) (g.D.DiskModel.faults c.loop-effect.disk)
-    (g.D.DiskModel.steady c.args.disk.now) (g.D.DiskModel.steady c.loop-effect.disk) (g.D.DiskModel.left c.args.disk.now)
-    (g.D.DiskModel.left c.loop-effect.disk)
-    c.loop-effect.invariant.way (drop_all c.loop-effect.effect-index c.args.effects.now c.loop-effect-test.false)
+returns-clause-rest g c = ended_rest c.loop-effect.invariant.way (drop_all c.loop-effect.effect-index c.args.effects.now c.loop-effect-test.false)
 
 pub returns-clause-moments : goal.returns-clause-moments
-returns-clause-moments g c = λ t s can. ended_moments (g.D.DiskModel.tells c.args.disk.now) (g.D.DiskModel.tells c.loop-effect.disk)
-    (g.D.DiskModel.view c.args.disk.now) (g.D.DiskModel.view c.loop-effect.disk) c.args.memory.now c.loop-effect.memory c.args.table.now
-    c.loop-effect.table c.args.request.now c.args.effects.now (take c.loop-effect.effect-index c.args.effects.now)
-    (drop c.loop-effect.effect-index c.args.effects.now) (g.D.DiskModel.faults c.args.disk.now) (g.D.DiskModel.faults c.loop-effect.disk)
-    (g.D.DiskModel.steady c.args.disk.now) (g.D.DiskModel.steady c.loop-effect.disk) (g.D.DiskModel.left c.args.disk.now)
-    (g.D.DiskModel.left c.loop-effect.disk)
-    c.loop-effect.invariant.way (drop_all c.loop-effect.effect-index c.args.effects.now c.loop-effect-test.false) t s can
+returns-clause-moments g c = ended_moments c.loop-effect.invariant.way (drop_all c.loop-effect.effect-index c.args.effects.now c.loop-effect-test.false)
 
 pub returns-clause-held : goal.returns-clause-held
-returns-clause-held g c = λ t s can. ended_held (g.D.DiskModel.tells c.args.disk.now) (g.D.DiskModel.tells c.loop-effect.disk)
-    (g.D.DiskModel.view c.args.disk.now) (g.D.DiskModel.view c.loop-effect.disk) c.args.memory.now c.loop-effect.memory c.args.table.now
-    c.loop-effect.table c.args.request.now c.args.effects.now (take c.loop-effect.effect-index c.args.effects.now)
-    (drop c.loop-effect.effect-index c.args.effects.now) (g.D.DiskModel.faults c.args.disk.now) (g.D.DiskModel.faults c.loop-effect.disk)
-    (g.D.DiskModel.steady c.args.disk.now) (g.D.DiskModel.steady c.loop-effect.disk) (g.D.DiskModel.left c.args.disk.now)
-    (g.D.DiskModel.left c.loop-effect.disk)
-    c.loop-effect.invariant.way (drop_all c.loop-effect.effect-index c.args.effects.now c.loop-effect-test.false) t s can
+returns-clause-held g c = ended_held c.loop-effect.invariant.way (drop_all c.loop-effect.effect-index c.args.effects.now c.loop-effect-test.false)
 
 pub returns-clause-opened : goal.returns-clause-opened
-returns-clause-opened g c = λ t s o can ends. ended_opened (g.D.DiskModel.tells c.args.disk.now) (g.D.DiskModel.tells c.loop-effect.disk)
-    (g.D.DiskModel.view c.args.disk.now) (g.D.DiskModel.view c.loop-effect.disk) c.args.memory.now c.loop-effect.memory c.args.table.now
-    c.loop-effect.table c.args.request.now c.args.effects.now (take c.loop-effect.effect-index c.args.effects.now)
-    (drop c.loop-effect.effect-index c.args.effects.now) (g.D.DiskModel.faults c.args.disk.now) (g.D.DiskModel.faults c.loop-effect.disk)
-    (g.D.DiskModel.steady c.args.disk.now) (g.D.DiskModel.steady c.loop-effect.disk) (g.D.DiskModel.left c.args.disk.now)
-    (g.D.DiskModel.left c.loop-effect.disk)
-    c.loop-effect.invariant.way (drop_all c.loop-effect.effect-index c.args.effects.now c.loop-effect-test.false) t s can o ends
+returns-clause-opened g c = λ t s o can ends. ended_opened c.loop-effect.invariant.way (drop_all c.loop-effect.effect-index c.args.effects.now c.loop-effect-test.false) t s can o ends
 
 pub returns-clause-counts : goal.returns-clause-counts
-returns-clause-counts g c = λ t s can keep cut. ended_counts (g.D.DiskModel.tells c.args.disk.now) (g.D.DiskModel.tells c.loop-effect.disk)
-    (g.D.DiskModel.view c.args.disk.now) (g.D.DiskModel.view c.loop-effect.disk) c.args.memory.now c.loop-effect.memory c.args.table.now
-    c.loop-effect.table c.args.request.now c.args.effects.now (take c.loop-effect.effect-index c.args.effects.now)
-    (drop c.loop-effect.effect-index c.args.effects.now) (g.D.DiskModel.faults c.args.disk.now) (g.D.DiskModel.faults c.loop-effect.disk)
-    (g.D.DiskModel.steady c.args.disk.now) (g.D.DiskModel.steady c.loop-effect.disk) (g.D.DiskModel.left c.args.disk.now)
-    (g.D.DiskModel.left c.loop-effect.disk)
-    c.loop-effect.invariant.way (drop_all c.loop-effect.effect-index c.args.effects.now c.loop-effect-test.false) t s can keep cut _ refl
+returns-clause-counts g c = λ t s can keep cut. ended_counts c.loop-effect.invariant.way (drop_all c.loop-effect.effect-index c.args.effects.now c.loop-effect-test.false) t s can keep cut _ refl

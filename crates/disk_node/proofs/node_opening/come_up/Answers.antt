@@ -7,13 +7,13 @@ use Rattle.disk_node.proofs.node_opening.come_up.Goals as goal
 pub returns-in-Files-clause-node : goal.returns-in-Files-clause-node
 returns-in-Files-clause-node g c =
     opened_node (g.D.DiskModel.tells c.open_files.new.disk) (g.D.DiskModel.view c.args.disk.now).seen (g.D.DiskModel.view c.open_files.new.disk)
-    c.in-Files.files c.memory_of.result c.memory_of.ensures c.in-Files.ensures.rows.2 c.in-Files.ensures.rows.3
+    c.in-Files.files c.numbers_of.result c.numbers_of.ensures c.in-Files.ensures.rows.2 c.in-Files.ensures.rows.3
     (λ t. c.in-Files.ensures.files (c.open_files.ensures.call.tells.1 t))
 
 pub returns-in-Files-clause-restart : goal.returns-in-Files-clause-restart
 returns-in-Files-clause-restart g c = λ t s has.
-    restarted_up (g.D.DiskModel.view c.args.disk.now) (g.D.DiskModel.view c.open_files.new.disk) c.args.memory.now c.memory_of.result c.args.table.now
-    c.in-Files.files s c.requires.down (rows_start c.args.table.now c.requires.node.told) c.memory_of.ensures (c.in-Files.ensures.files t) has
+    restarted_up (g.D.DiskModel.view c.args.disk.now) (g.D.DiskModel.view c.open_files.new.disk) c.args.memory.now c.numbers_of.result c.args.table.now
+    c.in-Files.files s c.requires.down (rows_start c.args.table.now c.requires.node.told) c.numbers_of.ensures (c.in-Files.ensures.files t) has
 
 pub returns-in-BadFile-clause-node : goal.returns-in-BadFile-clause-node
 returns-in-BadFile-clause-node g c =

@@ -4,7 +4,16 @@ use Rattle.journal_step.specs.declared.durable_effect.DurableEffect.{DurableEffe
 use Rattle.disk_node.specs.Done.{effects_by, HasRoom}
 use Rattle.disk_node.proofs.readying.ready_plan.Goals as goal
 
-pub returns-clause-room : goal.returns-clause-room
-returns-clause-room c = λ gs told.
-    subst (λ (ds : List DurableEffect). HasRoom ds (length c.args.table.now) c.in_ok-ready.ready.room) c.as_slice.ensures
-    (c.in_ok-ready.ensures.room (state_with c.args.memory.now gs) (ap (λ (ds : List DurableEffect). effects_by c.args.request.now ds) c.as_slice.ensures ∙ c.in_ok-plan.ensures.effects gs told))
+pub returns : goal.returns
+returns c = record {
+  at_once = c.requires.at_once;
+  limits = c.requires.limits;
+  front = c.in_ok-plan.ensures.front;
+  refused = c.in_ok-plan.ensures.refusal;
+  effects = c.in_ok-plan.ensures.effects;
+  due = c.in_ok-plan.ensures.due;
+  frame = c.in_ok-ready.ensures.frame;
+  room = λ gs told.
+      subst (λ (ds : List DurableEffect). HasRoom ds (length c.args.table.now) c.in_ok-ready.ready.room) c.as_slice.ensures
+      (c.in_ok-ready.ensures.room (state_with c.args.memory.now gs) (ap (λ (ds : List DurableEffect). effects_by c.args.request.now ds) c.as_slice.ensures ∙ c.in_ok-plan.ensures.effects gs told));
+}

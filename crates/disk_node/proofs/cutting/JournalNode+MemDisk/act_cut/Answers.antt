@@ -12,10 +12,9 @@ pub returns-clause-cut : goal.returns-clause-cut
 returns-clause-cut c =
     let d0 = c.self.inside.disk in
     let d1 = c.cut_in.new.disk in
-    subst (λ p. Cuts (Some (state_in p)) c.args.request.now c.args.calls c.args.cut c.cut_in.result (Some (state_of (disk_view d1).seen c.cut_in.new.memory c.cut_in.new.table))) c.self.view_is
-    (told_both (λ (x y : Option NodeState). Cuts x c.args.request.now c.args.calls c.args.cut c.cut_in.result y) tt (Unit {0}) (Unit {0}) true true
-    (λ t. tt, λ t. tt) (λ t. tt, λ t. tt) (λ t. t, λ t. t)
-    (disk_view d0) (disk_view d1) c.self.inside.memory c.cut_in.new.memory c.self.inside.table c.cut_in.new.table
-    (λ t. (is_sound d0.past.items d0.files).seen_now) (λ t. (is_sound d1.past.items d1.files).seen_now) c.self.invariant.node
-    c.cut_in.ensures.node
+    subst (λ p. Cuts (Some (state_in p)) c.args.request.now c.args.calls c.args.cut c.cut_in.result (Some (state_of
+    (disk_view d1).seen c.cut_in.new.memory.numbers c.cut_in.new.memory.table))) c.self.view_is
+    (told_both {A = Unit {0}} {B = Unit {0}} true true (λ (x y : Option NodeState). Cuts x c.args.request.now c.args.calls c.args.cut c.cut_in.result y) tt (λ t. tt, λ t. tt)
+    (λ t. tt, λ t. tt) (λ t. t, λ t. t)
+    c.self.invariant.node c.cut_in.ensures.node (λ t. (is_sound d0.past.items d0.files).seen_now) (λ t. (is_sound d1.past.items d1.files).seen_now)
     (λ t s has. c.cut_in.ensures.cut s has))

@@ -16,14 +16,12 @@ use Rattle.disk_node.proofs.journal_node.JournalNode.act.Goals as goal
 pub returns-clause-step : goal.returns-clause-step
 returns-clause-step g c =
     subst (λ p. Answers (told_state (g.D.DiskModel.is_told p.disk) (g.D.DiskModel.view p.disk).seen p.memory p.rows) c.args.request.now
-    c.answer.result (told_state (g.D.DiskModel.is_told c.answer.new.disk) (g.D.DiskModel.view c.answer.new.disk).seen c.answer.new.memory
-    c.answer.new.table)) c.self.view_is
-    (told_both (λ (x y : Option NodeState). Answers x c.args.request.now c.answer.result y) tt (g.D.DiskModel.tells c.self.inside.disk)
-    (g.D.DiskModel.tells c.answer.new.disk) (g.D.DiskModel.is_told c.self.inside.disk) (g.D.DiskModel.is_told c.answer.new.disk)
-    (g.met.D.Disk.told_so c.self.inside.disk) (g.met.D.Disk.told_so c.answer.new.disk) c.answer.ensures.tells
-    (g.D.DiskModel.view c.self.inside.disk) (g.D.DiskModel.view c.answer.new.disk) c.self.inside.memory c.answer.new.memory c.self.inside.table
-    c.answer.new.table (λ t. (g.met.D.Disk.sound _ t).seen_now) (λ t. (g.met.D.Disk.sound _ t).seen_now) c.self.invariant.node
-    c.answer.ensures.node
+    c.answer.result (told_state (g.D.DiskModel.is_told c.answer.new.disk) (g.D.DiskModel.view c.answer.new.disk).seen c.answer.new.memory.numbers
+    c.answer.new.memory.table)) c.self.view_is
+    (told_both (g.D.DiskModel.is_told c.self.inside.disk) (g.D.DiskModel.is_told c.answer.new.disk)
+    (λ (x y : Option NodeState). Answers x c.args.request.now c.answer.result y) tt (g.met.D.Disk.told_so c.self.inside.disk)
+    (g.met.D.Disk.told_so c.answer.new.disk) c.answer.ensures.tells
+    c.self.invariant.node c.answer.ensures.node (λ t. (g.met.D.Disk.sound _ t).seen_now) (λ t. (g.met.D.Disk.sound _ t).seen_now)
     (λ t s has. c.answer.ensures.answer t s has))
 
 pub returns-clause-stable : goal.returns-clause-stable
@@ -42,7 +40,7 @@ pub returns-clause-acted : goal.returns-clause-acted
 returns-clause-acted g c =
     subst
     (λ p. IsActed g.D.DiskModel.tells g.D.DiskModel.view p c.args.request.now c.answer.result
-    (record { disk = c.answer.new.disk; memory = c.answer.new.memory; rows = c.answer.new.table; recent = c.answer.new.recent })) c.self.view_is
+    (record { disk = c.answer.new.disk; memory = c.answer.new.memory.numbers; rows = c.answer.new.memory.table; recent = c.answer.new.memory.recent })) c.self.view_is
     (record {
       tells_still = c.answer.ensures.tells.0;
       sound = λ t. g.met.D.Disk.sound c.answer.new.disk t;
@@ -54,5 +52,5 @@ pub returns-clause-spared : goal.returns-clause-spared
 returns-clause-spared g c =
     subst
     (λ p. c.answer.result ≡ Refused OutOfMemory → Rose (g.D.DiskModel.shortages p.disk) (g.D.DiskModel.shortages c.answer.new.disk)
-    ⊎ IsUnchanged (g.D.DiskModel.tells p.disk) (g.D.DiskModel.view p.disk) (g.D.DiskModel.view c.answer.new.disk) p.memory c.answer.new.memory p.rows
-    c.answer.new.table p.recent c.answer.new.recent) c.self.view_is c.answer.ensures.spared
+    ⊎ IsUnchanged (g.D.DiskModel.tells p.disk) (g.D.DiskModel.view p.disk) (g.D.DiskModel.view c.answer.new.disk) p.memory c.answer.new.memory.numbers p.rows
+    c.answer.new.memory.table p.recent c.answer.new.memory.recent) c.self.view_is c.answer.ensures.spared

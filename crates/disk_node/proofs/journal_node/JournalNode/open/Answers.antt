@@ -6,14 +6,14 @@ pub invariant_of-result : goal.invariant_of-result
 invariant_of-result g c = record {
   node =
       opened_node (g.D.DiskModel.tells c.open_files.new.disk) (g.D.DiskModel.view c.args.disk).seen (g.D.DiskModel.view c.open_files.new.disk)
-      c.in-Files.files c.memory_of-memory.result c.memory_of-memory.ensures c.in-Files.ensures.rows.2 c.in-Files.ensures.rows.3
+      c.in-Files.files c.numbers_of.result c.numbers_of.ensures c.in-Files.ensures.rows.2 c.in-Files.ensures.rows.3
       (λ t. c.in-Files.ensures.files (c.open_files.ensures.call.tells.1 t));
-  recalls = λ t. recalls_nothing (g.D.DiskModel.view c.open_files.new.disk) c.memory_of-memory.result c.in-Files.files.table c.in-Ok.recent c.in-Ok.ensures;
+  recalls = λ t. recalls_nothing (g.D.DiskModel.view c.open_files.new.disk) c.numbers_of.result c.in-Files.files.table c.in-Ok.recent c.in-Ok.ensures;
 }
 
 pub returns-in-Files-clause-opened : goal.returns-in-Files-clause-opened
 returns-in-Files-clause-opened g c = λ t.
-    opened_up (g.D.DiskModel.view c.args.disk).seen (g.D.DiskModel.view c.open_files.new.disk) c.in-Files.files c.memory_of-memory.result c.memory_of-memory.ensures (c.in-Files.ensures.files t)
+    opened_up (g.D.DiskModel.view c.args.disk).seen (g.D.DiskModel.view c.open_files.new.disk) c.in-Files.files c.numbers_of.result c.numbers_of.ensures (c.in-Files.ensures.files t)
 
 pub returns-in-Files-clause-moments_ok : goal.returns-in-Files-clause-moments_ok
 returns-in-Files-clause-moments_ok g c = λ t. as_before (g.D.DiskModel.view c.args.disk) (g.D.DiskModel.view c.open_files.new.disk) (c.open_files.ensures.moments t)
