@@ -36,7 +36,7 @@ use Rattle.run_safety.proofs.Between.{head_promise}
 use Rattle.run_safety.proofs.Induction.{said_ok, good}
 
 -- what is final holds an edit, to its end
-final_edit : (i m : ℕ) (past : List Entry) (g : Segment) → find_segment m (node_after i past).segments ≡ Some g → g.is_final ≡ true → (has_edit g ≡ true) × (last_or_start g ≡ end_of g)
+pub final_edit : (i m : ℕ) (past : List Entry) (g : Segment) → find_segment m (node_after i past).segments ≡ Some g → g.is_final ≡ true → (has_edit g ≡ true) × (last_or_start g ≡ end_of g)
 final_edit i m past g found final =
     let edit : has_edit g ≡ true = ((stored_after i past).segments m g found).final_edit final in
     (edit, cond-true (has_edit g) (end_of g) g.start edit)
@@ -81,7 +81,7 @@ module _ (n : ℕ) (story : Story) (past : List Entry) (run : Follows n story pa
       )
 
   -- ## Which purge removes a final segment
-  later_purge : (i m : ℕ) (old : List Entry) (g : Segment) → Earlier old past → find_segment m (node_after i old).segments ≡ Some g → g.is_final ≡ true
+  pub later_purge : (i m : ℕ) (old : List Entry) (g : Segment) → Earlier old past → find_segment m (node_after i old).segments ≡ Some g → g.is_final ≡ true
       → (a s : ℕ) (w : Writer) (min : ℕ) → Sent n story past a s w → w.round ≡ Clean min → g.epoch ≤ (story.takeover a).epoch → end_of g ≤ w.committed → m < w.start
   later_purge i m old g p found final a s w min sent is header low = elim (cases_lt m w.start) [
     | inl above ↦ above

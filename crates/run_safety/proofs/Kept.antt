@@ -63,12 +63,12 @@ module _ (n : ℕ) (story : Story) (past : List Entry) (run : Follows n story pa
       to (λ s. h.epoch ≤ s.promised) (sym (node_here e.node e old refl)) (head_promise (node_after e.node old) e.move r h (inl (c, w, y, is)) ok.at_once at)
 
   -- ## Owners
-  record Mine (old : List Entry) (r : Request) : Type 0 where
-    w : Writer
-    sent : Sent n story past (story.whose (length old)) (story.round (length old)) w
-    is : r ≡ asked (takeover_at story old).epoch (story.round (length old)) w.committed w.round
+  pub record Mine (old : List Entry) (r : Request) : Type 0 where
+    pub w : Writer
+    pub sent : Sent n story past (story.whose (length old)) (story.round (length old)) w
+    pub is : r ≡ asked (takeover_at story old).epoch (story.round (length old)) w.committed w.round
 
-  mine : (old : List Entry) (e : Entry) (r : Request) → Earlier (e ∷ old) past → IsOf e r → Mine old r
+  pub mine : (old : List Entry) (e : Entry) (r : Request) → Earlier (e ∷ old) past → IsOf e r → Mine old r
   mine old e r p q =
       let m = made_of n story old e r (next_of n story p run) q in
       record {
@@ -77,7 +77,7 @@ module _ (n : ℕ) (story : Story) (past : List Entry) (run : Follows n story pa
         is = made_asks n story old m.0 e.node r m.1;
       }
 
-  headed : (old : List Entry) (r : Request) (h : HeadView) (x : Mine old r) → head_of r ≡ Some h → (h.epoch ≡ (takeover_at story old).epoch) × (0 < story.round (length old))
+  pub headed : (old : List Entry) (r : Request) (h : HeadView) (x : Mine old r) → head_of r ≡ Some h → (h.epoch ≡ (takeover_at story old).epoch) × (0 < story.round (length old))
   headed old r h x at = ((head_round (takeover_at story old).epoch (story.round (length old)) x.w.committed x.w.round r h x.is at).0, positive (story.round (length old)) refl)
     where
       positive : (s : ℕ) → story.round (length old) ≡ s → 0 < s
@@ -167,7 +167,7 @@ module _ (n : ℕ) (story : Story) (past : List Entry) (run : Follows n story pa
     not_higher i y best is (Some info) at = not_above info best.info (to (λ o. IsTop info o) is
         (best_is_top m 1 x.slots i (Told (AnswerHeard (Prepared y.writer y.known y.segment))) info y.at (ap (λ z. segment_told z (Prepared y.writer y.known y.segment)) y.fits ∙ at)))
 
-  accepting : (old : List Entry) (e : Entry) (h : HeadView) (b : BatchView) → Earlier (e ∷ old) past → IsOf e (Accept h b) → Rec n story past run h.epoch b
+  pub accepting : (old : List Entry) (e : Entry) (h : HeadView) (b : BatchView) → Earlier (e ∷ old) past → IsOf e (Accept h b) → Rec n story past run h.epoch b
   accepting old e h b p is =
       let z : OfRound n story past (Accept h b) = round_within n story past old e (Accept h b) run p is in
       let r : (z.w.round ≡ Recover b) × (h.epoch ≡ (story.takeover z.a).epoch) = accept_round (story.takeover z.a).epoch z.s z.w.committed z.w.round h b z.is in
@@ -201,7 +201,7 @@ module _ (n : ℕ) (story : Story) (past : List Entry) (run : Follows n story pa
           }
 
   -- ## A segment is opened or accepted
-  rounds_apart : (e : ℕ) (b : BatchView) → (o : Opn n story past run e b.first) → (r : Rec n story past run e b) → o.a ≡ r.a → ⊥
+  pub rounds_apart : (e : ℕ) (b : BatchView) → (o : Opn n story past run e b.first) → (r : Rec n story past run e b) → o.a ≡ r.a → ⊥
   rounds_apart e b o r one = elim (cases_order o.s r.s) [
     | inl same ↦ (let w : o.w ≡ r.w = some_same (sym o.sent.at ∙ (ap (λ s. seen_at n (story.takeover o.a) s) same ∙ at)) in
         let no : Open b.first ≡ Recover b = sym o.is ∙ (ap (λ z. z.round) w ∙ r.is) in cc)

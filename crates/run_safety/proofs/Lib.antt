@@ -34,8 +34,11 @@ pub mod FinalCopies
 pub mod Openings
 pub mod Chain
 pub mod Finalised
+pub mod Halves
+pub mod KeepsLaws
 pub mod Checker
 pub mod Worked
+pub mod WorkedHalves
 pub mod Entering
 pub mod Tales
 pub mod Fair

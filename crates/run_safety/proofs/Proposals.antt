@@ -54,7 +54,7 @@ module _ (n : ℕ) (story : Story) (past : List Entry) (run : Follows n story pa
           (shared.0, y.0, h.0, h.1, h.2, h.3, y.2, to (λ o. ToldNewest past shared.0 f o) y.1 v.1)
 
   -- ## How a segment goes
-  only_removed : (s : NodeState) (r : Request) (m : ℕ) (g : Segment) (o new : Option Segment) → Change s r m o new → o ≡ Some g → new ≡ None
+  pub only_removed : (s : NodeState) (r : Request) (m : ℕ) (g : Segment) (o new : Option Segment) → Change s r m o new → o ≡ Some g → new ≡ None
       → (h : HeadView) × (min : ℕ) × (r ≡ Purge h min) × (last_or_start g ≤ h.committed) × (has_edit g ≡ true → newest s.segments ≡ Some m → ⊥)
   only_removed s r m g o new same a b = none≢some g (sym b ∙ a)
   only_removed s r m g o new (created h q none) a b = none≢some _ (sym b)

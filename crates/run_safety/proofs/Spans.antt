@@ -1,6 +1,6 @@
 -- The txids that the rounds of one takeover write: each once, segment after segment.
 use Rattle.std.proofs.Common.{◌≡◌, ℕ, zero, suc, ◌+◌, ◌<◌, ◌≤◌, ◌⊎◌, length, Some, refl, inl, inr, arith, subst, sym, ap, ◌∙◌}
-use Rattle.std.proofs.lemmas.Bool.{cases_order}
+use Rattle.std.proofs.lemmas.Bool.{cases_lt, cases_order}
 use Rattle.journal_core.specs.Views.{BatchView, last_txid}
 use Rattle.writer_core.specs.Whole.{Takeover}
 use Rattle.writer_core.specs.Rounds.{start_record, batch_from}
@@ -318,3 +318,20 @@ clean_below_start n t s k w x min m txid a b p c above = elim (cases_order s k) 
         let h2 : w.next ≤ low_of x x.round = subst (λ r. end_below w r ≤ low_of x x.round) p h in
         let h3 : w.next ≤ c.batch.first = subst (λ r. w.next ≤ low_of x r) d.0 h2 in omega (arith, f.0, d.1))
     later lt (inr d) = upward (write_start x m c.batch (frame n t k x b) d) (against n t s k w x (omega arith) a b (write_is x m c.batch d))
+
+-- and below every other opening or recovery that begins above the segment
+pub clean_below_round : (n : ℕ) (t : Takeover) (s k : ℕ) (w x : Writer) (min : ℕ) → seen_at n t s ≡ Some w → seen_at n t k ≡ Some x → w.round ≡ Clean min
+    → (IsWriting x.round → ⊥) → (x.round ≡ Open w.start → ⊥) → w.start < end_below x x.round → w.committed < low_of x x.round
+clean_below_round n t s k w x min a b p quiet other above = elim (cases_lt s k) [
+  | inl lt ↦ (let h : end_below w w.round ≤ low_of x x.round = below_later n t s k w x lt a b in
+      let h2 : w.next ≤ low_of x x.round = subst (λ r. end_below w r ≤ low_of x x.round) p h in omega (arith, f.0))
+  | inr le ↦ absurd (place (against n t k s x w le b a (subst (λ r. IsWriting r) (sym p) tt)))
+]
+  where
+    f : (w.committed + 1 ≡ w.next) × (1 ≤ w.start) × (w.start < w.next)
+    f = subst (λ r. Framed w r) p (frame n t s w a)
+
+    place : Against n t k x w.start → ⊥
+    place (below_it h) = omega arith
+    place (opens_it q) = other q
+    place (in_it writing q) = quiet writing

@@ -26,12 +26,12 @@ use Rattle.run_safety.proofs.Safety.{chosen_on_line, chosen_agree, acknowledged_
 use Rattle.run_safety.proofs.Kept.{segments_chained}
 use Rattle.run_safety.proofs.Checker.{passes, follows, said, said_is, no_start, none_starts}
 
-it_passes : passes 3 tables (reverse recovered_edit) ≡ true
+pub it_passes : passes 3 tables (reverse recovered_edit) ≡ true
 unfolding find_segment put_segment remove_segment newest limit_of after_effects node_step effects_of best_from greatest_newest judgment after_fetch
     log_limit writer_begun fill_slots next_task writer_at node_after
 it_passes = refl
 
-pub is_run : IsRun 3 recovered_edit
+unfoldable pub is_run : IsRun 3 recovered_edit
 is_run = (story_of tables, follows 3 tables (reverse recovered_edit) it_passes)
 
 -- ## What the nodes hold

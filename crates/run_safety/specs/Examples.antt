@@ -4,11 +4,11 @@
 use Rattle.std.specs.Prelude.{ℕ, ◌++◌, false, List, [], ◌∷◌, map, None, Some}
 use Rattle.journal_core.specs.Views.{HeadView, BatchView}
 use Rattle.journal_core.specs.declared.request.Request.{Request}
-use Rattle.journal_core.specs.declared.request.Request.TheVariants.{NewEpoch, Start, Journal, Finalize, Prepare, Fetch, Accept}
+use Rattle.journal_core.specs.declared.request.Request.TheVariants.{NewEpoch, Start, Journal, Finalize, Prepare, Fetch, Accept, Purge}
 use Rattle.journal_core.specs.declared.refusal.Refusal.TheVariants.{SegmentHasEdits}
 use Rattle.journal_core.specs.declared.reply.Reply.{Reply}
 use Rattle.journal_core.specs.declared.reply.Reply.TheVariants as reply
-use Rattle.writer_core.specs.declared.task.Task.TheVariants.{Log}
+use Rattle.writer_core.specs.declared.task.Task.TheVariants.{Log, Roll, Purge as TrimTo}
 use Rattle.journal_history.specs.Entries.{Heard, Muted, Late, Answer, Stop, Kill, Restart, Entry}
 use Rattle.run_safety.specs.Tables.{Told, TakeoverTable, Call, Tables}
 
@@ -136,6 +136,43 @@ tables =
           ++ rounds 0 (0 ∷ 0 ∷ 1 ∷ [])
           ++ rounds 1 (0 ∷ 0 ∷ 1 ∷ 1 ∷ 1 ∷ 0 ∷ 2 ∷ 3 ∷ 3 ∷ 3 ∷ 4 ∷ 4 ∷ 4 ∷ 5 ∷ 5 ∷ 5 ∷ 6 ∷ 6 ∷ 6 ∷ 7 ∷ 7 ∷ 7 ∷ []);
     }
+
+-- ## A purge
+-- A writer of one node logs an edit in segment 1, rolls to segment 4, and purges from there what
+-- ends below txid 4.
+abbrev pub purged : List Entry
+purged =
+    heard_at 0 (NewEpoch 1) (reply.NewEpoch None) 1
+    ∷ heard_at 0 (Start (head 1 1 0) 1) reply.Ok 1
+    ∷ heard_at 0 (Journal (head 1 2 0) 1 (one_edit 1 begin)) reply.Ok 1
+    ∷ heard_at 0 (Journal (head 1 3 1) 1 (one_edit 2 edit)) reply.Ok 1
+    ∷ heard_at 0 (Journal (head 1 4 2) 1 (one_edit 3 (23 ∷ []))) reply.Ok 1
+    ∷ heard_at 0 (Finalize (head 1 5 3) 1 3) reply.Ok 1
+    ∷ heard_at 0 (Start (head 1 6 3) 4) reply.Ok 1
+    ∷ heard_at 0 (Journal (head 1 7 3) 4 (one_edit 4 begin)) reply.Ok 1
+    ∷ heard_at 0 (Purge (head 1 8 4) 4) reply.Ok 1
+    ∷ []
+
+abbrev pub purging_takeover : TakeoverTable
+purging_takeover =
+    record {
+      caller = 0;
+      epoch = 1;
+      tasks = Log (edit ∷ []) ∷ Roll ∷ TrimTo 4 ∷ [];
+      answers =
+          answers 0 (reply.NewEpoch None) (1 ∷ [])
+          ++ answers 1 reply.Ok (1 ∷ [])
+          ++ answers 2 reply.Ok (1 ∷ [])
+          ++ answers 3 reply.Ok (1 ∷ [])
+          ++ answers 4 reply.Ok (1 ∷ [])
+          ++ answers 5 reply.Ok (1 ∷ [])
+          ++ answers 6 reply.Ok (1 ∷ [])
+          ++ answers 7 reply.Ok (1 ∷ [])
+          ++ answers 8 reply.Ok (1 ∷ []);
+    }
+
+abbrev pub purging_tables : Tables
+purging_tables = record { takeovers = purging_takeover ∷ []; calls = rounds 0 (0 ∷ 1 ∷ 2 ∷ 3 ∷ 4 ∷ 5 ∷ 6 ∷ 7 ∷ 8 ∷ []) }
 
 -- ## What isn't a run, and what isn't safe
 -- a node that promises one epoch twice

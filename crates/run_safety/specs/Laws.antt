@@ -72,17 +72,16 @@ CarriedCommittedIsOnLine =
 
 -- each txid up to the one that a node knows to be committed is chosen, under an epoch that its
 -- promise isn't below
-abbrev pub KnownCommittedIsChosen : Type 0
-KnownCommittedIsChosen =
-    (n : ℕ) (entries : List Entry) (node txid : ℕ) → IsRun n entries
-    → 1 ≤ txid → txid ≤ (node_at node entries).known
-    → (epoch : ℕ) × (body : List ℕ) × (epoch ≤ (node_at node entries).promised) × IsChosen n (reverse entries) epoch txid body
+abbrev pub KnownCommittedIsChosen : ℕ → List Entry → Type 0
+KnownCommittedIsChosen n past =
+    (node txid : ℕ) → 1 ≤ txid → txid ≤ (node_after node past).known
+    → (epoch : ℕ) × (body : List ℕ) × (epoch ≤ (node_after node past).promised) × IsChosen n past epoch txid body
 
 -- each txid up to the one that a request of the run carries is chosen, under an epoch that isn't
 -- above the request's
-abbrev pub CarriedCommittedIsChosen : Type 0
-CarriedCommittedIsChosen =
-    (n : ℕ) (entries old : List Entry) (e : Entry) (request : Request) (head : HeadView) (txid : ℕ) → IsRun n entries
-    → Earlier (e ∷ old) (reverse entries) → IsOf e request → head_of request ≡ Some head
+abbrev pub CarriedCommittedIsChosen : ℕ → List Entry → Type 0
+CarriedCommittedIsChosen n past =
+    (old : List Entry) (e : Entry) (request : Request) (head : HeadView) (txid : ℕ)
+    → Earlier (e ∷ old) past → IsOf e request → head_of request ≡ Some head
     → 1 ≤ txid → txid ≤ head.committed
-    → (epoch : ℕ) × (body : List ℕ) × (epoch ≤ head.epoch) × IsChosen n (reverse entries) epoch txid body
+    → (epoch : ℕ) × (body : List ℕ) × (epoch ≤ head.epoch) × IsChosen n past epoch txid body

@@ -3,6 +3,7 @@ pub mod Run
 pub mod Safe
 pub mod Laws
 pub mod Parts
+pub mod Keeps
 pub mod Tables
 pub mod Examples
 pub mod Sized

@@ -1,8 +1,14 @@
 //! Worked runs, computed when the crate is checked.
-ghost use Rattle.std.specs.Prelude.{ℕ, ◌≡◌, ◌<◌, List, reverse};
+ghost use Rattle.std.specs.Prelude.{ℕ, ◌≡◌, ◌<◌, List, [], ◌∷◌, drop, reverse, None, Some, false};
+ghost use Rattle.journal_core.specs.Segments.{find_segment};
+ghost use Rattle.journal_core.specs.declared.segment.Segment.{Segment};
+ghost use Rattle.journal_history.specs.Entries.{node_after};
+ghost use Rattle.run_safety.specs.Majority.{IsMajority};
+ghost use Rattle.run_safety.specs.Parts.{IsFrom, TookEpoch};
 ghost use Rattle.run_safety.specs.Run.{IsRun};
-ghost use Rattle.run_safety.specs.Safe.{HasBody, IsAcknowledged, IsOnLine, IsRecovered, IsSafe};
-ghost use Rattle.run_safety.specs.Examples.{recovered_edit, recovered_log, its_line, begin, edit, later, promised_twice, split};
+ghost use Rattle.run_safety.specs.Safe.{HasBody, IsAcknowledged, IsHeld, IsOnLine, IsRecovered, IsSafe};
+ghost use Rattle.run_safety.specs.Tables.{story_of};
+ghost use Rattle.run_safety.specs.Examples.{recovered_edit, recovered_log, its_line, begin, edit, later, tables, purged, purging_tables, promised_twice, split};
 
 /// Two competing writers over three nodes, a kill, a restart, a late copy, a stop inside a prepare,
 /// the recovery of an acknowledged edit and of one that a single node held, and an edit of the
@@ -37,6 +43,27 @@ pub fn safety_keeps_the_edit()
 pub fn its_line_is_known()
     ensures has { (txid : ℕ) → (body : List ℕ) → HasBody 1 its_line txid body → IsOnLine 3 (reverse recovered_edit) txid body }
     ensures only { (txid : ℕ) → (body other : List ℕ) → HasBody 1 its_line txid body → IsOnLine 3 (reverse recovered_edit) txid other → other ≡ body }
+{}
+
+/// Nodes 1 and 2 took epoch 2 from the second takeover, so whichever takeover a majority took it
+/// from is the second.
+pub fn epoch_two_is_one_takeovers()
+    ensures took { TookEpoch (story_of tables) (reverse recovered_edit) 1 2 (1 ∷ 2 ∷ []) }
+    ensures one { (takeover : ℕ) → (nodes : List ℕ) → IsMajority 3 nodes → TookEpoch (story_of tables) (reverse recovered_edit) takeover 2 nodes → takeover ≡ 1 }
+{}
+
+/// Whatever a node held of segment 1 under epoch 2 is the log that epoch 2 recovered.
+pub fn epoch_two_has_one_value()
+    ensures { (node : ℕ) → (g : Segment) → IsHeld (reverse recovered_edit) node g → g.start ≡ 1 → g.epoch ≡ 2 → g.bodies ≡ recovered_log }
+{}
+
+/// A writer logs, rolls and purges: a run. Its purge is sent from segment 4, and removes segment 1
+/// alone.
+pub fn a_purge_keeps_its_segment()
+    ensures run { IsRun 1 purged }
+    ensures from { IsFrom 1 (story_of purging_tables) (drop 1 (reverse purged)) 4 }
+    ensures gone { find_segment 1 (node_after 1 (reverse purged)).segments ≡ None }
+    ensures kept { find_segment 4 (node_after 1 (reverse purged)).segments ≡ Some (record { start = 4; epoch = 1; bodies = begin ∷ []; is_final = false; accepted = false }) }
 {}
 
 /// A node that promises one epoch twice: no run.

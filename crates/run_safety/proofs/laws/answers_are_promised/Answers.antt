@@ -3,4 +3,4 @@ use Rattle.run_safety.proofs.Kept.{answer_promised}
 use Rattle.run_safety.proofs.laws.answers_are_promised.Goals as goal
 
 pub returns : goal.returns
-returns c = λ n entries old e caller way request reply head run p is fine at. answer_promised n run.0 (reverse entries) run.1 old e caller way request reply head p is fine at
+returns c = λ n entries run old e caller way request reply head p is fine at. answer_promised n run.0 (reverse entries) run.1 old e caller way request reply head p is fine at

@@ -3,4 +3,4 @@ use Rattle.run_safety.proofs.FinalCopies.{final_has_all}
 use Rattle.run_safety.proofs.laws.final_copies_have_all.Goals as goal
 
 pub returns : goal.returns
-returns c = λ n entries i j g h t x run hg hh final start epoch has. final_has_all n run.0 (reverse entries) run.1 i j g h t x hg hh final start epoch has
+returns c = λ n entries run i j g h t x hg hh final start epoch has. final_has_all n run.0 (reverse entries) run.1 i j g h t x hg hh final start epoch has

@@ -3,4 +3,4 @@ use Rattle.run_safety.proofs.Authors.{line_author}
 use Rattle.run_safety.proofs.laws.line_has_authors.Goals as goal
 
 pub returns : goal.returns
-returns c = λ n entries t x run on. line_author n run.0 (reverse entries) run.1 t x on
+returns c = λ n entries run t x on. line_author n run.0 (reverse entries) run.1 t x on

@@ -3,4 +3,4 @@ use Rattle.run_safety.proofs.Kept.{starts_chained}
 use Rattle.run_safety.proofs.laws.starts_are_chained.Goals as goal
 
 pub returns : goal.returns
-returns c = λ n entries old e f k run p is. starts_chained n run.0 (reverse entries) run.1 old e f k p is
+returns c = λ n entries run old e f k p is. starts_chained n run.0 (reverse entries) run.1 old e f k p is
