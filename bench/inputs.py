@@ -157,6 +157,11 @@ def big_segment(with_calls):
     return making.segment(1, 1, bodies_of(edits), lambda: r.randint(1, 20))
 
 
+def big_listing():
+    """The listing as JSON of the first of those segments."""
+    return making.listing(['start', *some_edits(16_382, 7), 'end'], 1)
+
+
 def big_image(inodes, seed=3):
     """So many inodes, 100 files a directory."""
     r = random.Random(seed)
@@ -245,6 +250,7 @@ def make_all(folder):
         'reads_first': lambda: reads(16_001, 200, True),
         'segment': lambda: big_segment(False),
         'calls': lambda: big_segment(True),
+        'listing': big_listing,
         'image': lambda: big_image(100_000),
         'image_big': lambda: big_image(1_000_000),
     }

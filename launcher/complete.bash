@@ -1,4 +1,4 @@
-# Completion of ./qjm in bash: commands, the listings of oev and oiv, scripts, and the files of the current folder that a listing
+# Completion of ./qjm in bash: commands, the tools of oev and oiv, scripts, and the files of the current folder that a tool
 # takes. To be read by the shell (in ~/.bashrc, say):
 #
 #   . /path/to/launcher/complete.bash
@@ -8,7 +8,7 @@ _qjm_words() {
   case $COMP_CWORD,${COMP_WORDS[1]-} in
     1,*) echo 'play run gen node fsck oev oiv draw rules test help --build --version --help' ;;
     2,help) echo 'play run gen node fsck oev oiv draw rules test --build' ;;
-    2,oev) echo 'list stats json' ;;
+    2,oev) echo 'list stats json back' ;;
     2,oiv) echo 'delimited sizes json' ;;
     2,node) echo '--unchecked' ;;
     *,draw) echo '--svg --whole' ;;
@@ -20,7 +20,7 @@ _qjm() {
   mapfile -t COMPREPLY < <(compgen -W "$(_qjm_words)" -- "$word")
   case $COMP_CWORD,${COMP_WORDS[1]-} in
     2,play | 2,run) pattern='*.qjm' ;;
-    3,oev) pattern='edits_*' ;;
+    3,oev) [ "${COMP_WORDS[2]}" = back ] && pattern='*' || pattern='edits_*' ;;
     3,oiv) pattern='fsimage_*' ;;
   esac
   [ -z "$pattern" ] || mapfile -t COMPREPLY < <(compgen -f -X "!$pattern" -- "$word"; compgen -d -- "$word")

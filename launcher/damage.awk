@@ -1,28 +1,6 @@
 # What is wrong with a frame or an edit's record of a segment's file, in one sentence. The input is the file's bytes as numbers, from
 # two before the told place on (those two are an edit's size); `cause` is what the program told, `left` how many bytes the file has
-# from the place on. Nothing is written where the cause isn't seen here.
-
-BEGIN {
-  learn(0, "ADD", "path:path replication:2 mtime:8 atime:8 blocksize:8 permission:2 user:name group:name")
-  learn(1, "RENAME_OLD", "src:path dst:path time:8")
-  learn(2, "DELETE", "path:path time:8")
-  learn(3, "MKDIR", "path:path time:8 permission:2 user:name group:name")
-  learn(4, "SET_REPLICATION", "path:path replication:2")
-  learn(7, "SET_PERMISSIONS", "path:path permission:2")
-  learn(8, "SET_OWNER", "path:path user:name group:name")
-  learn(9, "CLOSE", "path:path mtime:8 atime:8 lengths:numbers")
-  learn(13, "TIMES", "path:path mtime:8 atime:8")
-  learn(14, "SET_QUOTA", "path:path names:8 space:8")
-  learn(15, "RENAME", "src:path dst:path time:8 overwrite:flag")
-  learn(16, "CONCAT_DELETE", "target:path time:8 sources:paths")
-  learn(23, "END_LOG_SEGMENT", "")
-  learn(24, "START_LOG_SEGMENT", "")
-}
-
-function learn(code, name, fields) {
-  kind_name[code] = name
-  kind_fields[code] = fields
-}
+# from the place on. Nothing is written where the cause isn't seen here. launcher/edits.awk has the kinds of edits.
 
 { for (i = 1; i <= NF; i++) byte[count++ - 2] = $i }
 
@@ -68,7 +46,7 @@ function judge_edit(    code, fields, many, k, pair, why) {
     where += 20
   }
   if (!(code in kind_name)) return
-  many = split(kind_fields[code], fields, " ")
+  many = split(kind_fields[kind_name[code]], fields, " ")
   for (k = 1; k <= many && why == ""; k++) {
     split(fields[k], pair, ":")
     why = fault_of(pair[2])

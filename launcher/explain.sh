@@ -108,7 +108,24 @@ row_of_cause() {
 see_damage() {
   [ "$command" = oev ] && [ "$3" -ge 2 ] || return 0
   od -An -v -tu1 -j $(($3 - 2)) -N 70000 -- "$2" 2>/dev/null |
-    awk -v cause="$1" -v left=$(($(wc -c <"$2") - $3)) -f "$top/launcher/damage.awk"
+    awk -v cause="$1" -v left=$(($(wc -c <"$2") - $3)) -f "$top/launcher/edits.awk" -f "$top/launcher/damage.awk"
+}
+
+# Says what a listing has that becomes no segment, as far as its text shows it, of a bad member with the member itself, and what to do
+# about it.
+explain_listing() {
+  LC_ALL=C awk -v cause="$2" -v place="$1" -v txid=$((asked_start + $1)) -f "$top/launcher/edits.awk" -f "$top/launcher/listing.awk" \
+    <"$3" >"$room/seen" 2>/dev/null
+  words=$(sed -n 1p "$room/seen")
+  words=${words:-$(cell causes "$2" 1)}
+  case $2 in
+    Json) printf '%s, %s\n' "$3" "$words" | say_lines ;;
+    *)
+      printf '%s, member %s: %s\n' "$3" "$1" "$words" | say_lines
+      printf '> %6d | %s\n' "$1" "$(sed -n 2p "$room/seen")" >&2
+      ;;
+  esac
+  tell_advice causes "$2" 2
 }
 
 # A byte of a file in hexadecimal digits.
@@ -124,6 +141,7 @@ explain_damage() {
     cell causes NoFile 2 | say_lines
     return
   fi
+  case $2 in Json | Entry) explain_listing "$1" "$2" "$3"; return ;; esac
   words=$(see_damage "$2" "$3" "$1")
   printf '%s, byte %s: %s\n' "$3" "$1" "${words:-$(cell causes "$(row_of_cause "$2" "$3" "$1")" 1)}" | say_lines
   case $(kind_of_name "${3##*/}") in
@@ -168,7 +186,7 @@ explain_bad_file() {
 
 # Says what the status means, what its fault line says, and what to do. Where a reader went away nothing is said.
 explain() {
-  command=${1-} asked_file=${3-}
+  command=${1-} asked_file=${3-} asked_start=${4-}
   [ "$status" -ne 7 ] || ! is_output_a_pipe || return 0
   fault=$(find_fault "$@" 2>/dev/null)
   case $fault in error\ *) ;; *) fault='' ;; esac

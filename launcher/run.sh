@@ -56,6 +56,7 @@ try_sources() {
   say "a quick run of the sources, not of the proved program: it takes a minute or so (./qjm --build makes that, once)"
   case $#$1 in
     3oev | 3oiv) set -- "$1" "$2" "$(name_from_root "$3")" ;;
+    5oev) set -- "$1" "$2" "$(name_from_root "$3")" "$4" "$5" ;;
   esac
   (cd "$top/crates/qjm" && exec rt try -- "$@") <&3 >"$room/output" 2>"$room/notes"
   status=$?

@@ -4,6 +4,9 @@
 readonly PROGRAM_COMMANDS='play run gen node oev oiv fsck' OWN_COMMANDS='draw rules test help'
 readonly SEGMENT_LISTINGS='list stats json' IMAGE_LISTINGS='delimited sizes json'
 
+# The greatest number that a word may be.
+readonly GREATEST=4611686018427387904
+
 # Whether a word is one of several.
 is_among() {
   case $1 in '' | *' '*) return 1 ;; esac
@@ -27,9 +30,22 @@ place_in_listing() {
   fi
 }
 
+# The place of the first wrong word of `oev back NAME START EPOCH`.
+place_in_back() {
+  if [ $# -lt 3 ]; then
+    echo 2
+  elif ! is_number "${4-}" 1 "$GREATEST"; then
+    echo 3
+  elif ! is_number "${5-}" 1 "$GREATEST"; then
+    echo 4
+  elif [ $# -gt 5 ]; then
+    echo 5
+  fi
+}
+
 # The place of the first wrong word of `gen NUMBER EDITS NODES`.
 place_in_gen() {
-  if ! is_number "${2-}" 0 4611686018427387904; then
+  if ! is_number "${2-}" 0 "$GREATEST"; then
     echo 1
   elif ! is_number "${3-}" 0 10000; then
     echo 2
@@ -43,27 +59,31 @@ place_in_gen() {
 # The place of the first wrong word of a program's command, counted from 0, or how many there are where one is missing. Nothing
 # where the words are a command. The program's own rule is the same, and waits for no quick run here.
 wrong_place() {
-  case ${1-} in
-    play | run | node | fsck) [ $# -eq 1 ] || echo 1 ;;
-    oev) place_in_listing "$SEGMENT_LISTINGS" "$@" ;;
-    oiv) place_in_listing "$IMAGE_LISTINGS" "$@" ;;
-    gen) place_in_gen "$@" ;;
+  case ${1-},${2-} in
+    play,* | run,* | node,* | fsck,*) [ $# -eq 1 ] || echo 1 ;;
+    oev,back) place_in_back "$@" ;;
+    oev,*) place_in_listing "$SEGMENT_LISTINGS" "$@" ;;
+    oiv,*) place_in_listing "$IMAGE_LISTINGS" "$@" ;;
+    gen,*) place_in_gen "$@" ;;
     *) echo 0 ;;
   esac
 }
 
 # Which words may stand at this place.
 legal_words() {
-  case $1${2-} in
-    0* | 1help) echo "the commands are $PROGRAM_COMMANDS $OWN_COMMANDS" ;;
-    1node) echo 'after `node` comes nothing, or `--unchecked` alone' ;;
-    1play | 1run) echo "after \`$2\` comes nothing, or the name of one file" ;;
-    1oev) echo "after \`oev\` comes one of $SEGMENT_LISTINGS" ;;
-    1oiv) echo "after \`oiv\` comes one of $IMAGE_LISTINGS" ;;
-    2oev | 2oiv) echo "the name of a file comes last" ;;
-    1gen) echo "NUMBER is from 0 to 4611686018427387904, without a leading zero" ;;
-    2gen) echo "EDITS is from 0 to 10000, without a leading zero" ;;
-    3gen) echo "NODES is from 1 to 15" ;;
+  case $1${2-},${3-} in
+    0* | 1help,*) echo "the commands are $PROGRAM_COMMANDS $OWN_COMMANDS" ;;
+    1node,*) echo 'after `node` comes nothing, or `--unchecked` alone' ;;
+    1play,* | 1run,*) echo "after \`$2\` comes nothing, or the name of one file" ;;
+    1oev,*) echo "after \`oev\` comes one of $SEGMENT_LISTINGS back" ;;
+    1oiv,*) echo "after \`oiv\` comes one of $IMAGE_LISTINGS" ;;
+    2oev,back) echo "the name of a listing comes next, then START and EPOCH" ;;
+    2oev,* | 2oiv,*) echo "the name of a file comes last" ;;
+    3oev,back) echo "START is from 1 to $GREATEST, without a leading zero" ;;
+    4oev,back) echo "EPOCH is from 1 to $GREATEST, without a leading zero" ;;
+    1gen,*) echo "NUMBER is from 0 to $GREATEST, without a leading zero" ;;
+    2gen,*) echo "EDITS is from 0 to 10000, without a leading zero" ;;
+    3gen,*) echo "NODES is from 1 to 15" ;;
     *) echo "no further word is wanted" ;;
   esac
 }

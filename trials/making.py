@@ -1,4 +1,4 @@
-"""Makes random inputs of qjm, for trials/differ, and the bytes of edits, segments and images, for bench/ too.
+"""Makes random inputs of qjm, for trials/differ, and the bytes of edits, segments, listings and images, for trials/back and bench/ too.
 
 Everything is made after docs/FORMATS.md and docs/FILES.md. A case is a list of steps in one folder: the words of a command and its
 standard input; and the files that the folder has before the first step.
@@ -18,9 +18,11 @@ class Case:
     files: dict = field(default_factory=dict)
 
 
-# ## Bytes: edit records, segments' files, images
+# ## Bytes: edit records, segments' files
 
 CODES = dict(add=0, mv=1, delete=2, mkdir=3, setrep=4, chmod=7, setowner=8, close=9, times=13, quota=14, rename=15, concat=16)
+# The records that begin and end a segment have no text of their own; here they have these.
+MARKS = dict(start=b'\x18', end=b'\x17')
 
 
 def text(value):
@@ -67,6 +69,11 @@ def record(line):
     return bytes([CODES[kind] + (64 if call else 0)]) + call + fields
 
 
+def body(line):
+    """The record of an edit or a mark."""
+    return MARKS.get(line) or record(line)
+
+
 def frame(first, bodies):
     inner = struct.pack('>QI', first, len(bodies)) + b''.join(struct.pack('>H', len(body)) + body for body in bodies)
     return b'\xa5' + struct.pack('>I', len(inner)) + inner
@@ -81,6 +88,51 @@ def segment(start, epoch, bodies, size):
         at += count
     return b''.join(parts) + b'\0'
 
+
+# ## Listings as JSON
+
+NAMES = dict(add='ADD', mv='RENAME_OLD', delete='DELETE', mkdir='MKDIR', setrep='SET_REPLICATION', chmod='SET_PERMISSIONS',
+             setowner='SET_OWNER', close='CLOSE', times='TIMES', quota='SET_QUOTA', rename='RENAME', concat='CONCAT_DELETE',
+             start='START_LOG_SEGMENT', end='END_LOG_SEGMENT')
+KEYS = dict(add='path replication mtime atime blocksize permission user group', mv='src dst time', delete='path time',
+            mkdir='path time permission user group', setrep='path replication', chmod='path permission', setowner='path user group',
+            close='path mtime atime lengths', times='path mtime atime', quota='path nsquota dsquota', rename='src dst time overwrite',
+            concat='target time sources', start='', end='')
+
+
+def quoted(text):
+    return '"' + text.replace('\\', '\\\\').replace('"', '\\"') + '"'
+
+
+def members(line, txid):
+    """The object of an edit in a listing, from its text: each key with its value as JSON."""
+    words = line.split(' ')
+    found = {'txid': str(txid)}
+    if words[0] == 'call':
+        found |= {'clientid': quoted(words[1]), 'callid': words[2]}
+        words = words[3:]
+    found['op'] = quoted('OP_' + NAMES[words[0]])
+    for place, key in enumerate(KEYS[words[0]].split(), 1):
+        if key in ('lengths', 'sources'):
+            found[key] = '[' + ','.join(word if key == 'lengths' else quoted(word) for word in words[place:]) + ']'
+        elif key == 'overwrite':
+            found[key] = 'true' if words[place] == 'yes' else 'false'
+        elif key == 'permission':
+            found[key] = str(int(words[place], 8))
+        elif key in ('path', 'src', 'dst', 'target', 'user', 'group'):
+            found[key] = quoted('' if words[0] == 'setowner' and key != 'path' and words[place] == '-' else words[place])
+        else:
+            found[key] = words[place]
+    return found
+
+
+def listing(lines, start):
+    """What `oev json` writes of these edits from a txid on."""
+    objects = (sorted(members(line, txid).items()) for txid, line in enumerate(lines, start))
+    return '[' + ','.join('{' + ','.join(f'"{key}":{value}' for key, value in pairs) + '}' for pairs in objects) + ']\n'
+
+
+# ## Images
 
 def walk_key(path):
     return [] if path == '/' else path[1:].encode().split(b'/')
@@ -356,11 +408,15 @@ def odd_edit(r):
     return f'call {r.randbytes(16).hex()} {r.randrange(1 << 32)} {line}' if r.random() < .3 else line
 
 
+def odd_edits(r, count):
+    """The texts of so many edits, between the marks of their segment or without them."""
+    edits = [odd_edit(r) for _ in range(count)]
+    return ['start', *edits, 'end'] if r.random() < .5 else edits
+
+
 def some_segment(r, start=None):
     """A segment's file, its start and its last txid."""
-    bodies = [record(odd_edit(r)) for _ in range(r.randint(1, 12))]
-    if r.random() < .5:
-        bodies = [b'\x18'] + bodies + [b'\x17']
+    bodies = [body(line) for line in odd_edits(r, r.randint(1, 12))]
     start = start or r.choice([1, 5, 1 << 40, LARGEST - 3])
     return segment(start, r.choice([1, 2, LARGEST]), bodies, lambda: r.randint(1, 4)), start, start + len(bodies) - 1
 
@@ -370,6 +426,98 @@ def segments(r):
     name = f'edits_{padded(start)}-{padded(last)}' if last <= LARGEST else 'x'
     return Case([(['oev', way, name], b'') for way in ('list', 'stats', 'json')] + [(['fsck'], b'')], {name: damaged(r, data)})
 
+
+# ## Listings that become segments
+
+# Values of each kind of JSON, and at the ends of ranges: of 16, 32, 62 and 64 bits, and of floats.
+ODD_VALUES = ['null', 'true', 'false', '0', '-0', '-1', '1.0', '1e0', '1E-2', '01', '+1', '.5', '1.', '65535', '65536', '4294967295', '4294967296',
+              str(LARGEST), str(LARGEST + 1), str((1 << 64) - 1), str(1 << 64), '1e308', '1.7976931348623158e308', '1.7976931348623159e308', '1e309',
+              '9' * 308, '9' * 309, '-' + '9' * 400, '[]', '{}', '""', '"x"', '" "', '"-"', '[1]', '["/a"]', '[[]]', '[1,"/a"]', '{"path":"/a"}',
+              '"OP_DELETE"', '"OP_MKDIR"', '"OP_END_LOG_SEGMENT"', '"DELETE"', '"' + 'x' * 32 + '"', '"' + 'x' * 33 + '"', '"/' + 'x' * 999 + '"',
+              '"/' + 'x' * 1000 + '"', '"' + '0f' * 16 + '"', '"' + '0F' * 16 + '"', '[' + '7,' * 600 + '7]', '"\\u0000"', '"\u00e9"', '"\\ud83d\\ude00"']
+# What stands between two tokens, and bytes that may come into a text.
+GAPS = ['', '', ' ', '\n', '\t', '\r\n', '   ']
+ODD_PIECES = [b'"', b'\\', b'{', b'}', b'[', b']', b',', b':', b'0', b'1', b'-', b'.', b'e', b'E+', b'null', b'//', b'\x00', b'\x1f', b'\x7f', b'\xff', b'\xc3',
+              b'\xc3\xa9', b'\xed\xa0\x80', b'\xf0\x9f\x98\x80', b'\xef\xbb\xbf', b'\\u0041', b'\\ud83d', b'\\ude00', b'\\ud83d\\ude00', b'\\/', b'\\x', b'\\u00g0',
+              b'"op":"OP_DELETE",', b'"txid":1,', b',"a":1', b'[[', b']]']
+
+
+def escaped(r, value):
+    """The text of a JSON text with some of its characters escaped."""
+    inner = [char if r.random() < .6 or char in '"\\' else f'\\u{ord(char):04{r.choice("xX")}}' for char in value[1:-1]]
+    return value if '\\' in value else '"' + ''.join(inner) + '"'
+
+
+def changed_value(r, value):
+    """Another value, or the same one in another form."""
+    if r.random() < .4:
+        return r.choice(ODD_VALUES)
+    if value.isdigit():
+        return r.choice([str(int(value) + 1), str(max(0, int(value) - 1)), value + '.0', value + 'e0', '-' + value, '0' + value, quoted(value)])
+    return escaped(r, value) if value.startswith('"') else r.choice([value, f'[{value}]', quoted(value.replace('"', ''))])
+
+
+def changed_pairs(r, pairs):
+    """The members of an object with a key dropped, doubled, renamed, escaped or with another value, or in another order."""
+    at = r.randrange(len(pairs)) if pairs else 0
+    way = r.randrange(7) if pairs else 6
+    if way == 0:
+        return pairs[:at] + pairs[at + 1:]
+    if way == 1:
+        other = r.randrange(len(pairs) + 1)
+        return pairs[:other] + [(pairs[at][0], changed_value(r, pairs[at][1]))] + pairs[other:]
+    if way == 2:
+        return pairs[:at] + [(r.choice(['"path"', '"time"', '"mtime"', '"callid"', '"clientid"', '""', '"length"']), pairs[at][1])] + pairs[at + 1:]
+    if way == 3:
+        return pairs[:at] + [(escaped(r, pairs[at][0]), pairs[at][1])] + pairs[at + 1:]
+    if way == 4:
+        return r.sample(pairs, len(pairs))
+    return pairs[:at] + [(pairs[at][0], changed_value(r, pairs[at][1]))] + pairs[at + 1:] if pairs else [('"op"', '"OP_DELETE"')]
+
+
+def spaced(r, lines, start, ways):
+    """The text of a listing, with spaces between tokens or none, and each so many-th object changed."""
+    has_gaps = r.random() < .3
+
+    def gap():
+        return r.choice(GAPS) if has_gaps else ''
+
+    objects = []
+    for txid, edit in enumerate(lines, start):
+        pairs = [(quoted(key), value) for key, value in sorted(members(edit, txid).items())]
+        while r.random() < ways:
+            pairs = changed_pairs(r, pairs)
+        inner = ','.join(f'{gap()}{key}{gap()}:{gap()}{value}{gap()}' for key, value in pairs)
+        objects.append(f'{gap()}{{{inner or gap()}}}{gap()}')
+    if objects and r.random() < ways:
+        deep = r.choice([1, 125, 126, 127, 128])
+        objects[r.randrange(len(objects))] = r.choice(['7', 'null', '"/a"', '[]', '{}', '[' * deep + ']' * deep, '{"a":' * deep + '1' + '}' * deep])
+    return gap() + '[' + (','.join(objects) or gap()) + ']' + gap()
+
+
+def some_listing(r, start):
+    """A listing from a txid on, of which members, and bytes, are changed in some."""
+    if r.random() < .01:
+        return b'[' + b'7,' * r.choice([16383, 16384]) + b'7' + r.choice([b']', b'', b',8]'])
+    count = r.choice([255, 256, 257, 520]) if r.random() < .02 else r.choice([0, 1, 1, 2, 3, 12])
+    ways = 0 if count > 12 else r.choice([0, .1, .3])
+    data = spaced(r, odd_edits(r, count), start, ways).encode()
+    if r.random() < .7:
+        return data
+    for _ in range(r.choice([1, 1, 2])):
+        at = r.randrange(len(data) + 1)
+        data = data[:at] + r.choice(ODD_PIECES) + data[at + r.choice([0, 0, 1, 3]):]
+    return damaged(r, data) if r.random() < .3 else data
+
+
+def backs(r):
+    start = r.choice([1, 5, 1 << 40, LARGEST - 1, LARGEST])
+    told = start if r.random() < .95 else r.choice([1, start - 1, start + 1, LARGEST])
+    words = ['oev', 'back', 'listing', str(told), str(r.choice([1, 2, LARGEST]))]
+    return Case([(words, b'')], {'listing': some_listing(r, start)})
+
+
+# ## Images and folders
 
 def some_image(r):
     """An image, as damaged as may be, and its txid."""
@@ -400,8 +548,6 @@ def images(r):
     files = {name: data, f'{name}.md5': damaged(r, digest or digest_file(data, name))}
     return Case([(['oiv', way, name], b'') for way in ('delimited', 'sizes', 'json')] + [(['fsck'], b'')], files)
 
-
-# ## Folders
 
 def some_file(r, files):
     """Puts a file of a node, or one that nearly is."""
@@ -483,10 +629,10 @@ def bad_lines(r):
 
 def bad_words(r):
     """Words that make a command, or nearly."""
-    known = ['play', 'run', 'node', 'fsck', 'oev', 'oiv', 'gen', 'list', 'stats', 'json', 'delimited', 'sizes', 's', 'none', '', '.', '1', '3', '15', '16', '0', '01', '4611686018427387905', '10001', b'\xff', 'x/y', 's/y']
+    known = ['play', 'run', 'node', 'fsck', 'oev', 'oiv', 'gen', 'list', 'stats', 'json', 'back', 'delimited', 'sizes', 's', 'none', '', '.', '1', '3', '15', '16', '0', '01', '4611686018427387905', '10001', b'\xff', 'x/y', 's/y']
     words = [r.choice(known) for _ in range(r.randint(0, 4))]
     if r.random() < .6:
-        words = r.choice([['oev', 'list'], ['oev', 'stats'], ['oiv', 'json'], ['gen', str(r.randrange(9)), str(r.choice([0, 1, 40])), str(r.randint(1, 16))], ['play'], ['node']]) + words[:2]
+        words = r.choice([['oev', 'list'], ['oev', 'stats'], ['oev', 'back', 's'], ['oev', 'back', 's', '1'], ['oiv', 'json'], ['gen', str(r.randrange(9)), str(r.choice([0, 1, 40])), str(r.randint(1, 16))], ['play'], ['node']]) + words[:2]
     data, _, _ = some_segment(r)
     return Case([(words, b'')], {'s': data})
 
@@ -503,6 +649,7 @@ KINDS = {
     'gen': generated,
     'node': sessions,
     'segment': segments,
+    'back': backs,
     'image': images,
     'folder': folders,
     'lines': bad_lines,

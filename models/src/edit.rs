@@ -34,8 +34,9 @@ pub const START_SEGMENT: u8 = 24;
 /// How much higher the code is where a client's call asked for the edit.
 pub const WITH_CALL: u8 = 64;
 
-const LONGEST_PATH: usize = 1000;
-const LONGEST_NAME: usize = 32;
+/// The most bytes of a path, and of a user or a group.
+pub const LONGEST_PATH: usize = 1000;
+pub const LONGEST_NAME: usize = 32;
 
 impl Edit<'_> {
     /// The kind's code.
@@ -78,6 +79,22 @@ pub fn kind_name(code: u8) -> Option<&'static str> {
         START_SEGMENT => "START_LOG_SEGMENT",
         _ => return None,
     })
+}
+
+/// Whether a record may have this text: at most so many bytes, each from 0x21 to 0x7E.
+pub fn is_text(text: &[u8], longest: usize) -> bool {
+    text.len() <= longest && text.iter().all(|byte| (0x21..=0x7e).contains(byte))
+}
+
+/// A client's id, if these are its 32 lower-case hexadecimal digits.
+pub fn read_client(digits: &[u8]) -> Option<[u8; 16]> {
+    let mut client = Vec::with_capacity(16);
+    let is_good = digits.len() == 32 && crate::words::read_hex(digits, &mut client);
+    if is_good {
+        client.try_into().ok()
+    } else {
+        None
+    }
 }
 
 /// An edit with the call that asked for it, where there is one.
@@ -245,8 +262,7 @@ impl<'a> Fields<'a> {
     fn text(&mut self, longest: usize) -> Result<&'a [u8], &'static str> {
         let length = usize::from(self.short()?);
         let text = self.take(length)?;
-        let is_good = length <= longest && text.iter().all(|byte| (0x21..=0x7e).contains(byte));
-        is_good.then_some(text).ok_or("Field")
+        Some(text).filter(|text| is_text(text, longest)).ok_or("Field")
     }
 
     fn path(&mut self) -> Result<&'a [u8], &'static str> {
@@ -321,7 +337,7 @@ impl<'a, I: Iterator<Item = &'a [u8]>> Words<'a, I> {
     }
 
     fn text(&mut self, longest: usize) -> Option<&'a [u8]> {
-        self.next().filter(|word| !word.is_empty() && word.len() <= longest && word.iter().all(|byte| (0x21..=0x7e).contains(byte)))
+        self.next().filter(|word| !word.is_empty() && is_text(word, longest))
     }
 
     fn path(&mut self) -> Option<&'a [u8]> {
@@ -350,13 +366,9 @@ impl<'a, I: Iterator<Item = &'a [u8]>> Words<'a, I> {
     }
 
     fn call(&mut self) -> Option<Call> {
-        let mut client = Vec::with_capacity(16);
-        let digits = self.next()?;
-        if digits.len() != 32 || !crate::words::read_hex(digits, &mut client) {
-            return None;
-        }
+        let client = read_client(self.next()?)?;
         let number = u32::try_from(read_number(self.next()?)?).ok()?;
-        Some(Call { client: client.try_into().ok()?, number })
+        Some(Call { client, number })
     }
 
     fn flag(&mut self) -> Option<bool> {

@@ -2,6 +2,7 @@
 //! the same bytes, statuses and files. Nothing of it is proved: it is there to be compared with the proved program, and to be measured
 //! beside it. Each rule names the page that it was taken from.
 
+mod back;
 mod batch;
 mod caller;
 mod cluster;
@@ -33,23 +34,26 @@ mod standby;
 mod table;
 mod text;
 mod tree;
+mod value;
 mod words;
 mod writer;
 
+use back::Refusal;
 use ends::Ending;
-use segment::Damage;
+use segment::{Damage, MOST_EDITS};
 use std::ffi::{OsStr, OsString};
 use std::fs::{self, File};
 use std::io::Read;
+use std::ops::RangeInclusive;
 use std::process::ExitCode;
 
 /// The most bytes of a script, and of a file that is listed. FORMATS.md, "Limits".
 const LONGEST_SCRIPT: usize = 1_048_576;
 const LONGEST_FILE: u64 = 134_217_728;
 
-/// The limits of the words of `gen`. FORMATS.md, "The program".
-const MOST_GENERATED: u64 = 10_000;
-const MOST_NODES: u64 = 15;
+/// The ranges of NUMBER, EDITS and NODES, and of START and EPOCH. FORMATS.md, "The program".
+const OF_GEN: [RangeInclusive<u64>; 3] = [0..=words::LARGEST, 0..=10_000, 1..=15];
+const OF_BACK: [RangeInclusive<u64>; 2] = [1..=words::LARGEST, 1..=words::LARGEST];
 
 fn main() -> ExitCode {
     let words: Vec<OsString> = std::env::args_os().skip(1).collect();
@@ -70,7 +74,8 @@ fn usage_before_bad_text(plain: &[&str]) -> Ending {
 fn shape(words: &[&str]) -> Result<(), usize> {
     let second: &[&str] = match words.first().copied() {
         Some("play" | "run" | "node" | "fsck") => return exact(words, 1),
-        Some("gen") => return generated_shape(words),
+        Some("gen") => return shape_with_numbers(words, 1, &OF_GEN),
+        Some("oev") if words.get(1) == Some(&"back") => return shape_with_numbers(words, 3, &OF_BACK),
         Some("oev") => &["list", "stats", "json"],
         Some("oiv") => &["delimited", "sizes", "json"],
         _ => return Err(0),
@@ -89,16 +94,20 @@ fn exact(words: &[&str], count: usize) -> Result<(), usize> {
     }
 }
 
-/// NUMBER, EDITS and NODES in their ranges.
-fn generated_shape(words: &[&str]) -> Result<(), usize> {
-    let ranges = [0..=words::LARGEST, 0..=MOST_GENERATED, 1..=MOST_NODES];
-    for (place, range) in ranges.iter().enumerate() {
-        let number = words.get(place + 1).and_then(|word| words::read_number(word.as_bytes()));
+/// So many words, and then a number in each of the ranges.
+fn shape_with_numbers(words: &[&str], first: usize, ranges: &[RangeInclusive<u64>]) -> Result<(), usize> {
+    for (place, range) in (first..).zip(ranges) {
+        let number = words.get(place).and_then(|word| words::read_number(word.as_bytes()));
         if !number.is_some_and(|number| range.contains(&number)) {
-            return Err(place + 1);
+            return Err(place.min(words.len()));
         }
     }
-    exact(words, 4)
+    exact(words, first + ranges.len())
+}
+
+/// The numbers of words that have the shape.
+fn number(word: &str) -> u64 {
+    words::read_number(word.as_bytes()).unwrap_or(0)
 }
 
 /// Does what the words say.
@@ -118,13 +127,11 @@ fn run(words: &[&str]) -> Ending {
         ["oev", "list", name] => list_file(name, oev::list),
         ["oev", "stats", name] => list_file(name, oev::stats),
         ["oev", "json", name] => list_file(name, oev::json),
+        ["oev", "back", name, start, epoch] => back_from_file(name, number(start), number(epoch)),
         ["oiv", "delimited", name] => list_file(name, oiv::delimited),
         ["oiv", "sizes", name] => list_file(name, oiv::sizes),
         ["oiv", "json", name] => list_file(name, oiv::json),
-        ["gen", number, edits, nodes] => {
-            let read = |word: &str| words::read_number(word.as_bytes()).unwrap_or(0);
-            Ending::Ok(generated::summary(read(number), read(edits), read(nodes) as usize))
-        }
+        ["gen", seed, edits, nodes] => Ending::Ok(generated::summary(number(seed), number(edits), number(nodes) as usize)),
         _ => Ending::Usage(words.len()),
     }
 }
@@ -150,6 +157,20 @@ fn list_file(name: &str, list: fn(&[u8]) -> Result<Vec<u8>, Damage>) -> Ending {
             Err(Damage { place, cause }) => Ending::BadBytes { place, cause },
         },
         Err(ending) => ending,
+    }
+}
+
+/// Makes a segment's file of a listing. FORMATS.md, "From a listing back to a segment's file", has the order of what may be wrong.
+fn back_from_file(name: &str, start: u64, epoch: u64) -> Ending {
+    let bytes = match read_file(OsStr::new(name)) {
+        Ok(bytes) => bytes,
+        Err(ending) => return ending,
+    };
+    match back::back(&bytes, start, epoch) {
+        Ok(segment) => Ending::Ok(segment),
+        Err(Refusal::NotJson) => Ending::BadBytes { place: 0, cause: "Json" },
+        Err(Refusal::TooLong) => Ending::Limit(MOST_EDITS),
+        Err(Refusal::BadEntry(place)) => Ending::BadBytes { place, cause: "Entry" },
     }
 }
 

@@ -1,5 +1,6 @@
 pub mod ToldLaws
 pub mod GenLaws
+pub mod BackLaws
 pub mod WordLaws
 pub mod ListLaws
 pub mod OneListing
@@ -9,3 +10,4 @@ pub mod CrashLaws
 pub mod EndedLaws
 pub mod NodeLaws
 pub mod ServingLaws
+pub mod OneState

@@ -55,6 +55,9 @@ module _ {D : Type 0} (name : List ℕ) (disk : DiskUse D) (calls : HasCalls dis
   bytes_fault bytes (fault.BadBytes place cause) is so = record { file = Some bytes; same = λ t. sym (is t); calls = calls; so = so }
   bytes_fault bytes (fault.BadImage place cause) is so = record { file = Some bytes; same = λ t. sym (is t); calls = calls; so = so }
   bytes_fault bytes (fault.BadFile file) is so = absurd so
+  bytes_fault bytes fault.NotJson is so = record { file = Some bytes; same = λ t. sym (is t); calls = calls; so = so }
+  bytes_fault bytes (fault.BadEntry index) is so = record { file = Some bytes; same = λ t. sym (is t); calls = calls; so = so }
+  bytes_fault bytes (fault.TooManyEntries number) is so = record { file = Some bytes; same = λ t. sym (is t); calls = calls; so = so }
   bytes_fault bytes (fault.Limit number) is so = absurd so
   bytes_fault bytes fault.ReadFault is so = absurd so
   bytes_fault bytes fault.DiskFault is so = absurd so

@@ -99,6 +99,8 @@ module _ {D : Type 0} (disk : DiskUse D) (o : Served) (before now : Option (List
   held v m rows is None left new crashes session kept stands = record {
     state = is.state;
     stood = is.stood;
+    sound = is.up.held.sound;
+    starts = is.up.held.files.starts;
     filled = is.up.held.files.filled;
     new = stands.0;
     stands = stands.1.stands;
@@ -110,6 +112,8 @@ module _ {D : Type 0} (disk : DiskUse D) (o : Served) (before now : Option (List
   held v m rows is (Some told) left (Some t) crashes session kept stands = record {
     state = is.state;
     stood = is.stood;
+    sound = is.up.held.sound;
+    starts = is.up.held.files.starts;
     filled = is.up.held.files.filled;
     new = t;
     lines = lines;

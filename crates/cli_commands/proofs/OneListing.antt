@@ -8,9 +8,11 @@ use Rattle.ns_image.specs.declared.answer.ReadImage.TheVariants as readings
 use Rattle.list_oev.specs.declared.segment_listing.SegmentCause.{SegmentCause}
 use Rattle.list_oev.specs.Damage.{IsDamaged}
 use Rattle.list_oev.specs.Listed.{IsTold}
-use Rattle.list_oev.proofs.OneAnswer.{one_segment, one_damage}
+use Rattle.list_oev.proofs.OneAnswer.{one_segment as one_listed, one_damage}
 use Rattle.list_oiv.specs.declared.image_listing.ImageByteCause.{ImageByteCause}
 use Rattle.list_oiv.specs.Listed.{cause_of}
+use Rattle.list_back.specs.Backs.{HasNoArray, HasLongArray, HasBadMember, IsOfObjects}
+use Rattle.list_back.proofs.OneText.{one_segment, segment_objects, one_bad_member, none_long, none_bad_member, long_no_bad, objects_array, objects_few, objects_good}
 use Rattle.cli_commands.specs.declared.command_fault.CommandFault.{CommandFault}
 use Rattle.cli_commands.specs.declared.command_fault.CommandFault.TheVariants as fault
 use Rattle.cli_commands.specs.declared.tool.SegmentTool.{SegmentTool}
@@ -30,9 +32,10 @@ one_image tell bytes a b p q =
 
 told_once : (of : Tool) (bytes a b : List ℕ) → IsToldBy of bytes a → IsToldBy of bytes b → a ≡ b
 told_once (tool.Oev of) bytes a b p q =
-    let same = one_segment bytes p.start q.start p.edits q.edits p.segment q.segment in
+    let same = one_listed bytes p.start q.start p.edits q.edits p.segment q.segment in
     p.spelled ∙ (ap (λ n. told_by of n p.edits) same.same_start ∙ (ap (told_by of q.start) same.same_edits ∙ sym q.spelled))
 told_once (tool.Oiv of) bytes a b p q = one_image (rows_told_by of) bytes a b p q
+told_once (tool.Back start epoch) bytes a b p q = one_segment start epoch bytes a b p q
 
 pub one_listing_of_file : FilesHaveOneListing
 one_listing_of_file of None a b p q = absurd p
@@ -50,6 +53,9 @@ segment_damage of bytes fault.NoFile is = absurd is
 segment_damage of bytes (fault.BadBytes place cause) is = damaged place cause refl is.1
 segment_damage of bytes (fault.BadImage place cause) is = absurd is
 segment_damage of bytes (fault.BadFile name) is = absurd is
+segment_damage of bytes fault.NotJson is = absurd is
+segment_damage of bytes (fault.BadEntry index) is = absurd is
+segment_damage of bytes (fault.TooManyEntries number) is = absurd is
 segment_damage of bytes (fault.Limit number) is = absurd is
 segment_damage of bytes fault.ReadFault is = absurd is
 segment_damage of bytes fault.DiskFault is = absurd is
@@ -71,6 +77,9 @@ image_damage of bytes fault.NoFile is = absurd is
 image_damage of bytes (fault.BadBytes place cause) is = absurd is
 image_damage of bytes (fault.BadImage place cause) is = misread place cause is.0 refl is.1 is.2
 image_damage of bytes (fault.BadFile name) is = absurd is
+image_damage of bytes fault.NotJson is = absurd is
+image_damage of bytes (fault.BadEntry index) is = absurd is
+image_damage of bytes (fault.TooManyEntries number) is = absurd is
 image_damage of bytes (fault.Limit number) is = absurd is
 image_damage of bytes fault.ReadFault is = absurd is
 image_damage of bytes fault.DiskFault is = absurd is
@@ -83,9 +92,42 @@ one_image_damage bytes a b (misread place cause of e p c) (misread other also by
     let causes : cause ≡ also = cc (reasons, c, k) in
     e ∙ (ap (λ (n : ℕ). fault.BadImage n cause) places ∙ (ap (λ (x : ImageByteCause). fault.BadImage other x) causes ∙ sym d))
 
+-- a fault of a listing as JSON
+data IsListingFault (start : ℕ) (bytes : List ℕ) (why : CommandFault) : Type 0 where
+  no_array : why ≡ fault.NotJson → HasNoArray bytes → IsListingFault start bytes why
+  long_array : (number : ℕ) → why ≡ fault.TooManyEntries number → HasLongArray bytes number → IsListingFault start bytes why
+  bad_member : (index : ℕ) → why ≡ fault.BadEntry index → HasBadMember start bytes index → IsListingFault start bytes why
+
+listing_fault : (start epoch : ℕ) (bytes : List ℕ) (why : CommandFault) → IsBytesFault (tool.Back start epoch) bytes why → IsListingFault start bytes why
+listing_fault start epoch bytes (fault.Usage place) is = absurd is
+listing_fault start epoch bytes (fault.BadScript line rule) is = absurd is
+listing_fault start epoch bytes fault.NoFile is = absurd is
+listing_fault start epoch bytes (fault.BadBytes place cause) is = absurd is
+listing_fault start epoch bytes (fault.BadImage place cause) is = absurd is
+listing_fault start epoch bytes (fault.BadFile name) is = absurd is
+listing_fault start epoch bytes fault.NotJson is = no_array refl is
+listing_fault start epoch bytes (fault.BadEntry index) is = bad_member index refl is
+listing_fault start epoch bytes (fault.TooManyEntries number) is = long_array number refl is
+listing_fault start epoch bytes (fault.Limit number) is = absurd is
+listing_fault start epoch bytes fault.ReadFault is = absurd is
+listing_fault start epoch bytes fault.DiskFault is = absurd is
+listing_fault start epoch bytes fault.OutOfMemory is = absurd is
+
+one_listing_fault : (start : ℕ) (bytes : List ℕ) (a b : CommandFault) → IsListingFault start bytes a → IsListingFault start bytes b → a ≡ b
+one_listing_fault start bytes a b (no_array e p) (no_array d q) = e ∙ sym d
+one_listing_fault start bytes a b (no_array e p) (long_array n d q) = absurd (none_long bytes n p q)
+one_listing_fault start bytes a b (no_array e p) (bad_member j d q) = absurd (none_bad_member start bytes j p q)
+one_listing_fault start bytes a b (long_array n e p) (no_array d q) = absurd (none_long bytes n q p)
+one_listing_fault start bytes a b (long_array n e p) (long_array m d q) = e ∙ (ap (λ (k : ℕ). fault.TooManyEntries k) (p.2 ∙ sym q.2) ∙ sym d)
+one_listing_fault start bytes a b (long_array n e p) (bad_member j d q) = absurd (long_no_bad start bytes n j p q)
+one_listing_fault start bytes a b (bad_member i e p) (no_array d q) = absurd (none_bad_member start bytes i q p)
+one_listing_fault start bytes a b (bad_member i e p) (long_array m d q) = absurd (long_no_bad start bytes m i q p)
+one_listing_fault start bytes a b (bad_member i e p) (bad_member j d q) = e ∙ (ap (λ (k : ℕ). fault.BadEntry k) (one_bad_member start bytes i j p q) ∙ sym d)
+
 damaged_once : (of : Tool) (bytes : List ℕ) (a b : CommandFault) → IsBytesFault of bytes a → IsBytesFault of bytes b → a ≡ b
 damaged_once (tool.Oev of) bytes a b p q = one_segment_damage bytes a b (segment_damage of bytes a p) (segment_damage of bytes b q)
 damaged_once (tool.Oiv of) bytes a b p q = one_image_damage bytes a b (image_damage of bytes a p) (image_damage of bytes b q)
+damaged_once (tool.Back start epoch) bytes a b p q = one_listing_fault start bytes a b (listing_fault start epoch bytes a p) (listing_fault start epoch bytes b q)
 
 -- a file's fault is that it is absent, or a damage of its bytes
 data IsOne (of : Tool) (file : Option (List ℕ)) (why : CommandFault) : Type 0 where
@@ -103,6 +145,9 @@ one_of of file fault.NoFile is = absent is refl
 one_of of file (fault.BadBytes place cause) is = has_damage of file (fault.BadBytes place cause) is
 one_of of file (fault.BadImage place cause) is = has_damage of file (fault.BadImage place cause) is
 one_of of file (fault.BadFile name) is = absurd is
+one_of of file fault.NotJson is = has_damage of file fault.NotJson is
+one_of of file (fault.BadEntry index) is = has_damage of file (fault.BadEntry index) is
+one_of of file (fault.TooManyEntries number) is = has_damage of file (fault.TooManyEntries number) is
 one_of of file (fault.Limit number) is = absurd is
 one_of of file fault.ReadFault is = absurd is
 one_of of file fault.DiskFault is = absurd is
@@ -128,6 +173,9 @@ segment_undamaged of bytes text fault.NoFile p q = q
 segment_undamaged of bytes text (fault.BadBytes place cause) p q = q.0 (p.start, p.edits, p.segment)
 segment_undamaged of bytes text (fault.BadImage place cause) p q = q
 segment_undamaged of bytes text (fault.BadFile name) p q = q
+segment_undamaged of bytes text fault.NotJson p q = q
+segment_undamaged of bytes text (fault.BadEntry index) p q = q
+segment_undamaged of bytes text (fault.TooManyEntries number) p q = q
 segment_undamaged of bytes text (fault.Limit number) p q = q
 segment_undamaged of bytes text fault.ReadFault p q = q
 segment_undamaged of bytes text fault.DiskFault p q = q
@@ -136,9 +184,15 @@ segment_undamaged of bytes text fault.OutOfMemory p q = q
 image_misread : (of : ImageTool) (bytes text : List ℕ) (why : CommandFault) → IsImageTold (rows_told_by of) bytes text → IsImageDamage bytes why → ⊥
 image_misread of bytes text why p (misread place cause by e q c) = let other : readings.Image p.space p.txid ≡ readings.BadImage place by = sym p.read ∙ q in cc other
 
+objects_faultless : (start : ℕ) (bytes : List ℕ) (why : CommandFault) → IsOfObjects start bytes → IsListingFault start bytes why → ⊥
+objects_faultless start bytes why is (no_array e q) = objects_array start bytes is q
+objects_faultless start bytes why is (long_array n e q) = objects_few start bytes n is q
+objects_faultless start bytes why is (bad_member i e q) = objects_good start bytes i is q
+
 undamaged : (of : Tool) (bytes text : List ℕ) (why : CommandFault) → IsToldBy of bytes text → IsBytesFault of bytes why → ⊥
 undamaged (tool.Oev of) bytes text why p q = segment_undamaged of bytes text why p q
 undamaged (tool.Oiv of) bytes text why p q = image_misread of bytes text why p (image_damage of bytes why q)
+undamaged (tool.Back start epoch) bytes text why p q = objects_faultless start bytes why (segment_objects start epoch bytes text p) (listing_fault start epoch bytes why q)
 
 listed_alone : (of : Tool) (bytes text : List ℕ) (why : CommandFault) → IsToldBy of bytes text → IsOne of (Some bytes) why → ⊥
 listed_alone of bytes text why p (absent f e) = cc f
@@ -154,3 +208,4 @@ in_grammar (tool.Oev of) bytes why is q =
     segment_undamaged of bytes (told_by of is.0 is.1) why (record { start = is.0; edits = is.1; segment = is.2; spelled = refl }) q
 in_grammar (tool.Oiv of) bytes why is q =
     image_misread of bytes (rows_told_by of is.0.pairs) why (record { space = is.0; txid = is.1; read = is.2; spelled = refl }) (image_damage of bytes why q)
+in_grammar (tool.Back start epoch) bytes why is q = objects_faultless start bytes why is (listing_fault start epoch bytes why q)

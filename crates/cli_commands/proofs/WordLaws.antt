@@ -16,8 +16,9 @@ use Rattle.cli_commands.specs.declared.tool.ImageTool.{ImageTool}
 use Rattle.cli_commands.specs.declared.tool.ImageTool.TheVariants as image
 use Rattle.cli_commands.specs.declared.tool.Tool.{Tool}
 use Rattle.cli_commands.specs.declared.tool.Tool.TheVariants as tool
-use Rattle.cli_commands.specs.Commands.{Asked, play, run, node, fsck, gen, list, segment_word, image_word, words_of, IsAllowed, AskFor, IsCommand}
-use Rattle.cli_commands.specs.Usage.{is_alone, is_oev, is_oiv, after_one, after_tool, after_program, after_number, behind_edits, after_nodes, after_gen, usage_of}
+use Rattle.cli_commands.specs.Commands.{Asked, play, run, node, fsck, gen, list, segment_word, image_word, words_of, AreOfSegment, IsAllowed, AskFor, IsCommand}
+use Rattle.cli_commands.specs.Usage.{is_alone, is_oev, is_oiv, after_one, after_tool, after_program, after_epoch, behind_start, behind_name, after_back, after_oev}
+use Rattle.cli_commands.specs.Usage.{after_number, behind_edits, after_nodes, after_gen, usage_of}
 use Rattle.cli_commands.specs.Words.{StopAt, UsageIsOfFirstWrongWord}
 
 -- ## Words and their tests
@@ -72,6 +73,12 @@ is_image_tool image.Delimited = refl
 is_image_tool image.Sizes = refl
 is_image_tool image.Json = refl
 
+-- no listing has the word of the way back
+not_back : (of : SegmentTool) → bytes_eq (segment_word of) (codes "back") ≡ false
+not_back segment.List = refl
+not_back segment.Stats = refl
+not_back segment.Json = refl
+
 -- ## What stands after the first word of a command
 heads : (a b : List ℕ) (xs ys : List (List ℕ)) → a ∷ xs ≡ b ∷ ys → a ≡ b
 heads a b xs ys e = cc e
@@ -96,6 +103,7 @@ first_word word words fsck e = inl (ap is_alone (heads word (codes "fsck") words
 first_word word words (gen number edits nodes) e = inr (inr (inr (heads word (codes "gen") words (decimal number ∷ decimal edits ∷ decimal nodes ∷ []) e)))
 first_word word words (list (tool.Oev of) name) e = inr (inl (heads word (codes "oev") words (segment_word of ∷ name ∷ []) e))
 first_word word words (list (tool.Oiv of) name) e = inr (inr (inl (heads word (codes "oiv") words (image_word of ∷ name ∷ []) e)))
+first_word word words (list (tool.Back start epoch) name) e = inr (inl (heads word (codes "oev") words (codes "back" ∷ name ∷ decimal start ∷ decimal epoch ∷ []) e))
 
 -- a program isn't a command alone
 apart : (word program : List ℕ) → is_alone program ≡ false → is_alone word ≡ true → word ≡ program → ⊥
@@ -109,26 +117,56 @@ after_alone word words fsck y e = tails word (codes "fsck") words [] e
 after_alone word words (gen number edits nodes) y e = absurd (apart word (codes "gen") refl y (heads word (codes "gen") words (decimal number ∷ decimal edits ∷ decimal nodes ∷ []) e))
 after_alone word words (list (tool.Oev of) name) y e = absurd (apart word (codes "oev") refl y (heads word (codes "oev") words (segment_word of ∷ name ∷ []) e))
 after_alone word words (list (tool.Oiv of) name) y e = absurd (apart word (codes "oiv") refl y (heads word (codes "oiv") words (image_word of ∷ name ∷ []) e))
+after_alone word words (list (tool.Back start epoch) name) y e =
+    absurd (apart word (codes "oev") refl y (heads word (codes "oev") words (codes "back" ∷ name ∷ decimal start ∷ decimal epoch ∷ []) e))
 
-after_oev_is : (words : List (List ℕ)) → IsCommand (codes "oev" ∷ words) → (of : SegmentTool) × (name : List ℕ) × (words ≡ segment_word of ∷ name ∷ [])
-after_oev_is words (play, e) = absurd (bytes_other (codes "oev") (codes "play") refl (heads (codes "oev") (codes "play") words [] e.words_are))
-after_oev_is words (run, e) = absurd (bytes_other (codes "oev") (codes "run") refl (heads (codes "oev") (codes "run") words [] e.words_are))
-after_oev_is words (node, e) = absurd (bytes_other (codes "oev") (codes "node") refl (heads (codes "oev") (codes "node") words [] e.words_are))
-after_oev_is words (fsck, e) = absurd (bytes_other (codes "oev") (codes "fsck") refl (heads (codes "oev") (codes "fsck") words [] e.words_are))
-after_oev_is words (gen number edits nodes, e) = absurd (bytes_other (codes "oev") (codes "gen") refl
-    (heads (codes "oev") (codes "gen") words (decimal number ∷ decimal edits ∷ decimal nodes ∷ []) e.words_are))
-after_oev_is words (list (tool.Oev of) name, e) = (of, name, tails (codes "oev") (codes "oev") words (segment_word of ∷ name ∷ []) e.words_are)
-after_oev_is words (list (tool.Oiv of) name, e) = absurd (bytes_other (codes "oev") (codes "oiv") refl (heads (codes "oev") (codes "oiv") words (image_word of ∷ name ∷ []) e.words_are))
+-- no program has its own word alone
+program_alone : (word : List ℕ) (asked : Asked) → word ∷ [] ≡ words_of asked → is_alone word ≡ true
+program_alone word play e = ap is_alone (heads word (codes "play") [] [] e)
+program_alone word run e = ap is_alone (heads word (codes "run") [] [] e)
+program_alone word node e = ap is_alone (heads word (codes "node") [] [] e)
+program_alone word fsck e = ap is_alone (heads word (codes "fsck") [] [] e)
+program_alone word (gen number edits nodes) e = absurd (cc (tails word (codes "gen") [] (decimal number ∷ decimal edits ∷ decimal nodes ∷ []) e))
+program_alone word (list (tool.Oev of) name) e = absurd (cc (tails word (codes "oev") [] (segment_word of ∷ name ∷ []) e))
+program_alone word (list (tool.Oiv of) name) e = absurd (cc (tails word (codes "oiv") [] (image_word of ∷ name ∷ []) e))
+program_alone word (list (tool.Back start epoch) name) e = absurd (cc (tails word (codes "oev") [] (codes "back" ∷ name ∷ decimal start ∷ decimal epoch ∷ []) e))
 
-after_oiv_is : (words : List (List ℕ)) → IsCommand (codes "oiv" ∷ words) → (of : ImageTool) × (name : List ℕ) × (words ≡ image_word of ∷ name ∷ [])
-after_oiv_is words (play, e) = absurd (bytes_other (codes "oiv") (codes "play") refl (heads (codes "oiv") (codes "play") words [] e.words_are))
-after_oiv_is words (run, e) = absurd (bytes_other (codes "oiv") (codes "run") refl (heads (codes "oiv") (codes "run") words [] e.words_are))
-after_oiv_is words (node, e) = absurd (bytes_other (codes "oiv") (codes "node") refl (heads (codes "oiv") (codes "node") words [] e.words_are))
-after_oiv_is words (fsck, e) = absurd (bytes_other (codes "oiv") (codes "fsck") refl (heads (codes "oiv") (codes "fsck") words [] e.words_are))
-after_oiv_is words (gen number edits nodes, e) = absurd (bytes_other (codes "oiv") (codes "gen") refl
-    (heads (codes "oiv") (codes "gen") words (decimal number ∷ decimal edits ∷ decimal nodes ∷ []) e.words_are))
-after_oiv_is words (list (tool.Oev of) name, e) = absurd (bytes_other (codes "oiv") (codes "oev") refl (heads (codes "oiv") (codes "oev") words (segment_word of ∷ name ∷ []) e.words_are))
-after_oiv_is words (list (tool.Oiv of) name, e) = (of, name, tails (codes "oiv") (codes "oiv") words (image_word of ∷ name ∷ []) e.words_are)
+more_words : (word : List ℕ) → is_alone word ≡ false → IsCommand (word ∷ []) → ⊥
+more_words word n c = both_not (is_alone word) n (program_alone word c.0 c.1.words_are)
+
+-- after `oev` stand a listing's word and a name, where there isn't `back`
+after_oev_is : (word : List ℕ) (words : List (List ℕ)) → bytes_eq word (codes "back") ≡ false → IsCommand (codes "oev" ∷ word ∷ words)
+    → (of : SegmentTool) × (name : List ℕ) × (word ∷ words ≡ segment_word of ∷ name ∷ [])
+after_oev_is word words b (play, e) = absurd (bytes_other (codes "oev") (codes "play") refl (heads (codes "oev") (codes "play") (word ∷ words) [] e.words_are))
+after_oev_is word words b (run, e) = absurd (bytes_other (codes "oev") (codes "run") refl (heads (codes "oev") (codes "run") (word ∷ words) [] e.words_are))
+after_oev_is word words b (node, e) = absurd (bytes_other (codes "oev") (codes "node") refl (heads (codes "oev") (codes "node") (word ∷ words) [] e.words_are))
+after_oev_is word words b (fsck, e) = absurd (bytes_other (codes "oev") (codes "fsck") refl (heads (codes "oev") (codes "fsck") (word ∷ words) [] e.words_are))
+after_oev_is word words b (gen number edits nodes, e) = absurd (bytes_other (codes "oev") (codes "gen") refl
+    (heads (codes "oev") (codes "gen") (word ∷ words) (decimal number ∷ decimal edits ∷ decimal nodes ∷ []) e.words_are))
+after_oev_is word words b (list (tool.Oev of) name, e) = (of, name, tails (codes "oev") (codes "oev") (word ∷ words) (segment_word of ∷ name ∷ []) e.words_are)
+after_oev_is word words b (list (tool.Oiv of) name, e) =
+    absurd (bytes_other (codes "oev") (codes "oiv") refl (heads (codes "oev") (codes "oiv") (word ∷ words) (image_word of ∷ name ∷ []) e.words_are))
+after_oev_is word words b (list (tool.Back start epoch) name, e) = absurd (bytes_other word (codes "back") b
+    (heads word (codes "back") words (name ∷ decimal start ∷ decimal epoch ∷ [])
+    (tails (codes "oev") (codes "oev") (word ∷ words) (codes "back" ∷ name ∷ decimal start ∷ decimal epoch ∷ []) e.words_are)))
+
+-- after `oiv` a tool's word and a name
+abbrev no_other : List ℕ → Bool
+no_other word = false
+
+after_oiv_is : (word : List ℕ) (words : List (List ℕ)) → no_other word ≡ false → IsCommand (codes "oiv" ∷ word ∷ words)
+    → (of : ImageTool) × (name : List ℕ) × (word ∷ words ≡ image_word of ∷ name ∷ [])
+after_oiv_is word words b (play, e) = absurd (bytes_other (codes "oiv") (codes "play") refl (heads (codes "oiv") (codes "play") (word ∷ words) [] e.words_are))
+after_oiv_is word words b (run, e) = absurd (bytes_other (codes "oiv") (codes "run") refl (heads (codes "oiv") (codes "run") (word ∷ words) [] e.words_are))
+after_oiv_is word words b (node, e) = absurd (bytes_other (codes "oiv") (codes "node") refl (heads (codes "oiv") (codes "node") (word ∷ words) [] e.words_are))
+after_oiv_is word words b (fsck, e) = absurd (bytes_other (codes "oiv") (codes "fsck") refl (heads (codes "oiv") (codes "fsck") (word ∷ words) [] e.words_are))
+after_oiv_is word words b (gen number edits nodes, e) = absurd (bytes_other (codes "oiv") (codes "gen") refl
+    (heads (codes "oiv") (codes "gen") (word ∷ words) (decimal number ∷ decimal edits ∷ decimal nodes ∷ []) e.words_are))
+after_oiv_is word words b (list (tool.Oev of) name, e) =
+    absurd (bytes_other (codes "oiv") (codes "oev") refl (heads (codes "oiv") (codes "oev") (word ∷ words) (segment_word of ∷ name ∷ []) e.words_are))
+after_oiv_is word words b (list (tool.Oiv of) name, e) = (of, name, tails (codes "oiv") (codes "oiv") (word ∷ words) (image_word of ∷ name ∷ []) e.words_are)
+after_oiv_is word words b (list (tool.Back start epoch) name, e) =
+    absurd (bytes_other (codes "oiv") (codes "oev") refl (heads (codes "oiv") (codes "oev") (word ∷ words) (codes "back" ∷ name ∷ decimal start ∷ decimal epoch ∷ []) e.words_are))
 
 -- ## Where words stop being a command
 some_play : IsCommand (codes "play" ∷ [])
@@ -156,66 +194,213 @@ alone_first word (other ∷ words) y c = record {
 }
 
 -- ## After a program
--- its tools with their words, of which there is one, and the test of a word
-module _ {W : Type 0} (program : List ℕ) (word_for : W → List ℕ) (test : List ℕ → Bool) (some : W)
-    (behind_is : (words : List (List ℕ)) → IsCommand (program ∷ words) → (of : W) × (name : List ℕ) × (words ≡ word_for of ∷ name ∷ []))
+-- its tools with their words, of which there is one, the test of a word, and the test of one after
+-- which other words stand
+module _ {W : Type 0} (program : List ℕ) (word_for : W → List ℕ) (test other : List ℕ → Bool) (some : W) (alone : is_alone program ≡ false)
+    (behind_is : (word : List ℕ) (words : List (List ℕ)) → other word ≡ false → IsCommand (program ∷ word ∷ words) → (of : W) × (name : List ℕ) × (word ∷ words ≡ word_for of ∷ name ∷ []))
     (is_one : (of : W) (name : List ℕ) → IsCommand (program ∷ word_for of ∷ name ∷ []))
-    (named : (word : List ℕ) → test word ≡ true → (of : W) × (word ≡ word_for of)) (passes : (of : W) → test (word_for of) ≡ true) where
+    (named : (word : List ℕ) → test word ≡ true → (of : W) × (word ≡ word_for of)) (passes : (of : W) → test (word_for of) ≡ true) (aside : (of : W) → other (word_for of) ≡ false) where
   tool_first : (of : W) (words : List (List ℕ)) → MatchOption (after_tool words) (IsCommand (program ∷ word_for of ∷ words)) (StopAt (program ∷ word_for of ∷ words))
   tool_first of [] = record {
-    none = λ c. let h = behind_is (word_for of ∷ []) c in absurd (cc h.2);
+    none = λ c. let h = behind_is (word_for of) [] (aside of) c in absurd (cc h.2);
     within = omega arith;
     before = ([] ∷ [], is_one of []);
     further = λ l b. absurd (omega (arith, l));
   }
   tool_first of (name ∷ []) = is_one of name
   tool_first of (name ∷ word ∷ words) = record {
-    none = λ c. let h = behind_is (word_for of ∷ name ∷ word ∷ words) c in absurd (cc h.2);
+    none = λ c. let h = behind_is (word_for of) (name ∷ word ∷ words) (aside of) c in absurd (cc h.2);
     within = omega arith;
     before = ([], is_one of name);
-    further = λ l b. let h = behind_is (word_for of ∷ name ∷ word ∷ b.0) b.1 in absurd (cc h.2);
+    further = λ l b. let h = behind_is (word_for of) (name ∷ word ∷ b.0) (aside of) b.1 in absurd (cc h.2);
   }
 
-  no_tool : (word : List ℕ) (words : List (List ℕ)) → test word ≡ false → IsCommand (program ∷ word ∷ words) → ⊥
-  no_tool word words n c =
-      let h = behind_is (word ∷ words) c in
+  no_tool : (word : List ℕ) (words : List (List ℕ)) → other word ≡ false → test word ≡ false → IsCommand (program ∷ word ∷ words) → ⊥
+  no_tool word words o n c =
+      let h = behind_is word words o c in
       let is : word ≡ word_for h.0 = heads word (word_for h.0) words (h.1 ∷ []) h.2 in
       both_not (test word) n (ap test is ∙ passes h.0)
 
-  wrong_tool : (word : List ℕ) (words : List (List ℕ)) → test word ≡ false → StopAt (program ∷ word ∷ words) 1
-  wrong_tool word words n = record {
-    none = no_tool word words n;
+  wrong_tool : (word : List ℕ) (words : List (List ℕ)) → other word ≡ false → test word ≡ false → StopAt (program ∷ word ∷ words) 1
+  wrong_tool word words o n = record {
+    none = no_tool word words o n;
     within = omega arith;
     before = (word_for some ∷ [] ∷ [], is_one some []);
-    further = λ l b. no_tool word b.0 n b.1;
+    further = λ l b. no_tool word b.0 o n b.1;
   }
 
   tool_missing : StopAt (program ∷ []) 1
   tool_missing = record {
-    none = λ c. let h = behind_is [] c in absurd (cc h.2);
+    none = more_words program alone;
     within = omega arith;
     before = (word_for some ∷ [] ∷ [], is_one some []);
     further = λ l b. absurd (omega (arith, l));
   }
 
-  program_by : (word : List ℕ) (words : List (List ℕ)) (t : Bool) → test word ≡ t
+  program_by : (word : List ℕ) (words : List (List ℕ)) (t : Bool) → other word ≡ false → test word ≡ t
       → MatchOption (after_program test (word ∷ words)) (IsCommand (program ∷ word ∷ words)) (StopAt (program ∷ word ∷ words))
   unfolding after_program
-  program_by word words true e =
+  program_by word words true o e =
       let is = named word e in
       rw e (subst (λ w. MatchOption (after_tool words) (IsCommand (program ∷ w ∷ words)) (StopAt (program ∷ w ∷ words))) (sym is.1) (tool_first is.0 words))
-  program_by word words false e = rw e (wrong_tool word words e)
+  program_by word words false o e = rw e (wrong_tool word words o e)
 
-  program_first : (words : List (List ℕ)) → MatchOption (after_program test words) (IsCommand (program ∷ words)) (StopAt (program ∷ words))
+  program_first : (words : List (List ℕ)) → ((word : List ℕ) (others : List (List ℕ)) → words ≡ word ∷ others → other word ≡ false)
+      → MatchOption (after_program test words) (IsCommand (program ∷ words)) (StopAt (program ∷ words))
   unfolding after_program
-  program_first [] = tool_missing
-  program_first (word ∷ words) = program_by word words (test word) refl
-
-oev_first : (words : List (List ℕ)) → MatchOption (after_program is_oev words) (IsCommand (codes "oev" ∷ words)) (StopAt (codes "oev" ∷ words))
-oev_first = program_first (codes "oev") segment_word is_oev segment.List after_oev_is (λ of name. (list (tool.Oev of) name, record { words_are = refl; allowed = tt })) oev_word is_segment_tool
+  program_first [] o = tool_missing
+  program_first (word ∷ words) o = program_by word words (test word) (o word words refl) refl
 
 oiv_first : (words : List (List ℕ)) → MatchOption (after_program is_oiv words) (IsCommand (codes "oiv" ∷ words)) (StopAt (codes "oiv" ∷ words))
-oiv_first = program_first (codes "oiv") image_word is_oiv image.Delimited after_oiv_is (λ of name. (list (tool.Oiv of) name, record { words_are = refl; allowed = tt })) oiv_word is_image_tool
+oiv_first words =
+    program_first (codes "oiv") image_word is_oiv no_other image.Delimited refl after_oiv_is (λ of name. (list (tool.Oiv of) name, record { words_are = refl; allowed = tt })) oiv_word is_image_tool
+    (λ of. refl) words (λ word others e. refl)
+
+-- after `oev`, but for `back`
+listing_first : (words : List (List ℕ)) → ((word : List ℕ) (others : List (List ℕ)) → words ≡ word ∷ others → bytes_eq word (codes "back") ≡ false)
+    → MatchOption (after_program is_oev words) (IsCommand (codes "oev" ∷ words)) (StopAt (codes "oev" ∷ words))
+listing_first = program_first (codes "oev") segment_word is_oev (λ word. bytes_eq word (codes "back")) segment.List refl after_oev_is
+    (λ of name. (list (tool.Oev of) name, record { words_are = refl; allowed = tt })) oev_word is_segment_tool not_back
+
+-- ## After `oev back`
+-- what stands there in a command
+record IsBack (words : List (List ℕ)) : Type 0 where
+  pub name : List ℕ
+  pub start : ℕ
+  pub epoch : ℕ
+  pub within : AreOfSegment start epoch
+  pub words_are : words ≡ name ∷ decimal start ∷ decimal epoch ∷ []
+
+after_back_is : (words : List (List ℕ)) → IsCommand (codes "oev" ∷ codes "back" ∷ words) → IsBack words
+after_back_is words (play, e) = absurd (bytes_other (codes "oev") (codes "play") refl (heads (codes "oev") (codes "play") (codes "back" ∷ words) [] e.words_are))
+after_back_is words (run, e) = absurd (bytes_other (codes "oev") (codes "run") refl (heads (codes "oev") (codes "run") (codes "back" ∷ words) [] e.words_are))
+after_back_is words (node, e) = absurd (bytes_other (codes "oev") (codes "node") refl (heads (codes "oev") (codes "node") (codes "back" ∷ words) [] e.words_are))
+after_back_is words (fsck, e) = absurd (bytes_other (codes "oev") (codes "fsck") refl (heads (codes "oev") (codes "fsck") (codes "back" ∷ words) [] e.words_are))
+after_back_is words (gen number edits nodes, e) = absurd (bytes_other (codes "oev") (codes "gen") refl
+    (heads (codes "oev") (codes "gen") (codes "back" ∷ words) (decimal number ∷ decimal edits ∷ decimal nodes ∷ []) e.words_are))
+after_back_is words (list (tool.Oev of) name, e) =
+    let is : codes "back" ≡ segment_word of =
+    heads (codes "back") (segment_word of) words (name ∷ []) (tails (codes "oev") (codes "oev") (codes "back" ∷ words) (segment_word of ∷ name ∷ []) e.words_are) in
+    absurd (bytes_other (segment_word of) (codes "back") (not_back of) (sym is))
+after_back_is words (list (tool.Oiv of) name, e) =
+    absurd (bytes_other (codes "oev") (codes "oiv") refl (heads (codes "oev") (codes "oiv") (codes "back" ∷ words) (image_word of ∷ name ∷ []) e.words_are))
+after_back_is words (list (tool.Back start epoch) name, e) = record {
+  name = name;
+  start = start;
+  epoch = epoch;
+  within = e.allowed;
+  words_are = tails (codes "back") (codes "back") words (name ∷ decimal start ∷ decimal epoch ∷ [])
+      (tails (codes "oev") (codes "oev") (codes "back" ∷ words) (codes "back" ∷ name ∷ decimal start ∷ decimal epoch ∷ []) e.words_are);
+}
+
+-- a name, and two words that are numbers from 1 to 2^62
+back_of : (name start epoch : List ℕ) → is_number 1 greatest start ≡ true → is_number 1 greatest epoch ≡ true → IsCommand (codes "oev" ∷ codes "back" ∷ name ∷ start ∷ epoch ∷ [])
+back_of name start epoch a b =
+    let n = told_number 1 greatest start a in
+    let e = told_number 1 greatest epoch b in (
+      list (tool.Back (digits_value 10 start) (digits_value 10 epoch)) name,
+      record {
+        words_are = (λ i. codes "oev" ∷ codes "back" ∷ name ∷ sym n.1 i ∷ sym e.1 i ∷ []);
+        allowed = record { some_start = n.2; start_within = n.3; some_epoch = e.2; epoch_within = e.3 };
+      },
+    )
+
+-- a number to go on with
+some_one : is_number 1 greatest (decimal 1) ≡ true
+some_one = number_is 1 greatest 1 (omega arith) (omega arith) (omega arith)
+
+-- words of which one is no such number
+bad_start : (name start : List ℕ) (words : List (List ℕ)) → is_number 1 greatest start ≡ false → IsCommand (codes "oev" ∷ codes "back" ∷ name ∷ start ∷ words) → ⊥
+bad_start name start words n c =
+    let h = after_back_is (name ∷ start ∷ words) c in
+    let rest = tails name h.name (start ∷ words) (decimal h.start ∷ decimal h.epoch ∷ []) h.words_are in
+    let is : start ≡ decimal h.start = heads start (decimal h.start) words (decimal h.epoch ∷ []) rest in
+    both_not (is_number 1 greatest start) n (ap (is_number 1 greatest) is ∙ number_is 1 greatest h.start (omega arith) h.within.some_start h.within.start_within)
+
+bad_epoch : (name start epoch : List ℕ) (words : List (List ℕ)) → is_number 1 greatest epoch ≡ false → IsCommand (codes "oev" ∷ codes "back" ∷ name ∷ start ∷ epoch ∷ words) → ⊥
+bad_epoch name start epoch words n c =
+    let h = after_back_is (name ∷ start ∷ epoch ∷ words) c in
+    let rest = tails name h.name (start ∷ epoch ∷ words) (decimal h.start ∷ decimal h.epoch ∷ []) h.words_are in
+    let more = tails start (decimal h.start) (epoch ∷ words) (decimal h.epoch ∷ []) rest in
+    let is : epoch ≡ decimal h.epoch = heads epoch (decimal h.epoch) words [] more in
+    both_not (is_number 1 greatest epoch) n (ap (is_number 1 greatest) is ∙ number_is 1 greatest h.epoch (omega arith) h.within.some_epoch h.within.epoch_within)
+
+-- too few words, and too many
+not_named : (words : List (List ℕ)) → length words ≢ 3 → IsCommand (codes "oev" ∷ codes "back" ∷ words) → ⊥
+not_named words n c = let h = after_back_is words c in n (ap length h.words_are)
+
+epoch_first : (name start epoch : List ℕ) (words : List (List ℕ)) → is_number 1 greatest start ≡ true → is_number 1 greatest epoch ≡ true
+    → MatchOption (after_epoch words) (IsCommand (codes "oev" ∷ codes "back" ∷ name ∷ start ∷ epoch ∷ words)) (StopAt (codes "oev" ∷ codes "back" ∷ name ∷ start ∷ epoch ∷ words))
+epoch_first name start epoch [] a b = back_of name start epoch a b
+epoch_first name start epoch (word ∷ words) a b = record {
+  none = not_named (name ∷ start ∷ epoch ∷ word ∷ words) (λ e. absurd (omega (arith, e)));
+  within = omega arith;
+  before = ([], back_of name start epoch a b);
+  further = λ l x. not_named (name ∷ start ∷ epoch ∷ word ∷ x.0) (λ e. absurd (omega (arith, e))) x.1;
+}
+
+start_first : (name start : List ℕ) (words : List (List ℕ)) → is_number 1 greatest start ≡ true
+    → MatchOption (behind_start words) (IsCommand (codes "oev" ∷ codes "back" ∷ name ∷ start ∷ words)) (StopAt (codes "oev" ∷ codes "back" ∷ name ∷ start ∷ words))
+start_first name start [] a = record {
+  none = not_named (name ∷ start ∷ []) (λ e. absurd (omega (arith, e)));
+  within = omega arith;
+  before = (decimal 1 ∷ [], back_of name start (decimal 1) a some_one);
+  further = λ l x. absurd (omega (arith, l));
+}
+start_first name start (epoch ∷ words) a = by (is_number 1 greatest epoch) refl
+  where
+    by : (t : Bool) → is_number 1 greatest epoch ≡ t → MatchOption (behind_start (epoch ∷ words)) (IsCommand (codes "oev" ∷ codes "back" ∷ name ∷ start ∷ epoch ∷ words))
+        (StopAt (codes "oev" ∷ codes "back" ∷ name ∷ start ∷ epoch ∷ words))
+    by true b = rw b (epoch_first name start epoch words a b)
+    by false b = rw b (let stop : StopAt (codes "oev" ∷ codes "back" ∷ name ∷ start ∷ epoch ∷ words) 4 = record {
+      none = bad_epoch name start epoch words b;
+      within = omega arith;
+      before = (decimal 1 ∷ [], back_of name start (decimal 1) a some_one);
+      further = λ l x. bad_epoch name start epoch x.0 b x.1;
+    } in stop)
+
+name_first : (name : List ℕ) (words : List (List ℕ))
+    → MatchOption (behind_name words) (IsCommand (codes "oev" ∷ codes "back" ∷ name ∷ words)) (StopAt (codes "oev" ∷ codes "back" ∷ name ∷ words))
+name_first name [] = record {
+  none = not_named (name ∷ []) (λ e. absurd (omega (arith, e)));
+  within = omega arith;
+  before = (decimal 1 ∷ decimal 1 ∷ [], back_of name (decimal 1) (decimal 1) some_one some_one);
+  further = λ l x. absurd (omega (arith, l));
+}
+name_first name (start ∷ words) = by (is_number 1 greatest start) refl
+  where
+    by : (t : Bool) → is_number 1 greatest start ≡ t → MatchOption (behind_name (start ∷ words)) (IsCommand (codes "oev" ∷ codes "back" ∷ name ∷ start ∷ words))
+        (StopAt (codes "oev" ∷ codes "back" ∷ name ∷ start ∷ words))
+    by true a = rw a (start_first name start words a)
+    by false a = rw a (let stop : StopAt (codes "oev" ∷ codes "back" ∷ name ∷ start ∷ words) 3 = record {
+      none = bad_start name start words a;
+      within = omega arith;
+      before = (decimal 1 ∷ decimal 1 ∷ [], back_of name (decimal 1) (decimal 1) some_one some_one);
+      further = λ l x. bad_start name start x.0 a x.1;
+    } in stop)
+
+back_first : (words : List (List ℕ)) → MatchOption (after_back words) (IsCommand (codes "oev" ∷ codes "back" ∷ words)) (StopAt (codes "oev" ∷ codes "back" ∷ words))
+unfolding after_back
+back_first [] = record {
+  none = not_named [] (λ e. absurd (omega (arith, e)));
+  within = omega arith;
+  before = ([] ∷ decimal 1 ∷ decimal 1 ∷ [], back_of [] (decimal 1) (decimal 1) some_one some_one);
+  further = λ l x. absurd (omega (arith, l));
+}
+back_first (name ∷ words) = name_first name words
+
+oev_by : (word : List ℕ) (words : List (List ℕ)) (t : Bool) → bytes_eq word (codes "back") ≡ t
+    → MatchOption (after_oev (word ∷ words)) (IsCommand (codes "oev" ∷ word ∷ words)) (StopAt (codes "oev" ∷ word ∷ words))
+unfolding after_oev
+oev_by word words true e =
+    rw e (subst (λ w. MatchOption (after_back words) (IsCommand (codes "oev" ∷ w ∷ words)) (StopAt (codes "oev" ∷ w ∷ words))) (sym ((bytes_eq-Decides word (codes "back")).0 e)) (back_first words))
+oev_by word words false e =
+    rw e (listing_first (word ∷ words) (λ w others is. ap (λ x. bytes_eq x (codes "back")) (sym (heads word w words others is)) ∙ e))
+
+oev_first : (words : List (List ℕ)) → MatchOption (after_oev words) (IsCommand (codes "oev" ∷ words)) (StopAt (codes "oev" ∷ words))
+unfolding after_oev after_program
+oev_first [] = listing_first [] (λ word others e. absurd (cc e))
+oev_first (word ∷ words) = oev_by word words (bytes_eq word (codes "back")) refl
 
 -- ## After `gen`
 -- what stands there in a command
@@ -239,6 +424,8 @@ after_gen_is words (gen number edits nodes, e) = record {
   words_are = tails (codes "gen") (codes "gen") words (decimal number ∷ decimal edits ∷ decimal nodes ∷ []) e.words_are;
 }
 after_gen_is words (list (tool.Oev of) name, e) = absurd (bytes_other (codes "gen") (codes "oev") refl (heads (codes "gen") (codes "oev") words (segment_word of ∷ name ∷ []) e.words_are))
+after_gen_is words (list (tool.Back start epoch) name, e) =
+    absurd (bytes_other (codes "gen") (codes "oev") refl (heads (codes "gen") (codes "oev") words (codes "back" ∷ name ∷ decimal start ∷ decimal epoch ∷ []) e.words_are))
 after_gen_is words (list (tool.Oiv of) name, e) = absurd (bytes_other (codes "gen") (codes "oiv") refl (heads (codes "gen") (codes "oiv") words (image_word of ∷ name ∷ []) e.words_are))
 
 -- three words that are numbers in their ranges
@@ -364,7 +551,7 @@ first_by : (word : List ℕ) (words : List (List ℕ)) (a o p q : Bool) → is_a
 unfolding usage_of
 first_by word words true o p q e h k g = rw e (alone_first word words e (alone_word word e))
 first_by word words false true p q e h k g =
-    rw (e, h) (subst (λ w. MatchOption (after_program is_oev words) (IsCommand (w ∷ words)) (StopAt (w ∷ words))) (sym ((bytes_eq-Decides word (codes "oev")).0 h)) (oev_first words))
+    rw (e, h) (subst (λ w. MatchOption (after_oev words) (IsCommand (w ∷ words)) (StopAt (w ∷ words))) (sym ((bytes_eq-Decides word (codes "oev")).0 h)) (oev_first words))
 first_by word words false false true q e h k g =
     rw (e, h, k) (subst (λ w. MatchOption (after_program is_oiv words) (IsCommand (w ∷ words)) (StopAt (w ∷ words))) (sym ((bytes_eq-Decides word (codes "oiv")).0 k)) (oiv_first words))
 first_by word words false false false true e h k g =
@@ -416,7 +603,8 @@ asked_at [] = play
 asked_at (word ∷ []) = alone_at word
 asked_at (program ∷ word ∷ []) = play
 asked_at (program ∷ word ∷ name ∷ []) = list (tool_at program word) name
-asked_at (word ∷ number ∷ edits ∷ nodes ∷ words) = gen (digits_value 10 number) (digits_value 10 edits) (digits_value 10 nodes)
+asked_at (word ∷ number ∷ edits ∷ nodes ∷ []) = gen (digits_value 10 number) (digits_value 10 edits) (digits_value 10 nodes)
+asked_at (program ∷ word ∷ name ∷ start ∷ epoch ∷ words) = list (tool.Back (digits_value 10 start) (digits_value 10 epoch)) name
 
 asked_back : (asked : Asked) → IsAllowed asked → asked_at (words_of asked) ≡ asked
 unfolding asked_at tool_at image_at segment_at alone_at
@@ -438,6 +626,12 @@ asked_back (list (tool.Oev segment.Json) name) h = refl
 asked_back (list (tool.Oiv image.Delimited) name) h = refl
 asked_back (list (tool.Oiv image.Sizes) name) h = refl
 asked_back (list (tool.Oiv image.Json) name) h = refl
+asked_back (list (tool.Back start epoch) name) h =
+    let a : start ≤ 4611686018427387904 = h.start_within in
+    let b : epoch ≤ 4611686018427387904 = h.epoch_within in
+    let s = number_again start (omega (arith, a)) in
+    let e = number_again epoch (omega (arith, b)) in
+    (λ i. list (tool.Back (s i) (e i)) name)
 
 -- words are of one command
 pub one_command : (words : List (List ℕ)) (a b : Asked) → AskFor words a → AskFor words b → a ≡ b

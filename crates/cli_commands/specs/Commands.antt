@@ -1,5 +1,6 @@
 -- The commands, and the words that ask for them.
-use Rattle.std.specs.Prelude.{ℕ, ◌≡◌, List, [], ◌∷◌, codes, decimal}
+use Rattle.std.specs.Prelude.{ℕ, ◌≡◌, ◌≤◌, List, [], ◌∷◌, codes, decimal}
+use Rattle.journal_core.specs.Limits.{max_number}
 use Rattle.play_maker.specs.Generated.{IsWithin}
 use Rattle.cli_commands.specs.declared.tool.SegmentTool.{SegmentTool}
 use Rattle.cli_commands.specs.declared.tool.SegmentTool.TheVariants as segment
@@ -12,7 +13,7 @@ use Rattle.cli_commands.specs.declared.command.Command.TheVariants as command
 
 -- What can be asked for: a script is played, in order or by threads, a node is served, the disk's
 -- files are checked, the script that a number gives is played, with so many edits over so many
--- nodes, or the file of this name is listed by this tool.
+-- nodes, or what this tool makes of the file of this name is written.
 pub data Asked : Type 0 where
   play : Asked
   run : Asked
@@ -34,6 +35,7 @@ asked_in (command.Listing of name) = list of name.now
 abbrev pub program_of : Tool → List ℕ
 program_of (tool.Oev of) = codes "oev"
 program_of (tool.Oiv of) = codes "oiv"
+program_of (tool.Back start epoch) = codes "oev"
 
 abbrev pub segment_word : SegmentTool → List ℕ
 segment_word segment.List = codes "list"
@@ -48,6 +50,13 @@ image_word image.Json = codes "json"
 abbrev pub word_of : Tool → List ℕ
 word_of (tool.Oev of) = segment_word of
 word_of (tool.Oiv of) = image_word of
+word_of (tool.Back start epoch) = codes "back"
+
+-- after the name of its file
+abbrev pub numbers_of : Tool → List (List ℕ)
+numbers_of (tool.Oev of) = []
+numbers_of (tool.Oiv of) = []
+numbers_of (tool.Back start epoch) = decimal start ∷ decimal epoch ∷ []
 
 -- ## The words of a command
 abbrev pub words_of : Asked → List (List ℕ)
@@ -56,11 +65,24 @@ words_of run = codes "run" ∷ []
 words_of node = codes "node" ∷ []
 words_of fsck = codes "fsck" ∷ []
 words_of (gen number edits nodes) = codes "gen" ∷ decimal number ∷ decimal edits ∷ decimal nodes ∷ []
-words_of (list of name) = program_of of ∷ word_of of ∷ name ∷ []
+words_of (list of name) = program_of of ∷ word_of of ∷ name ∷ numbers_of of
 
--- the numbers of a generated script are within their limits
+-- the start and the epoch of a segment are from 1 to 2^62
+pub record AreOfSegment (start epoch : ℕ) : Type 0 where
+  pub some_start : 1 ≤ start
+  pub start_within : start ≤ max_number
+  pub some_epoch : 1 ≤ epoch
+  pub epoch_within : epoch ≤ max_number
+
+abbrev pub IsAllowedTool : Tool → Type 0
+IsAllowedTool (tool.Oev of) = Unit {0}
+IsAllowedTool (tool.Oiv of) = Unit {0}
+IsAllowedTool (tool.Back start epoch) = AreOfSegment start epoch
+
+-- the numbers of a generated script and of a segment are within their limits
 abbrev pub IsAllowed : Asked → Type 0
 IsAllowed (gen number edits nodes) = IsWithin number edits nodes
+IsAllowed (list of name) = IsAllowedTool of
 IsAllowed _ = Unit {0}
 
 -- the words ask for it

@@ -22,10 +22,13 @@ IsShort TooLong = Unit {0}
 IsShort (Bytes bytes) = length bytes.items ≤ longest_file
 
 -- ## What is due of it
--- bytes that aren't too many have a damage, or memory ran out
+-- bytes that aren't too many have a fault, or memory ran out
 abbrev pub IsReadFault : Tool → List ℕ → CommandFault → Type 0
 IsReadFault of bytes (fault.BadBytes place cause) = IsFileFault of (Some bytes) (fault.BadBytes place cause)
 IsReadFault of bytes (fault.BadImage place cause) = IsFileFault of (Some bytes) (fault.BadImage place cause)
+IsReadFault of bytes fault.NotJson = IsFileFault of (Some bytes) fault.NotJson
+IsReadFault of bytes (fault.BadEntry index) = IsFileFault of (Some bytes) (fault.BadEntry index)
+IsReadFault of bytes (fault.TooManyEntries number) = IsFileFault of (Some bytes) (fault.TooManyEntries number)
 IsReadFault of bytes fault.OutOfMemory = Unit {0}
 IsReadFault of bytes _ = ⊥
 

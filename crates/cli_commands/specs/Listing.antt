@@ -1,4 +1,4 @@
--- How a listing of a file ends, and what it writes.
+-- How a tool that makes something of a file ends, and what it writes.
 use Rattle.std.specs.Prelude.{ℕ, ◌≡◌, ◌+◌, ◌<◌, ◌≤◌, List, Option, Some, None, Result, Ok, Err, length}
 use Rattle.base_outside.specs.Faults.{Rose}
 use Rattle.base_disk.specs.Calls.{HasCause, Rests}
@@ -11,6 +11,7 @@ use Rattle.list_oev.specs.Entries.{entry_lines}
 use Rattle.list_oev.specs.Segment.{IsSegment}
 use Rattle.list_oev.specs.Damage.{IsDamaged}
 use Rattle.list_oev.specs.Listed.{IsTold}
+use Rattle.list_back.specs.Backs.{HasNoArray, HasLongArray, HasBadMember, BecomesSegment, IsOfObjects}
 use Rattle.cli_commands.specs.declared.status.Status.{Status}
 use Rattle.cli_commands.specs.declared.status.Status.TheVariants as status
 use Rattle.cli_commands.specs.declared.command_fault.CommandFault.{CommandFault}
@@ -60,16 +61,22 @@ pub record IsImageTold (tell : List Row → List ℕ) (bytes text : List ℕ) : 
 abbrev pub IsToldBy : Tool → List ℕ → List ℕ → Type 0
 IsToldBy (tool.Oev of) bytes text = IsTold (told_by of) bytes text
 IsToldBy (tool.Oiv of) bytes text = IsImageTold (rows_told_by of) bytes text
+IsToldBy (tool.Back start epoch) bytes text = BecomesSegment start epoch bytes text
 
--- the bytes are a segment's file, or an image, as the tool wants them
+-- the bytes are a segment's file, an image, or the objects of edits, as the tool wants them
 abbrev pub IsInGrammar : Tool → List ℕ → Type 0
 IsInGrammar (tool.Oev of) bytes = (start : ℕ) × (edits : List EditView) × IsSegment bytes start edits
 IsInGrammar (tool.Oiv of) bytes = (space : Space) × (txid : ℕ) × (reading_of bytes ≡ Image space txid)
+IsInGrammar (tool.Back start epoch) bytes = IsOfObjects start bytes
 
--- the bytes aren't, and this is their first damage
+-- The bytes aren't, and this is their first damage. Of a listing as JSON: they are no array; or an
+-- array of too many values; or the value at a place is the first that is the object of no edit.
 abbrev pub IsBytesFault : Tool → List ℕ → CommandFault → Type 0
 IsBytesFault (tool.Oev of) bytes (fault.BadBytes place cause) = (IsInGrammar (tool.Oev of) bytes → ⊥) × IsDamaged bytes place cause
 IsBytesFault (tool.Oiv of) bytes (fault.BadImage place cause) = (why : ImageCause) × (reading_of bytes ≡ BadImage place why) × (cause_of why ≡ Some cause)
+IsBytesFault (tool.Back start epoch) bytes fault.NotJson = HasNoArray bytes
+IsBytesFault (tool.Back start epoch) bytes (fault.TooManyEntries number) = HasLongArray bytes number
+IsBytesFault (tool.Back start epoch) bytes (fault.BadEntry index) = HasBadMember start bytes index
 IsBytesFault of bytes _ = ⊥
 
 -- a file of more bytes than are listed
@@ -92,6 +99,9 @@ abbrev pub IsFileFault : Tool → Option (List ℕ) → CommandFault → Type 0
 IsFileFault of file fault.NoFile = file ≡ None
 IsFileFault of file (fault.BadBytes place cause) = HasDamage of file (fault.BadBytes place cause)
 IsFileFault of file (fault.BadImage place cause) = HasDamage of file (fault.BadImage place cause)
+IsFileFault of file fault.NotJson = HasDamage of file fault.NotJson
+IsFileFault of file (fault.BadEntry index) = HasDamage of file (fault.BadEntry index)
+IsFileFault of file (fault.TooManyEntries number) = HasDamage of file (fault.TooManyEntries number)
 IsFileFault of file _ = ⊥
 
 -- a file has one listing by a tool, and one fault
@@ -132,6 +142,9 @@ abbrev pub IsListFault : {D : Type 0} → Tool → List ℕ → DiskUse D → Co
 IsListFault of name disk fault.NoFile = OfFile disk name (λ file. IsFileFault of file fault.NoFile)
 IsListFault of name disk (fault.BadBytes place cause) = OfFile disk name (λ file. IsFileFault of file (fault.BadBytes place cause))
 IsListFault of name disk (fault.BadImage place cause) = OfFile disk name (λ file. IsFileFault of file (fault.BadImage place cause))
+IsListFault of name disk fault.NotJson = OfFile disk name (λ file. IsFileFault of file fault.NotJson)
+IsListFault of name disk (fault.BadEntry index) = OfFile disk name (λ file. IsFileFault of file (fault.BadEntry index))
+IsListFault of name disk (fault.TooManyEntries number) = OfFile disk name (λ file. IsFileFault of file (fault.TooManyEntries number))
 IsListFault of name disk (fault.Limit number) = (number ≡ longest_file) × HasCalls disk × (disk.tells disk.before → IsTooLong (file_under disk name))
 IsListFault of name disk fault.DiskFault =
     Rose (disk.faults disk.before) (disk.faults disk.now) × ((k : ℕ) → disk.left disk.before ≡ Some (2 + k) → ⊥)

@@ -2,7 +2,9 @@
 use Rattle.std.specs.Prelude.{ℕ, ◌≡◌, ◌≢◌, Bool, true, false, List, [], Option, Some, None}
 use Rattle.base_disk.specs.View.{AllLeave, LeavesOnly}
 use Rattle.journal_core.specs.declared.node_state.NodeState.{NodeState}
+use Rattle.journal_core.specs.Segments.{AreSound}
 use Rattle.journal_core.specs.Step.{restarted}
+use Rattle.disk_segment.specs.RowsTell.{AreStarts}
 use Rattle.disk_files.specs.Durable.{StandsAs, AreFilled}
 use Rattle.disk_node.specs.Opening.{IsRefusedFile, IsCauseOf, Keeps, StandsAsBefore}
 use Rattle.journal_session.specs.Lines.{longest_line, longest_input}
@@ -46,12 +48,15 @@ is_disk_fault _ = false
 
 -- ## What was done
 -- A session at the node that the files gave, where disk and source told their bytes: the state that
--- the files stood for, which the node was opened with, and the one after the session. The files
--- after it stand for that one, and so do those that each crash would leave, unless a fault or lack
+-- the files stood for, which the node was opened with, and the one after the session. Its segments
+-- stand each once, by rising starts from 1 to 2^62, so the files fix it. The files after the session
+-- stand for the state after it, and so do those that each crash would leave, unless a fault or lack
 -- of memory ended it. A crash in the middle left no fewer of the lines than were answered by then.
 pub record IsNodeSession {D : Type 0} (disk : DiskUse D) (outcome : Served) (told : List ℕ) (left before now : Option (List ℕ)) : Type 0 where
   pub state : NodeState
   pub stood : StandsAs (disk.view disk.before).seen state
+  pub sound : AreSound state.segments
+  pub starts : AreStarts state.segments
   pub filled : AreFilled state.segments
   pub new : NodeState
   pub lines : List (List ℕ)
@@ -61,11 +66,13 @@ pub record IsNodeSession {D : Type 0} (disk : DiskUse D) (outcome : Served) (tol
   pub lasting : outcome ≢ served.DiskFault → outcome ≢ served.OutOfMemory → AllLeave (disk.view disk.now) (λ c. StandsAs c new)
   pub crashes : OutlastsCrashes disk.view disk.before disk.now (restarted state) lines next
 
--- the files stood for the state of a node, and stand for one; a crash in the middle left no fewer
--- of some lines than were answered by then
+-- the files stood for the state of a node, which they fix, and stand for one; a crash in the middle
+-- left no fewer of some lines than were answered by then
 pub record HoldsNode {D : Type 0} (disk : DiskUse D) : Type 0 where
   pub state : NodeState
   pub stood : StandsAs (disk.view disk.before).seen state
+  pub sound : AreSound state.segments
+  pub starts : AreStarts state.segments
   pub filled : AreFilled state.segments
   pub new : NodeState
   pub stands : StandsAs (disk.view disk.now).seen new

@@ -32,10 +32,31 @@ after_tool [] = Some 2
 after_tool (name ∷ []) = None
 after_tool (name ∷ word ∷ words) = Some 3
 
--- after `oev` and `oiv` stands a tool of theirs
+-- after `oiv` stands a tool of it, and so after `oev`, but for `back`
 unfoldable pub after_program : (List ℕ → Bool) → List (List ℕ) → Option ℕ
 after_program is_tool [] = Some 1
 after_program is_tool (word ∷ words) = if is_tool word then after_tool words else Some 1
+
+-- after `oev back` stand a name and two numbers: the first txid of a segment, and its epoch
+abbrev pub after_epoch : List (List ℕ) → Option ℕ
+after_epoch [] = None
+after_epoch (word ∷ words) = Some 5
+
+abbrev pub behind_start : List (List ℕ) → Option ℕ
+behind_start [] = Some 4
+behind_start (epoch ∷ words) = if is_number 1 greatest epoch then after_epoch words else Some 4
+
+abbrev pub behind_name : List (List ℕ) → Option ℕ
+behind_name [] = Some 3
+behind_name (start ∷ words) = if is_number 1 greatest start then behind_start words else Some 3
+
+unfoldable pub after_back : List (List ℕ) → Option ℕ
+after_back [] = Some 2
+after_back (name ∷ words) = behind_name words
+
+unfoldable pub after_oev : List (List ℕ) → Option ℕ
+after_oev [] = Some 1
+after_oev (word ∷ words) = if bytes_eq word (codes "back") then after_back words else after_program is_oev (word ∷ words)
 
 -- after `gen` stand three numbers: the one that a script is made from, how many edits and how many
 -- nodes
@@ -60,6 +81,6 @@ unfoldable pub usage_of : List (List ℕ) → Option ℕ
 usage_of [] = Some 0
 usage_of (word ∷ words) =
     if is_alone word then after_one words
-    else (if bytes_eq word (codes "oev") then after_program is_oev words
+    else (if bytes_eq word (codes "oev") then after_oev words
     else (if bytes_eq word (codes "oiv") then after_program is_oiv words
     else (if bytes_eq word (codes "gen") then after_gen words else Some 0)))

@@ -1,7 +1,7 @@
 //! The commands, read from the words.
 ghost use Rattle.std.specs.Prelude.{◌≡◌, [], ◌∷◌, false, Some, codes, MatchOption, MatchResult};
 ghost use Rattle.cli_commands.specs.Commands.{asked_in, AskFor};
-ghost use Rattle.cli_commands.specs.Usage.{bytes_of, is_alone, is_oev, is_oiv, after_one, after_tool, after_program, after_gen, usage_of};
+ghost use Rattle.cli_commands.specs.Usage.{bytes_of, is_alone, is_oev, is_oiv, after_one, after_tool, after_program, after_back, after_oev, after_gen, usage_of};
 
 use crate::tool::Tool;
 use crate::tool_words::{image_tool_of, segment_tool_of};
@@ -29,7 +29,7 @@ pub enum Command<'a> {
     Fsck,
     /// To play the script that a number gives, with so many edits over so many nodes.
     Gen { number: u64, edits: u64, nodes: u64 },
-    /// To list a file of the disk.
+    /// To write what a tool makes of a file of the disk.
     Listing { tool: Tool, name: &'a str },
 }
 
@@ -72,15 +72,48 @@ fn one_name(words: &[String]) -> Result<&str, u64>
     }
 }
 
-/// The listing of a segment's file that the words after `oev` ask for; or the place of the first
+/// The segment of a listing that the words after `oev back` ask for; or the place of the first
 /// wrong word.
-#[tactic(auto, unfolding(crate::specs::Usage::after_program))]
+#[tactic(auto, using(crate::proofs::BackLaws::asks), unfolding(crate::specs::Usage::after_back))]
+fn read_back(words: &[String]) -> Result<Command<'_>, u64>
+    ensures { MatchResult result (λ c. AskFor (codes "oev" ∷ codes "back" ∷ bytes_of words.now) (asked_in c)) (λ place. after_back (bytes_of words.now) ≡ Some place) }
+{
+    let Some((name, others)) = words.split_first() else {
+        return Err(2);
+    };
+    let Some((first, others)) = others.split_first() else {
+        return Err(3);
+    };
+    let Some(start) = number_of(first.as_bytes(), 1, GREATEST) else {
+        return Err(3);
+    };
+    let Some((second, others)) = others.split_first() else {
+        return Err(4);
+    };
+    let Some(epoch) = number_of(second.as_bytes(), 1, GREATEST) else {
+        return Err(4);
+    };
+    if !others.is_empty() {
+        return Err(5);
+    }
+    Ok(Command::Listing {
+        tool: Tool::Back { start, epoch },
+        name: name.as_str(),
+    })
+}
+
+/// What is to be made of a segment's file, or of a listing, that the words after `oev` ask for; or
+/// the place of the first wrong word.
+#[tactic(auto, unfolding(crate::specs::Usage::after_oev, crate::specs::Usage::after_program))]
 fn read_oev(words: &[String]) -> Result<Command<'_>, u64>
-    ensures { MatchResult result (λ c. AskFor (codes "oev" ∷ bytes_of words.now) (asked_in c)) (λ place. after_program is_oev (bytes_of words.now) ≡ Some place) }
+    ensures { MatchResult result (λ c. AskFor (codes "oev" ∷ bytes_of words.now) (asked_in c)) (λ place. after_oev (bytes_of words.now) ≡ Some place) }
 {
     let Some((word, names)) = words.split_first() else {
         return Err(1);
     };
+    if word.as_str() == "back" {
+        return read_back(names);
+    }
     let Some(of) = segment_tool_of(word.as_str()) else {
         return Err(1);
     };

@@ -26,6 +26,13 @@ pub enum CommandFault {
     BadImage { place: u64, cause: ImageByteCause },
     /// This file of a node isn't in its format.
     BadFile(Name),
+    /// The file is no array of JSON.
+    NotJson,
+    /// The array's value at this place, from 0, is the first that is the object of no edit at its
+    /// txid.
+    BadEntry { index: u64 },
+    /// The array has more values than a segment may have entries, which are so many.
+    TooManyEntries(u64),
     /// Something passed this number.
     Limit(u64),
     /// The source failed.
@@ -59,7 +66,8 @@ pub fn status_for(fault: &CommandFault) -> Status
         CommandFault::NoFile => Status::BadBytes,
         CommandFault::BadBytes { .. } | CommandFault::BadImage { .. } | CommandFault::BadFile(_) =>
             Status::BadBytes,
-        CommandFault::Limit(_) => Status::Limit,
+        CommandFault::NotJson | CommandFault::BadEntry { .. } => Status::BadBytes,
+        CommandFault::TooManyEntries(_) | CommandFault::Limit(_) => Status::Limit,
         CommandFault::ReadFault => Status::ReadFault,
         CommandFault::DiskFault => Status::DiskFault,
         CommandFault::OutOfMemory => Status::OutOfMemory,
@@ -178,6 +186,9 @@ pub fn line_for(fault: &CommandFault) -> Line
         CommandFault::BadBytes { place, cause } => bytes_line(*place, word_for(*cause)),
         CommandFault::BadImage { place, cause } => bytes_line(*place, image_word_for(*cause)),
         CommandFault::BadFile(_) => Line::new(),
+        CommandFault::NotJson => plain_line("error BadBytes 0 Json\n"),
+        CommandFault::BadEntry { index } => bytes_line(*index, "Entry"),
+        CommandFault::TooManyEntries(number) => number_line("error Limit ", *number),
         CommandFault::Limit(number) => number_line("error Limit ", *number),
         CommandFault::ReadFault => plain_line("error ReadFault\n"),
         CommandFault::DiskFault => plain_line("error DiskFault\n"),

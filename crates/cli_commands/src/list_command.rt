@@ -1,4 +1,4 @@
-//! What is due of a listing, before any of it is written.
+//! What is due of a tool for a file, before any of it is written.
 ghost use Rattle.std.specs.Prelude.{◌↔◌, ◌≤◌, ℕ, List, Some, IfOk, IfErr, length};
 ghost use Rattle.edit_ops.specs.Records.{EditView};
 ghost use Rattle.list_oev.specs.Segment.{IsSegment};
@@ -6,6 +6,7 @@ ghost use Rattle.list_oev.specs.Listed.{IsListed, GivesText};
 ghost use Rattle.list_oiv.specs.Listed.{IsListed as IsImageListed};
 ghost use Rattle.base_disk.specs.Calls.{Rests};
 ghost use Rattle.base_disk.specs.DiskCalls.{IfTold, IsDiskRun};
+ghost use Rattle.cli_commands.specs.Commands.{IsAllowedTool};
 ghost use Rattle.cli_commands.specs.Uses.{written_to, done_to};
 ghost use Rattle.cli_commands.specs.Listing.{longest_file, told_by, rows_told_by, IsListing, GivesListing, IsListFault, Lists};
 ghost use Rattle.cli_commands.specs.Found.{IsShort, IsReadFault, GivesFound, IsFoundFault, answer_of};
@@ -17,6 +18,7 @@ use crate::tool::{ImageTool, SegmentTool, Tool};
 use crate::writing::write_due;
 use base_disk::{Disk, DiskFail};
 use base_outside::Sink;
+use list_back::{Back, back};
 use list_oev::{SegmentListing, json as segment_json, list, stats};
 use list_oiv::{ImageListing, json as image_json, list_delimited, sizes};
 use std::alloc::Global;
@@ -70,21 +72,46 @@ fn due_of_image(alloc: Global, of: ImageTool, bytes: &[u8]) -> Result<Vec<u8>, C
     }
 }
 
+/// What is due of the bytes of a listing as JSON: the segment of its edits from that txid on, under
+/// that epoch.
+fn due_of_listing(
+    alloc: Global,
+    start: u64,
+    epoch: u64,
+    bytes: &[u8],
+) -> Result<Vec<u8>, CommandFault>
+    requires numbers { IsAllowedTool (Tool.Back start epoch) }
+    requires short { length bytes.now ≤ longest_file }
+    ensures text { IfOk result (λ text. IsListing (Tool.Back start epoch) (Some bytes.now) text.items) }
+    ensures fault { IfErr result (IsReadFault (Tool.Back start epoch) bytes.now) }
+{
+    match back(alloc, bytes, start, epoch) {
+        Back::Segment(segment) => Ok(segment),
+        Back::NotJson => Err(CommandFault::NotJson),
+        Back::TooLong { number } => Err(CommandFault::TooManyEntries(number)),
+        Back::BadEntry { index } => Err(CommandFault::BadEntry { index }),
+        Back::OutOfMemory => Err(CommandFault::OutOfMemory),
+    }
+}
+
 /// What is due of a file's bytes.
 fn due_of_bytes(alloc: Global, tool: Tool, bytes: &[u8]) -> Result<Vec<u8>, CommandFault>
-    requires { length bytes.now ≤ longest_file }
+    requires tool { IsAllowedTool tool }
+    requires short { length bytes.now ≤ longest_file }
     ensures text { IfOk result (λ text. IsListing tool (Some bytes.now) text.items) }
     ensures fault { IfErr result (IsReadFault tool bytes.now) }
 {
     match tool {
         Tool::Oev(of) => due_of_segment(alloc, of, bytes),
         Tool::Oiv(of) => due_of_image(alloc, of, bytes),
+        Tool::Back { start, epoch } => due_of_listing(alloc, start, epoch, bytes),
     }
 }
 
 /// What is due of what was found under the name.
 fn due_of_found(alloc: Global, tool: Tool, found: &Found) -> Result<Vec<u8>, CommandFault>
-    requires { IsShort found.now }
+    requires tool { IsAllowedTool tool }
+    requires short { IsShort found.now }
     ensures text { IfOk result (λ text. GivesFound tool found.now text.items) }
     ensures fault { IfErr result (IsFoundFault tool found.now) }
 {
@@ -102,6 +129,7 @@ fn due_of_name<D: Disk>(
     name: &str,
     disk: &mut D,
 ) -> Result<Vec<u8>, CommandFault>
+    requires { IsAllowedTool tool }
     ensures text { IfOk result (λ text. GivesListing tool name.now (done_to D.tells D.view D.faults D.steady D.left disk.old disk.new) Status.Ok text.items) }
     ensures fault { IfErr result (IsListFault tool name.now (done_to D.tells D.view D.faults D.steady D.left disk.old disk.new)) }
     ensures call { IsDiskRun D.DiskModel disk.old disk.new (answer_of result) }
@@ -114,7 +142,7 @@ fn due_of_name<D: Disk>(
     }
 }
 
-/// Lists the file that has this name, and writes what is due.
+/// Writes what the tool makes of the file that has this name.
 pub fn list_file<K: Sink, D: Disk>(
     alloc: Global,
     tool: Tool,
@@ -122,6 +150,7 @@ pub fn list_file<K: Sink, D: Disk>(
     sink: &mut K,
     disk: &mut D,
 ) -> Status
+    requires { IsAllowedTool tool }
     ensures lists { Lists tool name.now (done_to D.tells D.view D.faults D.steady D.left disk.old disk.new) (written_to K.taken K.faults sink.old sink.new) result }
     ensures tells { D.tells disk.old ↔ D.tells disk.new }
 {

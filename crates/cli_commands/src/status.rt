@@ -9,12 +9,13 @@ pub enum Status {
     Usage,
     /// A line of the script breaks a rule, or one that a node is to answer isn't a request.
     BadScript,
-    /// The bytes of the named file aren't those of a segment's file, or of an image, or there is no
-    /// such file; or a file of the node isn't in its format.
+    /// The bytes of the named file aren't those of a segment's file, of an image or of a listing as
+    /// JSON, as they are to be, or there is no such file; or a file of the node isn't in its
+    /// format.
     BadBytes,
     /// The script has more than 1,048,576 bytes, or its report more than 268,435,456; or the named
-    /// file has more than 134,217,728; or a node's request line has more than 1,048,576, or all of
-    /// them have more than 1,073,741,824.
+    /// file has more than 134,217,728; or a listing has more than 16,384 entries; or a node's
+    /// request line has more than 1,048,576 bytes, or all of them have more than 1,073,741,824.
     Limit,
     /// The check of the files told a finding.
     Unsound,

@@ -1,4 +1,4 @@
-//! The tools that list a file.
+//! The tools that write what they make of a file.
 
 /// What is told of a segment's file.
 #[derive(Clone, Copy, Debug, PartialEq, Eq)]
@@ -22,9 +22,12 @@ pub enum ImageTool {
     Json,
 }
 
-/// What is told of which kind of file.
+/// What is made of which kind of file.
 #[derive(Clone, Copy, Debug, PartialEq, Eq)]
 pub enum Tool {
     Oev(SegmentTool),
     Oiv(ImageTool),
+    /// The segment from this txid on, under this epoch, of the edits whose listing as JSON the file
+    /// is.
+    Back { start: u64, epoch: u64 },
 }

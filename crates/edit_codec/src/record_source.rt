@@ -154,9 +154,12 @@ fn take_paths(
 }
 
 impl FieldSource for RecordSource<'_> {
+    ghost use Rattle.std.specs.Prelude.{List, ℕ};
     ghost use Rattle.edit_ops.specs.Reading.{group_at};
 
     type Fault = FieldFault;
+
+    ghost Left = { List ℕ };
 
     ghost left = { λ source. source.rest.now };
 

@@ -177,9 +177,12 @@ fn take_paths(alloc: Global, words: &[u8]) -> Result<NameList, ReadError<BadText
 }
 
 impl FieldSource for WordSource<'_> {
+    ghost use Rattle.std.specs.Prelude.{List, ℕ};
     ghost use Rattle.edit_codec.specs.Saying.{words_group};
 
     type Fault = BadText;
+
+    ghost Left = { List ℕ };
 
     ghost left = { λ source. source.rest.now };
 

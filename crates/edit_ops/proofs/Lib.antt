@@ -5,3 +5,4 @@ pub mod WalkLaws
 pub mod EditLaws
 pub mod Parts
 pub mod VerbLaws
+pub mod NameLaws

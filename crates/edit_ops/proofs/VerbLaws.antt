@@ -16,7 +16,7 @@ asked =
     kinds.Add ∷ kinds.RenameOld ∷ kinds.Delete ∷ kinds.Mkdir ∷ kinds.SetReplication ∷ kinds.SetPermissions ∷ kinds.SetOwner ∷ kinds.Close ∷ kinds.Times ∷ kinds.SetQuota
     ∷ kinds.Rename ∷ kinds.ConcatDelete ∷ []
 
-abbrev Among : OpKind → List OpKind → Type 0
+abbrev pub Among : OpKind → List OpKind → Type 0
 Among kind [] = ⊥
 Among kind (k ∷ ks) = (k ≡ kind) ⊎ Among kind ks
 
@@ -47,7 +47,7 @@ all_ahead word = record { plain = (refl, (refl, (refl, (refl, (refl, (refl, (ref
 next : (i : ℕ) (word : List ℕ) (d : OpKind) → i < 12 → Ahead (drop i asked) word → Ahead (get_or asked i d ∷ drop (i + 1) asked) word
 next i word d l h = subst (λ (ks : List OpKind). Ahead ks word) (at_drop_more (λ (ks : List OpKind). ks) asked i d l) h
 
-later : (k kind : OpKind) (ks : List OpKind) → (k ≡ kind) ⊎ Among kind ks → k ≢ kind → Among kind ks
+pub later : (k kind : OpKind) (ks : List OpKind) → (k ≡ kind) ⊎ Among kind ks → k ≢ kind → Among kind ks
 later k kind ks (inl e) differs = absurd (differs e)
 later k kind ks (inr a) differs = a
 

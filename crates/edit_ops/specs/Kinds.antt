@@ -1,5 +1,5 @@
--- The codes of the kinds of edits.
-use Rattle.std.specs.Prelude.{ℕ, Bool, true, false}
+-- The kinds of edits, and their codes.
+use Rattle.std.specs.Prelude.{ℕ, List, [], ◌∷◌, Bool, true, false}
 use Rattle.edit_ops.specs.declared.kind.OpKind.{OpKind}
 use Rattle.edit_ops.specs.declared.kind.OpKind.TheVariants.{Add, RenameOld, Delete, Mkdir, SetReplication, SetPermissions, SetOwner, Close, Times}
 use Rattle.edit_ops.specs.declared.kind.OpKind.TheVariants.{SetQuota, Rename, ConcatDelete, EndLogSegment, StartLogSegment}
@@ -25,3 +25,7 @@ abbrev pub is_mark : OpKind → Bool
 is_mark EndLogSegment = true
 is_mark StartLogSegment = true
 is_mark kind = false
+
+-- the kinds by their codes
+abbrev pub kinds : List OpKind
+kinds = Add ∷ RenameOld ∷ Delete ∷ Mkdir ∷ SetReplication ∷ SetPermissions ∷ SetOwner ∷ Close ∷ Times ∷ SetQuota ∷ Rename ∷ ConcatDelete ∷ EndLogSegment ∷ StartLogSegment ∷ []

@@ -7,3 +7,4 @@ pub mod Records
 pub mod Grammar
 pub mod Words
 pub mod FromFields
+pub mod Keys

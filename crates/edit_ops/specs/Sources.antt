@@ -1,7 +1,7 @@
 -- Where the fields of an edit come from: each source tells how it gives the field of a kind at its
 -- front, with the fields that it counts, or what is wrong with it. What is then read is the same of
 -- all sources.
-use Rattle.std.specs.Prelude.{◌≡◌, ℕ, List, [], ◌∷◌, ◌++◌, Result, Ok, Err}
+use Rattle.std.specs.Prelude.{◌≡◌, List, [], ◌∷◌, ◌++◌, Result, Ok, Err}
 use Rattle.edit_ops.specs.declared.field_fault.ReadError.{ReadError}
 use Rattle.edit_ops.specs.declared.field_fault.ReadError.TheVariants as errors
 use Rattle.edit_ops.specs.Fields.{Kind, Field}
@@ -20,8 +20,8 @@ abbrev pub Gives : {W X Y : Type 0} → (X → Y) → Result X (ReadError W) →
 Gives view (Ok x) read = read ≡ Ok (view x)
 Gives view (Err e) read = Fails e read
 
--- the fields of these kinds, one after the other
-abbrev pub fields_read : {W : Type 0} → (Kind → List ℕ → Result (List Field × List ℕ) W) → List Kind → List ℕ → Result (List Field × List ℕ) W
+-- the fields of these kinds, one after the other, where L is what may be left to read
+abbrev pub fields_read : {L W : Type 0} → (Kind → L → Result (List Field × L) W) → List Kind → L → Result (List Field × L) W
 fields_read group [] left = Ok ([], left)
 fields_read group (kind ∷ kinds) left = do
   fields ← group kind left

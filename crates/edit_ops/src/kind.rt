@@ -36,6 +36,24 @@ pub enum OpKind {
     StartLogSegment,
 }
 
+/// The kinds by their codes.
+pub const KINDS: [OpKind; 14] = [
+    OpKind::Add,
+    OpKind::RenameOld,
+    OpKind::Delete,
+    OpKind::Mkdir,
+    OpKind::SetReplication,
+    OpKind::SetPermissions,
+    OpKind::SetOwner,
+    OpKind::Close,
+    OpKind::Times,
+    OpKind::SetQuota,
+    OpKind::Rename,
+    OpKind::ConcatDelete,
+    OpKind::EndLogSegment,
+    OpKind::StartLogSegment,
+];
+
 impl OpKind {
     /// The code of the kind.
     pub fn code(self) -> u8
@@ -134,6 +152,19 @@ impl OpKind {
             OpKind::EndLogSegment => "END_LOG_SEGMENT",
             OpKind::StartLogSegment => "START_LOG_SEGMENT",
         }
+    }
+
+    /// The kind of that name; `None` exactly where no kind has it.
+    pub fn of_name(word: &[u8]) -> Option<OpKind>
+        ensures found { IfSome result (λ kind. name kind ≡ word.now) }
+        ensures none { IfNone result ((kind : OpKind) → name kind ≢ word.now) }
+    {
+        for kind in &KINDS {
+            if word == kind.name().as_bytes() {
+                return Some(*kind);
+            }
+        }
+        None
     }
 
     /// The kind of an edit whose text in a script begins with that word; `None` exactly where there

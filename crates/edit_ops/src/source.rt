@@ -1,5 +1,5 @@
 //! Where the fields of an edit come from.
-ghost use Rattle.std.specs.Prelude.{◌≡◌, ◌∷◌, [], map, length, List, ℕ, Result};
+ghost use Rattle.std.specs.Prelude.{◌≡◌, ◌∷◌, [], map, length, List, Result};
 ghost use Rattle.edit_ops.specs.Fields.{Kind, Field, Text_, Small_, Number_, Flag_, Client_, Call_, text, small, number, flag, client, call_number, path, owner, new_owner, replication, permission, numbers, paths};
 ghost use Rattle.edit_ops.specs.Sources.{Gives};
 
@@ -7,18 +7,21 @@ use crate::field_fault::ReadError;
 use crate::lists::{NameList, NumberList};
 use base_words::Name;
 
-/// Where the fields of an edit come from, one after the other: the bytes of a record, or the words
-/// of a script.
+/// Where the fields of an edit come from, one after the other: the bytes of a record, the words of
+/// a script, or the members of an object.
 pub trait FieldSource {
     /// What is wrong with a field that can't be read.
     type Fault: Drop;
 
+    // What may be left to read.
+    ghost Left: { Type 0 };
+
     // What is left to read.
-    ghost left: { Self → List ℕ };
+    ghost left: { Self → Left };
 
     // The field of this kind at the front, with those that it counts, and what is left then; or why
     // there is none.
-    ghost group: { Kind → List ℕ → Result (List Field × List ℕ) Self.Fault };
+    ghost group: { Kind → Left → Result (List Field × Left) Self.Fault };
 
     /// A path.
     fn read_path(&mut self) -> Result<Name, ReadError<Self::Fault>>

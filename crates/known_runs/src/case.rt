@@ -43,6 +43,8 @@ pub struct Case {
     pub is_alone: bool,
     pub tells_files: bool,
     pub tells_passes: bool,
+    /// Whether what was written is told as hexadecimal digits.
+    pub tells_digits: bool,
 }
 
 impl Case {
@@ -63,6 +65,7 @@ impl Case {
             is_alone: false,
             tells_files: false,
             tells_passes: false,
+            tells_digits: false,
         }
     }
 }

@@ -34,6 +34,7 @@ impl Case {
             "crash" => self.before = DiskBefore::Crashed(choice_of(rest)?),
             "file" => self.files.push(file_of_bytes(rt.alloc(), rest)?)?,
             "text" => self.files.push(file_of_text(rt.alloc(), rest)?)?,
+            "more" => put_more(rt.alloc(), &mut self.files, rest)?,
             "script" => self.input = fs::read(rt, rest)?,
             _ => put_piece(rt.alloc(), &mut self.input, key, rest)?,
         }
@@ -47,6 +48,7 @@ impl Case {
             "alone" => self.is_alone = true,
             "files" => self.tells_files = true,
             "passes" => self.tells_passes = true,
+            "digits" => self.tells_digits = true,
             _ => return false,
         }
         true
@@ -90,6 +92,20 @@ fn file_of_text(alloc: Global, text: &str) -> anyhow::Result<NamedFile> {
         name: name.to_string(alloc)?,
         bytes,
     })
+}
+
+/// Puts bytes so many times behind those of the last file.
+fn put_more(alloc: Global, files: &mut Vec<NamedFile>, text: &str) -> anyhow::Result<()> {
+    let (count, digits) = two_words(text)?;
+    let count: u64 = count.parse()?;
+    let piece = bytes_of(alloc, digits)?;
+    let Some(file) = files.last_mut() else {
+        bail!("no file before");
+    };
+    for _ in 0..count {
+        file.bytes.extend_from_slice(&piece)?;
+    }
+    Ok(())
 }
 
 /// Puts a piece of the input, of the kind that the key says.

@@ -16,7 +16,7 @@ pub fn tell<R: Print + AllocGlobal>(
     done: &Done,
     disk: &mut MemDisk,
 ) -> anyhow::Result<()> {
-    io::writer(rt).write_all(&done.text)?;
+    tell_written(rt, case, &done.text)?;
     tell_status(rt, done.status)?;
     if case.tells_passes {
         println!(rt; "passes {}", done.passes)?;
@@ -25,6 +25,16 @@ pub fn tell<R: Print + AllocGlobal>(
         tell_files(rt, disk)?;
     }
     println!(rt; "")?;
+    Ok(())
+}
+
+fn tell_written<R: Print + AllocGlobal>(rt: &R, case: &Case, text: &[u8]) -> anyhow::Result<()> {
+    if case.tells_digits {
+        let digits = hex::encode(rt.alloc(), text)?;
+        println!(rt; "x {digits}")?;
+    } else {
+        io::writer(rt).write_all(text)?;
+    }
     Ok(())
 }
 

@@ -1,5 +1,5 @@
 //! The kinds of questions.
-use crate::{edits, files, names, sessions, texts};
+use crate::{backs, edits, files, names, sessions, texts};
 use base_words::OutOfMemory;
 use std::alloc::Global;
 
@@ -17,6 +17,8 @@ pub enum Kind {
     SegmentList,
     SegmentStats,
     SegmentJson,
+    Back,
+    BackJson,
     Image,
     ImageDelimited,
     ImageSizes,
@@ -48,6 +50,10 @@ const KINDS: &[(&str, Kind)] = &[
     ("oev-list", Kind::SegmentList),
     ("oev-stats", Kind::SegmentStats),
     ("oev-json", Kind::SegmentJson),
+    // The start and the epoch of a segment, a word each, and the listing of its edits as JSON: the
+    // segment's bytes, and their listing again; or why there is none.
+    ("back", Kind::Back),
+    ("back-json", Kind::BackJson),
     // An image: its txid, its rows and calls, and its bytes in layout 2, or the place and the cause
     // of the first fault.
     ("image", Kind::Image),
@@ -92,6 +98,8 @@ impl Kind {
             Kind::SegmentList => files::tell_edits(alloc, &list_oev::list(alloc, asked), out),
             Kind::SegmentStats => files::tell_edits(alloc, &list_oev::stats(alloc, asked), out),
             Kind::SegmentJson => files::tell_edits(alloc, &list_oev::json(alloc, asked), out),
+            Kind::Back => backs::tell_back(alloc, asked, out),
+            Kind::BackJson => backs::tell_back_json(alloc, asked, out),
             Kind::Image => files::tell_image(alloc, asked, out),
             Kind::ImageDelimited => {
                 files::tell_rows(alloc, &list_oiv::list_delimited(alloc, asked), out)

@@ -18,6 +18,7 @@
 //! that is none of these ends the program, with its place.
 #![tactic(auto)]
 
+mod backs;
 mod case;
 mod edits;
 mod files;

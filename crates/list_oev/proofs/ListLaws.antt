@@ -6,10 +6,10 @@ use Rattle.std.proofs.lemmas.List.Sums.{count_by-le-length}
 use Rattle.edit_ops.specs.declared.kind.OpKind.{OpKind}
 use Rattle.edit_ops.specs.declared.kind.OpKind.TheVariants.{Add, RenameOld, Delete, Mkdir, SetReplication, SetPermissions, SetOwner, Close, Times}
 use Rattle.edit_ops.specs.declared.kind.OpKind.TheVariants.{SetQuota, Rename, ConcatDelete, EndLogSegment, StartLogSegment}
-use Rattle.edit_ops.specs.Kinds.{code}
+use Rattle.edit_ops.specs.Kinds.{code, kinds}
 use Rattle.edit_ops.specs.Records.{EditView, kind_of, called, opcode}
 use Rattle.list_oev.specs.Lines.{line, lines}
-use Rattle.list_oev.specs.Counts.{kinds, code_of, count_of, tally, tally_by, statistics_by, statistics, AreCounts}
+use Rattle.list_oev.specs.Counts.{code_of, count_of, tally, tally_by, statistics_by, statistics, AreCounts}
 
 line_at : (t u : ℕ) (edit : EditView) → t ≡ u → line t edit ≡ line u edit
 line_at t u edit h = ap (λ (n : ℕ). line n edit) h

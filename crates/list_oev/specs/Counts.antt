@@ -2,14 +2,9 @@
 use Rattle.std.specs.Prelude.{◌≡◌, ◌<◌, get_or, ℕ, zero, suc, List, [], ◌∷◌, ◌++◌, length, count_by, codes, decimal, Bool, true, false, ◌==◌}
 use Rattle.std.specs.List.{flat_map}
 use Rattle.edit_ops.specs.declared.kind.OpKind.{OpKind}
-use Rattle.edit_ops.specs.declared.kind.OpKind.TheVariants.{Add, RenameOld, Delete, Mkdir, SetReplication, SetPermissions, SetOwner, Close, Times}
-use Rattle.edit_ops.specs.declared.kind.OpKind.TheVariants.{SetQuota, Rename, ConcatDelete, EndLogSegment, StartLogSegment}
+use Rattle.edit_ops.specs.Kinds.{kinds}
 use Rattle.edit_ops.specs.Words.{name}
 use Rattle.edit_ops.specs.Records.{EditView, kind_of, called, opcode}
-
--- the kinds by their codes
-abbrev pub kinds : List OpKind
-kinds = Add ∷ RenameOld ∷ Delete ∷ Mkdir ∷ SetReplication ∷ SetPermissions ∷ SetOwner ∷ Close ∷ Times ∷ SetQuota ∷ Rename ∷ ConcatDelete ∷ EndLogSegment ∷ StartLogSegment ∷ []
 
 -- the first byte of an edit's record
 abbrev pub code_of : EditView → ℕ

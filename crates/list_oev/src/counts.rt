@@ -5,25 +5,7 @@ ghost use Rattle.edit_ops.specs.Records.{EditView, opcode};
 ghost use Rattle.list_oev.specs.Counts.{AreCounts, code_of, tally_by, statistics_by};
 
 use base_words::{OutOfMemory, put_decimal};
-use edit_ops::{Edit, OpKind};
-
-/// The kinds by their codes.
-const KINDS: [OpKind; 14] = [
-    OpKind::Add,
-    OpKind::RenameOld,
-    OpKind::Delete,
-    OpKind::Mkdir,
-    OpKind::SetReplication,
-    OpKind::SetPermissions,
-    OpKind::SetOwner,
-    OpKind::Close,
-    OpKind::Times,
-    OpKind::SetQuota,
-    OpKind::Rename,
-    OpKind::ConcatDelete,
-    OpKind::EndLogSegment,
-    OpKind::StartLogSegment,
-];
+use edit_ops::{Edit, KINDS, OpKind};
 
 // The first byte of the records of a kind, with a client's call or without.
 fn opcode(kind: OpKind, with_call: bool) -> u8

@@ -89,6 +89,9 @@ module _ (Leaves : ScriptView → Mesh → List End → Type 0) (source : Source
   play_fault (fault.BadBytes place cause) s sink is tells = absurd is
   play_fault (fault.BadImage place cause) s sink is tells = absurd is
   play_fault (fault.BadFile name) s sink is tells = absurd is
+  play_fault fault.NotJson s sink is tells = absurd is
+  play_fault (fault.BadEntry index) s sink is tells = absurd is
+  play_fault (fault.TooManyEntries number) s sink is tells = absurd is
   play_fault (fault.Limit number) s sink is tells = absurd (limit_none number is)
   play_fault fault.ReadFault s sink is tells = absurd (reads is)
   play_fault fault.DiskFault s sink is tells = absurd is
@@ -106,6 +109,9 @@ summary_fault fault.NoFile s sink is tells = absurd is
 summary_fault (fault.BadBytes place cause) s sink is tells = absurd is
 summary_fault (fault.BadImage place cause) s sink is tells = absurd is
 summary_fault (fault.BadFile name) s sink is tells = absurd is
+summary_fault fault.NotJson s sink is tells = absurd is
+summary_fault (fault.BadEntry index) s sink is tells = absurd is
+summary_fault (fault.TooManyEntries number) s sink is tells = absurd is
 summary_fault (fault.Limit number) s sink is tells = absurd is
 summary_fault fault.ReadFault s sink is tells = absurd is
 summary_fault fault.DiskFault s sink is tells = absurd is
@@ -139,6 +145,10 @@ module _ {D : Type 0} (of : Tool) (name : List ℕ) (disk : DiskUse D) (right : 
   list_fault (fault.BadImage place cause) s sink is tells = absurd (in_grammar of right.bytes (fault.BadImage place cause) right.is
       (there (λ file. IsFileFault of file (fault.BadImage place cause)) is).1)
   list_fault (fault.BadFile file) s sink is tells = absurd is
+  list_fault fault.NotJson s sink is tells = absurd (in_grammar of right.bytes fault.NotJson right.is (there (λ file. IsFileFault of file fault.NotJson) is).1)
+  list_fault (fault.BadEntry index) s sink is tells = absurd (in_grammar of right.bytes (fault.BadEntry index) right.is (there (λ file. IsFileFault of file (fault.BadEntry index)) is).1)
+  list_fault (fault.TooManyEntries number) s sink is tells = absurd (in_grammar of right.bytes (fault.TooManyEntries number) right.is
+      (there (λ file. IsFileFault of file (fault.TooManyEntries number)) is).1)
   list_fault (fault.Limit number) s sink is tells = absurd (file_long (file_under disk name) right.there (is.2 right.tells))
   list_fault fault.ReadFault s sink is tells = absurd is
   list_fault fault.DiskFault s sink is tells = absurd (calls is.0)
@@ -173,6 +183,9 @@ module _ {D : Type 0} (disk : DiskUse D) (calls : Rose (disk.faults disk.before)
   check_fault (fault.BadBytes place cause) s sink is tells = absurd is
   check_fault (fault.BadImage place cause) s sink is tells = absurd is
   check_fault (fault.BadFile file) s sink is tells = absurd is
+  check_fault fault.NotJson s sink is tells = absurd is
+  check_fault (fault.BadEntry index) s sink is tells = absurd is
+  check_fault (fault.TooManyEntries number) s sink is tells = absurd is
   check_fault (fault.Limit number) s sink is tells = absurd is
   check_fault fault.ReadFault s sink is tells = absurd is
   check_fault fault.DiskFault s sink is tells = absurd (calls is)

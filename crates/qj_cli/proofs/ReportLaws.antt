@@ -1,6 +1,7 @@
 -- What is known of a play, of its report and of its summary.
 use Rattle.std.proofs.Common.{◌≡◌, ◌≤◌, ℕ, Bool, true, false, List, sym, subst, ◌∙◌, ap}
 use Rattle.run_safety.specs.Run.{IsRun}
+use Rattle.run_safety.specs.Keeps.{OfEveryRun, KeepsParts}
 use Rattle.mesh.specs.declared.whole.Mesh.{Mesh}
 use Rattle.ns_tree.specs.declared.end.End.{End}
 use Rattle.mesh.specs.Agree.{Agrees}
@@ -37,16 +38,21 @@ pub record Laws : Type 0 where
   pub run : OrderIsRun
   pub safe : MeshesAreSafe
   pub named_safe : EpochOrderIsSafe
+  pub parts : OfEveryRun KeepsParts
   pub results : EditsHaveOneResult
   pub told : ResultsTellAcknowledged
   pub names : NamesAreKept
+
+ordered_run : (s : ScriptView) (m : Mesh) (ends : List End) → Agrees m → FollowsScript s m ends → OrderIsRun → IsRun s.nodes (epoch_order m)
+ordered_run s m ends agrees follows law = subst (λ n. IsRun n (epoch_order m)) follows.nodes_are (law m agrees)
 
 pub sound : (s : ScriptView) (m : Mesh) (ends : List End) → IsPlayable s → Agrees m → FollowsScript s m ends → Laws → AreSound s m ends
 sound s m ends playable agrees follows laws = record {
   agrees = agrees;
   follows = follows;
-  run = subst (λ n. IsRun n (epoch_order m)) follows.nodes_are (laws.run m agrees);
+  run = ordered_run s m ends agrees follows laws.run;
   safe = mesh_safe s.named s.nodes (lines_of s) m ends playable.nodes playable.lines agrees follows laws.safe laws.named_safe;
+  parts = laws.parts s.nodes (epoch_order m) (ordered_run s m ends agrees follows laws.run);
   results = laws.results s m ends playable agrees follows;
   told = laws.told s m ends playable agrees follows;
   names = λ e. laws.names m (lines_of s) ends agrees

@@ -1,6 +1,7 @@
 -- What holds of the lists that a script leaves, in order or by threads.
-use Rattle.std.specs.Prelude.{◌≡◌, ℕ, ◌<◌, true, List}
+use Rattle.std.specs.Prelude.{◌≡◌, ℕ, ◌<◌, true, List, reverse}
 use Rattle.run_safety.specs.Run.{IsRun}
+use Rattle.run_safety.specs.Keeps.{KeepsParts}
 use Rattle.mesh.specs.declared.whole.Mesh.{Mesh}
 use Rattle.mesh.specs.Agree.{Agrees, operator_of, record_of}
 use Rattle.mesh.specs.Order.{epoch_order}
@@ -18,13 +19,15 @@ use Rattle.play_laws.specs.Acked.{TellsAcknowledged}
 -- The lists agree, and they are what the script's lines ask for. What moved its nodes, in the order
 -- of the epochs, is a run of the journal world, and a safe one with what its actors end with: an
 -- acknowledged edit survives, finalised segments agree, and each namespace is the replay of the
--- line's first entries. Each line of an actor has its results, a log line one for each edit; what a
--- result claims is acknowledged in that run. And with names all that was logged was admitted.
+-- line's first entries. It keeps all else that a run keeps, of promises, owners, values, starts and
+-- purges. Each line of an actor has its results, a log line one for each edit; what a result claims
+-- is acknowledged in that run. And with names all that was logged was admitted.
 pub record AreSound (script : ScriptView) (m : Mesh) (ends : List End) : Type 0 where
   pub agrees : Agrees m
   pub follows : FollowsScript script m ends
   pub run : IsRun script.nodes (epoch_order m)
   pub safe : IsSafeWithEnds script.nodes (epoch_order m) ends
+  pub parts : KeepsParts script.nodes (reverse (epoch_order m))
   pub results : (c : ℕ) → c < operator_of m → AreResults (actions_of c (lines_of script)) (results_in (record_of m c))
   pub told : TellsAcknowledged m (epoch_order m)
   pub names : script.named ≡ true → KeepsNames m (epoch_order m)

@@ -1,5 +1,5 @@
 //! The top call of the program: words and a script's bytes, a file of a disk, or requests to a node
-//! come in; a report, a summary, a listing, replies or a fault line go out.
+//! come in; a report, a summary, a listing, a segment, replies or a fault line go out.
 #![tactic(auto)]
 
 mod generating;

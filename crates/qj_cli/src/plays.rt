@@ -20,6 +20,7 @@ use play_model::{
 use play_order::play_on;
 use play_script::{Script, ScriptLine};
 use play_threads::{Actors, act_alone, run_on};
+use run_safety::laws::every_run_keeps_its_parts;
 use std::alloc::Global;
 use std::sync::Wait;
 use std::thread::Threads;
@@ -53,6 +54,7 @@ pub fn play_soundly(
     epoch_order_is_a_run();
     a_mesh_that_agrees_is_safe();
     epoch_order_is_safe();
+    every_run_keeps_its_parts();
     edits_have_one_result();
     results_tell_acknowledged();
     names_are_kept();
@@ -76,6 +78,7 @@ pub fn run_soundly<R: Threads + Wait + Sync, G: Pass + Sync>(
     epoch_order_is_a_run();
     a_mesh_that_agrees_is_safe();
     epoch_order_is_safe();
+    every_run_keeps_its_parts();
     edits_have_one_result();
     results_tell_acknowledged();
     names_are_kept();

@@ -114,6 +114,10 @@ pub fn qjm_alone<S: Source, K: Sink, D: Disk>(
 /// - `oev list NAME`, `oev stats NAME` and `oev json NAME` read the disk's file of that name, a
 ///   segment's, and write a line for each of its edits, how many there are of each kind, or all as
 ///   an array of JSON. The source isn't read, and the disk isn't changed.
+/// - `oev back NAME START EPOCH` reads the disk's file of that name, the listing of a segment's
+///   edits as an array of JSON, and writes the segment's file, which begins at the txid START and
+///   was written under this epoch, both from 1 to 2^62. The source isn't read, and the disk isn't
+///   changed.
 /// - `oiv delimited NAME`, `oiv sizes NAME` and `oiv json NAME` do the same for an image: a line of
 ///   columns for each inode, how many files there are of each size, or all inodes as an array of
 ///   JSON.
@@ -128,18 +132,21 @@ pub fn qjm_alone<S: Source, K: Sink, D: Disk>(
 ///   stand for the state after some of the lines, stopped inside the next one, and no fewer than
 ///   were answered by then.
 ///
-/// A report, a summary, a listing and findings are computed before any of it is written. `Usage`:
-/// other words, with the place, from 0, of the first word that is missing or wrong; neither the
-/// source nor the disk is called then. `Limit`: the source has more than 1,048,576 bytes, the
-/// report would have more than 268,435,456, or the file has more than 134,217,728; of a node a line
-/// with more than 1,048,576, or a source with more than 1,073,741,824. `BadScript`: the first line,
-/// from 1, that breaks a rule, and the rule; of a node the first that isn't a request. `BadBytes`:
-/// the place of the file's first damage and its cause, `0 NoFile` where there is no such file; of a
-/// node `0 BadFile NAME` where this file isn't in its format, so that the node isn't opened.
-/// `ReadFault`: the source failed. `DiskFault`: the disk failed. `WriteFault`: the sink failed
-/// while the report, the listing or a reply was written; a prefix was. `OutOfMemory`: memory ran
-/// out. Each but `WriteFault` writes its line `error NAME ..`, after the replies of a node to the
-/// lines before, and stays the status where that line's writing fails. The disk is given back.
+/// A report, a summary, a listing, a segment and findings are computed before any of it is written.
+/// `Usage`: other words, with the place, from 0, of the first word that is missing or wrong;
+/// neither the source nor the disk is called then. `Limit`: the source has more than 1,048,576
+/// bytes, the report would have more than 268,435,456, the file has more than 134,217,728, or the
+/// listing more than 16,384 entries; of a node a line with more than 1,048,576, or a source with
+/// more than 1,073,741,824. `BadScript`: the first line, from 1, that breaks a rule, and the rule;
+/// of a node the first that isn't a request. `BadBytes`: the place of the file's first damage and
+/// its cause, `0 NoFile` where there is no such file; of a listing `0 Json` where the file is no
+/// array of JSON, and `INDEX Entry` of its first value, from 0, that is the object of no edit at
+/// its txid; of a node `0 BadFile NAME` where this file isn't in its format, so that the node isn't
+/// opened. `ReadFault`: the source failed. `DiskFault`: the disk failed. `WriteFault`: the sink
+/// failed while the report, the listing, the segment or a reply was written; a prefix was.
+/// `OutOfMemory`: memory ran out. Each but `WriteFault` writes its line `error NAME ..`, after the
+/// replies of a node to the lines before, and stays the status where that line's writing fails. The
+/// disk is given back.
 pub fn qjm<R: Threads + Wait + Sync, G: Pass + Sync, S: Source, K: Sink, D: Disk>(
     rt: &R,
     alloc: Global,

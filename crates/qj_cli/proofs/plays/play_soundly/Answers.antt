@@ -8,6 +8,7 @@ returns c =
       run = c.epoch_order_is_a_run.ensures;
       safe = c.a_mesh_that_agrees_is_safe.ensures;
       named_safe = c.epoch_order_is_safe.ensures;
+      parts = c.every_run_keeps_its_parts.ensures;
       results = c.edits_have_one_result.ensures;
       told = c.results_tell_acknowledged.ensures;
       names = c.names_are_kept.ensures;

@@ -21,3 +21,6 @@ returns-in-Gen-clause-done g c =
 
 pub play_generated-requires : goal.play_generated-requires
 play_generated-requires g c = subst (λ x. IsAllowed (asked_in x)) c.in-Gen.is c.requires
+
+pub list_file-status-requires : goal.list_file-status-requires
+list_file-status-requires g c = subst (λ x. IsAllowed (asked_in x)) c.in-Listing.is c.requires

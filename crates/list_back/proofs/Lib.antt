@@ -1,0 +1,6 @@
+pub mod Written
+pub mod Made
+pub mod SoFar
+pub mod Listings
+pub mod Answers
+pub mod OneText

@@ -1,0 +1,85 @@
+//! The segment of the edits whose objects an array has.
+ghost use Rattle.std.specs.Prelude.{◌≡◌, ◌+◌, ◌≤◌, length, map, IfOk};
+ghost use Rattle.edit_ops.specs.Records.{record_of};
+ghost use Rattle.std.specs.List.{AllByRecursion};
+ghost use Rattle.serde_json.specs.View.{view};
+ghost use Rattle.edit_json.specs.Members.{IsOrdered};
+ghost use Rattle.journal_core.specs.Limits.{max_number, max_segment};
+ghost use Rattle.list_back.specs.Entries.{IsReadBody};
+ghost use Rattle.list_back.specs.Backs.{IsMade};
+
+use crate::segment_writer::SegmentWriter;
+use base_words::{Bytes, MAX, OutOfMemory};
+use edit_codec::encode;
+use edit_json::{BadObject, read_object};
+use edit_ops::{Edit, ReadError};
+use journal_core::MAX_BODY;
+use serde_json::Value;
+use std::alloc::{AllocError, Global};
+
+/// Why an array has no segment: the value at this place is the object of no edit, or memory was
+/// wanted and not there.
+#[derive(Drop)]
+pub(crate) enum Refusal {
+    Entry { index: u64 },
+    Memory,
+}
+
+impl From<AllocError> for Refusal {
+    ghost use Rattle.std.specs.Prelude.{◌≡◌};
+    ghost use Rattle.list_back.specs.declared.segments.Refusal.TheVariants.{Memory};
+
+    ghost from_gives = { λ _ e. e ≡ Memory };
+
+    fn from(_e: AllocError) -> Refusal {
+        Refusal::Memory
+    }
+}
+
+// The record of an edit that is not wanted any more.
+fn encode_owned(alloc: Global, edit: Edit) -> Result<Bytes, OutOfMemory>
+    ensures { IfOk result (λ body. body ≡ record_of edit) }
+{
+    encode(alloc, &edit)
+}
+
+// The body of the edit whose object this is at that txid.
+fn read_body(alloc: Global, value: &Value, txid: u64) -> Result<Bytes, ReadError<BadObject>>
+    requires { IsOrdered (view value.now) }
+    ensures { IsReadBody txid (view value.now) result }
+{
+    if txid > MAX {
+        return Err(ReadError::Fault(BadObject));
+    }
+    let edit = read_object(alloc, value, txid)?;
+    let body = encode_owned(alloc, edit)?;
+    if body.len() > MAX_BODY {
+        return Err(ReadError::Fault(BadObject));
+    }
+    Ok(body)
+}
+
+/// The segment of these values from that txid on, under that epoch.
+pub(crate) fn segment_of(
+    alloc: Global,
+    values: &[Value],
+    start: u64,
+    epoch: u64,
+) -> Result<Vec<u8>, Refusal>
+    requires ordered { AllByRecursion IsOrdered (map view values.now) }
+    requires few { length values.now ≤ max_segment }
+    requires start { start ≤ max_number }
+    ensures { IsMade start epoch (map view values.now) result }
+{
+    let mut writer = SegmentWriter::new(alloc, start, epoch)?;
+    let mut index = 0u64;
+    for value in values {
+        match read_body(alloc, value, start + index) {
+            Ok(body) => writer = writer.push(alloc, body)?,
+            Err(ReadError::Fault(_)) => return Err(Refusal::Entry { index }),
+            Err(ReadError::Memory) => return Err(Refusal::Memory),
+        }
+        index += 1;
+    }
+    Ok(writer.finish(alloc)?)
+}
