@@ -8,6 +8,7 @@ answer_cases() {
   # shellcheck disable=SC2046,SC2086
   (cd "$2" && exec rt try --seconds 600 $data -- $(cat args)) </dev/null >"$room/$1" 2>"$room/notes"
   grep -q '^run=ended status=0 ' "$room/notes" && return
+  require_room
   say "$1 gave no answers; the quick run said:"
   tail -n 5 "$room/notes" >&2
   return 1

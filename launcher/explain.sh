@@ -1,8 +1,8 @@
 # What an error means, in plain words. Each sentence stands in a table of docs/FORMATS.md, and nowhere else.
 
-# The rows of a table; with a key, the other cells of its row.
+# The rows of a table, by their first cells or, with a fourth word, by all; with a key, the other cells of its row.
 look_up() {
-  awk -v table="$1" -v key="${2-}" -v wide="${3-}" -f "$top/launcher/table.awk" "$top/docs/FORMATS.md"
+  awk -v table="$1" -v key="${2-}" -v wide="${3-}" -v whole="${4-}" -f "$top/launcher/table.awk" "$top/docs/FORMATS.md"
 }
 
 # One of the cells behind a row's key.
@@ -17,7 +17,7 @@ say_lines() {
   done
 }
 
-# Lists the rules of scripts, of request lines and of folders.
+# Lists the rules of scripts, of request lines and of folders, and the refusals of a node.
 show_rules() {
   echo "A line of a script breaks rule (tested in this order)"
   look_up "rules of play"
@@ -25,34 +25,36 @@ show_rules() {
   echo "A request line of a node breaks rule"
   look_up "rules of node"
   echo
+  echo "A request that a node answers \`refused NUMBER NAME ..\` is refused, where several fit by the first in the order of docs/MODEL.md"
+  look_up refusals '' 4 whole
+  echo
   echo "A file of a folder has the finding (V1 and V2 are the two numbers of its line)"
   look_up "rules of fsck" '' 22
   echo
   echo "A damaged file has, from the told byte on, the cause"
-  look_up causes '' 15 | sed '/^ *other/d; s/ *$//'
+  look_up causes '' 15 | sed '/^ *other/d; /^ *no edit/d; s/ *$//'
   echo
   echo "docs/FORMATS.md has the lines themselves, and what to do about each finding."
 }
 
-# Shows a line of a file behind the one before it, with a mark.
+# Shows a line of the input behind the one before it, with a mark.
 show_line() {
-  [ -f "$1" ] || return 0
-  LC_ALL=C awk -v line="$2" '
+  LC_ALL=C awk -v line="$1" '
     NR < line - 1 { next }
     NR > line { exit }
     { gsub(/[^ -~]/, "?"); if (length($0) > 120) $0 = substr($0, 1, 120) " .." }
-    { printf "%s %6d | %s\n", (NR == line ? ">" : " "), NR, $0 }' "$1" >&2
+    { printf "%s %6d | %s\n", (NR == line ? ">" : " "), NR, $0 }' <"$again" >&2
 }
 
 # Writes the fault line of this run where it tells more than the status. Where it wasn't kept the program is asked once more, and
 # changes nothing: a refused folder stays as it is.
 find_fault() {
-  if [ -f "$room/output" ]; then
-    cat "$room/output"
+  if [ -n "$output" ]; then
+    cat "$output"
   elif [ "$status" -gt 4 ]; then
     return
   elif [ "$*" != node ]; then
-    open_input_again "${1-}"
+    open_input_again
     "$program" "$@" <&3
   elif [ "$status" -eq 3 ]; then
     "$program" node </dev/null
@@ -64,22 +66,20 @@ find_fault() {
 # The fault line of a node's requests, where they are a file that isn't longer than a script may be: which line is no request doesn't
 # depend on the node, so a fresh one in a folder of its own is asked.
 find_bad_request() {
-  [ -f /dev/stdin ] && [ "$(wc -c </dev/stdin)" -lt "$INPUT_KEPT" ] || return
-  cat /dev/stdin >"$room/input"
-  mkdir "$room/folder"
-  (cd "$room/folder" && "$program" node <"$room/input" | tail -n 1)
+  [ -n "$again" ] && [ "$(wc -c <"$again")" -lt "$INPUT_KEPT" ] || return
+  make_room
+  (cd "$room" && "$program" node <"$again" | tail -n 1)
 }
 
-# Whether a file's last byte is no line feed.
+# Whether the input's last byte is no line feed.
 lacks_end() {
-  [ "$(tail -c 1 "$1" 2>/dev/null | od -An -tx1 | tr -d ' ')" != 0a ]
+  [ "$(tail -c 1 <"$again" | od -An -tx1 | tr -d ' ')" != 0a ]
 }
 
-# What is wrong with a line of the kept input, with its column, as far as that can be told of the line and those before it.
+# What is wrong with a line of the input, with its column, as far as that can be told of the line and those before it.
 tell_cause() {
-  [ -f "$room/input" ] || return
-  ! lacks_end "$room/input" || set -- "$1" "$2" "$3" yes
-  LC_ALL=C awk -v line="$1" -v rule="$2" -v kind="$3" -v lacks_end="${4-}" -f "$top/launcher/line.awk" "$room/input"
+  ! lacks_end || set -- "$1" "$2" "$3" yes
+  LC_ALL=C awk -v line="$1" -v rule="$2" -v kind="$3" -v lacks_end="${4-}" -f "$top/launcher/line.awk" <"$again"
 }
 
 # Says what is wrong with a line: the one cause where it is seen, else all that breaks the rule.
@@ -90,7 +90,14 @@ explain_line() {
   else
     look_up "rules of $([ "$command" = node ] && echo node || echo play)" "$2" | sed "s/^/line $1 breaks rule $2: /" | say_lines
   fi
-  show_line "$room/input" "$1"
+  show_line "$1"
+}
+
+# Says what may be wrong with a request line that isn't seen here: all rules, and what a request looks like.
+explain_requests() {
+  say "the last line that was written tells which line, and by which RULE: \`error BadScript LINE RULE\`"
+  look_up "rules of node" '' 1 | sed 's/^\([0-9]*\)  /RULE \1: /' | say_lines
+  look_up requests '' 1 | sed 's/^[^ ]*  //' | awk '{ forms = forms (NR > 1 ? "; " : "") $0 } END { print "a request is one of: " forms }' | say_lines
 }
 
 # Of what a damage is: the row of a cause that has one for each.
@@ -114,15 +121,15 @@ see_damage() {
 # Says what a listing has that becomes no segment, as far as its text shows it, of a bad member with the member itself, and what to do
 # about it.
 explain_listing() {
-  LC_ALL=C awk -v cause="$2" -v place="$1" -v txid=$((asked_start + $1)) -f "$top/launcher/edits.awk" -f "$top/launcher/listing.awk" \
-    <"$3" >"$room/seen" 2>/dev/null
-  words=$(sed -n 1p "$room/seen")
+  seen=$(LC_ALL=C awk -v cause="$2" -v place="$1" -v txid=$((asked_start + $1)) -f "$top/launcher/edits.awk" \
+    -f "$top/launcher/listing.awk" <"$3" 2>/dev/null)
+  words=$(printf '%s\n' "$seen" | sed -n 1p)
   words=${words:-$(cell causes "$2" 1)}
   case $2 in
     Json) printf '%s, %s\n' "$3" "$words" | say_lines ;;
     *)
       printf '%s, member %s: %s\n' "$3" "$1" "$words" | say_lines
-      printf '> %6d | %s\n' "$1" "$(sed -n 2p "$room/seen")" >&2
+      printf '> %6d | %s\n' "$1" "$(printf '%s\n' "$seen" | sed -n 2p)" >&2
       ;;
   esac
   tell_advice causes "$2" 2
@@ -133,21 +140,46 @@ byte_at() {
   od -An -v -tx1 -j "$2" -N 1 -- "$1" 2>/dev/null | tr -d ' '
 }
 
-# Says what a damaged file that was to be listed has, and what to do about it, by the kind of file that its name tells.
+# Says what a file that was to be listed has, and what to do about it.
 explain_damage() {
-  if [ "$2" = NoFile ]; then
-    reason=$(why_unreadable "$3")
+  case $2 in
+    NoFile) explain_absence "$3"; return ;;
+    Json | Entry) explain_listing "$1" "$2" "$3"; return ;;
+  esac
+  if [ "$command" = oiv ] && is_segment "$3"; then
+    say "$3 is a segment: use oev, as \`./qjm oev list $3\`"
+  elif [ "$command" = oev ] && is_image "$3"; then
+    say "$3 is an image: use oiv, as \`./qjm oiv delimited $3\`"
+  else
+    row=$(row_of_cause "$2" "$3" "$1")
+    words=$(see_damage "$2" "$3" "$1")
+    printf '%s, byte %s: %s\n' "$3" "$1" "${words:-$(cell causes "$row" 1)}" | say_lines
+    advise_damage "$row" "$3"
+  fi
+}
+
+# Says why there is no file to be listed.
+explain_absence() {
+  if [ -d "$1" ]; then
+    say "$1 is a folder: name one of the files in it"
+  else
+    reason=$(why_unreadable "$1")
     say "${reason:-$(cell causes NoFile 1)}"
     cell causes NoFile 2 | say_lines
-    return
   fi
-  case $2 in Json | Entry) explain_listing "$1" "$2" "$3"; return ;; esac
-  words=$(see_damage "$2" "$3" "$1")
-  printf '%s, byte %s: %s\n' "$3" "$1" "${words:-$(cell causes "$(row_of_cause "$2" "$3" "$1")" 1)}" | say_lines
-  case $(kind_of_name "${3##*/}") in
-    final) tell_advice 'rules of fsck' 2 2 ;;
-    'in progress') tell_advice 'rules of fsck' '2, in progress' 2 ;;
-    image) tell_advice 'rules of fsck' 10 2 ;;
+}
+
+# Says what to do about a file with a damage, by the kind of file that its name tells. Bytes that are no edit are no damage of a
+# segment's file.
+advise_damage() {
+  case $1,$(kind_of_name "${2##*/}") in
+    Opcode,* | *', edit,'*)
+      cell causes 'no edit' 1 | sed "s|^|$2 |" | say_lines
+      tell_advice causes 'no edit' 2
+      ;;
+    *,final) tell_advice 'rules of fsck' 2 2 ;;
+    *,'in progress') tell_advice 'rules of fsck' '2, in progress' 2 ;;
+    *,image) tell_advice 'rules of fsck' 10 2 ;;
     *) cell causes other 2 | say_lines ;;
   esac
 }
@@ -155,9 +187,8 @@ explain_damage() {
 # Says why the program refused a folder: by the check's finding of that file, or where it has none by what opening alone tells.
 explain_refusal() {
   find_findings
-  grep -F -e "bad $1 " "$room/findings" >"$room/this"
-  if [ -s "$room/this" ]; then
-    mv "$room/this" "$room/findings"
+  findings=$(printf '%s\n' "$findings" | grep -F -e "bad $1 ")
+  if [ -n "$findings" ]; then
     tell_findings
   else
     cell causes BadFile 1 | sed "s|^|$1: |" | say_lines
@@ -171,7 +202,7 @@ explain_fault() {
   case ${2-} in
     BadScript) explain_line "$3" "$4" ;;
     Limit) look_up limits "$3" | say_lines ;;
-    '') [ "$status" -ne 2 ] || say "which line, and by which rule, stands in the last line that was written" ;;
+    '') [ "$status$command" != 2node ] || explain_requests ;;
   esac
 }
 
@@ -197,8 +228,8 @@ explain() {
       cell statuses "$status" 1 | say_lines
       explain_fault $fault
       tell_reason "$@"
-      # (a listing or a check keeps nothing, and is just begun again)
-      [ "$status$command" = 8node ] || [ "$status" -ne 8 ] || return 0
+      # (a listing or a check keeps nothing, and is just begun again; where the folder is gone all is)
+      [ "$status" -ne 8 ] || { [ "$command" = node ] && ! is_removed; } || return 0
       cell statuses "$status" 2 | say_lines
       ;;
   esac

@@ -53,28 +53,91 @@ each_name() {
   done
 }
 
-# Writes a finding of a name of the node's under which no file stands, as `fsck` writes one: the rule is `kind`.
-find_kind() {
+# ## Findings that the program doesn't see
+
+# Writes such a finding of a name, as `fsck` writes one: the rule is `kind`, `subfolder`, `epoch` or `beside`.
+find_own() {
+  # shellcheck disable=SC2254
   if [ "$1" = paxos ]; then
-    [ -d "$1" ] || echo 'bad paxos subfolder 0 0'
+    [ -d paxos ] || echo 'bad paxos subfolder 0 0'
   elif is_of_node "$1" && [ ! -f "$1" ]; then
     echo "bad $1 kind 0 0"
+  else
+    case $1 in
+      paxos/$DIGITS) find_epoch "$1" ;;
+      edits_inprogress_$DIGITS) find_epoch "$1"; find_beside "$1" ;;
+    esac
   fi
 }
 
+# A segment in progress, or a record, of an epoch above the promise.
+find_epoch() {
+  epoch=$(epoch_of "$1")
+  ! is_above "$epoch" "$promise" || echo "bad $1 epoch $epoch $promise"
+}
+
+# A segment in progress with more edits than the final one of its start beside it, for which opening removes it.
+find_beside() {
+  for final in "edits_${1#edits_inprogress_}-"*; do
+    [ -f "$final" ] || continue
+    last=$(last_of_segment "$1")
+    end=$(plain "${final##*-}")
+    ! is_above "$last" "$end" || echo "bad $1 beside $last $end"
+  done
+}
+
+# Whether both are numbers, and the first is the greater one.
+is_above() {
+  [ "$1" -gt "$2" ] 2>/dev/null
+}
+
+# A number of 19 digits without its leading zeros.
+plain() {
+  echo "$1" | sed 's/^0*\(.\)/\1/'
+}
+
+# The promised epoch, 0 where its file is absent; nothing where it is no number, which is a finding of the program's.
+read_promise() {
+  if [ -f last-promised-epoch ]; then
+    sed -n '1s/^0*\([0-9][0-9]*\)$/\1/p' last-promised-epoch 2>/dev/null
+  else
+    echo 0
+  fi
+}
+
+# The epoch in a segment's header, 8 bytes big-endian at offset 16, or else that of a record; nothing where it is neither.
+epoch_of() {
+  if is_segment "$1"; then
+    printf '%d' "0x$(od -An -v -tx1 -j 16 -N 8 "$1" | tr -d ' \n')" 2>/dev/null
+  else
+    sed -n '1s/^0*\([0-9][0-9]*\) [0-9]*$/\1/p' "$1" 2>/dev/null
+  fi
+}
+
+# The last txid of a segment's file, by what its frames count.
+last_of_segment() {
+  first=$(plain "${1##*_}")
+  echo $((first - 1 + $(od -An -v -tu1 -j 24 "$1" 2>/dev/null | awk -f "$top/launcher/count.awk")))
+}
+
+# Whether a file begins as a segment's does, or as an image.
+is_segment() { [ "$(head -c 4 -- "$1" 2>/dev/null)" = QJSG ]; }
+is_image() { [ "$(head -c 4 -- "$1" 2>/dev/null)" = QJIM ]; }
+
 # ## Names in a text
 
-# Escapes the names in what was found that have control characters. Such a name may have the end of a line in it, so it is looked for
-# as a whole, behind the first word of its line.
+# Escapes the names in what was found that have control characters, as the text `shown`. Such a name may have the end of a line in it, so
+# it is looked for as a whole, behind the first word of its line.
 escape_names() {
-  cp "$room/found" "$room/shown"
+  shown=$1
   each_name escape_name
 }
 
 # Escapes one name in the text, where it has a control character.
 escape_name() {
-  case $1 in *[![:print:]]*) ;; *) return ;; esac
-  NAME=$1 LC_ALL=C awk -f "$top/launcher/names.awk" "$room/shown" >"$room/escaped" && mv "$room/escaped" "$room/shown"
+  case $1 in
+    *[![:print:]]*) shown=$(printf '%s\n' "$shown" | NAME=$1 LC_ALL=C awk -f "$top/launcher/names.awk") ;;
+  esac
 }
 
 # ## Findings in words
@@ -96,8 +159,7 @@ row_of_finding() {
 # Says what a finding means, what to do first, and what not to do. The advice of a row is said once.
 tell_finding() {
   row=$(row_of_finding "$1" "$2")
-  told_rule=" (rule $2)"
-  case $2 in kind | subfolder) told_rule='' ;; esac
+  case $2 in [0-9]*) told_rule=" (rule $2)" ;; *) told_rule='' ;; esac
   words=$(cell 'rules of fsck' "$row" 1 | sed "s/V1/$3/g; s/V2/$4/g; s/KIND/$(what_is "$1")/")
   printf '%s%s: %s\n' "$1" "$told_rule" "$words" | say_lines
   case $told_rows in *"|$row|"*) return ;; esac
@@ -111,17 +173,32 @@ tell_advice() {
   cell "$1" "$2" $(($3 + 1)) | sed '/./s/^/Not: /' | say_lines
 }
 
-# Says the findings of a text of `fsck`, the first twenty. With `hindering` those alone that keep a node from being served.
+# Says the findings, the first twenty, and leaves in `told` how many there are. With `hindering` those alone that keep a node from being
+# served.
 tell_findings() {
-  told_rows='' told=0
+  chosen=$(printf '%s\n' "$findings" | choose_findings "${1-}")
+  told=$(printf '%s\n' "$chosen" | grep -c .)
+  printf '%s\n' "$chosen" | sed -n 1,20p | tell_each
+  [ "$told" -le 20 ] || say "and $((told - 20)) more"
+}
+
+# Writes those of the findings on the standard input that are to be told.
+choose_findings() {
   while read -r line; do
     split_finding "$line"
-    [ "${1-}" != hindering ] || is_hindering "$finding_rule" || continue
+    [ "$1" != hindering ] || is_hindering "$finding_rule" || continue
     [ "$finding_name $finding_rule" != 'paxos 1' ] || continue # its own finding tells it
-    told=$((told + 1))
-    [ "$told" -gt 20 ] || tell_finding "$finding_name" "$finding_rule" "$finding_first" "$finding_second"
-  done <"$room/findings"
-  [ "$told" -le 20 ] || say "and $((told - 20)) more"
+    printf '%s\n' "$line"
+  done
+}
+
+# Says each finding on the standard input.
+tell_each() {
+  told_rows=''
+  while read -r line; do
+    split_finding "$line"
+    [ -z "$line" ] || tell_finding "$finding_name" "$finding_rule" "$finding_first" "$finding_second"
+  done
 }
 
 # Takes a line `bad NAME RULE V1 V2` apart.
@@ -137,18 +214,19 @@ split_finding() {
 
 # Whether a folder with such a finding isn't to be served. Names that are none of a node's, and images, are no reason.
 is_hindering() {
-  is_among "$1" '2 3 4 5 8 9 kind subfolder'
+  is_among "$1" '2 3 4 5 8 9 kind subfolder epoch beside'
 }
 
 # ## Checks
 
-# Has the program check the folder: what it finds goes to the room's file `shown`, and to `findings` each line of them that is one,
-# with the names under which no file stands.
+# Has the program check the folder. What it wrote is `shown`, with names escaped, and each line of it that is a finding stands in
+# `findings`, with those of the launcher's own.
 find_findings() {
-  open_input fsck
-  run_program fsck >"$room/found"
-  escape_names
-  { grep '^bad ' "$room/shown"; each_name find_kind; } >"$room/findings"
+  found=$("$program" fsck </dev/null)
+  status=$?
+  escape_names "$found"
+  promise=$(read_promise)
+  findings=$(printf '%s\n' "$shown" | grep '^bad '; each_name find_own)
 }
 
 # Whether another process has the folder's lock, where this machine can say so.
@@ -158,23 +236,36 @@ is_taken() {
   [ $? -eq 1 ]
 }
 
-# Ends the launcher where the folder isn't to be served, with what was found. A folder that another node has is left to the program,
-# which tells that: while it is served its files change.
+# Ends the launcher where the folder isn't to be served, with what was found.
 check_before_serving() {
-  ! is_taken || return 0
   find_findings
   tell_findings hindering
   if [ "$told" -ne 0 ]; then
-    say_unchecked "this folder isn't served: $told of its files would make the node answer what isn't so, or forget what it answered"
+    say "this folder isn't served: $told of its files would make the node answer what isn't so, or forget what it answered"
     exit 5
   fi
   case $status in 0 | 5) return ;; esac
   explain fsck
-  say_unchecked "the folder couldn't be checked, so it isn't served"
+  say "the folder couldn't be checked, so it isn't served"
+  ! hinders_image || say "\`./qjm node --unchecked\` serves it, since no node reads an image; what the check finds else isn't found then"
   exit "$status"
 }
 
-say_unchecked() {
-  say "$1"
-  say "\`./qjm node --unchecked\` serves it as it is; docs/OPERATING.md says when that may be done"
+# Whether an image alone keeps the folder from being checked: it may not be read, or is too large for the memory.
+hinders_image() {
+  case $status in
+    8) each_name find_unreadable | awk '!/^fsimage_/ { others++ } END { exit others || !NR }' ;;
+    9) ls fsimage_* >/dev/null 2>&1 ;;
+    *) return 1 ;;
+  esac
+}
+
+# Says that a node begins anew: where the folder ought to hold one, its disk may be missing.
+tell_fresh() {
+  [ ! -r . ] || [ -n "$(each_name write_own)" ] || say 'a fresh node: this folder holds no files of one'
+}
+
+# Writes a name that is one of a node's.
+write_own() {
+  ! is_of_node "$1" || printf '%s\n' "$1"
 }

@@ -20,7 +20,7 @@ END {
   if (rule == 2) tell_first_word()
   else if (rule == 3) tell_words()
   else if (rule == 10 && length(text) > 16384) print "column 16385: the line has " length(text) " bytes, and 16,384 are the most"
-  else if (rule == 1) print "column 1: a script begins with `raw N` or `names N`, N from 1 to 15"
+  else if (rule == 1) tell_beginning()
   else if (rule ~ /^(4|5|6|11)$/) tell_name()
   else if (rule == 7) tell_number()
   else if (rule == 8) tell_body()
@@ -86,10 +86,20 @@ function tell_first_word() {
   end(index(text, word[1]), quoted(word[1]) " begins no line here; these do:" first_words)
 }
 
-function tell_words(    at, wanted) {
+# A first line whose words are right has a space too many; else the words are told.
+function tell_beginning() {
+  if (count == 2 && word[1] ~ /^(raw|names)$/ && word[2] ~ /^([1-9]|1[0-5])$/) tell_spaces()
+  end(1, "a script begins with `raw N` or `names N`, N from 1 to 15")
+}
+
+function tell_spaces(    at) {
   if (text ~ /^ /) end(1, "a space before the first word")
   if (at = index(text, "  ")) end(at + 1, "a second space; words stand one space apart")
   if (text ~ / $/) end(length(text), "a space behind the last word")
+}
+
+function tell_words(    wanted) {
+  tell_spaces()
   if (!(word[1] in form)) return
   wanted = split(form[word[1]], asked, " ")
   end(column_of(count < wanted ? count + 1 : wanted + 1), "the line has " count " word" (count == 1 ? "" : "s") ", and it has to be `" form[word[1]] "`")

@@ -33,6 +33,14 @@ find_unreadable() {
   fi
 }
 
+# Whether the current folder was removed.
+is_removed() {
+  case $(readlink /proc/self/cwd 2>/dev/null) in
+    *' (deleted)') ;;
+    *) return 1 ;;
+  esac
+}
+
 # Whether the current folder's file system may be read alone.
 is_read_only() {
   mount=$(df -P . 2>/dev/null | awk 'NR == 2 { print $NF }')
@@ -47,6 +55,10 @@ why_no_room() {
 
 # Why the folder can't be used, as far as it is seen: the first reason. `write` where it is to be written to.
 why_no_folder() {
+  if is_removed; then
+    echo "the folder $(pwd) was removed, and what the node answered with it: see \"A lost machine\" in docs/OPERATING.md"
+    return
+  fi
   if [ ! -r . ] || [ ! -x . ]; then
     echo "this folder may not be read by $(user): its permissions are $(permissions_of .)"
     return

@@ -3,24 +3,42 @@
 # The most bytes of a script, and one more: of these the program knows that a script is too long.
 readonly INPUT_KEPT=1048577
 
-# Makes the folder for what is kept of this run. It goes when the launcher ends.
-make_room() {
-  room=$(mktemp -d) || { say "no room for temporary files"; exit "$NOT_BUILT"; }
-  trap 'rm -rf "$room"' EXIT
-  trap 'exit 130' INT
-  trap 'exit 143' TERM HUP
+# By which name what the program reads can be read once more, so that its lines can be shown, and which file has what it wrote; empty
+# where nothing is kept.
+again='' output=''
+
+# Opens what the program is to read as descriptor 3. A script that stands in no file is kept in one first.
+open_input() {
+  case $1 in
+    play | run | node) exec 3<&0 ;;
+    *) exec 3</dev/null; return ;;
+  esac
+  if is_input_a_file; then
+    again=/dev/fd/3
+  elif [ "$1" != node ] && [ ! -d /dev/stdin ]; then
+    keep_input
+  fi
 }
 
-# Opens what the program is to read as descriptor 3. A script is kept first, so that its lines can be shown; where reading
-# fails the program is to see that itself.
-open_input() {
-  if { [ "$1" = play ] || [ "$1" = run ]; } && head -c "$INPUT_KEPT" >"$room/input" 2>/dev/null; then
-    exec 3<"$room/input"
-  elif [ "$1" = play ] || [ "$1" = run ] || [ "$1" = node ]; then
-    exec 3<&0
-  else
-    exec 3</dev/null
-  fi
+# Whether the standard input is a file of which nothing was read yet.
+is_input_a_file() {
+  [ -f /dev/stdin ] && [ -r /dev/stdin ] && [ "$(sed -n 's/^pos:[^0-9]*//p' /proc/self/fdinfo/0 2>/dev/null)" = 0 ]
+}
+
+# Keeps the standard input as descriptor 3. Where reading fails the program is to see that itself.
+keep_input() {
+  make_room
+  why=$(LC_ALL=C head -c "$INPUT_KEPT" 2>&1 >"$room/input")
+  case $?$why in
+    0*) again=$room/input; exec 3<"$again" ;;
+    *reading*) ;;
+    *) refuse_room "$why" ;;
+  esac
+}
+
+# Opens what the program read once more, from its beginning.
+open_input_again() {
+  [ -z "$again" ] || exec 3<"$again"
 }
 
 # Runs the proved program on descriptor 3, passes signals on, and keeps its status. The program dies with the launcher, however
@@ -58,7 +76,9 @@ try_sources() {
     3oev | 3oiv) set -- "$1" "$2" "$(name_from_root "$3")" ;;
     5oev) set -- "$1" "$2" "$(name_from_root "$3")" "$4" "$5" ;;
   esac
-  (cd "$top/crates/qjm" && exec rt try -- "$@") <&3 >"$room/output" 2>"$room/notes"
+  make_room
+  output=$room/output
+  (cd "$top/crates/qjm" && exec rt try -- "$@") <&3 >"$output" 2>"$room/notes"
   status=$?
   grep -q "^run=ended status=$status " "$room/notes"
 }
@@ -67,17 +87,14 @@ try_sources() {
 try_or_refuse() {
   require_kit
   if try_sources "$@"; then
-    cat "$room/output" 2>/dev/null || status=7
+    [ "$status" -ne 7 ] || require_room
+    cat "$output" 2>/dev/null || status=7
     return
   fi
+  require_room
   say "the quick run gave no answer; it said:"
   grep '^checked: ' "$room/notes" >&2 || tail -n 3 "$room/notes" >&2
   refuse_unbuilt "the proved program has no such limits"
-}
-
-# Opens what was kept once more, from its beginning.
-open_input_again() {
-  { [ "$1" != play ] && [ "$1" != run ]; } || [ ! -f "$room/input" ] || exec 3<"$room/input"
 }
 
 # Ends the launcher where a command wants the proved program and that isn't built: a build is begun by nothing but its own word.
@@ -89,7 +106,6 @@ refuse_unbuilt() {
 
 # Runs the program's command, explains a status that isn't 0, and ends with the status.
 run_or_try() {
-  make_room
   case $1 in play | run) greet_terminal 'a script' ;; esac
   open_input "${1-}"
   if is_proved; then
@@ -101,11 +117,14 @@ run_or_try() {
   exit "$status"
 }
 
-# Serves a node in the current folder, of the proved program alone, once the folder was checked.
+# Serves a node in the current folder, of the proved program alone, once the folder was checked. A folder that another node has is left
+# to the program, which tells that: while it is served its files change.
 serve_node() {
   is_proved || refuse_unbuilt "a node runs of the proved program alone"
-  make_room
-  [ "${unchecked-}" = yes ] || check_before_serving
+  if ! is_taken; then
+    [ "${unchecked-}" = yes ] || check_before_serving
+    tell_fresh
+  fi
   greet_terminal 'requests, a line each,'
   open_input node
   run_program node
@@ -116,14 +135,13 @@ serve_node() {
 # Checks the current folder, of the proved program alone: a quick run sees no folder but its own.
 check_folder() {
   is_proved || refuse_unbuilt "a folder is checked by the proved program alone"
-  make_room
   find_findings
-  cat "$room/shown" 2>/dev/null || status=7
+  [ -z "$shown" ] || printf '%s\n' "$shown" | cat 2>/dev/null || status=7
   tell_check
   exit "$status"
 }
 
-# Says the findings in words. What is no file where a node keeps one the program doesn't see: that is a finding too.
+# Says the findings in words. Those of the launcher's own, which the program doesn't see, are findings too.
 tell_check() {
   ! is_taken || say "a node has this folder: its files may have changed while they were checked"
   tell_findings

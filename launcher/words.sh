@@ -73,7 +73,9 @@ wrong_place() {
 legal_words() {
   case $1${2-},${3-} in
     0* | 1help,*) echo "the commands are $PROGRAM_COMMANDS $OWN_COMMANDS" ;;
-    1node,*) echo 'after `node` comes nothing, or `--unchecked` alone' ;;
+    1node,*) echo 'after `node` comes nothing, or `--unchecked` alone; to serve another folder go there (cd), then `node`' ;;
+    1fsck,*) echo 'after `fsck` comes nothing; to check another folder go there (cd), then `fsck`' ;;
+    ?draw,*) echo 'after `draw` come --svg, --whole and a title; the report is the standard input: `./qjm draw < FILE`' ;;
     1play,* | 1run,*) echo "after \`$2\` comes nothing, or the name of one file" ;;
     1oev,*) echo "after \`oev\` comes one of $SEGMENT_LISTINGS back" ;;
     1oiv,*) echo "after \`oiv\` comes one of $IMAGE_LISTINGS" ;;
