@@ -13,4 +13,4 @@ after_next plan = after_call plan (is_listed plan)
 
 -- a sink with room for three bytes that took these
 abbrev pub room_for_three : List ℕ → MemSinkView
-room_for_three taken = record { taken = taken; room = 3; plan = fresh_plan [] }
+room_for_three taken = record { taken = taken; kept = 0; room = 3; plan = fresh_plan [] }

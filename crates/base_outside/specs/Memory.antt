@@ -7,9 +7,10 @@ pub record MemSourceView : Type 0 where
   pub left : List ℕ
   pub plan : FaultPlanView
 
--- the bytes taken, and how many there is room for in all
+-- the bytes taken, how many of them aren't handed on, and how many there is room for in all
 pub record MemSinkView : Type 0 where
   pub taken : List ℕ
+  pub kept : ℕ
   pub room : ℕ
   pub plan : FaultPlanView
 

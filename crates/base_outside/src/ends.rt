@@ -1,5 +1,5 @@
 //! What a source and a sink of bytes are.
-ghost use Rattle.std.specs.Prelude.{◌<◌, ℕ, Option, Some, List, codes, length};
+ghost use Rattle.std.specs.Prelude.{◌≡◌, ◌<◌, ◌≤◌, ◌+◌, ℕ, Option, Some, List, codes, length, IfOk, OnOk};
 ghost use Rattle.std.specs.Io.{ReadsAtMost};
 ghost use Rattle.std.specs.Io.KnownBytes.{ReadConsumes, WriteAppends, Keeps};
 ghost use Rattle.base_outside.specs.Faults.{CountsFaults, TakesSome};
@@ -46,16 +46,22 @@ pub trait Sink {
     /// How often it failed, up to 2^64 - 1.
     ghost faults: { Self → ℕ };
 
+    /// How many of the bytes that it took it keeps back: they aren't handed on.
+    ghost kept_back: { Self → ℕ };
+
     /// Takes some bytes from the front of `bytes`, which aren't empty, and answers how many: at
     /// least one. Where it fails nothing is taken, and the count of faults rises.
     fn write(&mut self, bytes: &[u8]) -> Result<usize, Failed>
         requires { 0 < length bytes.now }
         ensures count { TakesSome result bytes.now }
         ensures bytes { WriteAppends (taken self.old) (taken self.new) result bytes.now }
+        ensures kept { IfOk result (λ n. kept_back self.new ≤ kept_back self.old + n) }
         ensures cause { CountsFaults (faults self.old) (faults self.new) result };
 
-    /// Hands on what was taken and not yet handed on. Where it fails the count of faults rises.
+    /// Hands on what was taken and not yet handed on: then nothing is kept back. Where it fails the
+    /// count of faults rises.
     fn flush(&mut self) -> Result<(), Failed>
         ensures bytes { Keeps (taken self.old) (taken self.new) }
+        ensures handed { OnOk result (kept_back self.new ≡ 0) }
         ensures cause { CountsFaults (faults self.old) (faults self.new) result };
 }

@@ -79,6 +79,8 @@ impl Sink for NoFaultSink {
 
     ghost faults = { λ _. 0 };
 
+    ghost kept_back = { λ _. 0 };
+
     fn write(&mut self, bytes: &[u8]) -> Result<usize, Failed>
         ensures all { result ≡ Ok (length bytes.now) }
     {

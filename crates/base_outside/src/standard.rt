@@ -107,6 +107,8 @@ impl<R: Print + Clock + Drop> Sink for StdSink<R> {
 
     ghost faults = { λ s. s };
 
+    ghost kept_back = { λ _. 0 };
+
     fn write(&mut self, bytes: &[u8]) -> Result<usize, Failed> {
         for _ in 0..u64::MAX {
             match io::writer(&self.rt).write(bytes) {

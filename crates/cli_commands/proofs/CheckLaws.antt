@@ -30,10 +30,10 @@ module _ {D : Type 0} (disk : DiskUse D) (sink : SinkUse) (rests : disk.tells di
   }
 
   pub found_checks : (findings : ℕ) → HasCalls disk → (is : (text : List ℕ)
-      × IsReport (disk.tells disk.before) (disk.view disk.before).seen text findings × Appends sink.before sink.now text × NoWriteFailed sink)
+      × IsReport (disk.tells disk.before) (disk.view disk.before).seen text findings × Appends sink.before sink.now text × NoWriteFailed sink × (sink.kept_now ≡ 0))
       → HasCause (disk.faults disk.before) (disk.faults disk.now) (disk.steady disk.before) (disk.steady disk.now) (disk_answer status.Ok) → Checks disk sink (status_with findings)
   found_checks findings calls is cause = record {
-    told = wrote_text (status_with findings) is.0 (record { findings = findings; good_is = refl; report = is.1; calls = calls }) (inl (refl, is.3, is.2));
+    told = wrote_text (status_with findings) is.0 (record { findings = findings; good_is = refl; report = is.1; calls = calls }) (inl (refl, is.3, is.2, is.4));
     disk_is = only_read (disk_answer status.Ok) (status_with findings) (λ e. absurd (no_fault_with (findings == 0) e)) cause;
   }
 

@@ -56,8 +56,8 @@ write_or_not served.DiskFault = inr (λ e. cc e)
 write_or_not served.OutOfMemory = inr (λ e. cc e)
 
 -- ## The parts of an end that was told
--- `mid` is the sink after the replies, with so many faults as it had then
-module _ (ended : Served) (s : Status) (mid : Option (List ℕ)) (u : ℕ) (sink : SinkUse) (told : TellsEnd ended s (record sink { before = mid; faults_before = u })) where
+-- `mid` is the sink after the replies, with so many faults and bytes kept back as it had then
+module _ (ended : Served) (s : Status) (mid : Option (List ℕ)) (u k : ℕ) (sink : SinkUse) (told : TellsEnd ended s (record sink { before = mid; faults_before = u; kept_before = k })) where
   ended_done : s ≡ status.Ok → ended ≡ served.Done
   ended_done e = is_done ended (sym told.status_is ∙ e)
 
@@ -75,22 +75,29 @@ module _ (ended : Served) (s : Status) (mid : Option (List ℕ)) (u : ℕ) (sink
   told_unwritten e = told.status_is ∙ ap status_at e
 
   -- a line that was written after the replies, by the faults of all writes
-  line_after : (ended ≡ served.WriteFault → Rose sink.faults_before u) → (ended ≢ served.WriteFault → u ≡ sink.faults_before) → (ended ≡ served.WriteFault) ⊎ (ended ≢ served.WriteFault)
-      → WritesLine (line_at ended) (record sink { before = mid })
-  line_after rose same (inl e) = record {
+  failed_before : (ended ≡ served.WriteFault → Rose sink.faults_before u) → ended ≡ served.WriteFault → Rose sink.faults_before sink.faults_now
+  failed_before rose e = subst (λ (j : ℕ). Rose sink.faults_before j) (sym (told.no_line (inr (told_unwritten e)))) (rose e)
+
+  line_after : (ended ≡ served.WriteFault → Rose sink.faults_before u) → (ended ≢ served.WriteFault → u ≡ sink.faults_before) → (ended ≢ served.WriteFault → sink.kept_before ≡ 0 → k ≡ 0)
+      → (ended ≡ served.WriteFault) ⊎ (ended ≢ served.WriteFault) → WritesLine (line_at ended) (record sink { before = mid })
+  line_after rose same hands (inl e) = record {
     front = told.line.front;
-    unless_failed = λ n. absurd (n (subst (λ (k : ℕ). Rose sink.faults_before k) (sym (told.no_line (inr (told_unwritten e)))) (rose e)));
+    unless_failed = λ n. absurd (n (failed_before rose e));
+    handed = λ n. absurd (n (failed_before rose e));
   }
-  line_after rose same (inr n) = subst (λ (k : ℕ). WritesLine (line_at ended) (record sink { before = mid; faults_before = k })) (same n) told.line
+  line_after rose same hands (inr n) =
+      let line = subst (λ (j : ℕ). WritesLine (line_at ended) (record sink { before = mid; faults_before = j; kept_before = k })) (same n) told.line in
+      record { front = line.front; unless_failed = line.unless_failed; handed = λ f z. line.handed f (hands n z) }
 
   pub session_told : (lines : List (List ℕ)) (next : Option (List ℕ)) (Trail : List (List ℕ) → Option (List ℕ) → Type 0) (source : SourceUse)
       (old new : Option NodeState) (tells_now : Type 0) (disk_now : View)
       → Trail lines next → IsSessionOf lines next ended source.told source.left old new sink.before mid
       → (ended ≡ served.ReadFault → AReadFailed source) → (ended ≢ served.ReadFault → NoReadFailed source)
       → (ended ≡ served.WriteFault → Rose sink.faults_before u) → (ended ≢ served.WriteFault → u ≡ sink.faults_before)
+      → (ended ≢ served.WriteFault → sink.kept_before ≡ 0 → k ≡ 0)
       → ((t : NodeState) → new ≡ Some t → IsKept disk_now t) → (tells_now → (t : NodeState) × IsKept disk_now t)
       → ServesFrom Trail old tells_now disk_now source sink s
-  session_told lines next Trail source old new tells_now disk_now trail session unread read unwritten written kept stands = record {
+  session_told lines next Trail source old new tells_now disk_now trail session unread read unwritten written hands kept stands = record {
     outcome = ended;
     status_is = told.status_is;
     replied = mid;
@@ -101,9 +108,10 @@ module _ (ended : Served) (s : Status) (mid : Option (List ℕ)) (u : ℕ) (sink
     session = session;
     kept = kept;
     stands = stands;
-    line = line_after unwritten written (write_or_not ended);
+    line = line_after unwritten written hands (write_or_not ended);
     read_fault = λ e. unread (ended_unread e);
     no_read_fault = λ n. read (λ e. n (told_unread e));
-    write_fault = λ e. subst (λ (k : ℕ). Rose sink.faults_before k) (sym (told.no_line (inr e))) (unwritten (ended_unwritten e));
+    write_fault = λ e. subst (λ (j : ℕ). Rose sink.faults_before j) (sym (told.no_line (inr e))) (unwritten (ended_unwritten e));
     no_write_fault = λ e. told.no_line (inl e) ∙ written (λ x. cc (ended_done e, x));
+    handed = λ e z. told.idle (inl e) ∙ hands (λ x. cc (ended_done e, x)) z;
   }

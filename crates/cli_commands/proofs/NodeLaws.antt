@@ -145,4 +145,5 @@ serves_opened disk b n source sink s tells_now so on sound still opens opening f
   no_read_fault = f.no_read_fault;
   write_fault = f.write_fault;
   no_write_fault = f.no_write_fault;
+  handed = f.handed;
 }

@@ -22,12 +22,13 @@ appends_none (Some xs) = sym (append-nil xs)
 
 -- ## The end of a session
 -- nothing is written of it
-end_untold : (ended : Served) (before : Option (List ℕ)) (v : ℕ) → line_at ended ≡ []
-    → TellsEnd ended (status_at ended) (record { before = before; now = before; faults_before = v; faults_now = v })
-end_untold ended before v none = record {
+end_untold : (ended : Served) (before : Option (List ℕ)) (v k : ℕ) → line_at ended ≡ []
+    → TellsEnd ended (status_at ended) (record { before = before; now = before; faults_before = v; faults_now = v; kept_before = k; kept_now = k })
+end_untold ended before v k none = record {
   status_is = refl;
-  line = record { front = (0, appends_none before); unless_failed = λ n. subst (λ (x : List ℕ). Appends before before x) (sym none) (appends_none before) };
+  line = record { front = (0, appends_none before); unless_failed = λ n. subst (λ (x : List ℕ). Appends before before x) (sym none) (appends_none before); handed = λ n z. z };
   no_line = λ is. refl;
+  idle = λ is. refl;
 }
 
 -- a fault that isn't a bad file is told as it is
@@ -44,6 +45,7 @@ end_told ended of s sink e l n not_ok not_write tells =
       status_is = is ∙ sym e;
       line = subst (λ (x : List ℕ). WritesLine x sink) (ap line_of told ∙ sym l) tells.line;
       no_line = λ o. absurd (none is o);
+      idle = λ o. absurd (none is o);
     }
   where
     none : s ≡ status_of of → (s ≡ status.Ok) ⊎ (s ≡ status.WriteFault) → ⊥
@@ -55,10 +57,11 @@ pub told : (ended outcome : Served) (of : CommandFault) (s : Status) (sink : Sin
     → status_of of ≢ status.Ok → status_of of ≢ status.WriteFault → TellsFault of s sink → TellsEnd ended s sink
 told ended outcome of s sink is e l n not_ok not_write tells = subst (λ (o : Served). TellsEnd o s sink) (sym is) (end_told outcome of s sink e l n not_ok not_write tells)
 
-pub untold : (ended outcome : Served) (before : Option (List ℕ)) (v : ℕ) → ended ≡ outcome → line_at outcome ≡ []
-    → TellsEnd ended (status_at outcome) (record { before = before; now = before; faults_before = v; faults_now = v })
-untold ended outcome before v is none =
-    subst (λ (o : Served). TellsEnd o (status_at outcome) (record { before = before; now = before; faults_before = v; faults_now = v })) (sym is) (end_untold outcome before v none)
+pub untold : (ended outcome : Served) (before : Option (List ℕ)) (v k : ℕ) → ended ≡ outcome → line_at outcome ≡ []
+    → TellsEnd ended (status_at outcome) (record { before = before; now = before; faults_before = v; faults_now = v; kept_before = k; kept_now = k })
+untold ended outcome before v k is none =
+    subst (λ (o : Served). TellsEnd o (status_at outcome) (record { before = before; now = before; faults_before = v; faults_now = v; kept_before = k; kept_now = k })) (sym is)
+    (end_untold outcome before v k none)
 
 -- ## A node that wasn't opened
 module _ {D : Type 0} (sink : SinkUse) (disk : DiskUse D) (s : Status) where

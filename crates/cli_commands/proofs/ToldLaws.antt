@@ -43,11 +43,12 @@ told_of items Gives Faults (Ok t) s sink gives faults wrote told = wrote_text st
 told_of items Gives Faults (Err e) s sink gives faults wrote told = told_fault e faults told
 
 -- the sink before a fault was told is the one before
-pub tells_from : (of : CommandFault) (s : Status) (sink : SinkUse) (mid : Option (List ℕ)) (u : ℕ) → mid ≡ sink.before → u ≡ sink.faults_before
-    → TellsFault of s (record { before = mid; now = sink.now; faults_before = u; faults_now = sink.faults_now }) → TellsFault of s sink
-tells_from of s sink mid u e f tells =
-    subst (λ (k : ℕ). TellsFault of s (record { before = sink.before; now = sink.now; faults_before = k; faults_now = sink.faults_now })) f
-    (subst (λ (m : Option (List ℕ)). TellsFault of s (record { before = m; now = sink.now; faults_before = u; faults_now = sink.faults_now })) e tells)
+pub tells_from : (of : CommandFault) (s : Status) (sink : SinkUse) (mid : Option (List ℕ)) (u k : ℕ) → mid ≡ sink.before → u ≡ sink.faults_before → k ≡ sink.kept_before
+    → TellsFault of s (record sink { before = mid; faults_before = u; kept_before = k }) → TellsFault of s sink
+tells_from of s sink mid u k e f h tells =
+    subst (λ (j : ℕ). TellsFault of s (record sink { before = sink.before; faults_before = sink.faults_before; kept_before = j })) h
+    (subst (λ (j : ℕ). TellsFault of s (record sink { before = sink.before; faults_before = j; kept_before = k })) f
+    (subst (λ (m : Option (List ℕ)). TellsFault of s (record sink { before = m; faults_before = u; kept_before = k })) e tells))
 
 -- the status of a fault that isn't a bad file
 pub told_status : (of : CommandFault) (s : Status) (sink : SinkUse) → (IsBadFile of → ⊥) → TellsFault of s sink → s ≡ status_of of

@@ -11,7 +11,7 @@ use Rattle.cli_commands.specs.declared.status.Status.{Status}
 use Rattle.cli_commands.specs.declared.status.Status.TheVariants as status
 use Rattle.cli_commands.specs.declared.command_fault.CommandFault.{CommandFault}
 use Rattle.cli_commands.specs.declared.command_fault.CommandFault.TheVariants as fault
-use Rattle.cli_commands.specs.Uses.{SourceUse, SinkUse, AReadFailed, NoReadFailed, AWriteFailed, NoWriteFailed}
+use Rattle.cli_commands.specs.Uses.{SourceUse, SinkUse, AReadFailed, NoReadFailed, AWriteFailed, NoWriteFailed, HandsOn}
 use Rattle.cli_commands.specs.Told.{WritesLine}
 use Rattle.cli_commands.specs.Serving.{status_at, line_at}
 
@@ -20,6 +20,7 @@ pub record TellsEnd (ended : Served) (s : Status) (sink : SinkUse) : Type 0 wher
   pub status_is : s ≡ status_at ended
   pub line : WritesLine (line_at ended) sink
   pub no_line : (s ≡ status.Ok) ⊎ (s ≡ status.WriteFault) → NoWriteFailed sink
+  pub idle : (s ≡ status.Ok) ⊎ (s ≡ status.WriteFault) → sink.kept_now ≡ sink.kept_before
 
 -- the files stand for the state, and those that each crash would leave do if the node is up
 pub record IsKept (disk_now : View) (s : NodeState) : Type 0 where
@@ -45,6 +46,7 @@ pub record ServesFrom (Trail : List (List ℕ) → Option (List ℕ) → Type 0)
   pub no_read_fault : s ≢ status.ReadFault → NoReadFailed source
   pub write_fault : s ≡ status.WriteFault → AWriteFailed sink
   pub no_write_fault : s ≡ status.Ok → NoWriteFailed sink
+  pub handed : s ≡ status.Ok → HandsOn sink
 
 -- the fault of a node that wasn't opened
 abbrev pub fault_in : {D : Type 0} → OpenFail D → CommandFault

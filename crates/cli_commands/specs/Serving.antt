@@ -14,7 +14,7 @@ use Rattle.journal_session.specs.declared.served.Served.TheVariants as served
 use Rattle.cli_commands.specs.declared.status.Status.{Status}
 use Rattle.cli_commands.specs.declared.status.Status.TheVariants as status
 use Rattle.cli_commands.specs.declared.command_fault.CommandFault.TheVariants as fault
-use Rattle.cli_commands.specs.Uses.{SourceUse, SinkUse, DiskUse, AReadFailed, NoReadFailed, AWriteFailed, NoWriteFailed}
+use Rattle.cli_commands.specs.Uses.{SourceUse, SinkUse, DiskUse, AReadFailed, NoReadFailed, AWriteFailed, NoWriteFailed, HandsOn}
 use Rattle.cli_commands.specs.Faults.{line_of}
 use Rattle.cli_commands.specs.Told.{WritesLine}
 use Rattle.cli_commands.specs.Crashes.{OutlastsCrashes}
@@ -96,9 +96,10 @@ pub record ServesNode {D : Type 0} (source : SourceUse) (sink : SinkUse) (disk :
   -- a read fault comes exactly of a read that failed
   pub read_fault : s ≡ status.ReadFault → AReadFailed source
   pub no_read_fault : s ≢ status.ReadFault → NoReadFailed source
-  -- a write fault comes only of a write that failed, and with Ok none did
+  -- a write fault comes only of a write that failed; with Ok none did, and all was handed on
   pub write_fault : s ≡ status.WriteFault → AWriteFailed sink
   pub no_write_fault : s ≡ status.Ok → NoWriteFailed sink
+  pub handed : s ≡ status.Ok → HandsOn sink
 
 -- why no node was opened, which is the status, and its line: a file isn't in its format, and it is
 -- the first such file; the disk failed; or memory ran out

@@ -7,13 +7,14 @@ use Rattle.cli_commands.specs.declared.status.Status.TheVariants as status
 use Rattle.cli_commands.specs.declared.command_fault.CommandFault.{CommandFault}
 use Rattle.cli_commands.specs.declared.command_fault.CommandFault.TheVariants as fault
 use Rattle.cli_commands.specs.Faults.{status_of, line_of}
-use Rattle.cli_commands.specs.Uses.{SinkUse, AWriteFailed, NoWriteFailed}
+use Rattle.cli_commands.specs.Uses.{SinkUse, AWriteFailed, NoWriteFailed, HandsOn}
 
 -- ## A line
--- a prefix of the line was written, and the whole of it where no write failed
+-- a prefix of the line was written, and where no write failed the whole of it, and handed on
 pub record WritesLine (line : List ℕ) (sink : SinkUse) : Type 0 where
   pub front : TakesFront sink.before sink.now line
   pub unless_failed : (AWriteFailed sink → ⊥) → Appends sink.before sink.now line
+  pub handed : (AWriteFailed sink → ⊥) → HandsOn sink
 
 abbrev pub IsBadFile : CommandFault → Type 0
 IsBadFile (fault.BadFile name) = Unit {0}
@@ -31,10 +32,11 @@ pub record TellsFault (of : CommandFault) (s : Status) (sink : SinkUse) : Type 0
   pub line : WritesLine (line_of told) sink
 
 -- ## A text
--- the whole text was written, with its status; or a prefix of it, and a write failed
+-- the whole text was written, with its status, and nothing of it is kept back; or a prefix of it,
+-- and a write failed
 abbrev pub TellsText : Status → List ℕ → Status → SinkUse → Type 0
 TellsText good text s sink =
-    ((s ≡ good) × NoWriteFailed sink × Appends sink.before sink.now text)
+    ((s ≡ good) × NoWriteFailed sink × Appends sink.before sink.now text × (sink.kept_now ≡ 0))
     ⊎ ((s ≡ status.WriteFault) × AWriteFailed sink × TakesFront sink.before sink.now text)
 
 -- ## What is due

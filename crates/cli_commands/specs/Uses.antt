@@ -22,22 +22,29 @@ abbrev pub NoReadFailed : SourceUse → Type 0
 NoReadFailed source = source.faults_now ≡ source.faults_before
 
 -- ## A sink
--- the bytes that it had taken before and has taken now, where it tells them, and how often it had
--- failed before and has now
+-- the bytes that it had taken before and has taken now, where it tells them, how often it had failed
+-- before and has now, and how many bytes it kept back before and keeps now
 pub record SinkUse : Type 0 where
   pub before : Option (List ℕ)
   pub now : Option (List ℕ)
   pub faults_before : ℕ
   pub faults_now : ℕ
+  pub kept_before : ℕ
+  pub kept_now : ℕ
 
-abbrev pub written_to : {K : Type 0} → (K → Option (List ℕ)) → (K → ℕ) → K → K → SinkUse
-written_to taken faults before now = record { before = taken before; now = taken now; faults_before = faults before; faults_now = faults now }
+abbrev pub written_to : {K : Type 0} → (K → Option (List ℕ)) → (K → ℕ) → (K → ℕ) → K → K → SinkUse
+written_to taken faults kept before now =
+    record { before = taken before; now = taken now; faults_before = faults before; faults_now = faults now; kept_before = kept before; kept_now = kept now }
 
 abbrev pub AWriteFailed : SinkUse → Type 0
 AWriteFailed sink = Rose sink.faults_before sink.faults_now
 
 abbrev pub NoWriteFailed : SinkUse → Type 0
 NoWriteFailed sink = sink.faults_now ≡ sink.faults_before
+
+-- of a sink that kept nothing back all was handed on
+abbrev pub HandsOn : SinkUse → Type 0
+HandsOn sink = sink.kept_before ≡ 0 → sink.kept_now ≡ 0
 
 -- ## A disk
 -- what it tells of itself, and the disk before and now

@@ -24,7 +24,7 @@ fn status_for_findings(findings: u64) -> Status
 
 /// Checks the disk's files, and writes what is found.
 pub fn check_files<K: Sink, D: Disk>(alloc: Global, sink: &mut K, disk: &mut D) -> Status
-    ensures checks { Checks (done_to D.tells D.view D.faults D.steady D.left disk.old disk.new) (written_to K.taken K.faults sink.old sink.new) result }
+    ensures checks { Checks (done_to D.tells D.view D.faults D.steady D.left disk.old disk.new) (written_to K.taken K.faults K.kept_back sink.old sink.new) result }
     ensures tells { D.tells disk.old ↔ D.tells disk.new }
 {
     match fsck(alloc, disk, sink) {

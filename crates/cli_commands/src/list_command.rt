@@ -151,7 +151,7 @@ pub fn list_file<K: Sink, D: Disk>(
     disk: &mut D,
 ) -> Status
     requires { IsAllowedTool tool }
-    ensures lists { Lists tool name.now (done_to D.tells D.view D.faults D.steady D.left disk.old disk.new) (written_to K.taken K.faults sink.old sink.new) result }
+    ensures lists { Lists tool name.now (done_to D.tells D.view D.faults D.steady D.left disk.old disk.new) (written_to K.taken K.faults K.kept_back sink.old sink.new) result }
     ensures tells { D.tells disk.old ↔ D.tells disk.new }
 {
     let due = due_of_name(alloc, tool, name, disk);

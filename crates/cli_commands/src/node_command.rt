@@ -22,7 +22,7 @@ use std::alloc::Global;
 /// Tells how a session ended. Where each line was answered, and where the sink failed, nothing is
 /// written.
 fn end_session<K: Sink>(alloc: Global, served: Served, sink: &mut K) -> Status
-    ensures { TellsEnd served result (written_to K.taken K.faults sink.old sink.new) }
+    ensures { TellsEnd served result (written_to K.taken K.faults K.kept_back sink.old sink.new) }
 {
     match served {
         Served::Done => Status::Ok,
@@ -47,7 +47,7 @@ fn serve_opened<S: Source, K: Sink, D: Disk>(
     sink: &mut K,
 ) -> Exit<D>
     ensures session { ServesFrom (WasAsked D.tells D.view node result.disk) (told_state (D.is_told node.disk) (D.view node.disk).seen node.memory node.rows) (D.tells result.disk) (D.view result.disk)
-        (read_from S.left S.faults source.old source.new) (written_to K.taken K.faults sink.old sink.new) result.status }
+        (read_from S.left S.faults source.old source.new) (written_to K.taken K.faults K.kept_back sink.old sink.new) result.status }
     ensures tells { D.tells node.disk ↔ D.tells result.disk }
     ensures cause { IsCauseOf (D.faults node.disk) (D.faults result.disk) (D.steady node.disk) (D.steady result.disk) (is_disk_fault result.status) }
 {
@@ -62,7 +62,7 @@ fn serve_opened<S: Source, K: Sink, D: Disk>(
 
 /// Tells why the node wasn't opened.
 fn end_unopened<K: Sink, D: Disk>(alloc: Global, fail: OpenFail<D>, sink: &mut K) -> Exit<D>
-    ensures told { TellsFault (fault_in fail) result.status (written_to K.taken K.faults sink.old sink.new) }
+    ensures told { TellsFault (fault_in fail) result.status (written_to K.taken K.faults K.kept_back sink.old sink.new) }
     ensures disk { result.disk ≡ disk_in fail }
 {
     match fail {
@@ -90,7 +90,7 @@ pub fn serve_node<S: Source, K: Sink, D: Disk>(
     sink: &mut K,
     disk: D,
 ) -> Exit<D>
-    ensures served { IsServedOrNot (read_from S.left S.faults source.old source.new) (written_to K.taken K.faults sink.old sink.new)
+    ensures served { IsServedOrNot (read_from S.left S.faults source.old source.new) (written_to K.taken K.faults K.kept_back sink.old sink.new)
         (done_to D.tells D.view D.faults D.steady D.left disk result.disk) result.status }
     ensures cause { IsCauseOf (D.faults disk) (D.faults result.disk) (D.steady disk) (D.steady result.disk) (is_disk_fault result.status) }
     ensures tells { D.tells disk ↔ D.tells result.disk }

@@ -38,7 +38,7 @@ fn place_behind(words: &[String]) -> u64
 /// Tells the place of the first wrong word, where one that isn't UTF-8 stands after these, so that
 /// no command has it.
 pub fn refuse_words<K: Sink>(alloc: Global, words: &[String], sink: &mut K) -> Status
-    ensures { TellsFault (CommandFault.Usage (usage_after (bytes_of words.now))) result (written_to K.taken K.faults sink.old sink.new) }
+    ensures { TellsFault (CommandFault.Usage (usage_after (bytes_of words.now))) result (written_to K.taken K.faults K.kept_back sink.old sink.new) }
 {
     write_fault(alloc, sink, &CommandFault::Usage(place_behind(words)))
 }
@@ -46,7 +46,7 @@ pub fn refuse_words<K: Sink>(alloc: Global, words: &[String], sink: &mut K) -> S
 /// Tells why the folder wasn't locked, so that no node is opened in it: `Locked` where another
 /// process has the lock, `DiskFault` where the folder can't be opened or locked.
 pub fn refuse_folder<K: Sink>(fail: LockFail, sink: &mut K) -> Status
-    ensures { TellsUnlocked fail result (written_to K.taken K.faults sink.old sink.new) }
+    ensures { TellsUnlocked fail result (written_to K.taken K.faults K.kept_back sink.old sink.new) }
 {
     match fail {
         LockFail::Taken => {

@@ -1,8 +1,10 @@
-//! Tests of what no text shows: values that are shared, a full retry list, images over a disk that
-//! fails or is stopped, generated scripts, a summary, words as bytes of the system, and a folder
-//! that isn't locked.
+//! Tests of what no text shows: values that are shared, a full retry list, images and checkpoints
+//! over a disk that fails or is stopped, generated scripts, a summary, words as bytes of the
+//! system, and a folder that isn't locked.
 #![tactic(auto)]
 
+#[cfg(test)]
+mod checkpoints;
 #[cfg(test)]
 mod generated;
 #[cfg(test)]

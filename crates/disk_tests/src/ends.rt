@@ -1,6 +1,9 @@
 //! The standard ends of a program over a runtime that fails, and over one that isn't ready.
 use crate::fake::Fake;
-use base_outside::{Failed, Input, StdSink, StdSource, read_all, write_all};
+use base_outside::{Failed, Input, MemSink, OutOfMemory, StdSink, StdSource, read_all, write_all};
+use std::alloc::Global;
+use std::process::Abort;
+use std::test::Fail;
 
 #[test]
 fn errors_of_the_runtime_are_faults(rt: HostRuntime) {
@@ -26,4 +29,21 @@ fn what_is_not_ready_is_tried_again(rt: HostRuntime) {
     // One before each byte that is read, one before the end, one before each byte that is taken.
     assert_eq!(rt; pauses, 6);
     assert_eq!(rt; taken.as_slice(), b"ok".as_slice());
+}
+
+// What is written with a call that fails, the flush, isn't handed on; with the next text it is.
+fn flush_fails(rt: &impl Abort, alloc: Global) -> Result<(), OutOfMemory> {
+    let mut sink = MemSink::new(alloc, 10, vec![in alloc; 1]?)?;
+    assert_eq!(rt; write_all(&mut sink, b"kept"), Err(Failed));
+    assert_eq!(rt; sink.unflushed(), 4);
+    assert_eq!(rt; write_all(&mut sink, b"more"), Ok(()));
+    assert_eq!(rt; sink.unflushed(), 0);
+    assert_eq!(rt; sink.bytes(), b"keptmore".as_slice());
+    Ok(())
+}
+
+#[test]
+fn a_flush_that_fails_keeps_bytes_back(rt: HostRuntime) -> Result<(), Fail> {
+    flush_fails(&rt, rt.alloc())?;
+    Ok(())
 }

@@ -47,6 +47,8 @@ impl Sink for Listener<'_> {
 
     ghost faults = { λ _. 0 };
 
+    ghost kept_back = { λ _. 0 };
+
     fn write(&mut self, bytes: &[u8]) -> Result<usize, Failed> {
         Ok(bytes.len())
     }

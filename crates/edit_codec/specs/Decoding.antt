@@ -48,6 +48,14 @@ pub record HasUnknownOpcode (body : List ℕ) (byte : ℕ) : Type 0 where
   pub whole : body ≡ byte ∷ bytes
   pub unknown : (kind : OpKind) (called : Bool) → MayCall kind called → opcode kind called ≢ byte
 
+-- the body's first byte is an opcode of the table, so that fields are read, of which names take memory
+pub record HasOpcode (body : List ℕ) : Type 0 where
+  pub kind : OpKind
+  pub called : Bool
+  pub may_call : MayCall kind called
+  pub bytes : List ℕ
+  pub whole : body ≡ opcode kind called ∷ bytes
+
 -- so many bytes stand after a record
 pub record HasTrailing (body : List ℕ) (count : ℕ) : Type 0 where
   pub rest : List ℕ
@@ -55,11 +63,11 @@ pub record HasTrailing (body : List ℕ) (count : ℕ) : Type 0 where
   pub some : 0 < length rest
   pub all : count ≡ length rest
 
--- the right answer for the bytes; lack of memory is one everywhere
+-- the right answer for the bytes; lack of memory is one wherever fields are read
 abbrev pub IsDecoded : List ℕ → Decoded → Type 0
 IsDecoded body (Edit e) = IsRecord body e
 IsDecoded body (UnknownOpcode byte) = HasUnknownOpcode body byte
 IsDecoded body (Short needed) = IsShort body needed
 IsDecoded body (Trailing count) = HasTrailing body count
 IsDecoded body (BadField place rule) = BreaksRule body place rule
-IsDecoded body OutOfMemory = Unit {0}
+IsDecoded body OutOfMemory = HasOpcode body

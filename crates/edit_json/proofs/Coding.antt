@@ -1,9 +1,9 @@
 -- What the code of the readers needs: lists of values, keys in their order, and the front of an
 -- object.
-use Rattle.std.proofs.Common.{Bor, ◌≡◌, ◌≢◌, ℕ, zero, suc, ◌+◌, ◌-◌, ◌^◌, ◌<◌, ◌≤◌, Bool, true, List, [], ◌∷◌, ◌++◌, length, map, drop}
+use Rattle.std.proofs.Common.{Bor, ◌≡◌, ◌≢◌, ℕ, zero, suc, ◌+◌, ◌^◌, ◌<◌, ◌≤◌, Bool, true, false, List, [], ◌∷◌, ◌++◌, length, map, drop}
 use Rattle.std.proofs.Common.{drop-cons, get_or, cond, Option, Some, None, Result, Ok, Err, codes, refl, sym, ap, subst, ◌∙◌, arith, append_assoc}
 use Rattle.std.proofs.Common.{append-nil}
-use Rattle.std.specs.Prelude.{option_map, option_and_then, ok_or, is_some}
+use Rattle.std.specs.Prelude.{option_map, option_and_then, ok_or}
 use Rattle.std.proofs.lemmas.Bool.{le-leb, lt-leb}
 use Rattle.serde_json.specs.Data.{Data, string}
 use Rattle.serde_json.specs.Events.{items_len, members_len}
@@ -132,23 +132,31 @@ same_kind k l d a b =
     let names : op_name k ≡ op_name l = cc in
     same_op_name k l names
 
-pub not_marked : (txid : ℕ) (kind k : OpKind) (with_call : Bool) (d : Data) → get (codes "op") d ≡ Some (string (op_name kind))
-    → is_some (get (codes "callid") d) ≡ true → is_mark kind ≡ true → HasFront txid k with_call d → ⊥
-not_marked txid kind k with_call d told called mark f =
-    let same = same_kind k kind d f.op told in
-    let yes : with_call ≡ true = sym f.called ∙ called in
-    let may : MayCall kind true = subst (λ (b : Bool). MayCall kind b) yes (subst (λ (l : OpKind). MayCall l with_call) same f.may_call) in
-    absurd cc
+-- an object with a member more or less than an edit of its kind has
+module _ (txid n : ℕ) (kind k : OpKind) (with_call : Bool) (d : Data) (told : get (codes "op") d ≡ Some (string (op_name kind)))
+    (count : option_map members_len (as_object d) ≡ Some n) (plain : n ≢ member_count kind false) (f : HasFront txid k with_call d) where
+  counted : n ≡ member_count kind with_call
+  counted =
+      let some : Some n ≡ Some (member_count k with_call) = sym count ∙ f.count in
+      let is : n ≡ member_count k with_call = cc in
+      is ∙ ap (λ (l : OpKind). member_count l with_call) (same_kind k kind d f.op told)
 
-pub not_counted : (txid n : ℕ) (kind k : OpKind) (with_call b : Bool) (d : Data) → get (codes "op") d ≡ Some (string (op_name kind))
-    → is_some (get (codes "callid") d) ≡ b → option_map members_len (as_object d) ≡ Some n
-    → n ≢ member_count kind b → HasFront txid k with_call d → ⊥
-not_counted txid n kind k with_call b d told called count other f =
-    let same = same_kind k kind d f.op told in
-    let yes : with_call ≡ b = sym f.called ∙ called in
-    let some : Some n ≡ Some (member_count k with_call) = sym count ∙ f.count in
-    let is : n ≡ member_count k with_call = cc in
-    other (is ∙ (λ i. member_count (same i) (yes i)))
+  may : MayCall kind with_call
+  may = subst (λ (l : OpKind). MayCall l with_call) (same_kind k kind d f.op told) f.may_call
+
+  pub not_marked : is_mark kind ≡ true → ⊥
+  not_marked mark = by with_call counted may
+    where
+      by : (b : Bool) → n ≡ member_count kind b → MayCall kind b → ⊥
+      by false is may = plain is
+      by true is may = absurd cc
+
+  pub not_counted : n ≢ member_count kind true → ⊥
+  not_counted other = by with_call counted
+    where
+      by : (b : Bool) → n ≡ member_count kind b → ⊥
+      by false is = plain is
+      by true is = other is
 
 pub not_there : (txid : ℕ) (k : OpKind) (with_call : Bool) (d : Data) → option_map members_len (as_object d) ≡ None → HasFront txid k with_call d → ⊥
 not_there txid k with_call d none f = let e = sym none ∙ f.count in absurd cc
@@ -163,10 +171,6 @@ list_fails f vs xs i v (errors.Fault g) here fails from =
 
 pub list_ok : {A : Type 0} (f : Data → Option A) (vs : List Value) (xs : List A) (i : ℕ) → length vs ≤ i → ListedFrom f vs xs i → ok_or (list_in f (items_view vs)) bad_object ≡ Ok xs
 list_ok f vs xs i h from = ap (λ (o : Option (List _)). ok_or o bad_object) (list_ends f vs xs i h from)
-
-pub still_some : (o : Option (Bor Value)) → is_some o ≡ is_some (option_map (λ v. view v.now) o)
-still_some None = refl
-still_some (Some v) = refl
 
 -- ## What was read is what there is
 

@@ -1,15 +1,15 @@
 -- The edit that is read of an object is the one whose object it is.
-use Rattle.std.proofs.Common.{◌≡◌, ℕ, ◌≤◌, ◌^◌, List, [], ◌∷◌, ◌++◌, length, map, Bool, true, false, cond, Option, Some, None, Ok, Err, codes, refl, sym, ap, subst, ◌∙◌, arith}
+use Rattle.std.proofs.Common.{◌≡◌, ℕ, ◌≤◌, ◌^◌, List, [], ◌∷◌, ◌++◌, length, map, Bool, true, false, cond, Option, Some, None, Ok, Err, refl, sym, ap, subst, ◌∙◌, arith}
 use Rattle.std.specs.Prelude.{option_map, is_some}
 use Rattle.std.specs.List.{AllByRecursion}
 use Rattle.std.specs.Str.{bytes_eq}
 use Rattle.serde_json.specs.Data.{Data, Members, unsigned, null, boolean, number, string, array, object}
 use Rattle.serde_json.specs.Events.{members_len}
-use Rattle.serde_json.specs.Find.{get, as_object}
+use Rattle.serde_json.specs.Find.{as_object}
 use Rattle.serde_json.specs.Read.{of_json}
 use Rattle.list_text.specs.Values.{number_of}
 use Rattle.edit_json.specs.Members.{put_all, IsOrdered}
-use Rattle.edit_json.proofs.Found.{AreIn, all_found, all_in, all_counted, absent_all}
+use Rattle.edit_json.proofs.Found.{AreIn, all_found, all_in, all_counted}
 use Rattle.edit_ops.specs.declared.call.Call.{Call}
 use Rattle.edit_ops.specs.declared.field_fault.ReadError.{ReadError}
 use Rattle.edit_ops.specs.declared.field_fault.ReadError.TheVariants as errors
@@ -32,7 +32,7 @@ use Rattle.edit_ops.specs.Keys.{keys, call_keys, op_name}
 use Rattle.edit_json.specs.Values.{Left, object_group}
 use Rattle.edit_json.specs.Rows.{Row, HasRows, edit_rows, op_rows, call_rows, rows_of, field_jsons, as_data}
 use Rattle.edit_json.specs.Objects.{IsObject, HasOp, IsReadOp, HasCall, IsReadCall, HasEdit, IsReadEdit, HasFront, member_count}
-use Rattle.edit_json.proofs.Rows.{read_row, edit_apart, callid_apart, rows_counted, as_many}
+use Rattle.edit_json.proofs.Rows.{read_row, edit_apart, rows_counted, as_many}
 use Rattle.edit_json.proofs.Sound.{entry_reads, number_reads, as_is}
 use Rattle.edit_json.proofs.Readings.{CountsLast, begun, Read, same_read, fields_held, held_fields}
 
@@ -181,11 +181,20 @@ pub same_op_name : (k l : OpKind) → op_name k ≡ op_name l → k ≡ l
 unfolding tail_of
 same_op_name k l e = same_name k l (ap (λ (s : List ℕ). tail_of (tail_of (tail_of s))) e)
 
+same_count : (kind : OpKind) (c b : Bool) → member_count kind c ≡ member_count kind b → c ≡ b
+same_count kind false false e = refl
+same_count kind false true e = absurd (omega (arith, e))
+same_count kind true false e = absurd (omega (arith, e))
+same_count kind true true e = refl
+
 pub one_kind : (txid : ℕ) (k l : OpKind) (c b : Bool) (d : Data) → HasFront txid k c d → HasFront txid l b d → (k ≡ l) × (c ≡ b)
 one_kind txid k l c b d f g =
     let some : Some (string (op_name k)) ≡ Some (string (op_name l)) = sym f.op ∙ g.op in
     let names : op_name k ≡ op_name l = cc in
-    (same_op_name k l names, sym f.called ∙ g.called)
+    let is : k ≡ l = same_op_name k l names in
+    let counts : Some (member_count k c) ≡ Some (member_count l b) = sym f.count ∙ g.count in
+    let many : member_count k c ≡ member_count l b = cc in
+    (is, same_count l c b (ap (λ (kind : OpKind). member_count kind c) (sym is) ∙ many))
 
 -- ## An object with these members
 
@@ -241,11 +250,6 @@ object_is txid e d small is =
 rows_there : (txid : ℕ) (e : EditView) → HasRows (object_of_edit txid e) (edit_rows txid e)
 rows_there txid e = in_are (put_all (map read_row (edit_rows txid e))) (edit_rows txid e) (all_in (map read_row (edit_rows txid e)) (edit_apart txid e))
 
-is_called : (txid : ℕ) (op : Op) (call : Option Call) → is_some (get (codes "callid") (object_of_edit txid (record { op = op; call = call }))) ≡ is_some call
-unfolding call_keys
-is_called txid op None = ap is_some (absent_all (codes "callid") (map read_row (edit_rows txid (record { op = op; call = None }))) (callid_apart txid op))
-is_called txid op (Some call) = let rows = rows_there txid (record { op = op; call = Some call }) in ap is_some rows.1.1.1.0
-
 may_call : (e : EditView) → IsEdit e → MayCall (kind_of e.op) (called e)
 may_call e is = is.call
 
@@ -257,7 +261,6 @@ front_at txid e small is =
     record {
       op = rows.0;
       txid_is = rows.1.0 ∙ ap (λ (v : Data). Some v) (txid_data txid small);
-      called = is_called txid e.op e.call;
       may_call = may_call e is;
       count = ap (λ (n : ℕ). Some n) count;
     }

@@ -12,7 +12,6 @@ use Rattle.serde_json.specs.Data as datum
 use Rattle.serde_json.specs.Data.{Data, Items, no_items, item}
 use Rattle.serde_json.specs.Events.{items_len}
 use Rattle.serde_json.specs.Find.{as_bool, as_str}
-use Rattle.serde_json.specs.Read.{of_json}
 use Rattle.serde_json.specs.Read as reading
 use Rattle.serde_json.specs.View as views
 use Rattle.base_words.specs.Hex.{hex_digit, hex_text}

@@ -89,24 +89,6 @@ keys_apart kinds.EndLogSegment true = refl
 keys_apart kinds.StartLogSegment false = refl
 keys_apart kinds.StartLogSegment true = refl
 
--- no other member is called as a call's number is
-no_callid : (kind : OpKind) → is_apart (codes "callid") (all_keys kind false) ≡ true
-unfolding keys
-no_callid kinds.Add = refl
-no_callid kinds.RenameOld = refl
-no_callid kinds.Delete = refl
-no_callid kinds.Mkdir = refl
-no_callid kinds.SetReplication = refl
-no_callid kinds.SetPermissions = refl
-no_callid kinds.SetOwner = refl
-no_callid kinds.Close = refl
-no_callid kinds.Times = refl
-no_callid kinds.SetQuota = refl
-no_callid kinds.Rename = refl
-no_callid kinds.ConcatDelete = refl
-no_callid kinds.EndLogSegment = refl
-no_callid kinds.StartLogSegment = refl
-
 -- each field has a key
 op_keys : (op : Op) → map (λ row. row.0) (op_rows op) ≡ keys (kind_of op)
 unfolding keys
@@ -135,10 +117,6 @@ edit_keys txid e = edit_keys_by txid e.op e.call
 
 pub edit_apart : (txid : ℕ) (e : EditView) → AreApart (map read_row (edit_rows txid e))
 edit_apart txid e = rows_apart (edit_rows txid e) (ap are_apart (edit_keys txid e) ∙ keys_apart (kind_of e.op) (called e))
-
--- an edit without a call
-pub callid_apart : (txid : ℕ) (op : Op) → AllByRecursion (λ p. p.0 ≢ codes "callid") (map read_row (edit_rows txid (record { op = op; call = None })))
-callid_apart txid op = all_apart (codes "callid") (edit_rows txid (record { op = op; call = None })) (ap (is_apart (codes "callid")) (edit_keys_by txid op None) ∙ no_callid (kind_of op))
 
 length-keys : (rows : List Row) → length (map (λ row. row.0) rows) ≡ length rows
 length-keys [] = refl

@@ -1,5 +1,5 @@
 -- Which values of JSON are the objects of edits, as the listing gives them.
-use Rattle.std.specs.Prelude.{◌≡◌, ℕ, ◌+◌, ◌++◌, length, codes, Some, is_some, option_map, Bool, true, false, Result, Ok, Err}
+use Rattle.std.specs.Prelude.{◌≡◌, ℕ, ◌+◌, ◌++◌, length, codes, Some, option_map, Bool, true, false, Result, Ok, Err}
 use Rattle.std.specs.List.{AllByRecursion}
 use Rattle.serde_json.specs.Data.{Data, unsigned, number, string}
 use Rattle.serde_json.specs.Events.{members_len}
@@ -71,11 +71,10 @@ IsReadEdit kind with_call d (Ok e) = HasEdit kind with_call d e
 IsReadEdit kind with_call d (Err errors.Memory) = Unit {0}
 IsReadEdit kind with_call d (Err (errors.Fault f)) = (e : EditView) → HasEdit kind with_call d e → ⊥
 
--- what the object tells of its edit before the fields: the kind, the txid, whether a client called,
--- and by how many members it has that there are no others
+-- what the object tells of its edit before the fields: the kind, the txid, and by how many members
+-- it has whether a client called
 pub record HasFront (txid : ℕ) (kind : OpKind) (with_call : Bool) (d : Data) : Type 0 where
   pub op : get (codes "op") d ≡ Some (string (op_name kind))
   pub txid_is : get (codes "txid") d ≡ Some (number (unsigned txid))
-  pub called : is_some (get (codes "callid") d) ≡ with_call
   pub may_call : MayCall kind with_call
   pub count : option_map members_len (as_object d) ≡ Some (member_count kind with_call)

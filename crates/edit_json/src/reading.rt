@@ -1,5 +1,5 @@
 //! Edits from objects.
-ghost use Rattle.std.specs.Prelude.{◌≡◌, ◌≢◌, ◌≤◌, ◌↔◌, codes, Bool, true, false, Some, IsTrue, MatchOption, option_map, is_some};
+ghost use Rattle.std.specs.Prelude.{◌≡◌, ◌≢◌, ◌≤◌, ◌↔◌, codes, Bool, true, false, Some, IsTrue, MatchOption, option_map};
 ghost use Rattle.serde_json.specs.Data.{string, number, unsigned};
 ghost use Rattle.serde_json.specs.Events.{members_len};
 ghost use Rattle.serde_json.specs.Find.{get, as_object};
@@ -61,7 +61,8 @@ fn member_count(kind: OpKind, with_call: bool) -> usize
     }
 }
 
-// What the object tells before the fields of its edit: the kind, and whether a client called.
+// What the object tells before the fields of its edit: the kind, and by how many members it has
+// whether a client called.
 fn read_front(object: &Value, txid: u64) -> Option<(OpKind, bool)>
     ensures { MatchOption result ((kind : OpKind) (with_call : Bool) → HasFront txid kind with_call (view object.now) → ⊥) (λ front. HasFront txid front.0 front.1 (view object.now)) }
 {
@@ -69,14 +70,17 @@ fn read_front(object: &Value, txid: u64) -> Option<(OpKind, bool)>
     if !has_txid(object, txid) {
         return None;
     }
-    let with_call = object.get("callid").is_some();
-    if with_call && kind.is_mark() {
+    let count = count_members(object)?;
+    if count == member_count(kind, false) {
+        return Some((kind, false));
+    }
+    if kind.is_mark() {
         return None;
     }
-    if count_members(object)? != member_count(kind, with_call) {
+    if count != member_count(kind, true) {
         return None;
     }
-    Some((kind, with_call))
+    Some((kind, true))
 }
 
 // The call of the object's edit.

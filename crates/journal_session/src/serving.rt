@@ -32,6 +32,7 @@ fn serve_line<N: SessionNode, K: Sink>(
     ensures told { is_some (N.state node.new) ≡ is_some (N.state node.old) }
     ensures write_fault { result ≡ Some Served.WriteFault → Rose (K.faults sink.old) (K.faults sink.new) }
     ensures no_write_fault { result ≢ Some Served.WriteFault → K.faults sink.new ≡ K.faults sink.old }
+    ensures handed { result ≢ Some Served.WriteFault → K.kept_back sink.old ≡ 0 → K.kept_back sink.new ≡ 0 }
     ensures later { N.faults node.old ≤ N.faults node.new }
     ensures disk_fault { result ≡ Some Served.DiskFault → NodeRose (N.faults node.old) (N.faults node.new) }
     ensures steady { N.steady node.old → N.steady node.new × (result ≢ Some Served.DiskFault) }
@@ -73,6 +74,7 @@ pub fn serve<N: SessionNode, S: Source, K: Sink>(
     ensures no_read_fault { result ≢ Served.ReadFault → S.faults source.new ≡ S.faults source.old }
     ensures write_fault { result ≡ Served.WriteFault → Rose (K.faults sink.old) (K.faults sink.new) }
     ensures no_write_fault { result ≢ Served.WriteFault → K.faults sink.new ≡ K.faults sink.old }
+    ensures handed { result ≢ Served.WriteFault → K.kept_back sink.old ≡ 0 → K.kept_back sink.new ≡ 0 }
     ensures disk_fault { result ≡ Served.DiskFault → NodeRose (N.faults node.old) (N.faults node.new) }
     ensures later { N.faults node.old ≤ N.faults node.new }
     ensures steady { N.steady node.old → N.steady node.new × (result ≢ Served.DiskFault) }

@@ -1,5 +1,5 @@
 //! From the listing of a segment's edits to a segment.
-ghost use Rattle.std.specs.Prelude.{◌≡◌, ◌≤◌, ℕ, List, length, map};
+ghost use Rattle.std.specs.Prelude.{◌≡◌, ◌≤◌, ℕ, [], List, length, map};
 ghost use Rattle.std.specs.List.{AllByRecursion};
 ghost use Rattle.serde_json.specs.Data.{Data, array};
 ghost use Rattle.serde_json.specs.View.{view, items_of};
@@ -16,8 +16,9 @@ use journal_core::MAX_SEGMENT;
 use serde_json::Value;
 use std::alloc::Global;
 
-// What becomes of a value that was read.
-fn back_of(alloc: Global, value: &Value, start: u64, epoch: u64) -> Back
+// What becomes of a value that was read. The segment is written into `room`.
+fn back_of(alloc: Global, room: Vec<u8>, value: &Value, start: u64, epoch: u64) -> Back
+    requires empty { room.items ≡ [] }
     requires ordered { (ds : List Data) → view value.now ≡ array (items_of ds) → AllByRecursion IsOrdered ds }
     requires start { start ≤ max_number }
     ensures { IsBackOf (view value.now) start epoch result }
@@ -31,7 +32,7 @@ fn back_of(alloc: Global, value: &Value, start: u64, epoch: u64) -> Back
             number: MAX_SEGMENT,
         };
     }
-    match segment_of(alloc, values, start, epoch) {
+    match segment_of(alloc, room, values, start, epoch) {
         Ok(bytes) => Back::Segment(bytes),
         Err(Refusal::Entry { index }) => Back::BadEntry { index },
         Err(Refusal::Memory) => Back::OutOfMemory,
@@ -53,8 +54,12 @@ pub fn back(alloc: Global, bytes: &[u8], start: u64, epoch: u64) -> Back
     // The listing of a segment's edits becomes a segment of those edits, under the epoch.
     ensures listing { (segment : List ℕ) (edits : List EditView) → IsSegment segment start edits → length edits ≤ max_segment → bytes.now ≡ entry_lines start edits → GivesSegment start epoch edits result }
 {
+    // The segment's room is made before the values, so that it doesn't lie behind them in memory.
+    let Ok(room) = Vec::with_capacity(alloc, bytes.len() / 2) else {
+        return Back::OutOfMemory;
+    };
     match Value::from_slice(alloc, bytes) {
-        Ok(value) => back_of(alloc, &value, start, epoch),
+        Ok(value) => back_of(alloc, room, &value, start, epoch),
         Err(error) => {
             if error.is_memory() {
                 Back::OutOfMemory

@@ -45,13 +45,20 @@ fn put_frame(
 }
 
 impl SegmentWriter {
-    /// A segment of no bodies from that txid on, under that epoch.
-    pub(crate) fn new(alloc: Global, start: u64, epoch: u64) -> Result<SegmentWriter, OutOfMemory>
+    /// A segment of no bodies from that txid on, under that epoch, in the room of `bytes`.
+    pub(crate) fn new(
+        alloc: Global,
+        mut bytes: Vec<u8>,
+        start: u64,
+        epoch: u64,
+    ) -> Result<SegmentWriter, OutOfMemory>
+        requires { bytes.items ≡ [] }
         ensures room { IfOk result HasRoom }
         ensures written { IfOk result (IsWritten start epoch []) }
     {
+        bytes.extend_from_slice(&header_of(start, epoch))?;
         Ok(SegmentWriter {
-            bytes: Vec::from_slice(alloc, &header_of(start, epoch))?,
+            bytes,
             first: start,
             waiting: BodyList::new(alloc),
         })

@@ -1,5 +1,5 @@
 //! The segment of the edits whose objects an array has.
-ghost use Rattle.std.specs.Prelude.{◌≡◌, ◌+◌, ◌≤◌, length, map, IfOk};
+ghost use Rattle.std.specs.Prelude.{◌≡◌, ◌+◌, ◌≤◌, [], length, map, IfOk};
 ghost use Rattle.edit_ops.specs.Records.{record_of};
 ghost use Rattle.std.specs.List.{AllByRecursion};
 ghost use Rattle.serde_json.specs.View.{view};
@@ -10,7 +10,7 @@ ghost use Rattle.list_back.specs.Backs.{IsMade};
 
 use crate::segment_writer::SegmentWriter;
 use base_words::{Bytes, MAX, OutOfMemory};
-use edit_codec::encode;
+use edit_codec::encode_in;
 use edit_json::{BadObject, read_object};
 use edit_ops::{Edit, ReadError};
 use journal_core::MAX_BODY;
@@ -36,15 +36,20 @@ impl From<AllocError> for Refusal {
     }
 }
 
-// The record of an edit that is not wanted any more.
-fn encode_owned(alloc: Global, edit: Edit) -> Result<Bytes, OutOfMemory>
+// The record of an edit that is not wanted any more, put together in `room`.
+fn encode_owned(alloc: Global, room: &mut Vec<u8>, edit: Edit) -> Result<Bytes, OutOfMemory>
     ensures { IfOk result (λ body. body ≡ record_of edit) }
 {
-    encode(alloc, &edit)
+    encode_in(alloc, room, &edit)
 }
 
-// The body of the edit whose object this is at that txid.
-fn read_body(alloc: Global, value: &Value, txid: u64) -> Result<Bytes, ReadError<BadObject>>
+// The body of the edit whose object this is at that txid. It is put together in `room`.
+fn read_body(
+    alloc: Global,
+    room: &mut Vec<u8>,
+    value: &Value,
+    txid: u64,
+) -> Result<Bytes, ReadError<BadObject>>
     requires { IsOrdered (view value.now) }
     ensures { IsReadBody txid (view value.now) result }
 {
@@ -52,29 +57,32 @@ fn read_body(alloc: Global, value: &Value, txid: u64) -> Result<Bytes, ReadError
         return Err(ReadError::Fault(BadObject));
     }
     let edit = read_object(alloc, value, txid)?;
-    let body = encode_owned(alloc, edit)?;
+    let body = encode_owned(alloc, room, edit)?;
     if body.len() > MAX_BODY {
         return Err(ReadError::Fault(BadObject));
     }
     Ok(body)
 }
 
-/// The segment of these values from that txid on, under that epoch.
+/// The segment of these values from that txid on, under that epoch, written into `bytes`.
 pub(crate) fn segment_of(
     alloc: Global,
+    bytes: Vec<u8>,
     values: &[Value],
     start: u64,
     epoch: u64,
 ) -> Result<Vec<u8>, Refusal>
+    requires empty { bytes.items ≡ [] }
     requires ordered { AllByRecursion IsOrdered (map view values.now) }
     requires few { length values.now ≤ max_segment }
     requires start { start ≤ max_number }
     ensures { IsMade start epoch (map view values.now) result }
 {
-    let mut writer = SegmentWriter::new(alloc, start, epoch)?;
+    let mut writer = SegmentWriter::new(alloc, bytes, start, epoch)?;
+    let mut room = Vec::new(alloc);
     let mut index = 0u64;
     for value in values {
-        match read_body(alloc, value, start + index) {
+        match read_body(alloc, &mut room, value, start + index) {
             Ok(body) => writer = writer.push(alloc, body)?,
             Err(ReadError::Fault(_)) => return Err(Refusal::Entry { index }),
             Err(ReadError::Memory) => return Err(Refusal::Memory),

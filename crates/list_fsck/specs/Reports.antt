@@ -67,21 +67,28 @@ abbrev pub FoldersHaveOneReport : Type 0
 FoldersHaveOneReport = (files : Files) (text other : List ℕ) (n m : ℕ) → IsReport (Unit {0}) files text n → IsReport (Unit {0}) files other m → (text ≡ other) × (n ≡ m)
 
 -- ## What was done
--- the whole text was written, or a prefix of it where the sink failed, or nothing where the disk
--- failed or memory ran out
-abbrev pub IsCheckup : Type 0 → Files → Checkup → Option (List ℕ) → Option (List ℕ) → ℕ → ℕ → Type 0
-IsCheckup tells files (Found findings) before now faults_before faults_now =
-    (text : List ℕ) × IsReport tells files text findings × Appends before now text × (faults_now ≡ faults_before)
-IsCheckup tells files WriteFault before now faults_before faults_now =
-    (text : List ℕ) × (findings : ℕ) × IsReport tells files text findings × TakesFront before now text × Rose faults_before faults_now
-IsCheckup tells files DiskFault before now faults_before faults_now = (now ≡ before) × (faults_now ≡ faults_before)
-IsCheckup tells files OutOfMemory before now faults_before faults_now = (now ≡ before) × (faults_now ≡ faults_before)
+-- a sink before and now: the bytes that it took, where it tells them, its count of faults, and how
+-- many bytes it keeps back
+pub record SinkSeen : Type 0 where
+  pub taken : Option (List ℕ)
+  pub faults : ℕ
+  pub kept : ℕ
+
+-- the whole text was written, and nothing of it is kept back; or a prefix of it where the sink
+-- failed, or nothing where the disk failed or memory ran out
+abbrev pub IsCheckup : Type 0 → Files → Checkup → SinkSeen → SinkSeen → Type 0
+IsCheckup tells files (Found findings) before now =
+    (text : List ℕ) × IsReport tells files text findings × Appends before.taken now.taken text × (now.faults ≡ before.faults) × (now.kept ≡ 0)
+IsCheckup tells files WriteFault before now =
+    (text : List ℕ) × (findings : ℕ) × IsReport tells files text findings × TakesFront before.taken now.taken text × Rose before.faults now.faults
+IsCheckup tells files DiskFault before now = (now.taken ≡ before.taken) × (now.faults ≡ before.faults) × (now.kept ≡ before.kept)
+IsCheckup tells files OutOfMemory before now = (now.taken ≡ before.taken) × (now.faults ≡ before.faults) × (now.kept ≡ before.kept)
 
 -- what came of writing this text
-abbrev pub IsWritten : List ℕ → ℕ → Checkup → Option (List ℕ) → Option (List ℕ) → ℕ → ℕ → Type 0
-IsWritten text findings (Found told) before now faults_before faults_now = (told ≡ findings) × Appends before now text × (faults_now ≡ faults_before)
-IsWritten text findings WriteFault before now faults_before faults_now = TakesFront before now text × Rose faults_before faults_now
-IsWritten text findings _ before now faults_before faults_now = ⊥
+abbrev pub IsWritten : List ℕ → ℕ → Checkup → SinkSeen → SinkSeen → Type 0
+IsWritten text findings (Found told) before now = (told ≡ findings) × Appends before.taken now.taken text × (now.faults ≡ before.faults) × (now.kept ≡ 0)
+IsWritten text findings WriteFault before now = TakesFront before.taken now.taken text × Rose before.faults now.faults
+IsWritten text findings _ before now = ⊥
 
 -- as the answer of a disk
 abbrev pub disk_answer : Checkup → Result (Unit {0}) DiskFail

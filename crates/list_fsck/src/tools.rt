@@ -12,7 +12,8 @@ use std::alloc::Global;
 
 // Writes a report of so many findings.
 fn write_report<K: Sink>(sink: &mut K, text: &[u8], findings: u64) -> Checkup
-    ensures { IsWritten text.now findings result (K.taken sink.old) (K.taken sink.new) (K.faults sink.old) (K.faults sink.new) }
+    ensures { IsWritten text.now findings result (record { taken = K.taken sink.old; faults = K.faults sink.old; kept = K.kept_back sink.old })
+        (record { taken = K.taken sink.new; faults = K.faults sink.new; kept = K.kept_back sink.new }) }
 {
     match write_all(sink, text) {
         Ok(()) => Checkup::Found { findings },
@@ -28,7 +29,8 @@ fn write_report<K: Sink>(sink: &mut K, text: &[u8], findings: u64) -> Checkup
 /// long for the memory is answered as want of it.
 pub fn fsck<D: Disk, K: Sink>(alloc: Global, disk: &mut D, sink: &mut K) -> Checkup
     ensures call { IsDiskRun D.DiskModel disk.old disk.new (disk_answer result) }
-    ensures checkup { IsCheckup (D.tells disk.old) (D.view disk.old).seen result (K.taken sink.old) (K.taken sink.new) (K.faults sink.old) (K.faults sink.new) }
+    ensures checkup { IsCheckup (D.tells disk.old) (D.view disk.old).seen result (record { taken = K.taken sink.old; faults = K.faults sink.old; kept = K.kept_back sink.old })
+        (record { taken = K.taken sink.new; faults = K.faults sink.new; kept = K.kept_back sink.new }) }
     ensures stopped { D.left disk.old ≡ Some 0 → result ≡ Checkup.DiskFault }
     ensures disk { IfTold D.DiskModel disk.old disk.new Rests }
 {

@@ -5,6 +5,7 @@ use Rattle.std.specs.List.{flat_map}
 use Rattle.journal_core.specs.Views.{BatchView}
 use Rattle.edit_ops.specs.Records.{EditView}
 use Rattle.edit_ops.specs.Grammar.{IsEdit, IsRecord}
+use Rattle.edit_codec.specs.Decoding.{HasOpcode}
 use Rattle.disk_frame.specs.declared.entry.Entry.{Entry}
 use Rattle.disk_frame.specs.Entries.{EntriesView}
 use Rattle.disk_frame.specs.Frames.{frame_bytes, entry_bytes, broken_rule}
@@ -77,12 +78,13 @@ pub record IsFresh (bytes : List ℕ) (r : Reader) : Type 0 where
   pub at : IsAt start [] r
   pub same : r.bytes ≡ bytes
 
--- what an entry tells: its txid and the edit of which its body is the record, or that there is none
+-- what an entry tells: its txid and the edit of which its body is the record, or that there is none;
+-- memory may be lacking where its body's fields are read
 abbrev pub IsTelling : Entry → Result (Option (ℕ × EditView)) SegmentFault → Type 0
 IsTelling entry (Ok (Some told)) = (told.0 ≡ entry.txid) × IsRecord entry.body.now told.1
 IsTelling entry (Ok None) = ⊥
 IsTelling entry (Err (Damage place cause)) = (place ≡ entry.place) × IsBadBody entry.body.now cause
-IsTelling entry (Err Memory) = Unit {0}
+IsTelling entry (Err Memory) = HasOpcode entry.body.now
 
 -- the reader passed an edit
 pub record Passes (start : ℕ) (edits : List EditView) (old new : Reader) (txid : ℕ) (edit : EditView) : Type 0 where

@@ -1,13 +1,15 @@
--- No bytes of an image have a wrong digest: reading them never ends with that cause.
-use Rattle.std.proofs.Common.{◌≡◌, ◌≢◌, ℕ, zero, suc, ◌-◌, ◌^◌, Bool, true, false, List, [], ◌∷◌, length, Result, Ok, Err, ◌∙◌}
-use Rattle.std.specs.Prelude.{◌==◌, nat_le, if◌then◌else◌}
+-- No bytes of an image have a wrong digest: reading them never ends with that cause. And they begin
+-- as one.
+use Rattle.std.proofs.Common.{◌≡◌, ◌≢◌, ℕ, zero, suc, ◌-◌, ◌^◌, Bool, true, false, List, [], ◌∷◌, length, Result, Ok, Err, refl, ◌∙◌}
+use Rattle.std.specs.Prelude.{◌==◌, nat_le, is_ok, if◌then◌else◌}
 use Rattle.std.specs.Int.{Width, w16, w32, w64}
 use Rattle.ns_tree.specs.declared.inode.Noted.{Noted}
 use Rattle.ns_tree.specs.declared.inode.Row.{Row}
 use Rattle.ns_tree.specs.Last.{is_after_last, has_parent}
+use Rattle.ns_tree.specs.Space.{Space}
 use Rattle.ns_image.specs.declared.image_cause.ImageCause.{ImageCause}
 use Rattle.ns_image.specs.declared.image_cause.ImageCause.TheVariants.{Short, Magic, Layout, Field, Order, NoParent, Trailing, Digest}
-use Rattle.ns_image.specs.declared.answer.ReadImage.TheVariants.{BadImage}
+use Rattle.ns_image.specs.declared.answer.ReadImage.TheVariants.{Image, BadImage}
 use Rattle.ns_image.specs.Reading.{◌>>=◌, wanted, byte_at, whole_at, number_at, text_at, path_at, owner_at, amount_at, size_at, permission_at}
 use Rattle.ns_image.specs.Reading.{repeated, length_at, blocks_at, dir_at, file_after, file_at, inode_at, root_at, next_path_at, row_at, tree_at}
 use Rattle.ns_image.specs.Reading.{client_at, new_call_at, call_at, calls_at, head_at, Told, told, answer, reading_of}
@@ -176,3 +178,12 @@ by_cause size (Err f) place cause h e = λ d. h (let same : f.cause ≡ cause = 
 -- the cause of bytes that are read isn't a digest
 pub no_digest : (bytes : List ℕ) (place : ℕ) (cause : ImageCause) → BadImage place cause ≡ reading_of bytes → cause ≢ Digest
 no_digest bytes place cause e = by_cause (length bytes) (told bytes) place cause (told_other bytes) e
+
+begun_by : {A : Type 0} (head : Result A ImageFault) (f : A → Result Told ImageFault) (size : ℕ) (space : Space) (txid : ℕ) → answer size (head >>= f) ≡ Image space txid → is_ok head ≡ true
+begun_by (Ok x) f size space txid e = refl
+begun_by (Err fault) f size space txid e = absurd (cc e)
+
+-- the bytes of an image begin as one
+pub image_begun : (bytes : List ℕ) (space : Space) (txid : ℕ) → reading_of bytes ≡ Image space txid → is_ok (head_at bytes) ≡ true
+unfolding told
+image_begun bytes space txid e = begun_by (head_at bytes) _ (length bytes) space txid e

@@ -1,16 +1,18 @@
 -- The right answer, by what the bytes are read as.
-use Rattle.std.proofs.Common.{◌≡◌, ℕ, List, Ok, Err, subst}
+use Rattle.std.proofs.Common.{◌≡◌, ℕ, true, List, Ok, Err, refl, subst}
+use Rattle.std.specs.Prelude.{is_ok}
 use Rattle.ns_tree.specs.declared.inode.Row.{Row}
 use Rattle.ns_tree.specs.Space.{Space}
 use Rattle.ns_image.specs.declared.image_cause.ImageCause.{ImageCause}
 use Rattle.ns_image.specs.declared.answer.ReadImage.{ReadImage}
 use Rattle.ns_image.specs.declared.answer.ReadImage.TheVariants.{Image, BadImage}
 use Rattle.ns_image.specs.declared.answer.Unread.TheVariants.{BadBytes as Wrong}
-use Rattle.ns_image.specs.Reading.{reading_of}
+use Rattle.ns_image.specs.Reading.{head_at, reading_of}
 use Rattle.ns_image.specs.Rows.{HasRead}
 use Rattle.list_oiv.specs.declared.image_listing.ImageListing.{ImageListing}
 use Rattle.list_oiv.specs.declared.image_listing.ImageListing.TheVariants.{Text, BadBytes, OutOfMemory}
 use Rattle.list_oiv.specs.Listed.{IsAnswer, IsListed, GivesText, GivesFault}
+use Rattle.list_oiv.proofs.NoDigest.{image_begun}
 
 text_given : (tell : List Row → List ℕ) (space : Space) (txid : ℕ) (given : ImageListing) → IsAnswer tell (Image space txid) given → GivesText (tell space.pairs) given
 text_given tell space txid (Text text) h = h
@@ -46,6 +48,13 @@ module _ {S : Type 0} (has_taken : S → List Row → Type 0) where
   pub some_taken : (read : ReadImage) (sink : S) → HasRead has_taken read (Ok sink) → (rows : List Row) × has_taken sink rows
   some_taken (Image space txid) sink h = (space.pairs, h)
   some_taken (BadImage place cause) sink h = absurd h
+
+  pub rows_begun : (bytes : List ℕ) (sink : S) → HasRead has_taken (reading_of bytes) (Ok sink) → is_ok (head_at bytes) ≡ true
+  rows_begun bytes sink h = by (reading_of bytes) refl h
+    where
+      by : (read : ReadImage) → reading_of bytes ≡ read → HasRead has_taken read (Ok sink) → is_ok (head_at bytes) ≡ true
+      by (Image space txid) e given = image_begun bytes space txid e
+      by (BadImage place cause) e given = absurd given
 
   pub rows_told : (tell : List Row → List ℕ) (read : ReadImage) (sink : S) (given : ImageListing) → HasRead has_taken read (Ok sink)
       → ((space : Space) (txid : ℕ) → has_taken sink space.pairs → IsAnswer tell (Image space txid) given) → IsAnswer tell read given

@@ -1,11 +1,11 @@
 //! The listings of an image.
-ghost use Rattle.std.specs.Prelude.{◌≡◌, ◌≢◌, ℕ, List};
+ghost use Rattle.std.specs.Prelude.{◌≡◌, ◌≢◌, ℕ, true, List, is_ok};
 ghost use Rattle.ns_tree.specs.declared.inode.Row.{Row};
 ghost use Rattle.ns_tree.specs.Space.{Space};
 ghost use Rattle.ns_image.specs.declared.image_cause.ImageCause.{ImageCause};
 ghost use Rattle.ns_image.specs.declared.image_cause.ImageCause.TheVariants as image;
 ghost use Rattle.ns_image.specs.declared.answer.ReadImage.TheVariants as readings;
-ghost use Rattle.ns_image.specs.Reading.{reading_of};
+ghost use Rattle.ns_image.specs.Reading.{head_at, reading_of};
 ghost use Rattle.list_oiv.specs.Delimited.{delimited};
 ghost use Rattle.list_oiv.specs.Sizes.{sizes};
 ghost use Rattle.list_oiv.specs.Entries.{rows_json};
@@ -20,10 +20,11 @@ use crate::tally::Tally;
 use ns_image::{ImageCause, Unread, read_rows};
 use std::alloc::Global;
 
-// The answer for bytes that aren't an image.
+// The answer for bytes that aren't an image. Takes no memory.
 fn fault_answer(place: usize, cause: ImageCause) -> ImageListing
     requires { cause ≢ image.Digest }
-    ensures { (tell : List Row → List ℕ) → IsAnswer tell (readings.BadImage place cause) result }
+    ensures told { (tell : List Row → List ℕ) → IsAnswer tell (readings.BadImage place cause) result }
+    ensures memory { result ≢ ImageListing.OutOfMemory }
 {
     ImageListing::BadBytes {
         place: place as u64,
@@ -44,7 +45,8 @@ fn text_answer<T: RowText>(alloc: Global, rows: T) -> ImageListing
 
 // What is told of the rows of an image. Where a fault comes later, what was made so far is let go.
 fn answer<T: RowText>(alloc: Global, bytes: &[u8]) -> ImageListing
-    ensures { IsListed T.tell bytes.now result }
+    ensures right { IsListed T.tell bytes.now result }
+    ensures head { result ≡ ImageListing.OutOfMemory → is_ok (head_at bytes.now) ≡ true }
 {
     match read_rows::<T>(alloc, bytes) {
         Ok(rows) => text_answer(alloc, rows),
@@ -64,6 +66,8 @@ pub fn list_delimited(alloc: Global, bytes: &[u8]) -> ImageListing
     ensures text { (space : Space) (txid : ℕ) → reading_of bytes.now ≡ readings.Image space txid → GivesText (delimited space.pairs) result }
     // Other bytes are told by their first fault.
     ensures fault { (place : ℕ) (cause : ImageCause) → reading_of bytes.now ≡ readings.BadImage place cause → GivesFault place cause result }
+    // Bytes that don't begin as an image take no memory.
+    ensures head { result ≡ ImageListing.OutOfMemory → is_ok (head_at bytes.now) ≡ true }
 {
     answer::<Lines>(alloc, bytes)
 }
@@ -79,6 +83,8 @@ pub fn sizes(alloc: Global, bytes: &[u8]) -> ImageListing
     ensures text { (space : Space) (txid : ℕ) → reading_of bytes.now ≡ readings.Image space txid → GivesText (sizes space.pairs) result }
     // Other bytes are told by their first fault.
     ensures fault { (place : ℕ) (cause : ImageCause) → reading_of bytes.now ≡ readings.BadImage place cause → GivesFault place cause result }
+    // Bytes that don't begin as an image take no memory.
+    ensures head { result ≡ ImageListing.OutOfMemory → is_ok (head_at bytes.now) ≡ true }
 {
     answer::<Tally>(alloc, bytes)
 }
@@ -93,6 +99,8 @@ pub fn json(alloc: Global, bytes: &[u8]) -> ImageListing
     ensures text { (space : Space) (txid : ℕ) → reading_of bytes.now ≡ readings.Image space txid → GivesText (rows_json space.pairs) result }
     // Other bytes are told by their first fault.
     ensures fault { (place : ℕ) (cause : ImageCause) → reading_of bytes.now ≡ readings.BadImage place cause → GivesFault place cause result }
+    // Bytes that don't begin as an image take no memory.
+    ensures head { result ≡ ImageListing.OutOfMemory → is_ok (head_at bytes.now) ≡ true }
 {
     answer::<Entries>(alloc, bytes)
 }

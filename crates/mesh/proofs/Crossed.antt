@@ -73,9 +73,9 @@ marked_of (suc (suc c)) l = absurd (omega (arith, l))
 
 copied_of : (c : ℕ) → c < 2 → AreCopied (plan_of crossed c) (record_of crossed c)
 unfolding crossed
-copied_of zero l node number r e asked = absurd (contains_none _ e)
-copied_of (suc zero) l node number r e asked = absurd (contains_none _ e)
-copied_of (suc (suc c)) l node number r e asked = absurd (omega (arith, l))
+copied_of zero l node r = omega arith
+copied_of (suc zero) l node r = omega arith
+copied_of (suc (suc c)) l node r = absurd (omega (arith, l))
 
 callers_of : (i : ℕ) → i < 2 → CallersWithin 2 (history_at crossed i)
 unfolding crossed CallersWithin

@@ -9,7 +9,7 @@ use Rattle.journal_core.specs.declared.reply.Reply.TheVariants as reply
 use Rattle.journal_core.specs.declared.heard.Heard.TheVariants as heard
 use Rattle.writer_core.specs.declared.task.Task.{Task}
 use Rattle.writer_core.specs.Views.{WriterView}
-use Rattle.writer_core.specs.Writer.{new_writer, HasBody, writer_begun, next_call, writer_heard}
+use Rattle.writer_core.specs.Writer.{new_writer, HasBody, writer_begun}
 use Rattle.writer_core.proofs.Plain.{plain_heard}
 use Rattle.journal_history.specs.declared.node_ask.NodeAsk.{NodeAsk}
 use Rattle.journal_history.specs.declared.node_ask.NodeAsk.TheVariants.{Act}
@@ -37,6 +37,7 @@ use Rattle.mesh.specs.Matches.{reaches, reached, lines_of, StandsFor, IsSame, Ar
 use Rattle.mesh.specs.Agree.{Agrees, operator_of, history_at, record_of, plan_of}
 use Rattle.mesh.specs.Order.{was_muted}
 use Rattle.mesh.proofs.Lists.{same_test}
+use Rattle.mesh.proofs.CopyLaws.{copy_named}
 use Rattle.mesh.proofs.Shared.{In}
 use Rattle.mesh.proofs.OneOwner.{lines_out}
 use Rattle.run_safety.proofs.Fair.{IsTold}
@@ -283,10 +284,11 @@ module _ (m : Mesh) (c : ℕ) (a : Agrees m) (mine : c < operator_of m) where
       record_told rs (maker_hears mk k t) (p + 1) (before ++ Call k q t ∷ []) plan (noted_at m c p before k (Call k q t) ss) (append_assoc before (Call k q t ∷ []) rs ∙ whole) w.1 d.1 i.1
       (maker_hears_stands mk before (entries ss) (entries (noted_at m c p before k (Call k q t) ss)) k q t d.0 (call_noted p before rs k q t ss whole w.0.0 w.0.1 (λ e. cc e) (same_test k k refl)) h)
   record_told (Late k q ∷ rs) mk p before plan ss whole w d i h =
+      let named = copy_named plan before k q i.0 in
       record_told rs mk (p + 1) (before ++ Late k q ∷ []) plan (noted_at m c p before k (Late k q) ss) (append_assoc before (Late k q ∷ []) rs ∙ whole) w.1 d i.1
       (record {
         bodies = h.bodies;
-        writer = copy_stands n c before (entries ss) (entries (noted_at m c p before k (Late k q) ss)) mk.writer k (i.0.0 - 1) q i.0.2.1 (copy_noted p before rs k q ss whole w.0.0 w.0.1) h.writer;
+        writer = copy_stands n c before (entries ss) (entries (noted_at m c p before k (Late k q) ss)) mk.writer k (named.0 - 1) q named.2.1 (copy_noted p before rs k q ss whole w.0.0 w.0.1) h.writer;
         rests = h.rests;
       })
   record_told (Operator k ask done ∷ rs) mk p before plan ss whole w d i h = absurd d

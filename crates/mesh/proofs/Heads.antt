@@ -17,6 +17,7 @@ use Rattle.mesh.specs.Matches.{reaches, reached, lines_of, IsSame, AreSame, Call
 use Rattle.mesh.specs.Agree.{Agrees, operator_of, history_at, record_of, plan_of}
 use Rattle.mesh.specs.Owners.{wins, owns}
 use Rattle.mesh.proofs.Lists.{Alike, alike, same_test}
+use Rattle.mesh.proofs.CopyLaws.{copy_named}
 use Rattle.mesh.proofs.Shared.{In}
 use Rattle.mesh.proofs.Senders.{Sends, sender_owns}
 
@@ -96,7 +97,7 @@ late_sends plan before (Call i p t ∷ rs) k q m (inl e) = absurd (cc e)
 late_sends plan before (Call i p t ∷ rs) k q m (inr x) = subst (Sends q) (append_assoc before (Call i p t ∷ []) rs) (late_sends plan (before ++ Call i p t ∷ []) rs k q m.1 x)
 late_sends plan before (Late i p ∷ rs) k q m (inl e) =
     let same : p ≡ q = cc e in
-    sends_left q before (Late i p ∷ rs) (subst (λ (z : Request). Sends z before) same (called_sends i (m.0.0 - 1) p before m.0.2.1))
+    sends_left q before (Late i p ∷ rs) (subst (λ (z : Request). Sends z before) same (let c = copy_named plan before i p m.0 in called_sends i (c.0 - 1) p before c.2.1))
 late_sends plan before (Late i p ∷ rs) k q m (inr x) = subst (Sends q) (append_assoc before (Late i p ∷ []) rs) (late_sends plan (before ++ Late i p ∷ []) rs k q m.1 x)
 late_sends plan before (Operator i p d ∷ rs) k q m (inl e) = absurd (cc e)
 late_sends plan before (Operator i p d ∷ rs) k q m (inr x) = subst (Sends q) (append_assoc before (Operator i p d ∷ []) rs) (late_sends plan (before ++ Operator i p d ∷ []) rs k q m x)

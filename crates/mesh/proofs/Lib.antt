@@ -29,3 +29,4 @@ pub mod Crossed
 pub mod Tailed
 pub mod CallLists
 pub mod MarkTests
+pub mod CopyLaws

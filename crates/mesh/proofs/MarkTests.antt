@@ -9,7 +9,7 @@ use Rattle.journal_history.specs.declared.mark.MarkKind.TheVariants as kind
 use Rattle.mesh.specs.Marks.{mark, same_kind, is_marked}
 use Rattle.mesh.proofs.Lists.{contains_cases, contains_head, contains_tail, contains_none, same_test}
 
-kind_is : (a b : MarkKind) → same_kind a b ≡ true → a ≡ b
+pub kind_is : (a b : MarkKind) → same_kind a b ≡ true → a ≡ b
 unfolding same_kind
 kind_is kind.Dropped kind.Dropped e = refl
 kind_is kind.Muted kind.Muted e = refl

@@ -19,7 +19,6 @@ use Rattle.mesh.specs.Agree.{Agrees, history_at, record_of, plan_of}
 use Rattle.mesh.specs.Owners.{wins, owns}
 use Rattle.mesh.specs.Order.{placed_from, place_of, key_of, is_below, tags_of, blocks_cut, blocks_from, put_block, sorted, entries_in, epoch_order}
 use Rattle.mesh.specs.Examples.{logged, tailed, tailed_order}
-use Rattle.mesh.proofs.Lists.{contains_none}
 use Rattle.mesh.proofs.Crossed.{unmarked}
 
 pub tailed_epochs : epoch_order tailed ≡ tailed_order
@@ -55,9 +54,9 @@ marked_of (suc (suc c)) l = absurd (omega (arith, l))
 
 copied_of : (c : ℕ) → c < 2 → AreCopied (plan_of tailed c) (record_of tailed c)
 unfolding tailed
-copied_of zero l node number r e asked = absurd (contains_none _ e)
-copied_of (suc zero) l node number r e asked = absurd (contains_none _ e)
-copied_of (suc (suc c)) l node number r e asked = absurd (omega (arith, l))
+copied_of zero l node r = omega arith
+copied_of (suc zero) l node r = omega arith
+copied_of (suc (suc c)) l node r = absurd (omega (arith, l))
 
 callers_of : (i : ℕ) → i < 1 → CallersWithin 2 (history_at tailed i)
 unfolding tailed CallersWithin

@@ -1,4 +1,5 @@
--- Worked meshes: takeovers that crossed, a log without a body, and a caller that tails.
+-- Worked meshes: takeovers that crossed, a log without a body, and a caller that tails; and records
+-- whose late copies are too few, or come too early.
 use Rattle.std.specs.Prelude.{ℕ, false, List, [], ◌∷◌, None}
 use Rattle.journal_core.specs.Views.{HeadView, BatchView}
 use Rattle.journal_core.specs.declared.request.Request.{Request}
@@ -11,10 +12,13 @@ use Rattle.journal_history.specs.declared.node_ask.NodeAsk.TheVariants.{Act}
 use Rattle.journal_history.specs.declared.node_ask.NodeAnswer.TheVariants.{Replied}
 use Rattle.journal_history.specs.declared.history_line.HistoryLine.{HistoryLine}
 use Rattle.journal_history.specs.declared.record.Record.{Record}
-use Rattle.journal_history.specs.declared.record.Record.TheVariants.{Call}
+use Rattle.journal_history.specs.declared.record.Record.TheVariants.{Call, Late}
 use Rattle.journal_history.specs.declared.record.Told.TheVariants as told
+use Rattle.journal_history.specs.declared.mark.Mark.{Mark}
+use Rattle.journal_history.specs.declared.mark.MarkKind.TheVariants as kind
 use Rattle.journal_history.specs.Entries.{Answer, Heard, Entry}
 use Rattle.mesh.specs.declared.whole.Mesh.{Mesh}
+use Rattle.mesh.specs.Marks.{mark}
 
 -- a call that was answered, as its node lists it, as its caller does, and as an entry
 abbrev pub listed : ℕ → Request → Reply → HistoryLine
@@ -108,3 +112,15 @@ unfoldable pub tailed_order : List Entry
 tailed_order =
     answered 1 0 (request.NewEpoch 1) promised ∷ answered 1 0 (request.Start (first_head 1 0) 1) reply.Ok
     ∷ answered 1 0 (request.Journal (first_head 2 0) 1 (batch_at 1 start_record)) reply.Ok ∷ answered 1 0 (request.Journal (first_head 3 1) 1 (batch_at 2 logged)) reply.Ok ∷ []
+
+-- ## Late copies
+-- the first two calls are to be copied; both ask the same
+unfoldable pub two_marks : List Mark
+two_marks = mark 1 1 kind.Late ∷ mark 1 2 kind.Late ∷ []
+
+unfoldable pub copied_once : List Record
+copied_once = Call 1 request.Manifest told.Silent ∷ Call 1 request.Manifest told.Silent ∷ Late 1 request.Manifest ∷ []
+
+-- the second copy comes before the second call
+unfoldable pub copied_early : List Record
+copied_early = Call 1 request.Manifest told.Silent ∷ Late 1 request.Manifest ∷ Late 1 request.Manifest ∷ Call 1 request.Manifest told.Silent ∷ []

@@ -1,7 +1,9 @@
 -- Marks of a plan, and a record that goes by them.
-use Rattle.std.specs.Prelude.{◌≡◌, ◌≢◌, ℕ, ◌+◌, ◌-◌, ◌≤◌, ◌↔◌, ◌==◌, ◌&&◌, Bool, true, false, List, [], ◌∷◌, ◌++◌, length, Some, slice_get, Contains, if◌then◌else◌}
-use Rattle.std.specs.List.{list_any}
+use Rattle.std.specs.Prelude.{◌≡◌, ◌≢◌, ℕ, ◌+◌, ◌-◌, ◌<◌, ◌≤◌, ◌↔◌, ◌==◌, ◌&&◌, Bool, true, false, List, [], ◌∷◌, ◌++◌, length, Option, Some, None}
+use Rattle.std.specs.Prelude.{slice_get, Contains, if◌then◌else◌}
+use Rattle.std.specs.List.{list_any, count_by}
 use Rattle.journal_core.specs.declared.request.Request.{Request}
+use Rattle.journal_history.specs.Same.{same_request}
 use Rattle.journal_history.specs.declared.record.Record.{Record}
 use Rattle.journal_history.specs.declared.record.Record.TheVariants.{Call, Late, Operator, Outcome}
 use Rattle.journal_history.specs.declared.record.Told.{Told}
@@ -46,9 +48,36 @@ IsAsMarked plan node number t =
     ((t ≡ told.Dropped) ↔ Contains plan (mark node number kind.Dropped))
     × (t ≢ told.Dropped → (t ≡ told.Muted) ↔ Contains plan (mark node number kind.Muted))
 
--- a late copy is of a call that stands before it and that the plan marks
+-- the line is a late copy of this request to this node
+unfoldable pub is_copy_of : ℕ → Request → Record → Bool
+is_copy_of node r (Late k q) = (k == node) && same_request q r
+is_copy_of node r (Call k q told) = false
+is_copy_of node r (Operator k ask done) = false
+is_copy_of node r (Outcome text) = false
+
+-- how many late copies of this request came to this node
+abbrev pub copies_of : ℕ → Request → List Record → ℕ
+copies_of node r rs = count_by (is_copy_of node r) rs
+
+-- what the call with this number to this node asked, where these lines have it
+unfoldable pub asked_in : ℕ → ℕ → List Record → Option Request
+asked_in node number rs = if number == 0 then None else slice_get (calls_to node rs) (number - 1)
+
+unfoldable pub is_request : Request → Option Request → Bool
+is_request r (Some q) = same_request q r
+is_request r None = false
+
+-- the mark has a call to this node copied that asked this
+unfoldable pub is_late_of : ℕ → Request → List Record → Mark → Bool
+is_late_of node r rs m = same_kind m.kind kind.Late && ((m.node == node) && is_request r (asked_in m.node m.number rs))
+
+-- how many late marks are of calls among these lines that asked this of this node
+abbrev pub marked_late : List Mark → ℕ → Request → List Record → ℕ
+marked_late plan node r rs = count_by (is_late_of node r rs) plan
+
+-- A late copy is of a call that stands before it and that has a late mark without a copy yet.
 abbrev pub IsCopy : List Mark → List Record → ℕ → Request → Type 0
-IsCopy plan before node r = (number : ℕ) × Contains plan (mark node number kind.Late) × Asked node number r before
+IsCopy plan before node r = copies_of node r before < marked_late plan node r before
 
 -- the record goes by the plan, where these lines stand before it
 unfoldable pub IsMarked : List Mark → List Record → List Record → Type 0
@@ -58,6 +87,7 @@ IsMarked plan before (Late k r ∷ rs) = IsCopy plan before k r × IsMarked plan
 IsMarked plan before (Operator k ask done ∷ rs) = IsMarked plan (before ++ Operator k ask done ∷ []) rs
 IsMarked plan before (Outcome text ∷ rs) = IsMarked plan (before ++ Outcome text ∷ []) rs
 
--- each late mark that came to its call has its copy
+-- Each late mark that came to its call has a copy of its own: two marks of calls that asked the
+-- same of one node have two.
 abbrev pub AreCopied : List Mark → List Record → Type 0
-AreCopied plan rs = (node number : ℕ) (r : Request) → Contains plan (mark node number kind.Late) → Asked node number r rs → Contains rs (Late node r)
+AreCopied plan rs = (node : ℕ) (r : Request) → marked_late plan node r rs ≤ copies_of node r rs

@@ -7,6 +7,7 @@ pub mod Deciding
 pub mod LineLaws
 pub mod MatchLaws
 pub mod KeyLaws
+pub mod DueLaws
 pub mod MarkLaws
 pub mod Chores
 pub mod Leading

@@ -1,15 +1,16 @@
 -- A record that goes by a plan, line by line.
-use Rattle.std.proofs.Common.{◌≡◌, ◌≢◌, ℕ, suc, ◌+◌, ◌-◌, ◌<◌, ◌≤◌, ◌==◌, List, [], ◌∷◌, ◌++◌, Bool, true, false, cond, not, Contains, length, refl}
-use Rattle.std.proofs.Common.{sym, ap, ◌∙◌, subst, arith, get_or, set, take, drop, Some, inl, inr, ◌⊎◌, Decides, length-append, append-nil, replicate}
-use Rattle.std.proofs.Common.{take-append-drop}
-use Rattle.std.specs.Prelude.{slice_get, unwrap_or, ◌&&◌, ◌||◌}
+use Rattle.std.proofs.Common.{◌≡◌, ◌≢◌, ℕ, zero, suc, ◌+◌, ◌-◌, ◌<◌, ◌≤◌, ◌^◌, ◌==◌, List, [], ◌∷◌, ◌++◌, Bool, true, false, cond, not, Contains, Option, Some, None, length, refl}
+use Rattle.std.proofs.Common.{sym, ap, ◌∙◌, subst, arith, get_or, set, take, drop, inl, inr, ◌⊎◌, Decides, length-append, append-nil, replicate, nat_lt}
+use Rattle.std.specs.Prelude.{slice_get, ◌&&◌, ◌||◌}
+use Rattle.std.specs.List.{count_by}
+use Rattle.std.specs.Str.{bytes_eq}
 use Rattle.std.specs.BTreeSet.{contains}
 use Rattle.std.specs.Ordering.{nat_cmp}
-use Rattle.std.proofs.lemmas.Bool.{true≢false, and_parts, and_from, or_cases, eq-eqb, or_left, or_right}
-use Rattle.std.proofs.lemmas.List.{take_more, take_all, drop_all, get_or-set_same, get_or-set_other, length-set, get_or-replicate, length-replicate, get_or_default}
-use Rattle.std.proofs.lemmas.List.Elements.{Contains-push, Contains-push_cases, Contains-append_left}
-use Rattle.std.proofs.lemmas.Option.{slice_get_within}
+use Rattle.std.proofs.lemmas.Bool.{true≢false, and_parts, and_from, cond-true, cond-false, cases_eq, cases_lt, eq-eqb, ne_eqb, eqb-true, ltb-true, lt-ltb}
+use Rattle.std.proofs.lemmas.List.{take_more, drop_all, get_or-set_same, get_or-set_other, length-set, get_or-replicate, length-replicate, get_or_default}
+use Rattle.std.proofs.lemmas.List.Sums.{count_by-le-length}
 use Rattle.journal_core.specs.declared.request.Request.{Request}
+use Rattle.writer_core.proofs.RoundLaws.{count_cons}
 use Rattle.journal_history.specs.declared.node_ask.NodeAsk.{NodeAsk}
 use Rattle.journal_history.specs.declared.record.Record.{Record}
 use Rattle.journal_history.specs.declared.record.Record.TheVariants.{Call, Late, Operator, Outcome}
@@ -18,20 +19,20 @@ use Rattle.journal_history.specs.declared.record.Told.TheVariants as told
 use Rattle.journal_history.specs.declared.mark.Mark.{Mark}
 use Rattle.journal_history.specs.declared.mark.MarkKind.{MarkKind}
 use Rattle.journal_history.specs.declared.mark.MarkKind.TheVariants as kind
-use Rattle.run_safety.proofs.Values.{get_append, get_append_left}
-use Rattle.run_safety.proofs.Oks.{get_append_right}
-use Rattle.mesh.specs.Marks.{mark, calls_to, next_number, IsAsMarked, IsCopy, IsMarked, AreCopied, is_marked}
-use Rattle.mesh.proofs.Lists.{Alike, alike}
+use Rattle.mesh.specs.Marks.{mark, same_kind, calls_to, next_number, asked_in, is_request, is_late_of, marked_late, is_copy_of, copies_of, IsAsMarked, IsCopy, IsMarked, AreCopied, is_marked}
+use Rattle.mesh.proofs.Lists.{Alike, alike, contains_head, contains_tail}
 use Rattle.mesh.proofs.CallLists.{calls_append}
+use Rattle.mesh.proofs.MarkTests.{kind_is, marked_has, has_marked}
+use Rattle.mesh.proofs.CopyLaws.{one_if, one_more, none_more, copy_named}
+use Rattle.mesh_judge.specs.declared.counts.Counts.{Counts}
 use Rattle.mesh_judge.specs.declared.marking.Numbers.{Numbers}
 use Rattle.mesh_judge.specs.declared.marking.MarkTable.{MarkTable}
 use Rattle.mesh_judge.specs.declared.marking.CallTable.{CallTable}
-use Rattle.mesh_judge.specs.declared.request_set.RequestSet.{RequestSet}
-use Rattle.mesh_judge.specs.Keys.{is_ask, has}
-use Rattle.mesh_judge.specs.Marking.{as_marked, KnowsMarks, KnowsPlan, KnowsCalls, HasCopies, LineIsMarked, LineIsCopied}
+use Rattle.mesh_judge.specs.Keys.{is_ask, ask_key, call_key, count_of}
+use Rattle.mesh_judge.specs.Marking.{as_marked, is_late_at, KnowsMarks, KnowsLate, KnowsPlan, KnowsCalls, IsDue, LineIsMarked, LineIsCopied}
 use Rattle.mesh_judge.proofs.Deciding.{front}
-use Rattle.mesh_judge.proofs.KeyLaws.{ask_decided}
-use Rattle.mesh.proofs.MarkTests.{marked_has, has_marked}
+use Rattle.mesh_judge.proofs.KeyLaws.{call_tested}
+use Rattle.mesh_judge.proofs.DueLaws.{none_of, marked_call, marked_stays, copies_more}
 
 -- ## A call is told as it is marked
 not_marked : (ms : List Mark) (k n : ℕ) (kd : MarkKind) → not (is_marked ms k n kd) ≡ true → Contains ms (mark k n kd) → ⊥
@@ -123,52 +124,6 @@ number_fits nodes i most plan before calls low fits known =
     let low2 : i < nodes = omega (arith, low, known.count) in
     let is = known.next i low2 in let fit = calls_fit (i + 1) before in omega (arith, is, fit, fits)
 
--- ## Late copies that may come
--- what was asked may be copied for ever
-pub copy_kept : (plan : List Mark) (before more : List Record) (k : ℕ) (q : Request) → IsCopy plan before k q → IsCopy plan (before ++ more) k q
-copy_kept plan before more k q (number, h, (some, asked)) =
-    (number, h, (some, ap (λ l. slice_get l (number - 1)) (calls_append k before more) ∙ get_append_left (calls_to k before) (calls_to k more) (number - 1) q asked))
-
-copy_last : (plan : List Mark) (before : List Record) (k : ℕ) (q : Request) (t : Told) → Contains plan (mark k (next_number k before) kind.Late) → IsCopy plan (before ++ Call k q t ∷ []) k q
-copy_last plan before k q t h =
-    let at : next_number k before - 1 ≡ length (calls_to k before) + 0 = omega arith in (
-      next_number k before,
-      h,
-      (
-        omega arith,
-        ap (λ l. slice_get l (next_number k before - 1)) (calls_append k before (Call k q t ∷ []) ∙ ap (λ l. calls_to k before ++ l) (own_call k k q t refl))
-            ∙ ap (slice_get (calls_to k before ++ q ∷ [])) at ∙ get_append_right (calls_to k before) (q ∷ []) 0 q refl,
-      ),
-    )
-
--- a copy that may come is of an earlier call, or of this line's
-abbrev IsOfLine : List Mark → List Record → Record → ℕ → Request → Type 0
-IsOfLine plan before r k q = Contains plan (mark k (next_number k before) kind.Late) × (slice_get (calls_to k (r ∷ [])) 0 ≡ Some q)
-
-copy_from : (plan : List Mark) (before : List Record) (r : Record) (k : ℕ) (q : Request) → IsCopy plan (before ++ r ∷ []) k q → IsCopy plan before k q ⊎ IsOfLine plan before r k q
-copy_from plan before r k q (number, h, (some, asked)) =
-    by (get_append (calls_to k before) (calls_to k (r ∷ [])) (number - 1) q (ap (λ l. slice_get l (number - 1)) (sym (calls_append k before (r ∷ []))) ∙ asked))
-  where
-    by : (slice_get (calls_to k before) (number - 1) ≡ Some q) ⊎ ((j : ℕ) × (number - 1 ≡ length (calls_to k before) + j)
-        × (slice_get (calls_to k (r ∷ [])) j ≡ Some q)) → IsCopy plan before k q ⊎ IsOfLine plan before r k q
-    by (inl g) = inl (number, h, (some, g))
-    by (inr (j, at, g)) =
-        let few = calls_fit k (r ∷ []) in let within = slice_get_within (calls_to k (r ∷ [])) j q g in
-        let first : j ≡ 0 = omega (arith, few, within) in
-        let n : number ≡ next_number k before = omega (arith, at, first, some) in
-        inr (subst (λ x. Contains plan (mark k x kind.Late)) n h, subst (λ x. slice_get (calls_to k (r ∷ [])) x ≡ Some q) first g)
-
-called : (n : ℕ) (p : Request) (t : Told) (k : ℕ) (q : Request) → slice_get (calls_to k (Call n p t ∷ [])) 0 ≡ Some q → (n ≡ k) × (p ≡ q)
-unfolding Alike
-called n p t k q e = by (alike n k)
-  where
-    by : Alike n k → (n ≡ k) × (p ≡ q)
-    by (inl on) = (on.1, ap (λ o. unwrap_or o p) (ap (λ l. slice_get l 0) (sym (own_call k n p t on.1)) ∙ e))
-    by (inr off) = absurd (let none : slice_get [] 0 ≡ Some q = ap (λ l. slice_get l 0) (sym (other_call k n p t off.0)) ∙ e in cc none)
-
-nothing_called : (k : ℕ) (r : Record) (q : Request) → calls_to k (r ∷ []) ≡ [] → slice_get (calls_to k (r ∷ [])) 0 ≡ Some q → ⊥
-nothing_called k r q off e = let none : slice_get [] 0 ≡ Some q = ap (λ l. slice_get l 0) (sym off) ∙ e in cc none
-
 -- ## A node's marks
 at_node : (nodes node : ℕ) → (1 ≤ node) × (node ≤ nodes) → (node - 1 < nodes) × (node - 1 + 1 ≡ node)
 at_node nodes node (low, high) = (omega (arith, low, high), omega (arith, low))
@@ -181,35 +136,6 @@ marked_at nodes node number n plan kd lists x low known is e =
     ap (λ (y : Numbers). contains nat_cmp y.set number) is ∙ known.each (node - 1) number x a.0 ∙ ap (λ k. is_marked plan k number kd) a.1 ∙ ap (λ m. is_marked plan node m kd) e
 
 -- ## One more line
--- after a call, whose request is kept where it is marked as late
-late_more : (plan : List Mark) (before : List Record) (n : ℕ) (p : Request) (t : Told) (k : ℕ) (q : Request) (b x y : Bool)
-    → b ≡ is_marked plan n (next_number n before) kind.Late → y ≡ ((b && is_ask k q n p) || x)
-    → Decides x (IsCopy plan before k q) → Decides y (IsCopy plan (before ++ Call n p t ∷ []) k q)
-late_more plan before n p t k q b x y marked is d = (λ e. forth (or_cases (b && is_ask k q n p) x (sym is ∙ e)), λ h. is ∙ back (copy_from plan before (Call n p t) k q h))
-  where
-    forth : ((b && is_ask k q n p) ≡ true) ⊎ (x ≡ true) → IsCopy plan (before ++ Call n p t ∷ []) k q
-    forth (inl f) =
-        let parts = and_parts b (is_ask k q n p) f in let same = (ask_decided k n q p).0 parts.1 in
-        subst (λ i. IsCopy plan (before ++ Call n p t ∷ []) i q) (sym same.0)
-        (subst (IsCopy plan (before ++ Call n p t ∷ []) n) (sym same.1) (copy_last plan before n p t (marked_has n (next_number n before) kind.Late plan (sym marked ∙ parts.0))))
-    forth (inr f) = copy_kept plan before (Call n p t ∷ []) k q (d.0 f)
-
-    back : IsCopy plan before k q ⊎ IsOfLine plan before (Call n p t) k q → ((b && is_ask k q n p) || x) ≡ true
-    back (inl g) = or_right (b && is_ask k q n p) x (d.1 g)
-    back (inr g) =
-        let own = called n p t k q g.1 in
-        or_left (b && is_ask k q n p) x (and_from b (is_ask k q n p)
-        (marked ∙ has_marked n (next_number n before) kind.Late plan
-        (subst (λ i. Contains plan (mark i (next_number i before) kind.Late)) (sym own.0) g.0)) ((ask_decided k n q p).1 (sym own.0, sym own.1)))
-
-late_stays : (plan : List Mark) (before : List Record) (r : Record) (k : ℕ) (q : Request) (x : Bool) → calls_to k (r ∷ []) ≡ []
-    → Decides x (IsCopy plan before k q) → Decides x (IsCopy plan (before ++ r ∷ []) k q)
-late_stays plan before r k q x none d = (λ e. copy_kept plan before (r ∷ []) k q (d.0 e), λ h. back (copy_from plan before r k q h))
-  where
-    back : IsCopy plan before k q ⊎ IsOfLine plan before r k q → x ≡ true
-    back (inl g) = d.1 g
-    back (inr g) = absurd (nothing_called k r q none g.1)
-
 -- the number of the call that comes next to a node
 pub number_is : (nodes node number : ℕ) (plan : List Mark) (before : List Record) (calls : CallTable) → (1 ≤ node) × (node ≤ nodes)
     → number ≡ get_or calls.next.items (node - 1) number → KnowsCalls nodes plan before calls → number ≡ next_number node before
@@ -217,22 +143,33 @@ number_is nodes node number plan before calls low is known =
     let a = at_node nodes node low in let inside : node - 1 < length calls.next.items = omega (arith, low.0, low.1, known.count) in
     is ∙ get_or_default calls.next.items (node - 1) number 0 inside ∙ known.next (node - 1) a.0 ∙ ap (λ k. next_number k before) a.1
 
-pub calls_add : (nodes node number : ℕ) (plan : List Mark) (before : List Record) (p : Request) (t : Told) (old new : CallTable) (marks : MarkTable) (numbers : Numbers) → (1 ≤ node) × (node ≤ nodes)
-    → number ≡ get_or old.next.items (node - 1) number → numbers ≡ get_or marks.late.items (node - 1) numbers → new.next.items ≡ set old.next.items (node - 1) (number + 1)
-    → ((k : ℕ) (r : Request) → has new.late k r ≡ ((contains nat_cmp numbers.set number && is_ask k r node p) || has old.late k r))
+-- a call, of which as many copies are due as it has late marks
+pub calls_add : (nodes node number many : ℕ) (plan : List Mark) (before : List Record) (p : Request) (t : Told) (old new : CallTable) (marks : MarkTable) → (1 ≤ node) × (node ≤ nodes)
+    → number ≡ get_or old.next.items (node - 1) number → many ≡ count_of marks.late (call_key node number) → new.next.items ≡ set old.next.items (node - 1) (number + 1)
+    → ((k : ℕ) (r : Request) → count_of new.due (ask_key k r) ≡ count_of old.due (ask_key k r) + cond (is_ask k r node p) many 0)
     → KnowsPlan nodes plan marks → KnowsCalls nodes plan before old → KnowsCalls nodes plan (before ++ Call node p t ∷ []) new
-unfolding Alike
-calls_add nodes node number plan before p t old new marks numbers low is is_numbers grown more marked known = record {
+unfolding Alike is_copy_of
+calls_add nodes node number many plan before p t old new marks low is many_is grown more marked known = record {
   count = ap length grown ∙ length-set old.next.items (node - 1) (number + 1) ∙ known.count;
   next = λ i less. next i less (alike node (i + 1));
-  late = λ k q.
-      late_more plan before node p t k q (contains nat_cmp numbers.set number) (has old.late k q) (has new.late k q)
-      (marked_at nodes node number (next_number node before) plan kind.Late marks.late.items numbers low marked.late is_numbers
-      (number_is nodes node number plan before old low is known)) (more k q) (known.late k q);
+  due = λ k q. due k q (more k q) (known.due k q) (marked_call plan k node p q t before) (none_more (is_copy_of k q) before (Call node p t) refl);
 }
   where
     inside : node - 1 < length old.next.items
     inside = omega (arith, low.0, low.1, known.count)
+
+    wanted : many ≡ count_by (is_late_at node (next_number node before)) plan
+    wanted = many_is ∙ marked.late node number ∙ ap (λ (n : ℕ). count_by (is_late_at node n) plan) (number_is nodes node number plan before old low is known)
+
+    due : (k : ℕ) (q : Request) → count_of new.due (ask_key k q) ≡ count_of old.due (ask_key k q) + cond (is_ask k q node p) many 0
+        → count_of old.due (ask_key k q) + copies_of k q before ≡ marked_late plan k q before
+        → marked_late plan k q (before ++ Call node p t ∷ []) ≡ marked_late plan k q before + cond (is_ask k q node p) (count_by (is_late_at node (next_number node before)) plan) 0
+        → copies_of k q (before ++ Call node p t ∷ []) ≡ copies_of k q before
+        → count_of new.due (ask_key k q) + copies_of k q (before ++ Call node p t ∷ []) ≡ marked_late plan k q (before ++ Call node p t ∷ [])
+    due k q e f g h =
+        let same : cond (is_ask k q node p) many 0 ≡ cond (is_ask k q node p) (count_by (is_late_at node (next_number node before)) plan) 0 =
+        ap (λ (n : ℕ). cond (is_ask k q node p) n 0) wanted in
+        omega (arith, e, f, g, h, same)
 
     next : (i : ℕ) → i < nodes → Alike node (i + 1) → get_or new.next.items i 0 ≡ next_number (i + 1) (before ++ Call node p t ∷ [])
     next i less (inl e) =
@@ -244,36 +181,128 @@ calls_add nodes node number plan before p t old new marks numbers low is is_numb
         ∙ sym (number_stays (i + 1) before (Call node p t) (other_call (i + 1) node p t e.0))
 
 calls_stay : (nodes : ℕ) (plan : List Mark) (before : List Record) (r : Record) (calls : CallTable) → ((k : ℕ) → calls_to k (r ∷ []) ≡ [])
-    → KnowsCalls nodes plan before calls → KnowsCalls nodes plan (before ++ r ∷ []) calls
-calls_stay nodes plan before r calls none h = record {
+    → ((k : ℕ) (q : Request) → is_copy_of k q r ≡ false) → KnowsCalls nodes plan before calls → KnowsCalls nodes plan (before ++ r ∷ []) calls
+calls_stay nodes plan before r calls none other h = record {
   count = h.count;
   next = λ i less. h.next i less ∙ sym (number_stays (i + 1) before r (none (i + 1)));
-  late = λ k q. late_stays plan before r k q (has calls.late k q) (none k) (h.late k q);
+  due = λ k q. ap (λ (n : ℕ). count_of calls.due (ask_key k q) + n) (none_more (is_copy_of k q) before r (other k q)) ∙ h.due k q ∙ sym (marked_stays plan k q before r none);
 }
 
--- lines that are no calls
-pub copy_stays : (nodes : ℕ) (plan : List Mark) (before : List Record) (node : ℕ) (r : Request) (calls : CallTable)
-    → KnowsCalls nodes plan before calls → KnowsCalls nodes plan (before ++ Late node r ∷ []) calls
+-- a late copy, which was due
+pub copy_taken : (nodes : ℕ) (plan : List Mark) (before : List Record) (node : ℕ) (r : Request) (old new : CallTable) → new.next.items ≡ old.next.items
+    → ((k : ℕ) (q : Request) → count_of new.due (ask_key k q) + cond (is_ask k q node r) 1 0 ≡ count_of old.due (ask_key k q))
+    → KnowsCalls nodes plan before old → KnowsCalls nodes plan (before ++ Late node r ∷ []) new
 unfolding calls_to
-copy_stays nodes plan before node r calls h = calls_stay nodes plan before (Late node r) calls (λ k. refl) h
+copy_taken nodes plan before node r old new same less h = record {
+  count = ap length same ∙ h.count;
+  next = λ i low. ap (λ (l : List ℕ). get_or l i 0) same ∙ h.next i low ∙ sym (number_stays (i + 1) before (Late node r) refl);
+  due = λ k q. due k q (less k q) (h.due k q) (copies_more k node r q before) (marked_stays plan k q before (Late node r) (λ i. refl));
+}
+  where
+    due : (k : ℕ) (q : Request) → count_of new.due (ask_key k q) + one_if (is_ask k q node r) ≡ count_of old.due (ask_key k q)
+        → count_of old.due (ask_key k q) + copies_of k q before ≡ marked_late plan k q before
+        → copies_of k q (before ++ Late node r ∷ []) ≡ copies_of k q before + one_if (is_ask k q node r)
+        → marked_late plan k q (before ++ Late node r ∷ []) ≡ marked_late plan k q before
+        → count_of new.due (ask_key k q) + copies_of k q (before ++ Late node r ∷ []) ≡ marked_late plan k q (before ++ Late node r ∷ [])
+    due k q e f g h = omega (arith, e, f, g, h)
 
+-- lines that are neither
 pub operator_stays : (nodes : ℕ) (plan : List Mark) (before : List Record) (node : ℕ) (ask : NodeAsk) (done : Bool) (calls : CallTable)
     → KnowsCalls nodes plan before calls → KnowsCalls nodes plan (before ++ Operator node ask done ∷ []) calls
-unfolding calls_to
-operator_stays nodes plan before node ask done calls h = calls_stay nodes plan before (Operator node ask done) calls (λ k. refl) h
+unfolding calls_to is_copy_of
+operator_stays nodes plan before node ask done calls h = calls_stay nodes plan before (Operator node ask done) calls (λ k. refl) (λ k q. refl) h
 
 pub outcome_stays : (nodes : ℕ) (plan : List Mark) (before : List Record) (text : List ℕ) (calls : CallTable) → KnowsCalls nodes plan before calls
     → KnowsCalls nodes plan (before ++ Outcome text ∷ []) calls
-unfolding calls_to
-outcome_stays nodes plan before text calls h = calls_stay nodes plan before (Outcome text) calls (λ k. refl) h
+unfolding calls_to is_copy_of
+outcome_stays nodes plan before text calls h = calls_stay nodes plan before (Outcome text) calls (λ k. refl) (λ k q. refl) h
 
-pub no_calls_yet : (nodes : ℕ) (plan : List Mark) (calls : CallTable) → calls.next.items ≡ replicate nodes 1 → ((k : ℕ) (r : Request) → has calls.late k r ≡ false) → KnowsCalls nodes plan [] calls
+either : (b : Bool) (o : Option Request) → cond b o o ≡ o
+either true o = refl
+either false o = refl
+
+nothing_asked : (k n : ℕ) → asked_in k n [] ≡ None
+unfolding asked_in calls_to
+nothing_asked k n = either (n == 0) None
+
+nothing_late : (k : ℕ) (q : Request) (m : Mark) → is_late_of k q [] m ≡ false
+unfolding is_late_of is_request
+nothing_late k q m =
+    ap (λ (o : Option Request). same_kind m.kind kind.Late && ((m.node == k) && is_request q o)) (nothing_asked m.node m.number) ∙ none_of (same_kind m.kind kind.Late) (m.node == k)
+
+none_called : (plan : List Mark) (k : ℕ) (q : Request) → marked_late plan k q [] ≡ 0
+none_called [] k q = refl
+none_called (m ∷ plan) k q =
+    let here : one_if (is_late_of k q [] m) ≡ 0 = ap one_if (nothing_late k q m) in
+    omega (arith, here, none_called plan k q, count_cons (is_late_of k q []) m plan)
+
+pub no_calls_yet : (nodes : ℕ) (plan : List Mark) (calls : CallTable) → calls.next.items ≡ replicate nodes 1 → ((key : List ℕ) → count_of calls.due key ≡ 0) → KnowsCalls nodes plan [] calls
 unfolding calls_to
 no_calls_yet nodes plan calls first none = record {
   count = ap length first ∙ length-replicate nodes 1;
   next = λ i less. ap (λ l. get_or l i 0) first ∙ get_or-replicate nodes i 1 0 less;
-  late = λ k q. (λ e. absurd (true≢false (sym e ∙ none k q)), λ h. absurd (let e : slice_get [] (h.0 - 1) ≡ Some q = h.2.1 in cc e));
+  due = λ k q. (let e : count_of calls.due (ask_key k q) ≡ 0 = none (ask_key k q) in omega (arith, e, none_called plan k q));
 }
+
+-- no more copies are due than there are marks
+pub due_fits : (nodes : ℕ) (plan : List Mark) (before : List Record) (calls : CallTable) (k : ℕ) (q : Request) → KnowsCalls nodes plan before calls → count_of calls.due (ask_key k q) ≤ length plan
+due_fits nodes plan before calls k q h = let e = h.due k q in omega (arith, e, count_by-le-length (is_late_of k q before) plan)
+
+pub late_fits : (plan : List Mark) (late : Counts) (node number : ℕ) → KnowsLate plan late → count_of late (call_key node number) ≤ length plan
+late_fits plan late node number h = let e = h node number in omega (arith, e, count_by-le-length (is_late_at node number) plan)
+
+pub late_room : (plan : List Mark) (late : Counts) (node number : ℕ) → KnowsLate plan late → length plan + 1 < 2 ^ 64 → count_of late (call_key node number) + 1 < 2 ^ 64
+late_room plan late node number h few = let e = late_fits plan late node number h in omega (arith, e, few)
+
+pub late_next : (plan : List Mark) (i : ℕ) (d : Mark) (late : Counts) → i < length plan → KnowsLate (take i plan ++ get_or plan i d ∷ []) late → KnowsLate (take (i + 1) plan) late
+late_next plan i d late l h = subst (λ ms. KnowsLate ms late) (sym (take_more plan i d l)) h
+
+-- one more mark
+late_counted : (plan : List Mark) (m : Mark) (old new : Counts) → m.kind ≡ kind.Late
+    → ((key : List ℕ) → count_of new key ≡ cond (bytes_eq key (call_key m.node m.number)) (count_of old (call_key m.node m.number) + 1) (count_of old key))
+    → KnowsLate plan old → KnowsLate (plan ++ m ∷ []) new
+unfolding same_kind
+late_counted plan m old new is more h node number =
+    let test : bytes_eq (call_key node number) (call_key m.node m.number) ≡ ((m.node == node) && (m.number == number)) = call_tested node m.node number m.number in
+    let late : is_late_at node number m ≡ ((m.node == node) && (m.number == number)) = ap (λ (x : MarkKind). same_kind x kind.Late && ((m.node == node) && (m.number == number))) is in
+    by (((m.node == node) && (m.number == number))) refl test late (more (call_key node number)) (h node number) (one_more (is_late_at node number) plan m (is_late_at node number m) refl)
+  where
+    by : (b : Bool) → ((m.node == node) && (m.number == number)) ≡ b → bytes_eq (call_key node number) (call_key m.node m.number) ≡ ((m.node == node) && (m.number == number))
+        → is_late_at node number m ≡ ((m.node == node) && (m.number == number))
+        → count_of new (call_key node number) ≡ cond (bytes_eq (call_key node number) (call_key m.node m.number)) (count_of old (call_key m.node m.number) + 1) (count_of old (call_key node number))
+        → count_of old (call_key node number) ≡ count_by (is_late_at node number) plan
+        → count_by (is_late_at node number) (plan ++ m ∷ []) ≡ count_by (is_late_at node number) plan + one_if (is_late_at node number m)
+        → count_of new (call_key node number) ≡ count_by (is_late_at node number) (plan ++ m ∷ [])
+    by true b test late e f g =
+        let parts = and_parts (m.node == node) (m.number == number) b in
+        let a : m.node ≡ node = eqb-true m.node node parts.0 in
+        let c : m.number ≡ number = eqb-true m.number number parts.1 in
+        let there : count_of old (call_key m.node m.number) ≡ count_of old (call_key node number) =
+        ap (λ (i : ℕ). count_of old (call_key i m.number)) a ∙ ap (λ (j : ℕ). count_of old (call_key node j)) c in
+        let now : count_of new (call_key node number) ≡ count_of old (call_key m.node m.number) + 1 =
+        e ∙ ap (λ (x : Bool). cond x (count_of old (call_key m.node m.number) + 1) (count_of old (call_key node number))) (test ∙ b) in
+        let one : one_if (is_late_at node number m) ≡ 1 = ap one_if (late ∙ b) in
+        omega (arith, now, there, f, g, one)
+    by false b test late e f g =
+        let now : count_of new (call_key node number) ≡ count_of old (call_key node number) =
+        e ∙ ap (λ (x : Bool). cond x (count_of old (call_key m.node m.number) + 1) (count_of old (call_key node number))) (test ∙ b) in
+        let none : one_if (is_late_at node number m) ≡ 0 = ap one_if (late ∙ b) in
+        omega (arith, now, f, g, none)
+
+pub late_set : (plan : List Mark) (m : Mark) (old new : Counts) (key : List ℕ) (count : ℕ) → m.kind ≡ kind.Late → key ≡ call_key m.node m.number → count ≡ count_of old key
+    → ((q : List ℕ) → count_of new q ≡ cond (bytes_eq q key) (count + 1) (count_of old q)) → KnowsLate plan old → KnowsLate (plan ++ m ∷ []) new
+late_set plan m old new key count is at was set h = late_counted plan m old new is more h
+  where
+    more : (q : List ℕ) → count_of new q ≡ cond (bytes_eq q (call_key m.node m.number)) (count_of old (call_key m.node m.number) + 1) (count_of old q)
+    more q = set q ∙ ap (λ (x : List ℕ). cond (bytes_eq q x) (count + 1) (count_of old q)) at
+        ∙ ap (λ (n : ℕ). cond (bytes_eq q (call_key m.node m.number)) (n + 1) (count_of old q)) (was ∙ ap (count_of old) at)
+
+pub late_passed : (plan : List Mark) (m : Mark) (late : Counts) → m.kind ≢ kind.Late → KnowsLate plan late → KnowsLate (plan ++ m ∷ []) late
+late_passed plan m late off h node number = h node number ∙ sym (none_more (is_late_at node number) plan m (by (same_kind m.kind kind.Late) refl))
+  where
+    by : (b : Bool) → same_kind m.kind kind.Late ≡ b → (b && ((m.node == node) && (m.number == number))) ≡ false
+    by true e = absurd (off (kind_is m.kind kind.Late e))
+    by false e = refl
 
 -- ## One line by the lists of its node
 pub call_marked : (nodes node number : ℕ) (plan : List Mark) (before : List Record) (calls : CallTable) (marks : MarkTable) (r : Request) (t : Told) (drops mutes : Numbers) (b : Bool)
@@ -287,40 +316,6 @@ call_marked nodes node number plan before calls marks r t drops mutes b low is_d
     subst (λ x. Decides x (IsAsMarked plan node (next_number node before) t))
     (sym (e ∙ ap (λ x. as_marked t x (contains nat_cmp mutes.set number)) d ∙ ap (λ x. as_marked t (is_marked plan node (next_number node before) kind.Dropped) x) m))
     (told_marked plan node (next_number node before) t)
-
--- a call that is marked as late needs its copy
-pub marked_copied : (nodes node number : ℕ) (plan : List Mark) (before lines : List Record) (calls : CallTable) (marks : MarkTable) (r : Request)
-    (t : Told) (lates : Numbers) (b : Bool) → (1 ≤ node) × (node ≤ nodes)
-    → lates ≡ get_or marks.late.items (node - 1) lates → number ≡ get_or calls.next.items (node - 1) number → contains nat_cmp lates.set number ≡ true
-    → KnowsPlan nodes plan marks → KnowsCalls nodes plan before calls
-    → Decides b (Contains lines (Late node r)) → Decides b (LineIsCopied plan before lines (Call node r t))
-marked_copied nodes node number plan before lines calls marks r t lates b low is num on marked known d =
-    let n = number_is nodes node number plan before calls low num known in
-    let m = marked_at nodes node number (next_number node before) plan kind.Late marks.late.items lates low marked.late is n in
-    (λ e h. d.0 e, λ h. d.1 (h (marked_has node (next_number node before) kind.Late plan (sym m ∙ on))))
-
--- ## The copies of a record
-abbrev late_node : Record → ℕ
-late_node (Late k q) = k
-late_node _ = 0
-
-abbrev late_request : Request → Record → Request
-late_request d (Late k q) = q
-late_request d _ = d
-
-pub copies_add : (lines : List Record) (node : ℕ) (r : Request) (old new : RequestSet)
-    → ((k : ℕ) (q : Request) → has new k q ≡ (is_ask k q node r || has old k q)) → HasCopies lines old → HasCopies (lines ++ Late node r ∷ []) new
-copies_add lines node r old new more h k q = (λ e. forth (or_cases (is_ask k q node r) (has old k q) (sym (more k q) ∙ e)), λ g. more k q ∙ back (Contains-push_cases lines (Late node r) (Late k q) g))
-  where
-    forth : (is_ask k q node r ≡ true) ⊎ (has old k q ≡ true) → Contains (lines ++ Late node r ∷ []) (Late k q)
-    forth (inl f) =
-        let same = (ask_decided k node q r).0 f in
-        subst (λ x. Contains (lines ++ Late node r ∷ []) x) (sym (ap (λ i. Late i q) same.0 ∙ ap (Late node) same.1)) (Contains-push lines (Late node r))
-    forth (inr f) = Contains-append_left lines (Late node r ∷ []) (Late k q) ((h k q).0 f)
-
-    back : Contains lines (Late k q) ⊎ (Late node r ≡ Late k q) → (is_ask k q node r || has old k q) ≡ true
-    back (inl g) = or_right (is_ask k q node r) (has old k q) ((h k q).1 g)
-    back (inr e) = or_left (is_ask k q node r) (has old k q) ((ask_decided k node q r).1 (sym (ap late_node e), sym (ap (late_request r) e)))
 
 -- ## Line by line
 -- the lines up to this place go by the plan, just where all do
@@ -364,53 +359,67 @@ pub marked_ends : (plan : List Mark) (i : ℕ) (rs : List Record) → length rs 
 unfolding Marked IsMarked
 marked_ends plan i rs l f = f.0 (subst (IsMarked plan (take i rs)) (sym (drop_all i rs l)) tt)
 
--- ## Each late mark has its copy
--- the record has the copies of those of these calls that are marked as late
-abbrev pub Copied : List Mark → List Record → List Record → Type 0
-Copied plan before rs = (k : ℕ) (q : Request) → IsCopy plan before k q → Contains rs (Late k q)
+-- ## Each late mark has a copy of its own
+-- a copy is due just where it may come
+pub due_decided : (nodes : ℕ) (plan : List Mark) (before : List Record) (calls : CallTable) (k : ℕ) (q : Request) (b : Bool) → b ≡ nat_lt 0 (count_of calls.due (ask_key k q))
+    → KnowsCalls nodes plan before calls → Decides b (IsCopy plan before k q)
+due_decided nodes plan before calls k q b is h =
+    let e = h.due k q in (
+      λ t. (let some : 0 < count_of calls.due (ask_key k q) = ltb-true 0 (count_of calls.due (ask_key k q)) (sym is ∙ t) in omega (arith, e, some)),
+      λ c. is ∙ lt-ltb 0 (count_of calls.due (ask_key k q)) (omega (arith, e, c)),
+    )
 
-pub copied_begin : (plan : List Mark) (rs : List Record) → Copied plan [] rs
+pub is_due : (nodes : ℕ) (plan : List Mark) (before : List Record) (calls : CallTable) (r : Record) → LineIsMarked plan before r → KnowsCalls nodes plan before calls → IsDue calls r
+is_due nodes plan before calls (Late k q) m h = let e = h.due k q in omega (arith, e, m)
+is_due nodes plan before calls (Call k q t) m h = tt
+is_due nodes plan before calls (Operator k a d) m h = tt
+is_due nodes plan before calls (Outcome x) m h = tt
+
+-- none is due just where all came
+pub none_due : (nodes : ℕ) (plan : List Mark) (lines : List Record) (calls : CallTable) (k : ℕ) (q : Request) (t : Told) (b : Bool) → b ≡ (count_of calls.due (ask_key k q) == 0)
+    → KnowsCalls nodes plan lines calls → Decides b (LineIsCopied plan lines (Call k q t))
+none_due nodes plan lines calls k q t b is h =
+    let e = h.due k q in (
+      λ y. (let none : count_of calls.due (ask_key k q) ≡ 0 = eqb-true (count_of calls.due (ask_key k q)) 0 (sym is ∙ y) in omega (arith, e, none)),
+      λ c. is ∙ eq-eqb (count_of calls.due (ask_key k q)) 0 (omega (arith, e, c)),
+    )
+
+-- a request that is marked was asked by a call of the record
+abbrev Calls : List Record → ℕ → Request → Type 0
+Calls rs k q = (t : Told) × Contains rs (Call k q t)
+
+called_line : (rs : List Record) (k i : ℕ) (q : Request) → slice_get (calls_to k rs) i ≡ Some q → Calls rs k q
 unfolding calls_to
-copied_begin plan rs k q (number, h, (some, asked)) = absurd (let e : slice_get [] (number - 1) ≡ Some q = asked in cc e)
-
-others_copied : (plan : List Mark) (before rs : List Record) (r : Record) → ((k : ℕ) → calls_to k (r ∷ []) ≡ []) → Copied plan before rs → Copied plan (before ++ r ∷ []) rs
-others_copied plan before rs r none h k q c = by (copy_from plan before r k q c)
+called_line [] k i q e = absurd (cc e)
+called_line (Call j p t ∷ rs) k i q e = by (cases_eq j k) (λ n f. called_line rs k n q f)
   where
-    by : IsCopy plan before k q ⊎ IsOfLine plan before r k q → Contains rs (Late k q)
-    by (inl g) = h k q g
-    by (inr g) = absurd (nothing_called k r q (none k) g.1)
+    later : Calls rs k q → Calls (Call j p t ∷ rs) k q
+    later c = (c.0, contains_tail (Call j p t) rs (Call k q c.0) c.1)
 
-call_copied : (plan : List Mark) (before rs : List Record) (n : ℕ) (p : Request) (t : Told) → LineIsCopied plan before rs (Call n p t)
-    → Copied plan before rs → Copied plan (before ++ Call n p t ∷ []) rs
-call_copied plan before rs n p t one h k q c = by (copy_from plan before (Call n p t) k q c)
+    own : (n : ℕ) → slice_get (p ∷ calls_to k rs) n ≡ Some q → j ≡ k → ((n : ℕ) → slice_get (calls_to k rs) n ≡ Some q → Calls rs k q) → Calls (Call j p t ∷ rs) k q
+    own zero f at go = (let same : p ≡ q = cc f in (t, contains_head (Call j p t) rs (Call k q t) (ap (λ (n : ℕ). Call n p t) at ∙ ap (λ (x : Request). Call k x t) same)))
+    own (suc n) f at go = later (go n f)
+
+    by : (j ≡ k) ⊎ (j ≢ k) → ((n : ℕ) → slice_get (calls_to k rs) n ≡ Some q → Calls rs k q) → Calls (Call j p t ∷ rs) k q
+    by (inl at) go = own i (subst (λ (l : List Request). slice_get l i ≡ Some q) (cond-true (j == k) (p ∷ calls_to k rs) (calls_to k rs) (eq-eqb j k at)) e) at go
+    by (inr off) go = later (go i (subst (λ (l : List Request). slice_get l i ≡ Some q) (cond-false (j == k) (p ∷ calls_to k rs) (calls_to k rs) (ne_eqb j k off)) e))
+called_line (Late j p ∷ rs) k i q e = let c = called_line rs k i q e in (c.0, contains_tail (Late j p) rs (Call k q c.0) c.1)
+called_line (Operator j a d ∷ rs) k i q e = let c = called_line rs k i q e in (c.0, contains_tail (Operator j a d) rs (Call k q c.0) c.1)
+called_line (Outcome x ∷ rs) k i q e = let c = called_line rs k i q e in (c.0, contains_tail (Outcome x) rs (Call k q c.0) c.1)
+
+-- so all are copied where each call's line is
+pub copied_ends : (plan : List Mark) (rs : List Record) → ((r : Record) → Contains rs r → LineIsCopied plan rs r) → AreCopied plan rs
+copied_ends plan rs each k q = by (cases_lt (copies_of k q rs) (marked_late plan k q rs))
   where
-    by : IsCopy plan before k q ⊎ IsOfLine plan before (Call n p t) k q → Contains rs (Late k q)
-    by (inl g) = h k q g
-    by (inr g) =
-        let own = called n p t k q g.1 in
-        subst (λ x. Contains rs x) (ap (λ i. Late i p) own.0 ∙ ap (Late k) own.1) (one (subst (λ i. Contains plan (mark i (next_number i before) kind.Late)) (sym own.0) g.0))
+    by : (copies_of k q rs < marked_late plan k q rs) ⊎ (marked_late plan k q rs ≤ copies_of k q rs) → marked_late plan k q rs ≤ copies_of k q rs
+    by (inl lt) =
+        let named = copy_named plan rs k q lt in
+        let line = called_line rs k (named.0 - 1) q named.2.1 in
+        let all : marked_late plan k q rs ≤ copies_of k q rs = each (Call k q line.0) line.1 in all
+    by (inr le) = le
 
-copied_line : (plan : List Mark) (before rs : List Record) (r : Record) → LineIsCopied plan before rs r → Copied plan before rs → Copied plan (before ++ r ∷ []) rs
-unfolding calls_to
-copied_line plan before rs (Call n p t) one h = call_copied plan before rs n p t one h
-copied_line plan before rs (Late n p) one h = others_copied plan before rs (Late n p) (λ k. refl) h
-copied_line plan before rs (Operator n a d) one h = others_copied plan before rs (Operator n a d) (λ k. refl) h
-copied_line plan before rs (Outcome x) one h = others_copied plan before rs (Outcome x) (λ k. refl) h
-
-pub copied_more : (plan : List Mark) (i : ℕ) (rs : List Record) (r : Record) → i < length rs → r ≡ get_or rs i r → LineIsCopied plan (take i rs) rs r
-    → Copied plan (take i rs) rs → Copied plan (take (i + 1) rs) rs
-copied_more plan i rs r l is one h = subst (λ x. Copied plan x rs) (sym (one_line i rs r l is)) (copied_line plan (take i rs) rs r one h)
-
-needs_copy : (plan : List Mark) (before rest rs : List Record) (r : Record) → (before ++ r ∷ []) ++ rest ≡ rs → AreCopied plan rs → LineIsCopied plan before rs r
-needs_copy plan before rest rs (Call n p t) split all = λ h.
-    let c = subst (λ x. IsCopy plan x n p) split (copy_kept plan (before ++ Call n p t ∷ []) rest n p (copy_last plan before n p t h)) in all n c.0 p c.1 c.2
-needs_copy plan before rest rs (Late n p) split all = tt
-needs_copy plan before rest rs (Operator n a d) split all = tt
-needs_copy plan before rest rs (Outcome x) split all = tt
-
-pub copied_fails : (plan : List Mark) (i : ℕ) (rs : List Record) (r : Record) → i < length rs → r ≡ get_or rs i r → (LineIsCopied plan (take i rs) rs r → ⊥) → AreCopied plan rs → ⊥
-copied_fails plan i rs r l is off all =
-    off (needs_copy plan (take i rs) (drop (i + 1) rs) rs r (ap (λ x. x ++ drop (i + 1) rs) (sym (one_line i rs r l is)) ∙ take-append-drop (i + 1) rs) all)
-
-pub copied_ends : (plan : List Mark) (i : ℕ) (rs : List Record) → length rs ≤ i → Copied plan (take i rs) rs → AreCopied plan rs
-copied_ends plan i rs l h k number q c a = subst (λ x. Copied plan x rs) (take_all i rs l) h k q (number, c, a)
+pub line_copied : (plan : List Mark) (rs : List Record) (r : Record) → AreCopied plan rs → LineIsCopied plan rs r
+line_copied plan rs (Call k q t) all = all k q
+line_copied plan rs (Late k q) all = tt
+line_copied plan rs (Operator k a d) all = tt
+line_copied plan rs (Outcome x) all = tt

@@ -1,14 +1,14 @@
--- A request to a node as a list of numbers, from which both can be read back; and sets of such
--- lists.
-use Rattle.std.specs.Prelude.{ℕ, suc, ◌==◌, ◌&&◌, Bool, List, [], ◌∷◌, ◌++◌, map, flat_map}
+-- A request to a node as a list of numbers, from which both can be read back; and how often such
+-- lists were counted.
+use Rattle.std.specs.Prelude.{ℕ, suc, ◌==◌, ◌&&◌, Bool, List, [], ◌∷◌, ◌++◌, map, flat_map, unwrap_or}
 use Rattle.std.specs.Cmp.Lexicographic.{slice_cmp}
 use Rattle.std.specs.Ordering.{nat_cmp}
-use Rattle.std.specs.BTreeSet.{contains_by}
+use Rattle.std.specs.BTreeMap.{get_by}
 use Rattle.journal_core.specs.Views.{HeadView}
 use Rattle.journal_core.specs.declared.request.Request.{Request}
 use Rattle.journal_core.specs.declared.request.Request.TheVariants as request
 use Rattle.journal_history.specs.Same.{same_request}
-use Rattle.mesh_judge.specs.declared.request_set.RequestSet.{RequestSet}
+use Rattle.mesh_judge.specs.declared.counts.Counts.{Counts}
 
 -- each byte as one more than it is, so that 0 ends a body
 abbrev pub body_key : List ℕ → List ℕ
@@ -41,6 +41,10 @@ ask_key node r = node ∷ request_key r
 abbrev pub is_ask : ℕ → Request → ℕ → Request → Bool
 is_ask node r k q = (node == k) && same_request r q
 
--- the set has this request to this node
-abbrev pub has : RequestSet → ℕ → Request → Bool
-has s node r = contains_by (λ key. slice_cmp nat_cmp (ask_key node r) key.items) s.keys
+-- a call to a node by its number
+abbrev pub call_key : ℕ → ℕ → List ℕ
+call_key node number = node ∷ number ∷ []
+
+-- how often this list was counted
+abbrev pub count_of : Counts → List ℕ → ℕ
+count_of counts key = unwrap_or (get_by (λ k. slice_cmp nat_cmp key k.items) counts.counts) 0

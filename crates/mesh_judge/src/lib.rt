@@ -3,6 +3,7 @@
 
 mod agreement;
 mod caller;
+mod counts;
 mod equality;
 mod lines;
 mod local;
@@ -14,7 +15,6 @@ mod ordering;
 mod ranking;
 mod reached;
 mod request_key;
-mod request_set;
 mod won;
 
 pub use agreement::agrees;

@@ -1,17 +1,19 @@
 //! Whether a record goes by its actor's marks.
-ghost use Rattle.std.specs.Prelude.{◌≡◌, ◌<◌, ◌≤◌, ◌+◌, ◌^◌, List, ◌++◌, ◌∷◌, ◌==◌, ◌&&◌, ◌||◌, [], ℕ, Decides, IfOk, OnOk, length, slice_index, replicate};
+ghost use Rattle.std.specs.Prelude.{◌≡◌, ◌<◌, ◌≤◌, ◌+◌, ◌^◌, List, ◌++◌, ◌∷◌, ◌==◌, ◌||◌, [], ℕ, Decides, IfOk, OnOk, MatchOption, if◌then◌else◌, length, slice_index, replicate};
 ghost use Rattle.std.specs.BTreeSet.{contains};
 ghost use Rattle.std.specs.Ordering.{nat_cmp};
 ghost use Rattle.journal_core.specs.declared.request.Request.{Request};
 ghost use Rattle.journal_history.specs.declared.record.Record.{Record};
 ghost use Rattle.journal_history.specs.declared.mark.Mark.{Mark};
 ghost use Rattle.journal_history.specs.declared.mark.MarkKind.{MarkKind};
+ghost use Rattle.journal_history.specs.declared.mark.MarkKind.TheVariants.{Late};
 ghost use Rattle.mesh.specs.Matches.{AreWithin, IsWithin};
 ghost use Rattle.mesh.specs.Marks.{IsMarked, AreCopied};
-ghost use Rattle.mesh_judge.specs.Keys.{is_ask, has};
-ghost use Rattle.mesh_judge.specs.Marking.{as_marked, HasNodes, KnowsMarks, KnowsPlan, KnowsCalls, HasCopies, LineIsMarked, LineIsCopied};
+ghost use Rattle.mesh_judge.specs.Keys.{is_ask, ask_key, call_key, count_of};
+ghost use Rattle.mesh_judge.specs.Marking.{as_marked, HasNodes, HasRoom, IsDue, KnowsMarks, KnowsLate, KnowsPlan, KnowsCalls, LineIsMarked, LineIsCopied};
 
-use crate::request_set::RequestSet;
+use crate::counts::Counts;
+use crate::request_key::key_of;
 use journal_core::{OutOfMemory, Request};
 use journal_history::{Mark, MarkKind, Record, Told};
 use std::alloc::Global;
@@ -33,20 +35,21 @@ impl Numbers {
     }
 }
 
-/// The numbers of the calls to each node that a plan marks, kind by kind.
+/// The numbers of the calls to each node that a plan marks as dropped or muted, and how often each
+/// call is marked to be copied.
 #[derive(Drop)]
 pub(crate) struct MarkTable {
     dropped: Vec<Numbers>,
     muted: Vec<Numbers>,
-    late: Vec<Numbers>,
+    late: Counts,
 }
 
 /// What is known of a record's lines so far: the number of the next call to each node, from 1, and
-/// the requests of the calls that the plan marks as late.
+/// how many copies of each request to each node are still due.
 #[derive(Drop)]
 pub(crate) struct CallTable {
     next: Vec<u64>,
-    late: RequestSet,
+    due: Counts,
 }
 
 /// The mark is of this kind, and of one of that many nodes.
@@ -89,14 +92,46 @@ fn numbers_marked(
     Ok(lists)
 }
 
-/// The numbers of the calls to each of that many nodes that a plan marks.
+/// The mark has a call copied.
+fn is_late(mark: &Mark) -> bool
+    ensures { Decides result (mark.now.kind ≡ Late) }
+{
+    mark.kind == MarkKind::Late
+}
+
+/// One more mark, if it is a late one.
+fn count_mark(alloc: Global, late: &mut Counts, mark: &Mark) -> Result<(), OutOfMemory>
+    requires room { count_of late.old (call_key mark.now.node mark.now.number) + 1 < 2 ^ 64 }
+    ensures { OnOk result ((plan : List Mark) → KnowsLate plan late.old → KnowsLate (plan ++ mark.now ∷ []) late.new) }
+{
+    if !is_late(mark) {
+        return Ok(());
+    }
+    let key = vec![in alloc; mark.node as u64, mark.number]?;
+    let count = late.get(key.as_slice());
+    late.set(key, count + 1)?;
+    Ok(())
+}
+
+/// How often a plan marks each call to be copied.
+fn late_marks(alloc: Global, plan: &[Mark]) -> Result<Counts, OutOfMemory>
+    ensures { IfOk result (λ late. KnowsLate plan.now late) }
+{
+    let mut late = Counts::new(alloc);
+    for mark in plan {
+        count_mark(alloc, &mut late, mark)?;
+    }
+    Ok(late)
+}
+
+/// The calls that a plan marks; those that it drops or mutes are to one of that many nodes.
 fn marks_of(alloc: Global, nodes: usize, plan: &[Mark]) -> Result<MarkTable, OutOfMemory>
     ensures { IfOk result (λ marks. KnowsPlan nodes plan.now marks) }
 {
     Ok(MarkTable {
         dropped: numbers_marked(alloc, nodes, plan, MarkKind::Dropped)?,
         muted: numbers_marked(alloc, nodes, plan, MarkKind::Muted)?,
-        late: numbers_marked(alloc, nodes, plan, MarkKind::Late)?,
+        late: late_marks(alloc, plan)?,
     })
 }
 
@@ -113,8 +148,8 @@ fn no_calls(alloc: Global, nodes: usize) -> Result<CallTable, OutOfMemory>
     ensures { IfOk result (λ calls. (plan : List Mark) → KnowsCalls nodes plan [] calls) }
 {
     let next = first_numbers(alloc, nodes)?;
-    let late = RequestSet::new(alloc);
-    Ok(CallTable { next, late })
+    let due = Counts::new(alloc);
+    Ok(CallTable { next, due })
 }
 
 /// A call was told as its marks say.
@@ -146,54 +181,48 @@ fn is_line_marked(
             let is_muted = marks.muted[*node - 1].set.contains(&number);
             Ok(as_marked(told, is_dropped, is_muted))
         }
-        Record::Late { node, request } => calls.late.contains(alloc, *node, request.get()),
+        Record::Late { node, request } => {
+            let key = key_of(alloc, *node, request.get())?;
+            Ok(0 < calls.due.get(key.as_slice()))
+        }
         Record::Operator { .. } | Record::Outcome { .. } => Ok(true),
     }
 }
 
-/// The line is no call that the plan marks as late, or it has its copy among these.
-#[tactic(auto, unfolding(mesh::specs::Marks::is_marked, mesh::specs::Marks::same_kind))]
-fn is_line_copied(
+/// So many more copies of a request to a node are due.
+fn add_due(
     alloc: Global,
-    marks: &MarkTable,
-    calls: &CallTable,
-    copies: &RequestSet,
-    line: &Record,
-) -> Result<bool, OutOfMemory>
-    requires within { IsWithin (length calls.now.next.items) line.now }
-    requires nodes { HasNodes (length calls.now.next.items) marks.now }
-    ensures { IfOk result (λ is_copied. (plan : List Mark) (before lines : List Record) → KnowsPlan (length calls.now.next.items) plan marks.now → KnowsCalls (length calls.now.next.items) plan before calls.now → HasCopies lines copies.now → Decides is_copied (LineIsCopied plan before lines line.now)) }
-{
-    match line {
-        Record::Call { node, request, .. } => {
-            let number = calls.next[*node - 1];
-            if !marks.late[*node - 1].set.contains(&number) {
-                return Ok(true);
-            }
-            copies.contains(alloc, *node, request.get())
-        }
-        Record::Late { .. } | Record::Operator { .. } | Record::Outcome { .. } => Ok(true),
-    }
-}
-
-/// One more request to a node, if the number of its call is one of these.
-fn push_late(
-    alloc: Global,
-    requests: &mut RequestSet,
-    numbers: &Numbers,
-    number: u64,
+    due: &mut Counts,
     node: usize,
     request: &Request,
+    count: u64,
 ) -> Result<(), OutOfMemory>
-    ensures { OnOk result ((k : ℕ) (r : Request) → has requests.new k r ≡ ((contains nat_cmp numbers.now.set number && is_ask k r node request.now) || has requests.old k r)) }
+    requires { count_of due.old (ask_key node request.now) + count < 2 ^ 64 }
+    ensures { OnOk result ((k : ℕ) (r : Request) → count_of due.new (ask_key k r) ≡ count_of due.old (ask_key k r) + (if is_ask k r node request.now then count else 0)) }
 {
-    if numbers.set.contains(&number) {
-        requests.insert(alloc, node, request)?;
-    }
+    let key = key_of(alloc, node, request)?;
+    let before = due.get(key.as_slice());
+    due.set(key, before + count)?;
     Ok(())
 }
 
-/// One more line of the record.
+/// One of the copies of a request to a node that are due came.
+fn take_due(
+    alloc: Global,
+    due: &mut Counts,
+    node: usize,
+    request: &Request,
+) -> Result<(), OutOfMemory>
+    requires { 0 < count_of due.old (ask_key node request.now) }
+    ensures { OnOk result ((k : ℕ) (r : Request) → count_of due.new (ask_key k r) + (if is_ask k r node request.now then 1 else 0) ≡ count_of due.old (ask_key k r)) }
+{
+    let key = key_of(alloc, node, request)?;
+    let before = due.get(key.as_slice());
+    due.set(key, before - 1)?;
+    Ok(())
+}
+
+/// One more line of the record, which goes by the marks.
 fn push_line(
     alloc: Global,
     marks: &MarkTable,
@@ -201,57 +230,79 @@ fn push_line(
     line: &Record,
 ) -> Result<(), OutOfMemory>
     requires within { IsWithin (length calls.old.next.items) line.now }
-    requires nodes { HasNodes (length calls.old.next.items) marks.now }
+    requires due { IsDue calls.old line.now }
+    requires few { HasRoom calls.old marks.now }
     requires room { (i : ℕ) → i < length calls.old.next.items → slice_index calls.old.next.items i + 1 < 2 ^ 64 }
     ensures { OnOk result ((plan : List Mark) (before : List Record) → KnowsPlan (length calls.old.next.items) plan marks.now → KnowsCalls (length calls.old.next.items) plan before calls.old → KnowsCalls (length calls.old.next.items) plan (before ++ line.now ∷ []) calls.new) }
 {
     match line {
         Record::Call { node, request, .. } => {
             let number = calls.next[*node - 1];
-            let numbers = &marks.late[*node - 1];
-            push_late(
-                alloc,
-                &mut calls.late,
-                numbers,
-                number,
-                *node,
-                request.get(),
-            )?;
+            let marked = marks.late.get(&[*node as u64, number]);
+            add_due(alloc, &mut calls.due, *node, request.get(), marked)?;
             calls.next[*node - 1] = number + 1;
             Ok(())
         }
-        Record::Late { .. } => Ok(()),
+        Record::Late { node, request } => {
+            take_due(alloc, &mut calls.due, *node, request.get())?;
+            Ok(())
+        }
         Record::Operator { .. } => Ok(()),
         Record::Outcome { .. } => Ok(()),
     }
 }
 
-/// One more line of the record, where its late copies are gathered.
-fn push_copy(alloc: Global, copies: &mut RequestSet, line: &Record) -> Result<(), OutOfMemory>
-    ensures { OnOk result ((lines : List Record) → HasCopies lines copies.old → HasCopies (lines ++ line.now ∷ []) copies.new) }
+/// What is known of all lines, if they go by the plan's marks.
+fn calls_in(
+    alloc: Global,
+    nodes: usize,
+    plan: &[Mark],
+    lines: &[Record],
+) -> Result<Option<CallTable>, OutOfMemory>
+    requires { AreWithin nodes lines.now }
+    ensures { IfOk result (λ led. MatchOption led (IsMarked plan.now [] lines.now → ⊥) (λ calls. IsMarked plan.now [] lines.now × KnowsCalls nodes plan.now lines.now calls)) }
+{
+    let marks = marks_of(alloc, nodes, plan)?;
+    let mut calls = no_calls(alloc, nodes)?;
+    for line in lines {
+        let is_marked = is_line_marked(alloc, &marks, &calls, line)?;
+        if !is_marked {
+            return Ok(None);
+        }
+        push_line(alloc, &marks, &mut calls, line)?;
+    }
+    Ok(Some(calls))
+}
+
+/// The line is no call, or none of the copies of what it asked is due.
+fn is_line_copied(alloc: Global, calls: &CallTable, line: &Record) -> Result<bool, OutOfMemory>
+    ensures { IfOk result (λ is_copied. (nodes : ℕ) (plan : List Mark) (lines : List Record) → KnowsCalls nodes plan lines calls.now → Decides is_copied (LineIsCopied plan lines line.now)) }
 {
     match line {
-        Record::Late { node, request } => copies.insert(alloc, *node, request.get()),
-        Record::Call { .. } => Ok(()),
-        Record::Operator { .. } => Ok(()),
-        Record::Outcome { .. } => Ok(()),
+        Record::Call { node, request, .. } => {
+            let key = key_of(alloc, *node, request.get())?;
+            Ok(calls.due.get(key.as_slice()) == 0)
+        }
+        Record::Late { .. } | Record::Operator { .. } | Record::Outcome { .. } => Ok(true),
     }
 }
 
-/// The late copies of a record.
-fn copies_in(alloc: Global, lines: &[Record]) -> Result<RequestSet, OutOfMemory>
-    ensures { IfOk result (λ copies. HasCopies lines.now copies) }
+/// None of the copies is due after all lines.
+fn are_copied(alloc: Global, calls: &CallTable, lines: &[Record]) -> Result<bool, OutOfMemory>
+    ensures { IfOk result (λ are_copied. (nodes : ℕ) (plan : List Mark) → KnowsCalls nodes plan lines.now calls.now → Decides are_copied (AreCopied plan lines.now)) }
 {
-    let mut copies = RequestSet::new(alloc);
     for line in lines {
-        push_copy(alloc, &mut copies, line)?;
+        let is_copied = is_line_copied(alloc, calls, line)?;
+        if !is_copied {
+            return Ok(false);
+        }
     }
-    Ok(copies)
+    Ok(true)
 }
 
-/// The calls of a record are dropped, muted and copied as the plan of its actor marks them. The
-/// cost is of the order of n log n for n lines and marks, in whatever order late marks and copies
-/// stand.
+/// The calls of a record are dropped, muted and copied as the plan of its actor marks them, each
+/// copy for a late mark of its own. The cost is of the order of n log n for n lines and marks, in
+/// whatever order late marks and copies stand.
 pub(crate) fn goes_by_plan(
     alloc: Global,
     nodes: usize,
@@ -261,19 +312,12 @@ pub(crate) fn goes_by_plan(
     requires { AreWithin nodes lines.now }
     ensures { IfOk result (λ goes. Decides goes (IsMarked plan.now [] lines.now × AreCopied plan.now lines.now)) }
 {
-    let marks = marks_of(alloc, nodes, plan)?;
-    let copies = copies_in(alloc, lines)?;
-    let mut calls = no_calls(alloc, nodes)?;
-    for line in lines {
-        let is_marked = is_line_marked(alloc, &marks, &calls, line)?;
-        if !is_marked {
-            return Ok(false);
+    let led = calls_in(alloc, nodes, plan, lines)?;
+    match led {
+        Some(calls) => {
+            let are_copied = are_copied(alloc, &calls, lines)?;
+            Ok(are_copied)
         }
-        let is_copied = is_line_copied(alloc, &marks, &calls, &copies, line)?;
-        if !is_copied {
-            return Ok(false);
-        }
-        push_line(alloc, &marks, &mut calls, line)?;
+        None => Ok(false),
     }
-    Ok(true)
 }

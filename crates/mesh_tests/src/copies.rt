@@ -56,8 +56,8 @@ fn late(node: usize, number: u64) -> Option<Mark> {
     })
 }
 
-/// A copy wants a mark of what it asked, and one mark serves all copies of that; a mark of a call
-/// that was made wants a copy.
+/// Each copy wants a mark of its own of what it asked, and each mark of a call that was made wants
+/// a copy of its own.
 #[test]
 fn copies_have_marks_and_marks_copies(rt: HostRuntime) -> Result<(), Fail> {
     let alloc = rt.alloc();
@@ -65,8 +65,9 @@ fn copies_have_marks_and_marks_copies(rt: HostRuntime) -> Result<(), Fail> {
         (None, None, true),
         (late(1, 3), None, false),
         (late(2, 2), None, false),
-        (late(1, 1), None, true),
-        (late(1, 7), None, true),
+        (late(1, 1), None, false),
+        (late(1, 7), None, false),
+        (None, late(1, 1), false),
         (None, late(2, 3), false),
         (None, late(2, 99), true),
     ] {

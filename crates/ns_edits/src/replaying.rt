@@ -1,6 +1,7 @@
 //! The replay of a batch: each body decoded, admitted and applied in order.
 ghost use Rattle.std.specs.Prelude.{◌≡◌, ◌≤◌, ◌-◌, ◌<◌, ◌^◌, ◌≢◌, true, Some, None, Err, IfOk, IfErr, OnOk, OnErr};
 ghost use Rattle.journal_core.specs.Views.{last_txid};
+ghost use Rattle.edit_codec.specs.Decoding.{HasOpcode};
 ghost use Rattle.ns_tree.specs.Space.{AreRising};
 ghost use Rattle.ns_edits.specs.declared.entry_error.EntryError.TheVariants as errors;
 ghost use Rattle.ns_edits.specs.Admit.{admit_of};
@@ -79,7 +80,8 @@ fn enter_edit(alloc: Global, ns: &mut Namespace, edit: Edit, txid: u64) -> Resul
 
 /// The edit of which the bytes are the record, or none where they don't decode.
 fn edit_of(alloc: Global, bytes: &[u8]) -> Result<Option<Edit>, OutOfMemory>
-    ensures { IfOk result (λ edit. edit ≡ decoded bytes.now) }
+    ensures edit { IfOk result (λ edit. edit ≡ decoded bytes.now) }
+    ensures memory { OnErr result (HasOpcode bytes.now) }
 {
     match decode(alloc, bytes) {
         Decoded::Edit(edit) => Ok(Some(edit)),

@@ -41,7 +41,8 @@ pub(crate) fn byte_of(bytes: &[u8], high: u8) -> Result<(u8, &[u8]), ReadError>
 
 #[tactic(auto, unfolding(crate::specs::Reading::whole_at))]
 fn whole16_of(bytes: &[u8]) -> Result<(u16, &[u8]), ReadError>
-    ensures { Gives (λ x. (x.0, x.1.now)) result (whole_at w16 bytes.now) }
+    ensures read { Gives (λ x. (x.0, x.1.now)) result (whole_at w16 bytes.now) }
+    ensures memory { wants_memory result ≡ false }
 {
     if bytes.len() < 2 {
         return Err(wrong_at(ImageCause::Short, bytes));
@@ -83,6 +84,7 @@ fn whole64_of(bytes: &[u8]) -> Result<(u64, &[u8]), ReadError>
 pub(crate) fn small_of(bytes: &[u8], low: u16, high: u16) -> Result<(u16, &[u8]), ReadError>
     ensures read { Gives (λ x. (x.0, x.1.now)) result (number_at w16 low high causes.Field bytes.now) }
     ensures good { IfOk result (λ x. (low ≤ x.0) × (x.0 ≤ high)) }
+    ensures memory { wants_memory result ≡ false }
 {
     let (number, rest) = whole16_of(bytes)?;
     if number < low {
@@ -146,6 +148,7 @@ pub(crate) fn amount_of(bytes: &[u8]) -> Result<(u64, &[u8]), ReadError>
 pub(crate) fn size_of(bytes: &[u8]) -> Result<(u64, &[u8]), ReadError>
     ensures read { Gives (λ x. (x.0, x.1.now)) result (size_at bytes.now) }
     ensures good { IfOk result (λ x. (1 ≤ x.0) × (x.0 ≤ 2 ^ 40)) }
+    ensures memory { wants_memory result ≡ false }
 {
     long_of(bytes, 1, MOST_SIZE)
 }
@@ -153,6 +156,7 @@ pub(crate) fn size_of(bytes: &[u8]) -> Result<(u64, &[u8]), ReadError>
 pub(crate) fn permission_of(bytes: &[u8]) -> Result<(u16, &[u8]), ReadError>
     ensures read { Gives (λ x. (x.0, x.1.now)) result (permission_at bytes.now) }
     ensures good { IfOk result (λ x. x.0 ≤ 1023) }
+    ensures memory { wants_memory result ≡ false }
 {
     small_of(bytes, 0, MOST_PERMISSION)
 }
@@ -160,7 +164,8 @@ pub(crate) fn permission_of(bytes: &[u8]) -> Result<(u16, &[u8]), ReadError>
 // A text after its length.
 #[tactic(auto, unfolding(crate::specs::Reading::text_at))]
 fn text_of(bytes: &[u8]) -> Result<(&[u8], &[u8]), ReadError>
-    ensures { Gives (λ x. (x.0.now, x.1.now)) result (text_at bytes.now) }
+    ensures read { Gives (λ x. (x.0.now, x.1.now)) result (text_at bytes.now) }
+    ensures memory { wants_memory result ≡ false }
 {
     let (size, rest) = whole16_of(bytes)?;
     let size = usize::from(size);
@@ -174,6 +179,7 @@ fn text_of(bytes: &[u8]) -> Result<(&[u8], &[u8]), ReadError>
 pub(crate) fn path_of(bytes: &[u8]) -> Result<(&[u8], &[u8]), ReadError>
     ensures read { Gives (λ x. (x.0.now, x.1.now)) result (path_at bytes.now) }
     ensures good { IfOk result (λ x. (is_path x.0.now ≡ true) × (length x.0.now ≤ 1000)) }
+    ensures memory { wants_memory result ≡ false }
 {
     let (path, rest) = text_of(bytes)?;
     if !is_good_path(path) {

@@ -1,9 +1,9 @@
 //! Rows from bytes, one after the other, each by the one before it.
-ghost use Rattle.std.specs.Prelude.{◌≡◌, ◌+◌, ◌∷◌, [], ◌≤◌, true, List, length, IfOk};
+ghost use Rattle.std.specs.Prelude.{◌≡◌, ◌+◌, ◌∷◌, [], ◌≤◌, true, false, List, length, IfOk};
 ghost use Rattle.ns_tree.specs.declared.inode.Row.{Row};
 ghost use Rattle.ns_path.specs.Path.{is_path};
 ghost use Rattle.ns_tree.specs.Space.{IsInode, is_dir};
-ghost use Rattle.ns_image.specs.Reading.{Gives, root_at, row_at, repeated, tree_at};
+ghost use Rattle.ns_image.specs.Reading.{Gives, wants_memory, root_at, row_at, repeated, tree_at};
 ghost use Rattle.ns_image.specs.Rows.{EndsAt, HasTaken, IsNext, GivesSome, is_above_last, path_after, row_after};
 
 use crate::fields::{byte_of, path_of, word_of};
@@ -46,7 +46,7 @@ fn is_above(above: &[u8], last: &[u8], directory: bool) -> bool
     }
 }
 
-// A path that may stand after the last row, which is a directory or not.
+// A path that may stand after the last row, which is a directory or not. Takes no memory.
 #[tactic(auto, unfolding(crate::specs::Rows::path_after))]
 fn next_path_of<'a>(
     last: &[u8],
@@ -55,6 +55,7 @@ fn next_path_of<'a>(
 ) -> Result<(&'a [u8], &'a [u8]), ReadError>
     ensures read { Gives (λ x. (x.0.now, x.1.now)) result (path_after last.now directory bytes.now) }
     ensures good { IfOk result (λ x. (is_path x.0.now ≡ true) × (length x.0.now ≤ 1000)) }
+    ensures memory { wants_memory result ≡ false }
 {
     let (path, rest) = path_of(bytes)?;
     if !walk_order(last, path).is_lt() {

@@ -1,10 +1,10 @@
 -- What a save of a namespace makes of the files, and what a load answers of them.
-use Rattle.std.specs.Prelude.{◌≡◌, ◌⊎◌, ◌↔◌, ℕ, ◌≤◌, ◌^◌, List, Option, Some, None}
+use Rattle.std.specs.Prelude.{◌≡◌, ◌⊎◌, ◌↔◌, ℕ, ◌≤◌, ◌^◌, true, List, Option, Some, None, is_ok}
 use Rattle.base_disk.specs.Files.{Files}
 use Rattle.md5.specs.Md5.{md5}
 use Rattle.ns_tree.specs.Space.{Space, AreRising}
 use Rattle.ns_image.specs.Layouts.{image_bytes}
-use Rattle.ns_image.specs.Reading.{reading_of}
+use Rattle.ns_image.specs.Reading.{head_at, reading_of}
 use Rattle.ns_image.specs.declared.answer.ReadImage.{ReadImage}
 use Rattle.ns_image.specs.declared.answer.ReadImage.TheVariants as read
 use Rattle.ns_image.specs.declared.image_cause.ImageCause.TheVariants as causes
@@ -64,3 +64,10 @@ answer_to (bytes.Bytes found) = answer_of (reading_of found.items)
 answer_to bytes.NoImage = loaded.NoImage
 answer_to (bytes.DigestDiffers stored computed) = loaded.DigestDiffers stored computed
 answer_to bytes.BadDigest = loaded.BadImage 0 causes.Digest
+
+-- bytes were read that begin with the head of an image
+abbrev pub HasHead : LoadedBytes → Type 0
+HasHead (bytes.Bytes found) = is_ok (head_at found.items) ≡ true
+HasHead bytes.NoImage = ⊥
+HasHead (bytes.DigestDiffers stored computed) = ⊥
+HasHead bytes.BadDigest = ⊥

@@ -1,9 +1,9 @@
 //! A namespace is loaded.
-ghost use Rattle.std.specs.Prelude.{◌≡◌, IfOk};
+ghost use Rattle.std.specs.Prelude.{◌≡◌, true, IfOk, OnErr, is_ok};
 ghost use Rattle.base_disk.specs.Calls.{Rests};
 ghost use Rattle.base_disk.specs.DiskCalls.{IfTold, IsDiskRun};
-ghost use Rattle.ns_image.specs.Reading.{reading_of};
-ghost use Rattle.ns_store.specs.Loads.{IsAnswer, IsWithin, answer_of, answer_to};
+ghost use Rattle.ns_image.specs.Reading.{head_at, reading_of};
+ghost use Rattle.ns_store.specs.Loads.{IsAnswer, IsWithin, HasHead, answer_of, answer_to};
 
 use crate::loaded::Loaded;
 use crate::loaded_bytes::LoadedBytes;
@@ -17,6 +17,7 @@ use std::alloc::Global;
 fn answer_of_bytes(alloc: Global, bytes: &[u8]) -> Result<Loaded, OutOfMemory>
     ensures answer { IfOk result (λ answer. answer ≡ answer_of (reading_of bytes.now)) }
     ensures within { IfOk result (λ answer. IsWithin answer) }
+    ensures memory { OnErr result (is_ok (head_at bytes.now) ≡ true) }
 {
     match read_image(alloc, bytes)? {
         ReadImage::Image { namespace, txid } => Ok(Loaded::Image { namespace, txid }),
@@ -24,10 +25,11 @@ fn answer_of_bytes(alloc: Global, bytes: &[u8]) -> Result<Loaded, OutOfMemory>
     }
 }
 
-// What is told of what was read.
+// What is told of what was read. Memory is taken only for bytes that begin as an image does.
 fn answer(alloc: Global, found: LoadedBytes) -> Result<Loaded, OutOfMemory>
     ensures answer { IfOk result (λ answer. answer ≡ answer_to found) }
     ensures within { IfOk result (λ answer. IsWithin answer) }
+    ensures memory { OnErr result (HasHead found) }
 {
     match found {
         LoadedBytes::Bytes(bytes) => answer_of_bytes(alloc, &bytes),

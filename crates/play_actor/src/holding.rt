@@ -1,7 +1,8 @@
 //! What a name node of a script holds beside its writer.
 ghost use Rattle.std.specs.Option.{ForSome};
-ghost use Rattle.std.specs.Prelude.{◌≡◌, ◌≤◌, OnOk, IfOk};
+ghost use Rattle.std.specs.Prelude.{◌≡◌, ◌≤◌, Some, OnOk, IfOk};
 ghost use Rattle.journal_core.specs.Limits.{max_number};
+ghost use Rattle.play_names.specs.ImageDisks.{HoldsOn};
 ghost use Rattle.play_names.specs.Holding.{Free, new_holding, enters, save_image, reload_image, min_to_keep, at_position};
 ghost use Rattle.play_standby.specs.Standbys.{held};
 ghost use Rattle.play_standby.specs.Tailing.{IsExact};
@@ -11,6 +12,7 @@ use crate::tailing::tail;
 use journal_core::OutOfMemory;
 use ns_tree::{LastSpace, Namespace, RowList};
 use play_calls::Seats;
+use play_model::ActorLeft;
 use play_names::Tailed;
 use play_standby::{SavedImages, Standby};
 use std::alloc::Global;
@@ -175,13 +177,25 @@ impl NameHolding {
         Ok(tailed)
     }
 
-    /// What it holds at last: its position, and the rows of its namespace.
-    pub fn into_last(self, alloc: Global) -> Result<LastSpace, OutOfMemory>
-        ensures { IfOk result (λ last. last ≡ record { position = self.position; rows = self.space.pairs }) }
+    /// What it holds at last, its position and the rows of its namespace, and its images.
+    pub fn into_left(self, alloc: Global) -> Result<ActorLeft, OutOfMemory>
+        ensures last { IfOk result (λ left. left.last ≡ Some record { position = self.position; rows = self.space.pairs }) }
+        ensures images { IfOk result (λ left. HoldsOn left.images self.images) }
     {
-        let (standby, _) = self.into_parts();
-        let (namespace, position) = standby.into_parts();
-        let rows = RowList::of(namespace.into_rows(alloc)?);
-        Ok(LastSpace { position, rows })
+        let (standby, images) = self.into_parts();
+        let last = last_of(alloc, standby)?;
+        Ok(ActorLeft {
+            last: Some(last),
+            images: images.into_disk(),
+        })
     }
+}
+
+/// What a standby holds at last: its position, and the rows of its namespace.
+fn last_of(alloc: Global, standby: Standby) -> Result<LastSpace, OutOfMemory>
+    ensures { IfOk result (λ last. last ≡ record { position = standby.position; rows = standby.space.pairs }) }
+{
+    let (namespace, position) = standby.into_parts();
+    let rows = RowList::of(namespace.into_rows(alloc)?);
+    Ok(LastSpace { position, rows })
 }

@@ -2,7 +2,7 @@
 ghost use Rattle.std.specs.Prelude.{◌≡◌, true, false, Some, None, OnOk, IfOk};
 ghost use Rattle.play_names.specs.Holding.{Free};
 ghost use Rattle.play_model.specs.Lines.{line_of};
-ghost use Rattle.play_model.specs.Actor.{last_of};
+ghost use Rattle.play_model.specs.Actor.{last_of, images_of};
 ghost use Rattle.play_actor.specs.Named.{Stands};
 ghost use Rattle.play_actor.specs.Held.{IsOther};
 ghost use Rattle.play_model.specs.Actions.{ActorView, new_actor_view, has_names, kept_of, kept_by, action_of, IsIdleActor, MayCome, TakesIf};
@@ -16,10 +16,10 @@ use crate::standby_actions::{take_checkpoint, take_reload, take_tail};
 use crate::submissions::take_edits;
 use crate::trims::take_trim;
 use journal_core::OutOfMemory;
-use ns_tree::LastSpace;
 use play_calls::Seats;
-use play_model::Actor;
+use play_model::{Actor, ActorLeft};
 use play_script::ScriptLine;
+use play_standby::SavedImages;
 use std::alloc::Global;
 use std::marker::Model;
 use writer_core::{Task, Writer};
@@ -75,11 +75,14 @@ impl Actor for ScriptActor {
         Ok(())
     }
 
-    fn into_last(self, alloc: Global) -> Result<Option<LastSpace>, OutOfMemory> {
+    fn into_left(self, alloc: Global) -> Result<ActorLeft, OutOfMemory> {
         let ScriptActor { writer: _, held } = self;
         match held {
-            Some(held) => Ok(Some(held.into_holding().into_last(alloc)?)),
-            None => Ok(None),
+            Some(held) => held.into_holding().into_left(alloc),
+            None => Ok(ActorLeft {
+                last: None,
+                images: SavedImages::new(alloc).into_disk(),
+            }),
         }
     }
 }

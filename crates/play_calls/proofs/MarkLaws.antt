@@ -1,7 +1,7 @@
 -- A record that goes by a plan goes by it still when marks of later calls are added, and when the
 -- next call is told by its marks.
 use Rattle.std.proofs.Common.{◌≡◌, ℕ, ◌+◌, ◌-◌, ◌<◌, ◌≤◌, List, [], ◌∷◌, ◌++◌, Bool, true, false, cond, refl, sym, ap, ◌∙◌, subst, arith, length, ◌⊎◌, inl, inr, append_assoc, length-append}
-use Rattle.std.specs.Prelude.{Some, ◌≢◌, ◌&&◌, ◌||◌, ◌==◌, slice_get}
+use Rattle.std.specs.Prelude.{◌≢◌, ◌==◌, slice_get}
 use Rattle.std.proofs.lemmas.List.Elements.{Contains-append_left}
 use Rattle.journal_core.specs.declared.request.Request.{Request}
 use Rattle.journal_history.specs.declared.node_ask.NodeAnswer.{NodeAnswer}
@@ -14,24 +14,16 @@ use Rattle.journal_history.specs.declared.mark.Mark.{Mark}
 use Rattle.journal_history.specs.declared.mark.MarkKind.{MarkKind}
 use Rattle.journal_history.specs.declared.mark.MarkKind.TheVariants as kind
 use Rattle.run_safety.proofs.Values.{get_append_left}
-use Rattle.mesh.specs.Marks.{mark, calls_to, next_number, Asked, IsAsMarked, IsCopy, IsMarked, is_marked}
+use Rattle.mesh.specs.Marks.{mark, calls_to, next_number, Asked, IsAsMarked, IsMarked, is_marked}
 use Rattle.play_calls.specs.Deliveries.{Delivery, Delivered, ReplyLost, NotDelivered, delivery, told_of}
 use Rattle.mesh.proofs.Lists.{contains_less, append_none, same_test, cond_true}
 use Rattle.mesh.proofs.CallLists.{calls_append}
+use Rattle.mesh.proofs.CopyLaws.{copy_planned}
 use Rattle.mesh.proofs.MarkTests.{marked_has, has_marked}
 
 -- ## Calls of a longer record
 pub asked_more : (k n : ℕ) (q : Request) (xs ys : List Record) → Asked k n q xs → Asked k n q (xs ++ ys)
 asked_more k n q xs ys h = (h.0, ap (λ (l : List Request). slice_get l (n - 1)) (calls_append k xs ys) ∙ get_append_left (calls_to k xs) (calls_to k ys) (n - 1) q h.1)
-
-pub asked_one : (k n : ℕ) (q r : Request) (xs : List Record) → Asked k n q xs → Asked k n r xs → q ≡ r
-asked_one k n q r xs h g = let same : Some q ≡ Some r = sym h.1 ∙ g.1 in cc same
-
-pub copy_more : (plan : List Mark) (xs ys : List Record) (k : ℕ) (q : Request) → IsCopy plan xs k q → IsCopy plan (xs ++ ys) k q
-copy_more plan xs ys k q h = (h.0, h.1, asked_more k h.0 q xs ys h.2)
-
-pub copy_planned : (plan : List Mark) (x : Mark) (xs : List Record) (k : ℕ) (q : Request) → IsCopy plan xs k q → IsCopy (plan ++ x ∷ []) xs k q
-copy_planned plan x xs k q h = (h.0, Contains-append_left plan (x ∷ []) (mark k h.0 kind.Late) h.1, h.2)
 
 -- ## A mark of a call that is still to come, or of a late copy
 unfoldable pub IsLater : Mark → List Record → Type 0

@@ -5,7 +5,6 @@ use Rattle.journal_history.specs.declared.node_ask.NodeAnswer.TheVariants.{Repli
 use Rattle.journal_history.specs.declared.record.Told.{Told}
 use Rattle.journal_history.specs.declared.record.Told.TheVariants as told
 use Rattle.journal_history.specs.declared.mark.Mark.{Mark}
-use Rattle.journal_history.specs.declared.mark.MarkKind.{MarkKind}
 use Rattle.journal_history.specs.declared.mark.MarkKind.TheVariants as kind
 use Rattle.mesh.specs.Marks.{is_marked}
 pub use Rattle.play_calls.specs.declared.delivery.Delivery.{Delivery}

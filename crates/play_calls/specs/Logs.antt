@@ -9,7 +9,7 @@ use Rattle.journal_history.specs.declared.record.Told.{Told}
 use Rattle.journal_history.specs.declared.mark.Mark.{Mark}
 use Rattle.journal_history.specs.declared.mark.MarkKind.{MarkKind}
 use Rattle.journal_history.specs.declared.mark.MarkKind.TheVariants as kind
-use Rattle.mesh.specs.Marks.{mark, calls_to, next_number, Asked, IsAsMarked, IsMarked}
+use Rattle.mesh.specs.Marks.{mark, calls_to, next_number, Asked, IsAsMarked, IsMarked, copies_of, marked_late}
 use Rattle.mesh.specs.Makers.{heard_of}
 use Rattle.mesh.specs.Matches.{AreWithin}
 
@@ -56,13 +56,11 @@ mark_kind true = kind.Muted
 mark_kind false = kind.Dropped
 
 -- ## What a log keeps
--- a late mark was of a call, and its copy was sent
-abbrev pub IsAnswered : List Record → ℕ → ℕ → Type 0
-IsAnswered past node number = (r : Request) × Asked node number r past × Contains past (Late node r)
-
 pub record GoesBy (nodes : ℕ) (marks : List Mark) (past : List Record) : Type 0 where
   pub marked : IsMarked marks [] past
-  pub late : (node number : ℕ) → Contains marks (mark node number kind.Late) → IsAnswered past node number
+  -- each late mark was of a call, and as many copies were sent
+  pub asked : (node number : ℕ) → Contains marks (mark node number kind.Late) → (r : Request) × Asked node number r past
+  pub counted : (node : ℕ) (r : Request) → copies_of node r past ≡ marked_late marks node r past
   pub within : AreWithin nodes past
 
 -- ## The calls of a record

@@ -25,6 +25,7 @@ use Rattle.mesh.specs.Agree.{operator_of, record_of, history_at, plan_of, ListsA
 use Rattle.mesh.specs.Marks.{calls_to, IsMarked}
 use Rattle.mesh.specs.Matches.{reaches, reached, lines_of, IsSame}
 use Rattle.mesh.specs.Order.{placed_from, placed_at}
+use Rattle.mesh.proofs.CopyLaws.{copy_named}
 use Rattle.mesh.proofs.Shared.{In}
 use Rattle.ns_edits.proofs.Splits.{some_is, none≢some}
 use Rattle.play_laws.specs.Linear.{IsLinear}
@@ -135,7 +136,8 @@ unfolding IsMarked In
 copy_of plan before [] k q m x = absurd x
 copy_of plan before (Late j r ∷ rs) k q m (inl e) =
     let same : (j ≡ k) × (r ≡ q) = (ap (λ (z : Record). node_in z) e, ap (λ (z : Record). request_in z) e) in
-    let y : (t : Told) × In (Call j r t) before = called_in j (m.0.0 - 1) r before m.0.2.1 in
+    let c = copy_named plan before j r m.0 in
+    let y : (t : Told) × In (Call j r t) before = called_in j (c.0 - 1) r before c.2.1 in
     (y.0, in_left (Call k q y.0) before (Late j r ∷ rs) (subst (λ (z : Request). In (Call k z y.0) before) same.1 (subst (λ (n : ℕ). In (Call n r y.0) before) same.0 y.1)))
   where
     node_in : Record → ℕ

@@ -29,7 +29,7 @@ use Rattle.play_model.specs.Safe.{AllOn}
 use Rattle.play_laws.specs.Acked.{IsAckedBy, IsRecordBy}
 
 -- ## Texts that begin with the word of a claim
-abbrev begins : List ℕ → List ℕ → Bool
+abbrev pub begins : List ℕ → List ℕ → Bool
 begins [] text = true
 begins (x ∷ xs) [] = false
 begins (x ∷ xs) (y ∷ ys) = (x == y) && begins xs ys

@@ -22,3 +22,7 @@ pub mod TellingTurns
 pub mod Said
 pub mod Worked
 pub mod AckedWorked
+pub mod EndStates
+pub mod PlainTexts
+pub mod Saved
+pub mod ImagesKept

@@ -84,7 +84,7 @@ front_of node (z ∷ zs) (x ∷ xs) ys e = by (z.node == node) refl e (λ h. fro
         record { front = z ∷ f.front; rest = f.rest; whole = ap (λ (l : List Entry). z ∷ l) f.whole; there = rw is f.there }
 
 -- a node's state is that of its own entries
-node_only : (node : ℕ) (past : List Entry) → node_after node past ≡ node_after node (entries_at node past)
+pub node_only : (node : ℕ) (past : List Entry) → node_after node past ≡ node_after node (entries_at node past)
 unfolding node_after
 node_only node [] = refl
 node_only node (e ∷ past) = by (e.node == node) refl (node_only node past)
@@ -127,7 +127,7 @@ reversed_first e xs past =
     sym (ap (λ (l : List Entry). l ++ past) (reverse-append (e ∷ []) xs) ∙ append_assoc (reverse xs) (e ∷ []) past)
 
 -- the state that a history leaves is that of its moving entries, after those before
-history_state : (m : Mesh) (node : ℕ) (before hs : List HistoryLine) (c : Cell) (past : List Entry) → c.state ≡ node_after node past → IsLocalRun c hs
+pub history_state : (m : Mesh) (node : ℕ) (before hs : List HistoryLine) (c : Cell) (past : List Entry) → c.state ≡ node_after node past → IsLocalRun c hs
     → (cell_after c hs).state ≡ node_after node (reverse (moving_of (placed_from m node before hs)) ++ past)
 unfolding cell_after placed_from IsLocalRun moving_of entry_of
 history_state m node before [] c past is run = is
@@ -365,7 +365,7 @@ step_reply c late r reply e = by c.state.up e
     by false e = replied_is (node_step c.state r).reply reply e
 
 -- ## The front of an order up to a line of a history
-reverse_filter : (test : Entry → Bool) (xs : List Entry) → filter test (reverse xs) ≡ reverse (filter test xs)
+pub reverse_filter : (test : Entry → Bool) (xs : List Entry) → filter test (reverse xs) ≡ reverse (filter test xs)
 reverse_filter test [] = refl
 reverse_filter test (x ∷ xs) =
     ap (filter test) (reverse-append (x ∷ []) xs) ∙ filter_append test (reverse xs) (x ∷ [])

@@ -8,3 +8,5 @@ pub mod Keeps
 pub mod Acked
 pub mod Laws
 pub mod Examples
+pub mod Finals
+pub mod ImagesLeft

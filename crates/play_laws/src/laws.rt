@@ -1,6 +1,8 @@
 //! What holds of every mesh that follows a script with names, in any linear order of its moving
 //! entries; and of the actors of every script.
 ghost use Rattle.play_laws.specs.Linear.{ReadsAreOnLine, ActorsHoldReplays, LogsAreAdmitted, LineReplays, NoneBreaks, LineCallsApart};
+ghost use Rattle.play_laws.specs.Finals.{FinalsAreOnLine};
+ghost use Rattle.play_laws.specs.ImagesLeft.{ImagesAreLeft};
 ghost use Rattle.play_laws.specs.Laws.{EpochOrderIsLinear, PlayIsLinear, NamesAreSafe, EpochOrderIsSafe, PlaysAreSafe, NamesAreKept, EditsHaveOneResult, ResultsTellAcknowledged};
 
 /// The epoch order of every mesh that agrees is linear, and so is the order in which the entries of
@@ -72,4 +74,15 @@ pub fn edits_have_one_result()
 /// What a result line claims is acknowledged, and so stands on the line.
 pub fn results_tell_acknowledged()
     ensures { ResultsTellAcknowledged }
+{}
+
+/// The images that the actors of a play leave, a disk for each, are the line's in the order of the
+/// epochs, and the newest of each is that of the greatest txid that it told of a checkpoint.
+pub fn images_are_left()
+    ensures { ImagesAreLeft }
+{}
+
+/// Each edit of a final segment that a node has at the end of its history stands on the line.
+pub fn finals_are_on_line()
+    ensures { FinalsAreOnLine }
 {}

@@ -59,11 +59,11 @@ marks_at [] c d below = absurd (omega (arith, below))
 marks_at (a ∷ as_) zero d below = refl
 marks_at (a ∷ as_) (suc c) d below = marks_at as_ c d (omega (arith, below))
 
-actors_are : (p : Play) → operator_of (mesh_of p) ≡ length p.actors
+pub actors_are : (p : Play) → operator_of (mesh_of p) ≡ length p.actors
 unfolding mesh_of
 actors_are p = length-map p.actors _
 
-record_is : (p : Play) (c : ℕ) → c < length p.actors → record_of (mesh_of p) c ≡ (actor_at p c).past
+pub record_is : (p : Play) (c : ℕ) → c < length p.actors → record_of (mesh_of p) c ≡ (actor_at p c).past
 unfolding mesh_of actor_at
 record_is p c below =
     get_or_append_left (map (λ (a : Actor). a.past) p.actors) (p.operated ∷ []) [] c (omega (arith, below, length-map p.actors (λ (a : Actor). a.past)))

@@ -1,130 +1,132 @@
 -- An actor's record goes by its marks, line by line and action by action.
-use Rattle.std.proofs.Common.{◌≡◌, ℕ, ◌+◌, ◌-◌, ◌≤◌, Bool, List, [], ◌∷◌, ◌++◌, Contains, refl, sym, ap, subst, arith, ◌⊎◌, inl, inr}
-use Rattle.std.specs.Prelude.{Option, Some, None, ◌≢◌, slice_get}
-use Rattle.std.proofs.lemmas.List.Elements.{Contains-append_left, Contains-push, Contains-push_cases}
+use Rattle.std.proofs.Common.{◌≡◌, ℕ, ◌+◌, ◌-◌, ◌≤◌, ◌<◌, Bool, true, false, List, [], ◌∷◌, ◌++◌, Contains, refl, sym, ap, ◌∙◌, subst, arith, ◌⊎◌, inl, inr}
+use Rattle.std.specs.Prelude.{Option, Some, None, ◌≢◌, ◌==◌, ◌&&◌, slice_get}
+use Rattle.std.specs.List.{count_by}
+use Rattle.std.proofs.lemmas.Bool.{and_from, eq-eqb}
+use Rattle.std.proofs.lemmas.List.Elements.{Contains-push_cases}
 use Rattle.journal_core.specs.declared.request.Request.{Request}
 use Rattle.writer_core.specs.declared.task.Task.{Task}
 use Rattle.writer_core.specs.declared.task.Begun.{Begun}
 use Rattle.writer_core.specs.declared.task.Begun.TheVariants as begun
 use Rattle.writer_core.specs.Views.{WriterView}
 use Rattle.writer_core.specs.Writer.{writer_begun}
+use Rattle.journal_history.specs.Same.{same_request}
+use Rattle.journal_history.proofs.SameLaws.{request_self}
 use Rattle.journal_history.specs.declared.record.Record.{Record}
 use Rattle.journal_history.specs.declared.record.Record.TheVariants.{Call, Late, Operator, Outcome}
 use Rattle.journal_history.specs.declared.mark.Mark.{Mark}
 use Rattle.journal_history.specs.declared.mark.MarkKind.TheVariants as kind
-use Rattle.mesh.specs.Marks.{mark, calls_to, next_number, Asked, IsAsMarked, IsCopy, IsMarked, AreCopied}
+use Rattle.mesh.specs.Marks.{mark, calls_to, next_number, Asked, IsAsMarked, IsCopy, IsMarked, AreCopied, is_copy_of, copies_of, is_late_of, marked_late}
+use Rattle.mesh.proofs.CopyLaws.{AreAsked, one_if, one_more, none_more, asked_known, marks_still, not_late, late_of_call}
 use Rattle.play_names.specs.Holding.{Holding}
 use Rattle.play_model.specs.Lines.{Action, Does, DoDrop, DoMute, DoLate, Submits, Trims, DoTail, Saves, Reloads, IsAction}
 use Rattle.play_model.specs.Actor.{Actor, wants, task_begun, make_copy, take_named_action, take_action, moved_on, Fits}
 use Rattle.play_model.proofs.Framed.{framed_keeps, held_framed}
 use Rattle.play_model.proofs.Led.{moved_keeps, call_copies}
-use Rattle.play_model.proofs.Wanting.{sending, same_sending, Copying, fits_copying, no_operation}
-use Rattle.play_calls.proofs.MarkLaws.{asked_more, asked_one, copy_more, copy_planned, IsLater, more_marks, marked_snoc}
+use Rattle.play_model.proofs.Wanting.{Copying, fits_copying, no_operation}
+use Rattle.play_calls.proofs.MarkLaws.{asked_more, IsLater, more_marks, marked_snoc}
 
--- a late mark was of a call, and its copy was sent or is the next to be sent
-abbrev pub IsSent : List Record → Option (ℕ × Request) → ℕ → Request → Type 0
-IsSent past copies k r = Contains past (Late k r) ⊎ (copies ≡ Some (k, r))
+-- the copy that is the next to be sent
+abbrev pub coming : Option (ℕ × Request) → List Record
+coming (Some (k, r)) = Late k r ∷ []
+coming None = []
 
-unfoldable pub IsAnswered : List Record → Option (ℕ × Request) → ℕ → ℕ → Type 0
-IsAnswered past copies k n = (r : Request) × Asked k n r past × IsSent past copies k r
-
+-- The late marks are of calls that were made, and as many copies were sent or are the next to be
+-- sent.
 pub record Goes (marks : List Mark) (past : List Record) (copies : Option (ℕ × Request)) : Type 0 where
   pub marked : IsMarked marks [] past
-  pub copy : (k : ℕ) (q : Request) → copies ≡ Some (k, q) → IsCopy marks past k q
-  pub late : (k n : ℕ) → Contains marks (mark k n kind.Late) → IsAnswered past copies k n
+  pub asked : AreAsked marks past
+  pub counted : (k : ℕ) (q : Request) → copies_of k q past + copies_of k q (coming copies) ≡ marked_late marks k q past
 
 pub fresh_goes : Goes [] [] None
 unfolding IsMarked
-fresh_goes = record { marked = tt; copy = λ k q e. absurd (cc e); late = λ k n h. absurd (omega (arith, h.1)) }
+fresh_goes = record { marked = tt; asked = λ k n h. absurd (omega (arith, h.1)); counted = λ k q. refl }
 
 -- ## A mark of a call to come
 pub one_mark : (marks : List Mark) (past : List Record) (copies : Option (ℕ × Request)) (x : Mark) → IsLater x past
-    → ((k n : ℕ) → x ≢ mark k n kind.Late) → Goes marks past copies → Goes (marks ++ x ∷ []) past copies
+    → x.kind ≢ kind.Late → Goes marks past copies → Goes (marks ++ x ∷ []) past copies
 one_mark marks past copies x l off h = record {
   marked = more_marks marks x [] past l h.marked;
-  copy = λ k q e. copy_planned marks x past k q (h.copy k q e);
-  late = λ k n g. by k n (Contains-push_cases marks x (mark k n kind.Late) g);
+  asked = λ k n g. by k n (Contains-push_cases marks x (mark k n kind.Late) g);
+  counted = λ k q. h.counted k q ∙ sym (none_more (is_late_of k q past) marks x (not_late x past k q off));
 }
   where
-    by : (k n : ℕ) → Contains marks (mark k n kind.Late) ⊎ (x ≡ mark k n kind.Late) → IsAnswered past copies k n
-    by k n (inl g) = h.late k n g
-    by k n (inr e) = absurd (off k n e)
+    by : (k n : ℕ) → Contains marks (mark k n kind.Late) ⊎ (x ≡ mark k n kind.Late) → (q : Request) × Asked k n q past
+    by k n (inl g) = h.asked k n g
+    by k n (inr e) = absurd (off (ap (λ (m : Mark). m.kind) e))
 
 -- ## A copy of a call that was made
+-- one line is counted once
+one_line_counted : (p : Record → Bool) (x : Record) (b : Bool) → p x ≡ b → count_by p (x ∷ []) ≡ one_if b
+one_line_counted p x b e = let h : count_by p (x ∷ []) ≡ 0 + one_if b = one_more p [] x b e in omega (arith, h)
+
+marked_more : (marks : List Mark) (past : List Record) (k n : ℕ) (q : Request) → Asked k n q past → (i : ℕ) (p : Request) → copies_of i p past + 0 ≡ marked_late marks i p past
+    → copies_of i p past + copies_of i p (Late k q ∷ []) ≡ marked_late (marks ++ mark k n kind.Late ∷ []) i p past
+unfolding is_copy_of
+marked_more marks past k n q a i p h =
+    let of : Bool = (k == i) && same_request q p in
+    let copy : copies_of i p (Late k q ∷ []) ≡ one_if of = one_line_counted (is_copy_of i p) (Late k q) of refl in
+    let more : marked_late (marks ++ mark k n kind.Late ∷ []) i p past ≡ marked_late marks i p past + one_if of =
+    one_more (is_late_of i p past) marks (mark k n kind.Late) of (late_of_call k n q past i p (asked_known k n q past a)) in
+    omega (arith, h, copy, more)
+
 one_copy : (marks : List Mark) (past : List Record) (k n : ℕ) (q : Request) → Asked k n q past → Goes marks past None → Goes (marks ++ mark k n kind.Late ∷ []) past (Some (k, q))
-unfolding IsAnswered IsLater
+unfolding IsLater
 one_copy marks past k n q a h = record {
   marked = more_marks marks (mark k n kind.Late) [] past (inl refl) h.marked;
-  copy = λ i p e. same i p e;
-  late = λ i j g. by i j (Contains-push_cases marks (mark k n kind.Late) (mark i j kind.Late) g);
+  asked = λ i j g. by i j (Contains-push_cases marks (mark k n kind.Late) (mark i j kind.Late) g);
+  counted = λ i p. marked_more marks past k n q a i p (h.counted i p);
 }
   where
-    same : (i : ℕ) (p : Request) → sending k q ≡ sending i p → IsCopy (marks ++ mark k n kind.Late ∷ []) past i p
-    same i p e =
-        let x : k ≡ i = (same_sending k i q p e).0 in
-        let y : q ≡ p = (same_sending k i q p e).1 in
-        subst (λ (z : ℕ). IsCopy (marks ++ mark k n kind.Late ∷ []) past z p) x
-        (subst (λ (z : Request). IsCopy (marks ++ mark k n kind.Late ∷ []) past k z) y (n, Contains-push marks (mark k n kind.Late), a))
-
-    old : (i j : ℕ) → IsAnswered past None i j → IsAnswered past (Some (k, q)) i j
-    old i j g = (g.0, g.1, sent g.2)
-      where
-        sent : IsSent past None i g.0 → IsSent past (Some (k, q)) i g.0
-        sent (inl c) = inl c
-        sent (inr e) = absurd (cc e)
-
-    by : (i j : ℕ) → Contains marks (mark i j kind.Late) ⊎ (mark k n kind.Late ≡ mark i j kind.Late) → IsAnswered past (Some (k, q)) i j
-    by i j (inl g) = old i j (h.late i j g)
+    by : (i j : ℕ) → Contains marks (mark i j kind.Late) ⊎ (mark k n kind.Late ≡ mark i j kind.Late) → (p : Request) × Asked i j p past
+    by i j (inl g) = h.asked i j g
     by i j (inr e) =
         let x : k ≡ i = ap (λ (m : Mark). m.node) e in
         let y : n ≡ j = ap (λ (m : Mark). m.number) e in
-        subst (λ (z : ℕ). IsAnswered past (Some (k, q)) z j) x (subst (λ (z : ℕ). IsAnswered past (Some (k, q)) k z) y (q, a, inr refl))
+        (q, subst (λ (z : ℕ). Asked z j q past) x (subst (λ (z : ℕ). Asked k z q past) y a))
 
 -- ## One line of the record more
-answered_more : (past : List Record) (copies : Option (ℕ × Request)) (r : Record) (k n : ℕ) → IsAnswered past copies k n → IsAnswered (past ++ r ∷ []) copies k n
-unfolding IsAnswered
-answered_more past copies r k n h = (h.0, asked_more k n h.0 past (r ∷ []) h.1, by h.2)
-  where
-    by : IsSent past copies k h.0 → IsSent (past ++ r ∷ []) copies k h.0
-    by (inl c) = inl (Contains-append_left past (r ∷ []) (Late k h.0) c)
-    by (inr e) = inr e
+asked_still : (marks : List Mark) (past : List Record) (r : Record) → AreAsked marks past → AreAsked marks (past ++ r ∷ [])
+asked_still marks past r h k n g = let q = h k n g in (q.0, asked_more k n q.0 past (r ∷ []) q.1)
 
-one_line : (marks : List Mark) (past : List Record) (copies : Option (ℕ × Request)) (r : Record) → IsMarked marks past (r ∷ []) → Goes marks past copies → Goes marks (past ++ r ∷ []) copies
-one_line marks past copies r e h = record {
+one_line : (marks : List Mark) (past : List Record) (copies : Option (ℕ × Request)) (r : Record) → IsMarked marks past (r ∷ []) → ((k : ℕ) (q : Request) → is_copy_of k q r ≡ false)
+    → Goes marks past copies → Goes marks (past ++ r ∷ []) copies
+one_line marks past copies r e other h = record {
   marked = marked_snoc marks [] past r h.marked e;
-  copy = λ k q f. copy_more marks past (r ∷ []) k q (h.copy k q f);
-  late = λ k n g. answered_more past copies r k n (h.late k n g);
+  asked = asked_still marks past r h.asked;
+  counted = λ k q. ap (λ (z : ℕ). z + copies_of k q (coming copies)) (none_more (is_copy_of k q) past r (other k q)) ∙ (h.counted k q ∙ sym (marks_still marks past r k q h.asked));
 }
+
+-- the copy that is to be sent has its mark
+pub copy_due : (marks : List Mark) (past : List Record) (k : ℕ) (q : Request) → Goes marks past (Some (k, q)) → IsCopy marks past k q
+unfolding is_copy_of
+copy_due marks past k q h =
+    let own : ((k == k) && same_request q q) ≡ true = and_from (k == k) (same_request q q) (eq-eqb k k refl) (request_self q) in
+    let copy : copies_of k q (Late k q ∷ []) ≡ 1 = one_line_counted (is_copy_of k q) (Late k q) true own in
+    let all : copies_of k q past + copies_of k q (Late k q ∷ []) ≡ marked_late marks k q past = h.counted k q in
+    omega (arith, copy, all)
+
+copy_counted : (marks : List Mark) (past : List Record) (k : ℕ) (q : Request) → AreAsked marks past → (i : ℕ) (p : Request)
+    → copies_of i p past + copies_of i p (Late k q ∷ []) ≡ marked_late marks i p past → copies_of i p (past ++ Late k q ∷ []) + 0 ≡ marked_late marks i p (past ++ Late k q ∷ [])
+unfolding is_copy_of
+copy_counted marks past k q asked i p h =
+    let of : Bool = (k == i) && same_request q p in
+    let copy : copies_of i p (Late k q ∷ []) ≡ one_if of = one_line_counted (is_copy_of i p) (Late k q) of refl in
+    let line : copies_of i p (past ++ Late k q ∷ []) ≡ copies_of i p past + one_if of = one_more (is_copy_of i p) past (Late k q) of refl in
+    let marks_are : marked_late marks i p (past ++ Late k q ∷ []) ≡ marked_late marks i p past = marks_still marks past (Late k q) i p asked in
+    omega (arith, h, copy, line, marks_are)
 
 copy_line : (marks : List Mark) (past : List Record) (k : ℕ) (q : Request) → Goes marks past (Some (k, q)) → Goes marks (past ++ Late k q ∷ []) None
-unfolding IsAnswered IsMarked
+unfolding IsMarked
 copy_line marks past k q h = record {
-  marked = marked_snoc marks [] past (Late k q) h.marked (h.copy k q refl, tt);
-  copy = λ i p e. absurd (cc e);
-  late = λ i j g. sent i j (h.late i j g);
+  marked = marked_snoc marks [] past (Late k q) h.marked (copy_due marks past k q h, tt);
+  asked = asked_still marks past (Late k q) h.asked;
+  counted = λ i p. copy_counted marks past k q h.asked i p (h.counted i p);
 }
-  where
-    sent : (i j : ℕ) → IsAnswered past (Some (k, q)) i j → IsAnswered (past ++ Late k q ∷ []) None i j
-    sent i j g = (g.0, asked_more i j g.0 past (Late k q ∷ []) g.1, by g.2)
-      where
-        by : IsSent past (Some (k, q)) i g.0 → IsSent (past ++ Late k q ∷ []) None i g.0
-        by (inl c) = inl (Contains-append_left past (Late k q ∷ []) (Late i g.0) c)
-        by (inr e) =
-            let parts : (k ≡ i) × (q ≡ g.0) = same_sending k i q g.0 e in
-            let same : Late k q ≡ Late i g.0 = cc (parts.0, parts.1) in
-            inl (subst (λ (z : Record). Contains (past ++ Late k q ∷ []) z) same (Contains-push past (Late k q)))
 
--- ## At its end each late mark has its copy
+-- ## At its end each late mark has a copy of its own
 pub all_copied : (marks : List Mark) (past : List Record) → Goes marks past None → AreCopied marks past
-unfolding IsAnswered
-all_copied marks past h k n q c a = by (h.late k n c)
-  where
-    by : IsAnswered past None k n → Contains past (Late k q)
-    by g = sent g.2
-      where
-        sent : IsSent past None k g.0 → Contains past (Late k q)
-        sent (inl x) = subst (λ (z : Request). Contains past (Late k z)) (asked_one k n g.0 q past g.1 a) x
-        sent (inr e) = absurd (cc e)
+all_copied marks past h k q = let e : copies_of k q past + 0 ≡ marked_late marks k q past = h.counted k q in omega (arith, e)
 
 -- ## An actor
 unfoldable pub GoesBy : Actor → Type 0
@@ -155,12 +157,12 @@ pub taken_goes : (named : Bool) (d : Action) (a : Actor) → IsAction named d �
 unfolding take_action GoesBy IsLater
 taken_goes named (Does t) a d none h = unfold GoesBy in begun_goes t (writer_begun a.writer t).writer a (writer_begun a.writer t).begun h
 taken_goes named (DoDrop k n) a d none h = one_mark a.marks a.past a.copies (mark k (next_number k a.past + (n - 1)) kind.Dropped) (inr (omega arith))
-    (λ i j e. absurd (kinds (ap (λ (m : Mark). m.kind) e))) h
+    kinds h
   where
     kinds : kind.Dropped ≡ kind.Late → ⊥
     kinds e = cc e
 taken_goes named (DoMute k n) a d none h = one_mark a.marks a.past a.copies (mark k (next_number k a.past + (n - 1)) kind.Muted) (inr (omega arith))
-    (λ i j e. absurd (kinds (ap (λ (m : Mark). m.kind) e))) h
+    kinds h
   where
     kinds : kind.Muted ≡ kind.Late → ⊥
     kinds e = cc e
@@ -179,14 +181,14 @@ IsTold a (Operator k ask d) = Unit {0}
 IsTold a (Outcome x) = Unit {0}
 
 pub moved_goes : (r : Record) (a : Actor) → Fits (wants a) r → IsTold a r → GoesBy a → GoesBy (moved_on r (record a { past = a.past ++ r ∷ [] }))
-unfolding GoesBy IsTold IsMarked
+unfolding GoesBy IsTold IsMarked is_copy_of
 moved_goes (Call k q t) a f told h =
     let b : Actor = record a { past = a.past ++ Call k q t ∷ [] } in
     let keeps : ((moved_on (Call k q t) b).todo ≡ b.todo) × ((moved_on (Call k q t) b).past ≡ b.past) × ((moved_on (Call k q t) b).marks ≡ b.marks) = moved_keeps (Call k q t) b in
     along b.marks (moved_on (Call k q t) b).marks b.past (moved_on (Call k q t) b).past b.copies (moved_on (Call k q t) b).copies (sym keeps.2) (sym keeps.1) (sym (call_copies k q t b))
-    (one_line a.marks a.past a.copies (Call k q t) (told, tt) h)
+    (one_line a.marks a.past a.copies (Call k q t) (told, tt) (λ i p. refl) h)
 moved_goes (Late k q) a f told h =
     let c : Copying k q a = fits_copying a k q f in
     unfold moved_on in copy_line a.marks a.past k q (subst (λ (z : Option (ℕ × Request)). Goes a.marks a.past z) c.copies h)
 moved_goes (Operator k ask d) a f told h = absurd (no_operation (wants a) k ask d f)
-moved_goes (Outcome x) a f told h = unfold moved_on in one_line a.marks a.past a.copies (Outcome x) tt h
+moved_goes (Outcome x) a f told h = unfold moved_on in one_line a.marks a.past a.copies (Outcome x) tt (λ i p. refl) h

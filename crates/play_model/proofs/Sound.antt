@@ -23,9 +23,10 @@ use Rattle.play_model.proofs.Framed.{framed_keeps, held_framed}
 use Rattle.play_model.proofs.Led.{moved_keeps}
 use Rattle.play_model.proofs.Holds.{AsksNode, AsksIn, HoldsWell, Well, taken_well, moved_well, raw_taken, raw_moved, raw_writer}
 use Rattle.mesh.proofs.Lists.{alike, Alike}
+use Rattle.mesh.proofs.CopyLaws.{copy_named}
 use Rattle.play_model.proofs.Wanting.{Calling, Resting, calling, copying, resting, call_by, raw_call}
 use Rattle.run_safety.proofs.WriterRange.{Sized, heard_sized, begun_sized, new_sized, call_within}
-use Rattle.play_model.proofs.Goes.{GoesBy, fresh_goes, taken_goes, IsTold, moved_goes}
+use Rattle.play_model.proofs.Goes.{Goes, GoesBy, copy_due, fresh_goes, taken_goes, IsTold, moved_goes}
 
 pub actions_snoc : (named : Bool) (ds : List Action) (d : Action) → AreActions named ds → IsAction named d → AreActions named (ds ++ d ∷ [])
 unfolding AreActions
@@ -248,7 +249,8 @@ wants_call_within named n k q a h e = wants_within named n k q a h.sized h.holds
 pub wants_copy_within : (named : Bool) (n k : ℕ) (q : Request) (a : Actor) → Sound named n a → wants a ≡ WantsCopy k q → (1 ≤ k) × (k ≤ n)
 unfolding GoesBy
 wants_copy_within named n k q a h e =
-    let c : IsCopy a.marks a.past k q = h.goes.copy k q (copying a k q e).copies in
+    let due : IsCopy a.marks a.past k q = copy_due a.marks a.past k q (subst (λ (z : Option (ℕ × Request)). Goes a.marks a.past z) (copying a k q e).copies h.goes) in
+    let c = copy_named a.marks a.past k q due in
     made_within n k (c.0 - 1) q a.past h.within c.2.1
 
 -- the record of an actor some lines later

@@ -26,6 +26,7 @@ use Rattle.mesh.specs.Makers.{heard_of}
 use Rattle.play_model.specs.Lines.{Action, Does, DoDrop, DoMute, DoLate, Submits, Trims, DoTail, Saves, Reloads}
 use Rattle.play_names.specs.Results.{word, took, cause_words, aborted_results, results_of, inactive_results, too_long_results, late_none, dues_logged, dues_aborted, abort_text}
 use Rattle.ns_tree.specs.declared.end.LastSpace.{LastSpace}
+use Rattle.ns_edits.specs.Replay.{Image}
 use Rattle.play_names.specs.Submissions.{Submission, submit_edits, nothing_submitted}
 use Rattle.play_names.specs.Holding.{Holding, new_holding, Work, Free, Tails, Logs, Broken, with_work, at_position, save_image, reload_image, min_to_keep}
 pub use Rattle.play_names.specs.Holding.{enters}
@@ -301,3 +302,8 @@ actor_after a (r ∷ rs) = actor_after (goes_on a r) rs
 abbrev pub last_of : Option Holding → Option LastSpace
 last_of None = None
 last_of (Some h) = Some (record { position = h.position; rows = h.space.pairs })
+
+-- and the images that it kept, the newest first
+abbrev pub images_of : Option Holding → List Image
+images_of None = []
+images_of (Some h) = h.images

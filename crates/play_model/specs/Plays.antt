@@ -1,5 +1,6 @@
 -- A script played: its lines are taken in order, and the calls of each line are made one after the
 -- other.
+use Rattle.std.specs.List.{AllZip}
 use Rattle.std.specs.Prelude.{◌≡◌, ℕ, zero, suc, ◌+◌, ◌-◌, ◌&&◌, Bool, true, false, List, [], ◌∷◌, ◌++◌, map, replicate, slice_index_or, slice_set, is_none, Option, Some, None}
 use Rattle.journal_core.specs.declared.request.Request.{Request}
 use Rattle.journal_core.specs.declared.node_state.NodeState.{NodeState}
@@ -14,14 +15,17 @@ use Rattle.journal_history.specs.Moving.{Placed}
 use Rattle.mesh.specs.declared.whole.Mesh.{Mesh}
 use Rattle.mesh.specs.Marks.{next_number}
 unfoldable pub use Rattle.mesh.specs.Traces.{history_of}
+use Rattle.base_disk.specs.declared.mem_disk.MemDisk.{MemDisk}
 use Rattle.ns_tree.specs.declared.end.End.{End}
+use Rattle.ns_edits.specs.Replay.{Image}
+use Rattle.play_names.specs.ImageDisks.{HoldsOn}
 use Rattle.play_script.specs.Scripts.{ScriptView}
 pub use Rattle.play_calls.specs.declared.delivery.Delivery.{Delivery}
 pub use Rattle.play_calls.specs.declared.delivery.Delivery.TheVariants.{Delivered, ReplyLost, NotDelivered}
 unfoldable pub use Rattle.mesh.specs.Marks.{same_kind, is_marked}
 unfoldable pub use Rattle.play_calls.specs.Deliveries.{delivery, told_of, is_done}
 use Rattle.play_model.specs.Lines.{Line, Declares, Acts, Operates, lines_of, count_actors}
-use Rattle.play_model.specs.Actor.{Actor, fresh_actor, hand_action, Want, WantsCall, WantsCopy, Says, Rests, wants, goes_on, last_of}
+use Rattle.play_model.specs.Actor.{Actor, fresh_actor, hand_action, Want, WantsCall, WantsCopy, Says, Rests, wants, goes_on, last_of, images_of}
 
 pub record Play : Type 0 where
   -- with names or without
@@ -149,3 +153,14 @@ pub record IsPlayed (named : Bool) (nodes : ℕ) (lines : List Line) (m : Mesh) 
 -- the states that nodes tell after these histories
 abbrev pub states_after : List (List HistoryLine) → List (Option NodeState)
 states_after histories = map (λ h. Some (cell_after fresh_cell h).state) histories
+
+-- ## The images at the end
+-- those that each actor kept, the newest first
+abbrev pub images_in : Play → List (List Image)
+images_in p = map (λ a. images_of a.holds) p.actors
+
+-- The mesh and the ends are those of a play with these lines, and the disks, one for each actor in
+-- order of declaration, hold the images that its actors kept.
+pub record LeavesImages (named : Bool) (nodes : ℕ) (lines : List Line) (m : Mesh) (ends : List End) (disks : List MemDisk) : Type 0 where
+  pub played : IsPlayed named nodes lines m ends
+  pub images : AllZip HoldsOn disks (images_in played.play)

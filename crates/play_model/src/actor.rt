@@ -1,11 +1,12 @@
 //! Who does the lines of a script.
 ghost use Rattle.std.specs.Prelude.{◌≡◌, OnOk, IfOk};
 ghost use Rattle.play_model.specs.Lines.{line_of};
-ghost use Rattle.play_model.specs.Actor.{last_of};
+ghost use Rattle.play_names.specs.ImageDisks.{HoldsOn};
+ghost use Rattle.play_model.specs.Actor.{last_of, images_of};
 ghost use Rattle.play_model.specs.Actions.{ActorView, new_actor_view, has_names, kept_by, action_of, IsIdleActor, MayCome, TakesIf};
 
+use crate::actor_left::ActorLeft;
 use journal_core::OutOfMemory;
-use ns_tree::LastSpace;
 use play_calls::Seats;
 use play_script::ScriptLine;
 use std::alloc::Global;
@@ -34,7 +35,8 @@ pub trait Actor: Drop {
         ensures named { OnOk result (has_names (seen self.new) ≡ has_names (seen self.old)) }
         ensures later { OnOk result (S.later seats.old seats.new) };
 
-    /// What it holds at last, if it holds a namespace.
-    fn into_last(self, alloc: Global) -> Result<Option<LastSpace>, OutOfMemory>
-        ensures { IfOk result (λ last. last ≡ last_of (seen self).holds) };
+    /// What it holds at last, if it holds a namespace, and the images that it kept.
+    fn into_left(self, alloc: Global) -> Result<ActorLeft, OutOfMemory>
+        ensures last { IfOk result (λ left. left.last ≡ last_of (seen self).holds) }
+        ensures images { IfOk result (λ left. HoldsOn left.images (images_of (seen self).holds)) };
 }

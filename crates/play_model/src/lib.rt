@@ -2,11 +2,13 @@
 #![tactic(auto)]
 
 mod actor;
+mod actor_left;
 mod declarations;
 mod laws;
 mod played;
 
 pub use actor::Actor;
+pub use actor_left::ActorLeft;
 pub use declarations::actors_in;
 pub use laws::{
     a_mesh_that_agrees_is_safe, a_mesh_that_agrees_shows_no_fault, a_play_agrees, a_play_follows,

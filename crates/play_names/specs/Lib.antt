@@ -5,3 +5,4 @@ pub mod Examples
 pub mod Results
 pub mod ResultLists
 pub mod DueTexts
+pub mod ImageDisks

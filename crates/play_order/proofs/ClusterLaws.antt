@@ -7,10 +7,15 @@ use Rattle.journal_history.specs.declared.record.Record.{Record}
 use Rattle.journal_history.specs.declared.mark.Mark.{Mark}
 use Rattle.journal_history.specs.NodeCells.{CellView}
 use Rattle.mesh.specs.declared.whole.Mesh.{Mesh}
+use Rattle.base_disk.specs.declared.mem_disk.MemDisk.{MemDisk}
+use Rattle.ns_edits.specs.Replay.{Image}
+use Rattle.std.specs.List.{AllZip}
 use Rattle.play_order.specs.declared.player.Player.{Player}
 use Rattle.play_model.specs.Actions.{ActorView}
 use Rattle.play_model.specs.KeptActor.{KeptActor, new_actor}
-use Rattle.play_order.specs.Kept.{Kept, with_actor, mesh_kept, end_of, ends_kept}
+use Rattle.play_names.specs.ImageDisks.{HoldsOn}
+use Rattle.play_model.specs.Actor.{images_of}
+use Rattle.play_order.specs.Kept.{Kept, with_actor, mesh_kept, end_of, ends_kept, images_kept}
 use Rattle.play_order.specs.Shown.{keeps, kept}
 
 abbrev with_actors : Bool → List CellView → ℕ → List Record → List KeptActor → Kept
@@ -48,3 +53,16 @@ module _ {A : Type 0} (seen : A → ActorView) where
       → map (λ p. end_of (keeps seen p)) players ≡ ends_kept (kept seen named nodes players o os)
   ends_are named nodes [] o os = refl
   ends_are named nodes (p ∷ ps) o os = ap (λ xs. end_of (keeps seen p) ∷ xs) (ends_are named nodes ps o os)
+
+  pub images_are : (named : Bool) (nodes : List CellView) (players : List (Player A)) (o : ℕ) (os : List Record)
+      → map (λ p. images_of (keeps seen p).holds) players ≡ images_kept (kept seen named nodes players o os)
+  images_are named nodes [] o os = refl
+  images_are named nodes (p ∷ ps) o os = ap (λ xs. images_of (keeps seen p).holds ∷ xs) (images_are named nodes ps o os)
+
+-- one disk more
+pub disk_more : (disks : List MemDisk) (images : List (List Image)) (disk : MemDisk) (kept : List Image) → AllZip HoldsOn disks images → HoldsOn disk kept
+    → AllZip HoldsOn (disks ++ disk ∷ []) (images ++ kept ∷ [])
+disk_more [] [] disk kept h k = (k, tt)
+disk_more [] (i ∷ images) disk kept h k = absurd h
+disk_more (d ∷ disks) [] disk kept h k = absurd h
+disk_more (d ∷ disks) (i ∷ images) disk kept h k = (h.0, disk_more disks images disk kept h.1 k)

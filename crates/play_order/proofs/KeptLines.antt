@@ -155,23 +155,23 @@ begins_at_rest named n ls =
       actors = refl;
     }
 
-pasts : (xs : List KeptActor) → map (λ a. a.past) (map resting xs) ≡ map (λ a. a.past) xs
+pub pasts : (xs : List KeptActor) → map (λ a. a.past) (map resting xs) ≡ map (λ a. a.past) xs
 pasts [] = refl
 pasts (a ∷ xs) = ap (λ ys. a.past ∷ ys) (pasts xs)
 
-marks_of : (xs : List KeptActor) → map (λ a. a.marks) (map resting xs) ≡ map (λ a. a.marks) xs
+pub marks_of : (xs : List KeptActor) → map (λ a. a.marks) (map resting xs) ≡ map (λ a. a.marks) xs
 marks_of [] = refl
 marks_of (a ∷ xs) = ap (λ ys. a.marks ∷ ys) (marks_of xs)
 
 abbrev mesh_with : ℕ → List (List HistoryLine) → List (List Record) → List Record → List (List Mark) → Mesh
 mesh_with n hs rs os ms = record { nodes = n; histories = hs; records = rs ++ os ∷ []; plan = ms }
 
-ends_are : (xs : List KeptActor) → map end_of xs ≡ ends_from (map (λ a. a.name) xs) (map resting xs)
+pub ends_are : (xs : List KeptActor) → map end_of xs ≡ ends_from (map (λ a. a.name) xs) (map resting xs)
 unfolding ends_from
 ends_are [] = refl
 ends_are (a ∷ xs) = ap (λ ys. end_of a ∷ ys) (ends_are xs)
 
-pub is_played : (named : Bool) (n : ℕ) (ls : List Line) (k : Kept) (p : Play) → Leads (play_begins named n ls) p → IsAtRest [] k p → IsPlayed named n ls (mesh_kept k) (ends_kept k)
+unfoldable pub is_played : (named : Bool) (n : ℕ) (ls : List Line) (k : Kept) (p : Play) → Leads (play_begins named n ls) p → IsAtRest [] k p → IsPlayed named n ls (mesh_kept k) (ends_kept k)
 unfolding has_ended no_lines mesh_of ends_of
 is_played named n ls k p leads h =
     record {

@@ -7,3 +7,4 @@ pub mod SeatsGo
 pub mod ClusterLaws
 pub mod PlayLaws
 pub mod NodesLeft
+pub mod ImagesLeft

@@ -13,8 +13,9 @@ use Rattle.journal_history.specs.Cell.{cell_takes}
 use Rattle.journal_history.specs.NodeCells.{CellView, new_cell}
 use Rattle.mesh.specs.declared.whole.Mesh.{Mesh}
 use Rattle.ns_tree.specs.declared.end.End.{End}
+use Rattle.ns_edits.specs.Replay.{Image}
 use Rattle.play_model.specs.Lines.{Line}
-use Rattle.play_model.specs.Actor.{last_of}
+use Rattle.play_model.specs.Actor.{last_of, images_of}
 use Rattle.play_model.specs.KeptActor.{KeptActor, new_actor, resting}
 use Rattle.play_model.specs.Plays.{Play, play_steps, histories_from, Delivery, Delivered, ReplyLost, NotDelivered, told_of, is_done}
 
@@ -118,3 +119,7 @@ ends_kept k = map end_of k.actors
 -- ## The nodes at the end
 abbrev pub states_kept : Kept → List (Option NodeState)
 states_kept k = map (λ v. Some v.cell.state) k.nodes
+
+-- ## The images at the end
+abbrev pub images_kept : Kept → List (List Image)
+images_kept k = map (λ a. images_of a.holds) k.actors

@@ -1,22 +1,26 @@
 //! The nodes and the actors of a play.
-ghost use Rattle.std.specs.List.{All};
+ghost use Rattle.std.specs.List.{All, AllZip};
 ghost use Rattle.std.specs.Prelude.{◌≡◌, ◌≤◌, ◌<◌, OnOk, IfOk, Some, length, ℕ, map, replicate};
 ghost use Rattle.journal_core.specs.Step.{fresh_state};
 ghost use Rattle.journal_history.specs.NodeCells.{new_cell};
+ghost use Rattle.play_names.specs.ImageDisks.{HoldsOn};
+ghost use Rattle.play_model.specs.Actor.{images_of};
 ghost use Rattle.play_model.specs.Actions.{MayCome};
-ghost use Rattle.play_order.specs.Kept.{new_kept, with_actor, operates, mesh_kept, end_of, ends_kept, states_kept};
+ghost use Rattle.play_order.specs.Kept.{new_kept, with_actor, operates, mesh_kept, end_of, ends_kept, states_kept, images_kept};
 ghost use Rattle.play_model.specs.Lines.{Acts, Action, line_of};
 ghost use Rattle.play_order.specs.Ready.{IsIdle, TakesLine};
 ghost use Rattle.play_order.specs.Shown.{keeps};
 
 use crate::play_seats::PlaySeats;
+use crate::played_on::PlayedOn;
 use crate::player::Player;
+use base_disk::MemDisk;
 use journal_core::{Bytes, CutNode, Name, OutOfMemory};
 use journal_history::{NodeAsk, NodeCell, Plan, Record, RecordList, cells_of};
 use mesh::{HistoryTable, Mesh, RecordTable};
 use ns_tree::{End, EndList};
 use play_calls::{CallerLog, is_done};
-use play_model::{Actor, Played};
+use play_model::{Actor, ActorLeft, Played};
 use play_script::ScriptLine;
 use std::alloc::{AllocError, Global};
 use std::marker::Model;
@@ -74,12 +78,13 @@ fn nodes_of<N: CutNode + Drop>(
     })
 }
 
-/// What is left of the actors: their ends, their records, and their marks.
+/// What is left of the actors: their ends, their records, their marks, and their images.
 #[derive(Drop)]
 struct Lists {
     ends: EndList,
     records: Vec<RecordList>,
     plan: Plan,
+    images: Vec<MemDisk>,
 }
 
 /// What these actors leave.
@@ -87,22 +92,26 @@ fn lists_of<A: Actor>(alloc: Global, players: Vec<Player<A>>) -> Result<Lists, O
     ensures ends { IfOk result (λ l. l.ends ≡ map (λ p. end_of (keeps A.seen p)) players.items) }
     ensures records { IfOk result (λ l. l.records.items ≡ map (λ p. p.log.past) players.items) }
     ensures plan { IfOk result (λ l. l.plan ≡ map (λ p. p.log.marks) players.items) }
+    ensures images { IfOk result (λ l. AllZip HoldsOn l.images.items (map (λ p. images_of (keeps A.seen p).holds) players.items)) }
 {
     let mut ends = EndList::new(alloc);
     let mut records = Vec::with_capacity(alloc, players.len() + 1)?;
     let mut plan = Plan::new(alloc);
+    let mut disks = Vec::with_capacity(alloc, players.len())?;
     for player in players {
         let Player { name, actor, log } = player;
-        let last = actor.into_last(alloc)?;
+        let ActorLeft { last, images } = actor.into_left(alloc)?;
         let (past, marks) = log.into_parts();
         ends.push(End { name, last })?;
         records.push(past)?;
         plan.push(marks)?;
+        disks.push(images)?;
     }
     Ok(Lists {
         ends,
         records,
         plan,
+        images: disks,
     })
 }
 
@@ -211,11 +220,12 @@ impl<A: Actor, N: CutNode + Drop> Cluster<A, N> {
     }
 
     /// What is left at the end of a play.
-    pub(crate) fn into_played(self, alloc: Global) -> Result<Played<N>, OutOfMemory>
-        ensures mesh { IfOk result (λ played. played.mesh ≡ mesh_kept self) }
-        ensures ends { IfOk result (λ played. played.ends ≡ ends_kept self) }
-        ensures states { IfOk result (λ played. map (λ n. N.state n) played.nodes.items ≡ states_kept self) }
-        ensures steady { IfOk result (λ played. All (λ n. N.steady n) played.nodes.items) }
+    pub(crate) fn into_played(self, alloc: Global) -> Result<PlayedOn<N>, OutOfMemory>
+        ensures mesh { IfOk result (λ left. left.played.mesh ≡ mesh_kept self) }
+        ensures ends { IfOk result (λ left. left.played.ends ≡ ends_kept self) }
+        ensures states { IfOk result (λ left. map (λ n. N.state n) left.played.nodes.items ≡ states_kept self) }
+        ensures steady { IfOk result (λ left. All (λ n. N.steady n) left.played.nodes.items) }
+        ensures images { IfOk result (λ left. AllZip HoldsOn left.images.items (images_kept self)) }
     {
         let Cluster {
             named: _,
@@ -234,10 +244,14 @@ impl<A: Actor, N: CutNode + Drop> Cluster<A, N> {
             records: RecordTable::of(lists.records),
             plan: lists.plan,
         };
-        Ok(Played {
+        let played = Played {
             mesh,
             ends: lists.ends,
             nodes: left.nodes,
+        };
+        Ok(PlayedOn {
+            played,
+            images: lists.images,
         })
     }
 }

@@ -4,12 +4,13 @@ ghost use Rattle.std.specs.List.{All};
 ghost use Rattle.journal_core.specs.Step.{fresh_state};
 ghost use Rattle.play_script.specs.declared.script_line.ScriptLine.{ScriptLine};
 ghost use Rattle.play_model.specs.Lines.{line_of, lines_of, count_actors, IsPlayable, NumbersFit};
-ghost use Rattle.play_model.specs.Plays.{IsPlayed, states_after};
+ghost use Rattle.play_model.specs.Plays.{IsPlayed, LeavesImages, states_after};
 ghost use Rattle.play_order.specs.Kept.{mesh_kept, ends_kept, states_kept};
 ghost use Rattle.play_order.specs.Ready.{IsIdle, TakesLine};
 ghost use Rattle.play_order.specs.Goal.{MayTake, actors_after, IsUnderWay};
 
 use crate::cluster::Cluster;
+use crate::played_on::PlayedOn;
 use journal_core::{CutNode, OutOfMemory};
 use journal_history::{NodeAsk, SharedStop};
 use journal_step::PlainNode;
@@ -57,29 +58,30 @@ fn take_line<A: Actor, N: CutNode + Drop>(
 
 /// Plays a script in order by actors of this kind, each line with all its calls, over these nodes:
 /// as many as the script says, each fresh, steady and telling its state. They are handed back as
-/// their histories leave them.
+/// their histories leave them, and with them each actor's images.
 #[tactic(auto, using(crate::proofs::PlayLaws::plays))]
 pub fn play_on<A: Actor, N: CutNode + Drop>(
     alloc: Global,
     nodes: Vec<N>,
     script: &Script,
-) -> Result<Played<N>, OutOfMemory>
+) -> Result<PlayedOn<N>, OutOfMemory>
     requires playable { IsPlayable script.now }
     requires numbers { NumbersFit script.now }
     requires count { length nodes.items ≡ script.now.nodes }
     requires fresh { All (λ n. N.state n ≡ Some fresh_state) nodes.items }
     requires steady { All (λ n. N.steady n) nodes.items }
-    ensures played { IfOk result (λ played. IsPlayed script.now.named script.now.nodes (lines_of script.now) played.mesh played.ends) }
-    ensures states { IfOk result (λ played. map (λ n. N.state n) played.nodes.items ≡ states_after played.mesh.histories) }
-    ensures steady { IfOk result (λ played. All (λ n. N.steady n) played.nodes.items) }
+    ensures played { IfOk result (λ left. IsPlayed script.now.named script.now.nodes (lines_of script.now) left.played.mesh left.played.ends) }
+    ensures states { IfOk result (λ left. map (λ n. N.state n) left.played.nodes.items ≡ states_after left.played.mesh.histories) }
+    ensures steady { IfOk result (λ left. All (λ n. N.steady n) left.played.nodes.items) }
+    ensures images { IfOk result (λ left. LeavesImages script.now.named script.now.nodes (lines_of script.now) left.played.mesh left.played.ends left.images.items) }
 {
     let operator = actors_in(script.lines());
     let mut cluster: Cluster<A, N> = Cluster::of(alloc, script.names(), nodes, operator)?;
     for line in script.lines() {
         cluster = take_line(alloc, cluster, line)?;
     }
-    let played = cluster.into_played(alloc)?;
-    Ok(played)
+    let left = cluster.into_played(alloc)?;
+    Ok(left)
 }
 
 /// That many fresh nodes in memory.
@@ -102,5 +104,6 @@ pub fn play<A: Actor>(alloc: Global, script: &Script) -> Result<Played<PlainNode
     ensures { IfOk result (λ played. IsPlayed script.now.named script.now.nodes (lines_of script.now) played.mesh played.ends) }
 {
     let nodes = plain_nodes(alloc, script.nodes())?;
-    play_on::<A, PlainNode>(alloc, nodes, script)
+    let left = play_on::<A, PlainNode>(alloc, nodes, script)?;
+    Ok(left.played)
 }

@@ -1,5 +1,5 @@
 -- What holds of an active name node, and of the edits that are submitted to it.
-use Rattle.std.proofs.Common.{◌≡◌, ℕ, ◌+◌, ◌-◌, List, length, [], Bool, true, false, Option, Some, None, refl, sym, ap, ◌∙◌, arith}
+use Rattle.std.proofs.Common.{◌≡◌, ℕ, ◌+◌, ◌-◌, List, length, [], Bool, true, false, refl, sym, arith}
 use Rattle.std.specs.Prelude.{◌≢◌}
 use Rattle.edit_ops.specs.Records.{EditView}
 use Rattle.ns_tree.specs.Space.{AreRising}
@@ -11,7 +11,7 @@ use Rattle.writer_core.specs.declared.task.Begun.TheVariants as begun
 use Rattle.writer_core.specs.declared.round.Round.TheVariants as round
 use Rattle.writer_core.specs.declared.phase.Aim.TheVariants as aim
 use Rattle.writer_core.specs.Rounds.{asks_all, asks_others, end_record}
-use Rattle.writer_core.specs.Writer.{Began, begins, is_writing, if_writing, log_begins, log_limit, writer_begun}
+use Rattle.writer_core.specs.Writer.{Began, begins, is_writing, if_writing, writer_begun}
 use Rattle.writer_core.specs.Room.{room_of}
 use Rattle.play_standby.specs.declared.submitted.Submitted.{Submitted}
 use Rattle.play_standby.specs.declared.submitted.Submitted.TheVariants as submitted

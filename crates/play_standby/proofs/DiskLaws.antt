@@ -1,6 +1,6 @@
 -- The images that a disk holds, over a checkpoint and opening.
 use Rattle.std.proofs.Common.{inl, inr, ⊎_elim, ◌⊎◌, ◌≡◌, ℕ, ◌+◌, ◌-◌, ◌<◌, ◌≤◌, ◌^◌, max, List, [], ◌∷◌, ◌++◌, refl, sym, ap, ◌∙◌, subst, arith, length, take, drop, length-append, Option, Some, None}
-use Rattle.std.specs.Prelude.{◌↔◌, IsSome, slice_index, Result, OnOk}
+use Rattle.std.specs.Prelude.{◌↔◌, ◌≢◌, Contains, IsSome, slice_index, Result, Ok, IsErr, OnOk}
 use Rattle.std.proofs.Math.Seq.{get_or-append_seam}
 use Rattle.std.proofs.lemmas.Bool.{cases_eq}
 use Rattle.base_disk.specs.Files.{Files}
@@ -11,10 +11,12 @@ use Rattle.ns_store.specs.Images.{image_in, Counts, ListsImages}
 use Rattle.ns_store.specs.Images as stored
 use Rattle.ns_store.specs.Lists.{older_than, second_newest, kept_from}
 use Rattle.ns_store.specs.Names.{Itself, Digest, name_of}
-use Rattle.ns_store.specs.Saves.{Thins, AreRemoved, Retains}
-use Rattle.base_disk.specs.View.{View}
+use Rattle.ns_store.specs.Saves.{Prepares, Thins, AreRemoved, Retains}
+use Rattle.base_disk.specs.Calls.{Effect, Happens}
+use Rattle.base_disk.specs.Runs.{Quiet, weaker, joined}
+use Rattle.base_disk.specs.View.{View, LeavesOnly}
 use Rattle.base_disk.specs.declared.disk.DiskFail.{DiskFail}
-use Rattle.std.proofs.lemmas.Result.{on_ok_weaker}
+use Rattle.std.proofs.lemmas.Result.{on_ok_weaker, IfOk-from_err}
 use Rattle.ns_store.specs.Answers.{IsNewest, IsKeptFrom}
 use Rattle.ns_store.specs.Loads.{SavesImage, LoadsAs, IsAnswer, IsAnswerOf}
 use Rattle.ns_store.specs.declared.loaded.Loaded.{Loaded}
@@ -24,11 +26,11 @@ use Rattle.ns_store.specs.declared.kept_answer.MinToKeep.{MinToKeep}
 use Rattle.ns_store.specs.declared.kept_answer.MinToKeep.TheVariants as kept
 use Rattle.ns_store.proofs.CountLaws.{only_others, after_it, thin_others}
 use Rattle.ns_store.proofs.AnswerLaws.{loads_as}
-use Rattle.ns_store.proofs.ThinLaws.{one_list}
+use Rattle.ns_store.proofs.ThinLaws.{one_list, small_front}
 use Rattle.play_standby.specs.declared.opened.OpenedImage.{OpenedImage}
 use Rattle.play_standby.specs.declared.opened.OpenedImage.TheVariants as opened
 use Rattle.play_standby.specs.Standbys.{StandbyView, empty_standby, held}
-use Rattle.play_standby.specs.Disks.{AreFalling, HasTxid, HoldsImages, rising_txids, IsOpened, OpensAs, IsReloaded, IsMinOf}
+use Rattle.play_standby.specs.Disks.{AreFalling, HasTxid, HoldsImages, rising_txids, IsOpened, OpensAs, IsReloaded, IsMinOf, ListsBeside, IsThinned, IsInCheckpoint, Checkpoints}
 use Rattle.play_standby.proofs.ImageLists.{Each, each_both, each_of, at_txid, has_or_not, put_has, put_has_it, put_falling, put_each, rising_has, has_rising, rising_sorted, rising_two, older_two}
 
 -- ## One image in two folders
@@ -233,3 +235,119 @@ checkpoint_holds before s old v1 v2 r small h saves retains =
     on_ok_weaker r
     (λ removed. retained_holds (image_put i before) v1.seen v2.seen mid (retains.quiet (rising_txids (image_put i before)) listed).seen (removed (rising_txids (image_put i before)) listed))
     retains.removed
+
+-- ## A checkpoint at every moment
+-- the images that count once it is saved
+lists_saved : (txid : ℕ) (space : Space) (txids : List ℕ) (old new : Files) → txid ≤ 2 ^ 62 → ListsBeside txid txids old → SavesImage txid space old new → ListsImages txids new
+lists_saved txid space txids old new small beside saves = record {
+  each = λ t. (λ c. to t ((beside.each t).0 c), λ c. (beside.each t).1 (from t c (cases_eq t txid)));
+  sorted = beside.sorted;
+}
+  where
+    others : (t : ℕ) → t ≤ 2 ^ 62 → (t ≡ txid → ⊥) → image_in new t ≡ image_in old t
+    others t s ne = only_others txid t small s ne old new saves.saves.only
+
+    here : Counts new txid
+    here = let e = after_it txid _ _ old new saves.saves in (small, subst (λ (o : Option stored.Image). IsSome o) (sym e) refl)
+
+    saved : (t : ℕ) → t ≡ txid → Counts new t
+    saved t e = subst (λ (k : ℕ). Counts new k) (sym e) here
+
+    stays : (t : ℕ) → Counts old t → (t ≡ txid) ⊎ (t ≡ txid → ⊥) → Counts new t
+    stays t c (inl e) = saved t e
+    stays t c (inr ne) = counts_as old new t (others t c.0 ne) c
+
+    to : (t : ℕ) → Counts old t ⊎ (t ≡ txid) → Counts new t
+    to t (inl c) = stays t c (cases_eq t txid)
+    to t (inr e) = saved t e
+
+    from : (t : ℕ) → Counts new t → (t ≡ txid) ⊎ (t ≡ txid → ⊥) → Counts old t ⊎ (t ≡ txid)
+    from t c (inl e) = inr e
+    from t c (inr ne) = inl (counts_as new old t (sym (others t c.0 ne)) c)
+
+none_went : (older : List ℕ) (files : Files) → Thins older files files
+none_went older files = record { others = λ name out. refl; here = λ t is. inl (record { itself = refl; digest = refl }) }
+
+abbrev WhileSaved : ℕ → Space → View → Files → Type 0
+WhileSaved txid space old c = (d : Files) × old.may_leave d × (Prepares txid d c ⊎ SavesImage txid space d c)
+
+abbrev WhileThinned : List ℕ → View → Files → Type 0
+WhileThinned older mid c = (d : Files) × mid.may_leave d × Thins older d c
+
+abbrev WhileMade : ℕ → Space → List ℕ → View → Files → Type 0
+WhileMade txid space older old c = (d : Files) × old.may_leave d × IsInCheckpoint txid space older d c
+
+in_save : (txid : ℕ) (space : Space) (older : List ℕ) (d c : Files) → Prepares txid d c ⊎ SavesImage txid space d c → IsInCheckpoint txid space older d c
+in_save txid space older d c (inl prepares) = inl prepares
+in_save txid space older d c (inr saves) = inr (record { put = c; saves = saves; thins = none_went older c })
+
+while_saved : (txid : ℕ) (space : Space) (older : List ℕ) (old : View) (c : Files) → WhileSaved txid space old c → WhileMade txid space older old c
+while_saved txid space older old c left = (left.0, left.1, in_save txid space older left.0 c left.2)
+
+-- the save was the last step
+save_stops : (txid : ℕ) (space : Space) (r saved : Result (Unit {0}) DiskFail) (old new : View) → IsErr r
+    → Effect {T = Unit {0}} {E = DiskFail} (Prepares txid) (SavesImage txid space) saved old new → Checkpoints txid space r old new
+save_stops txid space r saved old new err effect = record {
+  moments = λ txids beside.
+      weaker old new (WhileSaved txid space old) (WhileMade txid space (older_than 2 txids) old) (while_saved txid space (older_than 2 txids) old) effect.any_moment;
+  seen = λ txids beside. in_save txid space (older_than 2 txids) old.seen new.seen effect.failed;
+  done = IfOk-from_err r (λ _. (txids : List ℕ) → ListsBeside txid txids old.seen → IsThinned txid space (older_than 2 txids) old.seen new.seen × AreRemoved (older_than 2 txids) new.seen) err;
+}
+
+-- both steps were done, or the second in part
+both_steps : (txid : ℕ) (space : Space) (r : Result (Unit {0}) DiskFail) (old mid new : View) → txid ≤ 2 ^ 62
+    → LeavesOnly old mid (WhileSaved txid space old) → Happens (SavesImage txid space) old mid → Retains 2 r mid new → Checkpoints txid space r old new
+both_steps txid space r old mid new small first saved retains = record {
+  moments = λ txids beside.
+      weaker old new (λ c. WhileSaved txid space old c ⊎ WhileThinned (older_than 2 txids) mid c) (WhileMade txid space (older_than 2 txids) old)
+      (λ c left. ⊎_elim (λ l. while_saved txid space (older_than 2 txids) old c l) (λ l. then_thinned txids c l) left)
+      (joined old mid new (WhileSaved txid space old) (WhileThinned (older_than 2 txids) mid) first (quiet txids beside).moments);
+  seen = λ txids beside. inr (thinned txids beside);
+  done = on_ok_weaker r finished retains.removed;
+}
+  where
+    listed : (txids : List ℕ) → ListsBeside txid txids old.seen → ListsImages txids mid.seen
+    listed txids beside = lists_saved txid space txids old.seen mid.seen small beside saved.seen
+
+    quiet : (txids : List ℕ) → ListsBeside txid txids old.seen → Quiet (Thins (older_than 2 txids)) mid new
+    quiet txids beside = retains.quiet txids (listed txids beside)
+
+    thinned : (txids : List ℕ) → ListsBeside txid txids old.seen → IsThinned txid space (older_than 2 txids) old.seen new.seen
+    thinned txids beside = record { put = mid.seen; saves = saved.seen; thins = (quiet txids beside).seen }
+
+    then_thinned : (txids : List ℕ) (c : Files) → WhileThinned (older_than 2 txids) mid c → WhileMade txid space (older_than 2 txids) old c
+    then_thinned txids c left =
+        let put = saved.crash left.0 left.1 in
+        (put.0, put.1, inr (record { put = left.0; saves = put.2; thins = left.2 }))
+
+    finished : ((txids : List ℕ) → ListsImages txids mid.seen → AreRemoved (older_than 2 txids) new.seen) → (txids : List ℕ) → ListsBeside txid txids old.seen
+        → IsThinned txid space (older_than 2 txids) old.seen new.seen × AreRemoved (older_than 2 txids) new.seen
+    finished removed txids beside = (thinned txids beside, removed txids (listed txids beside))
+
+-- the txid and the namespace are those of the standby
+checkpoint_of : (t u : ℕ) (s n : Space) (r : Result (Unit {0}) DiskFail) (old new : View) → u ≡ t → n ≡ s → Checkpoints u n r old new → Checkpoints t s r old new
+checkpoint_of t u s n r old new p q is = subst (λ (z : ℕ). Checkpoints z s r old new) p (subst (λ (z : Space). Checkpoints u z r old new) q is)
+
+pub checkpoint_stops : (t u : ℕ) (s n : Space) (r saved : Result (Unit {0}) DiskFail) (old new : View) → u ≡ t → n ≡ s → IsErr r
+    → Effect {T = Unit {0}} {E = DiskFail} (Prepares u) (SavesImage u n) saved old new → Checkpoints t s r old new
+checkpoint_stops t u s n r saved old new p q err effect = checkpoint_of t u s n r old new p q (save_stops u n r saved old new err effect)
+
+pub checkpoint_steps : (t u : ℕ) (s n : Space) (x : Unit {0}) (r : Result (Unit {0}) DiskFail) (old mid new : View) → u ≡ t → n ≡ s → u ≤ 2 ^ 62
+    → Effect {T = Unit {0}} {E = DiskFail} (Prepares u) (SavesImage u n) (Ok x) old mid → Retains 2 r mid new → Checkpoints t s r old new
+checkpoint_steps t u s n x r old mid new p q small effect retains =
+    checkpoint_of t u s n r old new p q (both_steps u n r old mid new small effect.any_moment effect.done retains)
+
+-- ## What a checkpoint leaves as it is
+small_beside : (txid : ℕ) (txids : List ℕ) (files : Files) → txid ≤ 2 ^ 62 → ListsBeside txid txids files → (t : ℕ) → Contains txids t → t ≤ 2 ^ 62
+small_beside txid txids files small beside t has = by ((beside.each t).0 has)
+  where
+    by : Counts files t ⊎ (t ≡ txid) → t ≤ 2 ^ 62
+    by (inl c) = c.0
+    by (inr e) = subst (λ (k : ℕ). k ≤ 2 ^ 62) (sym e) small
+
+pub kept_stays : (txid other : ℕ) (space : Space) (txids : List ℕ) (seen old new : Files) → txid ≤ 2 ^ 62 → other ≤ 2 ^ 62 → ListsBeside txid txids seen → other ≢ txid
+    → (Contains (older_than 2 txids) other → ⊥) → IsInCheckpoint txid space (older_than 2 txids) old new → image_in new other ≡ image_in old other
+kept_stays txid other space txids seen old new small low beside ne kept (inl prepares) = only_others txid other small low ne old new prepares.only
+kept_stays txid other space txids seen old new small low beside ne kept (inr thinned) =
+    thin_others (older_than 2 txids) other thinned.put new (small_front (length txids - 2) txids (small_beside txid txids seen small beside)) low kept thinned.thins
+    ∙ only_others txid other small low ne old thinned.put thinned.saves.saves.only

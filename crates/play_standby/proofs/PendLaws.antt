@@ -14,9 +14,8 @@ use Rattle.ns_tree.proofs.Noting.{rising_later, rising_noted}
 use Rattle.ns_edits.specs.Apply.{apply_of, noted_if}
 use Rattle.writer_core.specs.Views.{WriterView}
 use Rattle.writer_core.specs.Writer.{log_limit}
-use Rattle.play_names.specs.Submissions.{Submission, Due, submitted_one, submit_edits}
-use Rattle.play_standby.specs.declared.submitted.Submitted.{Submitted}
-use Rattle.play_standby.specs.Pendings.{PendingView, submission, PendsFrom, PendsAt, IsOneMore}
+use Rattle.play_names.specs.Submissions.{Submission, submitted_one, submit_edits}
+use Rattle.play_standby.specs.Pendings.{PendingView, PendsFrom, PendsAt}
 
 -- ## The limits with one body more
 abbrev pub any_long : List (List ℕ) → Bool

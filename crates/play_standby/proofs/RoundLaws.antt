@@ -1,6 +1,5 @@
 -- An active name node after a round.
-use Rattle.std.proofs.Common.{◌≡◌, ◌⊎◌, inl, inr, ℕ, ◌+◌, ◌-◌, ◌≤◌, ◌==◌, List, length, [], ◌∷◌, Bool, true, false, None, refl, sym, ap, ◌∙◌, subst, arith}
-use Rattle.std.specs.Prelude.{◌≢◌}
+use Rattle.std.proofs.Common.{◌≡◌, ◌⊎◌, inl, inr, ℕ, ◌+◌, ◌-◌, ◌≤◌, List, length, [], true, false, None, sym, ap, ◌∙◌, subst, arith}
 use Rattle.journal_core.specs.Limits.{max_number}
 use Rattle.journal_core.specs.declared.peer_call.PeerCall.{PeerCall}
 use Rattle.ns_tree.proofs.Noting.{rising_later}
@@ -11,7 +10,7 @@ use Rattle.writer_core.specs.Views.{WriterView}
 use Rattle.writer_core.specs.declared.round.Round.TheVariants as round
 use Rattle.writer_core.specs.declared.phase.Aim.TheVariants as aim
 use Rattle.writer_core.specs.Rounds.{asks_all, asks_others, end_record}
-use Rattle.writer_core.specs.Writer.{Began, begins, is_writing, if_writing, log_limit, writer_begun}
+use Rattle.writer_core.specs.Writer.{begins, is_writing, log_limit, writer_begun}
 use Rattle.writer_calls.specs.declared.logged.Logged.{Logged}
 use Rattle.writer_calls.specs.declared.logged.Logged.TheVariants as logged
 use Rattle.writer_calls.specs.declared.rolled.Rolled.TheVariants as rolled

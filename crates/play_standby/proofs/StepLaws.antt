@@ -1,13 +1,10 @@
 -- The steps of a tail as the code takes them.
-use Rattle.std.proofs.Common.{◌≡◌, ℕ, ◌+◌, ◌-◌, ◌*◌, ◌<◌, ◌≤◌, List, [], ◌∷◌, ◌++◌, append-nil, length, length-append, Bool, true, false, nat_lt}
+use Rattle.std.proofs.Common.{◌≡◌, ℕ, ◌+◌, ◌<◌, ◌≤◌, List, [], ◌∷◌, ◌++◌, append-nil, length, length-append, Bool, true, false, nat_lt}
 use Rattle.std.proofs.Common.{if◌then◌else◌, Option, Some, None, refl, sym, ap, ◌∙◌, subst, arith}
-use Rattle.std.specs.Prelude.{Result, Ok, Err, IfOk, OnErr}
+use Rattle.std.specs.Prelude.{Result, Ok, Err, OnErr}
 use Rattle.std.specs.Option.{ForSome}
 use Rattle.std.specs.declared.alloc.AllocError.{AllocError}
-use Rattle.std.proofs.Math.Nat.{mul-le-mul_left}
 use Rattle.std.proofs.lemmas.Bool.Decides.{nat_tests}
-use Rattle.std.proofs.lemmas.Result.{IfOk-weaker}
-use Rattle.journal_core.specs.Limits.{max_number}
 use Rattle.journal_core.specs.Views.{BatchView}
 use Rattle.journal_core.specs.declared.request.Request.TheVariants.{Read}
 use Rattle.journal_core.specs.declared.heard.Heard.{Heard}
@@ -23,7 +20,7 @@ use Rattle.play_standby.specs.declared.step.Step.TheVariants as step
 use Rattle.play_names.specs.declared.tailed.Tailed.{Tailed}
 use Rattle.play_standby.specs.Standbys.{StandbyView, held}
 use Rattle.play_standby.specs.Reads.{LeadsTail}
-use Rattle.play_standby.specs.Tailing.{begin_asking, IsEnd, IsStep, StandsAt, edits_in, IsPart, StopsShort, TailEnds, gives_edits, is_going, IsLater, IsExact, IsGoing, Goes, tail_left}
+use Rattle.play_standby.specs.Tailing.{begin_asking, IsEnd, IsStep, StandsAt, edits_in, IsPart, StopsShort, TailEnds, gives_edits, is_going, IsExact, IsGoing, Goes}
 use Rattle.play_standby.proofs.LedLaws.{leads_none, leads_more}
 
 -- ## What is heard

@@ -1,15 +1,21 @@
 -- The images on the disk of a standby: which of them it holds, and what opening and a checkpoint
 -- make of them.
-use Rattle.std.specs.Prelude.{◌≡◌, ◌⊎◌, ◌↔◌, ℕ, ◌<◌, List, [], ◌∷◌, ◌++◌, Option, Some, None, Result, Ok, Err}
-use Rattle.std.specs.List.{AllByRecursion}
+use Rattle.std.specs.Prelude.{◌≡◌, ◌⊎◌, ◌↔◌, ℕ, List, [], ◌∷◌, ◌++◌, Option, Some, None, Result, Ok, Err, OnOk, Contains}
+use Rattle.std.specs.List.Sorted.{IsStrictlySortedBy}
+use Rattle.std.specs.Ordering.{nat_cmp}
 use Rattle.base_disk.specs.Files.{Files}
+use Rattle.base_disk.specs.View.{View, LeavesOnly}
 use Rattle.base_disk.specs.declared.disk.DiskFail.{DiskFail}
 use Rattle.base_disk.specs.declared.disk.DiskFail.TheVariants as fail
+use Rattle.ns_tree.specs.Space.{Space}
 use Rattle.ns_edits.specs.Replay.{Image}
 use Rattle.play_names.specs.Holding.{reload_image}
+pub use Rattle.play_names.specs.ImageDisks.{AreFalling, HasTxid, HoldsImages}
 use Rattle.ns_store.specs.Images.{Counts}
 use Rattle.ns_store.specs.Answers.{IsNewest}
-use Rattle.ns_store.specs.Loads.{LoadsAs, IsAnswer}
+use Rattle.ns_store.specs.Loads.{IsAnswer, SavesImage}
+use Rattle.ns_store.specs.Lists.{older_than}
+use Rattle.ns_store.specs.Saves.{Prepares, Thins, AreRemoved}
 use Rattle.ns_store.specs.declared.loaded.Loaded.{Loaded}
 use Rattle.ns_store.specs.declared.loaded.Loaded.TheVariants as loading
 use Rattle.ns_store.specs.declared.newest_answer.Newest.TheVariants as newest
@@ -20,21 +26,6 @@ use Rattle.play_standby.specs.declared.opened.OpenedImage.TheVariants as opened
 use Rattle.play_standby.specs.Standbys.{StandbyView, empty_standby, held}
 
 -- ## The images that a disk holds
--- the newest first
-abbrev pub AreFalling : List Image → Type 0
-AreFalling [] = Unit {0}
-AreFalling (i ∷ is) = AllByRecursion (λ j. j.txid < i.txid) is × AreFalling is
-
-abbrev pub HasTxid : ℕ → List Image → Type 0
-HasTxid txid [] = ⊥
-HasTxid txid (i ∷ is) = (txid ≡ i.txid) ⊎ HasTxid txid is
-
--- The images of these namespaces are there, and no other one counts.
-pub record HoldsImages (files : Files) (images : List Image) : Type 0 where
-  pub falling : AreFalling images
-  pub counts : (txid : ℕ) → Counts files txid ↔ HasTxid txid images
-  pub loads : AllByRecursion (λ i. LoadsAs i.txid i.space files) images
-
 -- their txids, the newest last
 abbrev pub rising_txids : List Image → List ℕ
 rising_txids [] = []
@@ -97,3 +88,30 @@ IsMinOf least (kept.Min txid) = least ≡ Some txid
 IsMinOf least kept.NoImage = least ≡ None
 IsMinOf least kept.DiskFault = Unit {0}
 IsMinOf least kept.OutOfMemory = Unit {0}
+
+-- ## A checkpoint
+-- the txids of the images that count, and this one, in order and each once
+pub record ListsBeside (txid : ℕ) (txids : List ℕ) (files : Files) : Type 0 where
+  pub each : (t : ℕ) → Contains txids t ↔ (Counts files t ⊎ (t ≡ txid))
+  pub sorted : IsStrictlySortedBy nat_cmp txids
+
+-- the image is saved, and some of these older ones went after it: each counts as before or not at
+-- all
+pub record IsThinned (txid : ℕ) (space : Space) (older : List ℕ) (old new : Files) : Type 0 where
+  pub put : Files
+  pub saves : SavesImage txid space old put
+  pub thins : Thins older put new
+
+-- the image isn't saved, and nothing but its own files has changed; or it is, and some older ones
+-- went
+abbrev pub IsInCheckpoint : ℕ → Space → List ℕ → Files → Files → Type 0
+IsInCheckpoint txid space older old new = Prepares txid old new ⊎ IsThinned txid space older old new
+
+-- A checkpoint of which any call may have failed. At every moment all images but the one at the
+-- txid and those older than the two newest are as they were, whatever their files hold; once it
+-- answered Ok, the image is saved and the older ones are gone.
+pub record Checkpoints (txid : ℕ) (space : Space) (result : Result (Unit {0}) DiskFail) (old new : View) : Type 0 where
+  pub moments : (txids : List ℕ) → ListsBeside txid txids old.seen
+      → LeavesOnly old new (λ c. (d : Files) × old.may_leave d × IsInCheckpoint txid space (older_than 2 txids) d c)
+  pub seen : (txids : List ℕ) → ListsBeside txid txids old.seen → IsInCheckpoint txid space (older_than 2 txids) old.seen new.seen
+  pub done : OnOk result ((txids : List ℕ) → ListsBeside txid txids old.seen → IsThinned txid space (older_than 2 txids) old.seen new.seen × AreRemoved (older_than 2 txids) new.seen)

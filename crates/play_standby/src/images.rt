@@ -6,7 +6,7 @@ ghost use Rattle.ns_edits.specs.Replay.{Image};
 ghost use Rattle.play_names.specs.Holding.{save_image};
 ghost use Rattle.ns_store.specs.Loads.{IsWithin};
 ghost use Rattle.play_standby.specs.Standbys.{held};
-ghost use Rattle.play_standby.specs.Disks.{HoldsImages, opened_result, IsLoadedAt, IsTakenAs, IsOpened, OpensAs, IsReloaded};
+ghost use Rattle.play_standby.specs.Disks.{HoldsImages, opened_result, IsLoadedAt, IsTakenAs, IsOpened, OpensAs, IsReloaded, Checkpoints};
 
 use crate::opened::OpenedImage;
 use crate::standby::Standby;
@@ -97,11 +97,14 @@ fn begin_again(alloc: Global, standby: &mut Standby) -> OpenedImage
     }
 }
 
-/// Saves an image at the standby's position, and then keeps the two newest images alone.
+/// Saves an image at the standby's position, and then keeps the two newest images alone. On an
+/// error, and after a crash at any moment, the image at the position counts as before, or as saved,
+/// or not at all; of the others the ones that are to be kept are as they were, damaged or not.
 pub fn checkpoint<D: Disk>(alloc: Global, standby: &Standby, images: &mut D) -> Result<(), DiskFail>
     ensures call { IsDiskRun D.DiskModel images.old images.new result }
     ensures saved { D.tells images.old → (before : List Image) → HoldsImages (D.view images.old).seen before
         → OnOk result (HoldsImages (D.view images.new).seen (save_image (held before standby.now)).images) }
+    ensures steps { IfTold D.DiskModel images.old images.new (Checkpoints standby.now.position standby.now.space result) }
 {
     save(alloc, images, standby.namespace(), standby.position())?;
     retain(alloc, images, 2)

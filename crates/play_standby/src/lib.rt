@@ -5,6 +5,7 @@ mod acting;
 mod active;
 mod entered;
 mod entering;
+pub mod image_laws;
 mod images;
 pub mod laws;
 mod opened;

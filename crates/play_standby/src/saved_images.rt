@@ -1,6 +1,7 @@
 //! The images that a name node of a script saves.
 ghost use Rattle.std.specs.Prelude.{◌≡◌, [], OnOk, IfOk};
 ghost use Rattle.play_names.specs.Holding.{reload_image, min_to_keep};
+ghost use Rattle.play_names.specs.ImageDisks.{HoldsOn};
 ghost use Rattle.play_standby.specs.Standbys.{held};
 ghost use Rattle.play_standby.specs.Saves.{one_saved};
 
@@ -52,6 +53,15 @@ impl SavedImages {
             disk: MemDisk::new(alloc),
             saves: Vec::new(alloc),
         }
+    }
+
+    /// The disk that has them. Takes no memory.
+    pub fn into_disk(self) -> MemDisk
+        ensures { HoldsOn result self }
+    {
+        let SavedImages { disk, saves } = self;
+        drop(saves);
+        disk
     }
 
     /// Saves an image at the standby's position, and keeps the two newest alone. After an `Err`

@@ -97,5 +97,6 @@ pub fn act_alone<A: Actor, S: Seats>(
 {
     let mut by = A::new(alloc, named, seats.nodes())?;
     act(alloc, lines, actor, &mut by, seats)?;
-    by.into_last(alloc)
+    let left = by.into_left(alloc)?;
+    Ok(left.last)
 }

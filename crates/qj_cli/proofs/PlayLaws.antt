@@ -1,11 +1,10 @@
 -- What is due of a source.
-use Rattle.std.proofs.Common.{◌≡◌, ℕ, zero, suc, ◌<◌, ◌≤◌, List, [], ◌∷◌, Option, Some, None, refl, ap, arith, inl, inr, length}
+use Rattle.std.proofs.Common.{◌≡◌, ℕ, zero, suc, ◌<◌, ◌≤◌, List, [], ◌∷◌, Option, Some, None, refl, ap, arith, inr, length}
 use Rattle.std.specs.Prelude.{IfSome}
 use Rattle.base_outside.specs.Whole.{GivesAll}
 use Rattle.mesh.specs.declared.whole.Mesh.{Mesh}
 use Rattle.ns_tree.specs.declared.end.End.{End}
 use Rattle.play_script.specs.Scripts.{ScriptView}
-use Rattle.play_script.specs.Grammar.{IsScriptText}
 use Rattle.play_script.proofs.ScriptLaws.{breaks_no_rule}
 use Rattle.play_report.specs.Text.{text_of}
 use Rattle.play_report.specs.Limit.{longest_report}
@@ -13,7 +12,7 @@ use Rattle.cli_commands.specs.declared.status.Status.TheVariants as status
 use Rattle.cli_commands.specs.declared.command_fault.CommandFault.{CommandFault}
 use Rattle.cli_commands.specs.declared.command_fault.CommandFault.TheVariants as fault
 use Rattle.cli_commands.specs.Uses.{SourceUse, NoReadFailed}
-use Rattle.qj_cli.specs.Plays.{longest_script, AreTold, IsReadOut, IsReadWhole, GivesScript, IsTextFault, IsReadingFault, IsReportFault, GivesReport, IsPlayFault}
+use Rattle.qj_cli.specs.Plays.{longest_script, AreTold, IsReadOut, IsReadWhole, GivesScript, IsReadingFault, IsReportFault, GivesReport, IsPlayFault}
 use Rattle.qj_cli.specs.Report.{IsReport}
 
 are_told : (told left : Option (List ℕ)) (bytes : List ℕ) → GivesAll told left bytes → AreTold told bytes
@@ -87,4 +86,4 @@ report_fault Leaves source script m ends (fault.Limit number) given left is =
     )
 report_fault Leaves source script m ends fault.ReadFault given left is = absurd is
 report_fault Leaves source script m ends fault.DiskFault given left is = absurd is
-report_fault Leaves source script m ends fault.OutOfMemory given left is = tt
+report_fault Leaves source script m ends fault.OutOfMemory given left is = given.read.no_fault

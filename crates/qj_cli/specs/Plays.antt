@@ -60,7 +60,7 @@ abbrev pub IsReadingFault : SourceUse → CommandFault → Type 0
 IsReadingFault source (fault.BadScript line rule) = (bytes : List ℕ) × IsReadWhole source bytes × (fault_of bytes ≡ Some (line, rule))
 IsReadingFault source (fault.Limit number) = (number ≡ longest_script) × IsTooLong source
 IsReadingFault source fault.ReadFault = AReadFailed source
-IsReadingFault source fault.OutOfMemory = Unit {0}
+IsReadingFault source fault.OutOfMemory = NoReadFailed source
 IsReadingFault source _ = ⊥
 
 -- why the report with this text isn't printed
@@ -94,13 +94,13 @@ abbrev pub OfBytes : (ScriptView → Mesh → List End → Type 0) → SourceUse
 OfBytes Leaves source of = (bytes : List ℕ) × IsReadWhole source bytes × IsScriptFault Leaves bytes of
 
 -- Each fault comes only where this holds. No two of them hold of the same bytes, but for lack of
--- memory, which may come in the place of each; a read that failed may come beside a script's own
--- fault.
+-- memory, which may come in the place of each but a read that failed; that may come beside a
+-- script's own fault.
 abbrev pub IsPlayFault : (ScriptView → Mesh → List End → Type 0) → SourceUse → CommandFault → Type 0
 IsPlayFault Leaves source (fault.BadScript line rule) = OfBytes Leaves source (fault.BadScript line rule)
 IsPlayFault Leaves source (fault.Limit number) = (number ≡ longest_script) × IsTooLong source ⊎ OfBytes Leaves source (fault.Limit number)
 IsPlayFault Leaves source fault.ReadFault = AReadFailed source
-IsPlayFault Leaves source fault.OutOfMemory = Unit {0}
+IsPlayFault Leaves source fault.OutOfMemory = NoReadFailed source
 IsPlayFault Leaves source _ = ⊥
 
 -- How a play ended.

@@ -71,7 +71,7 @@ pub fn play_generated<K: Sink>(
     sink: &mut K,
 ) -> Status
     requires { IsWithin number edits nodes }
-    ensures { Generates number edits nodes (written_to K.taken K.faults sink.old sink.new) result }
+    ensures { Generates number edits nodes (written_to K.taken K.faults K.kept_back sink.old sink.new) result }
 {
     let due = due_of_number(alloc, number, edits, nodes);
     write_due(alloc, sink, &due)

@@ -122,7 +122,7 @@ fn due_by_threads<R: Threads + Wait + Sync, G: Pass + Sync, S: Source>(
 /// Plays the script that the source gives, all lines in order, and writes its report, or why there
 /// is none.
 pub fn play_script<S: Source, K: Sink>(alloc: Global, source: &mut S, sink: &mut K) -> Status
-    ensures { Plays ComeOf (read_from S.left S.faults source.old source.new) (written_to K.taken K.faults sink.old sink.new) result }
+    ensures { Plays ComeOf (read_from S.left S.faults source.old source.new) (written_to K.taken K.faults K.kept_back sink.old sink.new) result }
 {
     let due = due_in_order(alloc, source);
     write_due(alloc, sink, &due)
@@ -137,7 +137,7 @@ pub fn run_script<R: Threads + Wait + Sync, G: Pass + Sync, S: Source, K: Sink>(
     source: &mut S,
     sink: &mut K,
 ) -> Status
-    ensures { Plays AreSound (read_from S.left S.faults source.old source.new) (written_to K.taken K.faults sink.old sink.new) result }
+    ensures { Plays AreSound (read_from S.left S.faults source.old source.new) (written_to K.taken K.faults K.kept_back sink.old sink.new) result }
 {
     let due = due_by_threads(rt, alloc, pass, source);
     write_due(alloc, sink, &due)

@@ -59,8 +59,8 @@ pub fn play_soundly(
     results_tell_acknowledged();
     names_are_kept();
     let nodes = fresh_nodes(alloc, script.nodes())?;
-    let played = play_on::<ScriptActor, _>(alloc, nodes, script)?;
-    Ok(played)
+    let left = play_on::<ScriptActor, _>(alloc, nodes, script)?;
+    Ok(left.played)
 }
 
 /// A script played by a thread for each actor and one for the operator, each with its own lines in

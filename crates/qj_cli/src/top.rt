@@ -28,7 +28,7 @@ fn do_command<S: Source, K: Sink, D: Disk>(
     disk: D,
 ) -> Result<Exit<D>, D>
     requires { IsAllowed (asked_in command) }
-    ensures done { IfOk result (λ exit. Does (asked_in command.entry) (read_from S.left S.faults source.old source.new) (written_to K.taken K.faults sink.old sink.new)
+    ensures done { IfOk result (λ exit. Does (asked_in command.entry) (read_from S.left S.faults source.old source.new) (written_to K.taken K.faults K.kept_back sink.old sink.new)
         (done_to D.tells D.view D.faults D.steady D.left disk exit.disk) exit.status) }
     ensures unread { ReadsNone (asked_in command.entry) → source.new ≡ source.old }
     ensures tells { IfOk result (λ exit. D.tells disk ↔ D.tells exit.disk) }
@@ -75,18 +75,18 @@ pub fn qjm_alone<S: Source, K: Sink, D: Disk>(
 ) -> Result<Exit<D>, D>
     // Of wrong words the first place is told. Nothing is read.
     ensures refused { (place : ℕ) → usage_of (bytes_of words.now) ≡ Some place
-        → IfOk result (λ exit. Refuses place (written_to K.taken K.faults sink.old sink.new) (done_to D.tells D.view D.faults D.steady D.left disk exit.disk) exit.status) }
+        → IfOk result (λ exit. Refuses place (written_to K.taken K.faults K.kept_back sink.old sink.new) (done_to D.tells D.view D.faults D.steady D.left disk exit.disk) exit.status) }
     ensures refused_unread { (place : ℕ) → usage_of (bytes_of words.now) ≡ Some place → source.new ≡ source.old }
 
     // Else they are a command's, and it is done.
     ensures done { (asked : Asked) → AskFor (bytes_of words.now) asked
-        → IfOk result (λ exit. Does asked (read_from S.left S.faults source.old source.new) (written_to K.taken K.faults sink.old sink.new)
+        → IfOk result (λ exit. Does asked (read_from S.left S.faults source.old source.new) (written_to K.taken K.faults K.kept_back sink.old sink.new)
         (done_to D.tells D.view D.faults D.steady D.left disk exit.disk) exit.status) }
     ensures unread { (asked : Asked) → AskFor (bytes_of words.now) asked → ReadsNone asked → source.new ≡ source.old }
 
     // With status Ok, or for lack of memory not, where the input is right and nothing fails.
     ensures complete { (asked : Asked) → AskFor (bytes_of words.now) asked
-        → IfOk result (λ exit. IsComplete asked (read_from S.left S.faults source.old source.new) (written_to K.taken K.faults sink.old sink.new)
+        → IfOk result (λ exit. IsComplete asked (read_from S.left S.faults source.old source.new) (written_to K.taken K.faults K.kept_back sink.old sink.new)
         (done_to D.tells D.view D.faults D.steady D.left disk exit.disk) exit.status) }
 
     ensures tells { IfOk result (λ exit. D.tells disk ↔ D.tells exit.disk) }
@@ -158,18 +158,18 @@ pub fn qjm<R: Threads + Wait + Sync, G: Pass + Sync, S: Source, K: Sink, D: Disk
 ) -> Exit<D>
     // Of wrong words the first place is told. Nothing is read.
     ensures refused { (place : ℕ) → usage_of (bytes_of words.now) ≡ Some place
-        → Refuses place (written_to K.taken K.faults sink.old sink.new) (done_to D.tells D.view D.faults D.steady D.left disk result.disk) result.status }
+        → Refuses place (written_to K.taken K.faults K.kept_back sink.old sink.new) (done_to D.tells D.view D.faults D.steady D.left disk result.disk) result.status }
     ensures refused_unread { (place : ℕ) → usage_of (bytes_of words.now) ≡ Some place → source.new ≡ source.old }
 
     // Else they are a command's, and it is done.
     ensures done { (asked : Asked) → AskFor (bytes_of words.now) asked
-        → Does asked (read_from S.left S.faults source.old source.new) (written_to K.taken K.faults sink.old sink.new)
+        → Does asked (read_from S.left S.faults source.old source.new) (written_to K.taken K.faults K.kept_back sink.old sink.new)
         (done_to D.tells D.view D.faults D.steady D.left disk result.disk) result.status }
     ensures unread { (asked : Asked) → AskFor (bytes_of words.now) asked → ReadsNone asked → source.new ≡ source.old }
 
     // With status Ok, or for lack of memory not, where the input is right and nothing fails.
     ensures complete { (asked : Asked) → AskFor (bytes_of words.now) asked
-        → IsComplete asked (read_from S.left S.faults source.old source.new) (written_to K.taken K.faults sink.old sink.new)
+        → IsComplete asked (read_from S.left S.faults source.old source.new) (written_to K.taken K.faults K.kept_back sink.old sink.new)
         (done_to D.tells D.view D.faults D.steady D.left disk result.disk) result.status }
 
     ensures tells { D.tells disk ↔ D.tells result.disk }

@@ -204,7 +204,14 @@ judged_bare : (r : Round) (w : WriterView) (slots : List Slot) → is_fetch r �
     → bare_judgment (judgment r (record w { slots = slots })) ≡ bare_judgment (judgment r (record w { slots = map (counted_slot r) slots; causes = [] }))
 unfolding judgment
 judged_bare r w slots f =
-    rw (numbers_bare r w slots w.causes, numbers_bare r w (map (counted_slot r) slots) [], majority_heeded r slots) (by_bare (numbers_fit w r && has_majority r slots) r w slots f)
+    let v : WriterView = record w { slots = slots } in
+    let u : WriterView = record w { slots = map (counted_slot r) slots; causes = [] } in
+    let one : (numbers_fit v r && has_majority r slots) ≡ (numbers_fit w r && has_majority r slots) = ap (λ (b : Bool). b && has_majority r slots) (numbers_bare r w slots w.causes) in
+    let other : (numbers_fit u r && has_majority r (map (counted_slot r) slots)) ≡ (numbers_fit w r && has_majority r slots) =
+    ap (λ (b : Bool). b && has_majority r (map (counted_slot r) slots)) (numbers_bare r w (map (counted_slot r) slots) [])
+    ∙ ap (λ (b : Bool). numbers_fit w r && b) (majority_heeded r slots) in
+    ap (λ (b : Bool). bare_judgment (judgment_by b r v)) one
+    ∙ (by_bare (numbers_fit w r && has_majority r slots) r w slots f ∙ sym (ap (λ (b : Bool). bare_judgment (judgment_by b r u)) other))
 
 -- ## What is heard
 heeds_round : (r : Round) (w : WriterView) (answer : Reply) → is_fetch r ≡ false → is_counted_reply w r answer ≡ fits_round r answer

@@ -43,18 +43,18 @@ ok_alike kind.Write b = refl
 ok_alike kind.End b = refl
 ok_alike (kind.Purge min) b = refl
 
-pub cause_alike : (k : RoundKind) (b : List (List ℕ)) → cause_of (round_of k []) ≡ cause_of (round_of k b)
-cause_alike kind.State b = refl
-cause_alike kind.Propose b = refl
-cause_alike (kind.Prepare start) b = refl
-cause_alike (kind.Fetch node start end) b = refl
-cause_alike (kind.Accept start) b = refl
-cause_alike (kind.Finalize start end) b = refl
-cause_alike kind.Start b = refl
-cause_alike kind.Open b = refl
-cause_alike kind.Write b = refl
-cause_alike kind.End b = refl
-cause_alike (kind.Purge min) b = refl
+pub cause_alike : (fit : Bool) (k : RoundKind) (b : List (List ℕ)) → cause_of fit (round_of k []) ≡ cause_of fit (round_of k b)
+cause_alike fit kind.State b = refl
+cause_alike fit kind.Propose b = refl
+cause_alike fit (kind.Prepare start) b = refl
+cause_alike fit (kind.Fetch node start end) b = refl
+cause_alike fit (kind.Accept start) b = refl
+cause_alike fit (kind.Finalize start end) b = refl
+cause_alike fit kind.Start b = refl
+cause_alike fit kind.Open b = refl
+cause_alike fit kind.Write b = refl
+cause_alike fit kind.End b = refl
+cause_alike fit (kind.Purge min) b = refl
 
 pub majority_alike : (k : RoundKind) (b : List (List ℕ)) (slots : List Slot) → has_majority (round_of k []) slots ≡ has_majority (round_of k b) slots
 majority_alike k b slots = ap (λ (p : Slot → Bool). nat_lt (length slots) (2 * count_by p slots)) (ok_alike k b)

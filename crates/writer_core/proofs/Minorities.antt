@@ -40,26 +40,42 @@ answer_cause false (reply.Edits batch) = refl
 answer_cause false (reply.Segments lines) = refl
 answer_cause false (reply.Refused refusal) = refl
 
-one_cause : (r : Round) (s : Slot) → is_ok_cause (cause_of r s) ≡ is_ok r s
+one_cause : (r : Round) (s : Slot) → is_ok_cause (cause_of true r s) ≡ is_ok r s
 one_cause r (Told (Answer answer)) = answer_cause (fits_round r answer) answer
 one_cause r (Told Silent) = refl
 one_cause r Waiting = refl
 one_cause r LeftOut = refl
 
+no_cause : (r : Round) (s : Slot) → is_ok_cause (cause_of false r s) ≡ false
+no_cause r (Told (Answer answer)) = answer_cause false answer
+no_cause r (Told Silent) = refl
+no_cause r Waiting = refl
+no_cause r LeftOut = refl
+
 abbrev as_count : Bool → ℕ
 as_count b = cond b 1 0
 
-all_causes : (r : Round) (slots : List Slot) → count_by is_ok_cause (map (cause_of r) slots) ≡ count_by (is_ok r) slots
+all_causes : (r : Round) (slots : List Slot) → count_by is_ok_cause (map (cause_of true r) slots) ≡ count_by (is_ok r) slots
 all_causes r [] = refl
 all_causes r (s ∷ slots) =
-    let one : as_count (is_ok_cause (cause_of r s)) ≡ as_count (is_ok r s) = ap as_count (one_cause r s) in
-    omega (arith, one, all_causes r slots, count_cons is_ok_cause (cause_of r s) (map (cause_of r) slots), count_cons (is_ok r) s slots)
+    let one : as_count (is_ok_cause (cause_of true r s)) ≡ as_count (is_ok r s) = ap as_count (one_cause r s) in
+    omega (arith, one, all_causes r slots, count_cons is_ok_cause (cause_of true r s) (map (cause_of true r) slots), count_cons (is_ok r) s slots)
 
-few_causes : (r : Round) (slots : List Slot) → has_majority r slots ≡ false → IsMinority (map (cause_of r) slots)
-few_causes r slots m =
+no_causes : (r : Round) (slots : List Slot) → count_by is_ok_cause (map (cause_of false r) slots) ≡ 0
+no_causes r [] = refl
+no_causes r (s ∷ slots) =
+    let none : as_count (is_ok_cause (cause_of false r s)) ≡ 0 = ap as_count (no_cause r s) in
+    omega (arith, none, no_causes r slots, count_cons is_ok_cause (cause_of false r s) (map (cause_of false r) slots))
+
+few_ok : (r : Round) (slots : List Slot) → has_majority r slots ≡ false → IsMinority (map (cause_of true r) slots)
+few_ok r slots m =
     let few : 2 * count_by (is_ok r) slots ≤ length slots = grind (arith, nat_tests) in
-    let same : length (map (cause_of r) slots) ≡ length slots = length-map slots _ in
+    let same : length (map (cause_of true r) slots) ≡ length slots = length-map slots _ in
     omega (arith, few, same, all_causes r slots)
+
+few_causes : (fit : Bool) (r : Round) (slots : List Slot) → (fit && has_majority r slots) ≡ false → IsMinority (map (cause_of fit r) slots)
+few_causes true r slots m = few_ok r slots m
+few_causes false r slots m = omega (arith, no_causes r slots)
 
 -- ## A round that is done isn't aborted
 abbrev NoAbort : Judgment → Type 0
@@ -105,39 +121,25 @@ done_goes (round.Write bodies) w e =
 done_goes (round.Purge min) w e = cc
 
 -- ## A round that is aborted
-judged_few : (b : Bool) (r : Round) (w : WriterView) → (b ≡ false → has_majority r w.slots ≡ false) → (judgment_by b r w).turn ≡ turn.Aborted → IsMinority (judgment_by b r w).writer.causes
+judged_few : (b : Bool) (r : Round) (w : WriterView) → (b ≡ false → (numbers_fit w r && has_majority r w.slots) ≡ false) → (judgment_by b r w).turn ≡ turn.Aborted
+    → IsMinority (judgment_by b r w).writer.causes
 judged_few true r w m e = absurd (done_goes r (with_causes r w) e)
-judged_few false r w m e = few_causes r w.slots (m refl)
+judged_few false r w m e = few_causes (numbers_fit w r) r w.slots (m refl)
 
-and_false : (b c : Bool) → b ≡ true → (b && c) ≡ false → c ≡ false
-and_false true c n e = e
-and_false false c n e = cc
-
--- an answer leaves the numbers of the request as they are
-same_numbers : (w : WriterView) (r : Round) (slots : List Slot) → numbers_fit (record w { slots = slots }) r ≡ numbers_fit w r
-same_numbers w round.State slots = refl
-same_numbers w round.Propose slots = refl
-same_numbers w (round.Prepare start) slots = refl
-same_numbers w (round.Fetch node start end bodies) slots = refl
-same_numbers w (round.Accept batch) slots = refl
-same_numbers w (round.Finalize start end) slots = refl
-same_numbers w round.Start slots = refl
-same_numbers w round.Open slots = refl
-same_numbers w (round.Write bodies) slots = refl
-same_numbers w (round.Purge min) slots = refl
-
-when_few : (b : Bool) (r : Round) (w : WriterView) → numbers_fit w r ≡ true → (judgment_when b r w).turn ≡ turn.Aborted → IsMinority (judgment_when b r w).writer.causes
+when_few : (b : Bool) (r : Round) (w : WriterView) → (judgment_when b r w).turn ≡ turn.Aborted → IsMinority (judgment_when b r w).writer.causes
 unfolding judgment
-when_few true r w n e = absurd (cc e)
-when_few false r w n e = judged_few (numbers_fit w r && has_majority r w.slots) r w (and_false (numbers_fit w r) (has_majority r w.slots) n) e
+when_few true r w e = absurd (cc e)
+when_few false r w e = judged_few (numbers_fit w r && has_majority r w.slots) r w (λ m. m) e
 
-answer_few : (r : Round) (w : WriterView) (node : ℕ) (h : Heard) → numbers_fit w r ≡ true
-    → (judgment_when (list_any is_waiting (with_answer w node h).slots) r (with_answer w node h)).turn ≡ turn.Aborted
+answer_few : (r : Round) (w : WriterView) (node : ℕ) (h : Heard) → (judgment_when (list_any is_waiting (with_answer w node h).slots) r (with_answer w node h)).turn ≡ turn.Aborted
     → IsMinority (judgment_when (list_any is_waiting (with_answer w node h).slots) r (with_answer w node h)).writer.causes
-answer_few r w node h n e = when_few (list_any is_waiting (with_answer w node h).slots) r (with_answer w node h) (same_numbers w r (with_answer w node h).slots ∙ n) e
+answer_few r w node h e = when_few (list_any is_waiting (with_answer w node h).slots) r (with_answer w node h) e
 
 lost_few : (node start : ℕ) (h : Heard) (w : WriterView) → (after_no_edits node start h w).turn ≡ turn.Aborted → IsMinority (after_no_edits node start h w).writer.causes
-lost_few node start h w e = judged_few (has_majority (round.Prepare start) (without_answer_of node h w).slots) (round.Prepare start) (without_answer_of node h w) (λ m. m) e
+lost_few node start h w e =
+    let r : Round = round.Prepare start in
+    let v : WriterView = without_answer_of node h w in
+    judged_few (has_majority r v.slots) r v (λ m. and_right (numbers_fit v r) (has_majority r v.slots) m) e
 
 edits_few : (b : Bool) (node start end : ℕ) (bodies : List (List ℕ)) (batch : BatchView) (w : WriterView) → (after_edits b node start end bodies batch w).turn ≡ turn.Aborted
     → IsMinority (after_edits b node start end bodies batch w).writer.causes
@@ -152,26 +154,26 @@ fetched_few node start end bodies (Answer (reply.Edits batch)) w e =
 fetched_few node start end bodies Silent w e = lost_few node start Silent w e
 fetched_few node start end bodies (Answer answer) w e = lost_few node start (Answer answer) w e
 
-in_few : (r : Round) (w : WriterView) (node : ℕ) (h : Heard) → numbers_fit w r ≡ true → (heard_in r w node h).turn ≡ turn.Aborted → IsMinority (heard_in r w node h).writer.causes
-in_few (round.Fetch from start end bodies) w node h n e = fetched_few from start end bodies h w e
-in_few round.State w node h n e = answer_few round.State w node h n e
-in_few round.Propose w node h n e = answer_few round.Propose w node h n e
-in_few (round.Prepare start) w node h n e = answer_few (round.Prepare start) w node h n e
-in_few (round.Accept batch) w node h n e = answer_few (round.Accept batch) w node h n e
-in_few (round.Finalize start end) w node h n e = answer_few (round.Finalize start end) w node h n e
-in_few round.Start w node h n e = answer_few round.Start w node h n e
-in_few round.Open w node h n e = answer_few round.Open w node h n e
-in_few (round.Write bodies) w node h n e = answer_few (round.Write bodies) w node h n e
-in_few (round.Purge min) w node h n e = answer_few (round.Purge min) w node h n e
+in_few : (r : Round) (w : WriterView) (node : ℕ) (h : Heard) → (heard_in r w node h).turn ≡ turn.Aborted → IsMinority (heard_in r w node h).writer.causes
+in_few (round.Fetch from start end bodies) w node h e = fetched_few from start end bodies h w e
+in_few round.State w node h e = answer_few round.State w node h e
+in_few round.Propose w node h e = answer_few round.Propose w node h e
+in_few (round.Prepare start) w node h e = answer_few (round.Prepare start) w node h e
+in_few (round.Accept batch) w node h e = answer_few (round.Accept batch) w node h e
+in_few (round.Finalize start end) w node h e = answer_few (round.Finalize start end) w node h e
+in_few round.Start w node h e = answer_few round.Start w node h e
+in_few round.Open w node h e = answer_few round.Open w node h e
+in_few (round.Write bodies) w node h e = answer_few (round.Write bodies) w node h e
+in_few (round.Purge min) w node h e = answer_few (round.Purge min) w node h e
 
 heard_is : (w : WriterView) (r : Round) (node : ℕ) (h : Heard) → w.phase ≡ phase.InRound r → writer_heard w node h ≡ heard_in r w node h
 unfolding writer_heard
 heard_is w r node h p = rw p refl
 
 pub aborts_few : AbortsAreMinorities
-aborts_few w r node h p n e =
+aborts_few w r node h p e =
     let is = heard_is w r node h p in
-    let few : IsMinority (heard_in r w node h).writer.causes = in_few r w node h n (ap (λ j. j.turn) (sym is) ∙ e) in
+    let few : IsMinority (heard_in r w node h).writer.causes = in_few r w node h (ap (λ j. j.turn) (sym is) ∙ e) in
     rw is few
 
 -- ## A minority aborts its round

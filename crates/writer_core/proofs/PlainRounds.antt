@@ -114,7 +114,7 @@ round_by true (round.Prepare start) w i =
 round_by true (round.Accept batch) w i = (refl, tt)
 round_by true (round.Finalize start end) w i =
     let r : Round = round.Finalize start end in
-    finalized w.aim end (with_causes r (at_phase (phase.InRound r) w)) 0 0 (map (cause_of r) (map plain_slot w.slots))
+    finalized w.aim end (with_causes r (at_phase (phase.InRound r) w)) 0 0 (map (cause_of (numbers_fit (plain (at_phase (phase.InRound r) w)) r) r) (map plain_slot w.slots))
 round_by true round.Start w i = (
   ap (λ (left : List Bool). plain (record (judgment_by true round.Start (at_phase (phase.InRound round.Start) w)).writer {
     left = left;
@@ -124,14 +124,14 @@ round_by true round.Start w i = (
 )
 round_by true round.Open w i =
     let v : WriterView = with_causes round.Open (at_phase (phase.InRound round.Open) w) in
-    let causes : List Cause = map (cause_of round.Open) (map plain_slot w.slots) in
+    let causes : List Cause = map (cause_of (numbers_fit (plain (at_phase (phase.InRound round.Open) w)) round.Open) round.Open) (map plain_slot w.slots) in
     swap (λ (left : List Bool). (after_open w.aim (opened_with (parted v w.start 0 causes) left)).writer)
     (after_open w.aim (opened_with v (left_out_after round.Open w.slots))).writer _ _ (missed_plain round.Open w.slots)
     (opened w.aim v (left_out_after round.Open w.slots) 0 causes)
 round_by true (round.Write bodies) w i =
     let r : Round = round.Write bodies in
     let v : WriterView = with_causes r (at_phase (phase.InRound r) w) in
-    let causes : List Cause = map (cause_of r) (map plain_slot w.slots) in
+    let causes : List Cause = map (cause_of (numbers_fit (plain (at_phase (phase.InRound r) w)) r) r) (map plain_slot w.slots) in
     let last : ℕ = w.next + length bodies - 1 in
     swap (λ (left : List Bool). (after_write w.aim w.next last (written_with (parted v w.start w.next causes) last left)).writer)
     (after_write w.aim w.next last (written_with v last (left_out_after r w.slots))).writer _ _ (missed_plain r w.slots)

@@ -1,11 +1,11 @@
 -- What fits an open segment.
-use Rattle.std.proofs.Common.{◌≡◌, ℕ, ◌+◌, ◌-◌, ◌<◌, ◌≤◌, List, length, Bool, true, false, refl, arith, Option, Some, None, cond, nat_lt, nat_le}
+use Rattle.std.proofs.Common.{◌≡◌, ℕ, ◌+◌, ◌-◌, ◌<◌, ◌≤◌, List, length, Bool, true, false, refl, arith, Some, None, cond, nat_lt, nat_le}
 use Rattle.std.specs.Prelude.{◌↔◌}
 use Rattle.std.specs.List.{list_any}
 use Rattle.std.proofs.lemmas.Bool.Decides.{nat_tests}
 use Rattle.journal_core.specs.Limits.{max_body, max_batch, max_segment}
 use Rattle.writer_core.specs.Views.{WriterView}
-use Rattle.writer_core.specs.Writer.{is_writing, log_limit}
+use Rattle.writer_core.specs.Writer.{log_limit}
 use Rattle.writer_core.specs.Room.{room_of, RoomIsExact}
 
 limit_is : (w : WriterView) (bodies : List (List ℕ)) → length bodies ≤ max_batch → list_any (λ body. nat_lt max_body (length body)) bodies ≡ false

@@ -1,6 +1,6 @@
 -- A writer in the course of a task: each answer leads to a round of the same task, or to an end of
 -- its own.
-use Rattle.std.proofs.Common.{◌≡◌, ℕ, ◌+◌, ◌-◌, List, [], ◌∷◌, ◌++◌, Bool, true, false, cond, refl, sym, ◌∙◌, subst, length, take, ◌&&◌, nat_lt, Option, Some, None}
+use Rattle.std.proofs.Common.{◌≡◌, ℕ, ◌+◌, ◌-◌, List, [], ◌++◌, Bool, true, false, cond, refl, sym, ◌∙◌, subst, length, take, ◌&&◌, nat_lt, Option, Some, None}
 use Rattle.std.specs.Prelude.{◌≢◌}
 use Rattle.std.specs.List.{list_any}
 use Rattle.std.proofs.lemmas.List.{length-map, length-set}
@@ -25,9 +25,9 @@ use Rattle.writer_core.specs.Views.{WriterView}
 use Rattle.writer_core.specs.Answers.{is_waiting, has_majority, fits_edits}
 use Rattle.writer_core.specs.Best.{Best, best_of, greatest_promise, greatest_newest}
 use Rattle.writer_core.specs.Rounds.{numbers_fit, Judgment, keep_going, ends_with, stops_with, after_round, with_causes, judgment_by, judgment}
-use Rattle.writer_core.specs.Rounds.{without_answer_of, after_fetch, after_state, begin_propose, after_propose, begin_recovery, after_finalize}
+use Rattle.writer_core.specs.Rounds.{without_answer_of, after_fetch, begin_propose, after_propose, begin_recovery, after_finalize}
 use Rattle.writer_core.specs.Rounds.{after_open, after_write, after_edits, after_no_edits, next_serial, left_out_after, none_left_out, asks_all}
-use Rattle.writer_core.specs.Rounds.{asks_others, batch_from, end_record, failure_of}
+use Rattle.writer_core.specs.Rounds.{asks_others, batch_from, end_record}
 use Rattle.writer_core.specs.Writer.{Began, writer_begun, log_begins, log_limit, is_writing, if_writing, with_answer, judgment_when, heard_in, heard_at, writer_heard}
 use Rattle.writer_core.specs.Turns.{aim_of, Suits, SuitsIn, IsOf, IsInRound, phase_after, IsTurnOf, IsApt}
 

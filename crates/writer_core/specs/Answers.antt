@@ -80,15 +80,15 @@ is_majority count slots = nat_lt (length slots) (2 * count)
 abbrev pub has_majority : Round → List Slot → Bool
 has_majority r slots = is_majority (count_by (is_ok r) slots) slots
 
--- what came of a node's part: an answer that doesn't fit and isn't a refusal counts as hearing
--- nothing
+-- what came of a node's part, of a request whose own numbers fit or don't: an answer that doesn't
+-- count and isn't a refusal counts as hearing nothing
 abbrev pub cause_unless_ok : Bool → Reply → Cause
 cause_unless_ok true answer = cause.Ok
 cause_unless_ok false (reply.Refused refusal) = cause.Refused refusal
 cause_unless_ok false _ = cause.Silent
 
-abbrev pub cause_of : Round → Slot → Cause
-cause_of r (Told (Answer answer)) = cause_unless_ok (fits_round r answer) answer
-cause_of r (Told Silent) = cause.Silent
-cause_of r Waiting = cause.Silent
-cause_of r LeftOut = cause.OutOfSync
+abbrev pub cause_of : Bool → Round → Slot → Cause
+cause_of fit r (Told (Answer answer)) = cause_unless_ok (fit && fits_round r answer) answer
+cause_of fit r (Told Silent) = cause.Silent
+cause_of fit r Waiting = cause.Silent
+cause_of fit r LeftOut = cause.OutOfSync

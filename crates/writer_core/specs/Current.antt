@@ -1,5 +1,5 @@
 -- The round under way, and a piece that is fetched in it.
-use Rattle.std.specs.Prelude.{ℕ, ◌+◌, ◌-◌, ◌&&◌, List, [], ◌++◌, Bool, true, false, length, take, Result, Ok, Err}
+use Rattle.std.specs.Prelude.{◌+◌, ◌-◌, ◌&&◌, ◌++◌, Bool, true, false, length, take, Result, Ok, Err}
 use Rattle.journal_core.specs.Views.{BatchView}
 use Rattle.journal_core.specs.declared.reply.Reply.TheVariants as reply
 use Rattle.journal_core.specs.declared.heard.Heard.{Heard}

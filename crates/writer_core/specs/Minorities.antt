@@ -9,7 +9,6 @@ use Rattle.writer_core.specs.declared.cause.Cause.TheVariants as cause
 use Rattle.writer_core.specs.declared.turn.Turn.TheVariants as turn
 use Rattle.writer_core.specs.Views.{WriterView}
 use Rattle.writer_core.specs.Answers.{is_waiting, has_majority}
-use Rattle.writer_core.specs.Rounds.{numbers_fit}
 use Rattle.writer_core.specs.Current.{is_fetch}
 use Rattle.writer_core.specs.Writer.{with_answer, writer_heard}
 
@@ -23,11 +22,12 @@ is_ok_cause (cause.Refused refusal) = false
 abbrev pub IsMinority : List Cause → Type 0
 IsMinority causes = 2 * count_by is_ok_cause causes ≤ length causes
 
--- Where an answer aborts a round whose numbers are in range, the causes tell of a minority that
--- answered with the Ok kind. A node whose fetch failed counts no more.
+-- Where an answer aborts a round, the causes tell of a minority that answered with the Ok kind. A
+-- node whose fetch failed counts no more, and none does where a number of the request is out of
+-- range.
 abbrev pub AbortsAreMinorities : Type 0
 AbortsAreMinorities =
-    (w : WriterView) (r : Round) (node : ℕ) (h : Heard) → w.phase ≡ phase.InRound r → numbers_fit w r ≡ true → (writer_heard w node h).turn ≡ turn.Aborted
+    (w : WriterView) (r : Round) (node : ℕ) (h : Heard) → w.phase ≡ phase.InRound r → (writer_heard w node h).turn ≡ turn.Aborted
     → IsMinority (writer_heard w node h).writer.causes
 
 -- Where a minority answered so, the last answer of the round aborts it.

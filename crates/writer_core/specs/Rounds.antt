@@ -147,7 +147,7 @@ after_round (round.Purge min) w = ends_with phase.Writing outcome.Purge (next_se
 
 -- ## A round that was heard whole
 abbrev pub with_causes : Round → WriterView → WriterView
-with_causes r w = record w { causes = map (cause_of r) w.slots }
+with_causes r w = record w { causes = map (cause_of (numbers_fit w r) r) w.slots }
 
 -- done where a majority answered with the Ok kind, and aborted otherwise
 abbrev pub judgment_by : Bool → Round → WriterView → Judgment

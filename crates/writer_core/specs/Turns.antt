@@ -1,5 +1,5 @@
 -- The rounds of a task, and how it ends.
-use Rattle.std.specs.Prelude.{ℕ, ◌≡◌}
+use Rattle.std.specs.Prelude.{◌≡◌}
 use Rattle.writer_core.specs.declared.round.Round.{Round}
 use Rattle.writer_core.specs.declared.round.Round.TheVariants as round
 use Rattle.writer_core.specs.declared.phase.Phase.{Phase}

@@ -58,8 +58,7 @@ pub fn room_is_exact()
     ensures { RoomIsExact }
 {}
 
-/// An aborted round whose own numbers are at most 2^62 was answered with the Ok kind by no
-/// majority.
+/// The causes of an aborted round tell of no majority that answered with the Ok kind.
 pub fn aborts_are_minorities()
     ensures { AbortsAreMinorities }
 {}

@@ -139,13 +139,13 @@ pub(crate) fn has_majority(kind: RoundKind, slots: &[Slot]) -> bool
     slots.len() / 2 < ok_count(kind, slots)
 }
 
-/// What came of a node's part.
-fn cause_of(kind: RoundKind, slot: &Slot) -> Cause
-    ensures { result ≡ cause_of (round_of kind []) slot.now }
+/// What came of a node's part, of a request whose own numbers fit or don't.
+fn cause_of(fit: bool, kind: RoundKind, slot: &Slot) -> Cause
+    ensures { result ≡ cause_of fit (round_of kind []) slot.now }
 {
     match slot {
         Slot::Told(Heard::Answer(reply)) => {
-            if fits(kind, reply) {
+            if fit && fits(kind, reply) {
                 Cause::Ok
             } else if let Reply::Refused(refusal) = reply {
                 Cause::Refused(*refusal)
@@ -158,14 +158,14 @@ fn cause_of(kind: RoundKind, slot: &Slot) -> Cause
     }
 }
 
-/// Tells what came of each node's part.
+/// Tells what came of each node's part, of a request whose own numbers fit or don't.
 #[tactic(auto, using(crate::proofs::InPlace::written_more))]
-pub(crate) fn tell_causes(causes: &mut [Cause], kind: RoundKind, slots: &[Slot])
+pub(crate) fn tell_causes(causes: &mut [Cause], fit: bool, kind: RoundKind, slots: &[Slot])
     requires { length causes.old ≡ length slots.now }
-    ensures { causes.new ≡ map (cause_of (round_of kind [])) slots.now }
+    ensures { causes.new ≡ map (cause_of fit (round_of kind [])) slots.now }
 {
     for i in 0..causes.len() {
-        causes[i] = cause_of(kind, &slots[i]);
+        causes[i] = cause_of(fit, kind, &slots[i]);
     }
 }
 

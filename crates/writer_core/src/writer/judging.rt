@@ -1,11 +1,11 @@
 //! What follows a round that was heard whole.
-ghost use Rattle.std.specs.Prelude.{◌≡◌, ◌≤◌, ◌<◌, ◌+◌, ◌-◌, ◌&&◌, Some, true, false, position, []};
+ghost use Rattle.std.specs.Prelude.{◌≡◌, ◌≤◌, ◌<◌, ◌+◌, ◌-◌, ◌&&◌, Some, true, false, map, position, []};
 ghost use Rattle.std.specs.List.{list_any};
 ghost use Rattle.journal_core.specs.Limits.{max_number};
 ghost use Rattle.writer_core.specs.declared.round.Round.TheVariants as round;
 ghost use Rattle.writer_core.specs.declared.phase.Phase.TheVariants as phase;
 ghost use Rattle.writer_core.specs.declared.turn.Turn.TheVariants as turn;
-ghost use Rattle.writer_core.specs.Answers.{fits, is_waiting, has_majority};
+ghost use Rattle.writer_core.specs.Answers.{cause_of, fits, is_waiting, has_majority};
 ghost use Rattle.writer_core.specs.Best.{greatest_promise, greatest_newest};
 ghost use Rattle.writer_core.specs.Rounds.{numbers_fit, next_serial, keep_going, ends_with, stops_with, after_state, after_propose, after_finalize, after_open, after_write, after_round, asks_others, left_out_after, with_causes, judgment};
 ghost use Rattle.writer_core.specs.Current.{round_in, is_fetch};
@@ -225,17 +225,27 @@ impl Writer {
         self.numbers_fit() && self.has_majority()
     }
 
-    /// Tells what came of each node's part.
+    /// Tells what came of each node's part, of a request whose own numbers fit or don't.
     #[tactic(auto, using(crate::proofs::Judging::cause_alike))]
-    pub(super) fn tell_causes(&mut self)
+    fn note_causes(&mut self, fit: bool)
         requires { is_under_way self.old.view.phase ≡ true }
-        ensures { self.new.view ≡ with_causes (round_in self.old.view.phase) self.old.view }
+        ensures { self.new.view ≡ record self.old.view { causes = map (cause_of fit (round_in self.old.view.phase)) self.old.view.slots } }
     {
         let Stage::Round(kind) = self.stage else {
             unreachable!()
         };
         self.request = None;
-        tell_causes(&mut self.causes, kind, &self.slots);
+        tell_causes(&mut self.causes, fit, kind, &self.slots);
+    }
+
+    /// Tells what came of each node's part. Where a number of the request is out of range, none
+    /// counts.
+    pub(super) fn tell_causes(&mut self)
+        requires { is_under_way self.old.view.phase ≡ true }
+        ensures { self.new.view ≡ with_causes (round_in self.old.view.phase) self.old.view }
+    {
+        let fit = self.numbers_fit();
+        self.note_causes(fit);
     }
 
     /// Judges a round that was heard whole.

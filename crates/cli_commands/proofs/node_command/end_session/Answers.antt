@@ -4,10 +4,10 @@ use Rattle.cli_commands.proofs.ServingLaws.{told, untold}
 use Rattle.cli_commands.proofs.node_command.end_session.Goals as goal
 
 pub returns-in-Done : goal.returns-in-Done
-returns-in-Done g c = untold c.args.served served.Done _ _ c.in-Done.is refl
+returns-in-Done g c = untold c.args.served served.Done _ _ _ c.in-Done.is refl
 
 pub returns-in-WriteFault : goal.returns-in-WriteFault
-returns-in-WriteFault g c = untold c.args.served served.WriteFault _ _ c.in-WriteFault.is refl
+returns-in-WriteFault g c = untold c.args.served served.WriteFault _ _ _ c.in-WriteFault.is refl
 
 pub returns-in-BadLine : goal.returns-in-BadLine
 returns-in-BadLine g c =

@@ -48,6 +48,11 @@ returns-else-is_empty c =
     (λ i. omega (arith, c.type_inv.bytes i)) (edit_fields c.in-Ok.edit) c.in-Ok.rest.now c.in-Ok.ensures.read
     (some_there c.in-Ok.rest.now (sym c.is_empty.ensures ∙ c.if-is_empty.false))
 
+pub returns-in-Err-Memory : goal.returns-in-Err-Memory
+returns-in-Err-Memory c =
+    let o = c.in-Some.ensures.found in
+    record { kind = c.in-Some.kind; called = c.in-Some.has_call; may_call = o.0; bytes = c.args.bytes.now; whole = c.requires ∙ ap (λ (b : ℕ). b ∷ c.args.bytes.now) (sym o.1) }
+
 pub returns-in-Short : goal.returns-in-Short
 returns-in-Short c =
     let o = c.in-Some.ensures.found in

@@ -16,6 +16,7 @@ invariant-loop-node g l = record {
   number : l.number ≤ l.reader.taken + 1;
   read : g.S.Source.faults l.source ≡ g.S.Source.faults l.fn.source;
   wrote : g.K.Sink.faults l.sink ≡ g.K.Sink.faults l.fn.sink;
+  handed : g.K.Sink.kept_back l.fn.sink ≡ 0 → g.K.Sink.kept_back l.sink ≡ 0;
   told : is_some (g.N.SessionNode.state l.node) ≡ is_some (g.N.SessionNode.state l.fn.node);
   later : g.N.SessionNode.faults l.fn.node ≤ g.N.SessionNode.faults l.node;
   steady : g.N.SessionNode.steady l.fn.node → g.N.SessionNode.steady l.node;

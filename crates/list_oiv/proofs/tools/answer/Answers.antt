@@ -6,7 +6,7 @@ use Rattle.ns_image.specs.Reading.{reading_of}
 use Rattle.ns_image.specs.Rows.{HasRead}
 use Rattle.list_oiv.specs.Listed.{IsAnswer}
 use Rattle.list_oiv.proofs.NoDigest.{no_digest}
-use Rattle.list_oiv.proofs.OneAnswer.{listed, no_memory, some_taken, rows_told, fault_is}
+use Rattle.list_oiv.proofs.OneAnswer.{listed, no_memory, some_taken, rows_begun, rows_told, fault_is}
 use Rattle.list_oiv.proofs.tools.answer.Goals as goal
 
 pub text_answer-requires : goal.text_answer-requires
@@ -19,16 +19,22 @@ fault_answer-requires g c digest =
     (subst (λ (u : Unread). HasRead g.T.RowSink.has_taken (reading_of c.args.bytes.now) (Err u)) c.in-Err-BadBytes.field-0-is c.in-Err-BadBytes.ensures.read))
     (sym c.in-Err-BadBytes.cause-is ∙ digest)
 
-pub returns-in-Ok : goal.returns-in-Ok
-returns-in-Ok g c = rows_told g.T.RowSink.has_taken g.T.RowText.tell (reading_of c.args.bytes.now) c.in-Ok.rows c.text_answer.result c.in-Ok.ensures.read c.text_answer.ensures
+pub returns-in-Ok-clause-right : goal.returns-in-Ok-clause-right
+returns-in-Ok-clause-right g c = rows_told g.T.RowSink.has_taken g.T.RowText.tell (reading_of c.args.bytes.now) c.in-Ok.rows c.text_answer.result c.in-Ok.ensures.read c.text_answer.ensures
 
-pub returns-in-Err-BadBytes : goal.returns-in-Err-BadBytes
-returns-in-Err-BadBytes g c =
+pub returns-in-Ok-clause-head : goal.returns-in-Ok-clause-head
+returns-in-Ok-clause-head g c = λ e. rows_begun g.T.RowSink.has_taken c.args.bytes.now c.in-Ok.rows c.in-Ok.ensures.read
+
+pub returns-in-Err-BadBytes-clause-right : goal.returns-in-Err-BadBytes-clause-right
+returns-in-Err-BadBytes-clause-right g c =
     listed g.T.RowText.tell c.args.bytes.now (BadImage c.in-Err-BadBytes.place c.in-Err-BadBytes.cause) c.fault_answer.result
     (fault_is g.T.RowSink.has_taken (reading_of c.args.bytes.now) c.in-Err-BadBytes.place c.in-Err-BadBytes.cause
     (subst (λ (u : Unread). HasRead g.T.RowSink.has_taken (reading_of c.args.bytes.now) (Err u)) c.in-Err-BadBytes.field-0-is c.in-Err-BadBytes.ensures.read))
     (subst (λ (r : ReadImage). IsAnswer g.T.RowText.tell r c.fault_answer.result)
-    (λ i. BadImage (c.in-Err-BadBytes.place-is i) (c.in-Err-BadBytes.cause-is i)) (c.fault_answer.ensures g.T.RowText.tell))
+    (λ i. BadImage (c.in-Err-BadBytes.place-is i) (c.in-Err-BadBytes.cause-is i)) (c.fault_answer.ensures.told g.T.RowText.tell))
 
-pub returns-in-Err-OutOfMemory : goal.returns-in-Err-OutOfMemory
-returns-in-Err-OutOfMemory g c = no_memory g.T.RowText.tell c.args.bytes.now
+pub returns-in-Err-BadBytes-clause-head : goal.returns-in-Err-BadBytes-clause-head
+returns-in-Err-BadBytes-clause-head g c = λ e. absurd (c.fault_answer.ensures.memory e)
+
+pub returns-in-Err-OutOfMemory-clause-right : goal.returns-in-Err-OutOfMemory-clause-right
+returns-in-Err-OutOfMemory-clause-right g c = no_memory g.T.RowText.tell c.args.bytes.now

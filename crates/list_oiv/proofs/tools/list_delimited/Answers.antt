@@ -3,7 +3,7 @@ use Rattle.list_oiv.proofs.OneAnswer.{gives_text, gives_fault}
 use Rattle.list_oiv.proofs.tools.list_delimited.Goals as goal
 
 pub returns-clause-text : goal.returns-clause-text
-returns-clause-text c = gives_text delimited c.args.bytes.now c.answer.result c.answer.ensures
+returns-clause-text c = gives_text delimited c.args.bytes.now c.answer.result c.answer.ensures.right
 
 pub returns-clause-fault : goal.returns-clause-fault
-returns-clause-fault c = gives_fault delimited c.args.bytes.now c.answer.result c.answer.ensures
+returns-clause-fault c = gives_fault delimited c.args.bytes.now c.answer.result c.answer.ensures.right

@@ -1,30 +1,27 @@
-use Rattle.std.proofs.Common.{◌+◌, ◌-◌, ◌∷◌, ◌++◌, [], length, refl, sym, ap, ◌∙◌, subst}
-use Rattle.std.specs.Prelude.{◌&&◌, ◌||◌}
-use Rattle.std.specs.BTreeSet.{contains}
-use Rattle.std.specs.Ordering.{nat_cmp}
+use Rattle.std.proofs.Common.{◌+◌, ◌-◌, ◌∷◌, ◌++◌, [], cond, length, refl, sym, ap, ◌∙◌, subst}
 use Rattle.std.specs.Vec.{with_item}
 use Rattle.mesh.specs.Matches.{IsWithin}
-use Rattle.mesh_judge.specs.Keys.{is_ask, has}
+use Rattle.mesh_judge.specs.declared.marking.CallTable.{CallTable}
+use Rattle.mesh_judge.specs.Keys.{is_ask, ask_key, count_of}
 use Rattle.mesh_judge.specs.Marking.{KnowsCalls}
-use Rattle.mesh_judge.proofs.MarkLaws.{calls_add, copy_stays, operator_stays, outcome_stays}
+use Rattle.mesh_judge.proofs.MarkLaws.{calls_add, copy_taken, operator_stays, outcome_stays}
 use Rattle.mesh_judge.proofs.marking.push_line.Goals as goal
 
-pub returns-in_ok-push_late-in-Call : goal.returns-in_ok-push_late-in-Call
-returns-in_ok-push_late-in-Call c plan before marked known =
+pub returns-in_ok-add_due-in-Call : goal.returns-in_ok-add_due-in-Call
+returns-in_ok-add_due-in-Call c plan before marked known =
     let low = subst (IsWithin (length c.args.calls.now.next.items)) c.in-Call.is c.requires.within in
-    subst (λ line. KnowsCalls (length c.args.calls.now.next.items) plan (before ++ line ∷ [])
-    (record { next = with_item c.args.calls.now.next (c.in-Call.node - 1) (c.index-number.result.now + 1); late = c.push_late.new.requests }))
-    (sym c.in-Call.is)
-    (calls_add (length c.args.calls.now.next.items) c.in-Call.node c.index-number.result.now plan before c.in-Call.request c.in-Call.told c.args.calls.now
-    (record { next = with_item c.args.calls.now.next (c.in-Call.node - 1) (c.index-number.result.now + 1); late = c.push_late.new.requests })
-    c.args.marks.now c.index-numbers.result.now low c.index-number.ensures c.index-numbers.ensures refl
-    (λ k r. c.in_ok-push_late-in-Call.ensures k r
-    ∙ ap (λ q. (contains nat_cmp c.index-numbers.result.now.set c.index-number.result.now && is_ask k r c.in-Call.node q) || has c.args.calls.now.late k r) c.get.ensures) marked known)
+    let new : CallTable = record { next = with_item c.args.calls.now.next (c.in-Call.node - 1) (c.index-number.result.now + 1); due = c.add_due.new.due } in
+    subst (λ line. KnowsCalls (length c.args.calls.now.next.items) plan (before ++ line ∷ []) new) (sym c.in-Call.is)
+    (calls_add (length c.args.calls.now.next.items) c.in-Call.node c.index-number.result.now c.get-marked.result plan before c.in-Call.request c.in-Call.told c.args.calls.now new
+    c.args.marks.now low c.index-number.ensures c.get-marked.ensures refl
+    (λ k r. c.in_ok-add_due-in-Call.ensures k r ∙ ap (λ q. count_of c.args.calls.now.due (ask_key k r) + cond (is_ask k r c.in-Call.node q) c.get-marked.result 0) c.get.ensures) marked known)
 
-pub returns-in-Late : goal.returns-in-Late
-returns-in-Late c plan before marked known =
-    subst (λ line. KnowsCalls (length c.args.calls.now.next.items) plan (before ++ line ∷ []) c.args.calls.now) (sym c.in-Late.is)
-    (copy_stays (length c.args.calls.now.next.items) plan before c.in-Late.node c.in-Late.request c.args.calls.now known)
+pub returns-in_ok-take_due-in-Late : goal.returns-in_ok-take_due-in-Late
+returns-in_ok-take_due-in-Late c plan before marked known =
+    let new : CallTable = record { next = c.args.calls.now.next; due = c.take_due.new.due } in
+    subst (λ line. KnowsCalls (length c.args.calls.now.next.items) plan (before ++ line ∷ []) new) (sym c.in-Late.is)
+    (copy_taken (length c.args.calls.now.next.items) plan before c.in-Late.node c.in-Late.request c.args.calls.now new refl
+    (λ k r. ap (λ q. count_of c.take_due.new.due (ask_key k r) + cond (is_ask k r c.in-Late.node q) 1 0) (sym c.get-in-Late.ensures) ∙ c.in_ok-take_due-in-Late.ensures k r) known)
 
 pub returns-in-Operator : goal.returns-in-Operator
 returns-in-Operator c plan before marked known =

@@ -8,6 +8,7 @@ use Rattle.play_model.specs.Plays.{IsPlayed, states_after}
 use Rattle.play_order.specs.Kept.{mesh_kept}
 use Rattle.play_model.proofs.Sound.{has_nodes}
 use Rattle.play_order.proofs.PlayLaws.{may_on, under_way_first, under_way_end}
+use Rattle.play_order.proofs.ImagesLeft.{leaves_images}
 use Rattle.play_order.proofs.NodesLeft.{states_left}
 use Rattle.play_order.proofs.playing.play_on.Goals as goal
 
@@ -23,10 +24,10 @@ returns-clause-played g c =
     let s = c.args.script.now in
     let e : c.loop-line.line-index ≡ length c.lines-line-items.result.now = omega (arith, c.loop-line-test.false, c.loop-line.auto.line-index-end) in
     let P : ℕ → Type 0 = λ i. IsUnderWay s.named s.nodes (lines_of s) (drop i c.lines-line-items.result.now) c.loop-line.cluster in
-    let Q : Mesh → Type 0 = λ m. IsPlayed s.named s.nodes (lines_of s) m c.in_ok-played.played.ends in
+    let Q : Mesh → Type 0 = λ m. IsPlayed s.named s.nodes (lines_of s) m c.in_ok-left.left.played.ends in
     let R : List End → Type 0 = λ ends. IsPlayed s.named s.nodes (lines_of s) (mesh_kept c.loop-line.cluster) ends in
-    subst Q (sym c.in_ok-played.ensures.mesh)
-    (subst R (sym c.in_ok-played.ensures.ends)
+    subst Q (sym c.in_ok-left.ensures.mesh)
+    (subst R (sym c.in_ok-left.ensures.ends)
     (under_way_end s.named s.nodes (lines_of s) c.lines-line-items.result.now c.loop-line.cluster (subst P e c.loop-line.invariant)))
 
 pub loop-line-init : goal.loop-line-init
@@ -39,7 +40,15 @@ pub returns-clause-states : goal.returns-clause-states
 returns-clause-states g c =
     let s = c.args.script.now in
     let lines = c.lines-line-items.result.now in
-    c.in_ok-played.ensures.states
+    c.in_ok-left.ensures.states
     ∙ states_left s.named s.nodes (lines_of s) (drop c.loop-line.line-index lines) c.loop-line.cluster
     (has_nodes s.named s.nodes c.requires.playable.nodes) c.requires.playable.lines c.loop-line.invariant
-    ∙ ap (λ m. states_after m.histories) (sym c.in_ok-played.ensures.mesh)
+    ∙ ap (λ m. states_after m.histories) (sym c.in_ok-left.ensures.mesh)
+
+pub returns-clause-images : goal.returns-clause-images
+returns-clause-images g c =
+    let s = c.args.script.now in
+    let e : c.loop-line.line-index ≡ length c.lines-line-items.result.now = omega (arith, c.loop-line-test.false, c.loop-line.auto.line-index-end) in
+    let P : ℕ → Type 0 = λ i. IsUnderWay s.named s.nodes (lines_of s) (drop i c.lines-line-items.result.now) c.loop-line.cluster in
+    leaves_images s.named s.nodes (lines_of s) c.lines-line-items.result.now c.loop-line.cluster c.in_ok-left.left.played.mesh c.in_ok-left.left.played.ends c.in_ok-left.left.images.items
+    (subst P e c.loop-line.invariant) c.in_ok-left.ensures.mesh c.in_ok-left.ensures.ends c.in_ok-left.ensures.images

@@ -1,5 +1,4 @@
 use Rattle.std.proofs.Common.{map, ap, subst, ◌≡◌, ◌∙◌}
-use Rattle.std.proofs.lemmas.Result.{IfOk-weaker}
 use Rattle.play_model.specs.Lines.{actions_of, line_of}
 use Rattle.play_model.specs.Actions.{has_names, kept_by}
 use Rattle.play_threads.specs.Threads.{HasDone}
@@ -15,4 +14,4 @@ returns-clause-follows g c =
     let named : has_names by ≡ c.args.named = ap has_names c.in_ok-by.ensures ∙ new_named c.args.named c.nodes.result in
     let done : HasDone c.args.named nodes actions (kept_by (g.A.Actor.seen c.act.new.by) log) =
     subst (λ b. HasDone b nodes actions (kept_by (g.A.Actor.seen c.act.new.by) log)) named c.in_ok-act.ensures.done in
-    IfOk-weaker c.into_last.result _ _ (λ last is. done_follows c.args.named nodes actions (g.A.Actor.seen c.act.new.by) log last done is) c.into_last.ensures
+    done_follows c.args.named nodes actions (g.A.Actor.seen c.act.new.by) log c.in_ok-left.left.last done c.in_ok-left.ensures.last

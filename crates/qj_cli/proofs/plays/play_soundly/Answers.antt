@@ -3,7 +3,7 @@ use Rattle.qj_cli.proofs.plays.play_soundly.Goals as goal
 
 pub returns : goal.returns
 returns c =
-    comes c.args.script.now c.in_ok-played.played.mesh c.in_ok-played.played.ends (c.scripts_are_playable.ensures.lines c.args.script.now c.requires) c.in_ok-played.ensures.played
+    comes c.args.script.now c.in_ok-left.left.played.mesh c.in_ok-left.left.played.ends (c.scripts_are_playable.ensures.lines c.args.script.now c.requires) c.in_ok-left.ensures.played
     c.a_play_agrees.ensures.script c.a_play_follows.ensures.script (record {
       run = c.epoch_order_is_a_run.ensures;
       safe = c.a_mesh_that_agrees_is_safe.ensures;

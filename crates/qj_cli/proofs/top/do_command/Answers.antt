@@ -8,14 +8,14 @@ use Rattle.qj_cli.proofs.top.do_command.Goals as goal
 pub returns-in-Play-clause-done : goal.returns-in-Play-clause-done
 returns-in-Play-clause-done g c =
     does_as c.args.command command.Play (read_from g.S.Source.left g.S.Source.faults c.args.source.now c.play_script.new.source)
-    (written_to g.K.Sink.taken g.K.Sink.faults c.args.sink.now c.play_script.new.sink)
+    (written_to g.K.Sink.taken g.K.Sink.faults g.K.Sink.kept_back c.args.sink.now c.play_script.new.sink)
     (done_to g.D.DiskModel.tells g.D.DiskModel.view g.D.DiskModel.faults g.D.DiskModel.steady g.D.DiskModel.left c.args.disk c.args.disk)
     c.play_script.result c.in-Play.is (c.play_script.ensures, refl)
 
 pub returns-in-Gen-clause-done : goal.returns-in-Gen-clause-done
 returns-in-Gen-clause-done g c =
     does_as c.args.command (command.Gen c.in-Gen.number c.in-Gen.edits c.in-Gen.nodes) (read_from g.S.Source.left g.S.Source.faults c.args.source.now c.args.source.now)
-    (written_to g.K.Sink.taken g.K.Sink.faults c.args.sink.now c.play_generated.new.sink)
+    (written_to g.K.Sink.taken g.K.Sink.faults g.K.Sink.kept_back c.args.sink.now c.play_generated.new.sink)
     (done_to g.D.DiskModel.tells g.D.DiskModel.view g.D.DiskModel.faults g.D.DiskModel.steady g.D.DiskModel.left c.args.disk c.args.disk)
     c.play_generated.result c.in-Gen.is (c.play_generated.ensures, refl)
 

@@ -19,12 +19,12 @@ returns-in-Err-clause-refused_unread g c = λ place e. absurd (right_words (byte
 pub returns-in-Err-clause-done : goal.returns-in-Err-clause-done
 returns-in-Err-clause-done g c =
     let source = read_from g.S.Source.left g.S.Source.faults c.args.source.now c.run_script.new.source in
-    let sink = written_to g.K.Sink.taken g.K.Sink.faults c.args.sink.now c.run_script.new.sink in
+    let sink = written_to g.K.Sink.taken g.K.Sink.faults g.K.Sink.kept_back c.args.sink.now c.run_script.new.sink in
     let disk = done_to g.D.DiskModel.tells g.D.DiskModel.view g.D.DiskModel.faults g.D.DiskModel.steady g.D.DiskModel.left c.args.disk c.in-Err.disk in
     let plays : Plays AreSound source sink c.run_script.result =
-    subst (λ k. Plays AreSound source (written_to g.K.Sink.taken g.K.Sink.faults k c.run_script.new.sink) c.run_script.result) c.in-Err.ensures.threads.3
+    subst (λ k. Plays AreSound source (written_to g.K.Sink.taken g.K.Sink.faults g.K.Sink.kept_back k c.run_script.new.sink) c.run_script.result) c.in-Err.ensures.threads.3
     (subst (λ s. Plays AreSound (read_from g.S.Source.left g.S.Source.faults s c.run_script.new.source)
-    (written_to g.K.Sink.taken g.K.Sink.faults c.qjm_alone.new.sink c.run_script.new.sink) c.run_script.result) c.in-Err.ensures.threads.2
+    (written_to g.K.Sink.taken g.K.Sink.faults g.K.Sink.kept_back c.qjm_alone.new.sink c.run_script.new.sink) c.run_script.result) c.in-Err.ensures.threads.2
     c.run_script.ensures) in
     λ asked e. does_for (bytes_of c.args.words.now) run asked source sink disk c.run_script.result c.in-Err.ensures.threads.0 e (plays, c.in-Err.ensures.threads.1)
 
@@ -34,7 +34,7 @@ returns-in-Err-clause-unread g c = λ asked e none. absurd (subst ReadsNone (one
 pub returns-in-Err-clause-complete : goal.returns-in-Err-clause-complete
 returns-in-Err-clause-complete g c =
     let source = read_from g.S.Source.left g.S.Source.faults c.args.source.now c.run_script.new.source in
-    let sink = written_to g.K.Sink.taken g.K.Sink.faults c.args.sink.now c.run_script.new.sink in
+    let sink = written_to g.K.Sink.taken g.K.Sink.faults g.K.Sink.kept_back c.args.sink.now c.run_script.new.sink in
     let disk = done_to g.D.DiskModel.tells g.D.DiskModel.view g.D.DiskModel.faults g.D.DiskModel.steady g.D.DiskModel.left c.args.disk c.in-Err.disk in
     λ asked e. completes asked source sink disk c.run_script.result breaks_no_rule (returns-in-Err-clause-done g c asked e)
 

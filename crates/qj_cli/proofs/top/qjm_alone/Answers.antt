@@ -18,7 +18,7 @@ returns-in-Ok-clause-refused_unread g c = λ place e. absurd (right_words (bytes
 pub returns-in-Ok-clause-done : goal.returns-in-Ok-clause-done
 returns-in-Ok-clause-done g c =
     let source = read_from g.S.Source.left g.S.Source.faults c.args.source.now c.do_command.new.source in
-    let sink = written_to g.K.Sink.taken g.K.Sink.faults c.args.sink.now c.do_command.new.sink in
+    let sink = written_to g.K.Sink.taken g.K.Sink.faults g.K.Sink.kept_back c.args.sink.now c.do_command.new.sink in
     λ asked e.
     IfOk-weaker c.do_command.result _ _
     (λ exit does. does_for (bytes_of c.args.words.now) (asked_in c.in-Ok.command) asked source sink
@@ -32,7 +32,7 @@ returns-in-Ok-clause-unread g c =
 pub returns-in-Ok-clause-complete : goal.returns-in-Ok-clause-complete
 returns-in-Ok-clause-complete g c =
     let source = read_from g.S.Source.left g.S.Source.faults c.args.source.now c.do_command.new.source in
-    let sink = written_to g.K.Sink.taken g.K.Sink.faults c.args.sink.now c.do_command.new.sink in
+    let sink = written_to g.K.Sink.taken g.K.Sink.faults g.K.Sink.kept_back c.args.sink.now c.do_command.new.sink in
     λ asked e.
     IfOk-weaker c.do_command.result _ _
     (λ exit does.
@@ -59,7 +59,7 @@ returns-in-Ok-clause-alone g c =
 pub returns-in-Err-clause-refused : goal.returns-in-Err-clause-refused
 returns-in-Err-clause-refused g c =
     λ place e.
-    refused c.in-Err.place place (written_to g.K.Sink.taken g.K.Sink.faults c.args.sink.now c.write_fault.new.sink)
+    refused c.in-Err.place place (written_to g.K.Sink.taken g.K.Sink.faults g.K.Sink.kept_back c.args.sink.now c.write_fault.new.sink)
     (done_to g.D.DiskModel.tells g.D.DiskModel.view g.D.DiskModel.faults g.D.DiskModel.steady g.D.DiskModel.left c.args.disk c.args.disk) c.write_fault.result
     (sym c.in-Err.ensures ∙ e) (c.write_fault.ensures, refl)
 

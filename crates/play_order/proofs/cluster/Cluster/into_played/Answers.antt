@@ -1,8 +1,11 @@
-use Rattle.std.proofs.Common.{rules, arith, ◌≡◌, ◌++◌, ◌∷◌, [], ◌∙◌, ap, length}
+use Rattle.std.proofs.Common.{rules, arith, ◌≡◌, ◌++◌, ◌∷◌, [], List, ◌∙◌, ap, subst, length}
+use Rattle.std.specs.List.{AllZip}
 use Rattle.std.proofs.lemmas.Grind.{common_steps}
-use Rattle.play_order.specs.Kept.{mesh_kept, ends_kept, states_kept}
+use Rattle.ns_edits.specs.Replay.{Image}
+use Rattle.play_names.specs.ImageDisks.{HoldsOn}
+use Rattle.play_order.specs.Kept.{mesh_kept, ends_kept, states_kept, images_kept}
 use Rattle.play_order.specs.Shown.{kept}
-use Rattle.play_order.proofs.ClusterLaws.{mesh_is, ends_are}
+use Rattle.play_order.proofs.ClusterLaws.{mesh_is, ends_are, images_are}
 use Rattle.play_order.proofs.cluster.Cluster.into_played.Goals as goal
 
 pub returns-clause-mesh : goal.returns-clause-mesh
@@ -21,3 +24,9 @@ returns-clause-ends g c =
 
 pub returns-clause-states : goal.returns-clause-states
 returns-clause-states g c = c.in_ok-left.ensures.states ∙ ap states_kept c.self.view_is
+
+pub returns-clause-images : goal.returns-clause-images
+returns-clause-images g c =
+    let s = c.self.inside in
+    subst (λ (is : List (List Image)). AllZip HoldsOn c.in_ok-lists.lists.images.items is)
+    (images_are g.A.Actor.seen s.named s.cells.items s.players.items s.operator s.operated ∙ ap images_kept c.self.view_is) c.in_ok-lists.ensures.images

@@ -1,4 +1,4 @@
-use Rattle.std.proofs.Common.{◌≡◌, ◌∙◌, ap, sym, subst, true, false, List, ℕ, None, ◌==◌, length}
+use Rattle.std.proofs.Common.{◌≡◌, ◌∙◌, ap, sym, subst, true, List, ℕ, None, ◌==◌, length}
 use Rattle.ns_tree.specs.Space.{Space}
 use Rattle.writer_core.specs.Writer.{log_limit}
 use Rattle.play_standby.specs.Pendings.{PendingView, none_pending}

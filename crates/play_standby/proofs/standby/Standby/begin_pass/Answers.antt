@@ -1,4 +1,4 @@
-use Rattle.std.proofs.Common.{◌≡◌, true, false, sym, ap, ◌∙◌}
+use Rattle.std.proofs.Common.{◌≡◌, sym, ap, ◌∙◌}
 use Rattle.play_names.specs.Holding.{with_work}
 use Rattle.play_names.specs.Tails.{is_until}
 use Rattle.play_standby.specs.Standbys.{held}

@@ -1,0 +1,71 @@
+-- The states of nodes at the end of their histories, and their final segments.
+use Rattle.std.proofs.Common.{◌≡◌, ℕ, zero, suc, ◌+◌, ◌<◌, ◌==◌, List, [], ◌∷◌, length, reverse, get_or, Option, Some, true, refl, sym, ap, ◌∙◌, subst, arith}
+use Rattle.std.specs.Prelude.{slice_get}
+use Rattle.std.proofs.lemmas.Bool.{cond-true}
+use Rattle.std.proofs.lemmas.List.{append-nil}
+use Rattle.journal_core.specs.Reads.{served}
+use Rattle.journal_core.specs.Segments.{find_segment, AreRising, AreAbove, HasAt}
+use Rattle.journal_core.specs.declared.node_state.NodeState.{NodeState}
+use Rattle.journal_core.specs.declared.segment.Segment.{Segment}
+use Rattle.journal_core.proofs.PlaceLaws.{find_here, find_on}
+use Rattle.journal_history.specs.Cell.{fresh_cell, cell_after, IsLocalRun}
+use Rattle.journal_history.specs.Entries.{Entry, node_after}
+use Rattle.journal_history.specs.Moving.{moving_of}
+use Rattle.journal_history.specs.declared.history_line.HistoryLine.{HistoryLine}
+use Rattle.run_safety.proofs.SoundNodes.{stored_after}
+use Rattle.run_safety.proofs.Served.{served_on_line}
+use Rattle.mesh.specs.declared.whole.Mesh.{Mesh}
+use Rattle.mesh.specs.Agree.{Agrees, history_at}
+use Rattle.mesh.specs.Order.{epoch_order, placed_from, placed_at, entries_at}
+use Rattle.play_model.specs.Plays.{states_after}
+use Rattle.play_laws.specs.Linear.{IsLinear, OnLine}
+use Rattle.play_laws.specs.Finals.{FinalsAreOnLine}
+use Rattle.play_laws.proofs.ReadLaws.{node_only, history_state, reverse_filter}
+use Rattle.play_laws.proofs.Safeties.{epoch_order_linear}
+
+-- ## A history's state
+-- at its end it is that of the entries of its node
+end_state : (m : Mesh) (entries : List Entry) (i : ℕ) → IsLinear m entries → i < m.nodes → IsLocalRun fresh_cell (history_at m i)
+    → (cell_after fresh_cell (history_at m i)).state ≡ node_after (i + 1) (reverse entries)
+unfolding node_after
+end_state m entries i lin in_ run =
+    let k : ℕ = i + 1 in
+    let xs : List Entry = moving_of (placed_at m i) in
+    let at : entries_at k entries ≡ xs = lin.at_nodes i in_ in
+    unfold node_after in (
+    history_state m k [] (history_at m i) fresh_cell [] refl run ∙ ap (node_after k) (append-nil (reverse xs)) ∙ ap (λ (es : List Entry). node_after k (reverse es)) (sym at)
+    ∙ ap (node_after k) (sym (reverse_filter (λ (e : Entry). e.node == k) entries)) ∙ sym (node_only k (reverse entries)))
+
+state_in : (hs : List (List HistoryLine)) (i : ℕ) (s : NodeState) → slice_get (states_after hs) i ≡ Some (Some s) → (i < length hs) × ((cell_after fresh_cell (get_or hs i [])).state ≡ s)
+state_in [] i s e = cc
+state_in (h ∷ hs) zero s e = let same : (cell_after fresh_cell h).state ≡ s = cc in (omega arith, same)
+state_in (h ∷ hs) (suc i) s e = let r = state_in hs i s e in (omega (arith, r.0), r.1)
+
+-- ## Lists of segments
+above_at : (a k : ℕ) (gs : List Segment) (g : Segment) → AreAbove a gs → k < length gs → get_or gs k g ≡ g → a < g.start
+above_at a k [] g h l e = absurd (omega arith)
+above_at a zero (x ∷ gs) g h l e = subst (λ (y : Segment). a < y.start) e h.0
+above_at a (suc k) (x ∷ gs) g h l e = above_at a k gs g h.1 (omega arith) e
+
+found_at : (k : ℕ) (gs : List Segment) (g : Segment) → AreRising gs → k < length gs → get_or gs k g ≡ g → find_segment g.start gs ≡ Some g
+found_at k [] g r l e = absurd (omega arith)
+found_at zero (x ∷ gs) g r l e = find_here g.start x gs (ap (λ (y : Segment). y.start) e) ∙ ap (λ (y : Segment). let o : Option Segment = Some y in o) e
+found_at (suc k) (x ∷ gs) g r l e =
+    let low : x.start < g.start = above_at x.start k gs g r.0 (omega arith) e in
+    find_on g.start x gs (λ same. omega (arith, low, same)) ∙ found_at k gs g r.1 (omega arith) e
+
+-- ## On the line
+final_body : (s : NodeState) (g : Segment) (k : ℕ) (body : List ℕ) → g.is_final ≡ true → slice_get g.bodies k ≡ Some body → slice_get (served s g) k ≡ Some body
+final_body s g k body f has = ap (λ (bs : List (List ℕ)). slice_get bs k) (cond-true g.is_final g.bodies _ f) ∙ has
+
+pub finals_are_on_line : FinalsAreOnLine
+finals_are_on_line m i txid s g body a e there final has =
+    let lin : IsLinear m (epoch_order m) = epoch_order_linear m a in
+    let at = state_in m.histories i s e in
+    let in_ : i < m.nodes = omega (arith, at.0, a.histories) in
+    let is : node_after (i + 1) (reverse (epoch_order m)) ≡ s = sym (end_state m (epoch_order m) i lin in_ (a.lists.local i in_)) ∙ at.1 in
+    let rising : AreRising s.segments = subst (λ (x : NodeState). AreRising x.segments) is (stored_after (i + 1) (reverse (epoch_order m))).rising in
+    let found : find_segment g.start (node_after (i + 1) (reverse (epoch_order m))).segments ≡ Some g =
+    ap (λ (x : NodeState). find_segment g.start x.segments) is ∙ found_at there.0 s.segments g rising there.1 there.2 in
+    subst (λ (t : ℕ). OnLine m (epoch_order m) t body) (sym has.1)
+    (served_on_line m.nodes lin.run.0 (reverse (epoch_order m)) lin.run.1 (i + 1) g has.0 body found (final_body (node_after (i + 1) (reverse (epoch_order m))) g has.0 body final has.2))
