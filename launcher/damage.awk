@@ -1,6 +1,6 @@
-# What is wrong with a frame or an edit's record of a segment's file, in one sentence. The input is the file's bytes as numbers, from
-# two before the told place on (those two are an edit's size); `cause` is what the program told, `left` how many bytes the file has
-# from the place on. Nothing is written where the cause isn't seen here. launcher/edits.awk has the kinds of edits.
+# What is wrong with a frame or an edit's record of a segment's file, in one sentence. The input is the file's bytes as numbers,
+# from two before the told place on (those two are an edit's size); `cause` is what the program told, `left` how many bytes the
+# file has from the place on. Nothing is written where the cause isn't seen here. launcher/edits.awk has the kinds of edits.
 
 { for (i = 1; i <= NF; i++) byte[count++ - 2] = $i }
 

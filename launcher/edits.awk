@@ -1,5 +1,5 @@
-# The kinds of edits: of each code the name, and of each name the fields in their order, as KEY:KIND. A field of the kind `path`, `name`,
-# `flag`, `numbers` or `paths` is that; `2` or `8` is a number of so many bytes.
+# The kinds of edits: of each code the name, and of each name the fields in their order, as KEY:KIND. A field of the kind `path`,
+# `name`, `flag`, `numbers` or `paths` is that; `2` or `8` is a number of so many bytes.
 
 BEGIN {
   learn(0, "ADD", "path:path replication:2 mtime:8 atime:8 blocksize:8 permission:2 user:name group:name")

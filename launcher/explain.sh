@@ -25,7 +25,8 @@ show_rules() {
   echo "A request line of a node breaks rule"
   look_up "rules of node"
   echo
-  echo "A request that a node answers \`refused NUMBER NAME ..\` is refused, where several fit by the first in the order of docs/MODEL.md"
+  echo "A request that a node answers \`refused NUMBER NAME ..\` is refused, where several fit by the first in the order of" \
+    "docs/MODEL.md"
   look_up refusals '' 4 whole
   echo
   echo "A file of a folder has the finding (V1 and V2 are the two numbers of its line)"
@@ -47,7 +48,9 @@ show_line() {
 }
 
 # Writes the fault line of this run where it tells more than the status. Where it wasn't kept the program is asked once more, and
-# changes nothing: a refused folder stays as it is.
+# changes nothing: a refused folder stays as it is. It is the last that a process of the launcher's own does, which becomes the
+# program.
+# shellcheck disable=SC2086
 find_fault() {
   if [ -n "$output" ]; then
     cat "$output"
@@ -55,20 +58,21 @@ find_fault() {
     return
   elif [ "$*" != node ]; then
     open_input_again
-    "$program" "$@" <&3
+    exec $guard "$program" "$@" <&3
   elif [ "$status" -eq 3 ]; then
-    "$program" node </dev/null
+    exec $guard "$program" node </dev/null
   elif [ "$status" -eq 2 ]; then
     find_bad_request
   fi
 }
 
-# The fault line of a node's requests, where they are a file that isn't longer than a script may be: which line is no request doesn't
-# depend on the node, so a fresh one in a folder of its own is asked.
+# The fault line of a node's requests, where they are a file that isn't longer than a script may be: which line is no request
+# doesn't depend on the node, so a fresh one in a folder of its own is asked.
 find_bad_request() {
   [ -n "$again" ] && [ "$(wc -c <"$again")" -lt "$INPUT_KEPT" ] || return
   make_room
-  (cd "$room" && "$program" node <"$again" | tail -n 1)
+  # shellcheck disable=SC2086
+  (cd "$room" && $guard "$program" node <"$again" | tail -n 1)
 }
 
 # Whether the input's last byte is no line feed.
@@ -97,7 +101,8 @@ explain_line() {
 explain_requests() {
   say "the last line that was written tells which line, and by which RULE: \`error BadScript LINE RULE\`"
   look_up "rules of node" '' 1 | sed 's/^\([0-9]*\)  /RULE \1: /' | say_lines
-  look_up requests '' 1 | sed 's/^[^ ]*  //' | awk '{ forms = forms (NR > 1 ? "; " : "") $0 } END { print "a request is one of: " forms }' | say_lines
+  look_up requests '' 1 | sed 's/^[^ ]*  //' |
+    awk '{ forms = forms (NR > 1 ? "; " : "") $0 } END { print "a request is one of: " forms }' | say_lines
 }
 
 # Of what a damage is: the row of a cause that has one for each.
@@ -118,8 +123,8 @@ see_damage() {
     awk -v cause="$1" -v left=$(($(wc -c <"$2") - $3)) -f "$top/launcher/edits.awk" -f "$top/launcher/damage.awk"
 }
 
-# Says what a listing has that becomes no segment, as far as its text shows it, of a bad member with the member itself, and what to do
-# about it.
+# Says what a listing has that becomes no segment, as far as its text shows it, of a bad member with the member itself, and what
+# to do about it.
 explain_listing() {
   seen=$(LC_ALL=C awk -v cause="$2" -v place="$1" -v txid=$((asked_start + $1)) -f "$top/launcher/edits.awk" \
     -f "$top/launcher/listing.awk" <"$3" 2>/dev/null)
@@ -140,6 +145,14 @@ byte_at() {
   od -An -v -tx1 -j "$2" -N 1 -- "$1" 2>/dev/null | tr -d ' '
 }
 
+# A file's name as it is typed: in quotes where a shell takes one of its characters for its own.
+as_typed() {
+  case $1 in
+    *[!A-Za-z0-9_./=,:@%+-]*) printf "'%s'" "$(printf '%s\n' "$1" | sed "s/'/'\\\\''/g")" ;;
+    *) printf '%s' "$1" ;;
+  esac
+}
+
 # Says what a file that was to be listed has, and what to do about it.
 explain_damage() {
   case $2 in
@@ -147,9 +160,9 @@ explain_damage() {
     Json | Entry) explain_listing "$1" "$2" "$3"; return ;;
   esac
   if [ "$command" = oiv ] && is_segment "$3"; then
-    say "$3 is a segment: use oev, as \`./qjm oev list $3\`"
+    say "$3 is a segment: use oev, as \`./qjm oev list $(as_typed "$3")\`"
   elif [ "$command" = oev ] && is_image "$3"; then
-    say "$3 is an image: use oiv, as \`./qjm oiv delimited $3\`"
+    say "$3 is an image: use oiv, as \`./qjm oiv delimited $(as_typed "$3")\`"
   else
     row=$(row_of_cause "$2" "$3" "$1")
     words=$(see_damage "$2" "$3" "$1")
@@ -174,7 +187,7 @@ explain_absence() {
 advise_damage() {
   case $1,$(kind_of_name "${2##*/}") in
     Opcode,* | *', edit,'*)
-      cell causes 'no edit' 1 | sed "s|^|$2 |" | say_lines
+      printf '%s %s\n' "$2" "$(cell causes 'no edit' 1)" | say_lines
       tell_advice causes 'no edit' 2
       ;;
     *,final) tell_advice 'rules of fsck' 2 2 ;;
@@ -187,11 +200,11 @@ advise_damage() {
 # Says why the program refused a folder: by the check's finding of that file, or where it has none by what opening alone tells.
 explain_refusal() {
   find_findings
-  findings=$(printf '%s\n' "$findings" | grep -F -e "bad $1 ")
+  findings=$(printf '%s\n' "$findings" | LC_ALL=C grep -a -F -e "bad $1 ")
   if [ -n "$findings" ]; then
     tell_findings
   else
-    cell causes BadFile 1 | sed "s|^|$1: |" | say_lines
+    printf '%s: %s\n' "$1" "$(cell causes BadFile 1)" | say_lines
     tell_advice causes BadFile 2
   fi
   status=3

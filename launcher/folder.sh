@@ -25,8 +25,8 @@ is_of_node() {
   esac
   # shellcheck disable=SC2254
   case $1 in
-    edits_inprogress_$DIGITS | edits_inprogress_$DIGITS.new | edits_inprogress_$DIGITS.epoch=[1-9]*) ;;
-    edits_$DIGITS-$DIGITS) ;;
+    edits_inprogress_$DIGITS | edits_inprogress_$DIGITS.new | edits_$DIGITS-$DIGITS) ;;
+    edits_inprogress_$DIGITS.epoch=*) is_number "${1##*.epoch=}" 1 "$GREATEST" ;;
     *) return 1 ;;
   esac
 }
@@ -60,29 +60,32 @@ find_own() {
   # shellcheck disable=SC2254
   if [ "$1" = paxos ]; then
     [ -d paxos ] || echo 'bad paxos subfolder 0 0'
-  elif is_of_node "$1" && [ ! -f "$1" ]; then
-    echo "bad $1 kind 0 0"
+  elif ! is_of_node "$1"; then
+    return
+  elif [ ! -f "$1" ]; then
+    printf '%s\n' "bad $1 kind 0 0"
   else
     case $1 in
-      paxos/$DIGITS) find_epoch "$1" ;;
+      paxos/$DIGITS | *.epoch=*) find_epoch "$1" ;;
       edits_inprogress_$DIGITS) find_epoch "$1"; find_beside "$1" ;;
     esac
   fi
 }
 
-# A segment in progress, or a record, of an epoch above the promise.
+# A segment in progress or one that is being accepted, or a record, of an epoch above the promise.
 find_epoch() {
   epoch=$(epoch_of "$1")
-  ! is_above "$epoch" "$promise" || echo "bad $1 epoch $epoch $promise"
+  ! is_above "$epoch" "$promise" || printf '%s\n' "bad $1 epoch $epoch $promise"
 }
 
 # A segment in progress with more edits than the final one of its start beside it, for which opening removes it.
 find_beside() {
+  last=''
   for final in "edits_${1#edits_inprogress_}-"*; do
     [ -f "$final" ] || continue
-    last=$(last_of_segment "$1")
+    last=${last:-$(last_of_segment "$1")}
     end=$(plain "${final##*-}")
-    ! is_above "$last" "$end" || echo "bad $1 beside $last $end"
+    ! is_above "$last" "$end" || printf '%s\n' "bad $1 beside $last $end"
   done
 }
 
@@ -93,7 +96,7 @@ is_above() {
 
 # A number of 19 digits without its leading zeros.
 plain() {
-  echo "$1" | sed 's/^0*\(.\)/\1/'
+  printf '%s\n' "$1" | sed 's/^0*\(.\)/\1/'
 }
 
 # The promised epoch, 0 where its file is absent; nothing where it is no number, which is a finding of the program's.
@@ -105,8 +108,10 @@ read_promise() {
   fi
 }
 
-# The epoch in a segment's header, 8 bytes big-endian at offset 16, or else that of a record; nothing where it is neither.
+# The epoch in a name, or that in a segment's header, 8 bytes big-endian at offset 16, or that of a record; nothing where there is
+# none.
 epoch_of() {
+  case $1 in *.epoch=*) printf '%s' "${1##*.epoch=}"; return ;; esac
   if is_segment "$1"; then
     printf '%d' "0x$(od -An -v -tx1 -j 16 -N 8 "$1" | tr -d ' \n')" 2>/dev/null
   else
@@ -121,13 +126,16 @@ last_of_segment() {
 }
 
 # Whether a file begins as a segment's does, or as an image.
-is_segment() { [ "$(head -c 4 -- "$1" 2>/dev/null)" = QJSG ]; }
-is_image() { [ "$(head -c 4 -- "$1" 2>/dev/null)" = QJIM ]; }
+is_segment() { [ "$(first_four "$1")" = QJSG ]; }
+is_image() { [ "$(first_four "$1")" = QJIM ]; }
+
+# The first four bytes of a file, but zeros, which no text of a shell has.
+first_four() { head -c 4 -- "$1" 2>/dev/null | tr -d '\000'; }
 
 # ## Names in a text
 
-# Escapes the names in what was found that have control characters, as the text `shown`. Such a name may have the end of a line in it, so
-# it is looked for as a whole, behind the first word of its line.
+# Escapes the names in what was found that have control characters, as the text `shown`. Such a name may have the end of a line in
+# it, so it is looked for as a whole, behind the first word of its line.
 escape_names() {
   shown=$1
   each_name escape_name
@@ -136,7 +144,9 @@ escape_names() {
 # Escapes one name in the text, where it has a control character.
 escape_name() {
   case $1 in
-    *[![:print:]]*) shown=$(printf '%s\n' "$shown" | NAME=$1 LC_ALL=C awk -f "$top/launcher/names.awk") ;;
+    *[[:cntrl:]]*)
+      escaped=$(printf '%s\n' "$shown" | NAME=$1 LC_ALL=C awk -f "$top/launcher/names.awk") && shown=$escaped
+      ;;
   esac
 }
 
@@ -173,13 +183,14 @@ tell_advice() {
   cell "$1" "$2" $(($3 + 1)) | sed '/./s/^/Not: /' | say_lines
 }
 
-# Says the findings, the first twenty, and leaves in `told` how many there are. With `hindering` those alone that keep a node from being
-# served.
+# Says the findings, the first twenty, and leaves in `told` how many there are, or nothing where that can't be said. With
+# `hindering` those alone that keep a node from being served.
 tell_findings() {
-  chosen=$(printf '%s\n' "$findings" | choose_findings "${1-}")
-  told=$(printf '%s\n' "$chosen" | grep -c .)
+  told=''
+  chosen=$(printf '%s\n' "$findings" | choose_findings "${1-}") || return 0
+  told=$(printf '%s\n' "$chosen" | LC_ALL=C grep -a -c .)
   printf '%s\n' "$chosen" | sed -n 1,20p | tell_each
-  [ "$told" -le 20 ] || say "and $((told - 20)) more"
+  [ "${told:-0}" -le 20 ] || say "and $((told - 20)) more"
 }
 
 # Writes those of the findings on the standard input that are to be told.
@@ -222,11 +233,26 @@ is_hindering() {
 # Has the program check the folder. What it wrote is `shown`, with names escaped, and each line of it that is a finding stands in
 # `findings`, with those of the launcher's own.
 find_findings() {
-  found=$("$program" fsck </dev/null)
+  find_guard
+  # shellcheck disable=SC2086
+  found=$(exec $guard "$program" fsck </dev/null)
   status=$?
   escape_names "$found"
   promise=$(read_promise)
-  findings=$(printf '%s\n' "$shown" | grep '^bad '; each_name find_own)
+  findings=$(printf '%s\n' "$shown" | LC_ALL=C grep -a '^bad '; each_name find_own)
+}
+
+# Whether as many lines of the program's are among the findings as its last line counts. They aren't where a tool failed that
+# takes its text apart.
+is_complete() {
+  case $status in 0 | 5) ;; *) return 0 ;; esac
+  number=' [0-9][0-9]*'
+  [ "$(printf '%s\n' "$findings" | LC_ALL=C grep -a -c "^bad .*$number$number$number\$")" = "${found##*findings }" ]
+}
+
+# Says that findings of the program's were lost.
+tell_lost_findings() {
+  say "the program tells ${found##*findings } findings here, and the launcher couldn't take all of them apart: look at grep, sed and awk"
 }
 
 # Whether another process has the folder's lock, where this machine can say so.
@@ -236,28 +262,61 @@ is_taken() {
   [ $? -eq 1 ]
 }
 
-# Ends the launcher where the folder isn't to be served, with what was found.
+# Ends the launcher where another node has the folder, with the program's own words for it. The program isn't asked: where that
+# node ends meanwhile it would serve a folder that wasn't checked.
+refuse_taken() {
+  status=75
+  echo 'error Locked'
+  explain node
+  exit "$status"
+}
+
+# Ends the launcher where the folder isn't to be served, with what was found. What is found in a folder that another node has, or
+# that one took meanwhile, counts for nothing, since its files change.
 check_before_serving() {
+  ! is_taken || refuse_taken
   find_findings
+  ! is_taken || refuse_taken
   tell_findings hindering
-  if [ "$told" -ne 0 ]; then
+  if [ -z "$told" ] || ! is_complete; then
+    tell_lost_findings
+    say "this folder isn't served"
+    exit 5
+  elif [ "$told" -ne 0 ]; then
     say "this folder isn't served: $told of its files would make the node answer what isn't so, or forget what it answered"
     exit 5
   fi
   case $status in 0 | 5) return ;; esac
   explain fsck
   say "the folder couldn't be checked, so it isn't served"
-  ! hinders_image || say "\`./qjm node --unchecked\` serves it, since no node reads an image; what the check finds else isn't found then"
+  propose_way
   exit "$status"
 }
 
-# Whether an image alone keeps the folder from being checked: it may not be read, or is too large for the memory.
-hinders_image() {
+# Says how a folder is served that an image alone keeps from being checked.
+propose_way() {
   case $status in
-    8) each_name find_unreadable | awk '!/^fsimage_/ { others++ } END { exit others || !NR }' ;;
-    9) ls fsimage_* >/dev/null 2>&1 ;;
-    *) return 1 ;;
+    8)
+      ! hinders_image ||
+        say "\`./qjm node --unchecked\` serves it, since no node reads an image; what the check finds else isn't found then"
+      ;;
+    9)
+      ! has_image ||
+        say "no node reads an image, and the check does: with the images moved out of the folder it wants less memory"
+      ;;
   esac
+}
+
+# Whether images are the only files here that may not be read.
+hinders_image() {
+  each_name find_unreadable | awk '!/^fsimage_/ { others++ } END { exit others || !NR }'
+}
+
+has_image() {
+  for image in fsimage_*; do
+    [ ! -f "$image" ] || return 0
+  done
+  return 1
 }
 
 # Says that a node begins anew: where the folder ought to hold one, its disk may be missing.

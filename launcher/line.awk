@@ -1,6 +1,6 @@
 # What is wrong with a line of a script or with a request line, and in which column: one cause, in words. `line` is its number,
-# `rule` the rule that the program told, `kind` the command (`node`: a request line), `lacks_end` is set where the file's last byte
-# is no line feed. Nothing is written where the cause isn't seen here.
+# `rule` the rule that the program told, `kind` the command (`node`: a request line), `lacks_end` is set where the file's last
+# byte is no line feed. Nothing is written where the cause isn't seen here.
 
 # The lines before it: what a script begins with, and the actors that it declares.
 NR < line && kind != "node" && $0 != "" && $0 !~ /^#/ {

@@ -1,6 +1,6 @@
-# What is wrong with a listing that becomes no segment, in one sentence, and behind it, on a line of its own, the member that is bad. The
-# input is the listing, and `cause` what the program told: Json, or Entry with the `place` of the member, from 0, and the `txid` that it
-# has to have. The sentence is empty where the cause isn't seen here. launcher/edits.awk has the kinds of edits.
+# What is wrong with a listing that becomes no segment, in one sentence, and behind it, on a line of its own, the member that is
+# bad. The input is the listing, and `cause` what the program told: Json, or Entry with the `place` of the member, from 0, and the
+# `txid` that it has to have. The sentence is empty where the cause isn't seen here. launcher/edits.awk has the kinds of edits.
 
 # A record ends at a quote, so records are by turns what stands outside of texts and what stands in them.
 BEGIN {

@@ -1,5 +1,5 @@
-# Writes the text of a check of a folder with one name escaped. The name is that of the environment's NAME, and may have the end of
-# a line in it, so the text is looked through as a whole: the name stands behind `ok ` or `bad `, at the beginning of a line.
+# Writes the text of a check of a folder with one name escaped. The name is that of the environment's NAME, and may have the end
+# of a line in it, so the text is looked through as a whole: the name stands behind `ok ` or `bad `, at the beginning of a line.
 
 { text = text $0 "\n" }
 

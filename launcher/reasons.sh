@@ -5,16 +5,16 @@ why_unreadable() {
   if [ -z "$1" ]; then
     echo 'an empty text is no name'
   elif [ -d "$1" ]; then
-    echo "$1 is a folder"
+    printf '%s\n' "$1 is a folder"
   elif [ -L "$1" ] && [ ! -e "$1" ]; then
-    echo "$1 is a link that leads nowhere, or round in a circle"
+    printf '%s\n' "$1 is a link that leads nowhere, or round in a circle"
   elif [ ! -e "$1" ]; then
     case $1 in
-      /*) echo "there is no file $1" ;;
-      *) echo "there is no file $1 here ($(pwd))" ;;
+      /*) printf '%s\n' "there is no file $1" ;;
+      *) printf '%s\n' "there is no file $1 here ($(pwd))" ;;
     esac
   elif [ ! -r "$1" ]; then
-    echo "$1 may not be read by $(user): its permissions are $(permissions_of "$1")"
+    printf '%s\n' "$1 may not be read by $(user): its permissions are $(permissions_of "$1")"
   fi
 }
 
@@ -33,10 +33,11 @@ find_unreadable() {
   fi
 }
 
-# Whether the current folder was removed.
+# Whether the current folder was removed: the system shows it under a name that isn't its own any more.
 is_removed() {
-  case $(readlink /proc/self/cwd 2>/dev/null) in
-    *' (deleted)') ;;
+  link=$(readlink /proc/self/cwd 2>/dev/null)
+  case $link in
+    *' (deleted)') [ ! . -ef "$link" ] ;;
     *) return 1 ;;
   esac
 }
@@ -56,7 +57,7 @@ why_no_room() {
 # Why the folder can't be used, as far as it is seen: the first reason. `write` where it is to be written to.
 why_no_folder() {
   if is_removed; then
-    echo "the folder $(pwd) was removed, and what the node answered with it: see \"A lost machine\" in docs/OPERATING.md"
+    printf '%s\n' "the folder $(pwd) was removed, and what the node answered with it: see \"A lost machine\" in docs/OPERATING.md"
     return
   fi
   if [ ! -r . ] || [ ! -x . ]; then

@@ -1,4 +1,5 @@
-# Temporary files, in the folder of TMPDIR or in /tmp. A node, a check of a folder, and a script that stands in a file want none.
+# Temporary files, in the folder of TMPDIR or in /tmp. A node, a check of a folder, and a script that stands in a file want none,
+# but to explain a node's request line that is bad.
 
 # The folder of this run's temporary files, where there is one.
 room=''

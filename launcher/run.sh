@@ -3,8 +3,8 @@
 # The most bytes of a script, and one more: of these the program knows that a script is too long.
 readonly INPUT_KEPT=1048577
 
-# By which name what the program reads can be read once more, so that its lines can be shown, and which file has what it wrote; empty
-# where nothing is kept.
+# By which name what the program reads can be read once more, so that its lines can be shown, and which file has what it wrote;
+# empty where nothing is kept.
 again='' output=''
 
 # Opens what the program is to read as descriptor 3. A script that stands in no file is kept in one first.
@@ -41,13 +41,20 @@ open_input_again() {
   [ -z "$again" ] || exec 3<"$again"
 }
 
-# Runs the proved program on descriptor 3, passes signals on, and keeps its status. The program dies with the launcher, however
-# that ends, where the machine's setpriv can say so.
+# By which command the launcher's own process starts the program, so that it dies with the launcher, however that ends: setpriv,
+# where the machine's can say so.
+guard=''
+
+find_guard() {
+  guard='setpriv --pdeathsig KILL'
+  $guard true 2>/dev/null || guard=''
+}
+
+# Runs the proved program on descriptor 3, passes signals on, and keeps its status.
 run_program() {
   # a limit of a file's size is then a write that fails, and no signal that ends the program
   trap '' XFSZ
-  guard='setpriv --pdeathsig KILL'
-  $guard true 2>/dev/null || guard=''
+  find_guard
   # shellcheck disable=SC2086
   $guard "$program" "$@" <&3 3<&- &
   child=$!
@@ -117,14 +124,11 @@ run_or_try() {
   exit "$status"
 }
 
-# Serves a node in the current folder, of the proved program alone, once the folder was checked. A folder that another node has is left
-# to the program, which tells that: while it is served its files change.
+# Serves a node in the current folder, of the proved program alone, once the folder was checked.
 serve_node() {
   is_proved || refuse_unbuilt "a node runs of the proved program alone"
-  if ! is_taken; then
-    [ "${unchecked-}" = yes ] || check_before_serving
-    tell_fresh
-  fi
+  [ "$unchecked" = yes ] || check_before_serving
+  is_taken || tell_fresh
   greet_terminal 'requests, a line each,'
   open_input node
   run_program node
@@ -145,8 +149,9 @@ check_folder() {
 tell_check() {
   ! is_taken || say "a node has this folder: its files may have changed while they were checked"
   tell_findings
+  is_complete || tell_lost_findings
   case $status in
-    0 | 5) [ "$told" -eq 0 ] || status=5 ;;
+    0 | 5) [ "$told" = 0 ] || status=5 ;;
     *) explain fsck ;;
   esac
 }

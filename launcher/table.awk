@@ -1,6 +1,6 @@
 # Reads a table of docs/FORMATS.md. The line `<!-- table: NAME -->` stands before it. Of the row that begins with the key the
-# other cells are written, a line each, an empty one too; without a key the first two of each row are, with `whole` all four, the key in
-# its own width.
+# other cells are written, a line each, an empty one too; without a key the first two of each row are, with `whole` all four, the
+# key in its own width.
 
 /^<!-- table: / { here = ($0 == "<!-- table: " table " -->"); row = 0; next }
 here && /^\|/ {
