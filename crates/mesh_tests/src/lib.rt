@@ -1,6 +1,5 @@
-//! Tests of what plays leave and their texts don't show: which lists agree, in which order the
-//! epochs put what moved the nodes, what threads leave that overlap, the images of the
-//! actors and the files of the nodes.
+//! Tests of meshes, which the texts of plays don't show: which lists agree, in which order the
+//! epochs put what moved the nodes, and what threads leave that overlap.
 #![tactic(auto)]
 
 #[cfg(test)]
@@ -13,10 +12,6 @@ mod drafted;
 mod draws;
 #[cfg(test)]
 mod held;
-#[cfg(test)]
-mod images_left;
-#[cfg(test)]
-mod nodes_left;
 #[cfg(test)]
 mod ordering;
 #[cfg(test)]
